@@ -1,0 +1,8 @@
+//! Numbers, planes and directions, and the ends from which bytes come and to which they go.
+#![tactic(auto)]
+
+mod number;
+mod plane;
+
+pub use number::{Addr, FlagNo, Proc};
+pub use plane::{Dir, Plane};

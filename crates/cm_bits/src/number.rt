@@ -1,0 +1,101 @@
+//! Numbers that keep their range: addresses, flags and processors.
+
+ghost use Rattle.std.specs.Prelude.{◌≡◌, ℕ, ◌<◌, ◌↔◌, IsSome, IfSome};
+
+use std::marker::Model;
+
+/// The address of a memory bit of a processor, 0 to 4095 (Hillis 1985).
+#[derive(Clone, Copy, Debug, Default, PartialEq, Eq)]
+pub struct Addr {
+    number: u16,
+}
+
+impl Model for Addr {
+    ghost Value = { ℕ };
+
+    ghost view = { λ a. a.number };
+
+    ghost invariant = { λ a. a.number < 4096 };
+
+    ghost inverse = { λ n. record { number = n } };
+}
+
+impl Addr {
+    pub fn new(number: u16) -> Option<Addr>
+        ensures in_range { IsSome result ↔ (number < 4096) }
+        ensures value { IfSome result (λ n. n ≡ number) }
+    {
+        if number < 4096 { Some(Addr { number }) } else { None }
+    }
+
+    pub fn get(self) -> u16
+        ensures value { result ≡ self }
+        ensures in_range { result < 4096 }
+    {
+        self.number
+    }
+}
+
+/// The number of a flag of a processor, 0 to 15 (Hillis 1985; which flag is which is ours).
+#[derive(Clone, Copy, Debug, Default, PartialEq, Eq)]
+pub struct FlagNo {
+    number: u8,
+}
+
+impl Model for FlagNo {
+    ghost Value = { ℕ };
+
+    ghost view = { λ a. a.number };
+
+    ghost invariant = { λ a. a.number < 16 };
+
+    ghost inverse = { λ n. record { number = n } };
+}
+
+impl FlagNo {
+    pub fn new(number: u8) -> Option<FlagNo>
+        ensures in_range { IsSome result ↔ (number < 16) }
+        ensures value { IfSome result (λ n. n ≡ number) }
+    {
+        if number < 16 { Some(FlagNo { number }) } else { None }
+    }
+
+    pub fn get(self) -> u8
+        ensures value { result ≡ self }
+        ensures in_range { result < 16 }
+    {
+        self.number
+    }
+}
+
+/// The number of a processor on its chip, 0 to 15 (Hillis 1985).
+#[derive(Clone, Copy, Debug, Default, PartialEq, Eq)]
+pub struct Proc {
+    number: u8,
+}
+
+impl Model for Proc {
+    ghost Value = { ℕ };
+
+    ghost view = { λ a. a.number };
+
+    ghost invariant = { λ a. a.number < 16 };
+
+    ghost inverse = { λ n. record { number = n } };
+}
+
+impl Proc {
+    pub fn new(number: u8) -> Option<Proc>
+        ensures in_range { IsSome result ↔ (number < 16) }
+        ensures value { IfSome result (λ n. n ≡ number) }
+    {
+        if number < 16 { Some(Proc { number }) } else { None }
+    }
+
+    pub fn get(self) -> u8
+        ensures value { result ≡ self }
+        ensures in_range { result < 16 }
+    {
+        self.number
+    }
+}
