@@ -2,7 +2,9 @@
 #![tactic(auto)]
 
 mod number;
+mod place;
 mod plane;
 
 pub use number::{Addr, FlagNo, Proc};
+pub use place::Place;
 pub use plane::{Dir, Plane};

@@ -1,2 +1,10 @@
-//! To come.
+//! The definitions of the Connection Machine that every contract of this workspace cites, with laws
+//! over them: processors, chips and the whole array, one instruction, a run of acts. The records of
+//! instructions and messages stand here too, so that contracts name their fields.
 #![tactic(auto)]
+
+mod act;
+mod message;
+
+pub use act::{Act, Nano};
+pub use message::{Event, Message, Tag};

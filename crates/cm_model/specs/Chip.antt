@@ -1,0 +1,29 @@
+-- A chip: sixteen processors, which all step at once. Hillis 1985.
+use Rattle.std.specs.Prelude.{◌≡◌, ℕ, ◌<◌, Bool, List, [], slice_index_or}
+use Rattle.cm_bits.specs.Bit.{bit}
+use Rattle.cm_model.specs.declared.act.Nano.{Nano}
+use Rattle.cm_model.specs.Each.{each_from}
+use Rattle.cm_model.specs.Processor.{Processor, blank_processor}
+use Rattle.cm_model.specs.Instruction.{processor_after}
+
+-- what a function of the processor's number gives for each of the sixteen
+abbrev pub each_processor : {X : Type 0} → (ℕ → X) → List X
+each_processor f = each_from 0 16 f
+
+-- what is read where no processor stands
+abbrev pub no_processor : Processor
+no_processor = record { memory = []; flags = [] }
+
+abbrev pub processor_at : List Processor → ℕ → Processor
+processor_at chip p = slice_index_or chip p no_processor
+
+unfoldable pub blank_chip : List Processor
+blank_chip = each_processor (λ p. blank_processor)
+
+-- the chip after the instruction, where this bit comes in at each processor: all at once, from the old ones
+unfoldable pub chip_after : Nano → (ℕ → Bool) → List Processor → List Processor
+chip_after nano incoming chip = each_processor (λ p. processor_after nano (incoming p) (processor_at chip p))
+
+-- bit p of the plane is what the function gives for processor p
+abbrev pub IsPlane : ℕ → (ℕ → Bool) → Type 0
+IsPlane plane f = (p : ℕ) → p < 16 → bit plane p ≡ f p
