@@ -1,1 +1,3 @@
 pub mod Bit
+pub mod Doubles
+pub mod Ends

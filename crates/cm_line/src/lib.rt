@@ -1,2 +1,8 @@
-//! The command line of the program.
+//! The command line of the program: which subcommand the words ask for.
 #![tactic(auto)]
+
+mod fault;
+mod line;
+
+pub use fault::LineFault;
+pub use line::{Line, command};
