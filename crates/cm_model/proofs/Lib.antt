@@ -1,2 +1,4 @@
 pub mod Bits
 pub mod Each
+pub mod Torus
+pub mod Values

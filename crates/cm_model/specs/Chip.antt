@@ -3,7 +3,7 @@ use Rattle.std.specs.Prelude.{◌≡◌, ℕ, ◌<◌, Bool, List, [], slice_ind
 use Rattle.cm_bits.specs.Bit.{bit}
 use Rattle.cm_model.specs.declared.act.Nano.{Nano}
 use Rattle.cm_model.specs.Each.{each_from}
-use Rattle.cm_model.specs.Processor.{Processor, blank_processor}
+use Rattle.cm_model.specs.Processor.{Processor, value, blank_processor}
 use Rattle.cm_model.specs.Instruction.{processor_after}
 
 -- what a function of the processor's number gives for each of the sixteen
@@ -37,3 +37,7 @@ with_memory_bit chip p address b =
 unfoldable pub with_flag : List Processor → ℕ → ℕ → Bool → List Processor
 with_flag chip p number b =
     slice_set chip p (record (processor_at chip p) { flags = slice_set (processor_at chip p).flags number b })
+
+-- the plane whose bit p is what the function gives for processor p, as a number
+unfoldable pub plane_number : (ℕ → Bool) → ℕ
+plane_number f = value (each_processor f)

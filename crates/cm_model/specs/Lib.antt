@@ -6,3 +6,4 @@ pub mod Chip
 pub mod Whole
 pub mod Array
 pub mod Machine
+pub mod Laws

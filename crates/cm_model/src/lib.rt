@@ -4,7 +4,9 @@
 #![tactic(auto)]
 
 mod act;
+mod laws;
 mod message;
 
 pub use act::{Act, Nano};
+pub use laws::neighbours_lead_back;
 pub use message::{Event, Message, Tag};
