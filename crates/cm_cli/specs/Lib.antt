@@ -1,2 +1,4 @@
 pub mod NanoLine
 pub mod Report
+pub mod Program
+pub mod ChipText

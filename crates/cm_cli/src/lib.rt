@@ -4,8 +4,10 @@
 
 mod fault;
 mod nano_line;
+mod program;
 mod reports;
 mod takes;
+mod texts;
 
 pub use cm_line::{Line, LineFault, command};
 pub use fault::{AsmFault, AsmKind};
