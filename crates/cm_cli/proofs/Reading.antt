@@ -4,22 +4,20 @@ use Rattle.std.specs.List.{slice_split, count_by}
 use Rattle.std.proofs.lemmas.List.Splits.{length-slice_split}
 use Rattle.std.proofs.lemmas.List.Sums.{count_by-le-length}
 use Rattle.cm_bits.specs.Text.{lines_of, is_line_end, without_empty_last, words_of}
-use Rattle.cm_model.specs.declared.act.Act.{Act}
-use Rattle.cm_model.specs.declared.act.Act.TheVariants.{Nano}
-use Rattle.cm_model.specs.declared.act.Nano.{Nano as Instruction}
+use Rattle.cm_model.specs.declared.act.Nano.{Nano}
 use Rattle.cm_cli.specs.declared.fault.AsmKind.{AsmKind}
 use Rattle.cm_cli.specs.declared.fault.AsmKind.TheVariants.{Memory, Word, Operands, Number}
 use Rattle.cm_cli.specs.declared.fault.AsmFault.{AsmFault}
-use Rattle.cm_cli.specs.Program.{acts_of_lines, with_line, IsKind}
+use Rattle.cm_cli.specs.Program.{nanos_of_lines, with_line, IsKind}
 use Rattle.cm_cli.specs.NanoLine.{instruction_of}
 
--- acts before those that were read
-abbrev pub prepended : List Act → Result (List Act) AsmFault → Result (List Act) AsmFault
-prepended acts (Ok rest) = Ok (acts ++ rest)
-prepended acts (Err fault) = Err fault
+-- instructions before those that were read
+abbrev pub prepended : List Nano → Result (List Nano) AsmFault → Result (List Nano) AsmFault
+prepended nanos (Ok rest) = Ok (nanos ++ rest)
+prepended nanos (Err fault) = Err fault
 
 -- none before what was read
-pub none_before : (read : Result (List Act) AsmFault) → prepended [] read ≡ read
+pub none_before : (read : Result (List Nano) AsmFault) → prepended [] read ≡ read
 none_before (Ok rest) = refl
 none_before (Err fault) = refl
 
@@ -34,26 +32,26 @@ pub few_lines : (text : List ℕ) → length (lines_of text) ≤ length text + 1
 few_lines text = omega (arith, few_parts (slice_split is_line_end text), length-slice_split is_line_end text, count_by-le-length is_line_end text)
 
 -- a blank line adds nothing
-pub read_blank : (acts : List Act) (number : ℕ) (line : List ℕ) (lines : List (List ℕ)) → instruction_of (words_of line) ≡ Ok None
-    → prepended acts (acts_of_lines number (line ∷ lines)) ≡ prepended acts (acts_of_lines (number + 1) lines)
-read_blank acts number line lines is = ap (λ (r : Result (Option Instruction) AsmKind). prepended acts (with_line number r (acts_of_lines (number + 1) lines))) is
+pub read_blank : (nanos : List Nano) (number : ℕ) (line : List ℕ) (lines : List (List ℕ)) → instruction_of (words_of line) ≡ Ok None
+    → prepended nanos (nanos_of_lines number (line ∷ lines)) ≡ prepended nanos (nanos_of_lines (number + 1) lines)
+read_blank nanos number line lines is = ap (λ (r : Result (Option Nano) AsmKind). prepended nanos (with_line number r (nanos_of_lines (number + 1) lines))) is
 
-act_first : (acts : List Act) (number : ℕ) (nano : Instruction) (after : Result (List Act) AsmFault)
-    → prepended acts (with_line number (Ok (Some nano)) after) ≡ prepended (acts ++ Nano nano ∷ []) after
-act_first acts number nano (Ok rest) = ap (λ (xs : List Act). Ok xs) (sym (append_assoc acts (Nano nano ∷ []) rest))
-act_first acts number nano (Err fault) = refl
+nano_first : (nanos : List Nano) (number : ℕ) (nano : Nano) (after : Result (List Nano) AsmFault)
+    → prepended nanos (with_line number (Ok (Some nano)) after) ≡ prepended (nanos ++ nano ∷ []) after
+nano_first nanos number nano (Ok rest) = ap (λ (xs : List Nano). Ok xs) (sym (append_assoc nanos (nano ∷ []) rest))
+nano_first nanos number nano (Err fault) = refl
 
--- an instruction is one act more
-pub read_instruction : (acts : List Act) (number : ℕ) (line : List ℕ) (lines : List (List ℕ)) (nano : Instruction) → instruction_of (words_of line) ≡ Ok (Some nano)
-    → prepended acts (acts_of_lines number (line ∷ lines)) ≡ prepended (acts ++ Nano nano ∷ []) (acts_of_lines (number + 1) lines)
-read_instruction acts number line lines nano is =
-    ap (λ (r : Result (Option Instruction) AsmKind). prepended acts (with_line number r (acts_of_lines (number + 1) lines))) is
-    ∙ act_first acts number nano (acts_of_lines (number + 1) lines)
+-- an instruction is one more
+pub read_instruction : (nanos : List Nano) (number : ℕ) (line : List ℕ) (lines : List (List ℕ)) (nano : Nano) → instruction_of (words_of line) ≡ Ok (Some nano)
+    → prepended nanos (nanos_of_lines number (line ∷ lines)) ≡ prepended (nanos ++ nano ∷ []) (nanos_of_lines (number + 1) lines)
+read_instruction nanos number line lines nano is =
+    ap (λ (r : Result (Option Nano) AsmKind). prepended nanos (with_line number r (nanos_of_lines (number + 1) lines))) is
+    ∙ nano_first nanos number nano (nanos_of_lines (number + 1) lines)
 
 -- a faulty line is the fault of the text
-pub read_fault : (acts : List Act) (number : ℕ) (line : List ℕ) (lines : List (List ℕ)) (kind : AsmKind) → instruction_of (words_of line) ≡ Err kind
-    → prepended acts (acts_of_lines number (line ∷ lines)) ≡ Err (record { line = number; kind = kind })
-read_fault acts number line lines kind is = ap (λ (r : Result (Option Instruction) AsmKind). prepended acts (with_line number r (acts_of_lines (number + 1) lines))) is
+pub read_fault : (nanos : List Nano) (number : ℕ) (line : List ℕ) (lines : List (List ℕ)) (kind : AsmKind) → instruction_of (words_of line) ≡ Err kind
+    → prepended nanos (nanos_of_lines number (line ∷ lines)) ≡ Err (record { line = number; kind = kind })
+read_fault nanos number line lines kind is = ap (λ (r : Result (Option Nano) AsmKind). prepended nanos (with_line number r (nanos_of_lines (number + 1) lines))) is
 
 -- a fact holds of every kind
 pub of_kind : {P : Type 0} (kind : AsmKind) → P → IsKind kind P

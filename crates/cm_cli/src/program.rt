@@ -4,25 +4,25 @@ ghost use Rattle.std.specs.Prelude.{◌≡◌, ◌<◌, ◌^◌, length, Ok, Mat
 ghost use Rattle.cm_cli.specs.Program.{program_of, IsFaultOf};
 
 use cm_bits::Lines;
-use cm_model::Act;
+use cm_model::Nano;
 use std::alloc::Global;
 
 use crate::fault::{AsmFault, AsmKind};
 use crate::nano_line::read_line;
 
-/// The acts of a text, or its first faulty line.
-pub fn read_program(alloc: Global, text: &[u8]) -> Result<Vec<Act>, AsmFault>
+/// The instructions of a text, or its first faulty line.
+pub fn read_program(alloc: Global, text: &[u8]) -> Result<Vec<Nano>, AsmFault>
     requires short { length text.now < 2 ^ 63 }
-    ensures value { MatchResult result (λ acts. program_of text.now ≡ Ok acts.items) (IsFaultOf text.now) }
+    ensures value { MatchResult result (λ nanos. program_of text.now ≡ Ok nanos.items) (IsFaultOf text.now) }
 {
-    let mut acts = Vec::new(alloc);
+    let mut nanos = Vec::new(alloc);
     let mut line = 0;
     for bytes in Lines::new(text) {
         line += 1;
         match read_line(bytes) {
             Ok(None) => {}
             Ok(Some(nano)) => {
-                if acts.push(Act::Nano(nano)).is_err() {
+                if nanos.push(nano).is_err() {
                     return Err(AsmFault {
                         line,
                         kind: AsmKind::Memory,
@@ -32,5 +32,5 @@ pub fn read_program(alloc: Global, text: &[u8]) -> Result<Vec<Act>, AsmFault>
             Err(kind) => return Err(AsmFault { line, kind }),
         }
     }
-    Ok(acts)
+    Ok(nanos)
 }
