@@ -4,4 +4,11 @@ pub mod Processor
 pub mod Instruction
 pub mod Chip
 pub mod Array
+pub mod Router
+pub mod Order
+pub mod Letters
+pub mod Steps
+pub mod Cycle
 pub mod Machine
+pub mod Buffers
+pub mod Account
