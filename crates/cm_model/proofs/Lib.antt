@@ -1,1 +1,7 @@
 pub mod Each
+pub mod Order
+pub mod Flips
+pub mod Crossing
+pub mod Leaving
+pub mod Readiness
+pub mod Routing
