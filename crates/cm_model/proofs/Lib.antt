@@ -5,3 +5,7 @@ pub mod Crossing
 pub mod Leaving
 pub mod Readiness
 pub mod Routing
+pub mod Injecting
+pub mod Delivering
+pub mod Opening
+pub mod Runs

@@ -110,3 +110,8 @@ after_steps n cap machine (step ∷ steps) = after_steps n cap (after_step n cap
 -- the machine after one act
 abbrev pub after_act : ℕ → ℕ → Machine → Act → Machine
 after_act n cap machine act = after_steps n cap machine (steps_of n act)
+
+-- the machine after a list of acts
+abbrev pub after_acts : ℕ → ℕ → Machine → List Act → Machine
+after_acts n cap machine [] = machine
+after_acts n cap machine (act ∷ acts) = after_acts n cap (after_act n cap machine act) acts
