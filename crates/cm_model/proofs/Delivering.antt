@@ -16,7 +16,7 @@ use Rattle.cm_model.specs.Buffers.{is_accepted, arrived_for, delivered, kept}
 use Rattle.cm_model.proofs.Order.{AllBefore, AllAfter, IsRising, Precedes, before_itself, not_both_before, filter-in_order}
 use Rattle.cm_model.proofs.Crossing.{AllBefore-filter}
 use Rattle.cm_model.proofs.Leaving.{filter-queue, filter-queue_same, filter-standing_at}
-use Rattle.cm_model.proofs.Readiness.{IsReady, IsRising-filter}
+use Rattle.cm_model.proofs.Readiness.{IsReady, IsRising-filter, AllBefore-later}
 
 -- ---- a test of some record, in any order
 
@@ -205,3 +205,6 @@ IsReady-filter p top set h = record {
   before = AllBefore-filter p top set h.before;
   rising = λ c. subst (λ (xs : List Standing). IsRising xs) (sym (queue-filter p c set)) (IsRising-filter p (queue c set) (h.rising c))
 }
+
+pub later_ready : (set : List Standing) (s t : Since) → is_before s t ≡ true → IsReady s set → IsReady t set
+later_ready set s t h k = record { before = AllBefore-later s t set h k.before; rising = k.rising }
