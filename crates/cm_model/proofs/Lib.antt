@@ -9,3 +9,4 @@ pub mod Injecting
 pub mod Delivering
 pub mod Opening
 pub mod Runs
+mod RouterFacts

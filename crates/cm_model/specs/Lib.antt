@@ -12,3 +12,4 @@ pub mod Cycle
 pub mod Machine
 pub mod Buffers
 pub mod Account
+pub mod Found

@@ -4,7 +4,9 @@
 #![tactic(auto)]
 
 mod act;
+mod found;
 mod message;
 
 pub use act::{Act, Nano};
+pub use found::Found;
 pub use message::{Event, Message, Tag};
