@@ -10,3 +10,4 @@ pub mod Delivering
 pub mod Opening
 pub mod Runs
 mod RouterFacts
+pub mod Rooms

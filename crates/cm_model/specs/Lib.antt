@@ -13,3 +13,4 @@ pub mod Machine
 pub mod Buffers
 pub mod Account
 pub mod Found
+pub mod Keeping
