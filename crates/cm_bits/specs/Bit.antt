@@ -1,5 +1,6 @@
 -- The bits of a number: bit 0 is the lowest.
-use Rattle.std.specs.Prelude.{ℕ, Bool, true, false, ◌==◌}
+use Rattle.std.specs.Prelude.{ℕ, Bool, true, false, not, ◌==◌}
+use Rattle.std.specs.Bool.{beq}
 use Rattle.std.specs.Int.{bit_at}
 
 -- bit i of a number
@@ -10,3 +11,7 @@ bit number i = bit_at number i == 1
 abbrev pub bit_number : Bool → ℕ
 bit_number false = 0
 bit_number true = 1
+
+-- exclusive or
+abbrev pub differ : Bool → Bool → Bool
+differ x y = not (beq x y)

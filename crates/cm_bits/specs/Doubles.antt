@@ -1,6 +1,6 @@
 -- What a clause reads of the ends that tests use in place of files: ours.
-use Rattle.std.specs.Prelude.{◌≡◌, ℕ, ◌+◌, ◌-◌, Bool, true, false, List, length, take, drop, min, max, if◌then◌else◌, ◌==◌, ◌&&◌}
-use Rattle.std.specs.Prelude.{Option, Some, None, Result, Ok, Err}
+use Rattle.std.specs.Prelude.{◌≡◌, ℕ, ◌-◌, ◌<◌, Bool, false, Option, List, length, take, min, max}
+use Rattle.std.specs.Option.{unwrap_or}
 use Rattle.cm_bits.specs.declared.doubles.Bytes.{Bytes}
 use Rattle.cm_bits.specs.declared.doubles.Room.{Room}
 
@@ -15,6 +15,10 @@ bytes_step s = max s.step 1
 -- how many bytes come before it fails, where it does
 abbrev pub bytes_good : Bytes → Option ℕ
 bytes_good s = s.good
+
+-- at most as many bytes come from the next call
+abbrev pub bytes_most : Bytes → ℕ
+bytes_most s = min (bytes_step s) (unwrap_or (bytes_good s) (bytes_step s))
 
 -- a call of it has failed
 abbrev pub bytes_has_failed : Bytes → Bool
@@ -39,3 +43,9 @@ room_takes_nothing s = s.takes_nothing
 -- a call of it has failed
 abbrev pub room_has_failed : Room → Bool
 room_has_failed s = s.failed
+
+-- the sink fails at these bytes: it is full and does not say so by taking none
+pub record IsOverflow (s : Room) (buf : List ℕ) : Type 0 where
+  pub some : 0 < length buf
+  pub full : room_left s ≡ 0
+  pub fails : room_takes_nothing s ≡ false

@@ -1,6 +1,5 @@
 -- What a clause reads of the ends of bytes, over std's words on known bytes: ours.
-use Rattle.std.specs.Prelude.{ℕ, Bool, List, length, ◌&&◌}
-use Rattle.std.specs.Ordering.{nat_eq, nat_lt}
+use Rattle.std.specs.Prelude.{ℕ, Bool, List, length, nat_eq, nat_lt, ◌&&◌}
 use Rattle.cm_bits.specs.declared.ends.Std.{Std}
 
 -- a write was given a byte or more and took none

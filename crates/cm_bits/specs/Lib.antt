@@ -1,3 +1,6 @@
 pub mod Bit
 pub mod Doubles
 pub mod Ends
+pub mod Field
+pub mod Span
+pub mod Text

@@ -1,11 +1,14 @@
 //! Ends of bytes in memory that fail when told to: for tests, here and in the crates above.
 
-ghost use Rattle.std.specs.Prelude.{◌≡◌, ◌+◌, ◌<◌, Bool, true, false, Some, None, List, [], length, min, IfOk, ◌==◌};
-ghost use Rattle.cm_bits.specs.Doubles.{bytes_left, bytes_step, bytes_good, bytes_has_failed, room_taken, room_left, room_step, room_takes_nothing, room_has_failed};
-
-use std::alloc::{AllocError, Global};
+ghost use Rattle.std.specs.Prelude.{◌≡◌, ◌-◌, ◌||◌, ◌↔◌, true, false, Some, None, [], length, min, max, IsErr, IfOk, MatchResult};
+ghost use Rattle.std.specs.Option.{option_map};
+ghost use Rattle.std.specs.Io.{ReadsAtMost, WritesAtMost};
+ghost use Rattle.std.specs.Io.KnownBytes.{ReadConsumes, WriteAppends};
+ghost use Rattle.cm_bits.specs.Ends.{is_refused};
+ghost use Rattle.cm_bits.specs.Doubles.{bytes_left, bytes_most, bytes_step, bytes_good, bytes_has_failed, room_taken, room_left, room_step, room_takes_nothing, room_has_failed, IsOverflow};
 
 use crate::ends::{Failed, Sink, Source};
+use std::alloc::{AllocError, Global};
 
 /// A source over bytes in memory. It gives at most `step` bytes a call, where 0 counts as 1.
 #[derive(Drop)]
@@ -20,6 +23,7 @@ impl<'a> Bytes<'a> {
     pub fn new(bytes: &'a [u8], step: usize) -> Bytes<'a>
         ensures left { bytes_left result ≡ bytes.entry.now }
         ensures good { bytes_good result ≡ None }
+        ensures step { bytes_step result ≡ max step 1 }
         ensures failed { bytes_has_failed result ≡ false }
     {
         Bytes {
@@ -34,6 +38,7 @@ impl<'a> Bytes<'a> {
     pub fn failing(bytes: &'a [u8], step: usize, good: usize) -> Bytes<'a>
         ensures left { bytes_left result ≡ bytes.entry.now }
         ensures good { bytes_good result ≡ Some good }
+        ensures step { bytes_step result ≡ max step 1 }
         ensures failed { bytes_has_failed result ≡ false }
     {
         Bytes {
@@ -50,19 +55,30 @@ impl<'a> Source for Bytes<'a> {
 
     ghost has_failed = { bytes_has_failed };
 
-    fn read(&mut self, buf: &mut [u8]) -> Result<usize, Failed> {
+    fn read(&mut self, buf: &mut [u8]) -> Result<usize, Failed>
+        ensures bound { ReadsAtMost result buf.new }
+        ensures bytes { ReadConsumes (Some (bytes_left self.old)) (Some (bytes_left self.new))
+            result buf.new }
+        ensures failed { MatchResult result
+            (λ _. bytes_has_failed self.new ≡ bytes_has_failed self.old)
+            (λ _. bytes_has_failed self.new ≡ true) }
+        ensures fails { IsErr result ↔ (bytes_good self.old ≡ Some 0) }
+        ensures count { IfOk result (λ count. count ≡ min (bytes_most self.old)
+            (min (length buf.old) (length (bytes_left self.old)))) }
+        ensures good { IfOk result (λ count.
+            bytes_good self.new ≡ option_map (λ good. good - count) (bytes_good self.old)) }
+        ensures others { bytes_step self.new ≡ bytes_step self.old }
+    {
         if self.good == Some(0) {
             self.failed = true;
             return Err(Failed);
         }
-        let good = self.good.unwrap_or(usize::MAX);
-        let most = self.step.max(1).min(good);
+        let step = self.step.max(1);
+        let most = step.min(self.good.unwrap_or(step));
         let count = buf.len().min(self.rest.len()).min(most);
         buf[..count].copy_from_slice(&self.rest[..count]);
         self.rest = &self.rest[count..];
-        if self.good.is_some() {
-            self.good = Some(good - count);
-        }
+        self.good = self.good.map(|good| good.saturating_sub(count));
         Ok(count)
     }
 }
@@ -82,6 +98,7 @@ impl Room {
     pub fn new(alloc: Global, room: usize, step: usize) -> Result<Room, AllocError>
         ensures taken { IfOk result (λ sink. room_taken sink ≡ []) }
         ensures left { IfOk result (λ sink. room_left sink ≡ room) }
+        ensures step { IfOk result (λ sink. room_step sink ≡ max step 1) }
         ensures takes_nothing { IfOk result (λ sink. room_takes_nothing sink ≡ false) }
         ensures failed { IfOk result (λ sink. room_has_failed sink ≡ false) }
     {
@@ -98,6 +115,7 @@ impl Room {
     pub fn taking_nothing(alloc: Global, room: usize, step: usize) -> Result<Room, AllocError>
         ensures taken { IfOk result (λ sink. room_taken sink ≡ []) }
         ensures left { IfOk result (λ sink. room_left sink ≡ room) }
+        ensures step { IfOk result (λ sink. room_step sink ≡ max step 1) }
         ensures takes_nothing { IfOk result (λ sink. room_takes_nothing sink ≡ true) }
         ensures failed { IfOk result (λ sink. room_has_failed sink ≡ false) }
     {
@@ -123,16 +141,69 @@ impl Sink for Room {
 
     ghost has_failed = { room_has_failed };
 
-    fn write(&mut self, buf: &[u8]) -> Result<usize, Failed> {
+    fn write(&mut self, buf: &[u8]) -> Result<usize, Failed>
+        ensures bound { WritesAtMost result buf.now }
+        ensures bytes { WriteAppends (Some (room_taken self.old)) (Some (room_taken self.new))
+            result buf.now }
+        ensures failed { MatchResult result
+            (λ count. room_has_failed self.new
+            ≡ (room_has_failed self.old || is_refused count buf.now))
+            (λ _. room_has_failed self.new ≡ true) }
+        ensures fails { IsErr result ↔ IsOverflow self.old buf.now }
+        ensures count { IfOk result (λ count. count ≡ min (room_step self.old)
+            (min (length buf.now) (room_left self.old))) }
+        ensures left { IfOk result (λ count. room_left self.new ≡ room_left self.old - count) }
+        ensures step { room_step self.new ≡ room_step self.old }
+        ensures takes_nothing { room_takes_nothing self.new ≡ room_takes_nothing self.old }
+    {
+        if buf.is_empty() {
+            return Ok(0);
+        }
         let room = self.space.len().saturating_sub(self.used);
-        if room == 0 && !buf.is_empty() {
+        if room == 0 {
             self.failed = true;
-            return if self.takes_nothing { Ok(0) } else { Err(Failed) };
+            return if self.takes_nothing {
+                Ok(0)
+            } else {
+                Err(Failed)
+            };
         }
         let count = buf.len().min(room).min(self.step.max(1));
         let start = self.used;
         self.space[start..start + count].copy_from_slice(&buf[..count]);
         self.used += count;
         Ok(count)
+    }
+}
+
+#[cfg(test)]
+mod tests {
+    use super::{Bytes, Room};
+    use crate::ends::{Failed, Sink, Source};
+
+    #[test]
+    fn bytes_come_in_steps_until_the_source_fails(rt: HostRuntime) {
+        let mut buf = [0; 8];
+        let mut whole = Bytes::new(b"abcd", 3);
+        assert_eq!(rt; whole.read(&mut buf), Ok(3));
+        assert_eq!(rt; whole.read(&mut buf), Ok(1));
+        assert_eq!(rt; whole.read(&mut buf), Ok(0));
+        let mut failing = Bytes::failing(b"abcd", 8, 3);
+        assert_eq!(rt; failing.read(&mut buf), Ok(3));
+        assert_eq!(rt; failing.read(&mut buf), Err(Failed));
+        assert_eq!(rt; failing.read(&mut buf), Err(Failed));
+    }
+
+    #[test]
+    fn a_full_room_fails_or_takes_nothing(rt: HostRuntime) -> Result<(), std::alloc::AllocError> {
+        let mut fails = Room::new(rt.alloc(), 3, 2)?;
+        assert_eq!(rt; fails.write(b"abcd"), Ok(2));
+        assert_eq!(rt; fails.write(b"cd"), Ok(1));
+        assert_eq!(rt; fails.write(b"d"), Err(Failed));
+        assert!(rt; fails.taken() == b"abc".as_slice());
+        let mut takes_none = Room::taking_nothing(rt.alloc(), 1, 0)?;
+        assert_eq!(rt; takes_none.write(b"ab"), Ok(1));
+        assert_eq!(rt; takes_none.write(b"b"), Ok(0));
+        Ok(())
     }
 }

@@ -1,6 +1,6 @@
 //! The ends of bytes: where they come from and where they go.
 
-ghost use Rattle.std.specs.Prelude.{◌≡◌, ℕ, Bool, true, false, ◌||◌, ◌<◌, ◌×◌, List, Option, length, take, OnOk, IfErr, MatchResult, is_err};
+ghost use Rattle.std.specs.Prelude.{◌≡◌, ℕ, Bool, true, false, ◌||◌, ◌<◌, List, Option, length, take, OnOk, IfErr, MatchResult, is_err};
 ghost use Rattle.std.specs.Io.{ReadsAtMost, WritesAtMost};
 ghost use Rattle.std.specs.Io.KnownBytes.{Appends, ReadConsumes, WriteAppends};
 ghost use Rattle.cm_bits.specs.Ends.{is_refused, std_inner, std_has_failed};
@@ -121,4 +121,47 @@ pub fn write_all<O: Sink>(sink: &mut O, bytes: &[u8]) -> Result<(), WriteFault>
         }
     }
     Ok(())
+}
+
+#[cfg(test)]
+mod tests {
+    use super::{Failed, Source, Std, WriteFault, write_all};
+    use crate::doubles::Room;
+    use std::io;
+    use std::io::{ErrorKind, Read};
+
+    #[derive(Drop)]
+    struct Broken;
+
+    impl Read for Broken {
+        fn read(&mut self, _: &mut [u8]) -> io::Result<usize> {
+            Err(ErrorKind::Interrupted.into())
+        }
+    }
+
+    #[test]
+    fn std_hands_a_call_on_once(rt: HostRuntime) {
+        let mut buf = [0; 2];
+        let mut source = Std::new(b"abc".as_slice());
+        assert_eq!(rt; source.read(&mut buf), Ok(2));
+        assert_eq!(rt; source.read(&mut buf), Ok(1));
+        assert_eq!(rt; source.read(&mut buf), Ok(0));
+        assert_eq!(rt; Std::new(Broken).read(&mut buf), Err(Failed));
+    }
+
+    #[test]
+    fn a_full_sink_tells_how_far_a_write_came(
+        rt: HostRuntime,
+    ) -> Result<(), std::alloc::AllocError> {
+        let text = b"at 12\nend\n".as_slice();
+        let mut fails = Room::new(rt.alloc(), 7, 3)?;
+        assert_eq!(rt; write_all(&mut fails, text), Err(WriteFault(7)));
+        assert!(rt; fails.taken() == b"at 12\ne".as_slice());
+        let mut takes_none = Room::taking_nothing(rt.alloc(), 0, 3)?;
+        assert_eq!(rt; write_all(&mut takes_none, text), Err(WriteFault(0)));
+        let mut large = Room::new(rt.alloc(), 10, 1)?;
+        assert_eq!(rt; write_all(&mut large, text), Ok(()));
+        assert!(rt; large.taken() == text);
+        Ok(())
+    }
 }

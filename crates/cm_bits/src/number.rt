@@ -7,17 +7,17 @@ use std::marker::Model;
 /// The address of a memory bit of a processor, 0 to 4095 (Hillis 1985).
 #[derive(Clone, Copy, Debug, Default, PartialEq, Eq)]
 pub struct Addr {
-    number: u16,
+    address: u16,
 }
 
 impl Model for Addr {
     ghost Value = { ℕ };
 
-    ghost view = { λ a. a.number };
+    ghost view = { λ a. a.address };
 
-    ghost invariant = { λ a. a.number < 4096 };
+    ghost invariant = { λ a. a.address < 4096 };
 
-    ghost inverse = { λ n. record { number = n } };
+    ghost inverse = { λ n. record { address = n } };
 }
 
 impl Addr {
@@ -25,31 +25,35 @@ impl Addr {
         ensures in_range { IsSome result ↔ (number < 4096) }
         ensures value { IfSome result (λ n. n ≡ number) }
     {
-        if number < 4096 { Some(Addr { number }) } else { None }
+        if number < 4096 {
+            Some(Addr { address: number })
+        } else {
+            None
+        }
     }
 
     pub fn get(self) -> u16
         ensures value { result ≡ self }
         ensures in_range { result < 4096 }
     {
-        self.number
+        self.address
     }
 }
 
 /// The number of a flag of a processor, 0 to 15 (Hillis 1985; which flag is which is ours).
 #[derive(Clone, Copy, Debug, Default, PartialEq, Eq)]
 pub struct FlagNo {
-    number: u8,
+    flag: u8,
 }
 
 impl Model for FlagNo {
     ghost Value = { ℕ };
 
-    ghost view = { λ a. a.number };
+    ghost view = { λ a. a.flag };
 
-    ghost invariant = { λ a. a.number < 16 };
+    ghost invariant = { λ a. a.flag < 16 };
 
-    ghost inverse = { λ n. record { number = n } };
+    ghost inverse = { λ n. record { flag = n } };
 }
 
 impl FlagNo {
@@ -57,14 +61,18 @@ impl FlagNo {
         ensures in_range { IsSome result ↔ (number < 16) }
         ensures value { IfSome result (λ n. n ≡ number) }
     {
-        if number < 16 { Some(FlagNo { number }) } else { None }
+        if number < 16 {
+            Some(FlagNo { flag: number })
+        } else {
+            None
+        }
     }
 
     pub fn get(self) -> u8
         ensures value { result ≡ self }
         ensures in_range { result < 16 }
     {
-        self.number
+        self.flag
     }
 }
 
@@ -89,7 +97,11 @@ impl Proc {
         ensures in_range { IsSome result ↔ (number < 16) }
         ensures value { IfSome result (λ n. n ≡ number) }
     {
-        if number < 16 { Some(Proc { number }) } else { None }
+        if number < 16 {
+            Some(Proc { number })
+        } else {
+            None
+        }
     }
 
     pub fn get(self) -> u8

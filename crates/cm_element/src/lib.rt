@@ -1,2 +1,9 @@
-//! To come.
+//! One chip: sixteen processors, kept as one plane per memory address and one per flag.
 #![tactic(auto)]
+
+mod chip;
+mod outputs;
+
+pub use chip::{Chip, ZeroFlag};
+pub use cm_bits::NoMemory;
+pub use outputs::Outputs;

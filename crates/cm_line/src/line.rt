@@ -1,8 +1,8 @@
-ghost use Rattle.std.specs.Prelude.{◌≡◌, IfOk, IsErrOf, IsSomeAnd, false};
+ghost use Rattle.std.specs.Prelude.{◌≡◌, [], ◌∷◌, IfOk, IsErrOf, codes, false};
 ghost use Rattle.clap.specs.Walk.{texts};
-ghost use Rattle.clap.specs.Simple.{app_of, subcommand_of};
+ghost use Rattle.clap.specs.Simple.{app_of};
 ghost use Rattle.clap.specs.declared.builder.command.Command.TheViews.{out-Command as fields_of};
-ghost use Rattle.cm_line.specs.Lines.{IsLine, IsTaken, chip_app, program_app};
+ghost use Rattle.cm_line.specs.Lines.{AsksFor, IsBadLine, chip_app, program_app};
 
 use crate::fault::LineFault;
 use clap::Command;
@@ -10,19 +10,20 @@ use clap::error::ErrorKind;
 use std::alloc::{AllocError, Global};
 
 /// What the program is asked to do.
-#[derive(Clone, Copy, Debug, PartialEq, Eq)]
+#[derive(Debug, PartialEq, Eq, Drop)]
 pub enum Line {
-    /// Runs a chip's program from standard input to standard output.
+    /// `chip`: reads the text of one chip from standard input, and writes its answers to standard
+    /// output.
     Chip,
 }
 
-/// Reads the words of a command line, of which the first is the program's name.
+/// Reads the words of a command line. The first is the program's name, and may be any.
 ///
-/// Options and operands stand as clap takes them by default. Nothing asks for help or a version.
+/// The words mean what clap makes of them by default, so a lone `--` may end them. There is no help
+/// and no version to ask for.
 pub fn command<'a>(alloc: Global, words: &'a [&'a str]) -> Result<Line, LineFault>
-    ensures taken { IfOk result (λ _. IsTaken (texts words.now)) }
-    ensures value { IfOk result (λ line. IsSomeAnd (subcommand_of program_app (texts words.now)) (IsLine line)) }
-    ensures bad_line { IsErrOf result LineFault.BadLine → ¬ IsTaken (texts words.now) }
+    ensures value { IfOk result (AsksFor (texts words.now)) }
+    ensures bad_line { IsErrOf result LineFault.BadLine → IsBadLine (texts words.now) }
 {
     let matches = match program(alloc)?.try_get_matches_from(words) {
         Ok(matches) => matches,
@@ -30,10 +31,29 @@ pub fn command<'a>(alloc: Global, words: &'a [&'a str]) -> Result<Line, LineFaul
         Err(_) => return Err(LineFault::BadLine),
     };
     match matches.subcommand() {
-        Some(("chip", _)) => Err(LineFault::BadLine),
+        Some(("chip", _)) => Ok(Line::Chip),
         _ => Err(LineFault::BadLine),
     }
 }
+
+/// A law: of the words below, `chip` alone asks for a line. A call for help or for the version, no
+/// subcommand, no word at all, an unknown subcommand, and an operand or an option of `chip` do not.
+#[tactic(auto, unfolding(clap::proofs::OnLiterals::clap_on_literals))]
+pub fn chip_alone_is_a_line()
+    ensures chip { AsksFor (codes "cm1" ∷ codes "chip" ∷ []) Line.Chip }
+    ensures lone_dashes { AsksFor (codes "cm1" ∷ codes "chip" ∷ codes "--" ∷ []) Line.Chip }
+    ensures help { IsBadLine (codes "cm1" ∷ codes "help" ∷ []) }
+    ensures help_flag { IsBadLine (codes "cm1" ∷ codes "--help" ∷ []) }
+    ensures short_help_flag { IsBadLine (codes "cm1" ∷ codes "-h" ∷ []) }
+    ensures help_of_chip { IsBadLine (codes "cm1" ∷ codes "chip" ∷ codes "--help" ∷ []) }
+    ensures version_flag { IsBadLine (codes "cm1" ∷ codes "--version" ∷ []) }
+    ensures short_version_flag { IsBadLine (codes "cm1" ∷ codes "-V" ∷ []) }
+    ensures name_alone { IsBadLine (codes "cm1" ∷ []) }
+    ensures no_words { IsBadLine [] }
+    ensures unknown { IsBadLine (codes "cm1" ∷ codes "ship" ∷ []) }
+    ensures operand { IsBadLine (codes "cm1" ∷ codes "chip" ∷ codes "3" ∷ []) }
+    ensures option { IsBadLine (codes "cm1" ∷ codes "chip" ∷ codes "--out" ∷ []) }
+{}
 
 fn program<'a>(alloc: Global) -> Result<Command<'a>, AllocError>
     ensures app { IfOk result (λ made. app_of made ≡ program_app) }
@@ -62,5 +82,49 @@ mod tests {
     fn chip_is_a_line(rt: HostRuntime) {
         let words = ["cm1", "chip"];
         assert!(rt; command(rt.alloc(), words.as_slice()) == Ok(Line::Chip));
+        let ended = ["cm1", "chip", "--"];
+        assert!(rt; command(rt.alloc(), ended.as_slice()) == Ok(Line::Chip));
+    }
+
+    static ONE_WORD: [[&str; 2]; 9] = [
+        ["cm1", "help"],
+        ["cm1", "-h"],
+        ["cm1", "--help"],
+        ["cm1", "-V"],
+        ["cm1", "--version"],
+        ["cm1", "ship"],
+        ["cm1", "chi"],
+        ["cm1", "CHIP"],
+        ["cm1", ""],
+    ];
+
+    static TWO_WORDS: [[&str; 3]; 7] = [
+        ["cm1", "chip", "3"],
+        ["cm1", "chip", "chip"],
+        ["cm1", "chip", "help"],
+        ["cm1", "chip", "-h"],
+        ["cm1", "chip", "--help"],
+        ["cm1", "chip", "--version"],
+        ["cm1", "help", "chip"],
+    ];
+
+    #[test]
+    fn other_words_are_a_bad_line(rt: HostRuntime) {
+        for (at, words) in ONE_WORD.iter().enumerate() {
+            let answer = command(rt.alloc(), words.as_slice());
+            assert!(rt; answer == Err(LineFault::BadLine), "one word, line {at}");
+        }
+        for (at, words) in TWO_WORDS.iter().enumerate() {
+            let answer = command(rt.alloc(), words.as_slice());
+            assert!(rt; answer == Err(LineFault::BadLine), "two words, line {at}");
+        }
+    }
+
+    #[test]
+    fn a_missing_subcommand_is_a_bad_line(rt: HostRuntime) {
+        let name = ["cm1"];
+        assert!(rt; command(rt.alloc(), name.as_slice()) == Err(LineFault::BadLine));
+        let none: [&str; 0] = [];
+        assert!(rt; command(rt.alloc(), none.as_slice()) == Err(LineFault::BadLine));
     }
 }

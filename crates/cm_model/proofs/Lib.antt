@@ -1,3 +1,4 @@
+pub mod Bits
 pub mod Each
 pub mod Order
 pub mod Flips
@@ -11,3 +12,5 @@ pub mod Opening
 pub mod Runs
 mod RouterFacts
 pub mod Rooms
+pub mod Torus
+pub mod Values

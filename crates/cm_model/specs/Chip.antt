@@ -1,9 +1,9 @@
 -- A chip: sixteen processors, which all step at once. Hillis 1985.
-use Rattle.std.specs.Prelude.{◌≡◌, ℕ, ◌<◌, Bool, List, [], slice_index_or}
+use Rattle.std.specs.Prelude.{◌≡◌, ℕ, ◌<◌, Bool, List, [], slice_index_or, slice_set}
 use Rattle.cm_bits.specs.Bit.{bit}
 use Rattle.cm_model.specs.declared.act.Nano.{Nano}
 use Rattle.cm_model.specs.Each.{each_from}
-use Rattle.cm_model.specs.Processor.{Processor, blank_processor}
+use Rattle.cm_model.specs.Processor.{Processor, value, blank_processor}
 use Rattle.cm_model.specs.Instruction.{processor_after}
 
 -- what a function of the processor's number gives for each of the sixteen
@@ -27,3 +27,17 @@ chip_after nano incoming chip = each_processor (λ p. processor_after nano (inco
 -- bit p of the plane is what the function gives for processor p
 abbrev pub IsPlane : ℕ → (ℕ → Bool) → Type 0
 IsPlane plane f = (p : ℕ) → p < 16 → bit plane p ≡ f p
+
+-- the chip with another bit at an address of a processor
+unfoldable pub with_memory_bit : List Processor → ℕ → ℕ → Bool → List Processor
+with_memory_bit chip p address b =
+    slice_set chip p (record (processor_at chip p) { memory = slice_set (processor_at chip p).memory address b })
+
+-- the chip with another bit in a flag of a processor
+unfoldable pub with_flag : List Processor → ℕ → ℕ → Bool → List Processor
+with_flag chip p number b =
+    slice_set chip p (record (processor_at chip p) { flags = slice_set (processor_at chip p).flags number b })
+
+-- the plane whose bit p is what the function gives for processor p, as a number
+unfoldable pub plane_number : (ℕ → Bool) → ℕ
+plane_number f = value (each_processor f)

@@ -3,21 +3,11 @@ use Rattle.std.specs.Prelude.{◌≡◌, ℕ, ◌<◌, ◌≤◌, ◌^◌, ◌==
 use Rattle.std.specs.List.{All, count_by}
 use Rattle.cm_model.specs.declared.message.Message.{Message}
 use Rattle.cm_model.specs.declared.message.Tag.{Tag}
-use Rattle.cm_model.specs.Processor.{Processor, ZERO, flag}
-use Rattle.cm_model.specs.Chip.{processor_at}
+use Rattle.cm_model.specs.Whole.{IsChip}
 use Rattle.cm_model.specs.Array.{chip_at}
 use Rattle.cm_model.specs.Machine.{Machine, buffer_at}
 use Rattle.cm_model.specs.Account.{account}
 use Rattle.cm_model.specs.Found.{same_tag}
-
-pub record IsProcessor (processor : Processor) : Type 0 where
-  pub bits : length processor.memory ≡ 4096
-  pub flags : length processor.flags ≡ 16
-  pub zero_reads : flag processor ZERO ≡ false
-
-pub record IsChip (chip : List Processor) : Type 0 where
-  pub count : length chip ≡ 16
-  pub processors : (p : ℕ) → p < 16 → IsProcessor (processor_at chip p)
 
 -- a message of a cube of n dimensions
 pub record IsMessage (n : ℕ) (m : Message) : Type 0 where

@@ -3,6 +3,7 @@ pub mod Place
 pub mod Processor
 pub mod Instruction
 pub mod Chip
+pub mod Whole
 pub mod Array
 pub mod Router
 pub mod Order
@@ -14,3 +15,4 @@ pub mod Buffers
 pub mod Account
 pub mod Found
 pub mod Keeping
+pub mod Laws

@@ -5,8 +5,10 @@
 
 mod act;
 mod found;
+mod laws;
 mod message;
 
 pub use act::{Act, Nano};
 pub use found::Found;
+pub use laws::neighbours_lead_back;
 pub use message::{Event, Message, Tag};

@@ -1,0 +1,2 @@
+pub mod NanoLine
+pub mod Report

@@ -1,0 +1,2 @@
+mod Planes
+mod Storing
