@@ -177,7 +177,7 @@ delivered_at_is chips set c h =
 abbrev pub undelivered : Chips → List Standing → List Standing
 undelivered chips set = filter (λ r. not (is_delivered chips set r)) set
 
-filter_twice : (p q : Standing → Bool) (xs : List Standing) → filter p (filter q xs) ≡ filter q (filter p xs)
+pub filter_twice : (p q : Standing → Bool) (xs : List Standing) → filter p (filter q xs) ≡ filter q (filter p xs)
 filter_twice p q [] = refl
 filter_twice p q (x ∷ xs) =
     ⊎_elim

@@ -14,3 +14,5 @@ mod RouterFacts
 pub mod Rooms
 pub mod Torus
 pub mod Values
+pub mod Counting
+pub mod Conserving
