@@ -16,3 +16,5 @@ pub mod Torus
 pub mod Values
 pub mod Counting
 pub mod Conserving
+pub mod Accounting
+pub mod Tags

@@ -64,7 +64,7 @@ IsReady-opened n machine = record {
   rising = IsRising-opened n machine
 }
 
-buffer-opened : (n : ℕ) (machine : Machine) (c : ℕ) → c < 2 ^ n → buffer c (opened n machine).standing ≡ buffer_at machine.buffers c
+pub buffer-opened : (n : ℕ) (machine : Machine) (c : ℕ) → c < 2 ^ n → buffer c (opened n machine).standing ≡ buffer_at machine.buffers c
 buffer-opened n machine c l = ap messages_of (queue-opened n machine c l) ∙ messages_of-records c 0 (buffer_at machine.buffers c)
 
 -- what is handed over and not run is as it was
