@@ -1,6 +1,6 @@
 -- Tags and births over a whole run: each new tag has the counter for its birth, and its own origin.
 use Rattle.std.proofs.Common.{◌≡◌, ℕ, zero, suc, ◌+◌, ◌<◌, ◌≤◌, ◌^◌, Bool, true, false, not, cond, eqb, ltb, ◌&&◌, List, [], ◌∷◌, ◌++◌, length, map, refl, sym, ◌∙◌, ap, subst, ⊎_elim, arith}
-use Rattle.std.proofs.lemmas.Bool.{cases_Bool, cases_eq, eqb-true, eq-eqb, ne_eqb, lt-ltb, ltb-true, and_parts, and_left, not-false}
+use Rattle.std.proofs.lemmas.Bool.{cases_Bool, cases_eq, eqb-true, eq-eqb, ne_eqb, lt-ltb, le-ltb, ltb-true, and_parts, and_right}
 use Rattle.std.proofs.lemmas.Bool.Decides.{nat_tests}
 use Rattle.std.proofs.lemmas.List.Elements.{All-head, All-tail, All-cons, All-nil}
 use Rattle.std.proofs.lemmas.List.Sums.{sum_by-cons, sum_by-le-sum_by}
@@ -8,11 +8,12 @@ use Rattle.std.specs.Prelude.{nat_lt, ◌==◌}
 use Rattle.std.specs.List.{All, filter_map, sum_by, count_by, range_with_len}
 use Rattle.cm_model.specs.declared.act.Act.{Act}
 use Rattle.cm_model.specs.declared.act.Act.TheVariants as act
+use Rattle.cm_model.specs.declared.act.Nano.{Nano}
 use Rattle.cm_model.specs.declared.message.Tag.{Tag}
 use Rattle.cm_model.specs.Array.{chip_at}
 use Rattle.cm_model.specs.Router.{standing_at}
 use Rattle.cm_model.specs.Letters.{message_sent}
-use Rattle.cm_model.specs.Steps.{Step, Inject, Cross, Deliver, steps_of, all_steps}
+use Rattle.cm_model.specs.Steps.{Step, Instruct, Inject, Cross, Deliver, steps_of, all_steps}
 use Rattle.cm_model.specs.Cycle.{State, log_at, taken_at, after_injection, after_delivery, state_after, state_after_all}
 use Rattle.cm_model.specs.Machine.{Machine, opened, closed, run_of}
 use Rattle.cm_model.specs.Account.{Triple, standing_triple, delivered_triple, account}
@@ -153,3 +154,116 @@ unfolding fresh_count
 fresh_once tag n cap state =
     omega (arith, sum_by-le-sum_by (λ c. sum_by (λ q. one (has_tag tag) (sent_line n state c q)) (taken_at cap state c)) (λ c. cond (eqb tag.chip c) 1 0) (chips_of n) (sent_here tag n cap state),
         one_in_range tag.chip 0 (2 ^ n))
+
+-- ---- tags and births over acts
+
+-- what the account of a state keeps
+record IsBooked (n : ℕ) (state : State) : Type 0 where
+  cube : AllInCube n state.standing
+  once : (tag : Tag) → amount (has_tag tag) n state ≤ 1
+  born : amount (is_late state.clock) n state ≡ 0
+
+late_before : (clock : ℕ) (t : Triple) → is_late (clock + 1) t ≡ true → is_late clock t ≡ true
+late_before clock t h = grind (arith, nat_tests)
+
+tag_is_late : (tag : Tag) (clock : ℕ) (t : Triple) → tag.birth ≡ clock → has_tag tag t ≡ true → is_late clock t ≡ true
+tag_is_late tag clock t e h =
+    let birth : t.tag.birth ≡ tag.birth =
+        eqb-true t.tag.birth tag.birth (and_parts (t.tag.proc == tag.proc) (t.tag.birth == tag.birth) (and_parts (t.tag.chip == tag.chip) (t.tag.proc == tag.proc && t.tag.birth == tag.birth) h).1).1 in
+    let late : ltb t.tag.birth clock ≡ false = le-ltb t.tag.birth clock (omega arith) in
+    ap not late
+
+other_birth : (tag : Tag) (clock : ℕ) (t : Triple) → (tag.birth ≡ clock → ⊥) → t.tag.birth ≡ clock → has_tag tag t ≡ false
+other_birth tag clock t ne e =
+    let differ : (t.tag.birth == tag.birth) ≡ false = ne_eqb t.tag.birth tag.birth (λ same. ne (sym same ∙ e)) in
+    and_right (t.tag.chip == tag.chip) (t.tag.proc == tag.proc && t.tag.birth == tag.birth) (and_right (t.tag.proc == tag.proc) (t.tag.birth == tag.birth) differ)
+
+cycle_once : (n cap : ℕ) (state : State) (tag : Tag) → IsBooked n state → amount (has_tag tag) n (state_after_all n cap state (steps_of n act.Cycle)) ≤ 1
+cycle_once n cap state tag h =
+    ⊎_elim
+        (λ (e : tag.birth ≡ state.clock).
+            omega (arith, amount-cycle (has_tag tag) n cap state h.cube, h.born, amount_le (has_tag tag) (is_late state.clock) n state (λ t. tag_is_late tag state.clock t e), fresh_once tag n cap state))
+        (λ (e : tag.birth ≡ state.clock → ⊥).
+            omega (arith, amount-cycle (has_tag tag) n cap state h.cube, h.once tag, fresh_none (has_tag tag) n cap state (λ c q. other_birth tag state.clock (sent_line n state c q) e refl)))
+        (cases_eq tag.birth state.clock)
+
+cycle_born : (n cap : ℕ) (state : State) → IsBooked n state → amount (is_late (state.clock + 1)) n (state_after_all n cap state (steps_of n act.Cycle)) ≡ 0
+cycle_born n cap state h =
+    omega (arith, amount-cycle (is_late (state.clock + 1)) n cap state h.cube, h.born, amount_le (is_late (state.clock + 1)) (is_late state.clock) n state (late_before state.clock),
+        fresh_none (is_late (state.clock + 1)) n cap state (λ c q. ap not (lt-ltb state.clock (state.clock + 1) (omega arith))))
+
+amount-nano : (p : Triple → Bool) (n cap : ℕ) (state : State) (nano : Nano) → amount p n (state_after n cap state (Instruct nano)) ≡ amount p n state
+unfolding amount
+amount-nano p n cap state nano = refl
+
+act_books : (n cap : ℕ) (state : State) (a : Act) → IsBooked n state → IsBooked n (state_after_all n cap state (steps_of n a))
+act_books n cap state (act.Nano nano) h = record {
+  cube = h.cube;
+  once = λ tag. omega (arith, amount-nano (has_tag tag) n cap state nano, h.once tag);
+  born = amount-nano (is_late state.clock) n cap state nano ∙ h.born
+}
+act_books n cap state act.Sense h = h
+act_books n cap state act.Cycle h = record {
+  cube = (state_after_all_follows n cap state (steps_of n act.Cycle) (AreSteps-act n act.Cycle) h.cube).cube;
+  once = λ tag. cycle_once n cap state tag h;
+  born = ap (λ k. amount (is_late k) n (state_after_all n cap state (steps_of n act.Cycle))) (clock-cycle n cap state) ∙ cycle_born n cap state h
+}
+
+run_books : (n cap : ℕ) (state : State) (acts : List Act) → IsBooked n state → IsBooked n (state_after_all n cap state (all_steps n acts))
+run_books n cap state [] h = h
+run_books n cap state (a ∷ acts) h =
+    subst (λ (s : State). IsBooked n s) (sym (state_after_all-append n cap state (steps_of n a) (all_steps n acts)))
+        (run_books n cap (state_after_all n cap state (steps_of n a)) acts (act_books n cap state a h))
+
+-- ---- the same of machines
+
+none_late : (clock : ℕ) (xs : List Triple) → All (λ triple. triple.tag.birth < clock) xs → count_by (is_late clock) xs ≡ 0
+none_late clock [] h = refl
+none_late clock (x ∷ xs) h =
+    let first : x.tag.birth < clock = All-head (λ triple. triple.tag.birth < clock) x xs h in
+    let early : is_late clock x ≡ false = ap not (lt-ltb x.tag.birth clock first) in
+    let here : one (is_late clock) x ≡ 0 = rw early refl in
+    omega (arith, sum_by-cons (one (is_late clock)) x xs, none_late clock xs (All-tail (λ triple. triple.tag.birth < clock) x xs h))
+
+all_early : (clock : ℕ) (xs : List Triple) → count_by (is_late clock) xs ≡ 0 → All (λ triple. triple.tag.birth < clock) xs
+all_early clock [] h = All-nil (λ (triple : Triple). triple.tag.birth < clock)
+all_early clock (x ∷ xs) h =
+    let parts : count_by (is_late clock) (x ∷ xs) ≡ one (is_late clock) x + count_by (is_late clock) xs = sum_by-cons (one (is_late clock)) x xs in
+    let none : one (is_late clock) x ≡ 0 = omega arith in
+    All-cons (λ triple. triple.tag.birth < clock) x xs
+        (⊎_elim (λ (e : nat_lt x.tag.birth clock ≡ true). ltb-true x.tag.birth clock e)
+            (λ (e : nat_lt x.tag.birth clock ≡ false). absurd (one_is_none (sym (ap (λ b. cond (not b) 1 0) e) ∙ none)))
+            (cases_Bool (nat_lt x.tag.birth clock)))
+        (all_early clock xs (omega arith))
+  where
+    one_is_none : ◌≡◌ {A = ℕ} 1 0 → ⊥
+    one_is_none e = omega (arith, e)
+
+clock-opened : (n : ℕ) (machine : Machine) → (opened n machine).clock ≡ machine.clock
+unfolding opened
+clock-opened n machine = refl
+
+opened_books : (n : ℕ) (machine : Machine) → HasTagsOnce n machine → BornBefore n machine → IsBooked n (opened n machine)
+opened_books n machine once born = record {
+  cube = AllInCube-opened n machine;
+  once = λ tag. omega (arith, account-opened (has_tag tag) n machine, once tag);
+  born = ap (λ k. amount (is_late k) n (opened n machine)) (clock-opened n machine)
+      ∙ (sym (account-opened (is_late machine.clock) n machine) ∙ none_late machine.clock (account n machine) born)
+}
+
+-- no tag comes to stand twice in the account
+pub tags_stay_once : (n cap : ℕ) (machine : Machine) (acts : List Act) → HasTagsOnce n machine → BornBefore n machine → HasTagsOnce n (run_of n cap machine acts)
+tags_stay_once n cap machine acts once born tag =
+    omega (arith, account-run_of (has_tag tag) n cap machine acts, (run_books n cap (opened n machine) acts (opened_books n machine once born)).once tag)
+
+clock-run_of : (n cap : ℕ) (machine : Machine) (acts : List Act) → (run_of n cap machine acts).clock ≡ (state_left n cap machine acts).clock
+unfolding run_of closed
+clock-run_of n cap machine acts = refl
+
+-- births stay below the counter
+pub births_stay_before : (n cap : ℕ) (machine : Machine) (acts : List Act) → HasTagsOnce n machine → BornBefore n machine → BornBefore n (run_of n cap machine acts)
+births_stay_before n cap machine acts once born =
+    all_early (run_of n cap machine acts).clock (account n (run_of n cap machine acts))
+        (account-run_of (is_late (run_of n cap machine acts).clock) n cap machine acts
+        ∙ (ap (λ k. amount (is_late k) n (state_left n cap machine acts)) (clock-run_of n cap machine acts)
+        ∙ (run_books n cap (opened n machine) acts (opened_books n machine once born)).born))
