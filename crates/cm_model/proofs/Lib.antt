@@ -18,3 +18,5 @@ pub mod Counting
 pub mod Conserving
 pub mod Accounting
 pub mod Tags
+pub mod Wholes
+pub mod Messages
