@@ -20,3 +20,5 @@ pub mod Accounting
 pub mod Tags
 pub mod Wholes
 pub mod Messages
+pub mod Keeping
+pub mod Choosing

@@ -16,3 +16,4 @@ pub mod Account
 pub mod Found
 pub mod Keeping
 pub mod Laws
+pub mod Leaver
