@@ -1,29 +1,30 @@
 -- The account over a whole run.
-use Rattle.std.proofs.Common.{◌≡◌, ℕ, zero, suc, ◌+◌, ◌<◌, ◌≤◌, ◌^◌, Bool, true, false, not, cond, List, [], ◌∷◌, ◌++◌, length, drop, map, refl, sym, ◌∙◌, ap, subst, ⊎_elim, arith, append_assoc}
+use Rattle.std.proofs.Common.{◌≡◌, ℕ, zero, suc, ◌+◌, ◌<◌, ◌≤◌, ◌^◌, Bool, true, false, not, List, [], ◌∷◌, ◌++◌, length, drop, map, refl, sym, ◌∙◌, ap, ⊎_elim, arith, append_assoc}
 use Rattle.std.proofs.lemmas.Bool.{cases_Bool}
 use Rattle.std.proofs.lemmas.List.{append-nil, drop_at}
 use Rattle.std.proofs.lemmas.List.Elements.{filter_map-append}
 use Rattle.std.proofs.lemmas.List.Sums.{sum_by-append}
-use Rattle.std.specs.Prelude.{bit_xor, if◌then◌else◌}
-use Rattle.std.specs.List.{filter_map, flat_map, sum_by, count_by, range_with_len}
+use Rattle.std.specs.List.{filter_map, flat_map, count_by, range_with_len}
+use Rattle.cm_model.specs.declared.act.Nano.{Nano}
 use Rattle.cm_model.specs.declared.act.Act.{Act}
 use Rattle.cm_model.specs.declared.act.Act.TheVariants as act
 use Rattle.cm_model.specs.declared.message.Message.{Message}
 use Rattle.cm_model.specs.declared.message.Event.{Event}
 use Rattle.cm_model.specs.declared.message.Event.TheVariants.{Injected, Delivered}
 use Rattle.cm_model.specs.Array.{chip_at}
-use Rattle.cm_model.specs.Router.{Standing, leaves, record_across, after_dimension}
+use Rattle.cm_model.specs.Router.{Standing, leaves, after_dimension}
 use Rattle.cm_model.specs.Letters.{messages_sent}
-use Rattle.cm_model.specs.Steps.{Step, Instruct, Look, Inject, Cross, Deliver, steps_of, all_steps}
+use Rattle.cm_model.specs.Steps.{Step, Instruct, Look, Inject, Cross, Deliver, IsStep, steps_of, all_steps}
 use Rattle.cm_model.specs.Cycle.{State, log_at, taken_at, new_record, new_records, after_injection, is_delivered, delivered_at, after_delivery, state_after, state_after_all}
 use Rattle.cm_model.specs.Machine.{Machine, buffer_at, records_from, opened, closed, run_of}
+use Rattle.cm_model.specs.Buffers.{after_act}
 use Rattle.cm_model.specs.Account.{Triple, standing_triple, delivered_triple, injected_triple, account_at, account, new_events, newly_injected, SameLines}
 use Rattle.cm_model.proofs.Each.{get_or-each_below}
 use Rattle.cm_model.proofs.Flips.{across_below}
 use Rattle.cm_model.proofs.Crossing.{step_of_record}
 use Rattle.cm_model.proofs.Opening.{buffer-opened, buffer_at-closed}
 use Rattle.cm_model.proofs.Counting.{AllInCube, sum_by-plus, sum_by-flat_map, sum_by-range}
-use Rattle.cm_model.proofs.Conserving.{one, chips_of, standing_count, injected_count, amount, account-closed, amount-after_injection, injected-after_injection, standing_count-after_dimension, AllInCube-filter, amount-after_delivery, injected-after_delivery}
+use Rattle.cm_model.proofs.Conserving.{one, chips_of, injected_count, amount, account-closed, amount-after_injection, injected-after_injection, standing_count-after_dimension, AllInCube-filter, amount-after_delivery, injected-after_delivery}
 
 -- ---- records stay in the cube
 
@@ -51,17 +52,9 @@ AllInCube-crossed : (n d cycle : ℕ) (leaves : Standing → Bool) (set : List S
 AllInCube-crossed n d cycle leaves [] below h = tt
 AllInCube-crossed n d cycle leaves (r ∷ set) below h =
     ⊎_elim (λ (e : leaves r ≡ true). rw e (across_below n d r.chip below h.0, AllInCube-crossed n d cycle leaves set below h.1))
-        (λ (e : leaves r ≡ false). rw e (h.0, AllInCube-crossed n d cycle leaves set below h.1)) (cases_Bool (leaves r))
+    (λ (e : leaves r ≡ false). rw e (h.0, AllInCube-crossed n d cycle leaves set below h.1)) (cases_Bool (leaves r))
 
 -- ---- steps of a cube
-
--- a step of a run on a cube of n dimensions
-abbrev pub IsStep : ℕ → Step → Type 0
-IsStep n (Instruct nano) = Unit {0}
-IsStep n Look = Unit {0}
-IsStep n Inject = Unit {0}
-IsStep n (Cross d) = d < n
-IsStep n Deliver = Unit {0}
 
 abbrev pub AreSteps : ℕ → List Step → Type 0
 AreSteps n [] = Unit {0}
@@ -105,8 +98,10 @@ follows_on : (n : ℕ) (a b c : State) → Follows n a b → Follows n b c → F
 follows_on n a b c h k = record {
   cube = k.cube;
   balance = λ p. omega (arith, h.balance p, k.balance p);
-  grows = λ x l. ((h.grows x l).0 ++ (k.grows x l).0,
-      (k.grows x l).1 ∙ (ap (λ z. z ++ (k.grows x l).0) (h.grows x l).1 ∙ append_assoc (log_at a.logs x) (h.grows x l).0 (k.grows x l).0))
+  grows = λ x l. (
+    (h.grows x l).0 ++ (k.grows x l).0,
+    (k.grows x l).1 ∙ (ap (λ z. z ++ (k.grows x l).0) (h.grows x l).1 ∙ append_assoc (log_at a.logs x) (h.grows x l).0 (k.grows x l).0),
+  );
 }
 
 after_injection_follows : (n cap : ℕ) (state : State) → AllInCube n state.standing → Follows n state (after_injection n cap state)
@@ -115,8 +110,10 @@ after_injection_follows n cap state h = record {
   cube = AllInCube-append n state.standing (flat_map (new_records n cap state) (chips_of n)) h
       (AllInCube-gathered n (new_records n cap state) 0 (2 ^ n) (λ c l. AllInCube-new n state c (taken_at cap state c) (omega arith)));
   balance = λ p. omega (arith, amount-after_injection p n cap state, injected-after_injection p n cap state);
-  grows = λ c l. (map Injected (messages_sent n state.clock c (chip_at state.chips c) (taken_at cap state c)),
-      get_or-each_below (2 ^ n) (λ b. log_at state.logs b ++ map Injected (messages_sent n state.clock b (chip_at state.chips b) (taken_at cap state b))) c [] l)
+  grows = λ c l. (
+    map Injected (messages_sent n state.clock c (chip_at state.chips c) (taken_at cap state c)),
+    get_or-each_below (2 ^ n) (λ b. log_at state.logs b ++ map Injected (messages_sent n state.clock b (chip_at state.chips b) (taken_at cap state b))) c [] l,
+  );
 }
 
 after_dimension_follows : (n cap d : ℕ) (state : State) → d < n → AllInCube n state.standing → Follows n state (state_after n cap state (Cross d))
@@ -124,7 +121,7 @@ unfolding amount after_dimension
 after_dimension_follows n cap d state below h = record {
   cube = AllInCube-crossed n d state.cycle (leaves cap d state.standing) state.standing below h;
   balance = λ p. omega (arith, standing_count-after_dimension p cap d state.cycle state.standing);
-  grows = λ c l. same_log (log_at state.logs c)
+  grows = λ c l. same_log (log_at state.logs c);
 }
 
 after_delivery_follows : (n : ℕ) (state : State) → AllInCube n state.standing → Follows n state (after_delivery n state)
@@ -132,8 +129,10 @@ unfolding after_delivery
 after_delivery_follows n state h = record {
   cube = AllInCube-filter n (λ r. not (is_delivered state.chips state.standing r)) state.standing h;
   balance = λ p. omega (arith, amount-after_delivery p n state h, injected-after_delivery p n state);
-  grows = λ c l. (map (λ m. Delivered m c) (delivered_at state.chips state.standing c),
-      get_or-each_below (2 ^ n) (λ b. log_at state.logs b ++ map (λ m. Delivered m b) (delivered_at state.chips state.standing b)) c [] l)
+  grows = λ c l. (
+    map (λ m. Delivered m c) (delivered_at state.chips state.standing c),
+    get_or-each_below (2 ^ n) (λ b. log_at state.logs b ++ map (λ m. Delivered m b) (delivered_at state.chips state.standing b)) c [] l,
+  );
 }
 
 state_after_follows : (n cap : ℕ) (state : State) (step : Step) → IsStep n step → AllInCube n state.standing → Follows n state (state_after n cap state step)
@@ -149,7 +148,7 @@ state_after_all_follows n cap state [] s h = follows_itself n state h
 state_after_all_follows n cap state (step ∷ steps) s h =
     let next : Follows n state (state_after n cap state step) = state_after_follows n cap state step s.0 h in
     follows_on n state (state_after n cap state step) (state_after_all n cap (state_after n cap state step) steps) next
-        (state_after_all_follows n cap (state_after n cap state step) steps s.1 next.cube)
+    (state_after_all_follows n cap (state_after n cap state step) steps s.1 next.cube)
 
 -- ---- a run
 
@@ -179,10 +178,10 @@ unfolding newly_injected
 injected_grows p n cap machine acts =
     let after : Machine = run_of n cap machine acts in
     sum_by-range (λ c. count_by p (filter_map (injected_triple c) (log_at after.logs c)))
-        (λ c. count_by p (filter_map (injected_triple c) (log_at machine.logs c)) + count_by p (filter_map (injected_triple c) (new_events machine after c))) 0 (2 ^ n)
-        (λ c k l. ap (λ z. count_by p (filter_map (injected_triple c) z)) (logs_grow n cap machine acts c (omega arith))
-            ∙ (ap (count_by p) (filter_map-append (injected_triple c) (log_at machine.logs c) (new_events machine after c))
-            ∙ sum_by-append (one p) (filter_map (injected_triple c) (log_at machine.logs c)) (filter_map (injected_triple c) (new_events machine after c))))
+    (λ c. count_by p (filter_map (injected_triple c) (log_at machine.logs c)) + count_by p (filter_map (injected_triple c) (new_events machine after c))) 0 (2 ^ n)
+    (λ c k l. ap (λ z. count_by p (filter_map (injected_triple c) z)) (logs_grow n cap machine acts c (omega arith))
+    ∙ (ap (count_by p) (filter_map-append (injected_triple c) (log_at machine.logs c) (new_events machine after c))
+    ∙ sum_by-append (one p) (filter_map (injected_triple c) (log_at machine.logs c)) (filter_map (injected_triple c) (new_events machine after c))))
     ∙ (sum_by-plus (λ c. count_by p (filter_map (injected_triple c) (log_at machine.logs c))) (λ c. count_by p (filter_map (injected_triple c) (new_events machine after c))) (chips_of n)
     ∙ ap (λ k. injected_count p n machine.logs + k) (sym (sum_by-flat_map (one p) (λ c. filter_map (injected_triple c) (new_events machine after c)) (chips_of n))))
 
@@ -190,14 +189,14 @@ account_at-same : (n : ℕ) (machine : Machine) (c : ℕ) → c < 2 ^ n → acco
 unfolding closed opened
 account_at-same n machine c l =
     ap (λ ms. map (standing_triple c) ms ++ filter_map delivered_triple (log_at machine.logs c))
-        (sym (buffer_at-closed n (opened n machine) c l ∙ buffer-opened n machine c l))
+    (sym (buffer_at-closed n (opened n machine) c l ∙ buffer-opened n machine c l))
 
 account-same : (p : Triple → Bool) (n : ℕ) (machine : Machine) → count_by p (account n machine) ≡ count_by p (account n (closed n (opened n machine)))
 unfolding account
 account-same p n machine =
     sum_by-flat_map (one p) (account_at machine) (chips_of n)
     ∙ (sum_by-range (λ c. count_by p (account_at machine c)) (λ c. count_by p (account_at (closed n (opened n machine)) c)) 0 (2 ^ n)
-        (λ c h l. ap (count_by p) (account_at-same n machine c (omega arith)))
+    (λ c h l. ap (count_by p) (account_at-same n machine c (omega arith)))
     ∙ sym (sum_by-flat_map (one p) (account_at (closed n (opened n machine))) (chips_of n)))
 
 -- how many lines of a machine's account pass
@@ -219,5 +218,17 @@ injected-run_of p n cap machine acts = refl
 -- the account after a run is that before it, and the lines of what was injected
 pub account_is_conserved : (n cap : ℕ) (machine : Machine) (acts : List Act) → SameLines (account n (run_of n cap machine acts)) (account n machine ++ newly_injected n machine (run_of n cap machine acts))
 account_is_conserved n cap machine acts p =
-    omega (arith, account-run_of p n cap machine acts, (run_follows n cap machine acts).balance p, account-opened p n machine, injected-opened p n machine, injected-run_of p n cap machine acts,
-        injected_grows p n cap machine acts, sum_by-append (one p) (account n machine) (newly_injected n machine (run_of n cap machine acts)))
+    omega (
+      arith,
+      account-run_of p n cap machine acts,
+      (run_follows n cap machine acts).balance p,
+      account-opened p n machine,
+      injected-opened p n machine,
+      injected-run_of p n cap machine acts,
+      injected_grows p n cap machine acts,
+      sum_by-append (one p) (account n machine) (newly_injected n machine (run_of n cap machine acts)),
+    )
+
+pub account-nano : (n cap : ℕ) (machine : Machine) (nano : Nano) → account n (after_act n cap machine (act.Nano nano)) ≡ account n machine
+unfolding account
+account-nano n cap machine nano = refl

@@ -1,28 +1,26 @@
 -- The account is conserved by each step: what stands, what was delivered, and what was injected.
-use Rattle.std.proofs.Common.{◌≡◌, ℕ, zero, suc, ◌+◌, ◌<◌, ◌≤◌, ◌^◌, Bool, true, false, not, cond, eqb, ◌&&◌, List, [], ◌∷◌, ◌++◌, length, drop, map, Option, Some, None, refl, sym, ◌∙◌, ap, subst, ⊎_elim, arith, append_assoc}
+use Rattle.std.proofs.Common.{◌≡◌, ℕ, ◌+◌, ◌<◌, ◌^◌, Bool, true, false, not, cond, ◌&&◌, List, [], ◌∷◌, ◌++◌, map, Option, refl, sym, ◌∙◌, ap, ⊎_elim, arith}
 use Rattle.std.proofs.lemmas.Bool.{cases_Bool, eqb-true, and_parts}
-use Rattle.std.proofs.lemmas.List.{append-nil}
 use Rattle.std.proofs.lemmas.List.Elements.{filter_map-append}
 use Rattle.std.proofs.lemmas.List.Filters.{sum_by-filter_both}
 use Rattle.std.proofs.lemmas.List.Sums.{sum_by-cons, sum_by-append}
 use Rattle.std.specs.Int.Bits.{xor_zero_r}
-use Rattle.std.specs.Prelude.{bit_xor, if◌then◌else◌}
+use Rattle.std.specs.Prelude.{bit_xor}
 use Rattle.std.specs.List.{filter, filter_map, flat_map, list_any, sum_by, count_by, range_with_len}
-use Rattle.cm_bits.specs.declared.place.Place.{Place}
 use Rattle.cm_model.specs.declared.message.Message.{Message}
 use Rattle.cm_model.specs.declared.message.Event.{Event}
 use Rattle.cm_model.specs.declared.message.Event.TheVariants.{Injected, Delivered}
 use Rattle.cm_model.specs.Array.{Chips, each_chip, chip_at}
-use Rattle.cm_model.specs.Router.{Since, Standing, is_at, standing_at, target_from, leaves, message_across, record_across, after_dimension}
-use Rattle.cm_model.specs.Order.{in_order, queue, messages_of, buffer}
+use Rattle.cm_model.specs.Router.{Standing, is_at, standing_at, leaves, record_across, after_dimension}
+use Rattle.cm_model.specs.Order.{in_order, queue, messages_of}
 use Rattle.cm_model.specs.Letters.{message_sent, messages_sent, has_arrived, can_receive}
 use Rattle.cm_model.specs.Cycle.{State, log_at, taken_at, new_record, new_records, after_injection, is_rival, is_delivered, delivered_at, after_delivery}
-use Rattle.cm_model.specs.Machine.{Machine, buffer_at, closed}
+use Rattle.cm_model.specs.Machine.{buffer_at, closed}
 use Rattle.cm_model.specs.Account.{Triple, standing_triple, delivered_triple, injected_triple, account_at, account}
 use Rattle.cm_model.proofs.Each.{get_or-each_below}
-use Rattle.cm_model.proofs.Flips.{xor_across, across_below}
+use Rattle.cm_model.proofs.Flips.{xor_across}
 use Rattle.cm_model.proofs.Crossing.{step_of_record}
-use Rattle.cm_model.proofs.Delivering.{undelivered, filter_twice}
+use Rattle.cm_model.proofs.Delivering.{filter_twice}
 use Rattle.cm_model.proofs.Opening.{buffer_at-closed}
 use Rattle.cm_model.proofs.Counting.{AllInCube, sum_by-plus, sum_by-map, sum_by-flat_map, sum_by-same, sum_by-none, sum_by-range, sum_by-in_order, sum_by_chips}
 
@@ -66,10 +64,10 @@ account_at-closed : (p : Triple → Bool) (n : ℕ) (state : State) (c : ℕ) �
 unfolding closed queue
 account_at-closed p n state c l =
     let here : sum_by (one p) (map (standing_triple c) (buffer_at (closed n state).buffers c)) ≡ sum_by (λ r. one p (standing_triple c r.message)) (standing_at c state.standing) =
-        sum_by-map (one p) (standing_triple c) (buffer_at (closed n state).buffers c)
-        ∙ (ap (sum_by (λ m. one p (standing_triple c m))) (buffer_at-closed n state c l)
-        ∙ (sum_by-map (λ m. one p (standing_triple c m)) (λ r. r.message) (in_order (standing_at c state.standing))
-        ∙ sum_by-in_order (λ r. one p (standing_triple c r.message)) (standing_at c state.standing))) in
+    sum_by-map (one p) (standing_triple c) (buffer_at (closed n state).buffers c)
+    ∙ (ap (sum_by (λ m. one p (standing_triple c m))) (buffer_at-closed n state c l)
+    ∙ (sum_by-map (λ m. one p (standing_triple c m)) (λ r. r.message) (in_order (standing_at c state.standing))
+    ∙ sum_by-in_order (λ r. one p (standing_triple c r.message)) (standing_at c state.standing))) in
     sum_by-append (one p) (map (standing_triple c) (buffer_at (closed n state).buffers c)) (filter_map delivered_triple (log_at state.logs c))
     ∙ ap (λ k. k + count_by p (filter_map delivered_triple (log_at state.logs c))) here
 
@@ -78,8 +76,8 @@ unfolding account amount
 account-closed p n state h =
     sum_by-flat_map (one p) (account_at (closed n state)) (chips_of n)
     ∙ (sum_by-range (λ c. sum_by (one p) (account_at (closed n state) c))
-        (λ c. sum_by (λ r. one p (standing_triple c r.message)) (standing_at c state.standing) + count_by p (filter_map delivered_triple (log_at state.logs c))) 0 (2 ^ n)
-        (λ c k l. account_at-closed p n state c (omega arith))
+    (λ c. sum_by (λ r. one p (standing_triple c r.message)) (standing_at c state.standing) + count_by p (filter_map delivered_triple (log_at state.logs c))) 0 (2 ^ n)
+    (λ c k l. account_at-closed p n state c (omega arith))
     ∙ (sum_by-plus (λ c. sum_by (λ r. one p (standing_triple c r.message)) (standing_at c state.standing)) (λ c. count_by p (filter_map delivered_triple (log_at state.logs c))) (chips_of n)
     ∙ ap (λ k. k + delivered_count p n state.logs) (sum_by_chips n (λ c r. one p (standing_triple c r.message)) state.standing h)))
 
@@ -107,10 +105,10 @@ more_events : (p : Triple → Bool) (n : ℕ) (h : ℕ → Event → Option Trip
     ≡ sum_by (λ c. count_by p (filter_map (h c) (log_at logs c))) (chips_of n) + sum_by (λ c. count_by p (filter_map (h c) (more c))) (chips_of n)
 more_events p n h logs more =
     sum_by-range (λ c. count_by p (filter_map (h c) (log_at (each_chip n (λ b. log_at logs b ++ more b)) c)))
-        (λ c. count_by p (filter_map (h c) (log_at logs c)) + count_by p (filter_map (h c) (more c))) 0 (2 ^ n)
-        (λ c k l. ap (λ z. count_by p (filter_map (h c) z)) (get_or-each_below (2 ^ n) (λ b. log_at logs b ++ more b) c [] (omega arith))
-            ∙ (ap (count_by p) (filter_map-append (h c) (log_at logs c) (more c))
-            ∙ sum_by-append (one p) (filter_map (h c) (log_at logs c)) (filter_map (h c) (more c))))
+    (λ c. count_by p (filter_map (h c) (log_at logs c)) + count_by p (filter_map (h c) (more c))) 0 (2 ^ n)
+    (λ c k l. ap (λ z. count_by p (filter_map (h c) z)) (get_or-each_below (2 ^ n) (λ b. log_at logs b ++ more b) c [] (omega arith))
+    ∙ (ap (count_by p) (filter_map-append (h c) (log_at logs c) (more c))
+    ∙ sum_by-append (one p) (filter_map (h c) (log_at logs c)) (filter_map (h c) (more c))))
     ∙ sum_by-plus (λ c. count_by p (filter_map (h c) (log_at logs c))) (λ c. count_by p (filter_map (h c) (more c))) (chips_of n)
 
 -- ---- injection
@@ -129,24 +127,29 @@ new_injections : (p : Triple → Bool) (n cap : ℕ) (state : State) → sum_by 
 unfolding fresh_count sent_at
 new_injections p n cap state =
     sum_by-same (λ c. count_by p (filter_map (injected_triple c) (map Injected (sent_at n cap state c))))
-        (λ c. sum_by (λ q. one p (standing_triple c (message_sent n state.clock c (chip_at state.chips c) q))) (taken_at cap state c)) (chips_of n)
-        (λ c. ap (count_by p) (injections c (sent_at n cap state c))
-            ∙ (sum_by-map (one p) (standing_triple c) (sent_at n cap state c)
-            ∙ sum_by-map (λ m. one p (standing_triple c m)) (message_sent n state.clock c (chip_at state.chips c)) (taken_at cap state c)))
+    (λ c. sum_by (λ q. one p (standing_triple c (message_sent n state.clock c (chip_at state.chips c) q))) (taken_at cap state c)) (chips_of n)
+    (λ c. ap (count_by p) (injections c (sent_at n cap state c))
+    ∙ (sum_by-map (one p) (standing_triple c) (sent_at n cap state c)
+    ∙ sum_by-map (λ m. one p (standing_triple c m)) (message_sent n state.clock c (chip_at state.chips c)) (taken_at cap state c)))
 
 new_standing : (p : Triple → Bool) (n cap : ℕ) (state : State) → standing_count p (flat_map (new_records n cap state) (chips_of n)) ≡ fresh_count p n cap state
 unfolding fresh_count
 new_standing p n cap state =
     sum_by-flat_map (λ r. one p (triple_of r)) (new_records n cap state) (chips_of n)
     ∙ sum_by-same (λ c. sum_by (λ r. one p (triple_of r)) (new_records n cap state c))
-        (λ c. sum_by (λ q. one p (standing_triple c (message_sent n state.clock c (chip_at state.chips c) q))) (taken_at cap state c)) (chips_of n)
-        (λ c. sum_by-map (λ r. one p (triple_of r)) (new_record n state c) (taken_at cap state c))
+    (λ c. sum_by (λ q. one p (standing_triple c (message_sent n state.clock c (chip_at state.chips c) q))) (taken_at cap state c)) (chips_of n)
+    (λ c. sum_by-map (λ r. one p (triple_of r)) (new_record n state c) (taken_at cap state c))
 
 pub amount-after_injection : (p : Triple → Bool) (n cap : ℕ) (state : State) → amount p n (after_injection n cap state) ≡ amount p n state + fresh_count p n cap state
 unfolding amount after_injection sent_at
 amount-after_injection p n cap state =
-    omega (arith, sum_by-append (λ r. one p (triple_of r)) state.standing (flat_map (new_records n cap state) (chips_of n)), new_standing p n cap state,
-        more_events p n (λ c. delivered_triple) state.logs (λ c. map Injected (sent_at n cap state c)), new_deliveries p n cap state)
+    omega (
+      arith,
+      sum_by-append (λ r. one p (triple_of r)) state.standing (flat_map (new_records n cap state) (chips_of n)),
+      new_standing p n cap state,
+      more_events p n (λ c. delivered_triple) state.logs (λ c. map Injected (sent_at n cap state c)),
+      new_deliveries p n cap state,
+    )
 
 pub injected-after_injection : (p : Triple → Bool) (n cap : ℕ) (state : State) → injected_count p n (after_injection n cap state).logs ≡ injected_count p n state.logs + fresh_count p n cap state
 unfolding after_injection sent_at
@@ -177,7 +180,7 @@ sum_by-filter_same : {X : Type 0} (t : X → Bool) (f g : X → ℕ) (xs : List 
 sum_by-filter_same t f g [] same = refl
 sum_by-filter_same t f g (x ∷ xs) same =
     ⊎_elim (λ (e : t x ≡ true). rw e (omega (arith, sum_by-cons f x (filter t xs), sum_by-cons g x (filter t xs), same x e, sum_by-filter_same t f g xs same)))
-        (λ (e : t x ≡ false). rw e (sum_by-filter_same t f g xs same)) (cases_Bool (t x))
+    (λ (e : t x ≡ false). rw e (sum_by-filter_same t f g xs same)) (cases_Bool (t x))
 
 pub AllInCube-filter : (n : ℕ) (t : Standing → Bool) (set : List Standing) → AllInCube n set → AllInCube n (filter t set)
 AllInCube-filter n t [] h = tt
@@ -213,12 +216,19 @@ done_count p n chips set h =
 pub amount-after_delivery : (p : Triple → Bool) (n : ℕ) (state : State) → AllInCube n state.standing → amount p n (after_delivery n state) ≡ amount p n state
 unfolding amount after_delivery
 amount-after_delivery p n state h =
-    omega (arith, more_events p n (λ c. delivered_triple) state.logs (λ c. map (λ m. Delivered m c) (delivered_at state.chips state.standing c)), done_count p n state.chips state.standing h,
-        sum_by-filter_both (is_delivered state.chips state.standing) (λ r. not (is_delivered state.chips state.standing r)) (λ r. refl) (λ r. one p (triple_of r)) state.standing)
+    omega (
+      arith,
+      more_events p n (λ c. delivered_triple) state.logs (λ c. map (λ m. Delivered m c) (delivered_at state.chips state.standing c)),
+      done_count p n state.chips state.standing h,
+      sum_by-filter_both (is_delivered state.chips state.standing) (λ r. not (is_delivered state.chips state.standing r)) (λ r. refl) (λ r. one p (triple_of r)) state.standing,
+    )
 
 pub injected-after_delivery : (p : Triple → Bool) (n : ℕ) (state : State) → injected_count p n (after_delivery n state).logs ≡ injected_count p n state.logs
 unfolding after_delivery
 injected-after_delivery p n state =
-    omega (arith, more_events p n injected_triple state.logs (λ c. map (λ m. Delivered m c) (delivered_at state.chips state.standing c)),
-        sum_by-none (λ c. count_by p (filter_map (injected_triple c) (map (λ m. Delivered m c) (delivered_at state.chips state.standing c)))) (chips_of n)
-            (λ c. ap (count_by p) (no_injection c c (delivered_at state.chips state.standing c))))
+    omega (
+      arith,
+      more_events p n injected_triple state.logs (λ c. map (λ m. Delivered m c) (delivered_at state.chips state.standing c)),
+      sum_by-none (λ c. count_by p (filter_map (injected_triple c) (map (λ m. Delivered m c) (delivered_at state.chips state.standing c)))) (chips_of n)
+          (λ c. ap (count_by p) (no_injection c c (delivered_at state.chips state.standing c))),
+    )

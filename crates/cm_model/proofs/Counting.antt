@@ -1,11 +1,10 @@
 -- Sums over sets, over chips and over what many chips add.
-use Rattle.std.proofs.Common.{◌≡◌, ℕ, zero, suc, ◌+◌, ◌<◌, ◌≤◌, ◌^◌, Bool, true, false, not, cond, eqb, List, [], ◌∷◌, ◌++◌, map, refl, sym, ◌∙◌, ap, subst, ⊎_elim, arith}
-use Rattle.std.proofs.lemmas.Bool.{cases_Bool, cases_eq, eqb-true, eq-eqb, ne_eqb}
+use Rattle.std.proofs.Common.{◌≡◌, ℕ, zero, suc, ◌+◌, ◌<◌, ◌≤◌, ◌^◌, true, false, cond, eqb, List, [], ◌∷◌, map, refl, sym, ◌∙◌, ap, ⊎_elim, arith}
+use Rattle.std.proofs.lemmas.Bool.{cases_Bool, cases_eq, eq-eqb, ne_eqb}
 use Rattle.std.proofs.lemmas.List.Sums.{sum_by-cons, sum_by-append}
-use Rattle.std.specs.List.{filter, filter_map, flat_map, sum_by, count_by, range_with_len}
-use Rattle.cm_model.specs.Router.{Standing, is_at, is_before, standing_at}
+use Rattle.std.specs.List.{flat_map, sum_by, range_with_len}
+use Rattle.cm_model.specs.Router.{Standing, is_before, standing_at}
 use Rattle.cm_model.specs.Order.{put, in_order}
-use Rattle.cm_model.proofs.Order.{count_by-put}
 
 -- ---- sums over any list
 
@@ -48,13 +47,13 @@ pub sum_by-single : (g : ℕ → ℕ) (c a k : ℕ) → a ≤ c → c < a + k �
 sum_by-single g c a zero h l = absurd (omega arith)
 sum_by-single g c a (suc k) h l =
     ⊎_elim
-        (λ (e : c ≡ a).
-            let here : cond (eqb c a) (g a) 0 ≡ g c = rw (eq-eqb c a e) (ap g (sym e)) in
-            omega (arith, sum_by-cons (λ b. cond (eqb c b) (g b) 0) a (range_with_len (a + 1) k), sum_by-past g c (a + 1) k (omega arith)))
-        (λ (e : c ≡ a → ⊥).
-            let other : cond (eqb c a) (g a) 0 ≡ 0 = rw (ne_eqb c a e) refl in
-            omega (arith, sum_by-cons (λ b. cond (eqb c b) (g b) 0) a (range_with_len (a + 1) k), sum_by-single g c (a + 1) k (omega arith) (omega arith)))
-        (cases_eq c a)
+    (λ (e : c ≡ a).
+    let here : cond (eqb c a) (g a) 0 ≡ g c = rw (eq-eqb c a e) (ap g (sym e)) in
+    omega (arith, sum_by-cons (λ b. cond (eqb c b) (g b) 0) a (range_with_len (a + 1) k), sum_by-past g c (a + 1) k (omega arith)))
+    (λ (e : c ≡ a → ⊥).
+    let other : cond (eqb c a) (g a) 0 ≡ 0 = rw (ne_eqb c a e) refl in
+    omega (arith, sum_by-cons (λ b. cond (eqb c b) (g b) 0) a (range_with_len (a + 1) k), sum_by-single g c (a + 1) k (omega arith) (omega arith)))
+    (cases_eq c a)
 
 -- ---- sums over sets of records
 
@@ -62,7 +61,7 @@ pub sum_by-put : (f : Standing → ℕ) (r : Standing) (xs : List Standing) → 
 sum_by-put f r [] = sum_by-cons f r []
 sum_by-put f r (x ∷ xs) =
     ⊎_elim (λ (e : is_before x.since r.since ≡ true). rw e (omega (arith, sum_by-cons f x (put r xs), sum_by-cons f x xs, sum_by-put f r xs)))
-        (λ (e : is_before x.since r.since ≡ false). rw e (sum_by-cons f r (x ∷ xs))) (cases_Bool (is_before x.since r.since))
+    (λ (e : is_before x.since r.since ≡ false). rw e (sum_by-cons f r (x ∷ xs))) (cases_Bool (is_before x.since r.since))
 
 pub sum_by-in_order : (f : Standing → ℕ) (xs : List Standing) → sum_by f (in_order xs) ≡ sum_by f xs
 sum_by-in_order f [] = refl

@@ -1,10 +1,9 @@
 -- Chip numbers across a dimension: a bit flipped twice is as it was.
-use Rattle.std.proofs.Common.{◌≡◌, ℕ, ◌+◌, ◌%◌, ◌<◌, ◌^◌, Bool, true, false, eqb, refl, sym, ◌∙◌, ap, ⊎_elim, arith}
+use Rattle.std.proofs.Common.{◌≡◌, ℕ, ◌<◌, ◌^◌, true, false, eqb, sym, ◌∙◌, ap, ⊎_elim, arith}
 use Rattle.std.proofs.lemmas.Bool.{cases_Bool, eqb-true, eqb-false, eq-eqb, ne_eqb}
 use Rattle.std.proofs.lemmas.Nat.{xor_lt, pow_below}
 use Rattle.std.proofs.lemmas.Nat.Bits.{bit_at_xor, bit_at-lt, same_from_bits}
 use Rattle.std.specs.Prelude.{bit_xor}
-use Rattle.std.specs.Int.{bit_at}
 
 pub xor_twice : (a b : ℕ) → bit_xor (bit_xor a b) b ≡ a
 xor_twice a b = same_from_bits (bit_xor (bit_xor a b) b) a
@@ -18,10 +17,10 @@ xor_across a b x = same_from_bits (bit_xor (bit_xor a x) (bit_xor b x)) (bit_xor
 pub across_is : (a b x : ℕ) → eqb (bit_xor a x) b ≡ eqb a (bit_xor b x)
 across_is a b x =
     ⊎_elim
-        (λ (e : eqb a (bit_xor b x) ≡ true). eq-eqb (bit_xor a x) b (ap (λ z. bit_xor z x) (eqb-true a (bit_xor b x) e) ∙ xor_twice b x) ∙ sym e)
-        (λ (e : eqb a (bit_xor b x) ≡ false).
-            ne_eqb (bit_xor a x) b (λ same. eqb-false a (bit_xor b x) e (sym (xor_twice a x) ∙ ap (λ z. bit_xor z x) same)) ∙ sym e)
-        (cases_Bool (eqb a (bit_xor b x)))
+    (λ (e : eqb a (bit_xor b x) ≡ true). eq-eqb (bit_xor a x) b (ap (λ z. bit_xor z x) (eqb-true a (bit_xor b x) e) ∙ xor_twice b x) ∙ sym e)
+    (λ (e : eqb a (bit_xor b x) ≡ false).
+    ne_eqb (bit_xor a x) b (λ same. eqb-false a (bit_xor b x) e (sym (xor_twice a x) ∙ ap (λ z. bit_xor z x) same)) ∙ sym e)
+    (cases_Bool (eqb a (bit_xor b x)))
 
 -- the chip across is in the cube
 pub across_below : (n d c : ℕ) → d < n → c < 2 ^ n → bit_xor c (2 ^ d) < 2 ^ n

@@ -1,10 +1,9 @@
 -- Injection, on the set and by the buffers.
-use Rattle.std.proofs.Common.{◌≡◌, ℕ, zero, suc, ◌+◌, ◌-◌, ◌<◌, ◌≤◌, ◌^◌, Bool, true, false, not, cond, min, List, [], ◌∷◌, ◌++◌, length, map, take, Option, refl, sym, ◌∙◌, ap, subst, ⊎_elim, arith}
+use Rattle.std.proofs.Common.{◌≡◌, ℕ, zero, suc, ◌+◌, ◌-◌, ◌<◌, ◌≤◌, ◌^◌, Bool, true, false, min, List, [], ◌∷◌, ◌++◌, length, map, take, refl, sym, ◌∙◌, ap, subst, ⊎_elim, arith}
 use Rattle.std.proofs.lemmas.Bool.{cases_Bool, cases_lt, eq-eqb}
 use Rattle.std.proofs.lemmas.Bool.Decides.{nat_tests}
 use Rattle.std.proofs.lemmas.List.{map-append, append-nil}
 use Rattle.std.proofs.lemmas.List.Elements.{filter-append}
-use Rattle.std.specs.Prelude.{if◌then◌else◌}
 use Rattle.std.specs.List.{filter, flat_map, range_with_len}
 use Rattle.cm_model.specs.Processor.{Processor, SEND, flag}
 use Rattle.cm_model.specs.Chip.{processor_at}
@@ -12,8 +11,8 @@ use Rattle.cm_model.specs.Array.{chip_at}
 use Rattle.cm_model.specs.Router.{Since, Standing, is_at, is_before, standing_at}
 use Rattle.cm_model.specs.Order.{in_order, queue, messages_of, buffer}
 use Rattle.cm_model.specs.Letters.{senders, senders_taken, message_sent, messages_sent}
-use Rattle.cm_model.specs.Cycle.{State, taken_at, new_record, new_records, after_injection}
-use Rattle.cm_model.proofs.Order.{AllBefore, AllAfter, IsRising, Precedes, before_transitive, in_order-append}
+use Rattle.cm_model.specs.Cycle.{State, taken_at, new_record, new_records}
+use Rattle.cm_model.proofs.Order.{AllBefore, AllAfter, IsRising, Precedes, in_order-append}
 use Rattle.cm_model.proofs.Crossing.{AllBefore-filter, AllBefore-in_order}
 use Rattle.cm_model.proofs.Readiness.{IsReady, AllAt, AllBefore-later, AllBefore-append, AllBefore-flat_map, IsRising-append, gathered, gathered_past}
 
@@ -137,29 +136,29 @@ pub queue-with_new : (n cap : ℕ) (state : State) (c : ℕ) → IsReady (cycle_
 unfolding queue
 queue-with_new n cap state c h l =
     ap in_order (filter-append (is_at c) state.standing (flat_map (new_records n cap state) (range_with_len 0 (2 ^ n)))
-        ∙ ap (λ z. standing_at c state.standing ++ z) (gathered (new_records n cap state) (new_at n cap state) c 0 (2 ^ n) (omega arith) (omega arith)))
+    ∙ ap (λ z. standing_at c state.standing ++ z) (gathered (new_records n cap state) (new_at n cap state) c 0 (2 ^ n) (omega arith) (omega arith)))
     ∙ in_order-append (standing_at c state.standing) (new_records n cap state c)
-        (IsRising-new n state c (taken_at cap state c) (IsAscending-taken cap (length (standing_at c state.standing)) (chip_at state.chips c)))
-        (Precedes-new n state c (taken_at cap state c) (standing_at c state.standing) (AllBefore-filter (is_at c) (cycle_begins state.cycle) state.standing h.before))
+    (IsRising-new n state c (taken_at cap state c) (IsAscending-taken cap (length (standing_at c state.standing)) (chip_at state.chips c)))
+    (Precedes-new n state c (taken_at cap state c) (standing_at c state.standing) (AllBefore-filter (is_at c) (cycle_begins state.cycle) state.standing h.before))
 
 queue-with_none : (n cap : ℕ) (state : State) (c : ℕ) → 2 ^ n ≤ c → queue c (with_new n cap state) ≡ queue c state.standing
 unfolding queue
 queue-with_none n cap state c l =
     ap in_order (filter-append (is_at c) state.standing (flat_map (new_records n cap state) (range_with_len 0 (2 ^ n)))
-        ∙ (ap (λ z. standing_at c state.standing ++ z) (gathered_past (new_records n cap state) (new_at n cap state) c 0 (2 ^ n) (omega arith))
-        ∙ append-nil (standing_at c state.standing)))
+    ∙ (ap (λ z. standing_at c state.standing ++ z) (gathered_past (new_records n cap state) (new_at n cap state) c 0 (2 ^ n) (omega arith))
+    ∙ append-nil (standing_at c state.standing)))
 
 IsRising-with_new : (n cap : ℕ) (state : State) (c : ℕ) → IsReady (cycle_begins state.cycle) state.standing → IsRising (queue c (with_new n cap state))
 unfolding queue
 IsRising-with_new n cap state c h =
     ⊎_elim
-        (λ (l : c < 2 ^ n). subst (λ (xs : List Standing). IsRising xs) (sym (queue-with_new n cap state c h l))
-            (IsRising-append (in_order (standing_at c state.standing)) (new_records n cap state c) (h.rising c)
-                (IsRising-new n state c (taken_at cap state c) (IsAscending-taken cap (length (standing_at c state.standing)) (chip_at state.chips c)))
-                (Precedes-new n state c (taken_at cap state c) (in_order (standing_at c state.standing))
-                    (AllBefore-in_order (cycle_begins state.cycle) (standing_at c state.standing) (AllBefore-filter (is_at c) (cycle_begins state.cycle) state.standing h.before)))))
-        (λ (l : 2 ^ n ≤ c). subst (λ (xs : List Standing). IsRising xs) (sym (queue-with_none n cap state c l)) (h.rising c))
-        (cases_lt c (2 ^ n))
+    (λ (l : c < 2 ^ n). subst (λ (xs : List Standing). IsRising xs) (sym (queue-with_new n cap state c h l))
+    (IsRising-append (in_order (standing_at c state.standing)) (new_records n cap state c) (h.rising c)
+    (IsRising-new n state c (taken_at cap state c) (IsAscending-taken cap (length (standing_at c state.standing)) (chip_at state.chips c)))
+    (Precedes-new n state c (taken_at cap state c) (in_order (standing_at c state.standing))
+    (AllBefore-in_order (cycle_begins state.cycle) (standing_at c state.standing) (AllBefore-filter (is_at c) (cycle_begins state.cycle) state.standing h.before)))))
+    (λ (l : 2 ^ n ≤ c). subst (λ (xs : List Standing). IsRising xs) (sym (queue-with_none n cap state c l)) (h.rising c))
+    (cases_lt c (2 ^ n))
 
 -- the first dimension finds the set ready
 pub IsReady-with_new : (n cap : ℕ) (state : State) → IsReady (cycle_begins state.cycle) state.standing → IsReady (cycle_routes state.cycle) (with_new n cap state)
@@ -167,8 +166,8 @@ IsReady-with_new n cap state h = record {
   before = AllBefore-append (cycle_routes state.cycle) state.standing (flat_map (new_records n cap state) (range_with_len 0 (2 ^ n)))
       (AllBefore-later (cycle_begins state.cycle) (cycle_routes state.cycle) state.standing (grind (arith, nat_tests)) h.before)
       (AllBefore-flat_map (cycle_routes state.cycle) (new_records n cap state) (range_with_len 0 (2 ^ n))
-          (λ c. AllBefore-new n state c (taken_at cap state c) (AllBelow-taken cap (length (standing_at c state.standing)) (chip_at state.chips c))));
-  rising = λ c. IsRising-with_new n cap state c h
+      (λ c. AllBefore-new n state c (taken_at cap state c) (AllBelow-taken cap (length (standing_at c state.standing)) (chip_at state.chips c))));
+  rising = λ c. IsRising-with_new n cap state c h;
 }
 
 -- the buffer after injection: what was taken stands last

@@ -1,5 +1,5 @@
 -- Every act keeps a machine what it is.
-use Rattle.std.proofs.Common.{◌≡◌, ℕ, ◌+◌, ◌<◌, ◌≤◌, ◌^◌, List, [], ◌∷◌, ◌++◌, length, map, refl, sym, ◌∙◌, ap, subst, arith}
+use Rattle.std.proofs.Common.{◌≡◌, ℕ, ◌<◌, ◌^◌, List, [], ◌∷◌, ◌++◌, length, map, sym, subst}
 use Rattle.std.proofs.lemmas.List.Elements.{All-append}
 use Rattle.std.specs.Prelude.{bit_xor}
 use Rattle.std.specs.List.{All}
@@ -12,8 +12,8 @@ use Rattle.cm_model.specs.Processor.{Processor}
 use Rattle.cm_model.specs.Chip.{chip_after}
 use Rattle.cm_model.specs.Whole.{IsChip}
 use Rattle.cm_model.specs.Array.{each_chip, chip_at, incoming, after_nano}
-use Rattle.cm_model.specs.Letters.{chip_after_injection, chip_after_delivery, can_receive, messages_sent}
-use Rattle.cm_model.specs.Steps.{Step, Instruct, Look, Inject, Cross, Deliver, steps_of}
+use Rattle.cm_model.specs.Letters.{chip_after_injection, chip_after_delivery, can_receive}
+use Rattle.cm_model.specs.Steps.{Step, Instruct, Look, Inject, Cross, Deliver, IsStep, steps_of}
 use Rattle.cm_model.specs.Cycle.{log_at}
 use Rattle.cm_model.specs.Machine.{Machine, buffer_at, run_of}
 use Rattle.cm_model.specs.Buffers.{taken_in, sent_in, machine_after_injection, outgoing, buffer_after_dimension, machine_after_dimension, kept, delivered_in, machine_after_delivery, after_step, after_steps, after_act, after_acts}
@@ -21,9 +21,9 @@ use Rattle.cm_model.specs.Keeping.{IsMessage, HasRoom, HasMessages, BornBefore, 
 use Rattle.cm_model.proofs.Each.{length-each_from, get_or-each_below}
 use Rattle.cm_model.proofs.Flips.{across_below}
 use Rattle.cm_model.proofs.Injecting.{AllBelow-taken}
-use Rattle.cm_model.proofs.Runs.{run_of-one, run_of-append, run_of-acted}
+use Rattle.cm_model.proofs.Runs.{run_of-one, run_of-acted}
 use Rattle.cm_model.proofs.Rooms.{HasRoom-after_injection, HasRoom-after_dimension, HasRoom-after_delivery}
-use Rattle.cm_model.proofs.Accounting.{IsStep, AreSteps, AreSteps-act}
+use Rattle.cm_model.proofs.Accounting.{AreSteps, AreSteps-act}
 use Rattle.cm_model.proofs.Tags.{tags_stay_once, births_stay_before}
 use Rattle.cm_model.proofs.Wholes.{IsChip-after, IsChip-after_injection, IsChip-after_delivery}
 use Rattle.cm_model.proofs.Messages.{AllMessages-sent, AllMessages-after_dimension, AllMessages-kept}
@@ -54,7 +54,7 @@ sound-nano n cap machine nano h =
       log_count = h.log_count;
       whole = made_whole n f (λ c l. IsChip-after nano (incoming n nano machine.chips c) (chip_at machine.chips c) (h.whole c l));
       room = h.room;
-      messages = h.messages
+      messages = h.messages;
     }
 
 sound-injection : (n cap : ℕ) (machine : Machine) → IsSound n cap machine → IsSound n cap (machine_after_injection n cap machine)
@@ -70,7 +70,7 @@ sound-injection n cap machine h =
       whole = made_whole n chips (λ c l. IsChip-after_injection (taken_in cap machine c) (chip_at machine.chips c) (h.whole c l));
       room = HasRoom-after_injection n cap machine h.room;
       messages = made_messages n buffers (λ c l. All-append (IsMessage n) (buffer_at machine.buffers c) (sent_in n cap machine c) (h.messages c l)
-          (AllMessages-sent n machine.clock c (chip_at machine.chips c) (taken_in cap machine c) l (AllBelow-taken cap (length (buffer_at machine.buffers c)) (chip_at machine.chips c))))
+          (AllMessages-sent n machine.clock c (chip_at machine.chips c) (taken_in cap machine c) l (AllBelow-taken cap (length (buffer_at machine.buffers c)) (chip_at machine.chips c))));
     }
 
 sound-dimension : (n cap d : ℕ) (machine : Machine) → d < n → IsSound n cap machine → IsSound n cap (machine_after_dimension n cap d machine)
@@ -84,7 +84,7 @@ sound-dimension n cap d machine below h =
       whole = h.whole;
       room = HasRoom-after_dimension n cap d machine below h.room;
       messages = made_messages n buffers (λ c l. AllMessages-after_dimension n cap d (buffer_at machine.buffers c) (buffer_at machine.buffers (bit_xor c (2 ^ d))) below
-          (h.messages c l) (h.messages (bit_xor c (2 ^ d)) (across_below n d c below l)))
+          (h.messages c l) (h.messages (bit_xor c (2 ^ d)) (across_below n d c below l)));
     }
 
 sound-delivery : (n cap : ℕ) (machine : Machine) → IsSound n cap machine → IsSound n cap (machine_after_delivery n machine)
@@ -99,7 +99,7 @@ sound-delivery n cap machine h =
       log_count = length-each_from 0 (2 ^ n) logs;
       whole = made_whole n chips (λ c l. IsChip-after_delivery (delivered_in machine c) (chip_at machine.chips c) (h.whole c l));
       room = HasRoom-after_delivery n cap machine h.room;
-      messages = made_messages n buffers (λ c l. AllMessages-kept n (can_receive (chip_at machine.chips c)) [] (buffer_at machine.buffers c) (h.messages c l))
+      messages = made_messages n buffers (λ c l. AllMessages-kept n (can_receive (chip_at machine.chips c)) [] (buffer_at machine.buffers c) (h.messages c l));
     }
 
 sound-step : (n cap : ℕ) (machine : Machine) (step : Step) → IsStep n step → IsSound n cap machine → IsSound n cap (after_step n cap machine step)
@@ -117,7 +117,7 @@ sound-steps n cap machine (step ∷ steps) s h = sound-steps n cap (after_step n
 pub IsMachine-after_act : (n cap : ℕ) (machine : Machine) (a : Act) → IsMachine n cap machine → IsMachine n cap (after_act n cap machine a)
 IsMachine-after_act n cap machine a h =
     let sound : IsSound n cap (after_act n cap machine a) = sound-steps n cap machine (steps_of n a) (AreSteps-act n a)
-        (record { chip_count = h.chip_count; buffer_count = h.buffer_count; log_count = h.log_count; whole = h.whole; room = h.room; messages = h.messages }) in
+    (record { chip_count = h.chip_count; buffer_count = h.buffer_count; log_count = h.log_count; whole = h.whole; room = h.room; messages = h.messages }) in
     let same : run_of n cap machine (a ∷ []) ≡ after_act n cap machine a = run_of-one n cap machine a h.buffer_count in
     record {
       chip_count = sound.chip_count;
@@ -127,7 +127,7 @@ IsMachine-after_act n cap machine a h =
       room = sound.room;
       messages = sound.messages;
       births = subst (λ (m : Machine). BornBefore n m) same (births_stay_before n cap machine (a ∷ []) h.tags h.births);
-      tags = subst (λ (m : Machine). HasTagsOnce n m) same (tags_stay_once n cap machine (a ∷ []) h.tags h.births)
+      tags = subst (λ (m : Machine). HasTagsOnce n m) same (tags_stay_once n cap machine (a ∷ []) h.tags h.births);
     }
 
 IsMachine-after_acts : (n cap : ℕ) (machine : Machine) (acts : List Act) → IsMachine n cap machine → IsMachine n cap (after_acts n cap machine acts)

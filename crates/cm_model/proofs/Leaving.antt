@@ -1,14 +1,13 @@
 -- Who leaves a chip: by since in the set, and by place in the buffer.
-use Rattle.std.proofs.Common.{◌≡◌, ℕ, zero, suc, ◌+◌, ◌-◌, ◌<◌, ◌≤◌, ◌^◌, Bool, true, false, not, cond, eqb, ltb, List, [], ◌∷◌, ◌++◌, length, take, drop, map, Option, Some, None, refl, sym, ◌∙◌, ap, subst, ⊎_elim, arith}
-use Rattle.std.proofs.lemmas.Bool.{cases_Bool, cond_both, ltb-true, ltb-false, eqb-true, cond-true, cond-false}
+use Rattle.std.proofs.Common.{◌≡◌, ℕ, zero, suc, ◌+◌, ◌-◌, ◌<◌, ◌≤◌, ◌^◌, Bool, true, false, not, eqb, ltb, List, [], ◌∷◌, ◌++◌, length, take, drop, map, Option, Some, None, refl, sym, ◌∙◌, ap, subst, ⊎_elim, arith}
+use Rattle.std.proofs.lemmas.Bool.{cases_Bool, cond_both, ltb-true, ltb-false, eqb-true}
 use Rattle.std.proofs.lemmas.List.{length-map, map-append, take-map, drop-map, take_all, drop_all, append-nil}
 use Rattle.std.proofs.lemmas.List.Folds.{find_at}
 use Rattle.std.proofs.lemmas.Option.{slice_get_past, slice_get-map, same_Some}
-use Rattle.std.specs.Prelude.{bit_xor, if◌then◌else◌}
+use Rattle.std.specs.Prelude.{bit_xor}
 use Rattle.std.specs.List.{filter, find, position, position_or_len, slice_get, remove}
 use Rattle.std.specs.Option.{option_or, option_map, option_to_list}
-use Rattle.cm_model.specs.declared.message.Message.{Message}
-use Rattle.cm_model.specs.Router.{Since, Standing, is_at, is_before, same_since, standing_at, has_to_cross, crossing, earliest, latest, referred, leaver, is_since, leaves, message_across, record_across, after_dimension}
+use Rattle.cm_model.specs.Router.{Since, Standing, is_at, is_before, same_since, standing_at, has_to_cross, crossing, earliest, referred, leaver, is_since, leaves, message_across, record_across, after_dimension}
 use Rattle.cm_model.specs.Order.{in_order, queue, messages_of, buffer}
 use Rattle.cm_model.specs.Buffers.{leaving_place, referred_place, element_at, without, outgoing, buffer_after_dimension}
 use Rattle.cm_model.proofs.Order.{AllAfter, AllBefore, IsRising, first_of_list, last_of_list, earliest_is, latest_is, filter-in_order, length-in_order, same_itself, same_not_before, same_not_after}
@@ -24,8 +23,8 @@ first_is_find p (x ∷ xs) =
 pub element_at-position : {X : Type 0} (p : X → Bool) (xs : List X) → element_at xs (position p xs) ≡ find p xs
 element_at-position p xs =
     cond_both (ltb (position_or_len p xs) (length xs)) (Some (position_or_len p xs)) None (λ o. element_at xs o ≡ find p xs)
-        (λ e. sym (find_at p xs))
-        (λ e. sym (find_at p xs ∙ slice_get_past xs (position_or_len p xs) (ltb-false (position_or_len p xs) (length xs) e)))
+    (λ e. sym (find_at p xs))
+    (λ e. sym (find_at p xs ∙ slice_get_past xs (position_or_len p xs) (ltb-false (position_or_len p xs) (length xs) e)))
 
 position_or_len-map : {X Y : Type 0} (f : X → Y) (p : Y → Bool) (xs : List X) → position_or_len p (map f xs) ≡ position_or_len (λ x. p (f x)) xs
 position_or_len-map f p [] = refl
@@ -72,9 +71,9 @@ or_some (Some x) o h = refl
 element_at-or : {X : Type 0} (xs : List X) (p : X → Bool) (o : Option ℕ) → element_at xs (option_or (position p xs) o) ≡ option_or (find p xs) (element_at xs o)
 element_at-or xs p o =
     cond_both (ltb (position_or_len p xs) (length xs)) (Some (position_or_len p xs)) None (λ q. element_at xs q ≡ find p xs → element_at xs (option_or q o) ≡ option_or (find p xs) (element_at xs o))
-        (λ e w. w ∙ sym (or_some (find p xs) (element_at xs o) (λ none. some_within xs (position_or_len p xs) (ltb-true (position_or_len p xs) (length xs) e) (w ∙ none))))
-        (λ e w. ap (λ z. option_or z (element_at xs o)) w)
-        (element_at-position p xs)
+    (λ e w. w ∙ sym (or_some (find p xs) (element_at xs o) (λ none. some_within xs (position_or_len p xs) (ltb-true (position_or_len p xs) (length xs) e) (w ∙ none))))
+    (λ e w. ap (λ z. option_or z (element_at xs o)) w)
+    (element_at-position p xs)
 
 element_at-referred : (cap c : ℕ) (set : List Standing) → referred cap (standing_at c set) ≡ element_at (queue c set) (referred_place cap (buffer c set))
 unfolding queue
@@ -82,11 +81,11 @@ element_at-referred cap c set =
     let long : length (buffer c set) ≡ length (in_order (standing_at c set)) = length-map (in_order (standing_at c set)) (λ r. r.message) in
     let same : length (in_order (standing_at c set)) ≡ length (standing_at c set) = length-in_order (standing_at c set) in
     rw (long, same)
-        (⊎_elim
-            (λ (e : eqb (length (standing_at c set)) cap ≡ true).
-                rw e (latest_is (standing_at c set) ∙ (last_is (in_order (standing_at c set)) ∙ ap (λ k. slice_get (in_order (standing_at c set)) (k - 1)) same)))
-            (λ (e : eqb (length (standing_at c set)) cap ≡ false). rw e refl)
-            (cases_Bool (eqb (length (standing_at c set)) cap)))
+    (⊎_elim
+    (λ (e : eqb (length (standing_at c set)) cap ≡ true).
+    rw e (latest_is (standing_at c set) ∙ (last_is (in_order (standing_at c set)) ∙ ap (λ k. slice_get (in_order (standing_at c set)) (k - 1)) same)))
+    (λ (e : eqb (length (standing_at c set)) cap ≡ false). rw e refl)
+    (cases_Bool (eqb (length (standing_at c set)) cap)))
 
 -- a filter of the queue is the queue of the filter
 pub filter-queue : (p : Standing → Bool) (c : ℕ) (set : List Standing) → filter p (queue c set) ≡ in_order (filter p (standing_at c set))
@@ -99,7 +98,7 @@ unfolding leaver leaving_place
 leaver_is cap d c set =
     let p : Standing → Bool = λ r. has_to_cross d r.message in
     let first : earliest (crossing d (standing_at c set)) ≡ find p (queue c set) =
-        earliest_is (crossing d (standing_at c set)) ∙ (ap first_of_list (sym (filter-queue p c set)) ∙ first_is_find p (queue c set)) in
+    earliest_is (crossing d (standing_at c set)) ∙ (ap first_of_list (sym (filter-queue p c set)) ∙ first_is_find p (queue c set)) in
     let place : position (has_to_cross d) (buffer c set) ≡ position p (queue c set) = position-map (λ r. r.message) (has_to_cross d) (queue c set) in
     ap (λ z. option_or z (referred cap (standing_at c set))) first
     ∙ (ap (λ z. option_or (find p (queue c set)) z) (element_at-referred cap c set)
@@ -112,12 +111,12 @@ pub filter-standing_at : (p q : Standing → Bool) (c : ℕ) (set : List Standin
 filter-standing_at p q c [] same = refl
 filter-standing_at p q c (r ∷ set) same =
     ⊎_elim
-        (λ (a : is_at c r ≡ true).
-            let here : p r ≡ q r = same r (eqb-true r.chip c a) in
-            ⊎_elim (λ (e : q r ≡ true). rw (a, here, e) (ap (λ z. r ∷ z) (filter-standing_at p q c set same)))
-                (λ (e : q r ≡ false). rw (a, here, e) (filter-standing_at p q c set same)) (cases_Bool (q r)))
-        (λ (a : is_at c r ≡ false). rw a (filter-standing_at p q c set same))
-        (cases_Bool (is_at c r))
+    (λ (a : is_at c r ≡ true).
+    let here : p r ≡ q r = same r (eqb-true r.chip c a) in
+    ⊎_elim (λ (e : q r ≡ true). rw (a, here, e) (ap (λ z. r ∷ z) (filter-standing_at p q c set same)))
+    (λ (e : q r ≡ false). rw (a, here, e) (filter-standing_at p q c set same)) (cases_Bool (q r)))
+    (λ (a : is_at c r ≡ false). rw a (filter-standing_at p q c set same))
+    (cases_Bool (is_at c r))
 
 pub filter-queue_same : (p q : Standing → Bool) (c : ℕ) (set : List Standing) → ((r : Standing) → r.chip ≡ c → p r ≡ q r) → filter p (queue c set) ≡ filter q (queue c set)
 filter-queue_same p q c set same = filter-queue p c set ∙ (ap in_order (filter-standing_at p q c set same) ∙ sym (filter-queue q c set))
@@ -149,7 +148,7 @@ only_one : (xs : List Standing) (i : ℕ) (x : Standing) → IsRising xs → sli
 only_one [] i x h e = absurd cc
 only_one (y ∷ ys) zero x h e =
     subst (λ (z : Standing). filter (λ r. same_since z.since r.since) (y ∷ ys) ≡ z ∷ []) (same_Some y x e)
-        (let t : same_since y.since y.since ≡ true = same_itself y.since in rw t (ap (λ z. y ∷ z) (none_with y.since ys h.0)))
+    (let t : same_since y.since y.since ≡ true = same_itself y.since in rw t (ap (λ z. y ∷ z) (none_with y.since ys h.0)))
 only_one (y ∷ ys) (suc i) x h e =
     let t : same_since x.since y.since ≡ false = same_not_after y.since x.since (after_at y.since ys i x h.0 e) in rw t (only_one ys i x h.1 e)
 
@@ -157,7 +156,7 @@ all_others : (xs : List Standing) (i : ℕ) (x : Standing) → IsRising xs → s
 all_others [] i x h e = absurd cc
 all_others (y ∷ ys) zero x h e =
     subst (λ (z : Standing). filter (λ r. not (same_since z.since r.since)) (y ∷ ys) ≡ ys) (same_Some y x e)
-        (let t : same_since y.since y.since ≡ true = same_itself y.since in rw t (all_without y.since ys h.0))
+    (let t : same_since y.since y.since ≡ true = same_itself y.since in rw t (all_without y.since ys h.0))
 all_others (y ∷ ys) (suc i) x h e =
     let t : same_since x.since y.since ≡ false = same_not_after y.since x.since (after_at y.since ys i x h.0 e) in rw t (ap (λ z. y ∷ z) (all_others ys i x h.1 e))
 
@@ -205,10 +204,10 @@ pub comers_from : (cap d cycle c : ℕ) (set : List Standing) → IsRising (queu
     comers (leaves cap d set) d cycle (standing_at c set) ≡ map (record_across d cycle) (option_to_list (element_at (queue c set) (leaving_place cap d (buffer c set))))
 comers_from cap d cycle c set h =
     ap (map (record_across d cycle))
-        (filter-standing_at (leaves cap d set) (has_since_of (leaver cap d c set)) c set (leaves_here cap d c set)
-        ∙ (list_in_order (leaver cap d c set) (filter (has_since_of (leaver cap d c set)) (standing_at c set))
-            (sym (filter-queue (has_since_of (leaver cap d c set)) c set) ∙ leavers_of (queue c set) (leaving_place cap d (buffer c set)) (leaver cap d c set) h (leaver_is cap d c set))
-        ∙ ap option_to_list (leaver_is cap d c set)))
+    (filter-standing_at (leaves cap d set) (has_since_of (leaver cap d c set)) c set (leaves_here cap d c set)
+    ∙ (list_in_order (leaver cap d c set) (filter (has_since_of (leaver cap d c set)) (standing_at c set))
+    (sym (filter-queue (has_since_of (leaver cap d c set)) c set) ∙ leavers_of (queue c set) (leaving_place cap d (buffer c set)) (leaver cap d c set) h (leaver_is cap d c set))
+    ∙ ap option_to_list (leaver_is cap d c set)))
 
 -- who stays at a chip
 stayers_at : (cap d c : ℕ) (set : List Standing) → IsRising (queue c set) →
@@ -221,7 +220,7 @@ stayers_at cap d c set h =
 pub queue-after_dimension : (cap d cycle c : ℕ) (set : List Standing) → AllBefore (time_across d cycle) set → IsRising (queue c set) → IsRising (queue (bit_xor c (2 ^ d)) set) →
     queue c (after_dimension cap d cycle set)
     ≡ without (queue c set) (leaving_place cap d (buffer c set))
-      ++ map (record_across d cycle) (option_to_list (element_at (queue (bit_xor c (2 ^ d)) set) (leaving_place cap d (buffer (bit_xor c (2 ^ d)) set))))
+    ++ map (record_across d cycle) (option_to_list (element_at (queue (bit_xor c (2 ^ d)) set) (leaving_place cap d (buffer (bit_xor c (2 ^ d)) set))))
 unfolding after_dimension
 queue-after_dimension cap d cycle c set b h k =
     queue-crossed (leaves cap d set) d cycle c set b
@@ -244,5 +243,5 @@ buffer-after_dimension cap d cycle c set b h k =
     ∙ (map-append (λ r. r.message) (without (queue c set) place) (map (record_across d cycle) (option_to_list (element_at (queue across set) there)))
     ∙ (ap (λ z. z ++ messages_of (map (record_across d cycle) (option_to_list (element_at (queue across set) there)))) (map-without (λ r. r.message) (queue c set) place)
     ∙ ap (λ z. without (buffer c set) place ++ z)
-        (message_of_comer d cycle (element_at (queue across set) there)
-        ∙ ap (λ z. option_to_list (option_map (message_across d) z)) (sym (element_at-map (λ r. r.message) (queue across set) there)))))
+    (message_of_comer d cycle (element_at (queue across set) there)
+    ∙ ap (λ z. option_to_list (option_map (message_across d) z)) (sym (element_at-map (λ r. r.message) (queue across set) there)))))

@@ -1,15 +1,14 @@
 -- Every step keeps the messages of a cube within it.
-use Rattle.std.proofs.Common.{◌≡◌, ℕ, zero, suc, ◌+◌, ◌*◌, ◌%◌, ◌<◌, ◌≤◌, ◌^◌, Bool, true, false, cond, List, [], ◌∷◌, ◌++◌, length, map, take, drop, Option, Some, None, refl, sym, ◌∙◌, ap, subst, ⊎_elim, arith}
+use Rattle.std.proofs.Common.{◌≡◌, ℕ, zero, suc, ◌*◌, ◌<◌, ◌≤◌, ◌^◌, Bool, true, false, List, [], ◌∷◌, length, take, drop, Option, Some, None, ⊎_elim, arith}
 use Rattle.std.proofs.lemmas.Bool.{cases_Bool}
 use Rattle.std.proofs.lemmas.List.{length-take}
 use Rattle.std.proofs.lemmas.List.Elements.{All-nil, All-cons, All-head, All-tail, All-append, All-take, All-drop}
 use Rattle.std.proofs.Math.Numerals.{unary_clauses}
 use Rattle.std.proofs.Math.Pow.{pow_mono}
 use Rattle.std.proofs.lemmas.Nat.{pow_pos}
-use Rattle.std.specs.Prelude.{slice_get, bit_xor}
+use Rattle.std.specs.Prelude.{slice_get}
 use Rattle.std.specs.List.{All}
 use Rattle.std.specs.Option.{option_map, option_to_list}
-use Rattle.cm_bits.specs.Bit.{bit_number}
 use Rattle.cm_model.specs.declared.message.Message.{Message}
 use Rattle.cm_model.specs.Processor.{Processor, value, field_value}
 use Rattle.cm_model.specs.Chip.{processor_at}
@@ -45,7 +44,7 @@ IsMessage-sent n clock c chip p l k =
       proc = field_value-lt (processor_at chip p) 3984 4;
       payload = field_value-lt (processor_at chip p) 3988 32;
       origin = l;
-      sender = k
+      sender = k;
     }
 
 pub AllMessages-sent : (n clock c : ℕ) (chip : List Processor) (ps : List ℕ) → c < 2 ^ n → AllBelow 16 ps → All (IsMessage n) (messages_sent n clock c chip ps)
@@ -79,8 +78,8 @@ pub AllMessages-after_dimension : (n cap d : ℕ) (here there : List Message) �
 unfolding buffer_after_dimension
 AllMessages-after_dimension n cap d here there below h k =
     All-append (IsMessage n) (without here (leaving_place cap d here)) (option_to_list (outgoing cap d there))
-        (All-without n here (leaving_place cap d here) h)
-        (All-across n d (element_at there (leaving_place cap d there)) below (All-element_at n there (leaving_place cap d there) k))
+    (All-without n here (leaving_place cap d here) h)
+    (All-across n d (element_at there (leaving_place cap d there)) below (All-element_at n there (leaving_place cap d there) k))
 
 -- ---- delivery
 
@@ -89,5 +88,5 @@ AllMessages-kept n receives before [] h = All-nil (IsMessage n)
 AllMessages-kept n receives before (m ∷ ms) h =
     let ih : All (IsMessage n) (kept receives (arrived_for before m) ms) = AllMessages-kept n receives (arrived_for before m) ms (All-tail (IsMessage n) m ms h) in
     ⊎_elim (λ (e : is_accepted receives before m ≡ true). rw e ih)
-        (λ (e : is_accepted receives before m ≡ false). rw e (All-cons (IsMessage n) m (kept receives (arrived_for before m) ms) (All-head (IsMessage n) m ms h) ih))
-        (cases_Bool (is_accepted receives before m))
+    (λ (e : is_accepted receives before m ≡ false). rw e (All-cons (IsMessage n) m (kept receives (arrived_for before m) ms) (All-head (IsMessage n) m ms h) ih))
+    (cases_Bool (is_accepted receives before m))

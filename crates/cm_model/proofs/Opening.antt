@@ -1,15 +1,15 @@
 -- A machine handed over: its set of records, and the machine of that set.
-use Rattle.std.proofs.Common.{◌≡◌, ℕ, zero, suc, ◌+◌, ◌<◌, ◌≤◌, ◌^◌, Bool, true, false, List, [], ◌∷◌, ◌++◌, length, get_or, map, refl, sym, ◌∙◌, ap, subst, ⊎_elim, arith}
+use Rattle.std.proofs.Common.{◌≡◌, ℕ, ◌+◌, ◌<◌, ◌≤◌, ◌^◌, List, [], ◌∷◌, length, refl, sym, ◌∙◌, ap, subst, ⊎_elim, arith}
 use Rattle.std.proofs.lemmas.Bool.{cases_lt, eq-eqb}
 use Rattle.std.proofs.lemmas.Bool.Decides.{nat_tests}
-use Rattle.std.specs.List.{filter, flat_map, range_with_len}
+use Rattle.std.specs.List.{range_with_len}
 use Rattle.cm_model.specs.declared.message.Message.{Message}
 use Rattle.cm_model.specs.Array.{each_chip}
-use Rattle.cm_model.specs.Router.{Since, Standing, is_at, is_before, standing_at}
+use Rattle.cm_model.specs.Router.{Standing}
 use Rattle.cm_model.specs.Order.{in_order, queue, messages_of, buffer}
 use Rattle.cm_model.specs.Cycle.{State}
 use Rattle.cm_model.specs.Machine.{Machine, buffer_at, records_from, opened, closed}
-use Rattle.cm_model.proofs.Each.{length-each_from, get_or-each_below, is_each}
+use Rattle.cm_model.proofs.Each.{get_or-each_below, is_each}
 use Rattle.cm_model.proofs.Order.{AllBefore, AllAfter, IsRising, in_order-rising}
 use Rattle.cm_model.proofs.Readiness.{IsReady, AllAt, AllBefore-flat_map, gathered, gathered_past}
 use Rattle.cm_model.proofs.Injecting.{cycle_begins}
@@ -52,16 +52,16 @@ queue-opened_past n machine c l =
 IsRising-opened : (n : ℕ) (machine : Machine) (c : ℕ) → IsRising (queue c (opened n machine).standing)
 IsRising-opened n machine c =
     ⊎_elim
-        (λ (l : c < 2 ^ n). subst (λ (xs : List Standing). IsRising xs) (sym (queue-opened n machine c l)) (IsRising-records c 0 (buffer_at machine.buffers c)))
-        (λ (l : 2 ^ n ≤ c). subst (λ (xs : List Standing). IsRising xs) (sym (queue-opened_past n machine c l)) tt)
-        (cases_lt c (2 ^ n))
+    (λ (l : c < 2 ^ n). subst (λ (xs : List Standing). IsRising xs) (sym (queue-opened n machine c l)) (IsRising-records c 0 (buffer_at machine.buffers c)))
+    (λ (l : 2 ^ n ≤ c). subst (λ (xs : List Standing). IsRising xs) (sym (queue-opened_past n machine c l)) tt)
+    (cases_lt c (2 ^ n))
 
 -- the first petit cycle finds the set ready
 pub IsReady-opened : (n : ℕ) (machine : Machine) → IsReady (cycle_begins (opened n machine).cycle) (opened n machine).standing
 unfolding opened
 IsReady-opened n machine = record {
   before = AllBefore-flat_map (cycle_begins 1) (handed_over machine) (range_with_len 0 (2 ^ n)) (λ c. AllBefore-records c 0 (buffer_at machine.buffers c));
-  rising = IsRising-opened n machine
+  rising = IsRising-opened n machine;
 }
 
 pub buffer-opened : (n : ℕ) (machine : Machine) (c : ℕ) → c < 2 ^ n → buffer c (opened n machine).standing ≡ buffer_at machine.buffers c
@@ -72,7 +72,7 @@ pub closed-opened : (n : ℕ) (machine : Machine) → length machine.buffers ≡
 unfolding closed opened
 closed-opened n machine long =
     let same : machine.buffers ≡ each_chip n (λ c. buffer c (opened n machine).standing) =
-        is_each [] (2 ^ n) (λ c. buffer c (opened n machine).standing) machine.buffers long (λ c l. sym (buffer-opened n machine c l)) in
+    is_each [] (2 ^ n) (λ c. buffer c (opened n machine).standing) machine.buffers long (λ c l. sym (buffer-opened n machine c l)) in
     λ i. record { chips = machine.chips; buffers = sym same i; logs = machine.logs; clock = machine.clock }
 
 -- the buffer of a chip, of the machine of a state

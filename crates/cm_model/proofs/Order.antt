@@ -1,10 +1,10 @@
 -- Sorting by since: what a filter, an append, a first and a last make of it.
-use Rattle.std.proofs.Common.{◌≡◌, ℕ, ◌+◌, Bool, true, false, not, cond, ltb, eqb, ◌&&◌, ◌||◌, List, [], ◌∷◌, ◌++◌, length, map, Option, Some, None, refl, sym, ◌∙◌, ap, ⊎_elim, arith, add_assoc}
-use Rattle.std.proofs.lemmas.Bool.{cases_Bool, false≢true}
+use Rattle.std.proofs.Common.{◌≡◌, ◌+◌, Bool, true, false, cond, List, [], ◌∷◌, ◌++◌, length, Option, Some, None, refl, sym, ◌∙◌, ap, ⊎_elim, arith}
+use Rattle.std.proofs.lemmas.Bool.{cases_Bool}
 use Rattle.std.proofs.lemmas.Bool.Decides.{nat_tests}
 use Rattle.std.proofs.lemmas.List.Sums.{sum_by-cons}
-use Rattle.std.specs.List.{filter, count_by, list_any, slice_get}
-use Rattle.cm_model.specs.Router.{Since, Standing, is_before, same_since, earlier, earliest, later, latest, standing_at, is_at}
+use Rattle.std.specs.List.{filter, count_by}
+use Rattle.cm_model.specs.Router.{Since, Standing, is_before, same_since, earlier, earliest, later, latest}
 use Rattle.cm_model.specs.Order.{put, in_order}
 
 -- ---- the laws of before
@@ -65,13 +65,13 @@ pub NoneBefore-put : (s : Since) (r : Standing) (xs : List Standing) → is_befo
 NoneBefore-put s r [] h k = (h, tt)
 NoneBefore-put s r (x ∷ xs) h k =
     ⊎_elim (λ (e : is_before x.since r.since ≡ true). rw e (k.0, NoneBefore-put s r xs h k.1))
-        (λ (e : is_before x.since r.since ≡ false). rw e (h, k)) (cases_Bool (is_before x.since r.since))
+    (λ (e : is_before x.since r.since ≡ false). rw e (h, k)) (cases_Bool (is_before x.since r.since))
 
 pub IsSorted-put : (r : Standing) (xs : List Standing) → IsSorted xs → IsSorted (put r xs)
 IsSorted-put r [] k = (tt, tt)
 IsSorted-put r (x ∷ xs) k =
     ⊎_elim (λ (e : is_before x.since r.since ≡ true). rw e (NoneBefore-put x.since r xs (not_both_before x.since r.since e) k.0, IsSorted-put r xs k.1))
-        (λ (e : is_before x.since r.since ≡ false). rw e ((e, none_before_later r.since x.since xs e k.0), k)) (cases_Bool (is_before x.since r.since))
+    (λ (e : is_before x.since r.since ≡ false). rw e ((e, none_before_later r.since x.since xs e k.0), k)) (cases_Bool (is_before x.since r.since))
 
 pub IsSorted-in_order : (xs : List Standing) → IsSorted (in_order xs)
 IsSorted-in_order [] = tt
@@ -85,7 +85,7 @@ pub NoneBefore-filter : (p : Standing → Bool) (s : Since) (xs : List Standing)
 NoneBefore-filter p s [] h = tt
 NoneBefore-filter p s (x ∷ xs) h =
     ⊎_elim (λ (e : p x ≡ true). rw e (h.0, NoneBefore-filter p s xs h.1))
-        (λ (e : p x ≡ false). rw e (NoneBefore-filter p s xs h.1)) (cases_Bool (p x))
+    (λ (e : p x ≡ false). rw e (NoneBefore-filter p s xs h.1)) (cases_Bool (p x))
 
 -- ---- a filter of a sorted list
 
@@ -93,30 +93,30 @@ pub filter-put_yes : (p : Standing → Bool) (r : Standing) (xs : List Standing)
 filter-put_yes p r [] s e = rw e refl
 filter-put_yes p r (x ∷ xs) s e =
     ⊎_elim
-        (λ (b : is_before x.since r.since ≡ true).
-            ⊎_elim (λ (t : p x ≡ true). rw (b, t, b) (ap (λ z. x ∷ z) (filter-put_yes p r xs s.1 e)))
-                (λ (t : p x ≡ false). rw (b, t) (filter-put_yes p r xs s.1 e)) (cases_Bool (p x)))
-        (λ (b : is_before x.since r.since ≡ false).
-            let front : NoneBefore r.since (x ∷ xs) = (b, none_before_later r.since x.since xs b s.0) in
-            rw (b, e) (sym (put_front r (filter p (x ∷ xs)) (NoneBefore-filter p r.since (x ∷ xs) front))))
-        (cases_Bool (is_before x.since r.since))
+    (λ (b : is_before x.since r.since ≡ true).
+    ⊎_elim (λ (t : p x ≡ true). rw (b, t, b) (ap (λ z. x ∷ z) (filter-put_yes p r xs s.1 e)))
+    (λ (t : p x ≡ false). rw (b, t) (filter-put_yes p r xs s.1 e)) (cases_Bool (p x)))
+    (λ (b : is_before x.since r.since ≡ false).
+    let front : NoneBefore r.since (x ∷ xs) = (b, none_before_later r.since x.since xs b s.0) in
+    rw (b, e) (sym (put_front r (filter p (x ∷ xs)) (NoneBefore-filter p r.since (x ∷ xs) front))))
+    (cases_Bool (is_before x.since r.since))
 
 pub filter-put_no : (p : Standing → Bool) (r : Standing) (xs : List Standing) → p r ≡ false → filter p (put r xs) ≡ filter p xs
 filter-put_no p r [] e = rw e refl
 filter-put_no p r (x ∷ xs) e =
     ⊎_elim
-        (λ (b : is_before x.since r.since ≡ true).
-            ⊎_elim (λ (t : p x ≡ true). rw (b, t) (ap (λ z. x ∷ z) (filter-put_no p r xs e)))
-                (λ (t : p x ≡ false). rw (b, t) (filter-put_no p r xs e)) (cases_Bool (p x)))
-        (λ (b : is_before x.since r.since ≡ false). rw (b, e) refl)
-        (cases_Bool (is_before x.since r.since))
+    (λ (b : is_before x.since r.since ≡ true).
+    ⊎_elim (λ (t : p x ≡ true). rw (b, t) (ap (λ z. x ∷ z) (filter-put_no p r xs e)))
+    (λ (t : p x ≡ false). rw (b, t) (filter-put_no p r xs e)) (cases_Bool (p x)))
+    (λ (b : is_before x.since r.since ≡ false). rw (b, e) refl)
+    (cases_Bool (is_before x.since r.since))
 
 -- a filter of a sorted list is the sorted filter
 pub filter-in_order : (p : Standing → Bool) (xs : List Standing) → filter p (in_order xs) ≡ in_order (filter p xs)
 filter-in_order p [] = refl
 filter-in_order p (x ∷ xs) =
     ⊎_elim (λ (e : p x ≡ true). filter-put_yes p x (in_order xs) (IsSorted-in_order xs) e ∙ rw e (ap (put x) (filter-in_order p xs)))
-        (λ (e : p x ≡ false). filter-put_no p x (in_order xs) e ∙ rw e (filter-in_order p xs)) (cases_Bool (p x))
+    (λ (e : p x ≡ false). filter-put_no p x (in_order xs) e ∙ rw e (filter-in_order p xs)) (cases_Bool (p x))
 
 -- ---- sorting what is appended
 
@@ -124,7 +124,7 @@ pub put-append : (r : Standing) (xs ys : List Standing) → NoneBefore r.since y
 put-append r [] ys h = put_front r ys h
 put-append r (x ∷ xs) ys h =
     ⊎_elim (λ (e : is_before x.since r.since ≡ true). rw e (ap (λ z. x ∷ z) (put-append r xs ys h)))
-        (λ (e : is_before x.since r.since ≡ false). rw e refl) (cases_Bool (is_before x.since r.since))
+    (λ (e : is_before x.since r.since ≡ false). rw e refl) (cases_Bool (is_before x.since r.since))
 
 pub put_last : (r : Standing) (xs ys : List Standing) → AllBefore r.since xs → put r (xs ++ ys) ≡ xs ++ put r ys
 put_last r [] ys h = refl
@@ -166,7 +166,7 @@ first-put : (r : Standing) (xs : List Standing) → first_of_list (put r xs) ≡
 first-put r [] = refl
 first-put r (x ∷ xs) =
     ⊎_elim (λ (e : is_before x.since r.since ≡ true). rw e refl)
-        (λ (e : is_before x.since r.since ≡ false). rw e refl) (cases_Bool (is_before x.since r.since))
+    (λ (e : is_before x.since r.since ≡ false). rw e refl) (cases_Bool (is_before x.since r.since))
 
 -- the earliest record is the first in order
 pub earliest_is : (xs : List Standing) → earliest xs ≡ first_of_list (in_order xs)
@@ -177,7 +177,7 @@ last-cons_put : (x r : Standing) (xs : List Standing) → last_of_list (x ∷ pu
 last-cons_put x r [] = refl
 last-cons_put x r (y ∷ ys) =
     ⊎_elim (λ (e : is_before y.since r.since ≡ true). rw e refl)
-        (λ (e : is_before y.since r.since ≡ false). rw e refl) (cases_Bool (is_before y.since r.since))
+    (λ (e : is_before y.since r.since ≡ false). rw e refl) (cases_Bool (is_before y.since r.since))
 
 -- where none is before r, the last is not either
 later_than_none : (r x : Standing) (xs : List Standing) → NoneBefore r.since (x ∷ xs) → last_of_list (x ∷ xs) ≡ Some (later r (last_of_list (x ∷ xs)))
@@ -188,10 +188,10 @@ last-put : (r : Standing) (xs : List Standing) → IsSorted xs → last_of_list 
 last-put r [] s = refl
 last-put r (x ∷ []) s =
     ⊎_elim (λ (e : is_before x.since r.since ≡ true). rw e refl)
-        (λ (e : is_before x.since r.since ≡ false). rw e refl) (cases_Bool (is_before x.since r.since))
+    (λ (e : is_before x.since r.since ≡ false). rw e refl) (cases_Bool (is_before x.since r.since))
 last-put r (x ∷ (y ∷ ys)) s =
     ⊎_elim (λ (e : is_before x.since r.since ≡ true). rw e (last-cons_put x r (y ∷ ys) ∙ last-put r (y ∷ ys) s.1))
-        (λ (e : is_before x.since r.since ≡ false). rw e (later_than_none r x (y ∷ ys) (e, none_before_later r.since x.since (y ∷ ys) e s.0))) (cases_Bool (is_before x.since r.since))
+    (λ (e : is_before x.since r.since ≡ false). rw e (later_than_none r x (y ∷ ys) (e, none_before_later r.since x.since (y ∷ ys) e s.0))) (cases_Bool (is_before x.since r.since))
 
 -- the latest record is the last in order
 pub latest_is : (xs : List Standing) → latest xs ≡ last_of_list (in_order xs)
@@ -204,7 +204,7 @@ pub length-put : (r : Standing) (xs : List Standing) → length (put r xs) ≡ l
 length-put r [] = refl
 length-put r (x ∷ xs) =
     ⊎_elim (λ (e : is_before x.since r.since ≡ true). rw e (let ih = length-put r xs in omega arith))
-        (λ (e : is_before x.since r.since ≡ false). rw e refl) (cases_Bool (is_before x.since r.since))
+    (λ (e : is_before x.since r.since ≡ false). rw e refl) (cases_Bool (is_before x.since r.since))
 
 pub length-in_order : (xs : List Standing) → length (in_order xs) ≡ length xs
 length-in_order [] = refl
@@ -215,7 +215,7 @@ count_by-put p r [] = sum_by-cons (λ x. cond (p x) 1 0) r []
 count_by-put p r (x ∷ xs) =
     let one = sum_by-cons (λ x. cond (p x) 1 0) in
     ⊎_elim (λ (e : is_before x.since r.since ≡ true). rw e (omega (arith, one x (put r xs), one x xs, count_by-put p r xs)))
-        (λ (e : is_before x.since r.since ≡ false). rw e (one r (x ∷ xs))) (cases_Bool (is_before x.since r.since))
+    (λ (e : is_before x.since r.since ≡ false). rw e (one r (x ∷ xs))) (cases_Bool (is_before x.since r.since))
 
 pub count_by-in_order : (p : Standing → Bool) (xs : List Standing) → count_by p (in_order xs) ≡ count_by p xs
 count_by-in_order p [] = refl

@@ -1,16 +1,14 @@
 -- What a set of standing messages is at each moment of a run: all before a time, and rising at each chip.
-use Rattle.std.proofs.Common.{◌≡◌, ℕ, zero, suc, ◌+◌, ◌<◌, ◌≤◌, ◌^◌, Bool, true, false, not, cond, eqb, ltb, ◌&&◌, ◌||◌, List, [], ◌∷◌, ◌++◌, length, map, Option, Some, None, refl, sym, ◌∙◌, ap, subst, ⊎_elim, arith}
-use Rattle.std.proofs.lemmas.Bool.{cases_Bool, eqb-true, ne_eqb, eq-eqb, cases_eq}
-use Rattle.std.proofs.lemmas.Bool.Decides.{nat_tests}
+use Rattle.std.proofs.Common.{◌≡◌, ℕ, zero, suc, ◌+◌, ◌<◌, ◌≤◌, Bool, true, false, List, [], ◌∷◌, ◌++◌, map, Option, Some, None, refl, sym, ◌∙◌, ap, subst, ⊎_elim, arith}
+use Rattle.std.proofs.lemmas.Bool.{cases_Bool, eqb-true, ne_eqb, cases_eq}
 use Rattle.std.proofs.lemmas.List.{append-nil}
 use Rattle.std.proofs.lemmas.List.Elements.{filter-append}
-use Rattle.std.specs.Prelude.{bit_xor, if◌then◌else◌}
 use Rattle.std.specs.List.{filter, flat_map, range_with_len}
 use Rattle.std.specs.Option.{option_to_list}
-use Rattle.cm_model.specs.Router.{Since, Standing, is_at, is_before, standing_at, leaves, record_across, after_dimension}
-use Rattle.cm_model.specs.Order.{in_order, queue, buffer}
-use Rattle.cm_model.proofs.Order.{AllBefore, AllAfter, IsRising, Precedes, before_transitive, filter-in_order}
-use Rattle.cm_model.proofs.Crossing.{comers, time_across, queue-crossed, AllBefore-filter, AllBefore-in_order}
+use Rattle.cm_model.specs.Router.{Since, Standing, is_at, is_before, standing_at, record_across}
+use Rattle.cm_model.specs.Order.{queue}
+use Rattle.cm_model.proofs.Order.{AllBefore, AllAfter, IsRising, Precedes, before_transitive}
+use Rattle.cm_model.proofs.Crossing.{time_across}
 
 pub record IsReady (top : Since) (set : List Standing) : Type 0 where
   pub before : AllBefore top set
@@ -36,13 +34,13 @@ pub AllAfter-filter : (p : Standing → Bool) (s : Since) (xs : List Standing) �
 AllAfter-filter p s [] h = tt
 AllAfter-filter p s (x ∷ xs) h =
     ⊎_elim (λ (e : p x ≡ true). rw e (h.0, AllAfter-filter p s xs h.1))
-        (λ (e : p x ≡ false). rw e (AllAfter-filter p s xs h.1)) (cases_Bool (p x))
+    (λ (e : p x ≡ false). rw e (AllAfter-filter p s xs h.1)) (cases_Bool (p x))
 
 pub IsRising-filter : (p : Standing → Bool) (xs : List Standing) → IsRising xs → IsRising (filter p xs)
 IsRising-filter p [] h = tt
 IsRising-filter p (x ∷ xs) h =
     ⊎_elim (λ (e : p x ≡ true). rw e (AllAfter-filter p x.since xs h.0, IsRising-filter p xs h.1))
-        (λ (e : p x ≡ false). rw e (IsRising-filter p xs h.1)) (cases_Bool (p x))
+    (λ (e : p x ≡ false). rw e (IsRising-filter p xs h.1)) (cases_Bool (p x))
 
 pub AllAfter-append : (s : Since) (xs ys : List Standing) → AllAfter s xs → AllAfter s ys → AllAfter s (xs ++ ys)
 AllAfter-append s [] ys h k = k
@@ -100,7 +98,7 @@ gathered f at_own c a zero h l = absurd (omega arith)
 gathered f at_own c a (suc k) h l =
     filter-append (is_at c) (f a) (flat_map f (range_with_len (a + 1) k))
     ∙ ⊎_elim
-        (λ (e : a ≡ c). subst (λ (z : ℕ). standing_at c (f z) ++ standing_at c (flat_map f (range_with_len (z + 1) k)) ≡ f c) (sym e)
-            (rw (standing_at-here c (f c) (at_own c), gathered_out f at_own c (c + 1) k (omega arith)) (append-nil (f c))))
-        (λ (e : a ≡ c → ⊥). rw (standing_at-elsewhere c a (f a) e (at_own a)) (gathered f at_own c (a + 1) k (omega arith) (omega arith)))
-        (cases_eq a c)
+    (λ (e : a ≡ c). subst (λ (z : ℕ). standing_at c (f z) ++ standing_at c (flat_map f (range_with_len (z + 1) k)) ≡ f c) (sym e)
+    (rw (standing_at-here c (f c) (at_own c), gathered_out f at_own c (c + 1) k (omega arith)) (append-nil (f c))))
+    (λ (e : a ≡ c → ⊥). rw (standing_at-elsewhere c a (f a) e (at_own a)) (gathered f at_own c (a + 1) k (omega arith) (omega arith)))
+    (cases_eq a c)

@@ -1,22 +1,21 @@
 -- Worked values of the router's definitions, which the checker computes: a wrong rule does not check.
-use Rattle.std.proofs.Common.{◌≡◌, ℕ, ◌+◌, ◌<◌, Bool, true, false, cond, List, [], ◌∷◌, length, replicate, map, refl}
+use Rattle.std.proofs.Common.{◌≡◌, ℕ, Bool, true, false, List, [], ◌∷◌, replicate, map, refl}
 use Rattle.std.specs.Prelude.{nat_lt, ◌==◌, slice_set, if◌then◌else◌}
 use Rattle.cm_model.specs.declared.act.Act.{Act}
 use Rattle.cm_model.specs.declared.act.Act.TheVariants as act
 use Rattle.cm_model.specs.declared.message.Tag.{Tag}
 use Rattle.cm_model.specs.declared.message.Message.{Message}
-use Rattle.cm_model.specs.declared.message.Event.{Event}
 use Rattle.cm_model.specs.declared.message.Event.TheVariants.{Injected, Delivered}
 use Rattle.cm_model.specs.declared.found.Found.TheVariants as found
 use Rattle.cm_model.specs.Each.{each_from}
 use Rattle.cm_model.specs.Processor.{Processor, SEND, ACK, RECV, flag, field_value}
 use Rattle.cm_model.specs.Chip.{each_processor, processor_at}
-use Rattle.cm_model.specs.Array.{each_chip, chip_at}
+use Rattle.cm_model.specs.Array.{chip_at}
 use Rattle.cm_model.specs.Router.{leaver, after_dimension}
 use Rattle.cm_model.specs.Order.{queue}
 use Rattle.cm_model.specs.Letters.{senders, chip_after_injection, with_field, chip_after_delivery}
-use Rattle.cm_model.specs.Cycle.{log_at, after_injection, delivered_at, after_delivery}
-use Rattle.cm_model.specs.Machine.{Machine, buffer_at, opened, closed, run_of}
+use Rattle.cm_model.specs.Cycle.{after_injection, delivered_at, after_delivery}
+use Rattle.cm_model.specs.Machine.{Machine, opened, closed, run_of}
 use Rattle.cm_model.specs.Found.{found_in}
 
 -- ---- what the machines are made of
@@ -34,7 +33,7 @@ unfoldable sender : ℕ → ℕ → ℕ → Processor
 unfolding with_field
 sender rel proc payload = record {
   memory = with_field (with_field (with_field (replicate 4096 false) 3968 16 rel) 3984 4 proc) 3988 32 payload;
-  flags = slice_set no_flags SEND true
+  flags = slice_set no_flags SEND true;
 }
 
 -- a chip whose first so many processors send their numbers to one processor
@@ -58,7 +57,7 @@ full_nodes = record {
   chips = quiet_chip ∷ (quiet_chip ∷ []);
   buffers = (message_to 0 0 1 (tag_of 0 0 0) ∷ []) ∷ ((message_to 0 0 2 (tag_of 1 0 0) ∷ []) ∷ []);
   logs = [] ∷ ([] ∷ []);
-  clock = 1
+  clock = 1;
 }
 
 full_nodes_refer : (run_of 1 1 full_nodes (cycles 1)).buffers ≡ (message_to 1 0 2 (tag_of 1 0 0) ∷ []) ∷ ((message_to 1 0 1 (tag_of 0 0 0) ∷ []) ∷ [])
@@ -80,7 +79,7 @@ one_sender count rel = record {
   chips = sending_chip count rel 3 ∷ (quiet_chip ∷ (quiet_chip ∷ (quiet_chip ∷ [])));
   buffers = [] ∷ ([] ∷ ([] ∷ ([] ∷ [])));
   logs = [] ∷ ([] ∷ ([] ∷ ([] ∷ [])));
-  clock = 0
+  clock = 0;
 }
 
 one_wanders : (run_of 2 1 (one_sender 1 2) (cycles 1)).buffers ≡ [] ∷ ([] ∷ ([] ∷ ((message_to 1 3 0 (tag_of 0 0 0) ∷ []) ∷ [])))

@@ -1,5 +1,5 @@
 -- A run is the fold of steps told by the buffers alone; so it may be cut in two.
-use Rattle.std.proofs.Common.{◌≡◌, ℕ, zero, suc, ◌+◌, ◌<◌, ◌≤◌, ◌^◌, Bool, true, false, not, List, [], ◌∷◌, ◌++◌, length, map, refl, sym, ◌∙◌, ap, subst, arith}
+use Rattle.std.proofs.Common.{◌≡◌, ℕ, zero, suc, ◌+◌, ◌<◌, ◌≤◌, ◌^◌, not, List, [], ◌∷◌, ◌++◌, length, map, refl, sym, ◌∙◌, ap, subst, arith}
 use Rattle.std.proofs.lemmas.List.{length-map}
 use Rattle.std.proofs.lemmas.List.Concat.{flat_map-append}
 use Rattle.std.proofs.lemmas.Bool.Decides.{nat_tests}
@@ -7,14 +7,12 @@ use Rattle.std.specs.Prelude.{bit_xor}
 use Rattle.std.specs.List.{range_with_len}
 use Rattle.cm_model.specs.declared.act.Act.{Act}
 use Rattle.cm_model.specs.declared.act.Act.TheVariants as act
-use Rattle.cm_model.specs.declared.message.Message.{Message}
-use Rattle.cm_model.specs.declared.message.Event.{Event}
 use Rattle.cm_model.specs.declared.message.Event.TheVariants.{Injected, Delivered}
-use Rattle.cm_model.specs.Array.{each_chip, chip_at}
+use Rattle.cm_model.specs.Array.{chip_at}
 use Rattle.cm_model.specs.Router.{Since, Standing, standing_at, after_dimension}
 use Rattle.cm_model.specs.Order.{queue, buffer}
 use Rattle.cm_model.specs.Letters.{senders_taken, messages_sent, chip_after_injection, chip_after_delivery, can_receive}
-use Rattle.cm_model.specs.Steps.{Step, Instruct, Look, Inject, Cross, Deliver, steps_of, all_steps}
+use Rattle.cm_model.specs.Steps.{Step, Instruct, Cross, Deliver, steps_of, all_steps}
 use Rattle.cm_model.specs.Cycle.{State, log_at, taken_at, after_injection, delivered_at, after_delivery, is_delivered, state_after, state_after_all}
 use Rattle.cm_model.specs.Machine.{Machine, buffer_at, opened, closed, run_of}
 use Rattle.cm_model.specs.Buffers.{taken_in, sent_in, machine_after_injection, outgoing, buffer_after_dimension, machine_after_dimension, delivered, kept, delivered_in, machine_after_delivery, after_step, after_steps, after_act, after_acts}
@@ -22,9 +20,9 @@ use Rattle.cm_model.proofs.Each.{length-each_from, same_each_below}
 use Rattle.cm_model.proofs.Flips.{across_below}
 use Rattle.cm_model.proofs.Order.{IsRising, length-in_order}
 use Rattle.cm_model.proofs.Leaving.{buffer-after_dimension}
-use Rattle.cm_model.proofs.Readiness.{IsReady, AllBefore-later}
+use Rattle.cm_model.proofs.Readiness.{IsReady}
 use Rattle.cm_model.proofs.Routing.{due_time, IsReady-after_dimension}
-use Rattle.cm_model.proofs.Injecting.{cycle_begins, cycle_routes, with_new, buffer-with_new, IsReady-with_new}
+use Rattle.cm_model.proofs.Injecting.{cycle_begins, with_new, buffer-with_new, IsReady-with_new}
 use Rattle.cm_model.proofs.Delivering.{undelivered, delivered_at_is, buffer-undelivered, IsReady-filter, later_ready}
 use Rattle.cm_model.proofs.Opening.{IsReady-opened, closed-opened, buffer_at-closed}
 
@@ -46,13 +44,13 @@ closed-after_injection : (n cap : ℕ) (state : State) → IsReady (cycle_begins
 unfolding closed after_injection machine_after_injection
 closed-after_injection n cap state h =
     let chips = same_each_below [] (2 ^ n) (λ c. chip_after_injection (taken_at cap state c) (chip_at state.chips c)) (λ c. chip_after_injection (taken_in cap (closed n state) c) (chip_at state.chips c))
-        (λ c l. ap (λ ps. chip_after_injection ps (chip_at state.chips c)) (sym (taken_in-closed n cap state c l))) in
+    (λ c l. ap (λ ps. chip_after_injection ps (chip_at state.chips c)) (sym (taken_in-closed n cap state c l))) in
     let buffers = same_each_below [] (2 ^ n) (λ c. buffer c (with_new n cap state)) (λ c. buffer_at (closed n state).buffers c ++ sent_in n cap (closed n state) c)
-        (λ c l. buffer-with_new n cap state c h l
-            ∙ (ap (λ z. z ++ messages_sent n state.clock c (chip_at state.chips c) (taken_at cap state c)) (sym (buffer_at-closed n state c l))
-            ∙ ap (λ z. buffer_at (closed n state).buffers c ++ z) (sym (sent_in-closed n cap state c l)))) in
+    (λ c l. buffer-with_new n cap state c h l
+    ∙ (ap (λ z. z ++ messages_sent n state.clock c (chip_at state.chips c) (taken_at cap state c)) (sym (buffer_at-closed n state c l))
+    ∙ ap (λ z. buffer_at (closed n state).buffers c ++ z) (sym (sent_in-closed n cap state c l)))) in
     let logs = same_each_below [] (2 ^ n) (λ c. log_at state.logs c ++ map Injected (messages_sent n state.clock c (chip_at state.chips c) (taken_at cap state c))) (λ c. log_at state.logs c ++ map Injected (sent_in n cap (closed n state) c))
-        (λ c l. ap (λ z. log_at state.logs c ++ map Injected z) (sym (sent_in-closed n cap state c l))) in
+    (λ c l. ap (λ z. log_at state.logs c ++ map Injected z) (sym (sent_in-closed n cap state c l))) in
     λ i. record { chips = chips i; buffers = buffers i; logs = logs i; clock = state.clock }
 
 -- ---- a dimension
@@ -61,10 +59,10 @@ closed-after_dimension : (n cap d : ℕ) (state : State) → d < n → IsReady (
 unfolding closed machine_after_dimension
 closed-after_dimension n cap d state below h =
     let buffers = same_each_below [] (2 ^ n) (λ c. buffer c (after_dimension cap d state.cycle state.standing))
-        (λ c. buffer_after_dimension cap d (buffer_at (closed n state).buffers c) (outgoing cap d (buffer_at (closed n state).buffers (bit_xor c (2 ^ d)))))
-        (λ c l. buffer-after_dimension cap d state.cycle c state.standing h.before (h.rising c) (h.rising (bit_xor c (2 ^ d)))
-            ∙ (ap (λ z. buffer_after_dimension cap d z (outgoing cap d (buffer (bit_xor c (2 ^ d)) state.standing))) (sym (buffer_at-closed n state c l))
-            ∙ ap (λ z. buffer_after_dimension cap d (buffer_at (closed n state).buffers c) (outgoing cap d z)) (sym (buffer_at-closed n state (bit_xor c (2 ^ d)) (across_below n d c below l))))) in
+    (λ c. buffer_after_dimension cap d (buffer_at (closed n state).buffers c) (outgoing cap d (buffer_at (closed n state).buffers (bit_xor c (2 ^ d)))))
+    (λ c l. buffer-after_dimension cap d state.cycle c state.standing h.before (h.rising c) (h.rising (bit_xor c (2 ^ d)))
+    ∙ (ap (λ z. buffer_after_dimension cap d z (outgoing cap d (buffer (bit_xor c (2 ^ d)) state.standing))) (sym (buffer_at-closed n state c l))
+    ∙ ap (λ z. buffer_after_dimension cap d (buffer_at (closed n state).buffers c) (outgoing cap d z)) (sym (buffer_at-closed n state (bit_xor c (2 ^ d)) (across_below n d c below l))))) in
     λ i. record { chips = state.chips; buffers = buffers i; logs = state.logs; clock = state.clock }
 
 -- ---- delivery
@@ -78,11 +76,11 @@ unfolding closed after_delivery machine_after_delivery
 closed-after_delivery n top state h =
     let out : (c : ℕ) → c < 2 ^ n → delivered_at state.chips state.standing c ≡ delivered_in (closed n state) c = λ c l. sym (delivered_in-closed n state c (h.rising c) l) in
     let chips = same_each_below [] (2 ^ n) (λ c. chip_after_delivery (delivered_at state.chips state.standing c) (chip_at state.chips c)) (λ c. chip_after_delivery (delivered_in (closed n state) c) (chip_at state.chips c))
-        (λ c l. ap (λ ms. chip_after_delivery ms (chip_at state.chips c)) (out c l)) in
+    (λ c l. ap (λ ms. chip_after_delivery ms (chip_at state.chips c)) (out c l)) in
     let buffers = same_each_below [] (2 ^ n) (λ c. buffer c (undelivered state.chips state.standing)) (λ c. kept (can_receive (chip_at state.chips c)) [] (buffer_at (closed n state).buffers c))
-        (λ c l. buffer-undelivered state.chips state.standing c (h.rising c) ∙ ap (kept (can_receive (chip_at state.chips c)) []) (sym (buffer_at-closed n state c l))) in
+    (λ c l. buffer-undelivered state.chips state.standing c (h.rising c) ∙ ap (kept (can_receive (chip_at state.chips c)) []) (sym (buffer_at-closed n state c l))) in
     let logs = same_each_below [] (2 ^ n) (λ c. log_at state.logs c ++ map (λ m. Delivered m c) (delivered_at state.chips state.standing c)) (λ c. log_at state.logs c ++ map (λ m. Delivered m c) (delivered_in (closed n state) c))
-        (λ c l. ap (λ ms. log_at state.logs c ++ map (λ m. Delivered m c) ms) (out c l)) in
+    (λ c l. ap (λ ms. log_at state.logs c ++ map (λ m. Delivered m c) ms) (out c l)) in
     λ i. record { chips = chips i; buffers = buffers i; logs = logs i; clock = state.clock + 1 }
 
 -- ---- lists of steps
@@ -107,7 +105,7 @@ record IsDue (n d : ℕ) (state : State) (machine : Machine) : Type 0 where
 one_crossing : (n cap d : ℕ) (state : State) (machine : Machine) → d < n → IsDue n d state machine → IsDue n (d + 1) (state_after n cap state (Cross d)) (after_step n cap machine (Cross d))
 one_crossing n cap d state machine below h = record {
   ready = IsReady-after_dimension cap d state.cycle state.standing h.ready;
-  same = closed-after_dimension n cap d state below h.ready ∙ ap (machine_after_dimension n cap d) h.same
+  same = closed-after_dimension n cap d state below h.ready ∙ ap (machine_after_dimension n cap d) h.same;
 }
 
 all_crossings : (n cap a k : ℕ) (state : State) (machine : Machine) → a + k ≤ n → IsDue n a state machine →
@@ -116,7 +114,7 @@ all_crossings n cap a zero state machine h due = let e : a ≡ a + 0 = omega ari
 all_crossings n cap a (suc k) state machine h due =
     let e : (a + 1) + k ≡ a + suc k = omega arith in
     subst (λ (z : ℕ). IsDue n z (state_after_all n cap (state_after n cap state (Cross a)) (crossings (a + 1) k)) (after_steps n cap (after_step n cap machine (Cross a)) (crossings (a + 1) k))) e
-        (all_crossings n cap (a + 1) k (state_after n cap state (Cross a)) (after_step n cap machine (Cross a)) (omega arith) (one_crossing n cap a state machine (omega arith) due))
+    (all_crossings n cap (a + 1) k (state_after n cap state (Cross a)) (after_step n cap machine (Cross a)) (omega arith) (one_crossing n cap a state machine (omega arith) due))
 
 -- ---- acts
 
@@ -129,7 +127,7 @@ after_injection_due : (n cap : ℕ) (state : State) (machine : Machine) → IsRe
 unfolding after_injection
 after_injection_due n cap state machine h = record {
   ready = IsReady-with_new n cap state h.ready;
-  same = closed-after_injection n cap state h.ready ∙ ap (machine_after_injection n cap) h.same
+  same = closed-after_injection n cap state h.ready ∙ ap (machine_after_injection n cap) h.same;
 }
 
 after_delivery_rested : (n d : ℕ) (state : State) (machine : Machine) → IsDue n d state machine → IsRested n (after_delivery n state) (machine_after_delivery n machine)
@@ -137,7 +135,7 @@ unfolding after_delivery
 after_delivery_rested n d state machine h = record {
   ready = later_ready (undelivered state.chips state.standing) (due_time d state.cycle) (cycle_begins (state.cycle + 1)) (grind (arith, nat_tests))
       (IsReady-filter (λ r. not (is_delivered state.chips state.standing r)) (due_time d state.cycle) state.standing h.ready);
-  same = closed-after_delivery n (due_time d state.cycle) state h.ready ∙ ap (machine_after_delivery n) h.same
+  same = closed-after_delivery n (due_time d state.cycle) state h.ready ∙ ap (machine_after_delivery n) h.same;
 }
 
 -- the state after an act is the machine after it
@@ -147,11 +145,11 @@ after_act_rested n cap state machine (act.Nano nano) h = record { ready = h.read
 after_act_rested n cap state machine act.Sense h = h
 after_act_rested n cap state machine act.Cycle h =
     let routed : IsDue n (0 + n) (state_after_all n cap (after_injection n cap state) (crossings 0 n)) (after_steps n cap (machine_after_injection n cap machine) (crossings 0 n)) =
-        all_crossings n cap 0 n (after_injection n cap state) (machine_after_injection n cap machine) (omega arith) (after_injection_due n cap state machine h) in
+    all_crossings n cap 0 n (after_injection n cap state) (machine_after_injection n cap machine) (omega arith) (after_injection_due n cap state machine h) in
     let done : IsRested n (after_delivery n (state_after_all n cap (after_injection n cap state) (crossings 0 n))) (machine_after_delivery n (after_steps n cap (machine_after_injection n cap machine) (crossings 0 n))) =
-        after_delivery_rested n (0 + n) (state_after_all n cap (after_injection n cap state) (crossings 0 n)) (after_steps n cap (machine_after_injection n cap machine) (crossings 0 n)) routed in
+    after_delivery_rested n (0 + n) (state_after_all n cap (after_injection n cap state) (crossings 0 n)) (after_steps n cap (machine_after_injection n cap machine) (crossings 0 n)) routed in
     subst (λ (s : State). IsRested n s (after_act n cap machine act.Cycle)) (sym (state_after_all-append n cap (after_injection n cap state) (crossings 0 n) (Deliver ∷ [])))
-        (subst (λ (m : Machine). IsRested n (after_delivery n (state_after_all n cap (after_injection n cap state) (crossings 0 n))) m) (sym (after_steps-append n cap (machine_after_injection n cap machine) (crossings 0 n) (Deliver ∷ []))) done)
+    (subst (λ (m : Machine). IsRested n (after_delivery n (state_after_all n cap (after_injection n cap state) (crossings 0 n))) m) (sym (after_steps-append n cap (machine_after_injection n cap machine) (crossings 0 n) (Deliver ∷ []))) done)
 
 -- ---- runs
 
@@ -159,7 +157,7 @@ pub after_acts_rested : (n cap : ℕ) (state : State) (machine : Machine) (acts 
 after_acts_rested n cap state machine [] h = h
 after_acts_rested n cap state machine (a ∷ acts) h =
     subst (λ (s : State). IsRested n s (after_acts n cap (after_act n cap machine a) acts)) (sym (state_after_all-append n cap state (steps_of n a) (all_steps n acts)))
-        (after_acts_rested n cap (state_after_all n cap state (steps_of n a)) (after_act n cap machine a) acts (after_act_rested n cap state machine a h))
+    (after_acts_rested n cap (state_after_all n cap state (steps_of n a)) (after_act n cap machine a) acts (after_act_rested n cap state machine a h))
 
 -- the state of a machine that is handed over
 opened_rested : (n : ℕ) (machine : Machine) → length machine.buffers ≡ 2 ^ n → IsRested n (opened n machine) machine
@@ -181,7 +179,7 @@ unfolding run_of
 run_of-append n cap machine acts more =
     let half : State = state_after_all n cap (opened n machine) (all_steps n acts) in
     let rested : IsRested n half (closed n half) =
-        record { ready = (after_acts_rested n cap (opened n machine) (closed n (opened n machine)) acts (record { ready = IsReady-opened n machine; same = refl })).ready; same = refl } in
+    record { ready = (after_acts_rested n cap (opened n machine) (closed n (opened n machine)) acts (record { ready = IsReady-opened n machine; same = refl })).ready; same = refl } in
     ap (λ (steps : List Step). closed n (state_after_all n cap (opened n machine) steps)) (flat_map-append (steps_of n) acts more)
     ∙ (ap (closed n) (state_after_all-append n cap (opened n machine) (all_steps n acts) (all_steps n more))
     ∙ ((after_acts_rested n cap half (closed n half) more rested).same

@@ -1,14 +1,14 @@
 -- Every step keeps a chip whole: sixteen processors with all their bits and flags, and flag ZERO at 0.
-use Rattle.std.proofs.Common.{◌≡◌, ℕ, ◌+◌, ◌-◌, ◌<◌, ◌≤◌, ◌^◌, Bool, true, false, cond, eqb, List, [], ◌∷◌, ◌++◌, length, get_or, set, map, take, drop, Option, Some, None, refl, sym, ◌∙◌, ap, subst, ⊎_elim, arith}
-use Rattle.std.proofs.lemmas.Bool.{cases_Bool, cond_both, eqb-false}
+use Rattle.std.proofs.Common.{◌≡◌, ℕ, ◌+◌, ◌<◌, ◌≤◌, Bool, true, false, eqb, List, ◌++◌, length, get_or, set, take, drop, Option, Some, None, refl, sym, ◌∙◌, subst, arith}
+use Rattle.std.proofs.lemmas.Bool.{cond_both, eqb-false}
 use Rattle.std.proofs.lemmas.List.{length-set, length-append, length-take, length-drop, get_or-set_other}
 use Rattle.std.proofs.lemmas.List.FromFn.{length-map-range_with_len}
 use Rattle.std.specs.Prelude.{slice_set, if◌then◌else◌}
-use Rattle.std.specs.List.{find, range_with_len}
+use Rattle.std.specs.List.{find}
 use Rattle.cm_bits.specs.Bit.{bit}
 use Rattle.cm_model.specs.declared.act.Nano.{Nano}
 use Rattle.cm_model.specs.declared.message.Message.{Message}
-use Rattle.cm_model.specs.Processor.{Processor, ZERO, SEND, ACK, RECV, flag}
+use Rattle.cm_model.specs.Processor.{Processor, ZERO, SEND, ACK, RECV}
 use Rattle.cm_model.specs.Each.{each_from}
 use Rattle.cm_model.specs.Instruction.{holds, memory_output, flag_output, takes_incoming, flags_after, processor_after}
 use Rattle.cm_model.specs.Chip.{processor_at, no_processor, chip_after}
@@ -29,7 +29,7 @@ length-flags_after nano stored flags =
 zero-flags_after : (nano : Nano) (stored : Bool) (flags : List Bool) → get_or flags 8 false ≡ false → get_or (flags_after nano stored flags) 8 false ≡ false
 zero-flags_after nano stored flags h =
     cond_both (eqb nano.write ZERO) flags (slice_set flags nano.write stored) (λ fs. get_or fs 8 false ≡ false) (λ e. h)
-        (λ e. zero_stays flags nano.write stored (λ same. eqb-false nano.write ZERO e (sym same)) h)
+    (λ e. zero_stays flags nano.write stored (λ same. eqb-false nano.write ZERO e (sym same)) h)
 
 -- ---- one processor
 
@@ -39,22 +39,22 @@ IsProcessor-after nano incoming processor h =
     let stored : Bool = if takes_incoming nano then incoming else flag_output nano processor in
     let next : Processor = record { memory = slice_set processor.memory nano.a (memory_output nano processor); flags = flags_after nano stored processor.flags } in
     let kept : IsProcessor next = record {
-        memory = length-set processor.memory nano.a (memory_output nano processor) ∙ h.memory;
-        flags = length-flags_after nano stored processor.flags ∙ h.flags;
-        zero = zero-flags_after nano stored processor.flags h.zero
-      } in
+      memory = length-set processor.memory nano.a (memory_output nano processor) ∙ h.memory;
+      flags = length-flags_after nano stored processor.flags ∙ h.flags;
+      zero = zero-flags_after nano stored processor.flags h.zero;
+    } in
     cond_both (holds nano processor) next processor (λ (q : Processor). IsProcessor q) (λ e. kept) (λ e. h)
 
 pub IsProcessor-after_injection : (was_taken : Bool) (processor : Processor) → IsProcessor processor → IsProcessor (processor_after_injection was_taken processor)
 IsProcessor-after_injection true processor h = record {
   memory = h.memory;
   flags = length-set (slice_set processor.flags SEND false) ACK true ∙ (length-set processor.flags SEND false ∙ h.flags);
-  zero = zero_stays (slice_set processor.flags SEND false) ACK true (λ e. omega (arith, e)) (zero_stays processor.flags SEND false (λ e. omega (arith, e)) h.zero)
+  zero = zero_stays (slice_set processor.flags SEND false) ACK true (λ e. omega (arith, e)) (zero_stays processor.flags SEND false (λ e. omega (arith, e)) h.zero);
 }
 IsProcessor-after_injection false processor h = record {
   memory = h.memory;
   flags = length-set processor.flags ACK false ∙ h.flags;
-  zero = zero_stays processor.flags ACK false (λ e. omega (arith, e)) h.zero
+  zero = zero_stays processor.flags ACK false (λ e. omega (arith, e)) h.zero;
 }
 
 length-bits_of : (count number : ℕ) → length (bits_of count number) ≡ count
@@ -63,8 +63,14 @@ length-bits_of count number = length-map-range_with_len (bit number) 0 count
 pub length-with_field : (memory : List Bool) (at len number : ℕ) → at + len ≤ length memory → length (with_field memory at len number) ≡ length memory
 unfolding with_field
 length-with_field memory at len number h =
-    omega (arith, length-append (take at memory) (bits_of len number ++ drop (at + len) memory), length-append (bits_of len number) (drop (at + len) memory),
-        length-take at memory, length-bits_of len number, length-drop (at + len) memory)
+    omega (
+      arith,
+      length-append (take at memory) (bits_of len number ++ drop (at + len) memory),
+      length-append (bits_of len number) (drop (at + len) memory),
+      length-take at memory,
+      length-bits_of len number,
+      length-drop (at + len) memory,
+    )
 
 pub IsProcessor-after_delivery : (delivered : Option Message) (processor : Processor) → IsProcessor processor → IsProcessor (processor_after_delivery delivered processor)
 IsProcessor-after_delivery None processor h = h
@@ -73,7 +79,7 @@ IsProcessor-after_delivery (Some m) processor h =
     record {
       memory = length-with_field processor.memory 4032 32 m.payload (omega arith) ∙ long;
       flags = length-set processor.flags RECV true ∙ h.flags;
-      zero = zero_stays processor.flags RECV true (λ e. omega (arith, e)) h.zero
+      zero = zero_stays processor.flags RECV true (λ e. omega (arith, e)) h.zero;
     }
 
 -- ---- one chip
@@ -82,7 +88,7 @@ IsProcessor-after_delivery (Some m) processor h =
 made_chip : (f : ℕ → Processor) → ((p : ℕ) → p < 16 → IsProcessor (f p)) → IsChip (each_from 0 16 f)
 made_chip f h = record {
   count = length-each_from 0 16 f;
-  each = λ p l. subst (λ (q : Processor). IsProcessor q) (sym (get_or-each_below 16 f p no_processor l)) (h p l)
+  each = λ p l. subst (λ (q : Processor). IsProcessor q) (sym (get_or-each_below 16 f p no_processor l)) (h p l);
 }
 
 pub IsChip-after : (nano : Nano) (incoming : ℕ → Bool) (chip : List Processor) → IsChip chip → IsChip (chip_after nano incoming chip)

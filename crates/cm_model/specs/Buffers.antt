@@ -4,7 +4,6 @@ use Rattle.std.specs.List.{position, remove}
 use Rattle.std.specs.Option.{option_or, option_map, option_to_list}
 use Rattle.cm_model.specs.declared.act.Act.{Act}
 use Rattle.cm_model.specs.declared.message.Message.{Message}
-use Rattle.cm_model.specs.declared.message.Event.{Event}
 use Rattle.cm_model.specs.declared.message.Event.TheVariants.{Injected, Delivered}
 use Rattle.cm_model.specs.Array.{each_chip, chip_at, after_nano}
 use Rattle.cm_model.specs.Router.{has_to_cross, message_across}
@@ -25,7 +24,7 @@ unfoldable pub machine_after_injection : ℕ → ℕ → Machine → Machine
 machine_after_injection n cap machine = record machine {
   chips = each_chip n (λ c. chip_after_injection (taken_in cap machine c) (chip_at machine.chips c));
   buffers = each_chip n (λ c. buffer_at machine.buffers c ++ sent_in n cap machine c);
-  logs = each_chip n (λ c. log_at machine.logs c ++ map Injected (sent_in n cap machine c))
+  logs = each_chip n (λ c. log_at machine.logs c ++ map Injected (sent_in n cap machine c));
 }
 
 -- ---- a dimension
@@ -58,7 +57,7 @@ buffer_after_dimension cap d here coming = without here (leaving_place cap d her
 
 unfoldable pub machine_after_dimension : ℕ → ℕ → ℕ → Machine → Machine
 machine_after_dimension n cap d machine = record machine {
-  buffers = each_chip n (λ c. buffer_after_dimension cap d (buffer_at machine.buffers c) (outgoing cap d (buffer_at machine.buffers (bit_xor c (2 ^ d)))))
+  buffers = each_chip n (λ c. buffer_after_dimension cap d (buffer_at machine.buffers c) (outgoing cap d (buffer_at machine.buffers (bit_xor c (2 ^ d)))));
 }
 
 -- ---- delivery
@@ -91,7 +90,7 @@ machine_after_delivery n machine = record {
   chips = each_chip n (λ c. chip_after_delivery (delivered_in machine c) (chip_at machine.chips c));
   buffers = each_chip n (λ c. kept (can_receive (chip_at machine.chips c)) [] (buffer_at machine.buffers c));
   logs = each_chip n (λ c. log_at machine.logs c ++ map (λ m. Delivered m c) (delivered_in machine c));
-  clock = machine.clock + 1
+  clock = machine.clock + 1;
 }
 
 -- ---- all steps

@@ -1,5 +1,5 @@
 -- What injection takes out of the memory of a chip's processors, and what delivery leaves there: where they stand is ours.
-use Rattle.std.specs.Prelude.{ℕ, ◌+◌, ◌-◌, ◌^◌, ◌%◌, ◌==◌, ◌&&◌, Bool, true, false, not, List, ◌++◌, Option, Some, None, min, map, take, drop, slice_set, if◌then◌else◌}
+use Rattle.std.specs.Prelude.{ℕ, ◌+◌, ◌-◌, ◌^◌, ◌%◌, ◌==◌, Bool, true, false, not, List, ◌++◌, Option, Some, None, min, map, take, drop, slice_set, if◌then◌else◌}
 use Rattle.std.specs.List.{filter, find, list_any, range_with_len}
 use Rattle.cm_bits.specs.Bit.{bit}
 use Rattle.cm_model.specs.declared.message.Message.{Message}
@@ -22,7 +22,7 @@ message_sent n clock c chip p = record {
   rel = field_value (processor_at chip p) 3968 16 % 2 ^ n;
   proc = field_value (processor_at chip p) 3984 4;
   payload = field_value (processor_at chip p) 3988 32;
-  tag = record { chip = c; proc = p; birth = clock }
+  tag = record { chip = c; proc = p; birth = clock };
 }
 
 abbrev pub messages_sent : ℕ → ℕ → ℕ → List Processor → List ℕ → List Message
@@ -34,7 +34,7 @@ is_among p ps = list_any (λ q. q == p) ps
 -- a processor after injection: SEND falls where its message was taken, and ACK tells whether it was
 abbrev pub processor_after_injection : Bool → Processor → Processor
 processor_after_injection was_taken processor = record processor {
-  flags = slice_set (if was_taken then slice_set processor.flags SEND false else processor.flags) ACK was_taken
+  flags = slice_set (if was_taken then slice_set processor.flags SEND false else processor.flags) ACK was_taken;
 }
 
 -- the chip after the messages of these processors were taken
@@ -67,7 +67,7 @@ abbrev pub processor_after_delivery : Option Message → Processor → Processor
 processor_after_delivery None processor = processor
 processor_after_delivery (Some m) processor = record {
   memory = with_field processor.memory 4032 32 m.payload;
-  flags = slice_set processor.flags RECV true
+  flags = slice_set processor.flags RECV true;
 }
 
 -- the chip after these messages were delivered, at most one to each processor

@@ -27,7 +27,7 @@ blank_machine n = record {
   chips = each_chip n (λ c. blank_chip);
   buffers = each_chip n (λ c. []);
   logs = each_chip n (λ c. []);
-  clock = 0
+  clock = 0;
 }
 
 abbrev pub buffer_at : List (List Message) → ℕ → List Message
@@ -45,7 +45,7 @@ opened n machine = record {
   standing = flat_map (λ c. records_from c 0 (buffer_at machine.buffers c)) (range_with_len 0 (2 ^ n));
   logs = machine.logs;
   clock = machine.clock;
-  cycle = 1
+  cycle = 1;
 }
 
 -- the machine of a state: a chip's buffer is its messages in order of since
@@ -54,7 +54,7 @@ closed n state = record {
   chips = state.chips;
   buffers = each_chip n (λ c. buffer c state.standing);
   logs = state.logs;
-  clock = state.clock
+  clock = state.clock;
 }
 
 -- the machine after a list of acts, one after another, on a cube of n dimensions whose routers have room for cap messages each

@@ -91,7 +91,7 @@ abbrev pub record_across : ℕ → ℕ → Standing → Standing
 record_across d cycle r = record {
   message = message_across d r.message;
   chip = bit_xor r.chip (2 ^ d);
-  since = record { cycle = cycle; turn = 16 + d }
+  since = record { cycle = cycle; turn = 16 + d };
 }
 
 -- the set after the dimension step: each leaver crosses, the others stay

@@ -1,5 +1,5 @@
 -- The steps of a run, one after another: a petit cycle crosses each dimension once, Hillis 1985; their order is ours.
-use Rattle.std.specs.Prelude.{ℕ, List, [], ◌∷◌, ◌++◌, map}
+use Rattle.std.specs.Prelude.{ℕ, ◌<◌, List, [], ◌∷◌, ◌++◌, map}
 use Rattle.std.specs.List.{flat_map, range_with_len}
 use Rattle.cm_model.specs.declared.act.Nano.{Nano}
 use Rattle.cm_model.specs.declared.act.Act.{Act}
@@ -16,6 +16,14 @@ pub data Step : Type 0 where
   Cross : ℕ → Step
   -- messages that have arrived go to their processors
   Deliver : Step
+
+-- a step on a cube of n dimensions, which has no others to cross
+abbrev pub IsStep : ℕ → Step → Type 0
+IsStep n (Instruct nano) = Unit {0}
+IsStep n Look = Unit {0}
+IsStep n Inject = Unit {0}
+IsStep n (Cross d) = d < n
+IsStep n Deliver = Unit {0}
 
 -- the steps of an act on a cube of n dimensions
 abbrev pub steps_of : ℕ → Act → List Step
