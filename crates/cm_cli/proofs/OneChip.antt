@@ -12,9 +12,9 @@ use Rattle.cm_model.specs.Processor.{Processor}
 use Rattle.cm_model.specs.Instruction.{flag_output, takes_incoming}
 use Rattle.cm_model.specs.Chip.{IsPlane, blank_chip, chip_after, processor_at}
 use Rattle.cm_model.specs.Array.{incoming, after_nano}
-use Rattle.cm_model.specs.Machine.{Machine, blank_machine, after_act, run_of}
+use Rattle.cm_model.specs.Machine.{Machine, blank_machine, run_of, opened, closed}
 use Rattle.cm_model.proofs.Incoming.{AreFlagOutputs, over_news, along_chain, same_chip}
-use Rattle.cm_model.proofs.Runs.{run_of-nil, run_of_more}
+use Rattle.cm_model.proofs.Runs.{run_of_more}
 use Rattle.cm_daisy.specs.Chain.{chain_bit}
 use Rattle.cm_news.specs.Moves.{bit_of_place}
 use Rattle.cm_cli.specs.Session.{chip_left}
@@ -51,7 +51,7 @@ abbrev pub chips_after : List Instruction → ℕ → List (List Processor)
 chips_after nanos count = (run_of 0 7 (blank_machine 0) (map Nano (take count nanos))).chips
 
 pub run-begun : (chip : List Processor) (nanos : List Instruction) → chip ≡ blank_chip → chip ∷ [] ≡ chips_after nanos 0
-unfolding run_of blank_machine each_from
+unfolding run_of blank_machine each_from opened closed
 run-begun chip nanos blank = ap (λ (v : List Processor). v ∷ []) blank
 
 -- one instruction more

@@ -1,6 +1,25 @@
 pub mod Bits
 pub mod Each
+pub mod Order
+pub mod Flips
+pub mod Crossing
+pub mod Leaving
+pub mod Readiness
+pub mod Routing
+pub mod Injecting
+pub mod Delivering
+pub mod Opening
+pub mod Runs
+mod RouterFacts
+pub mod Rooms
 pub mod Torus
 pub mod Values
 pub mod Incoming
-pub mod Runs
+pub mod Counting
+pub mod Conserving
+pub mod Accounting
+pub mod Tags
+pub mod Wholes
+pub mod Messages
+pub mod Keeping
+pub mod Choosing

@@ -5,5 +5,15 @@ pub mod Instruction
 pub mod Chip
 pub mod Whole
 pub mod Array
+pub mod Router
+pub mod Order
+pub mod Letters
+pub mod Steps
+pub mod Cycle
 pub mod Machine
+pub mod Buffers
+pub mod Account
+pub mod Found
+pub mod Keeping
 pub mod Laws
+pub mod Leaver

@@ -1,11 +1,15 @@
 -- A machine as contracts see it, and a run of acts: the order of a run is ours.
-use Rattle.std.specs.Prelude.{ℕ, ◌+◌, List, [], ◌∷◌}
+use Rattle.std.specs.Prelude.{ℕ, ◌+◌, ◌^◌, List, [], ◌∷◌, slice_index_or}
+use Rattle.std.specs.List.{flat_map, range_with_len}
 use Rattle.cm_model.specs.declared.act.Act.{Act}
-use Rattle.cm_model.specs.declared.act.Act.TheVariants.{Nano}
 use Rattle.cm_model.specs.declared.message.Message.{Message}
 use Rattle.cm_model.specs.declared.message.Event.{Event}
 use Rattle.cm_model.specs.Chip.{blank_chip}
-use Rattle.cm_model.specs.Array.{Chips, each_chip, after_nano}
+use Rattle.cm_model.specs.Array.{Chips, each_chip}
+use Rattle.cm_model.specs.Router.{Standing}
+use Rattle.cm_model.specs.Order.{buffer}
+use Rattle.cm_model.specs.Steps.{all_steps}
+use Rattle.cm_model.specs.Cycle.{State, state_after_all}
 
 pub record Machine : Type 0 where
   -- by number
@@ -23,14 +27,40 @@ blank_machine n = record {
   chips = each_chip n (λ c. blank_chip);
   buffers = each_chip n (λ c. []);
   logs = each_chip n (λ c. []);
-  clock = 0
+  clock = 0;
 }
 
--- on a cube of n dimensions, whose routers have room for cap messages each
-abbrev pub after_act : ℕ → ℕ → Machine → Act → Machine
-after_act n cap machine (Nano nano) = record machine { chips = after_nano n nano machine.chips }
+abbrev pub buffer_at : List (List Message) → ℕ → List Message
+buffer_at buffers c = slice_index_or buffers c []
 
--- the machine after a list of acts, one after another
+-- the records of a chip that is handed over, from this place in its buffer on: since is the place
+abbrev pub records_from : ℕ → ℕ → List Message → List Standing
+records_from c i [] = []
+records_from c i (m ∷ ms) = record { message = m; chip = c; since = record { cycle = 0; turn = i } } ∷ records_from c (i + 1) ms
+
+-- a machine that is handed over, with the set of its standing messages
+unfoldable pub opened : ℕ → Machine → State
+opened n machine = record {
+  chips = machine.chips;
+  standing = flat_map (λ c. records_from c 0 (buffer_at machine.buffers c)) (range_with_len 0 (2 ^ n));
+  logs = machine.logs;
+  clock = machine.clock;
+  cycle = 1;
+}
+
+-- the machine of a state: a chip's buffer is its messages in order of since
+unfoldable pub closed : ℕ → State → Machine
+closed n state = record {
+  chips = state.chips;
+  buffers = each_chip n (λ c. buffer c state.standing);
+  logs = state.logs;
+  clock = state.clock;
+}
+
+-- the machine after a list of acts, one after another, on a cube of n dimensions whose routers have room for cap messages each
 unfoldable pub run_of : ℕ → ℕ → Machine → List Act → Machine
-run_of n cap machine [] = machine
-run_of n cap machine (act ∷ acts) = run_of n cap (after_act n cap machine act) acts
+run_of n cap machine acts = closed n (state_after_all n cap (opened n machine) (all_steps n acts))
+
+-- its logs
+abbrev pub log_of : ℕ → ℕ → Machine → List Act → List (List Event)
+log_of n cap machine acts = (run_of n cap machine acts).logs

@@ -24,6 +24,18 @@ NEWS = 10
 abbrev pub DAISY : ℕ
 DAISY = 11
 
+-- the flag that asks the router to take a message
+abbrev pub SEND : ℕ
+SEND = 12
+
+-- the flag that tells that a message was taken
+abbrev pub ACK : ℕ
+ACK = 13
+
+-- the flag that tells that a message was delivered, and keeps out the next
+abbrev pub RECV : ℕ
+RECV = 14
+
 abbrev pub memory_bit : Processor → ℕ → Bool
 memory_bit processor address = slice_index_or processor.memory address false
 

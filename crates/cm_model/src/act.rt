@@ -24,5 +24,10 @@ pub struct Nano {
 /// What the machine does at one place of a program.
 #[derive(Clone, Copy, Debug, PartialEq, Eq)]
 pub enum Act {
+    /// One instruction in every processor.
     Nano(Nano),
+    /// A look at the global wire, which changes nothing.
+    Sense,
+    /// One petit cycle of the router.
+    Cycle,
 }

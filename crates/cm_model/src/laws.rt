@@ -1,9 +1,68 @@
 //! Laws over the definitions: what each function is named for holds, at every size of the machine.
 
-ghost use Rattle.cm_model.specs.Laws.{NeighboursLeadBack};
+ghost use Rattle.cm_model.specs.Laws.{NeighboursLeadBack, RunsCanBeCut, RunsAreToldByBuffers, LeaversHaveTheirSince, LeaversStandAtTheirPlace, TargetsAreKept, RoomIsKept, LogsOnlyGrow, AccountIsConserved, InstructionsKeepTheAccount, TagsStayApart, MachinesAreKept, RunsKeepMachines};
 
 /// A step on the grid and one back end where they began.
 pub fn neighbours_lead_back()
     ensures { NeighboursLeadBack }
-{
-}
+{}
+
+/// A run cut in two gives the same buffers and logs.
+pub fn runs_can_be_cut()
+    ensures { RunsCanBeCut }
+{}
+
+/// A run on the set of messages is the fold of its acts told by the buffers alone.
+pub fn runs_are_told_by_buffers()
+    ensures { RunsAreToldByBuffers }
+{}
+
+/// Who leaves a chip has the least since of those that have to cross, or else, at a full chip, the greatest.
+pub fn leavers_have_their_since()
+    ensures { LeaversHaveTheirSince }
+{}
+
+/// Who leaves a chip is the first message of its buffer that has to cross, or else, if it is full, the last.
+pub fn leavers_stand_at_their_place()
+    ensures { LeaversStandAtTheirPlace }
+{}
+
+/// A dimension step keeps every target.
+pub fn targets_are_kept()
+    ensures { TargetsAreKept }
+{}
+
+/// No buffer overflows.
+pub fn room_is_kept()
+    ensures { RoomIsKept }
+{}
+
+/// A run only adds to the logs.
+pub fn logs_only_grow()
+    ensures { LogsOnlyGrow }
+{}
+
+/// No message is lost, altered or made twice: a run adds to the account what was injected, and nothing else.
+pub fn account_is_conserved()
+    ensures { AccountIsConserved }
+{}
+
+/// An instruction leaves the account as it is.
+pub fn instructions_keep_the_account()
+    ensures { InstructionsKeepTheAccount }
+{}
+
+/// Tags that differ go on to differ, and births stay below the counter.
+pub fn tags_stay_apart()
+    ensures { TagsStayApart }
+{}
+
+/// Each act keeps what every machine keeps.
+pub fn machines_are_kept()
+    ensures { MachinesAreKept }
+{}
+
+/// A run keeps what every machine keeps.
+pub fn runs_keep_machines()
+    ensures { RunsKeepMachines }
+{}

@@ -7,7 +7,7 @@ pub fn inside_and_edge_are_all()
     ensures { InsideAndEdgeAreAll }
 {}
 
-/// What comes in at a chip is what stays of its own bits and one edge of one other chip.
+/// What comes in at a chip is what `inside` keeps of its own bits and one edge of one other chip.
 pub fn steps_are_the_torus()
     ensures { StepsAreTheTorus }
 {}

@@ -1,0 +1,51 @@
+-- The account of a machine: where each message is bound or was delivered, with its tag and payload. Ours.
+use Rattle.std.specs.Prelude.{◌≡◌, ℕ, ◌^◌, Bool, List, ◌++◌, Option, Some, None, length, drop, map}
+use Rattle.std.specs.List.{flat_map, filter_map, count_by, range_with_len}
+use Rattle.cm_bits.specs.declared.place.Place.{Place}
+use Rattle.cm_model.specs.declared.message.Message.{Message}
+use Rattle.cm_model.specs.declared.message.Tag.{Tag}
+use Rattle.cm_model.specs.declared.message.Event.{Event}
+use Rattle.cm_model.specs.declared.message.Event.TheVariants.{Injected, Delivered}
+use Rattle.cm_model.specs.Router.{target_from}
+use Rattle.cm_model.specs.Cycle.{log_at}
+use Rattle.cm_model.specs.Machine.{Machine, buffer_at}
+
+-- one line of the account
+pub record Triple : Type 0 where
+  pub tag : Tag
+  pub target : Place
+  pub payload : ℕ
+
+-- of a message that stands at a chip
+abbrev pub standing_triple : ℕ → Message → Triple
+standing_triple c m = record { tag = m.tag; target = target_from c m; payload = m.payload }
+
+-- of an event, if it tells of a delivery
+abbrev pub delivered_triple : Event → Option Triple
+delivered_triple (Injected m) = None
+delivered_triple (Delivered m c) = Some (record { tag = m.tag; target = record { chip = c; proc = m.proc }; payload = m.payload })
+
+-- of an event of a chip's log, if it tells of an injection there
+abbrev pub injected_triple : ℕ → Event → Option Triple
+injected_triple c (Injected m) = Some (standing_triple c m)
+injected_triple c (Delivered m d) = None
+
+-- the lines of one chip: of all that stands there, and of all that was delivered there
+abbrev pub account_at : Machine → ℕ → List Triple
+account_at machine c = map (standing_triple c) (buffer_at machine.buffers c) ++ filter_map delivered_triple (log_at machine.logs c)
+
+-- the account, as a list of which only the elements count, and not their order
+unfoldable pub account : ℕ → Machine → List Triple
+account n machine = flat_map (account_at machine) (range_with_len 0 (2 ^ n))
+
+-- the events of a chip that a machine has more than an earlier one
+abbrev pub new_events : Machine → Machine → ℕ → List Event
+new_events before after c = drop (length (log_at before.logs c)) (log_at after.logs c)
+
+-- the lines of the messages injected since an earlier machine
+unfoldable pub newly_injected : ℕ → Machine → Machine → List Triple
+newly_injected n before after = flat_map (λ c. filter_map (injected_triple c) (new_events before after c)) (range_with_len 0 (2 ^ n))
+
+-- the two lists have as many lines of every kind, in whatever order
+abbrev pub SameLines : List Triple → List Triple → Type 0
+SameLines xs ys = (kind : Triple → Bool) → count_by kind xs ≡ count_by kind ys

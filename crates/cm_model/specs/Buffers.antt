@@ -1,0 +1,116 @@
+-- The same steps told by the buffers alone, chip by chip: this is what a router's code keeps.
+use Rattle.std.specs.Prelude.{ℕ, ◌+◌, ◌-◌, ◌^◌, ◌==◌, ◌&&◌, Bool, not, List, [], ◌∷◌, ◌++◌, Option, Some, None, length, map, slice_get, bit_xor, if◌then◌else◌}
+use Rattle.std.specs.List.{position, remove}
+use Rattle.std.specs.Option.{option_or, option_map, option_to_list}
+use Rattle.cm_model.specs.declared.act.Act.{Act}
+use Rattle.cm_model.specs.declared.message.Message.{Message}
+use Rattle.cm_model.specs.declared.message.Event.TheVariants.{Injected, Delivered}
+use Rattle.cm_model.specs.Array.{each_chip, chip_at, after_nano}
+use Rattle.cm_model.specs.Router.{has_to_cross, message_across}
+use Rattle.cm_model.specs.Letters.{senders_taken, messages_sent, is_among, chip_after_injection, can_receive, has_arrived, chip_after_delivery}
+use Rattle.cm_model.specs.Steps.{Step, Instruct, Look, Inject, Cross, Deliver, steps_of}
+use Rattle.cm_model.specs.Cycle.{log_at}
+use Rattle.cm_model.specs.Machine.{Machine, buffer_at}
+
+-- ---- injection
+
+abbrev pub taken_in : ℕ → Machine → ℕ → List ℕ
+taken_in cap machine c = senders_taken cap (length (buffer_at machine.buffers c)) (chip_at machine.chips c)
+
+abbrev pub sent_in : ℕ → ℕ → Machine → ℕ → List Message
+sent_in n cap machine c = messages_sent n machine.clock c (chip_at machine.chips c) (taken_in cap machine c)
+
+unfoldable pub machine_after_injection : ℕ → ℕ → Machine → Machine
+machine_after_injection n cap machine = record machine {
+  chips = each_chip n (λ c. chip_after_injection (taken_in cap machine c) (chip_at machine.chips c));
+  buffers = each_chip n (λ c. buffer_at machine.buffers c ++ sent_in n cap machine c);
+  logs = each_chip n (λ c. log_at machine.logs c ++ map Injected (sent_in n cap machine c));
+}
+
+-- ---- a dimension
+
+-- the place of who is referred: at a full buffer the last, else nobody
+abbrev pub referred_place : ℕ → List Message → Option ℕ
+referred_place cap here = if length here == cap then Some (length here - 1) else None
+
+-- the place of who leaves a buffer in dimension d: the first that has to cross it, else who is referred
+unfoldable pub leaving_place : ℕ → ℕ → List Message → Option ℕ
+leaving_place cap d here = option_or (position (has_to_cross d) here) (referred_place cap here)
+
+-- the element at a place, if a place is given
+abbrev pub element_at : {X : Type 0} → List X → Option ℕ → Option X
+element_at xs None = None
+element_at xs (Some i) = slice_get xs i
+
+-- the list without the element at a place, if a place is given
+abbrev pub without : {X : Type 0} → List X → Option ℕ → List X
+without xs None = xs
+without xs (Some i) = remove xs i
+
+-- what a buffer sends across dimension d
+abbrev pub outgoing : ℕ → ℕ → List Message → Option Message
+outgoing cap d here = option_map (message_across d) (element_at here (leaving_place cap d here))
+
+-- a buffer after the dimension step: who leaves is gone, and what comes stands last
+unfoldable pub buffer_after_dimension : ℕ → ℕ → List Message → Option Message → List Message
+buffer_after_dimension cap d here coming = without here (leaving_place cap d here) ++ option_to_list coming
+
+unfoldable pub machine_after_dimension : ℕ → ℕ → ℕ → Machine → Machine
+machine_after_dimension n cap d machine = record machine {
+  buffers = each_chip n (λ c. buffer_after_dimension cap d (buffer_at machine.buffers c) (outgoing cap d (buffer_at machine.buffers (bit_xor c (2 ^ d)))));
+}
+
+-- ---- delivery
+
+-- it has arrived, its processor can receive, and none has arrived for that processor before it
+abbrev pub is_accepted : (ℕ → Bool) → List ℕ → Message → Bool
+is_accepted receives before m = has_arrived m && (receives m.proc && not (is_among m.proc before))
+
+-- the processors for which messages have arrived, one message on
+abbrev pub arrived_for : List ℕ → Message → List ℕ
+arrived_for before m = if has_arrived m then m.proc ∷ before else before
+
+-- what a buffer delivers, where messages for these processors have arrived before
+abbrev pub delivered : (ℕ → Bool) → List ℕ → List Message → List Message
+delivered receives before [] = []
+delivered receives before (m ∷ ms) =
+    if is_accepted receives before m then m ∷ delivered receives (arrived_for before m) ms else delivered receives (arrived_for before m) ms
+
+-- what it keeps
+abbrev pub kept : (ℕ → Bool) → List ℕ → List Message → List Message
+kept receives before [] = []
+kept receives before (m ∷ ms) =
+    if is_accepted receives before m then kept receives (arrived_for before m) ms else m ∷ kept receives (arrived_for before m) ms
+
+abbrev pub delivered_in : Machine → ℕ → List Message
+delivered_in machine c = delivered (can_receive (chip_at machine.chips c)) [] (buffer_at machine.buffers c)
+
+unfoldable pub machine_after_delivery : ℕ → Machine → Machine
+machine_after_delivery n machine = record {
+  chips = each_chip n (λ c. chip_after_delivery (delivered_in machine c) (chip_at machine.chips c));
+  buffers = each_chip n (λ c. kept (can_receive (chip_at machine.chips c)) [] (buffer_at machine.buffers c));
+  logs = each_chip n (λ c. log_at machine.logs c ++ map (λ m. Delivered m c) (delivered_in machine c));
+  clock = machine.clock + 1;
+}
+
+-- ---- all steps
+
+abbrev pub after_step : ℕ → ℕ → Machine → Step → Machine
+after_step n cap machine (Instruct nano) = record machine { chips = after_nano n nano machine.chips }
+after_step n cap machine Look = machine
+after_step n cap machine Inject = machine_after_injection n cap machine
+after_step n cap machine (Cross d) = machine_after_dimension n cap d machine
+after_step n cap machine Deliver = machine_after_delivery n machine
+
+abbrev pub after_steps : ℕ → ℕ → Machine → List Step → Machine
+after_steps n cap machine [] = machine
+after_steps n cap machine (step ∷ steps) = after_steps n cap (after_step n cap machine step) steps
+
+-- the machine after one act
+abbrev pub after_act : ℕ → ℕ → Machine → Act → Machine
+after_act n cap machine act = after_steps n cap machine (steps_of n act)
+
+-- the machine after a list of acts
+abbrev pub after_acts : ℕ → ℕ → Machine → List Act → Machine
+after_acts n cap machine [] = machine
+after_acts n cap machine (act ∷ acts) = after_acts n cap (after_act n cap machine act) acts

@@ -1,0 +1,36 @@
+-- Where the message of a tag is: ours.
+use Rattle.std.specs.Prelude.{ℕ, ◌^◌, ◌==◌, ◌&&◌, Bool, List, [], ◌∷◌, Option, Some, None, if◌then◌else◌}
+use Rattle.std.specs.List.{flat_map, filter_map, find, list_any, range_with_len}
+use Rattle.cm_bits.specs.declared.place.Place.{Place}
+use Rattle.cm_model.specs.declared.message.Tag.{Tag}
+use Rattle.cm_model.specs.declared.message.Event.{Event}
+use Rattle.cm_model.specs.declared.message.Event.TheVariants.{Injected, Delivered}
+use Rattle.cm_model.specs.declared.found.Found.{Found}
+use Rattle.cm_model.specs.declared.found.Found.TheVariants as found
+use Rattle.cm_model.specs.Cycle.{log_at}
+use Rattle.cm_model.specs.Machine.{Machine, buffer_at}
+
+abbrev pub same_tag : Tag → Tag → Bool
+same_tag s t = s.chip == t.chip && (s.proc == t.proc && s.birth == t.birth)
+
+-- the chip in whose router a message of this tag stands
+abbrev pub router_of : ℕ → Machine → Tag → Option ℕ
+router_of n machine tag = find (λ c. list_any (λ m. same_tag m.tag tag) (buffer_at machine.buffers c)) (range_with_len 0 (2 ^ n))
+
+-- the place of an event, if it tells that a message of this tag was delivered
+abbrev pub delivery_place : Tag → Event → Option Place
+delivery_place tag (Injected m) = None
+delivery_place tag (Delivered m c) = if same_tag m.tag tag then Some (record { chip = c; proc = m.proc }) else None
+
+-- where messages of this tag were delivered
+abbrev pub delivery_places : ℕ → Machine → Tag → List Place
+delivery_places n machine tag = flat_map (λ c. filter_map (delivery_place tag) (log_at machine.logs c)) (range_with_len 0 (2 ^ n))
+
+abbrev pub found_from : Option ℕ → List Place → Found
+found_from (Some c) places = found.Router c
+found_from None (place ∷ places) = found.Delivered place.chip place.proc
+found_from None [] = found.Unknown
+
+-- where the message of a tag is: in a router, or else delivered, or else nowhere
+unfoldable pub found_in : ℕ → Machine → Tag → Found
+found_in n machine tag = found_from (router_of n machine tag) (delivery_places n machine tag)

@@ -1,0 +1,45 @@
+-- What every machine keeps: counts, bounds, room, births and tags. Ours.
+use Rattle.std.specs.Prelude.{◌≡◌, ℕ, ◌<◌, ◌≤◌, ◌^◌, length}
+use Rattle.std.specs.List.{All, count_by}
+use Rattle.cm_model.specs.declared.message.Message.{Message}
+use Rattle.cm_model.specs.declared.message.Tag.{Tag}
+use Rattle.cm_model.specs.Whole.{IsChip}
+use Rattle.cm_model.specs.Array.{chip_at}
+use Rattle.cm_model.specs.Machine.{Machine, buffer_at}
+use Rattle.cm_model.specs.Account.{account}
+use Rattle.cm_model.specs.Found.{same_tag}
+
+-- a message of a cube of n dimensions
+pub record IsMessage (n : ℕ) (m : Message) : Type 0 where
+  pub rel : m.rel < 2 ^ n
+  pub proc : m.proc < 16
+  pub payload : m.payload < 2 ^ 32
+  pub origin : m.tag.chip < 2 ^ n
+  pub sender : m.tag.proc < 16
+
+-- no buffer has more than cap messages
+abbrev pub HasRoom : ℕ → ℕ → Machine → Type 0
+HasRoom n cap machine = (c : ℕ) → c < 2 ^ n → length (buffer_at machine.buffers c) ≤ cap
+
+-- all messages in its buffers are of its cube
+abbrev pub HasMessages : ℕ → Machine → Type 0
+HasMessages n machine = (c : ℕ) → c < 2 ^ n → All (IsMessage n) (buffer_at machine.buffers c)
+
+-- each message of the account was born before this petit cycle
+abbrev pub BornBefore : ℕ → Machine → Type 0
+BornBefore n machine = All (λ triple. triple.tag.birth < machine.clock) (account n machine)
+
+-- no tag stands twice in the account
+abbrev pub HasTagsOnce : ℕ → Machine → Type 0
+HasTagsOnce n machine = (tag : Tag) → count_by (λ triple. same_tag triple.tag tag) (account n machine) ≤ 1
+
+-- of a cube of n dimensions whose routers have room for cap messages each
+pub record IsMachine (n cap : ℕ) (machine : Machine) : Type 0 where
+  pub chip_count : length machine.chips ≡ 2 ^ n
+  pub buffer_count : length machine.buffers ≡ 2 ^ n
+  pub log_count : length machine.logs ≡ 2 ^ n
+  pub whole : (c : ℕ) → c < 2 ^ n → IsChip (chip_at machine.chips c)
+  pub room : HasRoom n cap machine
+  pub messages : HasMessages n machine
+  pub births : BornBefore n machine
+  pub tags : HasTagsOnce n machine

@@ -1,0 +1,36 @@
+-- The steps of a run, one after another: a petit cycle crosses each dimension once, Hillis 1985; their order is ours.
+use Rattle.std.specs.Prelude.{ℕ, ◌<◌, List, [], ◌∷◌, ◌++◌, map}
+use Rattle.std.specs.List.{flat_map, range_with_len}
+use Rattle.cm_model.specs.declared.act.Nano.{Nano}
+use Rattle.cm_model.specs.declared.act.Act.{Act}
+use Rattle.cm_model.specs.declared.act.Act.TheVariants as act
+
+pub data Step : Type 0 where
+  -- an instruction in every processor
+  Instruct : Nano → Step
+  -- a look at the global wire
+  Look : Step
+  -- every router takes messages in
+  Inject : Step
+  -- messages cross dimension d
+  Cross : ℕ → Step
+  -- messages that have arrived go to their processors
+  Deliver : Step
+
+-- a step on a cube of n dimensions, which has no others to cross
+abbrev pub IsStep : ℕ → Step → Type 0
+IsStep n (Instruct nano) = Unit {0}
+IsStep n Look = Unit {0}
+IsStep n Inject = Unit {0}
+IsStep n (Cross d) = d < n
+IsStep n Deliver = Unit {0}
+
+-- the steps of an act on a cube of n dimensions
+abbrev pub steps_of : ℕ → Act → List Step
+steps_of n (act.Nano nano) = Instruct nano ∷ []
+steps_of n act.Sense = Look ∷ []
+steps_of n act.Cycle = Inject ∷ (map Cross (range_with_len 0 n) ++ Deliver ∷ [])
+
+-- the steps of a list of acts
+abbrev pub all_steps : ℕ → List Act → List Step
+all_steps n acts = flat_map (steps_of n) acts
