@@ -91,7 +91,7 @@ pub gathered : (x i : ℕ) → i < 4
 gathered x zero h = bit-gathered x 0 ∙ simp (and-false, and-true, or-false)
 gathered x (suc zero) h = bit-gathered x 1 ∙ simp (and-false, and-true, or-false)
 gathered x (suc (suc zero)) h = bit-gathered x 2 ∙ simp (and-false, and-true, or-false)
-gathered x (suc (suc (suc zero))) h = bit-gathered x 3 ∙ simp (and-false, and-true, or-false)
+gathered x (suc (suc (suc zero))) h = bit-gathered x 3 ∙ simp (and-false, and-true)
 gathered x (suc (suc (suc (suc i)))) h = absurd (omega arith)
 
 abbrev any_of_four : ℕ → ℕ → Bool
