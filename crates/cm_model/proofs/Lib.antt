@@ -23,3 +23,4 @@ pub mod Wholes
 pub mod Messages
 pub mod Keeping
 pub mod Choosing
+mod StandardFacts
