@@ -72,6 +72,33 @@ full_nodes_are_empty : (run_of 1 1 full_nodes (cycles 2)).buffers ≡ [] ∷ ([]
 unfolding each_from leaver after_dimension queue senders chip_after_injection with_field chip_after_delivery after_injection delivered_at after_delivery opened closed run_of quiet_chip
 full_nodes_are_empty = refl
 
+-- ---- a full node refers the last of its messages
+
+abbrev two_at_home : Machine
+two_at_home = record {
+  chips = quiet_chip ∷ (quiet_chip ∷ []);
+  buffers = (message_to 0 0 1 (tag_of 0 0 0) ∷ (message_to 0 0 2 (tag_of 0 1 0) ∷ [])) ∷ ([] ∷ []);
+  logs = [] ∷ ([] ∷ []);
+  clock = 1
+}
+
+last_is_referred : (run_of 1 2 two_at_home (cycles 1)).buffers ≡ [] ∷ ((message_to 1 0 2 (tag_of 0 1 0) ∷ []) ∷ [])
+unfolding each_from leaver after_dimension queue senders chip_after_injection with_field chip_after_delivery after_injection delivered_at after_delivery opened closed run_of quiet_chip
+last_is_referred = refl
+
+-- the first that has to cross goes first, here the second of three
+abbrev three_to_cross : Machine
+three_to_cross = record {
+  chips = quiet_chip ∷ (quiet_chip ∷ []);
+  buffers = (message_to 0 0 1 (tag_of 0 0 0) ∷ (message_to 1 0 2 (tag_of 0 1 0) ∷ (message_to 1 0 3 (tag_of 0 2 0) ∷ []))) ∷ ([] ∷ []);
+  logs = [] ∷ ([] ∷ []);
+  clock = 1
+}
+
+first_crosses : (run_of 1 4 three_to_cross (cycles 1)).buffers ≡ (message_to 1 0 3 (tag_of 0 2 0) ∷ []) ∷ ([] ∷ [])
+unfolding each_from leaver after_dimension queue senders chip_after_injection with_field chip_after_delivery after_injection delivered_at after_delivery opened closed run_of quiet_chip
+first_crosses = refl
+
 -- ---- with room for one message it never arrives; with room for two it does in the first cycle
 
 abbrev one_sender : ℕ → ℕ → Machine
