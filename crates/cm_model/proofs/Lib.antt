@@ -22,3 +22,4 @@ pub mod Wholes
 pub mod Messages
 pub mod Keeping
 pub mod Choosing
+pub mod Parts

@@ -79,7 +79,7 @@ two_at_home = record {
   chips = quiet_chip ∷ (quiet_chip ∷ []);
   buffers = (message_to 0 0 1 (tag_of 0 0 0) ∷ (message_to 0 0 2 (tag_of 0 1 0) ∷ [])) ∷ ([] ∷ []);
   logs = [] ∷ ([] ∷ []);
-  clock = 1
+  clock = 1;
 }
 
 last_is_referred : (run_of 1 2 two_at_home (cycles 1)).buffers ≡ [] ∷ ((message_to 1 0 2 (tag_of 0 1 0) ∷ []) ∷ [])
@@ -92,7 +92,7 @@ three_to_cross = record {
   chips = quiet_chip ∷ (quiet_chip ∷ []);
   buffers = (message_to 0 0 1 (tag_of 0 0 0) ∷ (message_to 1 0 2 (tag_of 0 1 0) ∷ (message_to 1 0 3 (tag_of 0 2 0) ∷ []))) ∷ ([] ∷ []);
   logs = [] ∷ ([] ∷ []);
-  clock = 1
+  clock = 1;
 }
 
 first_crosses : (run_of 1 4 three_to_cross (cycles 1)).buffers ≡ (message_to 1 0 3 (tag_of 0 2 0) ∷ []) ∷ ([] ∷ [])

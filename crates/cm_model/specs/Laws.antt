@@ -1,5 +1,5 @@
 -- Laws over the definitions, each the contract of a function of its name.
-use Rattle.std.specs.Prelude.{◌≡◌, ℕ, ◌^◌, ◌<◌, List, ◌++◌, length, map}
+use Rattle.std.specs.Prelude.{◌≡◌, ℕ, ◌^◌, ◌<◌, List, ◌++◌, length, map, take}
 use Rattle.cm_bits.specs.declared.place.Place.{Place}
 use Rattle.cm_bits.specs.declared.plane.Dir.{Dir}
 use Rattle.cm_model.specs.declared.act.Nano.{Nano}
@@ -9,10 +9,10 @@ use Rattle.cm_model.specs.Place.{neighbour, opposite}
 use Rattle.cm_model.specs.Router.{Standing, target, leaver, after_dimension}
 use Rattle.cm_model.specs.Order.{queue, buffer}
 use Rattle.cm_model.specs.Leaver.{IsLeaver}
-use Rattle.cm_model.specs.Steps.{Step, IsStep}
-use Rattle.cm_model.specs.Cycle.{log_at}
-use Rattle.cm_model.specs.Machine.{Machine, run_of}
-use Rattle.cm_model.specs.Buffers.{leaving_place, element_at, after_step, after_act, after_acts}
+use Rattle.cm_model.specs.Steps.{Step, IsStep, all_steps}
+use Rattle.cm_model.specs.Cycle.{log_at, state_after_all}
+use Rattle.cm_model.specs.Machine.{Machine, opened, closed, run_of}
+use Rattle.cm_model.specs.Buffers.{leaving_place, element_at, after_step, after_steps, after_act, after_acts}
 use Rattle.cm_model.specs.Account.{account, new_events, newly_injected, SameLines}
 use Rattle.cm_model.specs.Keeping.{HasRoom, BornBefore, HasTagsOnce, IsMachine}
 
@@ -29,6 +29,10 @@ pub record LeadsBack (n : ℕ) (dir : Dir) (place : Place) : Type 0 where
 abbrev pub NeighboursLeadBack : Type 0
 NeighboursLeadBack = (n : ℕ) (dir : Dir) (place : Place) → IsPlace n place → LeadsBack n dir place
 
+-- the machine after so many steps of a run
+abbrev pub machine_at : ℕ → ℕ → Machine → List Act → ℕ → Machine
+machine_at n cap machine acts count = closed n (state_after_all n cap (opened n machine) (take count (all_steps n acts)))
+
 -- a run cut in two gives the same machine, with its buffers and logs
 abbrev pub RunsCanBeCut : Type 0
 RunsCanBeCut = (n cap : ℕ) (machine : Machine) (acts more : List Act) →
@@ -38,6 +42,11 @@ RunsCanBeCut = (n cap : ℕ) (machine : Machine) (acts more : List Act) →
 abbrev pub RunsAreToldByBuffers : Type 0
 RunsAreToldByBuffers = (n cap : ℕ) (machine : Machine) (acts : List Act) → length machine.buffers ≡ 2 ^ n →
     run_of n cap machine acts ≡ after_acts n cap machine acts
+
+-- so are they after any number of their steps, in the midst of a petit cycle
+abbrev pub StepsAreToldByBuffers : Type 0
+StepsAreToldByBuffers = (n cap : ℕ) (machine : Machine) (acts : List Act) (count : ℕ) → length machine.buffers ≡ 2 ^ n →
+    machine_at n cap machine acts count ≡ after_steps n cap machine (take count (all_steps n acts))
 
 -- who leaves is the one with the least since of those that have to cross, or is referred with the greatest, or is nobody
 abbrev pub LeaversHaveTheirSince : Type 0
@@ -54,6 +63,11 @@ TargetsAreKept = (cap d cycle : ℕ) (set : List Standing) → map target (after
 -- where no buffer has more than cap messages, none has more after injection, after a dimension step or after delivery
 abbrev pub RoomIsKept : Type 0
 RoomIsKept = (n cap : ℕ) (machine : Machine) (step : Step) → IsStep n step → HasRoom n cap machine → HasRoom n cap (after_step n cap machine step)
+
+-- so at no step of a run, told on the set of messages, does a chip have more
+abbrev pub RunsKeepRoom : Type 0
+RunsKeepRoom = (n cap : ℕ) (machine : Machine) (acts : List Act) (count : ℕ) → length machine.buffers ≡ 2 ^ n → HasRoom n cap machine →
+    HasRoom n cap (machine_at n cap machine acts count)
 
 -- each chip's log after a run is its log before it, and the new events
 abbrev pub LogsOnlyGrow : Type 0

@@ -1,6 +1,6 @@
 //! Laws over the definitions: what each function is named for holds, at every size of the machine.
 
-ghost use Rattle.cm_model.specs.Laws.{NeighboursLeadBack, RunsCanBeCut, RunsAreToldByBuffers, LeaversHaveTheirSince, LeaversStandAtTheirPlace, TargetsAreKept, RoomIsKept, LogsOnlyGrow, AccountIsConserved, InstructionsKeepTheAccount, TagsStayApart, MachinesAreKept, RunsKeepMachines};
+ghost use Rattle.cm_model.specs.Laws.{NeighboursLeadBack, StepsAreToldByBuffers, RunsKeepRoom, RunsCanBeCut, RunsAreToldByBuffers, LeaversHaveTheirSince, LeaversStandAtTheirPlace, TargetsAreKept, RoomIsKept, LogsOnlyGrow, AccountIsConserved, InstructionsKeepTheAccount, TagsStayApart, MachinesAreKept, RunsKeepMachines};
 
 /// A step on the grid and one back end where they began.
 pub fn neighbours_lead_back()
@@ -15,6 +15,11 @@ pub fn runs_can_be_cut()
 /// A run on the set of messages is the fold of its acts told by the buffers alone.
 pub fn runs_are_told_by_buffers()
     ensures { RunsAreToldByBuffers }
+{}
+
+/// At each step of a run, too, the set of messages and the buffers tell one machine.
+pub fn steps_are_told_by_buffers()
+    ensures { StepsAreToldByBuffers }
 {}
 
 /// Who leaves a chip has the least since of those that have to cross, or else, at a full chip, the greatest.
@@ -35,6 +40,11 @@ pub fn targets_are_kept()
 /// No buffer overflows.
 pub fn room_is_kept()
     ensures { RoomIsKept }
+{}
+
+/// At no step of a run does a buffer overflow.
+pub fn runs_keep_room()
+    ensures { RunsKeepRoom }
 {}
 
 /// A run only adds to the logs.

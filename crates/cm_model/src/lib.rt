@@ -13,7 +13,7 @@ pub use found::Found;
 pub use laws::{
     account_is_conserved, instructions_keep_the_account, leavers_have_their_since,
     leavers_stand_at_their_place, logs_only_grow, machines_are_kept, neighbours_lead_back,
-    room_is_kept, runs_are_told_by_buffers, runs_can_be_cut, runs_keep_machines, tags_stay_apart,
-    targets_are_kept,
+    room_is_kept, runs_are_told_by_buffers, runs_can_be_cut, runs_keep_machines, runs_keep_room,
+    steps_are_told_by_buffers, tags_stay_apart, targets_are_kept,
 };
 pub use message::{Event, Message, Tag};
