@@ -23,3 +23,5 @@ pub mod Messages
 pub mod Keeping
 pub mod Choosing
 pub mod Parts
+pub mod Receiving
+pub mod Blanks

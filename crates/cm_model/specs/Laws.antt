@@ -1,5 +1,5 @@
 -- Laws over the definitions, each the contract of a function of its name.
-use Rattle.std.specs.Prelude.{◌≡◌, ℕ, ◌^◌, ◌<◌, List, ◌++◌, length, map, take}
+use Rattle.std.specs.Prelude.{◌≡◌, ℕ, ◌^◌, ◌<◌, Some, List, ◌++◌, length, map, take}
 use Rattle.cm_bits.specs.declared.place.Place.{Place}
 use Rattle.cm_bits.specs.declared.plane.Dir.{Dir}
 use Rattle.cm_model.specs.declared.act.Nano.{Nano}
@@ -9,12 +9,18 @@ use Rattle.cm_model.specs.Place.{neighbour, opposite}
 use Rattle.cm_model.specs.Router.{Standing, target, leaver, after_dimension}
 use Rattle.cm_model.specs.Order.{queue, buffer}
 use Rattle.cm_model.specs.Leaver.{IsLeaver}
+use Rattle.std.specs.List.{find}
+use Rattle.cm_model.specs.declared.message.Message.{Message}
+use Rattle.cm_model.specs.Processor.{Processor}
+use Rattle.cm_model.specs.Chip.{processor_at}
+use Rattle.cm_model.specs.Whole.{IsChip}
+use Rattle.cm_model.specs.Letters.{is_for, chip_after_delivery, HasReceived}
 use Rattle.cm_model.specs.Steps.{Step, IsStep, all_steps}
-use Rattle.cm_model.specs.Cycle.{log_at, state_after_all}
-use Rattle.cm_model.specs.Machine.{Machine, opened, closed, run_of}
+use Rattle.cm_model.specs.Cycle.{log_at}
+use Rattle.cm_model.specs.Machine.{Machine, blank_machine, machine_at, run_of}
 use Rattle.cm_model.specs.Buffers.{leaving_place, element_at, after_step, after_steps, after_act, after_acts}
-use Rattle.cm_model.specs.Account.{account, new_events, newly_injected, SameLines}
-use Rattle.cm_model.specs.Keeping.{HasRoom, BornBefore, HasTagsOnce, IsMachine}
+use Rattle.cm_model.specs.Account.{account, new_events, newly_injected, all_injected, SameLines, HasLines}
+use Rattle.cm_model.specs.Keeping.{HasRoom, HasGoodTags, IsMachine}
 
 -- a place of a cube of n dimensions
 pub record IsPlace (n : ℕ) (place : Place) : Type 0 where
@@ -28,10 +34,6 @@ pub record LeadsBack (n : ℕ) (dir : Dir) (place : Place) : Type 0 where
 
 abbrev pub NeighboursLeadBack : Type 0
 NeighboursLeadBack = (n : ℕ) (dir : Dir) (place : Place) → IsPlace n place → LeadsBack n dir place
-
--- the machine after so many steps of a run
-abbrev pub machine_at : ℕ → ℕ → Machine → List Act → ℕ → Machine
-machine_at n cap machine acts count = closed n (state_after_all n cap (opened n machine) (take count (all_steps n acts)))
 
 -- a run cut in two gives the same machine, with its buffers and logs
 abbrev pub RunsCanBeCut : Type 0
@@ -79,14 +81,19 @@ abbrev pub AccountIsConserved : Type 0
 AccountIsConserved = (n cap : ℕ) (machine : Machine) (acts : List Act) →
     SameLines (account n (run_of n cap machine acts)) (account n machine ++ newly_injected n machine (run_of n cap machine acts))
 
+-- where the account has the line of each message that was injected, it has it after a run too
+abbrev pub InjectedStandInTheAccount : Type 0
+InjectedStandInTheAccount = (n cap : ℕ) (machine : Machine) (acts : List Act) →
+    HasLines (all_injected n machine) (account n machine) → HasLines (all_injected n (run_of n cap machine acts)) (account n (run_of n cap machine acts))
+
+-- each message that is delivered is received, unaltered, by the processor that it is for
+abbrev pub PayloadsAreReceived : Type 0
+PayloadsAreReceived = (chip : List Processor) (delivered : List Message) (p : ℕ) (m : Message) → IsChip chip → p < 16 → m.payload < 2 ^ 32 →
+    find (is_for p) delivered ≡ Some m → HasReceived m (processor_at (chip_after_delivery delivered chip) p)
+
 -- an instruction leaves the account as it is
 abbrev pub InstructionsKeepTheAccount : Type 0
 InstructionsKeepTheAccount = (n cap : ℕ) (machine : Machine) (nano : Nano) → account n (after_act n cap machine (act.Nano nano)) ≡ account n machine
-
--- tags and births of the account, as every machine has them
-pub record HasGoodTags (n : ℕ) (machine : Machine) : Type 0 where
-  pub once : HasTagsOnce n machine
-  pub born : BornBefore n machine
 
 -- where no tag stands twice in the account and all births are below the counter, both hold after a run
 abbrev pub TagsStayApart : Type 0
@@ -99,3 +106,7 @@ MachinesAreKept = (n cap : ℕ) (machine : Machine) (act : Act) → IsMachine n 
 -- and so does a run
 abbrev pub RunsKeepMachines : Type 0
 RunsKeepMachines = (n cap : ℕ) (machine : Machine) (acts : List Act) → IsMachine n cap machine → IsMachine n cap (run_of n cap machine acts)
+
+-- the blank machine is one
+abbrev pub BlankIsMachine : Type 0
+BlankIsMachine = (n cap : ℕ) → IsMachine n cap (blank_machine n)

@@ -1,5 +1,5 @@
 -- What injection takes out of the memory of a chip's processors, and what delivery leaves there: where they stand is ours.
-use Rattle.std.specs.Prelude.{ℕ, ◌+◌, ◌-◌, ◌^◌, ◌%◌, ◌==◌, Bool, true, false, not, List, ◌++◌, Option, Some, None, min, map, take, drop, slice_set, if◌then◌else◌}
+use Rattle.std.specs.Prelude.{◌≡◌, ℕ, ◌+◌, ◌-◌, ◌^◌, ◌%◌, ◌==◌, Bool, true, false, not, List, ◌++◌, Option, Some, None, min, map, take, drop, slice_set, if◌then◌else◌}
 use Rattle.std.specs.List.{filter, find, list_any, range_with_len}
 use Rattle.cm_bits.specs.Bit.{bit}
 use Rattle.cm_model.specs.declared.message.Message.{Message}
@@ -73,3 +73,8 @@ processor_after_delivery (Some m) processor = record {
 -- the chip after these messages were delivered, at most one to each processor
 unfoldable pub chip_after_delivery : List Message → List Processor → List Processor
 chip_after_delivery delivered chip = each_processor (λ p. processor_after_delivery (find (is_for p) delivered) (processor_at chip p))
+
+-- what was delivered to a processor stands in its field, and its RECV is 1
+pub record HasReceived (m : Message) (processor : Processor) : Type 0 where
+  pub payload : field_value processor 4032 32 ≡ m.payload
+  pub flag : flag processor RECV ≡ true

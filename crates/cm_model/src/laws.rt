@@ -1,6 +1,6 @@
 //! Laws over the definitions: what each function is named for holds, at every size of the machine.
 
-ghost use Rattle.cm_model.specs.Laws.{NeighboursLeadBack, StepsAreToldByBuffers, RunsKeepRoom, RunsCanBeCut, RunsAreToldByBuffers, LeaversHaveTheirSince, LeaversStandAtTheirPlace, TargetsAreKept, RoomIsKept, LogsOnlyGrow, AccountIsConserved, InstructionsKeepTheAccount, TagsStayApart, MachinesAreKept, RunsKeepMachines};
+ghost use Rattle.cm_model.specs.Laws.{NeighboursLeadBack, InjectedStandInTheAccount, PayloadsAreReceived, BlankIsMachine, StepsAreToldByBuffers, RunsKeepRoom, RunsCanBeCut, RunsAreToldByBuffers, LeaversHaveTheirSince, LeaversStandAtTheirPlace, TargetsAreKept, RoomIsKept, LogsOnlyGrow, AccountIsConserved, InstructionsKeepTheAccount, TagsStayApart, MachinesAreKept, RunsKeepMachines};
 
 /// A step on the grid and one back end where they began.
 pub fn neighbours_lead_back()
@@ -75,4 +75,19 @@ pub fn machines_are_kept()
 /// A run keeps what every machine keeps.
 pub fn runs_keep_machines()
     ensures { RunsKeepMachines }
+{}
+
+/// Every message that was injected stands in the account, and goes on to.
+pub fn injected_stand_in_the_account()
+    ensures { InjectedStandInTheAccount }
+{}
+
+/// What is delivered to a processor stands in its memory, unaltered.
+pub fn payloads_are_received()
+    ensures { PayloadsAreReceived }
+{}
+
+/// The blank machine has what every machine keeps.
+pub fn blank_is_machine()
+    ensures { BlankIsMachine }
 {}
