@@ -10,7 +10,7 @@ pub mod Injecting
 pub mod Delivering
 pub mod Opening
 pub mod Runs
-mod RouterFacts
+mod StandardFacts
 pub mod Rooms
 pub mod Torus
 pub mod Values
@@ -25,3 +25,5 @@ pub mod Choosing
 pub mod Parts
 pub mod Receiving
 pub mod Blanks
+pub mod Apart
+pub mod Finding

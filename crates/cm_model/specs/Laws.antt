@@ -1,5 +1,5 @@
 -- Laws over the definitions, each the contract of a function of its name.
-use Rattle.std.specs.Prelude.{◌≡◌, ℕ, ◌^◌, ◌<◌, Some, List, ◌++◌, length, map, take}
+use Rattle.std.specs.Prelude.{◌≡◌, ℕ, ◌^◌, ◌<◌, Bool, Some, List, [], ◌++◌, length, map, take}
 use Rattle.cm_bits.specs.declared.place.Place.{Place}
 use Rattle.cm_bits.specs.declared.plane.Dir.{Dir}
 use Rattle.cm_model.specs.declared.act.Nano.{Nano}
@@ -11,15 +11,17 @@ use Rattle.cm_model.specs.Order.{queue, buffer}
 use Rattle.cm_model.specs.Leaver.{IsLeaver}
 use Rattle.std.specs.List.{find}
 use Rattle.cm_model.specs.declared.message.Message.{Message}
+use Rattle.cm_model.specs.declared.message.Tag.{Tag}
 use Rattle.cm_model.specs.Processor.{Processor}
 use Rattle.cm_model.specs.Chip.{processor_at}
 use Rattle.cm_model.specs.Whole.{IsChip}
-use Rattle.cm_model.specs.Letters.{is_for, chip_after_delivery, HasReceived}
+use Rattle.cm_model.specs.Letters.{is_among, chip_after_injection, is_for, chip_after_delivery, IsAcknowledged, AreDeliveries, HasReceived}
 use Rattle.cm_model.specs.Steps.{Step, IsStep, all_steps}
 use Rattle.cm_model.specs.Cycle.{log_at}
 use Rattle.cm_model.specs.Machine.{Machine, blank_machine, machine_at, run_of}
-use Rattle.cm_model.specs.Buffers.{leaving_place, element_at, after_step, after_steps, after_act, after_acts}
+use Rattle.cm_model.specs.Buffers.{leaving_place, element_at, delivered, after_step, after_steps, after_act, after_acts}
 use Rattle.cm_model.specs.Account.{account, new_events, newly_injected, all_injected, SameLines, HasLines}
+use Rattle.cm_model.specs.Found.{found_in, IsWhereabouts}
 use Rattle.cm_model.specs.Keeping.{HasRoom, HasGoodTags, IsMachine}
 
 -- a place of a cube of n dimensions
@@ -50,23 +52,7 @@ abbrev pub StepsAreToldByBuffers : Type 0
 StepsAreToldByBuffers = (n cap : ℕ) (machine : Machine) (acts : List Act) (count : ℕ) → length machine.buffers ≡ 2 ^ n →
     machine_at n cap machine acts count ≡ after_steps n cap machine (take count (all_steps n acts))
 
--- who leaves is the one with the least since of those that have to cross, or is referred with the greatest, or is nobody
-abbrev pub LeaversHaveTheirSince : Type 0
-LeaversHaveTheirSince = (cap d c : ℕ) (set : List Standing) → IsLeaver cap d c set (leaver cap d c set)
-
--- who leaves stands in the buffer at the place of the first that has to cross, or else, if it is full, last
-abbrev pub LeaversStandAtTheirPlace : Type 0
-LeaversStandAtTheirPlace = (cap d c : ℕ) (set : List Standing) → leaver cap d c set ≡ element_at (queue c set) (leaving_place cap d (buffer c set))
-
--- a dimension step keeps the target of each record
-abbrev pub TargetsAreKept : Type 0
-TargetsAreKept = (cap d cycle : ℕ) (set : List Standing) → map target (after_dimension cap d cycle set) ≡ map target set
-
--- where no buffer has more than cap messages, none has more after injection, after a dimension step or after delivery
-abbrev pub RoomIsKept : Type 0
-RoomIsKept = (n cap : ℕ) (machine : Machine) (step : Step) → IsStep n step → HasRoom n cap machine → HasRoom n cap (after_step n cap machine step)
-
--- so at no step of a run, told on the set of messages, does a chip have more
+-- where no buffer has more than cap messages, no chip has more at any step of a run, told on the set of messages
 abbrev pub RunsKeepRoom : Type 0
 RunsKeepRoom = (n cap : ℕ) (machine : Machine) (acts : List Act) (count : ℕ) → length machine.buffers ≡ 2 ^ n → HasRoom n cap machine →
     HasRoom n cap (machine_at n cap machine acts count)
@@ -86,14 +72,9 @@ abbrev pub InjectedStandInTheAccount : Type 0
 InjectedStandInTheAccount = (n cap : ℕ) (machine : Machine) (acts : List Act) →
     HasLines (all_injected n machine) (account n machine) → HasLines (all_injected n (run_of n cap machine acts)) (account n (run_of n cap machine acts))
 
--- each message that is delivered is received, unaltered, by the processor that it is for
-abbrev pub PayloadsAreReceived : Type 0
-PayloadsAreReceived = (chip : List Processor) (delivered : List Message) (p : ℕ) (m : Message) → IsChip chip → p < 16 → m.payload < 2 ^ 32 →
-    find (is_for p) delivered ≡ Some m → HasReceived m (processor_at (chip_after_delivery delivered chip) p)
-
--- an instruction leaves the account as it is
-abbrev pub InstructionsKeepTheAccount : Type 0
-InstructionsKeepTheAccount = (n cap : ℕ) (machine : Machine) (nano : Nano) → account n (after_act n cap machine (act.Nano nano)) ≡ account n machine
+-- where the message of a tag is found, there it is
+abbrev pub MessagesAreFound : Type 0
+MessagesAreFound = (n : ℕ) (machine : Machine) (tag : Tag) → IsWhereabouts n machine tag (found_in n machine tag)
 
 -- where no tag stands twice in the account and all births are below the counter, both hold after a run
 abbrev pub TagsStayApart : Type 0

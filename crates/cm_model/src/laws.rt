@@ -1,6 +1,7 @@
 //! Laws over the definitions: what each function is named for holds, at every size of the machine.
 
-ghost use Rattle.cm_model.specs.Laws.{NeighboursLeadBack, InjectedStandInTheAccount, PayloadsAreReceived, BlankIsMachine, StepsAreToldByBuffers, RunsKeepRoom, RunsCanBeCut, RunsAreToldByBuffers, LeaversHaveTheirSince, LeaversStandAtTheirPlace, TargetsAreKept, RoomIsKept, LogsOnlyGrow, AccountIsConserved, InstructionsKeepTheAccount, TagsStayApart, MachinesAreKept, RunsKeepMachines};
+ghost use Rattle.cm_model.specs.Laws.{NeighboursLeadBack, MessagesAreFound, InjectedStandInTheAccount, BlankIsMachine, StepsAreToldByBuffers, RunsKeepRoom, RunsCanBeCut, RunsAreToldByBuffers, LogsOnlyGrow, AccountIsConserved, TagsStayApart, MachinesAreKept, RunsKeepMachines};
+ghost use Rattle.cm_model.specs.StepLaws.{SendersAreAcknowledged, DeliveriesAreApart, PayloadsAreReceived, LeaversHaveTheirSince, LeaversStandAtTheirPlace, TargetsAreKept, RoomIsKept, InstructionsKeepTheAccount};
 
 /// A step on the grid and one back end where they began.
 pub fn neighbours_lead_back()
@@ -91,3 +92,21 @@ pub fn payloads_are_received()
 pub fn blank_is_machine()
     ensures { BlankIsMachine }
 {}
+
+/// Injection tells each processor whether its message was taken.
+pub fn senders_are_acknowledged()
+    ensures { SendersAreAcknowledged }
+{
+}
+
+/// A processor is delivered one message at most in a petit cycle, and only where its RECV was 0.
+pub fn deliveries_are_apart()
+    ensures { DeliveriesAreApart }
+{
+}
+
+/// Where the message of a tag is found, there it is.
+pub fn messages_are_found()
+    ensures { MessagesAreFound }
+{
+}

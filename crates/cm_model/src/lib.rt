@@ -10,7 +10,7 @@ mod message;
 
 pub use act::{Act, Nano};
 pub use found::Found;
-pub use laws::{
+pub use laws::{senders_are_acknowledged, deliveries_are_apart, messages_are_found, 
     account_is_conserved, blank_is_machine, injected_stand_in_the_account,
     instructions_keep_the_account, leavers_have_their_since, leavers_stand_at_their_place,
     logs_only_grow, machines_are_kept, neighbours_lead_back, payloads_are_received, room_is_kept,
