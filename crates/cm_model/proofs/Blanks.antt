@@ -1,17 +1,16 @@
 -- The blank machine is a machine.
-use Rattle.std.proofs.Common.{◌≡◌, ℕ, zero, suc, ◌+◌, ◌<◌, ◌≤◌, ◌^◌, Bool, false, List, [], ◌∷◌, ◌++◌, length, get_or, replicate, refl, sym, ◌∙◌, ap, subst, arith}
+use Rattle.std.proofs.Common.{◌≡◌, ℕ, zero, suc, ◌+◌, ◌<◌, ◌≤◌, ◌^◌, false, List, [], length, refl, sym, subst, arith}
 use Rattle.std.proofs.lemmas.List.{length-replicate, get_or-replicate}
 use Rattle.std.proofs.lemmas.List.Elements.{All-nil}
-use Rattle.std.specs.List.{All, count_by, filter_map, flat_map, range_with_len}
+use Rattle.std.specs.List.{All, count_by, flat_map, range_with_len}
 use Rattle.cm_model.specs.declared.message.Message.{Message}
 use Rattle.cm_model.specs.declared.message.Event.{Event}
 use Rattle.cm_model.specs.Processor.{Processor, blank_processor}
 use Rattle.cm_model.specs.Chip.{no_processor, blank_chip}
 use Rattle.cm_model.specs.Whole.{IsProcessor, IsChip}
-use Rattle.cm_model.specs.Array.{each_chip, chip_at}
 use Rattle.cm_model.specs.Cycle.{log_at}
-use Rattle.cm_model.specs.Machine.{Machine, blank_machine, buffer_at}
-use Rattle.cm_model.specs.Account.{Triple, standing_triple, delivered_triple, account_at, account}
+use Rattle.cm_model.specs.Machine.{blank_machine, buffer_at}
+use Rattle.cm_model.specs.Account.{Triple, account_at, account}
 use Rattle.cm_model.specs.Found.{same_tag}
 use Rattle.cm_model.specs.Keeping.{IsMessage, IsMachine}
 use Rattle.cm_model.proofs.Each.{length-each_from, get_or-each_below}

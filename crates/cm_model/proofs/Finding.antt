@@ -1,16 +1,15 @@
 -- Where the message of a tag is found, there it is.
-use Rattle.std.proofs.Common.{◌≡◌, ℕ, zero, suc, ◌+◌, ◌<◌, ◌≤◌, ◌^◌, Bool, true, false, cond, List, [], ◌∷◌, ◌++◌, length, Option, Some, None, refl, sym, ◌∙◌, ap, subst, ⊎_elim, arith}
+use Rattle.std.proofs.Common.{◌≡◌, ℕ, zero, suc, ◌+◌, ◌<◌, ◌≤◌, ◌^◌, Bool, true, false, List, [], ◌∷◌, ◌++◌, Option, Some, None, refl, sym, ◌∙◌, ap, ⊎_elim, arith}
 use Rattle.std.proofs.lemmas.Bool.{cases_Bool, cases_eq, or_parts}
 use Rattle.std.proofs.lemmas.List.Elements.{All-nil, All-cons}
 use Rattle.std.proofs.lemmas.List.Folds.{Any-from_list_any}
 use Rattle.std.specs.List.{All, Any, flat_map, filter_map, cons_option, find, list_any, range_with_len}
 use Rattle.cm_bits.specs.declared.place.Place.{Place}
 use Rattle.cm_model.specs.declared.message.Tag.{Tag}
-use Rattle.cm_model.specs.declared.message.Event.{Event}
 use Rattle.cm_model.specs.declared.found.Found.TheVariants as found
 use Rattle.cm_model.specs.Cycle.{log_at}
 use Rattle.cm_model.specs.Machine.{Machine, buffer_at}
-use Rattle.cm_model.specs.Found.{same_tag, router_of, delivery_place, delivery_places, found_from, found_in, StandsAt, WasDelivered, IsNowhereAt, IsWhereabouts}
+use Rattle.cm_model.specs.Found.{same_tag, router_of, delivery_place, delivery_places, found_from, found_in, IsWhereabouts}
 
 -- ---- the routers
 
@@ -27,8 +26,8 @@ find_in_range : (t : ℕ → Bool) (a k : ℕ) → IsFirstOf t a k (find t (rang
 find_in_range t a zero = λ c l m. absurd (omega arith)
 find_in_range t a (suc k) =
     ⊎_elim (λ (e : t a ≡ true). rw e (omega arith, omega arith, e))
-        (λ (e : t a ≡ false). rw e (wider t a k (find t (range_with_len (a + 1) k)) e (find_in_range t (a + 1) k)))
-        (cases_Bool (t a))
+    (λ (e : t a ≡ false). rw e (wider t a k (find t (range_with_len (a + 1) k)) e (find_in_range t (a + 1) k)))
+    (cases_Bool (t a))
 
 none_of : {X : Type 0} (p : X → Bool) (xs : List X) → list_any p xs ≡ false → All (λ x. p x ≡ false) xs
 none_of p [] e = All-nil (λ x. p x ≡ false)
@@ -95,7 +94,7 @@ found_there n machine tag None [] h e =
     λ c l. record {
       stands = none_of (λ m. same_tag m.tag tag) (buffer_at machine.buffers c) (h c (omega arith) (omega arith));
       delivered = none_of_filter (delivery_place tag) (log_at machine.logs c)
-          (none_of_chips (λ b. filter_map (delivery_place tag) (log_at machine.logs b)) 0 (2 ^ n) e c (omega arith) (omega arith))
+          (none_of_chips (λ b. filter_map (delivery_place tag) (log_at machine.logs b)) 0 (2 ^ n) e c (omega arith) (omega arith));
     }
 
 pub messages_are_found : (n : ℕ) (machine : Machine) (tag : Tag) → IsWhereabouts n machine tag (found_in n machine tag)

@@ -4,7 +4,7 @@ use Rattle.std.proofs.lemmas.Bool.{cases_lt}
 use Rattle.std.proofs.lemmas.List.{map-append, take-append-le}
 use Rattle.cm_model.specs.declared.act.Act.{Act}
 use Rattle.cm_model.specs.declared.act.Act.TheVariants as act
-use Rattle.cm_model.specs.Steps.{Step, Instruct, Look, Inject, Cross, Deliver, IsStep, steps_of, all_steps, Phase, phases_of, phases_from, phases, steps_in}
+use Rattle.cm_model.specs.Steps.{Step, Cross, Deliver, steps_of, all_steps, Phase, phases_of, phases_from, phases, steps_in}
 use Rattle.cm_model.specs.Cycle.{State, after_injection, state_after, state_after_all}
 use Rattle.cm_model.specs.Machine.{Machine, opened, closed, run_of}
 use Rattle.cm_model.specs.Buffers.{machine_after_injection, after_step, after_steps, after_act, after_acts}

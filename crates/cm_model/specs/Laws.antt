@@ -1,25 +1,14 @@
 -- Laws over the definitions, each the contract of a function of its name.
-use Rattle.std.specs.Prelude.{◌≡◌, ℕ, ◌^◌, ◌<◌, Bool, Some, List, [], ◌++◌, length, map, take}
+use Rattle.std.specs.Prelude.{◌≡◌, ℕ, ◌^◌, ◌<◌, List, ◌++◌, length, take}
 use Rattle.cm_bits.specs.declared.place.Place.{Place}
 use Rattle.cm_bits.specs.declared.plane.Dir.{Dir}
-use Rattle.cm_model.specs.declared.act.Nano.{Nano}
 use Rattle.cm_model.specs.declared.act.Act.{Act}
-use Rattle.cm_model.specs.declared.act.Act.TheVariants as act
 use Rattle.cm_model.specs.Place.{neighbour, opposite}
-use Rattle.cm_model.specs.Router.{Standing, target, leaver, after_dimension}
-use Rattle.cm_model.specs.Order.{queue, buffer}
-use Rattle.cm_model.specs.Leaver.{IsLeaver}
-use Rattle.std.specs.List.{find}
-use Rattle.cm_model.specs.declared.message.Message.{Message}
 use Rattle.cm_model.specs.declared.message.Tag.{Tag}
-use Rattle.cm_model.specs.Processor.{Processor}
-use Rattle.cm_model.specs.Chip.{processor_at}
-use Rattle.cm_model.specs.Whole.{IsChip}
-use Rattle.cm_model.specs.Letters.{is_among, chip_after_injection, is_for, chip_after_delivery, IsAcknowledged, AreDeliveries, HasReceived}
-use Rattle.cm_model.specs.Steps.{Step, IsStep, all_steps}
+use Rattle.cm_model.specs.Steps.{all_steps}
 use Rattle.cm_model.specs.Cycle.{log_at}
 use Rattle.cm_model.specs.Machine.{Machine, blank_machine, machine_at, run_of}
-use Rattle.cm_model.specs.Buffers.{leaving_place, element_at, delivered, after_step, after_steps, after_act, after_acts}
+use Rattle.cm_model.specs.Buffers.{after_steps, after_act, after_acts}
 use Rattle.cm_model.specs.Account.{account, new_events, newly_injected, all_injected, SameLines, HasLines}
 use Rattle.cm_model.specs.Found.{found_in, IsWhereabouts}
 use Rattle.cm_model.specs.Keeping.{HasRoom, HasGoodTags, IsMachine}

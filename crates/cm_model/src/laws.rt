@@ -96,17 +96,14 @@ pub fn blank_is_machine()
 /// Injection tells each processor whether its message was taken.
 pub fn senders_are_acknowledged()
     ensures { SendersAreAcknowledged }
-{
-}
+{}
 
 /// A processor is delivered one message at most in a petit cycle, and only where its RECV was 0.
 pub fn deliveries_are_apart()
     ensures { DeliveriesAreApart }
-{
-}
+{}
 
 /// Where the message of a tag is found, there it is.
 pub fn messages_are_found()
     ensures { MessagesAreFound }
-{
-}
+{}
