@@ -4,7 +4,7 @@ use Rattle.std.proofs.lemmas.List.{length-take-le, drop_at, take_at, get_or-set_
 use Rattle.std.proofs.Math.Nat.{mod-eq_of_lt, div-one}
 use Rattle.std.specs.List.{find}
 use Rattle.cm_model.specs.declared.message.Message.{Message}
-use Rattle.cm_model.specs.Processor.{Processor, RECV, flag, value, field_value}
+use Rattle.cm_model.specs.Processor.{Processor, RECV, value, field_value}
 use Rattle.cm_model.specs.Chip.{processor_at, no_processor}
 use Rattle.cm_model.specs.Whole.{IsProcessor, IsChip}
 use Rattle.cm_model.specs.Letters.{is_for, bits_of, with_field, processor_after_delivery, chip_after_delivery, HasReceived}
