@@ -1,1 +1,1 @@
-mod TextLemmas
+pub mod TextLemmas

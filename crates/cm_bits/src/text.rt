@@ -1,10 +1,9 @@
 //! Lines, words and numbers of the text languages, read in place.
 
-ghost use Rattle.std.specs.Prelude.{◌≡◌, ◌<◌, ◌≤◌, ◌^◌, ℕ, Option, length, ◌==◌};
-ghost use Rattle.std.specs.Bool.{Decides};
+ghost use Rattle.std.specs.Prelude.{◌≡◌, ◌≤◌, ◌==◌, length};
 ghost use Rattle.std.specs.Iterator.{YieldsFirstBy, item_count};
 ghost use Rattle.std.specs.List.{position_or_len, prefix_len};
-ghost use Rattle.cm_bits.specs.Text.{is_blank, is_comment_start, is_line_end, lines_left, lines_of, number_in, number_of, words_left, words_of};
+ghost use Rattle.cm_bits.specs.Text.{is_blank, lines_left, lines_of, number_in, number_of, words_left, words_of};
 
 /// The lines of a text, each without its LF.
 #[derive(Drop)]

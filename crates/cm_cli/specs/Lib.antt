@@ -1,2 +1,6 @@
 pub mod NanoLine
 pub mod Report
+pub mod Program
+pub mod ChipText
+pub mod Session
+pub mod ProgramFault

@@ -4,10 +4,17 @@
 
 mod fault;
 mod nano_line;
+mod one_chip;
+mod program;
+mod program_fault;
 mod reports;
+mod session;
 mod takes;
+mod texts;
 
 pub use cm_line::{Line, LineFault, command};
-pub use fault::{AsmFault, AsmKind};
+pub use fault::{AsmFault, AsmKind, ChipFault};
+pub use program_fault::ProgramFault;
 pub use reports::report;
+pub use session::chip_session;
 pub use takes::{TakeFault, take};

@@ -11,9 +11,11 @@ pub mod Delivering
 pub mod Opening
 pub mod Runs
 mod StandardFacts
+mod RouterFacts
 pub mod Rooms
 pub mod Torus
 pub mod Values
+pub mod Incoming
 pub mod Counting
 pub mod Conserving
 pub mod Accounting

@@ -1,186 +1,138 @@
--- Worked values of the router's definitions, which the checker computes: a wrong rule does not check.
-use Rattle.std.proofs.Common.{◌≡◌, ℕ, Bool, true, false, List, [], ◌∷◌, replicate, map, refl}
-use Rattle.std.specs.Prelude.{nat_lt, ◌==◌, slice_set, if◌then◌else◌}
-use Rattle.cm_model.specs.declared.act.Act.{Act}
-use Rattle.cm_model.specs.declared.act.Act.TheVariants as act
-use Rattle.cm_model.specs.declared.message.Tag.{Tag}
-use Rattle.cm_model.specs.declared.message.Message.{Message}
-use Rattle.cm_model.specs.declared.message.Event.TheVariants.{Injected, Delivered}
-use Rattle.cm_model.specs.declared.found.Found.TheVariants as found
+-- Worked values of the definitions, which the checker computes: tables, the grid, the chain, instructions, the wire.
+use Rattle.std.proofs.Common.{◌≡◌, ℕ, ◌==◌, Bool, true, false, Option, Some, None, List, [], ◌∷◌, replicate, set, refl}
+use Rattle.cm_bits.specs.declared.place.Place.{Place}
+use Rattle.cm_bits.specs.declared.plane.Dir.TheVariants.{North, East, West, South}
+use Rattle.cm_model.specs.declared.act.Nano.{Nano}
 use Rattle.cm_model.specs.Each.{each_from}
-use Rattle.cm_model.specs.Processor.{Processor, SEND, ACK, RECV, flag, field_value}
-use Rattle.cm_model.specs.Chip.{each_processor, processor_at}
-use Rattle.cm_model.specs.Array.{chip_at}
-use Rattle.cm_model.specs.Router.{leaver, after_dimension}
-use Rattle.cm_model.specs.Order.{queue}
-use Rattle.cm_model.specs.Letters.{senders, chip_after_injection, with_field, chip_after_delivery}
-use Rattle.cm_model.specs.Cycle.{after_injection, delivered_at, after_delivery}
-use Rattle.cm_model.specs.Machine.{Machine, opened, closed, run_of}
-use Rattle.cm_model.specs.Found.{found_in}
+use Rattle.cm_model.specs.Place.{neighbour, source, predecessor, rows, columns}
+use Rattle.cm_model.specs.Processor.{Processor, entry, value, flag}
+use Rattle.cm_model.specs.Instruction.{processor_after}
+use Rattle.cm_model.specs.Chip.{each_processor, chip_after, processor_at, plane_number}
+use Rattle.cm_model.specs.Array.{Chips, chip_at, incoming, after_nano, wire}
 
--- ---- what the machines are made of
+-- ---- tables: the sum and the carry of 1, 0 and 1; the borrow of 0 - 1 - 0; B where F is 1
 
-abbrev no_flags : List Bool
-no_flags = replicate 16 false
+sum_of_two_ones : entry 0x96 true false true ≡ false
+sum_of_two_ones = refl
 
--- a chip whose processors send nothing, and of whose memory nothing is read
-unfoldable quiet_chip : List Processor
-unfolding each_from
-quiet_chip = each_processor (λ p. record { memory = []; flags = no_flags })
+carry_of_two_ones : entry 0xE8 true false true ≡ true
+carry_of_two_ones = refl
 
--- a processor that sends
-unfoldable sender : ℕ → ℕ → ℕ → Processor
-unfolding with_field
-sender rel proc payload = record {
-  memory = with_field (with_field (with_field (replicate 4096 false) 3968 16 rel) 3984 4 proc) 3988 32 payload;
-  flags = slice_set no_flags SEND true;
-}
+borrow : entry 0x8E false true false ≡ true
+borrow = refl
 
--- a chip whose first so many processors send their numbers to one processor
-unfoldable sending_chip : ℕ → ℕ → ℕ → List Processor
-unfolding each_from sender
-sending_chip count rel proc = each_processor (λ p. if nat_lt p count then sender rel proc p else record { memory = replicate 4096 false; flags = no_flags })
+choice_by_f : entry 0xD8 false true true ≡ true
+choice_by_f = refl
 
-abbrev tag_of : ℕ → ℕ → ℕ → Tag
-tag_of c p birth = record { chip = c; proc = p; birth = birth }
+-- ---- memory fields: bit 0 is the lowest
 
-abbrev message_to : ℕ → ℕ → ℕ → Tag → Message
-message_to rel proc payload tag = record { rel = rel; proc = proc; payload = payload; tag = tag }
+field_of_three : value (false ∷ true ∷ true ∷ []) ≡ 6
+field_of_three = refl
 
-abbrev cycles : ℕ → List Act
-cycles count = replicate count act.Cycle
+-- ---- the torus of one chip, over each edge
 
--- ---- two full nodes refer to each other, and deliver in the second cycle
+north_edge : neighbour 0 North (record { chip = 0; proc = 2 }) ≡ record { chip = 0; proc = 14 }
+unfolding neighbour
+north_edge = refl
 
-abbrev full_nodes : Machine
-full_nodes = record {
-  chips = quiet_chip ∷ (quiet_chip ∷ []);
-  buffers = (message_to 0 0 1 (tag_of 0 0 0) ∷ []) ∷ ((message_to 0 0 2 (tag_of 1 0 0) ∷ []) ∷ []);
-  logs = [] ∷ ([] ∷ []);
-  clock = 1;
-}
+south_edge : neighbour 0 South (record { chip = 0; proc = 15 }) ≡ record { chip = 0; proc = 3 }
+unfolding neighbour
+south_edge = refl
 
-full_nodes_refer : (run_of 1 1 full_nodes (cycles 1)).buffers ≡ (message_to 1 0 2 (tag_of 1 0 0) ∷ []) ∷ ((message_to 1 0 1 (tag_of 0 0 0) ∷ []) ∷ [])
-unfolding each_from leaver after_dimension queue senders chip_after_injection with_field chip_after_delivery after_injection delivered_at after_delivery opened closed run_of quiet_chip
-full_nodes_refer = refl
+west_edge : neighbour 0 West (record { chip = 0; proc = 4 }) ≡ record { chip = 0; proc = 7 }
+unfolding neighbour
+west_edge = refl
 
-full_nodes_deliver : (run_of 1 1 full_nodes (cycles 2)).logs ≡ (Delivered (message_to 0 0 1 (tag_of 0 0 0)) 0 ∷ []) ∷ ((Delivered (message_to 0 0 2 (tag_of 1 0 0)) 1 ∷ []) ∷ [])
-unfolding each_from leaver after_dimension queue senders chip_after_injection with_field chip_after_delivery after_injection delivered_at after_delivery opened closed run_of quiet_chip
-full_nodes_deliver = refl
+east_edge : neighbour 0 East (record { chip = 0; proc = 11 }) ≡ record { chip = 0; proc = 8 }
+unfolding neighbour
+east_edge = refl
 
-full_nodes_are_empty : (run_of 1 1 full_nodes (cycles 2)).buffers ≡ [] ∷ ([] ∷ [])
-unfolding each_from leaver after_dimension queue senders chip_after_injection with_field chip_after_delivery after_injection delivered_at after_delivery opened closed run_of quiet_chip
-full_nodes_are_empty = refl
+-- ---- eight chips, two in a row: sixteen rows, eight columns
 
--- ---- a full node refers the last of its messages
+rows_of_three : rows 3 ≡ 16
+rows_of_three = refl
 
-abbrev two_at_home : Machine
-two_at_home = record {
-  chips = quiet_chip ∷ (quiet_chip ∷ []);
-  buffers = (message_to 0 0 1 (tag_of 0 0 0) ∷ (message_to 0 0 2 (tag_of 0 1 0) ∷ [])) ∷ ([] ∷ []);
-  logs = [] ∷ ([] ∷ []);
-  clock = 1;
-}
+columns_of_three : columns 3 ≡ 8
+columns_of_three = refl
 
-last_is_referred : (run_of 1 2 two_at_home (cycles 1)).buffers ≡ [] ∷ ((message_to 1 0 2 (tag_of 0 1 0) ∷ []) ∷ [])
-unfolding each_from leaver after_dimension queue senders chip_after_injection with_field chip_after_delivery after_injection delivered_at after_delivery opened closed run_of quiet_chip
-last_is_referred = refl
+north_of_the_second_chip : neighbour 3 North (record { chip = 1; proc = 3 }) ≡ record { chip = 7; proc = 15 }
+unfolding neighbour
+north_of_the_second_chip = refl
 
--- the first that has to cross goes first, here the second of three
-abbrev three_to_cross : Machine
-three_to_cross = record {
-  chips = quiet_chip ∷ (quiet_chip ∷ []);
-  buffers = (message_to 0 0 1 (tag_of 0 0 0) ∷ (message_to 1 0 2 (tag_of 0 1 0) ∷ (message_to 1 0 3 (tag_of 0 2 0) ∷ []))) ∷ ([] ∷ []);
-  logs = [] ∷ ([] ∷ []);
-  clock = 1;
-}
+-- a row wraps to the first chip
+east_of_the_second_chip : neighbour 3 East (record { chip = 1; proc = 3 }) ≡ record { chip = 0; proc = 0 }
+unfolding neighbour
+east_of_the_second_chip = refl
 
-first_crosses : (run_of 1 4 three_to_cross (cycles 1)).buffers ≡ (message_to 1 0 3 (tag_of 0 2 0) ∷ []) ∷ ([] ∷ [])
-unfolding each_from leaver after_dimension queue senders chip_after_injection with_field chip_after_delivery after_injection delivered_at after_delivery opened closed run_of quiet_chip
-first_crosses = refl
+south_from_the_last_row : neighbour 12 South (record { chip = 4095; proc = 15 }) ≡ record { chip = 63; proc = 3 }
+unfolding neighbour
+south_from_the_last_row = refl
 
--- ---- with room for one message it never arrives; with room for two it does in the first cycle
+-- what arrives going north came from the south
+north_comes_from_the_south : source 0 North (record { chip = 0; proc = 12 }) ≡ record { chip = 0; proc = 0 }
+unfolding neighbour
+north_comes_from_the_south = refl
 
-abbrev one_sender : ℕ → ℕ → Machine
-one_sender count rel = record {
-  chips = sending_chip count rel 3 ∷ (quiet_chip ∷ (quiet_chip ∷ (quiet_chip ∷ [])));
-  buffers = [] ∷ ([] ∷ ([] ∷ ([] ∷ [])));
-  logs = [] ∷ ([] ∷ ([] ∷ ([] ∷ [])));
-  clock = 0;
-}
+-- ---- the chain
 
-one_wanders : (run_of 2 1 (one_sender 1 2) (cycles 1)).buffers ≡ [] ∷ ([] ∷ ([] ∷ ((message_to 1 3 0 (tag_of 0 0 0) ∷ []) ∷ [])))
-unfolding each_from leaver after_dimension queue senders field_value sender sending_chip chip_after_injection with_field chip_after_delivery after_injection delivered_at after_delivery opened closed run_of quiet_chip
-one_wanders = refl
+the_first_has_no_predecessor : predecessor 0 ≡ None
+the_first_has_no_predecessor = refl
 
-one_comes_back : (run_of 2 1 (one_sender 1 2) (cycles 2)).buffers ≡ (message_to 2 3 0 (tag_of 0 0 0) ∷ []) ∷ ([] ∷ ([] ∷ ([] ∷ [])))
-unfolding each_from leaver after_dimension queue senders field_value sender sending_chip chip_after_injection with_field chip_after_delivery after_injection delivered_at after_delivery opened closed run_of quiet_chip
-one_comes_back = refl
+predecessor_of_five : predecessor 5 ≡ Some 4
+predecessor_of_five = refl
 
-two_have_room : found_in 2 (run_of 2 2 (one_sender 1 2) (cycles 1)) (tag_of 0 0 0) ≡ found.Delivered 2 3
-unfolding each_from leaver after_dimension queue senders field_value sender sending_chip chip_after_injection with_field chip_after_delivery after_injection delivered_at after_delivery opened closed run_of quiet_chip found_in
-two_have_room = refl
+-- ---- instructions, on processors of two memory bits
 
-first_of_two_arrives : found_in 2 (run_of 2 7 (one_sender 2 3) (cycles 1)) (tag_of 0 0 0) ≡ found.Delivered 3 3
-unfolding each_from leaver after_dimension queue senders field_value sender sending_chip chip_after_injection with_field chip_after_delivery after_injection delivered_at after_delivery opened closed run_of quiet_chip found_in
-first_of_two_arrives = refl
+-- 'memory bit 0 := 1, flag WRITE := flag 0' where flag 1 is 0
+instruction : ℕ → Nano
+instruction write = record { a = 0; b = 1; read = 0; write = write; cond = 1; sense = false; mem_table = 0xFF; flag_table = 0xAA; dir = South }
 
-second_of_two_waits : found_in 2 (run_of 2 7 (one_sender 2 3) (cycles 1)) (tag_of 0 1 0) ≡ found.Router 2
-unfolding each_from leaver after_dimension queue senders field_value sender sending_chip chip_after_injection with_field chip_after_delivery after_injection delivered_at after_delivery opened closed run_of quiet_chip found_in
-second_of_two_waits = refl
+-- memory bits 0 and 0, and these flags 0 and 1
+processor : Bool → Bool → Processor
+processor f g = record { memory = replicate 2 false; flags = f ∷ g ∷ replicate 14 false }
 
--- ---- six senders on one chip: four are taken, one is delivered, two wait
+-- a condition that fails stores nothing
+failing_condition : processor_after (instruction 2) true (processor true true) ≡ processor true true
+unfolding processor_after instruction processor
+failing_condition = refl
 
-abbrev many_senders : ℕ → Machine
-many_senders count = record { chips = sending_chip count 0 9 ∷ []; buffers = [] ∷ []; logs = [] ∷ []; clock = 0 }
+-- one that holds stores both outputs
+holding_condition : processor_after (instruction 2) false (processor true false)
+    ≡ record { memory = true ∷ false ∷ []; flags = true ∷ false ∷ true ∷ replicate 13 false }
+unfolding processor_after instruction processor
+holding_condition = refl
 
--- the numbers of the processors of a machine of one chip with this flag
-abbrev with_flag : ℕ → Machine → List Bool
-with_flag number machine = map (λ processor. flag processor number) (chip_at machine.chips 0)
+-- a store into flag ZERO is dropped, but memory is stored
+dropped_store : processor_after (instruction 8) true (processor true false) ≡ record { memory = true ∷ false ∷ []; flags = true ∷ replicate 15 false }
+unfolding processor_after instruction processor
+dropped_store = refl
 
-abbrev yes_and_no : List ℕ → List Bool
-yes_and_no numbers = map (λ k. k == 1) numbers
+-- one chip, whose processor 12 alone has flag 0, and a condition that fails
+one_sender : Chips
+one_sender = each_processor (λ p. processor (p == 12) (p == 12)) ∷ []
 
-four_are_taken : (run_of 0 7 (many_senders 6) (cycles 1)).buffers ≡ (message_to 0 9 1 (tag_of 0 1 0) ∷ (message_to 0 9 2 (tag_of 0 2 0) ∷ (message_to 0 9 3 (tag_of 0 3 0) ∷ []))) ∷ []
-unfolding each_from leaver after_dimension queue senders field_value sender sending_chip chip_after_injection with_field chip_after_delivery after_injection delivered_at after_delivery opened closed run_of
-four_are_taken = refl
+-- its bit arrives over NEWS all the same, southward round the torus at processor 0, where the condition holds
+news_of_a_failing_sender : flag (processor_at (chip_at (after_nano 0 (instruction 10) one_sender) 0) 0) 10 ≡ true
+unfolding after_nano each_from chip_after incoming processor_after neighbour instruction processor one_sender
+news_of_a_failing_sender = refl
 
-four_are_acknowledged : with_flag ACK (run_of 0 7 (many_senders 6) (cycles 1)) ≡ yes_and_no (1 ∷ (1 ∷ (1 ∷ (1 ∷ replicate 12 0))))
-unfolding each_from leaver after_dimension queue senders field_value sender sending_chip chip_after_injection with_field chip_after_delivery after_injection delivered_at after_delivery opened closed run_of
-four_are_acknowledged = refl
+-- and the sender keeps what it had
+sender_keeps : processor_at (chip_at (after_nano 0 (instruction 10) one_sender) 0) 12 ≡ processor true true
+unfolding after_nano each_from chip_after incoming processor_after neighbour instruction processor one_sender
+sender_keeps = refl
 
-two_wait_to_send : with_flag SEND (run_of 0 7 (many_senders 6) (cycles 1)) ≡ yes_and_no (0 ∷ (0 ∷ (0 ∷ (0 ∷ (1 ∷ (1 ∷ replicate 10 0))))))
-unfolding each_from leaver after_dimension queue senders field_value sender sending_chip chip_after_injection with_field chip_after_delivery after_injection delivered_at after_delivery opened closed run_of
-two_wait_to_send = refl
+-- ---- the wire
 
--- in the next cycle the last two are taken, and the first four are no longer acknowledged
-last_are_acknowledged : with_flag ACK (run_of 0 7 (many_senders 6) (cycles 2)) ≡ yes_and_no (0 ∷ (0 ∷ (0 ∷ (0 ∷ (1 ∷ (1 ∷ replicate 10 0))))))
-unfolding each_from leaver after_dimension queue senders field_value sender sending_chip chip_after_injection with_field chip_after_delivery after_injection delivered_at after_delivery opened closed run_of
-last_are_acknowledged = refl
+one_drives_the_wire : wire ((processor false false ∷ []) ∷ (record { memory = []; flags = set (replicate 16 false) 9 true } ∷ []) ∷ []) ≡ true
+unfolding wire processor
+one_drives_the_wire = refl
 
--- where there is room for two, two are taken
-room_for_two : (run_of 0 2 (many_senders 6) (cycles 1)).logs
-    ≡ (Injected (message_to 0 9 0 (tag_of 0 0 0)) ∷ (Injected (message_to 0 9 1 (tag_of 0 1 0)) ∷ (Delivered (message_to 0 9 0 (tag_of 0 0 0)) 0 ∷ []))) ∷ []
-unfolding each_from leaver after_dimension queue senders field_value sender sending_chip chip_after_injection with_field chip_after_delivery after_injection delivered_at after_delivery opened closed run_of
-room_for_two = refl
+nobody_drives_it : wire ((processor true true ∷ []) ∷ []) ≡ false
+unfolding wire processor
+nobody_drives_it = refl
 
--- ---- two senders to one processor: the second waits for RECV
+-- ---- planes
 
-the_first_is_received : field_value (processor_at (chip_at (run_of 0 7 (many_senders 2) (cycles 3)).chips 0) 9) 4032 32 ≡ 0
-unfolding each_from leaver after_dimension queue senders field_value sender sending_chip chip_after_injection with_field chip_after_delivery after_injection delivered_at after_delivery opened closed run_of
-the_first_is_received = refl
-
-the_second_waits : found_in 0 (run_of 0 7 (many_senders 2) (cycles 3)) (tag_of 0 1 0) ≡ found.Router 0
-unfolding each_from leaver after_dimension queue senders field_value sender sending_chip chip_after_injection with_field chip_after_delivery after_injection delivered_at after_delivery opened closed run_of found_in
-the_second_waits = refl
-
--- RECV of all processors falls
-abbrev ready_again : Processor → Processor
-ready_again processor = record processor { flags = slice_set processor.flags RECV false }
-
-abbrev received_again : Machine → Machine
-received_again machine = record machine { chips = map (map ready_again) machine.chips }
-
-the_second_comes : field_value (processor_at (chip_at (run_of 0 7 (received_again (run_of 0 7 (many_senders 2) (cycles 1))) (cycles 1)).chips 0) 9) 4032 32 ≡ 1
-unfolding each_from leaver after_dimension queue senders field_value sender sending_chip chip_after_injection with_field chip_after_delivery after_injection delivered_at after_delivery opened closed run_of
-the_second_comes = refl
+plane_of_two : plane_number (λ p. p == 0) ≡ 1
+unfolding plane_number each_from
+plane_of_two = refl

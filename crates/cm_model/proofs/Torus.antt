@@ -43,6 +43,46 @@ on_and_back x w h = by_last (cases_lt (x + 1) w) where
       let here : x ≡ w - 1 = omega arith in
       ap (λ (n : ℕ). (n + w - 1) % w) (ap (λ (n : ℕ). (n + 1) % w) here ∙ on-last w (omega arith)) ∙ back-first w (omega arith) ∙ sym here
 
+-- ---- a ring of so many fours
+
+-- one step on within four
+pub on_within : (a r w : ℕ) → a < w → r < 3 → (4 * a + r + 1) % (4 * w) ≡ 4 * a + (r + 1)
+on_within a r w h k = mod-eq_of_lt (omega arith) ∙ omega arith
+
+-- one step on from the last of four leads to the first of the next
+pub on_over : (a w : ℕ) → a < w → (4 * a + 3 + 1) % (4 * w) ≡ 4 * ((a + 1) % w) + 0
+on_over a w h = by_last (cases_lt (a + 1) w) where
+  by_last : (a + 1 < w) ⊎ (w ≤ a + 1) → (4 * a + 3 + 1) % (4 * w) ≡ 4 * ((a + 1) % w) + 0
+  by_last (inl inside) =
+      let next : (a + 1) % w ≡ a + 1 = on-other a w inside in
+      let here : (4 * a + 3 + 1) % (4 * w) ≡ 4 * a + 3 + 1 = mod-eq_of_lt (omega arith) in
+      omega arith
+  by_last (inr last) =
+      let whole : w ≡ a + 1 = omega arith in
+      let next : (a + 1) % w ≡ 0 = ap (λ (n : ℕ). n % w) (sym whole) ∙ mod_self w in
+      let here : (4 * a + 3 + 1) % (4 * w) ≡ 0 = ap (λ (n : ℕ). n % (4 * w)) (let e : 4 * a + 3 + 1 ≡ 4 * w = omega arith in e) ∙ mod_self (4 * w) in
+      omega arith
+
+-- one step back within four
+pub back_within : (a r w : ℕ) → a < w → 0 < r → r < 4 → (4 * a + r + 4 * w - 1) % (4 * w) ≡ 4 * a + (r - 1)
+back_within a r w h some k =
+    ap (λ (n : ℕ). n % (4 * w)) (let e : 4 * a + r + 4 * w - 1 ≡ 4 * a + (r - 1) + 4 * w = omega arith in e)
+        ∙ add-mod_right (4 * a + (r - 1)) (4 * w) ∙ mod-eq_of_lt (omega arith)
+
+-- one step back from the first of four leads to the last of the one before
+pub back_over : (a w : ℕ) → a < w → (4 * a + 0 + 4 * w - 1) % (4 * w) ≡ 4 * ((a + w - 1) % w) + 3
+back_over zero w h =
+    let before : (0 + w - 1) % w ≡ w - 1 = back-first w h in
+    let here : (4 * zero + 0 + 4 * w - 1) % (4 * w) ≡ 4 * w - 1 =
+      ap (λ (n : ℕ). n % (4 * w)) (let e : 4 * zero + 0 + 4 * w - 1 ≡ 4 * w - 1 = omega arith in e) ∙ mod-eq_of_lt (omega arith) in
+    omega arith
+back_over (suc a) w h =
+    let before : (suc a + w - 1) % w ≡ suc a - 1 = back-other (suc a) w (omega arith) h in
+    let here : (4 * suc a + 0 + 4 * w - 1) % (4 * w) ≡ 4 * a + 3 =
+      ap (λ (n : ℕ). n % (4 * w)) (let e : 4 * suc a + 0 + 4 * w - 1 ≡ 4 * a + 3 + 4 * w = omega arith in e)
+          ∙ add-mod_right (4 * a + 3) (4 * w) ∙ mod-eq_of_lt (omega arith) in
+    omega arith
+
 -- ---- rows and columns
 
 pub columns_some : (n : ℕ) → 0 < chip_columns n
@@ -52,16 +92,27 @@ columns_some n = pow_pos (n / 2)
 pub chips_in_rows : (n : ℕ) → 2 ^ n ≡ chip_columns n * 2 ^ (n - n / 2)
 chips_in_rows n = ap (λ (k : ℕ). 2 ^ k) (omega arith) ∙ pow-add 2 (n / 2) (n - n / 2)
 
+-- the row of chips in which a chip stands
+pub chip_row-lt : (n chip : ℕ) → chip < 2 ^ n → chip / chip_columns n < 2 ^ (n - n / 2)
+chip_row-lt n chip h =
+    div_below chip (chip_columns n) (2 ^ (n - n / 2)) (columns_some n) (subst (λ (k : ℕ). chip < k) (chips_in_rows n ∙ omega arith) h)
+
+pub chip_column-lt : (n chip : ℕ) → chip % chip_columns n < chip_columns n
+chip_column-lt n chip = mod-lt chip (columns_some n)
+
+-- a chip is the one in its row and column
+pub chip-own : (n chip : ℕ) → chip / chip_columns n * chip_columns n + chip % chip_columns n ≡ chip
+chip-own n chip = shr_split chip (n / 2)
+
 pub row_of-lt : (n : ℕ) (place : Place) → IsPlace n place → row_of n place < rows n
 row_of-lt n place there =
-    let row : place.chip / chip_columns n < 2 ^ (n - n / 2) =
-      div_below place.chip (chip_columns n) (2 ^ (n - n / 2)) (columns_some n) (subst (λ (k : ℕ). place.chip < k) (chips_in_rows n ∙ omega arith) there.chip) in
+    let row : place.chip / chip_columns n < 2 ^ (n - n / 2) = chip_row-lt n place.chip there.chip in
     let proc = there.proc in
     omega arith
 
 pub column_of-lt : (n : ℕ) (place : Place) → place.proc < 16 → column_of n place < columns n
 column_of-lt n place below =
-    let column : place.chip % chip_columns n < chip_columns n = mod-lt place.chip (columns_some n) in
+    let column : place.chip % chip_columns n < chip_columns n = chip_column-lt n place.chip in
     omega arith
 
 -- the place in a row and a column stands there
@@ -80,7 +131,7 @@ place_at-own n place below = λ i. record { chip = chip i; proc = proc i } where
   chip =
       ap (λ (k : ℕ). k * chip_columns n + (4 * (place.chip % chip_columns n) + place.proc % 4) / 4) (omega arith)
           ∙ ap (λ (k : ℕ). place.chip / chip_columns n * chip_columns n + k) (omega arith)
-          ∙ shr_split place.chip (n / 2)
+          ∙ chip-own n place.chip
   proc : 4 * ((4 * (place.chip / chip_columns n) + place.proc / 4) % 4) + (4 * (place.chip % chip_columns n) + place.proc % 4) % 4 ≡ place.proc
   proc = omega arith
 
@@ -91,6 +142,16 @@ place_at_is_place n row column h k = record {
       (mul-add-lt (row / 4) (chip_columns n) (column / 4) (2 ^ (n - n / 2)) (omega arith) (omega arith));
   proc = omega arith
 }
+
+-- the place in a row and a column of a chip that stands in a row and a column of chips
+pub place_at-split : (n a r b s : ℕ) → r < 4 → s < 4 → place_at n (4 * a + r) (4 * b + s) ≡ record { chip = a * chip_columns n + b; proc = 4 * r + s }
+place_at-split n a r b s h k = λ i. record { chip = chip i; proc = proc i } where
+  chip : (4 * a + r) / 4 * chip_columns n + (4 * b + s) / 4 ≡ a * chip_columns n + b
+  chip =
+      ap (λ (m : ℕ). m * chip_columns n + (4 * b + s) / 4) (let e : (4 * a + r) / 4 ≡ a = omega arith in e)
+          ∙ ap (λ (m : ℕ). a * chip_columns n + m) (let e : (4 * b + s) / 4 ≡ b = omega arith in e)
+  proc : 4 * ((4 * a + r) % 4) + (4 * b + s) % 4 ≡ 4 * r + s
+  proc = omega arith
 
 -- ---- steps there and back
 

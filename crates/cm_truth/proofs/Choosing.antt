@@ -1,6 +1,5 @@
 -- Choices made by exclusive or, as the code makes them.
-use Rattle.std.proofs.Common.{◌≡◌, ℕ, ◌+◌, ◌-◌, ◌*◌, ◌/◌, ◌%◌, ◌^◌, ◌<◌, zero, suc, Bool, true, false, cond, ◌&&◌, ◌==◌, refl, ap, ◌∙◌, arith}
-use Rattle.std.specs.Int.{bit_at}
+use Rattle.std.proofs.Common.{◌≡◌, ℕ, ◌+◌, ◌-◌, ◌%◌, ◌<◌, zero, suc, Bool, true, false, ◌&&◌, ◌==◌, ap, ◌∙◌, arith}
 use Rattle.std.proofs.lemmas.Nat.Bits.{bit_at-zero, bit_at_ones}
 use Rattle.cm_bits.specs.Bit.{bit, differ}
 use Rattle.cm_model.specs.Processor.{entry}
@@ -16,8 +15,8 @@ four_chosen true true w x y z = ap (λ (v : Bool). differ v (differ (differ w y)
 -- the choice between four and their differences from four others is a choice of eight
 pub eight_chosen : (table : ℕ) (a b f : Bool)
     → differ (chosen_of_four b f (bit table 0) (bit table 1) (bit table 2) (bit table 3))
-        (a && chosen_of_four b f (differ (bit table 0) (bit table 4)) (differ (bit table 1) (bit table 5)) (differ (bit table 2) (bit table 6)) (differ (bit table 3) (bit table 7)))
-      ≡ entry table a b f
+    (a && chosen_of_four b f (differ (bit table 0) (bit table 4)) (differ (bit table 1) (bit table 5)) (differ (bit table 2) (bit table 6)) (differ (bit table 3) (bit table 7)))
+    ≡ entry table a b f
 eight_chosen table false false false = differ_chosen false (bit table 0) (bit table 4)
 eight_chosen table false false true = differ_chosen false (bit table 1) (bit table 5)
 eight_chosen table false true false = differ_chosen false (bit table 2) (bit table 6)

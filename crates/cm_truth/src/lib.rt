@@ -60,6 +60,10 @@ fn chosen(four: Four, b: Plane, f: Plane) -> Plane
 {
     let by_f = four.neither ^ four.by_f;
     let without = changed(f, four.neither, by_f);
-    let difference = changed(f, four.neither ^ four.by_b, by_f ^ (four.by_b ^ four.by_both));
+    let difference = changed(
+        f,
+        four.neither ^ four.by_b,
+        by_f ^ (four.by_b ^ four.by_both),
+    );
     changed(b, without, difference)
 }

@@ -1,0 +1,5 @@
+//! Tests of what crosses crates; it has no code of its own.
+#![tactic(auto)]
+
+#[cfg(test)]
+mod chip;

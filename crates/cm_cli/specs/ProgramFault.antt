@@ -1,0 +1,46 @@
+-- The faults of the program by their numbers. Ours.
+use Rattle.std.specs.Prelude.{ℕ, Option, Some, None}
+use Rattle.cm_line.specs.declared.fault.LineFault.{LineFault}
+use Rattle.cm_line.specs.declared.fault.LineFault.TheVariants as line
+use Rattle.cm_cli.specs.declared.fault.AsmKind.{AsmKind}
+use Rattle.cm_cli.specs.declared.fault.AsmKind.TheVariants as kind
+use Rattle.cm_cli.specs.declared.fault.ChipFault.{ChipFault}
+use Rattle.cm_cli.specs.declared.fault.ChipFault.TheVariants as chip
+use Rattle.cm_cli.specs.declared.program_fault.ProgramFault.{ProgramFault}
+use Rattle.cm_cli.specs.declared.program_fault.ProgramFault.TheVariants.{BadLine, Text, Read, Write, TooMuch, Memory}
+
+abbrev pub number_of_kind : AsmKind → ℕ
+number_of_kind kind.Memory = 14
+number_of_kind kind.Word = 15
+number_of_kind kind.Operands = 16
+number_of_kind kind.Number = 17
+
+abbrev pub number_of : ProgramFault → ℕ
+number_of BadLine = 38
+number_of (Text fault) = number_of_kind fault.kind
+number_of Read = 30
+number_of Write = 31
+number_of TooMuch = 32
+number_of Memory = 33
+
+-- the line of the text, if the fault stands in one
+abbrev pub line_of : ProgramFault → Option ℕ
+line_of BadLine = None
+line_of (Text fault) = Some fault.line
+line_of Read = None
+line_of Write = None
+line_of TooMuch = None
+line_of Memory = None
+
+-- a session's fault as one of the program
+abbrev pub of_chip : ChipFault → ProgramFault
+of_chip (chip.Text fault) = Text fault
+of_chip chip.Read = Read
+of_chip (chip.Write count) = Write
+of_chip chip.TooMuch = TooMuch
+of_chip chip.Memory = Memory
+
+-- a fault of the command line as one of the program
+abbrev pub of_line : LineFault → ProgramFault
+of_line line.BadLine = BadLine
+of_line line.Memory = Memory

@@ -1,0 +1,91 @@
+//! Why the program ends with a status other than 0.
+
+ghost use Rattle.std.specs.Prelude.{◌≡◌, ◌≤◌, IfSome};
+ghost use Rattle.cm_cli.specs.Report.{HasLine};
+ghost use Rattle.cm_cli.specs.ProgramFault.{number_of, number_of_kind, line_of};
+
+use cm_line::LineFault;
+
+use crate::fault::{AsmFault, AsmKind, ChipFault};
+
+/// A fault of the whole program, by the numbers of the one list of refusals.
+#[derive(Clone, Copy, Debug, PartialEq, Eq)]
+pub enum ProgramFault {
+    BadLine,
+    Text(AsmFault),
+    Read,
+    Write,
+    TooMuch,
+    Memory,
+}
+
+impl ProgramFault {
+    /// The number that `report` is told.
+    pub fn number(&self) -> u8
+        ensures value { result ≡ number_of self.now }
+        ensures some { 1 ≤ result }
+        ensures known { result ≤ 38 }
+    {
+        match self {
+            ProgramFault::BadLine => 38,
+            ProgramFault::Text(fault) => asm_number(fault.kind),
+            ProgramFault::Read => 30,
+            ProgramFault::Write => 31,
+            ProgramFault::TooMuch => 32,
+            ProgramFault::Memory => 33,
+        }
+    }
+
+    /// The line of the program text in which it stands.
+    pub fn line(&self) -> Option<u64>
+        ensures value { result ≡ line_of self.now }
+        ensures place { IfSome result (λ _. HasLine (number_of self.now)) }
+    {
+        match self {
+            ProgramFault::Text(fault) => Some(fault.line),
+            _ => None,
+        }
+    }
+}
+
+fn asm_number(kind: AsmKind) -> u8
+    ensures value { result ≡ number_of_kind kind }
+{
+    match kind {
+        AsmKind::Memory => 14,
+        AsmKind::Word => 15,
+        AsmKind::Operands => 16,
+        AsmKind::Number => 17,
+    }
+}
+
+impl From<ChipFault> for ProgramFault {
+    ghost use Rattle.std.specs.Prelude.{◌≡◌};
+    ghost use Rattle.cm_cli.specs.ProgramFault.{of_chip};
+
+    ghost from_gives = { λ fault whole. whole ≡ of_chip fault };
+
+    fn from(fault: ChipFault) -> ProgramFault {
+        match fault {
+            ChipFault::Text(text) => ProgramFault::Text(text),
+            ChipFault::Read => ProgramFault::Read,
+            ChipFault::Write(_) => ProgramFault::Write,
+            ChipFault::TooMuch => ProgramFault::TooMuch,
+            ChipFault::Memory => ProgramFault::Memory,
+        }
+    }
+}
+
+impl From<LineFault> for ProgramFault {
+    ghost use Rattle.std.specs.Prelude.{◌≡◌};
+    ghost use Rattle.cm_cli.specs.ProgramFault.{of_line};
+
+    ghost from_gives = { λ fault whole. whole ≡ of_line fault };
+
+    fn from(fault: LineFault) -> ProgramFault {
+        match fault {
+            LineFault::BadLine => ProgramFault::BadLine,
+            LineFault::Memory => ProgramFault::Memory,
+        }
+    }
+}

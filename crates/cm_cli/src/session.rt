@@ -1,0 +1,58 @@
+//! A session of one chip, from the bytes of a source to those of a sink.
+
+ghost use Rattle.std.specs.Prelude.{◌≡◌, ◌<◌, ◌^◌, ◌↔◌, true, false, length, Ok, IfSome, IsErrOf, MatchResult};
+ghost use Rattle.cm_cli.specs.Session.{Ends, is_write, answer_of, HasNoAnswer};
+
+use cm_bits::{Sink, Source, write_all};
+use std::alloc::Global;
+
+use crate::fault::ChipFault;
+use crate::one_chip::run_chip;
+use crate::program::read_program;
+use crate::takes::{TakeFault, take};
+use crate::texts::chip_text;
+
+const LIMIT: u64 = 1048576;
+
+/// Reads a whole text of `nano` lines, at most 1,048,576 bytes, runs it on one blank chip and writes
+/// the chip's flags and planes. Nothing is written before the whole text was read, accepted and run.
+pub fn chip_session<I: Source, O: Sink>(alloc: Global, source: &mut I, sink: &mut O) -> Result<(), ChipFault>
+    requires reader { I.has_failed source.old ≡ false }
+    requires writer { O.has_failed sink.old ≡ false }
+    ensures ends { IfSome (I.left source.old) (λ text. Ends text (O.contents sink.old) (O.contents sink.new) result) }
+    ensures read { (I.has_failed source.new ≡ true) ↔ IsErrOf result ChipFault.Read }
+    ensures write { O.has_failed sink.new ≡ is_write result }
+{
+    let text = match take(alloc, source, LIMIT) {
+        Ok(text) => text,
+        Err(TakeFault::Read) => return Err(ChipFault::Read),
+        Err(TakeFault::TooMuch) => return Err(ChipFault::TooMuch),
+        Err(TakeFault::Memory) => return Err(ChipFault::Memory),
+    };
+    let answer = match answer(alloc, text.as_slice()) {
+        Ok(answer) => answer,
+        Err(fault) => return Err(fault),
+    };
+    match write_all(sink, answer.as_slice()) {
+        Ok(()) => Ok(()),
+        Err(fault) => Err(ChipFault::Write(fault.0 as u128)),
+    }
+}
+
+/// What the session writes for a text.
+fn answer(alloc: Global, text: &[u8]) -> Result<Vec<u8>, ChipFault>
+    requires short { length text.now < 2 ^ 63 }
+    ensures value { MatchResult result (λ bytes. answer_of text.now ≡ Ok bytes.items) (HasNoAnswer text.now) }
+{
+    let nanos = match read_program(alloc, text) {
+        Ok(nanos) => nanos,
+        Err(fault) => return Err(ChipFault::Text(fault)),
+    };
+    let Ok(chip) = run_chip(alloc, nanos.as_slice()) else {
+        return Err(ChipFault::Memory);
+    };
+    match chip_text(alloc, &chip) {
+        Ok(bytes) => Ok(bytes),
+        Err(_) => Err(ChipFault::Memory),
+    }
+}

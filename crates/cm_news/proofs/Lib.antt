@@ -1,0 +1,5 @@
+mod Shifting
+mod Stepping
+mod Sources
+mod OneWay
+mod Joining

@@ -1,0 +1,66 @@
+-- Steps on the grid as one chip sees them, four by four processors: Hillis 1985; the numbering is ours.
+use Rattle.std.specs.Prelude.{ℕ, ◌+◌, ◌-◌, ◌*◌, ◌/◌, ◌%◌, ◌==◌, Bool, false, List, Option, Some, None, slice_index, if◌then◌else◌}
+use Rattle.cm_bits.specs.Bit.{bit}
+use Rattle.cm_bits.specs.declared.place.Place.{Place}
+use Rattle.cm_bits.specs.declared.plane.Dir.{Dir}
+use Rattle.cm_bits.specs.declared.plane.Dir.TheVariants.{North, East, West, South}
+
+-- the row of a processor on its chip
+abbrev pub row : ℕ → ℕ
+row p = p / 4
+
+-- the column of a processor on its chip
+abbrev pub column : ℕ → ℕ
+column p = p % 4
+
+-- the processor in a row and a column of its chip
+abbrev pub processor_in : ℕ → ℕ → ℕ
+processor_in row column = 4 * row + column
+
+-- a step in this direction that leads to the processor comes from another chip
+abbrev pub is_entry : Dir → ℕ → Bool
+is_entry North p = row p == 3
+is_entry South p = row p == 0
+is_entry West p = column p == 3
+is_entry East p = column p == 0
+
+-- where a step in this direction that leads to the processor comes from, on the same chip
+abbrev pub one_back : Dir → ℕ → ℕ
+one_back North p = processor_in (row p + 1) (column p)
+one_back South p = processor_in (row p - 1) (column p)
+one_back West p = processor_in (row p) (column p + 1)
+one_back East p = processor_in (row p) (column p - 1)
+
+-- the processor of the same chip from which a step in this direction leads here: none where it comes from another chip
+abbrev pub sender : Dir → ℕ → Option ℕ
+sender dir p = if is_entry dir p then None else Some (one_back dir p)
+
+-- the bit of a processor: 0 where there is none
+abbrev pub bit_of : ℕ → Option ℕ → Bool
+bit_of plane None = false
+bit_of plane (Some p) = bit plane p
+
+-- the processor from which bit i of the edge in this direction is: the edge goes from west to east, or from north to south
+abbrev pub at_edge : Dir → ℕ → ℕ
+at_edge North i = processor_in 0 i
+at_edge South i = processor_in 3 i
+at_edge West i = processor_in i 0
+at_edge East i = processor_in i 3
+
+-- which bit of that edge comes in at the processor, from the next chip
+abbrev pub along : Dir → ℕ → ℕ
+along North p = column p
+along South p = column p
+along West p = row p
+along East p = row p
+
+-- a corner of the chip at which steps in this direction come in
+abbrev pub corner : Dir → ℕ
+corner North = 15
+corner South = 0
+corner West = 15
+corner East = 0
+
+-- the bit of a place, of a plane for each chip
+abbrev pub bit_of_place : List ℕ → Place → Bool
+bit_of_place planes place = bit (slice_index planes place.chip) place.proc

@@ -1,0 +1,255 @@
+//! Steps on the grid: of one place, and of a plane at once.
+
+ghost use Rattle.std.specs.Prelude.{◌≡◌, ℕ, ◌*◌, ◌/◌, ◌%◌, ◌^◌, ◌<◌, ◌≤◌, ◌==◌, false, length, if◌then◌else◌};
+ghost use Rattle.cm_bits.specs.Bit.{bit};
+ghost use Rattle.cm_model.specs.Chip.{IsPlane};
+ghost use Rattle.cm_model.specs.Place.{rows, columns, chip_columns, row_of, column_of, place_at, neighbour, opposite, source};
+ghost use Rattle.cm_news.specs.Moves.{is_entry, sender, bit_of, at_edge, along, corner, bit_of_place};
+
+use cm_bits::{Dir, Place, Plane, Proc};
+
+/// The grid of a cube of `N` dimensions, a torus of `4 * 2^(N - N/2)` rows and `4 * 2^(N/2)` columns
+/// (Hillis 1985; the numbering is ours).
+pub struct Grid<const N: usize>;
+
+impl<const N: usize> Grid<N> {
+    /// The place one step on in a direction.
+    pub fn neighbour(place: Place, dir: Dir) -> Place
+        requires dimension { N ≤ 12 }
+        requires chip { place.chip < 2 ^ N }
+        ensures value { result ≡ neighbour N dir place }
+        ensures within { result.chip < 2 ^ N }
+    {
+        let row = Self::row_of(&place);
+        let column = Self::column_of(&place);
+        let rows = Self::rows();
+        let columns = Self::columns();
+        match dir {
+            Dir::North => Self::place_at((row + rows - 1) % rows, column),
+            Dir::South => Self::place_at((row + 1) % rows, column),
+            Dir::West => Self::place_at(row, (column + columns - 1) % columns),
+            Dir::East => Self::place_at(row, (column + 1) % columns),
+        }
+    }
+
+    /// Where the bits of a chip's processors go that stay on the chip: a processor to which none
+    /// comes from the same chip gets 0.
+    pub fn inside(plane: Plane, dir: Dir) -> Plane
+        ensures value { IsPlane result (λ p. bit_of plane (sender dir p)) }
+    {
+        match dir {
+            Dir::North => plane >> 4,
+            Dir::South => plane << 4,
+            Dir::West => plane >> 1 & 0x7777,
+            Dir::East => plane << 1 & 0xeeee,
+        }
+    }
+
+    /// The four bits of a chip's processors that leave it: bit i is that of column i for north and
+    /// south, that of row i for east and west.
+    pub fn edge(plane: Plane, dir: Dir) -> u8
+        ensures value { (i : ℕ) → i < 4 → bit result i ≡ bit plane (at_edge dir i) }
+        ensures within { result < 16 }
+    {
+        let edge = match dir {
+            Dir::North => plane & 0xf,
+            Dir::South => plane >> 12,
+            Dir::West => first_column(plane),
+            Dir::East => first_column(plane >> 3),
+        };
+        edge as u8
+    }
+
+    /// What comes in at a chip when each processor of the machine sends its bit in a direction:
+    /// `planes` has a plane for each chip.
+    pub fn incoming(planes: &[Plane], dir: Dir, chip: u16) -> Plane
+        requires dimension { N ≤ 12 }
+        requires planes { length planes.now ≡ 2 ^ N }
+        requires chip { chip < 2 ^ N }
+        ensures value { IsPlane result
+            (λ p. bit_of_place planes.now (source N dir (record { chip = chip; proc = p }))) }
+    {
+        let own = planes[usize::from(chip)];
+        let before = planes[usize::from(Self::chip_before(chip, dir))];
+        Self::inside(own, dir) | entering(Self::edge(before, dir), dir)
+    }
+
+    /// The chip whose edge leads to this one's in a direction.
+    fn chip_before(chip: u16, dir: Dir) -> u16
+        requires dimension { N ≤ 12 }
+        requires chip { chip < 2 ^ N }
+        ensures value { result ≡ (source N dir (record { chip = chip; proc = corner dir })).chip }
+        ensures within { result < 2 ^ N }
+    {
+        let proc = corner(dir);
+        Self::neighbour(Place { chip, proc }, opposite(dir)).chip
+    }
+
+    fn rows() -> u16
+        requires dimension { N ≤ 12 }
+        ensures value { result ≡ rows N }
+    {
+        4 << (N - N / 2)
+    }
+
+    fn columns() -> u16
+        requires dimension { N ≤ 12 }
+        ensures value { result ≡ columns N }
+    {
+        4 * Self::chip_columns()
+    }
+
+    fn chip_columns() -> u16
+        requires dimension { N ≤ 12 }
+        ensures value { result ≡ chip_columns N }
+        ensures within { result ≤ 64 }
+    {
+        1 << (N / 2)
+    }
+
+    fn row_of(place: &Place) -> u16
+        requires dimension { N ≤ 12 }
+        requires chip { place.now.chip < 2 ^ N }
+        ensures value { result ≡ row_of N place.now }
+        ensures within { result < rows N }
+    {
+        4 * (place.chip / Self::chip_columns()) + u16::from(place.proc.get() / 4)
+    }
+
+    fn column_of(place: &Place) -> u16
+        requires dimension { N ≤ 12 }
+        requires chip { place.now.chip < 2 ^ N }
+        ensures value { result ≡ column_of N place.now }
+        ensures within { result < columns N }
+    {
+        4 * (place.chip % Self::chip_columns()) + u16::from(place.proc.get() % 4)
+    }
+
+    fn place_at(row: u16, column: u16) -> Place
+        requires dimension { N ≤ 12 }
+        requires row { row < rows N }
+        requires column { column < columns N }
+        ensures value { result ≡ place_at N row column }
+        ensures within { result.chip < 2 ^ N }
+    {
+        let proc = 4 * (row % 4) + column % 4;
+        Place {
+            chip: row / 4 * Self::chip_columns() + column / 4,
+            proc: Proc::new(proc as u8).unwrap(),
+        }
+    }
+}
+
+fn opposite(dir: Dir) -> Dir
+    ensures value { result ≡ opposite dir }
+{
+    match dir {
+        Dir::North => Dir::South,
+        Dir::South => Dir::North,
+        Dir::West => Dir::East,
+        Dir::East => Dir::West,
+    }
+}
+
+/// A processor to which a step in this direction leads from another chip.
+fn corner(dir: Dir) -> Proc
+    ensures value { result ≡ corner dir }
+{
+    match dir {
+        Dir::North | Dir::West => Proc::new(15).unwrap(),
+        Dir::South | Dir::East => Proc::new(0).unwrap(),
+    }
+}
+
+/// Bits 0, 4, 8 and 12 of a plane, close together.
+fn first_column(plane: Plane) -> u16
+    ensures value { (i : ℕ) → i < 4 → bit result i ≡ bit plane (4 * i) }
+    ensures within { result < 16 }
+{
+    let column = plane & 0x1111;
+    (column | column >> 3 | column >> 6 | column >> 9) & 0xf
+}
+
+/// Where the four bits go that leave another chip in a direction.
+fn entering(edge: u8, dir: Dir) -> Plane
+    requires within { edge < 16 }
+    ensures value { IsPlane result (λ p. if is_entry dir p then bit edge (along dir p) else false) }
+{
+    let edge = u16::from(edge);
+    match dir {
+        Dir::North => edge << 12,
+        Dir::South => edge,
+        Dir::West => to_first_column(edge) << 3,
+        Dir::East => to_first_column(edge),
+    }
+}
+
+/// Four bits, spread over bits 0, 4, 8 and 12.
+fn to_first_column(edge: u16) -> Plane
+    requires within { edge < 16 }
+    ensures value { IsPlane result (λ p. if p % 4 == 0 then bit edge (p / 4) else false) }
+{
+    (edge | edge << 3 | edge << 6 | edge << 9) & 0x1111
+}
+
+#[cfg(test)]
+mod tests {
+    use super::Grid;
+    use cm_bits::{Dir, Place, Plane, Proc};
+
+    const ONE: Plane = 0x0008;
+
+    fn place(chip: u16, proc: u8) -> Place
+        requires { proc < 16 }
+        ensures { result.chip ≡ chip }
+    {
+        Place {
+            chip,
+            proc: Proc::new(proc).unwrap(),
+        }
+    }
+
+    #[test]
+    fn one_bit_stays_on_the_chip_or_leaves_it(rt: HostRuntime) {
+        assert_eq!(rt; Grid::<3>::inside(ONE, Dir::West), 0x0004);
+        assert_eq!(rt; Grid::<3>::inside(ONE, Dir::South), 0x0080);
+        assert_eq!(rt; Grid::<3>::inside(ONE, Dir::East), 0);
+        assert_eq!(rt; Grid::<3>::inside(ONE, Dir::North), 0);
+        assert_eq!(rt; Grid::<3>::edge(ONE, Dir::East), 1);
+        assert_eq!(rt; Grid::<3>::edge(ONE, Dir::North), 8);
+        assert_eq!(rt; Grid::<3>::edge(ONE, Dir::West), 0);
+        assert_eq!(rt; Grid::<3>::edge(ONE, Dir::South), 0);
+    }
+
+    #[test]
+    fn one_bit_of_eight_chips_comes_in_at_one_place(rt: HostRuntime) {
+        let planes = [0, ONE, 0, 0, 0, 0, 0, 0];
+        let want = [
+            (Dir::North, 7, 15),
+            (Dir::South, 1, 7),
+            (Dir::East, 0, 0),
+            (Dir::West, 1, 2),
+        ];
+        for (dir, chip, proc) in want {
+            assert!(rt; Grid::<3>::neighbour(place(1, 3), dir) == place(chip, proc));
+            for other in 0..8 {
+                let plane = if other == chip { 1 << proc } else { 0 };
+                assert_eq!(rt; Grid::<3>::incoming(&planes, dir, other), plane);
+            }
+        }
+    }
+
+    #[test]
+    fn one_chip_is_a_torus(rt: HostRuntime) {
+        assert_eq!(rt; Grid::<0>::incoming(&[0x000f], Dir::North, 0), 0xf000);
+        assert_eq!(rt; Grid::<0>::incoming(&[0x1111], Dir::West, 0), 0x8888);
+    }
+
+    #[test]
+    fn the_largest_machine_wraps_at_its_corner(rt: HostRuntime) {
+        assert!(rt; Grid::<12>::neighbour(place(0, 0), Dir::North) == place(4032, 12));
+        assert!(rt; Grid::<12>::neighbour(place(0, 0), Dir::West) == place(63, 3));
+        assert!(rt; Grid::<12>::neighbour(place(4095, 15), Dir::South) == place(63, 3));
+        assert!(rt; Grid::<12>::neighbour(place(4095, 15), Dir::East) == place(4032, 12));
+    }
+}
