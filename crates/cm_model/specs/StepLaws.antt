@@ -1,10 +1,10 @@
 -- Laws of one step, each the contract of a function of its name.
-use Rattle.std.specs.Prelude.{◌≡◌, ℕ, ◌^◌, ◌<◌, Bool, Some, List, [], map}
+use Rattle.std.specs.Prelude.{◌≡◌, ℕ, ◌^◌, ◌<◌, Bool, Option, Some, List, [], map}
 use Rattle.cm_model.specs.declared.act.Nano.{Nano}
 use Rattle.cm_model.specs.declared.act.Act.TheVariants as act
-use Rattle.cm_model.specs.Router.{Standing, target, leaver, after_dimension}
+use Rattle.cm_model.specs.Router.{Standing, standing_at, target, leaver, after_dimension}
 use Rattle.cm_model.specs.Order.{queue, buffer}
-use Rattle.cm_model.specs.Leaver.{IsLeaver}
+use Rattle.cm_model.specs.Leaver.{IsLeaver, SincesDiffer}
 use Rattle.std.specs.List.{find}
 use Rattle.cm_model.specs.declared.message.Message.{Message}
 use Rattle.cm_model.specs.Processor.{Processor}
@@ -25,6 +25,10 @@ SendersAreAcknowledged = (taken : List ℕ) (chip : List Processor) (p : ℕ) �
 -- who leaves is the one with the least since of those that have to cross, or is referred with the greatest, or is nobody
 abbrev pub LeaversHaveTheirSince : Type 0
 LeaversHaveTheirSince = (cap d c : ℕ) (set : List Standing) → IsLeaver cap d c set (leaver cap d c set)
+
+-- and nobody else is, where no two records at the chip have one since
+abbrev pub LeaversAreUnique : Type 0
+LeaversAreUnique = (cap d c : ℕ) (set : List Standing) (leaving : Option Standing) → SincesDiffer (standing_at c set) → IsLeaver cap d c set leaving → leaving ≡ leaver cap d c set
 
 -- who leaves stands in the buffer at the place of the first that has to cross, or else, if it is full, last
 abbrev pub LeaversStandAtTheirPlace : Type 0

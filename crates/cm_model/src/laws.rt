@@ -1,7 +1,7 @@
 //! Laws over the definitions: what each function is named for holds, at every size of the machine.
 
 ghost use Rattle.cm_model.specs.Laws.{NeighboursLeadBack, MessagesAreFound, InjectedStandInTheAccount, BlankIsMachine, StepsAreToldByBuffers, RunsKeepRoom, RunsCanBeCut, RunsAreToldByBuffers, LogsOnlyGrow, AccountIsConserved, TagsStayApart, MachinesAreKept, RunsKeepMachines};
-ghost use Rattle.cm_model.specs.StepLaws.{SendersAreAcknowledged, DeliveriesAreApart, PayloadsAreReceived, LeaversHaveTheirSince, LeaversStandAtTheirPlace, TargetsAreKept, RoomIsKept, InstructionsKeepTheAccount};
+ghost use Rattle.cm_model.specs.StepLaws.{SendersAreAcknowledged, DeliveriesAreApart, PayloadsAreReceived, LeaversHaveTheirSince, LeaversAreUnique, LeaversStandAtTheirPlace, TargetsAreKept, RoomIsKept, InstructionsKeepTheAccount};
 
 /// A step on the grid and one back end where they began.
 pub fn neighbours_lead_back()
@@ -27,6 +27,12 @@ pub fn steps_are_told_by_buffers()
 pub fn leavers_have_their_since()
     ensures { LeaversHaveTheirSince }
 {}
+
+/// Where no two records at a chip have one since, nobody but its leaver is its leaver.
+pub fn leavers_are_unique()
+    ensures { LeaversAreUnique }
+{
+}
 
 /// Who leaves a chip is the first message of its buffer that has to cross, or else, if it is full, the last.
 pub fn leavers_stand_at_their_place()

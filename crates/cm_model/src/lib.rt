@@ -10,7 +10,7 @@ mod message;
 
 pub use act::{Act, Nano};
 pub use found::Found;
-pub use laws::{
+pub use laws::{leavers_are_unique, 
     account_is_conserved, blank_is_machine, deliveries_are_apart, injected_stand_in_the_account,
     instructions_keep_the_account, leavers_have_their_since, leavers_stand_at_their_place,
     logs_only_grow, machines_are_kept, messages_are_found, neighbours_lead_back,
