@@ -31,8 +31,7 @@ pub fn leavers_have_their_since()
 /// Where no two records at a chip have one since, nobody but its leaver is its leaver.
 pub fn leavers_are_unique()
     ensures { LeaversAreUnique }
-{
-}
+{}
 
 /// Who leaves a chip is the first message of its buffer that has to cross, or else, if it is full, the last.
 pub fn leavers_stand_at_their_place()
