@@ -129,6 +129,32 @@ second_of_two_waits : found_in 2 (run_of 2 7 (one_sender 2 3) (cycles 1)) (tag_o
 unfolding each_from leaver after_dimension queue senders field_value sender sending_chip chip_after_injection with_field chip_after_delivery after_injection delivered_at after_delivery opened closed run_of quiet_chip found_in
 second_of_two_waits = refl
 
+-- ---- one message crosses a cube of two chips and is delivered
+
+unfoldable one_letter : List Processor
+unfolding each_from sender
+one_letter = each_processor (λ p. if nat_lt p 1 then sender 1 5 3735928559 else record { memory = replicate 4096 false; flags = no_flags })
+
+abbrev letter_box : Machine
+letter_box = record { chips = one_letter ∷ (sending_chip 0 0 0 ∷ []); buffers = [] ∷ ([] ∷ []); logs = [] ∷ ([] ∷ []); clock = 0 }
+
+letter_is_logged : (run_of 1 1 letter_box (cycles 1)).logs
+    ≡ (Injected (message_to 1 5 3735928559 (tag_of 0 0 0)) ∷ []) ∷ ((Delivered (message_to 0 5 3735928559 (tag_of 0 0 0)) 1 ∷ []) ∷ [])
+unfolding each_from leaver after_dimension queue senders field_value sender sending_chip one_letter chip_after_injection with_field chip_after_delivery after_injection delivered_at after_delivery opened closed run_of
+letter_is_logged = refl
+
+letter_is_read : field_value (processor_at (chip_at (run_of 1 1 letter_box (cycles 1)).chips 1) 5) 4032 32 ≡ 3735928559
+unfolding each_from leaver after_dimension queue senders field_value sender sending_chip one_letter chip_after_injection with_field chip_after_delivery after_injection delivered_at after_delivery opened closed run_of
+letter_is_read = refl
+
+letter_is_received : flag (processor_at (chip_at (run_of 1 1 letter_box (cycles 1)).chips 1) 5) RECV ≡ true
+unfolding each_from leaver after_dimension queue senders field_value sender sending_chip one_letter chip_after_injection with_field chip_after_delivery after_injection delivered_at after_delivery opened closed run_of
+letter_is_received = refl
+
+sender_is_told : flag (processor_at (chip_at (run_of 1 1 letter_box (cycles 1)).chips 0) 0) ACK ≡ true
+unfolding each_from leaver after_dimension queue senders field_value sender sending_chip one_letter chip_after_injection with_field chip_after_delivery after_injection delivered_at after_delivery opened closed run_of
+sender_is_told = refl
+
 -- ---- six senders on one chip: four are taken, one is delivered, two wait
 
 abbrev many_senders : ℕ → Machine
