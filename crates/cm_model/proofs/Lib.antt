@@ -10,6 +10,7 @@ pub mod Injecting
 pub mod Delivering
 pub mod Opening
 pub mod Runs
+mod StandardFacts
 mod RouterFacts
 pub mod Rooms
 pub mod Torus
@@ -23,4 +24,8 @@ pub mod Wholes
 pub mod Messages
 pub mod Keeping
 pub mod Choosing
-mod StandardFacts
+pub mod Parts
+pub mod Receiving
+pub mod Blanks
+pub mod Apart
+pub mod Finding
