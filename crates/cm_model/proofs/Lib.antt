@@ -16,6 +16,7 @@ pub mod Rooms
 pub mod Torus
 pub mod Values
 pub mod Incoming
+mod Made
 pub mod Counting
 pub mod Conserving
 pub mod Accounting

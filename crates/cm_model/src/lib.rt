@@ -7,6 +7,7 @@ mod act;
 mod found;
 mod laws;
 mod message;
+mod plain;
 
 pub use act::{Act, Nano};
 pub use found::Found;
@@ -19,3 +20,4 @@ pub use laws::{
     steps_are_told_by_buffers, tags_stay_apart, targets_are_kept,
 };
 pub use message::{Event, Message, Tag};
+pub use plain::PlainMachine;
