@@ -115,6 +115,7 @@ impl Chip {
     /// One flag of all processors: bit p is that of processor p.
     pub fn flag_plane(&self, number: FlagNo) -> Plane
         ensures value { IsPlane result (λ p. flag (processor_at self.now p) number) }
+        ensures whole { IsChip self.now }
     {
         self.flags[usize::from(number.get())]
     }
