@@ -74,8 +74,8 @@ nanos_of_lines-append number [] more =
     ap (λ (n : ℕ). nanos_of_lines n more) (omega arith) ∙ sym (none_before (nanos_of_lines (number + 0) more))
 nanos_of_lines-append number (line ∷ lines) more =
     ap (with_line number (instruction_of (words_of line)))
-        (nanos_of_lines-append (number + 1) lines more
-        ∙ ap (λ (n : ℕ). joined (nanos_of_lines (number + 1) lines) (nanos_of_lines n more)) (omega arith))
+    (nanos_of_lines-append (number + 1) lines more
+    ∙ ap (λ (n : ℕ). joined (nanos_of_lines (number + 1) lines) (nanos_of_lines n more)) (omega arith))
     ∙ line_first number (instruction_of (words_of line)) (nanos_of_lines (number + 1) lines) (nanos_of_lines (number + suc (length lines)) more)
 
 -- the lines up to the next one, and those after it
@@ -88,7 +88,7 @@ pub next_line : (lines : List (List ℕ)) (i : ℕ) (line : List ℕ) (rest : Li
 next_line lines i line rest is = record {
   after = ap (drop 1) is ∙ drop-drop 1 i lines;
   before = take-add i 1 lines ∙ ap (λ (xs : List (List ℕ)). take i lines ++ take 1 xs) (sym is);
-  within = omega (arith, length-drop i lines, ap length is)
+  within = omega (arith, length-drop i lines, ap length is);
 }
 
 -- what was read of the lines before, and of a line that is blank
@@ -114,7 +114,7 @@ is_grown_for text i nanos before within = record {
   first = omega arith;
   within = within;
   nanos = nanos;
-  before = ap (λ (n : ℕ). nanos_of_lines 1 (take n (lines_of text))) (let e : i + 1 - 1 ≡ i = omega arith in e) ∙ before
+  before = ap (λ (n : ℕ). nanos_of_lines 1 (take n (lines_of text))) (let e : i + 1 - 1 ≡ i = omega arith in e) ∙ before;
 }
 
 -- a line that is refused is told whatever its kind, since memory is not a kind of a line

@@ -1,8 +1,8 @@
-use Rattle.std.proofs.Common.{◌≡◌, ℕ, ◌+◌, Ok, Err, Some, None, List, [], ◌∷◌, ◌++◌, drop, length, take, refl, sym, ap, ◌∙◌, arith, append-nil, rules}
+use Rattle.std.proofs.Common.{◌≡◌, ◌+◌, Ok, List, [], ◌∷◌, ◌++◌, length, take, sym, ap, ◌∙◌, arith, append-nil, rules}
 use Rattle.cm_bits.specs.Text.{lines_left, lines_of}
 use Rattle.cm_model.specs.declared.act.Nano.{Nano}
-use Rattle.cm_cli.specs.Program.{program_of, nanos_of_lines, IsGrownFor}
-use Rattle.cm_cli.proofs.Reading.{prepended, none_before, few_lines, read_blank, read_instruction, read_fault, IsNext, next_line, read_on_blank, read_on_instruction, is_grown_for, of_kind}
+use Rattle.cm_cli.specs.Program.{program_of, nanos_of_lines}
+use Rattle.cm_cli.proofs.Reading.{none_before, few_lines, read_blank, read_instruction, read_fault, next_line, read_on_blank, read_on_instruction, is_grown_for, of_kind}
 use Rattle.cm_cli.proofs.program.read_program.Goals as goal
 
 pub loop-bytes-init : goal.loop-bytes-init
@@ -13,7 +13,7 @@ loop-bytes-init c =
       counted = omega (arith, few_lines c.args.text.now, ap length lines);
       left = lines;
       before = ap (λ (xs : List Nano). Ok xs) (sym c.new-nanos.ensures.items);
-      read = rw (lines, c.new-nanos.ensures.items) (none_before (nanos_of_lines 1 (lines_of c.args.text.now)))
+      read = rw (lines, c.new-nanos.ensures.items) (none_before (nanos_of_lines 1 (lines_of c.args.text.now)));
     }
 
 pub overflow_add-line : goal.overflow_add-line
@@ -30,7 +30,7 @@ loop-bytes-preserved-in-Ok-None c =
       before = ap (nanos_of_lines 1) here.before
           ∙ read_on_blank (take c.loop-bytes.line (lines_of c.args.text.now)) c.in-Some.bytes.now c.loop-bytes.nanos.items c.loop-bytes.invariant.before blank;
       read = sym (read_blank c.loop-bytes.nanos.items (c.loop-bytes.line + 1) c.in-Some.bytes.now (lines_left c.next.new.self) blank)
-          ∙ (rw steps at c.loop-bytes.invariant.read)
+          ∙ (rw steps at c.loop-bytes.invariant.read);
     }
 
 pub loop-bytes-preserved : goal.loop-bytes-preserved
@@ -45,18 +45,20 @@ loop-bytes-preserved c =
       before = rw pushed (ap (nanos_of_lines 1) here.before
           ∙ read_on_instruction (take c.loop-bytes.line (lines_of c.args.text.now)) c.in-Some.bytes.now c.loop-bytes.nanos.items c.in-Ok-Some.nano c.loop-bytes.invariant.before found);
       read = rw pushed (sym (read_instruction c.loop-bytes.nanos.items (c.loop-bytes.line + 1) c.in-Some.bytes.now (lines_left c.next.new.self) c.in-Ok-Some.nano found)
-          ∙ (rw steps at c.loop-bytes.invariant.read))
+          ∙ (rw steps at c.loop-bytes.invariant.read));
     }
 
 pub returns-in-Err : goal.returns-in-Err
 returns-in-Err c =
     let steps = c.in-Some.ensures.steps in
     let here = next_line (lines_of c.args.text.now) c.loop-bytes.line c.in-Some.bytes.now (lines_left c.next.new.self) (sym steps ∙ c.loop-bytes.invariant.left) in
-    record { value = of_kind c.args.text.now (record { line = c.loop-bytes.line + 1; kind = c.in-Err.kind })
-        (is_grown_for c.args.text.now c.loop-bytes.line c.loop-bytes.nanos.items c.loop-bytes.invariant.before here.within)
-        (sym (rw steps at c.loop-bytes.invariant.read)
-        ∙ read_fault c.loop-bytes.nanos.items (c.loop-bytes.line + 1) c.in-Some.bytes.now (lines_left c.next.new.self) c.in-Err.kind
-            (sym c.read_line.ensures.value ∙ c.in-Err.is)) }
+    record {
+      value = of_kind c.args.text.now (record { line = c.loop-bytes.line + 1; kind = c.in-Err.kind })
+          (is_grown_for c.args.text.now c.loop-bytes.line c.loop-bytes.nanos.items c.loop-bytes.invariant.before here.within)
+          (sym (rw steps at c.loop-bytes.invariant.read)
+          ∙ read_fault c.loop-bytes.nanos.items (c.loop-bytes.line + 1) c.in-Some.bytes.now (lines_left c.next.new.self) c.in-Err.kind
+          (sym c.read_line.ensures.value ∙ c.in-Err.is));
+    }
 
 pub returns : goal.returns
 returns c =
