@@ -8,10 +8,12 @@ use Rattle.std.specs.Bool.{beq}
 abbrev pub holds : Nano → Processor → Bool
 holds nano processor = beq (flag processor nano.cond) nano.sense
 
+-- the output of the memory table
 abbrev pub memory_output : Nano → Processor → Bool
 memory_output nano processor =
     entry nano.mem_table (memory_bit processor nano.a) (memory_bit processor nano.b) (flag processor nano.read)
 
+-- the output of the flag table
 abbrev pub flag_output : Nano → Processor → Bool
 flag_output nano processor =
     entry nano.flag_table (memory_bit processor nano.a) (memory_bit processor nano.b) (flag processor nano.read)
