@@ -1,7 +1,7 @@
 -- The parts of a machine are a machine, with nothing on its way.
-use Rattle.std.proofs.Common.{◌≡◌, ℕ, ◌^◌, ◌<◌, ◌≤◌, List, [], ◌++◌, length, map, get_or, sym, ap, ◌∙◌, subst, arith, ⊎_elim}
+use Rattle.std.proofs.Common.{◌≡◌, ℕ, ◌^◌, ◌<◌, ◌≤◌, List, [], ◌++◌, length, map, get_or, set, sym, ap, ◌∙◌, subst, arith, ⊎_elim}
 use Rattle.std.proofs.lemmas.Bool.{cases_lt}
-use Rattle.std.proofs.lemmas.List.{get_or_past}
+use Rattle.std.proofs.lemmas.List.{get_or_past, get_or_read, length-set}
 use Rattle.std.proofs.lemmas.List.Elements.{All-nil}
 use Rattle.std.specs.List.{All, range_with_len, filter_map, count_by}
 use Rattle.cm_element.specs.declared.outputs.Outputs.{Outputs}
@@ -22,7 +22,7 @@ use Rattle.cm_model.specs.Keeping.{IsMessage, IsMachine}
 use Rattle.cm_model.proofs.Each.{length-each_from, get_or-each_below}
 use Rattle.cm_model.proofs.Keeping.{IsMachine-after_act}
 use Rattle.cm_array.specs.Parts.{machine_of, AreParts}
-use Rattle.cm_array.proofs.Lists.{flat_map-none}
+use Rattle.cm_array.proofs.Lists.{each_after_set, flat_map-none}
 use Rattle.cm_array.proofs.Wholes.{blank_chip_is_whole}
 
 -- every list of a row of empty ones is empty, also past its end
@@ -87,3 +87,23 @@ blank_parts n cap chips outputs sent count few some most all is same_outputs sam
 pub blank_is : (n count : ℕ) (chips : Chips) → count ≡ 2 ^ n → chips ≡ each_from 0 count (λ c. blank_chip) → machine_of n chips ≡ blank_machine n
 unfolding blank_machine
 blank_is n count chips all is = ap (machine_of n) (is ∙ ap (λ (k : ℕ). each_from 0 k (λ c. blank_chip)) all)
+
+-- a chip that was read is whole
+pub read_chip_is_whole : (n cap : ℕ) (chips : Chips) (outputs : List Outputs) (sent : List ℕ) (i : ℕ) (chip : List Processor) → AreParts n cap chips outputs sent
+    → i < 2 ^ n → chip ≡ get_or chips i chip → IsChip chip
+read_chip_is_whole n cap chips outputs sent i chip h below is =
+    let inside : i < length chips = omega (arith, h.chip_count) in
+    subst (λ (c : List Processor). IsChip c) (sym (get_or_read chips i chip inside is [])) (h.whole i below)
+
+-- with another whole chip in its place they are still the parts of a machine
+pub AreParts-with_chip : (n cap : ℕ) (chips : Chips) (outputs : List Outputs) (sent : List ℕ) (i : ℕ) (chip : List Processor) → AreParts n cap chips outputs sent
+    → IsChip chip → AreParts n cap (set chips i chip) outputs sent
+AreParts-with_chip n cap chips outputs sent i chip h whole = record {
+  dimension = h.dimension;
+  some_room = h.some_room;
+  most_room = h.most_room;
+  chip_count = length-set chips i chip ∙ h.chip_count;
+  output_count = h.output_count;
+  sent_count = h.sent_count;
+  whole = each_after_set (λ (c : List Processor). IsChip c) chips [] i chip (2 ^ n) h.chip_count h.whole whole;
+}

@@ -1,15 +1,16 @@
 -- Chips stored one by one, each from the old state of all.
-use Rattle.std.proofs.Common.{◌≡◌, ◌≢◌, ℕ, ◌+◌, ◌^◌, ◌<◌, ◌≤◌, ◌==◌, true, false, List, [], length, get_or, set, slice_index, refl, sym, ◌∙◌, arith, ⊎_elim, below_more, get_or-set_same, get_or-set_other}
-use Rattle.std.proofs.lemmas.Bool.{cases_Bool}
+use Rattle.std.proofs.Common.{◌≡◌, ◌≢◌, ℕ, ◌+◌, ◌-◌, ◌^◌, ◌<◌, ◌≤◌, ◌==◌, true, false, List, [], length, get_or, set, refl, sym, ◌∙◌, arith, ⊎_elim, below_more, get_or-set_same, get_or-set_other}
+use Rattle.std.proofs.lemmas.Bool.{cases_Bool, eq-eqb, ne_eqb}
 use Rattle.std.proofs.lemmas.List.{get_or_read}
 use Rattle.cm_bits.specs.Bit.{bit}
 use Rattle.cm_model.specs.declared.act.Nano.{Nano}
 use Rattle.cm_model.specs.Place.{source, predecessor}
 use Rattle.cm_model.specs.Processor.{Processor}
-use Rattle.cm_model.specs.Chip.{IsPlane, chip_after}
+use Rattle.cm_model.specs.Instruction.{flag_output}
+use Rattle.cm_model.specs.Chip.{IsPlane, processor_at, chip_after}
 use Rattle.cm_model.specs.Array.{Chips, chip_at, incoming, after_nano}
 use Rattle.cm_model.proofs.Each.{is_each}
-use Rattle.cm_model.proofs.Incoming.{AreFlagOutputs, over_news, along_chain, same_chip}
+use Rattle.cm_model.proofs.Incoming.{AreFlagOutputs, over_news, same_chip}
 use Rattle.cm_daisy.specs.Chain.{chain_bit}
 use Rattle.cm_news.specs.Moves.{bit_of_place}
 use Rattle.cm_array.specs.Rows.{AreAllSent}
@@ -44,17 +45,29 @@ stored_all n nano before now count long all was =
 sent_by_all : (n : ℕ) (nano : Nano) (chips : Chips) (sent : List ℕ) → length chips ≡ 2 ^ n → AreAllSent nano chips sent → AreFlagOutputs n nano chips sent
 sent_by_all n nano chips sent long are = record { each = λ c p below h. are.each c (omega arith) p h }
 
--- the plane that comes in has the bits that the instruction step names
-pub comes_in : (n : ℕ) (nano : Nano) (chips : Chips) (sent : List ℕ) (c plane : ℕ) → length chips ≡ 2 ^ n → AreAllSent nano chips sent → c < 2 ^ n
-    → ((nano.write == 10) ≡ true → IsPlane plane (λ p. bit_of_place sent (source n nano.dir (record { chip = c; proc = p }))))
-    → ((nano.write == 11) ≡ true → IsPlane plane (λ p. chain_bit (slice_index sent c) (predecessor p)))
+-- over NEWS: the plane that comes in has the bits that the instruction step names
+pub over_grid : (n : ℕ) (nano : Nano) (chips : Chips) (sent : List ℕ) (c plane : ℕ) → length chips ≡ 2 ^ n → AreAllSent nano chips sent → c < 2 ^ n → nano.write ≡ 10
+    → IsPlane plane (λ p. bit_of_place sent (source n nano.dir (record { chip = c; proc = p })))
     → chip_after nano (bit plane) (chip_at chips c) ≡ chip_after nano (incoming n nano chips c) (chip_at chips c)
-comes_in n nano chips sent c plane long are inside news daisy =
+over_grid n nano chips sent c plane long are inside news is =
     let outputs : AreFlagOutputs n nano chips sent = sent_by_all n nano chips sent long are in
-    same_chip nano (bit plane) (incoming n nano chips c) (chip_at chips c)
-    (λ p h takes. ⊎_elim
-    (λ (e : (nano.write == 10) ≡ true). news e p h ∙ over_news n nano chips sent c p outputs inside h e)
-    (λ (e : (nano.write == 10) ≡ false).
-    let other : (nano.write == 11) ≡ true = rw e at takes in
-    daisy other p h ∙ along_chain n nano chips sent c p (chain_bit (slice_index sent c)) outputs inside h e refl (λ q. refl))
-    (cases_Bool (nano.write == 10)))
+    let test : (nano.write == 10) ≡ true = eq-eqb nano.write 10 news in
+    same_chip nano (bit plane) (incoming n nano chips c) (chip_at chips c) (λ p h takes. is p h ∙ over_news n nano chips sent c p outputs inside h test)
+
+-- along the chain: the bit of the predecessor, from the chip's own plane
+own_chain : (n : ℕ) (nano : Nano) (chips : Chips) (c p sent : ℕ) → (nano.write == 10) ≡ false → p < 16 → IsPlane sent (λ q. flag_output nano (processor_at (chip_at chips c) q))
+    → chain_bit sent (predecessor p) ≡ incoming n nano chips c p
+unfolding incoming
+own_chain n nano chips c p sent other h is =
+    rw other (⊎_elim
+    (λ (e : (p == 0) ≡ true). rw e refl)
+    (λ (e : (p == 0) ≡ false). rw e (is (p - 1) (omega arith)))
+    (cases_Bool (p == 0)))
+
+-- where nothing comes in over NEWS, a chip needs no other
+pub stepped_alone : (n : ℕ) (nano : Nano) (chips : Chips) (c plane sent : ℕ) → nano.write ≢ 10
+    → IsPlane sent (λ p. flag_output nano (processor_at (chip_at chips c) p)) → IsPlane plane (λ p. chain_bit sent (predecessor p))
+    → chip_after nano (bit plane) (chip_at chips c) ≡ chip_after nano (incoming n nano chips c) (chip_at chips c)
+stepped_alone n nano chips c plane sent alone is next =
+    let test : (nano.write == 10) ≡ false = ne_eqb nano.write 10 alone in
+    same_chip nano (bit plane) (incoming n nano chips c) (chip_at chips c) (λ p h takes. next p h ∙ own_chain n nano chips c p sent test h is)

@@ -12,7 +12,7 @@ ghost use Rattle.cm_array.specs.Acts.{HasNoCycles, IsNoCycle};
 ghost use Rattle.cm_array.specs.Faults.{size_fault};
 ghost use Rattle.cm_array.specs.Pokes.{with_memory_bit, with_flag};
 
-use crate::stepping::{compute, store_all};
+use crate::stepping::{compute, step_alone, store_all};
 use cm_bits::{Addr, FlagNo, NoMemory, Plane, Proc};
 use cm_element::{Chip, Outputs, ZeroFlag};
 use cm_model::{Act, Nano};
@@ -23,6 +23,8 @@ use thiserror::Error;
 const MOST_DIMENSIONS: usize = 12;
 
 const MOST_ROOM: usize = 15;
+
+const NEWS_FLAG: u8 = 10;
 
 /// Why a machine was not made.
 #[derive(Clone, Copy, Debug, PartialEq, Eq, Error)]
@@ -93,6 +95,20 @@ impl<const N: usize, const CAP: usize> Machine<N, CAP> {
         })
     }
 
+    /// A second machine, the same as this one.
+    pub fn copy(&self, alloc: Global) -> Result<Self, NoMemory>
+        ensures value { IfOk result (λ machine. machine ≡ self.now) }
+    {
+        let chips = copies(alloc, &self.chips)?;
+        let outputs = blank_outputs(alloc, self.chips.len())?;
+        let sent = blank_planes(alloc, self.chips.len())?;
+        Ok(Machine {
+            chips,
+            outputs,
+            sent,
+        })
+    }
+
     pub fn chip(&self, number: u16) -> &Chip
         requires number { number < 2 ^ N }
         ensures value { result.now ≡ chip_at self.now.chips number }
@@ -107,6 +123,32 @@ impl<const N: usize, const CAP: usize> Machine<N, CAP> {
         ensures whole { IsMachine N CAP self.now }
     {
         cm_wire::wire(&self.chips)
+    }
+
+    /// Puts a bit into the memory of one processor.
+    pub fn poke(&mut self, chip: u16, proc: Proc, at: Addr, bit: bool)
+        requires chip { chip < 2 ^ N }
+        ensures value { self.new ≡ with_memory_bit self.old chip proc at bit }
+    {
+        let chip = &mut self.chips[usize::from(chip)];
+        chip.poke(proc, at, bit);
+    }
+
+    /// Puts a bit into a flag of one processor, but not into flag 8.
+    pub fn poke_flag(
+        &mut self,
+        chip: u16,
+        proc: Proc,
+        number: FlagNo,
+        bit: bool,
+    ) -> Result<(), ZeroFlag>
+        requires chip { chip < 2 ^ N }
+        ensures zero_flag { IsErr result ↔ (number ≡ ZERO) }
+        ensures ok { OnOk result (self.new ≡ with_flag self.old chip proc number bit) }
+        ensures err { OnErr result (self.new ≡ self.old) }
+    {
+        let chip = &mut self.chips[usize::from(chip)];
+        chip.poke_flag(proc, number, bit)
     }
 
     fn chip_count() -> usize
@@ -133,8 +175,12 @@ impl<const N: usize, const CAP: usize> Machine<N, CAP> {
         ensures value { self.new ≡ after_act N CAP self.old act.now }
     {
         if let Act::Nano(nano) = act {
-            compute(&self.chips, nano, &mut self.outputs, &mut self.sent);
-            store_all::<N>(&mut self.chips, nano, &self.outputs, &self.sent);
+            if nano.write.get() == NEWS_FLAG {
+                compute(&self.chips, nano, &mut self.outputs, &mut self.sent);
+                store_all::<N>(&mut self.chips, nano, &self.outputs, &self.sent);
+            } else {
+                step_alone::<N>(&mut self.chips, nano);
+            }
         }
     }
 }
@@ -150,6 +196,19 @@ fn blank_chips(alloc: Global, count: usize) -> Result<Vec<Chip>, NoMemory>
         };
     }
     Ok(chips)
+}
+
+fn copies(alloc: Global, chips: &[Chip]) -> Result<Vec<Chip>, NoMemory>
+    ensures value { IfOk result (λ copies. copies.items ≡ chips.now) }
+{
+    let mut copies = Vec::with_capacity(alloc, chips.len())?;
+    for chip in chips {
+        let copy = chip.copy(alloc)?;
+        let Ok(()) = copies.push(copy) else {
+            return Err(NoMemory);
+        };
+    }
+    Ok(copies)
 }
 
 fn blank_outputs(alloc: Global, count: usize) -> Result<Vec<Outputs>, NoMemory>

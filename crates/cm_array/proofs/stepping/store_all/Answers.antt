@@ -4,7 +4,7 @@ use Rattle.cm_element.specs.Outputs.{AreOutputs}
 use Rattle.cm_model.specs.Processor.{Processor}
 use Rattle.cm_model.specs.Chip.{chip_after}
 use Rattle.cm_array.specs.Rows.{outputs_at}
-use Rattle.cm_array.proofs.Storing.{not_yet_stored, stored_more, stored_all, comes_in}
+use Rattle.cm_array.proofs.Storing.{not_yet_stored, stored_more, stored_all, over_grid}
 use Rattle.cm_array.proofs.stepping.store_all.Goals as goal
 
 pub store-requires : goal.store-requires
@@ -21,9 +21,9 @@ loop-c-preserved g c =
     let was = not_yet_stored g.row.N c.args.nano.now c.args.chips.now c.loop-c.chips c.loop-c.c c.index-chips-c.result inside c.index-chips-c.is c.loop-c.invariant in
     stored_more g.row.N c.args.nano.now c.args.chips.now c.loop-c.chips c.loop-c.c c.store.new.self inside
     (c.store.ensures.value
-    ∙ ap (chip_after c.args.nano.now (bit c.incoming_plane-incoming.result)) was
-    ∙ comes_in g.row.N c.args.nano.now c.args.chips.now c.args.sent.now c.loop-c.c c.incoming_plane-incoming.result c.requires.count c.requires.sent (omega arith)
-    c.incoming_plane-incoming.ensures.news c.incoming_plane-incoming.ensures.daisy)
+    ∙ ap (chip_after c.args.nano.now (bit c.incoming-incoming.result)) was
+    ∙ over_grid g.row.N c.args.nano.now c.args.chips.now c.args.sent.now c.loop-c.c c.incoming-incoming.result c.requires.count c.requires.sent (omega arith) c.requires.news
+    c.incoming-incoming.ensures.value)
     c.loop-c.invariant
 
 pub returns : goal.returns
