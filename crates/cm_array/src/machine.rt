@@ -130,8 +130,8 @@ impl<const N: usize, const CAP: usize> Machine<N, CAP> {
         requires chip { chip < 2 ^ N }
         ensures value { self.new ≡ with_memory_bit self.old chip proc at bit }
     {
-        let chip = &mut self.chips[usize::from(chip)];
-        chip.poke(proc, at, bit);
+        let poked = &mut self.chips[usize::from(chip)];
+        poked.poke(proc, at, bit);
     }
 
     /// Puts a bit into a flag of one processor, but not into flag 8.
@@ -163,7 +163,7 @@ impl<const N: usize, const CAP: usize> Machine<N, CAP> {
         requires no_cycles { HasNoCycles acts.now }
         ensures value { self.new ≡ run_of N CAP self.old acts.now }
     {
-        // The proof learns the machine's sizes here.
+        // To reach for the chips tells the proof how many there are.
         let _ = &self.chips;
         for act in acts {
             self.act(act);

@@ -8,7 +8,7 @@ pub invariant_of-self : goal.invariant_of-self
 invariant_of-self g c =
     let parts = c.self.inside in
     let below : c.from.result < 2 ^ g.row.N = omega arith in
-    let was : IsChip c.index_mut-chip.result.now =
-    read_chip_is_whole g.row.N g.row.CAP parts.chips.items parts.outputs.items parts.sent.items c.from.result c.index_mut-chip.result.now c.self.invariant below c.index_mut-chip.ensures.value in
+    let was : IsChip c.index_mut-poked.result.now =
+    read_chip_is_whole g.row.N g.row.CAP parts.chips.items parts.outputs.items parts.sent.items c.from.result c.index_mut-poked.result.now c.self.invariant below c.index_mut-poked.ensures.value in
     AreParts-with_chip g.row.N g.row.CAP parts.chips.items parts.outputs.items parts.sent.items c.from.result c.poke.new.self c.self.invariant
-    (IsChip-poked_bit c.index_mut-chip.result.now c.poke.new.self c.args.proc c.args.at c.args.bit c.poke.ensures.value was)
+    (IsChip-poked_bit c.index_mut-poked.result.now c.poke.new.self _ _ _ c.poke.ensures.value was)

@@ -11,5 +11,5 @@ invariant_of-self g c =
     let was : IsChip c.index_mut-chip.result.now =
     read_chip_is_whole g.row.N g.row.CAP parts.chips.items parts.outputs.items parts.sent.items c.from.result c.index_mut-chip.result.now c.self.invariant below c.index_mut-chip.ensures.value in
     AreParts-with_chip g.row.N g.row.CAP parts.chips.items parts.outputs.items parts.sent.items c.from.result c.poke_flag.new.self c.self.invariant
-    (IsChip-poked_flag c.poke_flag.result c.index_mut-chip.result.now c.poke_flag.new.self c.args.proc c.args.number c.args.bit
+    (IsChip-poked_flag c.poke_flag.result c.index_mut-chip.result.now c.poke_flag.new.self _ _ _
     c.poke_flag.ensures.zero_flag c.poke_flag.ensures.ok c.poke_flag.ensures.err was)
