@@ -1,5 +1,5 @@
 -- What the program writes on standard error, and the status it ends with, by the number of the fault. Ours.
-use Rattle.std.specs.Prelude.{ℕ, T, ◌==◌, ◌||◌, ◌&&◌, nat_le, if◌then◌else◌, Option, Some, None, List, [], ◌∷◌, ◌++◌, codes, decimal}
+use Rattle.std.specs.Prelude.{ℕ, T, ◌==◌, ◌||◌, ◌&&◌, nat_le, if◌then◌else◌, Option, Some, None, List, [], ◌++◌, codes, decimal}
 
 -- the name of a fault
 abbrev pub name_of : ℕ → List ℕ

@@ -1,5 +1,5 @@
 -- One instruction in one processor: Hillis 1985; what a store into each flag does is ours.
-use Rattle.std.specs.Prelude.{ℕ, ◌==◌, ◌||◌, Bool, List, slice_set, if◌then◌else◌}
+use Rattle.std.specs.Prelude.{◌==◌, ◌||◌, Bool, List, slice_set, if◌then◌else◌}
 use Rattle.cm_model.specs.declared.act.Nano.{Nano}
 use Rattle.cm_model.specs.Processor.{Processor, ZERO, NEWS, DAISY, memory_bit, flag, entry}
 use Rattle.std.specs.Bool.{beq}
@@ -30,6 +30,6 @@ processor_after nano incoming processor =
     if holds nano processor
     then record {
       memory = slice_set processor.memory nano.a (memory_output nano processor);
-      flags = flags_after nano (if takes_incoming nano then incoming else flag_output nano processor) processor.flags
+      flags = flags_after nano (if takes_incoming nano then incoming else flag_output nano processor) processor.flags;
     }
     else processor

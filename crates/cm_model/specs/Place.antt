@@ -27,7 +27,7 @@ column_of n place = 4 * (place.chip % chip_columns n) + place.proc % 4
 abbrev pub place_at : ℕ → ℕ → ℕ → Place
 place_at n row column = record {
   chip = row / 4 * chip_columns n + column / 4;
-  proc = 4 * (row % 4) + column % 4
+  proc = 4 * (row % 4) + column % 4;
 }
 
 -- the place one step on in a direction, round the torus: north is the lower row, west the lower column

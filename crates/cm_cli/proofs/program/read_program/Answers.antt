@@ -1,8 +1,8 @@
-use Rattle.std.proofs.Common.{◌≡◌, ℕ, ◌+◌, Ok, Err, Some, None, List, [], ◌∷◌, ◌++◌, length, refl, sym, ap, ◌∙◌, arith, append-nil, rules, is_ok, is_err, true, false}
+use Rattle.std.proofs.Common.{◌≡◌, ◌+◌, Ok, List, [], ◌∷◌, ◌++◌, length, sym, ap, ◌∙◌, arith, append-nil, rules}
 use Rattle.cm_bits.specs.Text.{lines_left, lines_of}
 use Rattle.cm_model.specs.declared.act.Nano.{Nano}
 use Rattle.cm_cli.specs.Program.{program_of, nanos_of_lines}
-use Rattle.cm_cli.proofs.Reading.{prepended, none_before, few_lines, read_blank, read_instruction, read_fault, of_kind}
+use Rattle.cm_cli.proofs.Reading.{none_before, few_lines, read_blank, read_instruction, read_fault, of_kind}
 use Rattle.cm_cli.proofs.program.read_program.Goals as goal
 
 pub loop-bytes-init : goal.loop-bytes-init
@@ -11,7 +11,7 @@ loop-bytes-init c =
     let lines : lines_left c.into_iter-bytes-iterator.result ≡ lines_of c.args.text.now = ap lines_left c.into_iter-bytes-iterator.ensures.into_iter_gives ∙ c.new-bytes-items.ensures in
     record {
       counted = omega (arith, few_lines c.args.text.now, ap length lines);
-      read = rw (lines, c.new-nanos.ensures.items) (none_before (nanos_of_lines 1 (lines_of c.args.text.now)))
+      read = rw (lines, c.new-nanos.ensures.items) (none_before (nanos_of_lines 1 (lines_of c.args.text.now)));
     }
 
 pub overflow_add-line : goal.overflow_add-line
@@ -23,8 +23,8 @@ loop-bytes-preserved-in-Ok-None c =
     record {
       counted = omega (arith, c.loop-bytes.invariant.counted, ap length steps);
       read = sym (read_blank c.loop-bytes.nanos.items (c.loop-bytes.line + 1) c.in-Some.bytes.now (lines_left c.next.new.self)
-              (sym c.read_line.ensures.value ∙ c.in-Ok-None.is ∙ ap (λ o. Ok o) c.in-Ok-None.field-0-is))
-          ∙ (rw steps at c.loop-bytes.invariant.read)
+          (sym c.read_line.ensures.value ∙ c.in-Ok-None.is ∙ ap (λ o. Ok o) c.in-Ok-None.field-0-is))
+          ∙ (rw steps at c.loop-bytes.invariant.read);
     }
 
 pub loop-bytes-preserved : goal.loop-bytes-preserved
@@ -34,17 +34,19 @@ loop-bytes-preserved c =
     record {
       counted = omega (arith, c.loop-bytes.invariant.counted, ap length steps);
       read = rw pushed (sym (read_instruction c.loop-bytes.nanos.items (c.loop-bytes.line + 1) c.in-Some.bytes.now (lines_left c.next.new.self) c.in-Ok-Some.nano
-              (sym c.read_line.ensures.value ∙ c.in-Ok-Some.is ∙ ap (λ o. Ok o) c.in-Ok-Some.field-0-is))
-          ∙ (rw steps at c.loop-bytes.invariant.read))
+          (sym c.read_line.ensures.value ∙ c.in-Ok-Some.is ∙ ap (λ o. Ok o) c.in-Ok-Some.field-0-is))
+          ∙ (rw steps at c.loop-bytes.invariant.read));
     }
 
 pub returns-in-Err : goal.returns-in-Err
 returns-in-Err c =
     let steps = c.in-Some.ensures.steps in
-    record { value = of_kind c.in-Err.kind
-        (sym (rw steps at c.loop-bytes.invariant.read)
-        ∙ read_fault c.loop-bytes.nanos.items (c.loop-bytes.line + 1) c.in-Some.bytes.now (lines_left c.next.new.self) c.in-Err.kind
-            (sym c.read_line.ensures.value ∙ c.in-Err.is)) }
+    record {
+      value = of_kind c.in-Err.kind
+          (sym (rw steps at c.loop-bytes.invariant.read)
+          ∙ read_fault c.loop-bytes.nanos.items (c.loop-bytes.line + 1) c.in-Some.bytes.now (lines_left c.next.new.self) c.in-Err.kind
+          (sym c.read_line.ensures.value ∙ c.in-Err.is));
+    }
 
 pub returns : goal.returns
 returns c =

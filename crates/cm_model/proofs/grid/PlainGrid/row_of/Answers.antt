@@ -1,7 +1,7 @@
 use Rattle.std.proofs.Common.{◌-◌, ◌/◌, ◌^◌, ◌<◌, ◌≤◌, lit<, arith}
 use Rattle.std.proofs.Math.Nat.{pow-le-pow_right}
 use Rattle.cm_model.proofs.Torus.{chip_row-lt}
-use Rattle.cm_model.proofs.plain.PlainMachine.row_of.Goals as goal
+use Rattle.cm_model.proofs.grid.PlainGrid.row_of.Goals as goal
 
 pub overflow_mul-result : goal.overflow_mul-result
 overflow_mul-result g c =

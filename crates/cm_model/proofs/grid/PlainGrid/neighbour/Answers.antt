@@ -1,6 +1,6 @@
 use Rattle.std.proofs.Common.{◌+◌, ◌-◌, ◌%◌, ◌∙◌}
 use Rattle.cm_model.specs.Place.{place_at, neighbour}
-use Rattle.cm_news.proofs.grid.Grid.neighbour.Goals as goal
+use Rattle.cm_model.proofs.grid.PlainGrid.neighbour.Goals as goal
 
 pub returns-in-North-clause-value : goal.returns-in-North-clause-value
 unfolding neighbour

@@ -1,7 +1,7 @@
 use Rattle.std.proofs.Common.{◌≡◌, ◌*◌, ◌/◌, ◌%◌, ◌^◌, ◌≤◌, lit<, arith}
 use Rattle.std.proofs.Math.Nat.{pow-le-pow_right}
 use Rattle.std.proofs.lemmas.Nat.{one_shl}
-use Rattle.cm_news.proofs.grid.Grid.chip_columns.Goals as goal
+use Rattle.cm_model.proofs.grid.PlainGrid.chip_columns.Goals as goal
 
 pub returns-clause-within : goal.returns-clause-within
 returns-clause-within g c =
