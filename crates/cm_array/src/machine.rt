@@ -55,8 +55,11 @@ impl From<NoMemory> for MachineFault {
 /// takes no memory.
 #[derive(Debug, Drop)]
 pub struct Machine<const N: usize, const CAP: usize> {
+    /// By number.
     chips: Vec<Chip>,
+    /// By chip, what it computed of an instruction.
     outputs: Vec<Outputs>,
+    /// By chip, what it sends over the grid.
     sent: Vec<Plane>,
 }
 
