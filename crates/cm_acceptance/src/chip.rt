@@ -294,7 +294,8 @@ fn a_refused_growth_changes_no_answer(rt: HostRuntime) {
 #[test]
 fn the_chain_moves_a_mark_from_processor_to_processor(rt: HostRuntime) -> Result<(), Fail> {
     let alloc = rt.alloc();
-    let text = b"nano 0 0 8 11 8 0 0xf0 0xff n\nnano 0 0 11 0 8 0 0xf0 0x55 n\nnano 0 0 0 11 8 0 0xf0 0xaa n\nnano 0 0 11 11 8 0 0xf0 0xaa n\n";
+    let text =
+        b"nano 0 0 8 11 8 0 0xf0 0xff n\nnano 0 0 11 0 8 0 0xf0 0x55 n\nnano 0 0 0 11 8 0 0xf0 0xaa n\nnano 0 0 11 11 8 0 0xf0 0xaa n\n";
     let end = run_session(alloc, text, 4096, ROOM)?;
     let wanted = flag_lines(alloc, [(0, "0001"), (11, "0004")].as_slice())?;
     assert!(rt; end.written.as_slice() == wanted.as_bytes());
@@ -304,7 +305,8 @@ fn the_chain_moves_a_mark_from_processor_to_processor(rt: HostRuntime) -> Result
 #[test]
 fn a_mark_goes_round_the_torus_of_one_chip(rt: HostRuntime) -> Result<(), Fail> {
     let alloc = rt.alloc();
-    let text = b"nano 0 0 8 11 8 0 0xf0 0xff n\nnano 0 0 11 0 8 0 0xf0 0x55 n\nnano 0 0 0 10 8 0 0xf0 0xaa w\nnano 0 0 10 10 8 0 0xf0 0xaa n\nnano 0 0 10 8 8 0 0xaa 0x00 n\n";
+    let text =
+        b"nano 0 0 8 11 8 0 0xf0 0xff n\nnano 0 0 11 0 8 0 0xf0 0x55 n\nnano 0 0 0 10 8 0 0xf0 0xaa w\nnano 0 0 10 10 8 0 0xf0 0xaa n\nnano 0 0 10 8 8 0 0xaa 0x00 n\n";
     let end = run_session(alloc, text, 4096, ROOM)?;
     let mut wanted = flag_lines(alloc, [(0, "0001"), (10, "8000"), (11, "fffe")].as_slice())?;
     wanted.push_str("plane 0 8000\n")?;

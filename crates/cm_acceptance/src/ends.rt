@@ -110,7 +110,10 @@ fn a_line_that_cannot_be_told_is_a_failed_write(rt: HostRuntime) -> Result<(), F
     for room in 0usize..20 {
         let mut sink = Room::new(rt.alloc(), room, 3)?;
         assert!(rt; report(15, Some(2), &mut sink).is_err(), "room for {room}");
-        assert!(rt; sink.taken() == &b"cm1: line 2: 15 Word\n".as_slice()[..room], "room for {room}");
+        assert!(rt;
+            sink.taken() == &b"cm1: line 2: 15 Word\n".as_slice()[..room],
+            "room for {room}"
+        );
     }
     Ok(())
 }
