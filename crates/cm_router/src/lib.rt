@@ -1,0 +1,7 @@
+//! One chip's node of the router.
+#![tactic(auto)]
+
+mod node;
+
+pub use cm_message::{Event, Message, Tag};
+pub use node::Node;
