@@ -3,3 +3,5 @@
 
 #[cfg(test)]
 mod chip;
+#[cfg(test)]
+mod ends;

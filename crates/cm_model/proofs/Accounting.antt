@@ -18,7 +18,7 @@ use Rattle.cm_model.specs.Steps.{Step, Instruct, Look, Inject, Cross, Deliver, I
 use Rattle.cm_model.specs.Cycle.{State, log_at, taken_at, new_record, new_records, after_injection, is_delivered, delivered_at, after_delivery, state_after, state_after_all}
 use Rattle.cm_model.specs.Machine.{Machine, buffer_at, records_from, opened, closed, run_of}
 use Rattle.cm_model.specs.Buffers.{after_act}
-use Rattle.cm_model.specs.Account.{Triple, standing_triple, delivered_triple, injected_triple, account_at, account, new_events, newly_injected, SameLines}
+use Rattle.cm_model.specs.Account.{Triple, standing_triple, delivered_triple, injected_triple, account_at, account, new_events, newly_injected, all_injected, SameLines, HasLines}
 use Rattle.cm_model.proofs.Each.{get_or-each_below}
 use Rattle.cm_model.proofs.Flips.{across_below}
 use Rattle.cm_model.proofs.Crossing.{step_of_record}
@@ -232,3 +232,21 @@ account_is_conserved n cap machine acts p =
 pub account-nano : (n cap : ℕ) (machine : Machine) (nano : Nano) → account n (after_act n cap machine (act.Nano nano)) ≡ account n machine
 unfolding account
 account-nano n cap machine nano = refl
+
+all_injected-count : (p : Triple → Bool) (n : ℕ) (machine : Machine) → count_by p (all_injected n machine) ≡ injected_count p n machine.logs
+unfolding all_injected
+all_injected-count p n machine = sum_by-flat_map (one p) (λ c. filter_map (injected_triple c) (log_at machine.logs c)) (chips_of n)
+
+-- what was injected goes on to stand in the account
+pub injected_stand_in_the_account : (n cap : ℕ) (machine : Machine) (acts : List Act) →
+    HasLines (all_injected n machine) (account n machine) → HasLines (all_injected n (run_of n cap machine acts)) (account n (run_of n cap machine acts))
+injected_stand_in_the_account n cap machine acts h p =
+    omega (
+      arith,
+      h p,
+      all_injected-count p n machine,
+      all_injected-count p n (run_of n cap machine acts),
+      injected_grows p n cap machine acts,
+      account_is_conserved n cap machine acts p,
+      sum_by-append (one p) (account n machine) (newly_injected n machine (run_of n cap machine acts)),
+    )

@@ -10,11 +10,13 @@ pub mod Injecting
 pub mod Delivering
 pub mod Opening
 pub mod Runs
+mod StandardFacts
 mod RouterFacts
 pub mod Rooms
 pub mod Torus
 pub mod Values
 pub mod Incoming
+mod Made
 pub mod Counting
 pub mod Conserving
 pub mod Accounting
@@ -23,3 +25,8 @@ pub mod Wholes
 pub mod Messages
 pub mod Keeping
 pub mod Choosing
+pub mod Parts
+pub mod Receiving
+pub mod Blanks
+pub mod Apart
+pub mod Finding

@@ -72,6 +72,33 @@ full_nodes_are_empty : (run_of 1 1 full_nodes (cycles 2)).buffers ≡ [] ∷ ([]
 unfolding each_from leaver after_dimension queue senders chip_after_injection with_field chip_after_delivery after_injection delivered_at after_delivery opened closed run_of quiet_chip
 full_nodes_are_empty = refl
 
+-- ---- a full node refers the last of its messages
+
+abbrev two_at_home : Machine
+two_at_home = record {
+  chips = quiet_chip ∷ (quiet_chip ∷ []);
+  buffers = (message_to 0 0 1 (tag_of 0 0 0) ∷ (message_to 0 0 2 (tag_of 0 1 0) ∷ [])) ∷ ([] ∷ []);
+  logs = [] ∷ ([] ∷ []);
+  clock = 1;
+}
+
+last_is_referred : (run_of 1 2 two_at_home (cycles 1)).buffers ≡ [] ∷ ((message_to 1 0 2 (tag_of 0 1 0) ∷ []) ∷ [])
+unfolding each_from leaver after_dimension queue senders chip_after_injection with_field chip_after_delivery after_injection delivered_at after_delivery opened closed run_of quiet_chip
+last_is_referred = refl
+
+-- the first that has to cross goes first, here the second of three
+abbrev three_to_cross : Machine
+three_to_cross = record {
+  chips = quiet_chip ∷ (quiet_chip ∷ []);
+  buffers = (message_to 0 0 1 (tag_of 0 0 0) ∷ (message_to 1 0 2 (tag_of 0 1 0) ∷ (message_to 1 0 3 (tag_of 0 2 0) ∷ []))) ∷ ([] ∷ []);
+  logs = [] ∷ ([] ∷ []);
+  clock = 1;
+}
+
+first_crosses : (run_of 1 4 three_to_cross (cycles 1)).buffers ≡ (message_to 1 0 3 (tag_of 0 2 0) ∷ []) ∷ ([] ∷ [])
+unfolding each_from leaver after_dimension queue senders chip_after_injection with_field chip_after_delivery after_injection delivered_at after_delivery opened closed run_of quiet_chip
+first_crosses = refl
+
 -- ---- with room for one message it never arrives; with room for two it does in the first cycle
 
 abbrev one_sender : ℕ → ℕ → Machine
@@ -101,6 +128,32 @@ first_of_two_arrives = refl
 second_of_two_waits : found_in 2 (run_of 2 7 (one_sender 2 3) (cycles 1)) (tag_of 0 1 0) ≡ found.Router 2
 unfolding each_from leaver after_dimension queue senders field_value sender sending_chip chip_after_injection with_field chip_after_delivery after_injection delivered_at after_delivery opened closed run_of quiet_chip found_in
 second_of_two_waits = refl
+
+-- ---- one message crosses a cube of two chips and is delivered
+
+unfoldable one_letter : List Processor
+unfolding each_from sender
+one_letter = each_processor (λ p. if nat_lt p 1 then sender 1 5 3735928559 else record { memory = replicate 4096 false; flags = no_flags })
+
+abbrev letter_box : Machine
+letter_box = record { chips = one_letter ∷ (sending_chip 0 0 0 ∷ []); buffers = [] ∷ ([] ∷ []); logs = [] ∷ ([] ∷ []); clock = 0 }
+
+letter_is_logged : (run_of 1 1 letter_box (cycles 1)).logs
+    ≡ (Injected (message_to 1 5 3735928559 (tag_of 0 0 0)) ∷ []) ∷ ((Delivered (message_to 0 5 3735928559 (tag_of 0 0 0)) 1 ∷ []) ∷ [])
+unfolding each_from leaver after_dimension queue senders field_value sender sending_chip one_letter chip_after_injection with_field chip_after_delivery after_injection delivered_at after_delivery opened closed run_of
+letter_is_logged = refl
+
+letter_is_read : field_value (processor_at (chip_at (run_of 1 1 letter_box (cycles 1)).chips 1) 5) 4032 32 ≡ 3735928559
+unfolding each_from leaver after_dimension queue senders field_value sender sending_chip one_letter chip_after_injection with_field chip_after_delivery after_injection delivered_at after_delivery opened closed run_of
+letter_is_read = refl
+
+letter_is_received : flag (processor_at (chip_at (run_of 1 1 letter_box (cycles 1)).chips 1) 5) RECV ≡ true
+unfolding each_from leaver after_dimension queue senders field_value sender sending_chip one_letter chip_after_injection with_field chip_after_delivery after_injection delivered_at after_delivery opened closed run_of
+letter_is_received = refl
+
+sender_is_told : flag (processor_at (chip_at (run_of 1 1 letter_box (cycles 1)).chips 0) 0) ACK ≡ true
+unfolding each_from leaver after_dimension queue senders field_value sender sending_chip one_letter chip_after_injection with_field chip_after_delivery after_injection delivered_at after_delivery opened closed run_of
+sender_is_told = refl
 
 -- ---- six senders on one chip: four are taken, one is delivered, two wait
 

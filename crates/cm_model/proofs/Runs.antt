@@ -98,11 +98,11 @@ abbrev pub crossings : ℕ → ℕ → List Step
 crossings first count = map Cross (range_with_len first count)
 
 -- a state where dimension d is due, and the machine that it is
-record IsDue (n d : ℕ) (state : State) (machine : Machine) : Type 0 where
-  ready : IsReady (due_time d state.cycle) state.standing
-  same : closed n state ≡ machine
+pub record IsDue (n d : ℕ) (state : State) (machine : Machine) : Type 0 where
+  pub ready : IsReady (due_time d state.cycle) state.standing
+  pub same : closed n state ≡ machine
 
-one_crossing : (n cap d : ℕ) (state : State) (machine : Machine) → d < n → IsDue n d state machine → IsDue n (d + 1) (state_after n cap state (Cross d)) (after_step n cap machine (Cross d))
+pub one_crossing : (n cap d : ℕ) (state : State) (machine : Machine) → d < n → IsDue n d state machine → IsDue n (d + 1) (state_after n cap state (Cross d)) (after_step n cap machine (Cross d))
 one_crossing n cap d state machine below h = record {
   ready = IsReady-after_dimension cap d state.cycle state.standing h.ready;
   same = closed-after_dimension n cap d state below h.ready ∙ ap (machine_after_dimension n cap d) h.same;
@@ -123,14 +123,14 @@ pub record IsRested (n : ℕ) (state : State) (machine : Machine) : Type 0 where
   pub ready : IsReady (cycle_begins state.cycle) state.standing
   pub same : closed n state ≡ machine
 
-after_injection_due : (n cap : ℕ) (state : State) (machine : Machine) → IsRested n state machine → IsDue n 0 (after_injection n cap state) (machine_after_injection n cap machine)
+pub after_injection_due : (n cap : ℕ) (state : State) (machine : Machine) → IsRested n state machine → IsDue n 0 (after_injection n cap state) (machine_after_injection n cap machine)
 unfolding after_injection
 after_injection_due n cap state machine h = record {
   ready = IsReady-with_new n cap state h.ready;
   same = closed-after_injection n cap state h.ready ∙ ap (machine_after_injection n cap) h.same;
 }
 
-after_delivery_rested : (n d : ℕ) (state : State) (machine : Machine) → IsDue n d state machine → IsRested n (after_delivery n state) (machine_after_delivery n machine)
+pub after_delivery_rested : (n d : ℕ) (state : State) (machine : Machine) → IsDue n d state machine → IsRested n (after_delivery n state) (machine_after_delivery n machine)
 unfolding after_delivery
 after_delivery_rested n d state machine h = record {
   ready = later_ready (undelivered state.chips state.standing) (due_time d state.cycle) (cycle_begins (state.cycle + 1)) (grind (arith, nat_tests))
@@ -160,7 +160,7 @@ after_acts_rested n cap state machine (a ∷ acts) h =
     (after_acts_rested n cap (state_after_all n cap state (steps_of n a)) (after_act n cap machine a) acts (after_act_rested n cap state machine a h))
 
 -- the state of a machine that is handed over
-opened_rested : (n : ℕ) (machine : Machine) → length machine.buffers ≡ 2 ^ n → IsRested n (opened n machine) machine
+pub opened_rested : (n : ℕ) (machine : Machine) → length machine.buffers ≡ 2 ^ n → IsRested n (opened n machine) machine
 opened_rested n machine long = record { ready = IsReady-opened n machine; same = closed-opened n machine long }
 
 -- a run is the fold of its acts, told by the buffers

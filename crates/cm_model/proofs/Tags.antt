@@ -18,8 +18,7 @@ use Rattle.cm_model.specs.Cycle.{State, log_at, taken_at, after_injection, after
 use Rattle.cm_model.specs.Machine.{Machine, opened, closed, run_of}
 use Rattle.cm_model.specs.Account.{Triple, standing_triple, delivered_triple, account}
 use Rattle.cm_model.specs.Found.{same_tag}
-use Rattle.cm_model.specs.Keeping.{BornBefore, HasTagsOnce}
-use Rattle.cm_model.specs.Laws.{HasGoodTags}
+use Rattle.cm_model.specs.Keeping.{BornBefore, HasGoodTags, HasTagsOnce}
 use Rattle.cm_model.proofs.Injecting.{AllAbove, IsAscending, IsAscending-taken}
 use Rattle.cm_model.proofs.Runs.{crossings, state_after_all-append}
 use Rattle.cm_model.proofs.Counting.{AllInCube, sum_by-none, sum_by-past}

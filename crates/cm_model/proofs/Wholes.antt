@@ -57,7 +57,7 @@ IsProcessor-after_injection false processor h = record {
   zero = zero_stays processor.flags ACK false (λ e. omega (arith, e)) h.zero;
 }
 
-length-bits_of : (count number : ℕ) → length (bits_of count number) ≡ count
+pub length-bits_of : (count number : ℕ) → length (bits_of count number) ≡ count
 length-bits_of count number = length-map-range_with_len (bit number) 0 count
 
 pub length-with_field : (memory : List Bool) (at len number : ℕ) → at + len ≤ length memory → length (with_field memory at len number) ≡ length memory

@@ -1,5 +1,5 @@
 -- The account of a machine: where each message is bound or was delivered, with its tag and payload. Ours.
-use Rattle.std.specs.Prelude.{◌≡◌, ℕ, ◌^◌, Bool, List, ◌++◌, Option, Some, None, length, drop, map}
+use Rattle.std.specs.Prelude.{◌≡◌, ℕ, ◌≤◌, ◌^◌, Bool, List, ◌++◌, Option, Some, None, length, drop, map}
 use Rattle.std.specs.List.{flat_map, filter_map, count_by, range_with_len}
 use Rattle.cm_bits.specs.declared.place.Place.{Place}
 use Rattle.cm_model.specs.declared.message.Message.{Message}
@@ -46,6 +46,14 @@ new_events before after c = drop (length (log_at before.logs c)) (log_at after.l
 unfoldable pub newly_injected : ℕ → Machine → Machine → List Triple
 newly_injected n before after = flat_map (λ c. filter_map (injected_triple c) (new_events before after c)) (range_with_len 0 (2 ^ n))
 
+-- the lines of all messages that the logs tell were injected
+unfoldable pub all_injected : ℕ → Machine → List Triple
+all_injected n machine = flat_map (λ c. filter_map (injected_triple c) (log_at machine.logs c)) (range_with_len 0 (2 ^ n))
+
 -- the two lists have as many lines of every kind, in whatever order
 abbrev pub SameLines : List Triple → List Triple → Type 0
 SameLines xs ys = (kind : Triple → Bool) → count_by kind xs ≡ count_by kind ys
+
+-- the second list has at least as many lines of every kind
+abbrev pub HasLines : List Triple → List Triple → Type 0
+HasLines xs ys = (kind : Triple → Bool) → count_by kind xs ≤ count_by kind ys

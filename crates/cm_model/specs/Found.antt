@@ -1,6 +1,6 @@
 -- Where the message of a tag is: ours.
-use Rattle.std.specs.Prelude.{ℕ, ◌^◌, ◌==◌, ◌&&◌, Bool, List, [], ◌∷◌, Option, Some, None, if◌then◌else◌}
-use Rattle.std.specs.List.{flat_map, filter_map, find, list_any, range_with_len}
+use Rattle.std.specs.Prelude.{◌≡◌, ℕ, ◌<◌, true, false, ◌^◌, ◌==◌, ◌&&◌, Bool, List, [], ◌∷◌, Option, Some, None, if◌then◌else◌}
+use Rattle.std.specs.List.{All, Any, flat_map, filter_map, find, list_any, range_with_len}
 use Rattle.cm_bits.specs.declared.place.Place.{Place}
 use Rattle.cm_model.specs.declared.message.Tag.{Tag}
 use Rattle.cm_model.specs.declared.message.Event.{Event}
@@ -34,3 +34,22 @@ found_from None [] = found.Unknown
 -- where the message of a tag is: in a router, or else delivered, or else nowhere
 unfoldable pub found_in : ℕ → Machine → Tag → Found
 found_in n machine tag = found_from (router_of n machine tag) (delivery_places n machine tag)
+
+-- a message of this tag stands at a chip
+abbrev pub StandsAt : Machine → Tag → ℕ → Type 0
+StandsAt machine tag c = Any (λ m. same_tag m.tag tag ≡ true) (buffer_at machine.buffers c)
+
+-- a message of this tag was delivered at a chip, and to this place
+abbrev pub WasDelivered : Machine → Tag → ℕ → Place → Type 0
+WasDelivered machine tag c place = Any (λ event. delivery_place tag event ≡ Some place) (log_at machine.logs c)
+
+-- no message of this tag stands at a chip or was delivered there
+pub record IsNowhereAt (machine : Machine) (tag : Tag) (c : ℕ) : Type 0 where
+  pub stands : All (λ m. same_tag m.tag tag ≡ false) (buffer_at machine.buffers c)
+  pub delivered : All (λ event. delivery_place tag event ≡ None) (log_at machine.logs c)
+
+-- the answer tells where the message is
+abbrev pub IsWhereabouts : ℕ → Machine → Tag → Found → Type 0
+IsWhereabouts n machine tag (found.Router c) = (c < 2 ^ n) × StandsAt machine tag c
+IsWhereabouts n machine tag (found.Delivered c p) = (b : ℕ) × (b < 2 ^ n) × WasDelivered machine tag b (record { chip = c; proc = p })
+IsWhereabouts n machine tag found.Unknown = (c : ℕ) → c < 2 ^ n → IsNowhereAt machine tag c

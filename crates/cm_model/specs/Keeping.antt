@@ -33,6 +33,11 @@ BornBefore n machine = All (λ triple. triple.tag.birth < machine.clock) (accoun
 abbrev pub HasTagsOnce : ℕ → Machine → Type 0
 HasTagsOnce n machine = (tag : Tag) → count_by (λ triple. same_tag triple.tag tag) (account n machine) ≤ 1
 
+-- tags and births of the account, as every machine has them
+pub record HasGoodTags (n : ℕ) (machine : Machine) : Type 0 where
+  pub once : HasTagsOnce n machine
+  pub born : BornBefore n machine
+
 -- of a cube of n dimensions whose routers have room for cap messages each
 pub record IsMachine (n cap : ℕ) (machine : Machine) : Type 0 where
   pub chip_count : length machine.chips ≡ 2 ^ n

@@ -1,20 +1,17 @@
 -- Laws over the definitions, each the contract of a function of its name.
-use Rattle.std.specs.Prelude.{◌≡◌, ℕ, ◌^◌, ◌<◌, List, ◌++◌, length, map}
+use Rattle.std.specs.Prelude.{◌≡◌, ℕ, ◌^◌, ◌<◌, List, ◌++◌, length, take}
 use Rattle.cm_bits.specs.declared.place.Place.{Place}
 use Rattle.cm_bits.specs.declared.plane.Dir.{Dir}
-use Rattle.cm_model.specs.declared.act.Nano.{Nano}
 use Rattle.cm_model.specs.declared.act.Act.{Act}
-use Rattle.cm_model.specs.declared.act.Act.TheVariants as act
 use Rattle.cm_model.specs.Place.{neighbour, opposite}
-use Rattle.cm_model.specs.Router.{Standing, target, leaver, after_dimension}
-use Rattle.cm_model.specs.Order.{queue, buffer}
-use Rattle.cm_model.specs.Leaver.{IsLeaver}
-use Rattle.cm_model.specs.Steps.{Step, IsStep}
+use Rattle.cm_model.specs.declared.message.Tag.{Tag}
+use Rattle.cm_model.specs.Steps.{all_steps}
 use Rattle.cm_model.specs.Cycle.{log_at}
-use Rattle.cm_model.specs.Machine.{Machine, run_of}
-use Rattle.cm_model.specs.Buffers.{leaving_place, element_at, after_step, after_act, after_acts}
-use Rattle.cm_model.specs.Account.{account, new_events, newly_injected, SameLines}
-use Rattle.cm_model.specs.Keeping.{HasRoom, BornBefore, HasTagsOnce, IsMachine}
+use Rattle.cm_model.specs.Machine.{Machine, blank_machine, machine_at, run_of}
+use Rattle.cm_model.specs.Buffers.{after_steps, after_act, after_acts}
+use Rattle.cm_model.specs.Account.{account, new_events, newly_injected, all_injected, SameLines, HasLines}
+use Rattle.cm_model.specs.Found.{found_in, IsWhereabouts}
+use Rattle.cm_model.specs.Keeping.{HasRoom, HasGoodTags, IsMachine}
 
 -- a place of a cube of n dimensions
 pub record IsPlace (n : ℕ) (place : Place) : Type 0 where
@@ -39,21 +36,15 @@ abbrev pub RunsAreToldByBuffers : Type 0
 RunsAreToldByBuffers = (n cap : ℕ) (machine : Machine) (acts : List Act) → length machine.buffers ≡ 2 ^ n →
     run_of n cap machine acts ≡ after_acts n cap machine acts
 
--- who leaves is the one with the least since of those that have to cross, or is referred with the greatest, or is nobody
-abbrev pub LeaversHaveTheirSince : Type 0
-LeaversHaveTheirSince = (cap d c : ℕ) (set : List Standing) → IsLeaver cap d c set (leaver cap d c set)
+-- so are they after any number of their steps, in the midst of a petit cycle
+abbrev pub StepsAreToldByBuffers : Type 0
+StepsAreToldByBuffers = (n cap : ℕ) (machine : Machine) (acts : List Act) (count : ℕ) → length machine.buffers ≡ 2 ^ n →
+    machine_at n cap machine acts count ≡ after_steps n cap machine (take count (all_steps n acts))
 
--- who leaves stands in the buffer at the place of the first that has to cross, or else, if it is full, last
-abbrev pub LeaversStandAtTheirPlace : Type 0
-LeaversStandAtTheirPlace = (cap d c : ℕ) (set : List Standing) → leaver cap d c set ≡ element_at (queue c set) (leaving_place cap d (buffer c set))
-
--- a dimension step keeps the target of each record
-abbrev pub TargetsAreKept : Type 0
-TargetsAreKept = (cap d cycle : ℕ) (set : List Standing) → map target (after_dimension cap d cycle set) ≡ map target set
-
--- where no buffer has more than cap messages, none has more after injection, after a dimension step or after delivery
-abbrev pub RoomIsKept : Type 0
-RoomIsKept = (n cap : ℕ) (machine : Machine) (step : Step) → IsStep n step → HasRoom n cap machine → HasRoom n cap (after_step n cap machine step)
+-- where no buffer has more than cap messages, no chip has more at any step of a run, told on the set of messages
+abbrev pub RunsKeepRoom : Type 0
+RunsKeepRoom = (n cap : ℕ) (machine : Machine) (acts : List Act) (count : ℕ) → length machine.buffers ≡ 2 ^ n → HasRoom n cap machine →
+    HasRoom n cap (machine_at n cap machine acts count)
 
 -- each chip's log after a run is its log before it, and the new events
 abbrev pub LogsOnlyGrow : Type 0
@@ -65,14 +56,14 @@ abbrev pub AccountIsConserved : Type 0
 AccountIsConserved = (n cap : ℕ) (machine : Machine) (acts : List Act) →
     SameLines (account n (run_of n cap machine acts)) (account n machine ++ newly_injected n machine (run_of n cap machine acts))
 
--- an instruction leaves the account as it is
-abbrev pub InstructionsKeepTheAccount : Type 0
-InstructionsKeepTheAccount = (n cap : ℕ) (machine : Machine) (nano : Nano) → account n (after_act n cap machine (act.Nano nano)) ≡ account n machine
+-- where the account has the line of each message that was injected, it has it after a run too
+abbrev pub InjectedStandInTheAccount : Type 0
+InjectedStandInTheAccount = (n cap : ℕ) (machine : Machine) (acts : List Act) →
+    HasLines (all_injected n machine) (account n machine) → HasLines (all_injected n (run_of n cap machine acts)) (account n (run_of n cap machine acts))
 
--- tags and births of the account, as every machine has them
-pub record HasGoodTags (n : ℕ) (machine : Machine) : Type 0 where
-  pub once : HasTagsOnce n machine
-  pub born : BornBefore n machine
+-- where the message of a tag is found, there it is
+abbrev pub MessagesAreFound : Type 0
+MessagesAreFound = (n : ℕ) (machine : Machine) (tag : Tag) → IsWhereabouts n machine tag (found_in n machine tag)
 
 -- where no tag stands twice in the account and all births are below the counter, both hold after a run
 abbrev pub TagsStayApart : Type 0
@@ -85,3 +76,7 @@ MachinesAreKept = (n cap : ℕ) (machine : Machine) (act : Act) → IsMachine n 
 -- and so does a run
 abbrev pub RunsKeepMachines : Type 0
 RunsKeepMachines = (n cap : ℕ) (machine : Machine) (acts : List Act) → IsMachine n cap machine → IsMachine n cap (run_of n cap machine acts)
+
+-- the blank machine is one
+abbrev pub BlankIsMachine : Type 0
+BlankIsMachine = (n cap : ℕ) → IsMachine n cap (blank_machine n)

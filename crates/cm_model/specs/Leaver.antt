@@ -1,7 +1,7 @@
 -- Who leaves a chip in a dimension step, in the words of since: Hillis 1985; which message goes first is ours.
-use Rattle.std.specs.Prelude.{◌≡◌, ℕ, false, ◌⊎◌, List, [], Option, Some, None, length}
+use Rattle.std.specs.Prelude.{◌≡◌, ℕ, true, false, ◌⊎◌, List, [], Option, Some, None, length}
 use Rattle.std.specs.List.{All, Contains}
-use Rattle.cm_model.specs.Router.{Standing, is_before, standing_at, crossing}
+use Rattle.cm_model.specs.Router.{Standing, is_before, same_since, standing_at, crossing}
 
 -- of these records, one that no other is before: it has the least since
 pub record HasLeastSince (records : List Standing) (r : Standing) : Type 0 where
@@ -32,3 +32,7 @@ Leaves cap crossers here (Some r) = HasLeastSince crossers r ⊎ IsReferred cap 
 -- who leaves chip c in dimension d, if anybody does
 abbrev pub IsLeaver : ℕ → ℕ → ℕ → List Standing → Option Standing → Type 0
 IsLeaver cap d c set leaving = Leaves cap (crossing d (standing_at c set)) (standing_at c set) leaving
+
+-- of these records no two have one since
+abbrev pub SincesDiffer : List Standing → Type 0
+SincesDiffer records = (r q : Standing) → Contains records r → Contains records q → same_since r.since q.since ≡ true → r ≡ q

@@ -1,6 +1,6 @@
 -- What injection takes out of the memory of a chip's processors, and what delivery leaves there: where they stand is ours.
-use Rattle.std.specs.Prelude.{ℕ, ◌+◌, ◌-◌, ◌^◌, ◌%◌, ◌==◌, Bool, true, false, not, List, ◌++◌, Option, Some, None, min, map, take, drop, slice_set, if◌then◌else◌}
-use Rattle.std.specs.List.{filter, find, list_any, range_with_len}
+use Rattle.std.specs.Prelude.{◌≡◌, ℕ, ◌≤◌, ◌+◌, ◌-◌, ◌^◌, ◌%◌, ◌==◌, ◌&&◌, Bool, true, false, not, List, ◌++◌, Option, Some, None, min, map, take, drop, slice_set, if◌then◌else◌}
+use Rattle.std.specs.List.{All, count_by, filter, find, list_any, range_with_len}
 use Rattle.cm_bits.specs.Bit.{bit}
 use Rattle.cm_model.specs.declared.message.Message.{Message}
 use Rattle.cm_model.specs.Processor.{Processor, SEND, ACK, RECV, flag, field_value}
@@ -41,6 +41,11 @@ processor_after_injection was_taken processor = record processor {
 unfoldable pub chip_after_injection : List ℕ → List Processor → List Processor
 chip_after_injection ps chip = each_processor (λ p. processor_after_injection (is_among p ps) (processor_at chip p))
 
+-- what injection left of a processor's flags: ACK tells whether its message was taken, and SEND falls if it was
+pub record IsAcknowledged (was_taken : Bool) (before after : Processor) : Type 0 where
+  pub ack : flag after ACK ≡ was_taken
+  pub send : flag after SEND ≡ (flag before SEND && not was_taken)
+
 -- ---- delivery
 
 -- RECV is 0, so that the processor can receive a message
@@ -73,3 +78,14 @@ processor_after_delivery (Some m) processor = record {
 -- the chip after these messages were delivered, at most one to each processor
 unfoldable pub chip_after_delivery : List Message → List Processor → List Processor
 chip_after_delivery delivered chip = each_processor (λ p. processor_after_delivery (find (is_for p) delivered) (processor_at chip p))
+
+-- what was delivered to a processor stands in its field, and its RECV is 1
+pub record HasReceived (m : Message) (processor : Processor) : Type 0 where
+  pub payload : field_value processor 4032 32 ≡ m.payload
+  pub flag : flag processor RECV ≡ true
+
+-- these messages can be delivered in one petit cycle
+pub record AreDeliveries (receives : ℕ → Bool) (ms : List Message) : Type 0 where
+  pub home : All (λ m. has_arrived m ≡ true) ms
+  pub received : All (λ m. receives m.proc ≡ true) ms
+  pub apart : (p : ℕ) → count_by (is_for p) ms ≤ 1

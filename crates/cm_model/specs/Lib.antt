@@ -15,5 +15,6 @@ pub mod Buffers
 pub mod Account
 pub mod Found
 pub mod Keeping
+pub mod StepLaws
 pub mod Laws
 pub mod Leaver

@@ -1,5 +1,5 @@
 -- A machine as contracts see it, and a run of acts: the order of a run is ours.
-use Rattle.std.specs.Prelude.{ℕ, ◌+◌, ◌^◌, List, [], ◌∷◌, slice_index_or}
+use Rattle.std.specs.Prelude.{ℕ, ◌+◌, ◌^◌, List, [], ◌∷◌, take, slice_index_or}
 use Rattle.std.specs.List.{flat_map, range_with_len}
 use Rattle.cm_model.specs.declared.act.Act.{Act}
 use Rattle.cm_model.specs.declared.message.Message.{Message}
@@ -56,6 +56,10 @@ closed n state = record {
   logs = state.logs;
   clock = state.clock;
 }
+
+-- the machine after so many steps of a run
+abbrev pub machine_at : ℕ → ℕ → Machine → List Act → ℕ → Machine
+machine_at n cap machine acts count = closed n (state_after_all n cap (opened n machine) (take count (all_steps n acts)))
 
 -- the machine after a list of acts, one after another, on a cube of n dimensions whose routers have room for cap messages each
 unfoldable pub run_of : ℕ → ℕ → Machine → List Act → Machine

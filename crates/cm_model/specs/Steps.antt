@@ -1,5 +1,5 @@
 -- The steps of a run, one after another: a petit cycle crosses each dimension once, Hillis 1985; their order is ours.
-use Rattle.std.specs.Prelude.{ℕ, ◌<◌, List, [], ◌∷◌, ◌++◌, map}
+use Rattle.std.specs.Prelude.{ℕ, ◌+◌, ◌<◌, List, [], ◌∷◌, ◌++◌, map}
 use Rattle.std.specs.List.{flat_map, range_with_len}
 use Rattle.cm_model.specs.declared.act.Nano.{Nano}
 use Rattle.cm_model.specs.declared.act.Act.{Act}
@@ -34,3 +34,25 @@ steps_of n act.Cycle = Inject ∷ (map Cross (range_with_len 0 n) ++ Deliver ∷
 -- the steps of a list of acts
 abbrev pub all_steps : ℕ → List Act → List Step
 all_steps n acts = flat_map (steps_of n) acts
+
+-- a step of a run, with its act and the place of that act among all
+pub record Phase : Type 0 where
+  pub at : ℕ
+  pub act : Act
+  pub step : Step
+
+-- the phases of the act at a place
+abbrev pub phases_of : ℕ → ℕ → Act → List Phase
+phases_of n at one = map (λ step. record { at = at; act = one; step = step }) (steps_of n one)
+
+-- those of a list of acts that begins at a place
+abbrev pub phases_from : ℕ → ℕ → List Act → List Phase
+phases_from n at [] = []
+phases_from n at (one ∷ more) = phases_of n at one ++ phases_from n (at + 1) more
+
+-- those of a run
+abbrev pub phases : ℕ → List Act → List Phase
+phases n acts = phases_from n 0 acts
+
+abbrev pub steps_in : List Phase → List Step
+steps_in run = map (λ phase. phase.step) run

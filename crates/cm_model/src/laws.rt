@@ -1,6 +1,7 @@
 //! Laws over the definitions: what each function is named for holds, at every size of the machine.
 
-ghost use Rattle.cm_model.specs.Laws.{NeighboursLeadBack, RunsCanBeCut, RunsAreToldByBuffers, LeaversHaveTheirSince, LeaversStandAtTheirPlace, TargetsAreKept, RoomIsKept, LogsOnlyGrow, AccountIsConserved, InstructionsKeepTheAccount, TagsStayApart, MachinesAreKept, RunsKeepMachines};
+ghost use Rattle.cm_model.specs.Laws.{NeighboursLeadBack, MessagesAreFound, InjectedStandInTheAccount, BlankIsMachine, StepsAreToldByBuffers, RunsKeepRoom, RunsCanBeCut, RunsAreToldByBuffers, LogsOnlyGrow, AccountIsConserved, TagsStayApart, MachinesAreKept, RunsKeepMachines};
+ghost use Rattle.cm_model.specs.StepLaws.{SendersAreAcknowledged, DeliveriesAreApart, PayloadsAreReceived, LeaversHaveTheirSince, LeaversAreUnique, LeaversStandAtTheirPlace, TargetsAreKept, RoomIsKept, InstructionsKeepTheAccount};
 
 /// A step on the grid and one back end where they began.
 pub fn neighbours_lead_back()
@@ -17,9 +18,19 @@ pub fn runs_are_told_by_buffers()
     ensures { RunsAreToldByBuffers }
 {}
 
+/// At each step of a run, too, the set of messages and the buffers tell one machine.
+pub fn steps_are_told_by_buffers()
+    ensures { StepsAreToldByBuffers }
+{}
+
 /// Who leaves a chip has the least since of those that have to cross, or else, at a full chip, the greatest.
 pub fn leavers_have_their_since()
     ensures { LeaversHaveTheirSince }
+{}
+
+/// Where no two records at a chip have one since, nobody but its leaver is its leaver.
+pub fn leavers_are_unique()
+    ensures { LeaversAreUnique }
 {}
 
 /// Who leaves a chip is the first message of its buffer that has to cross, or else, if it is full, the last.
@@ -35,6 +46,11 @@ pub fn targets_are_kept()
 /// No buffer overflows.
 pub fn room_is_kept()
     ensures { RoomIsKept }
+{}
+
+/// At no step of a run does a buffer overflow.
+pub fn runs_keep_room()
+    ensures { RunsKeepRoom }
 {}
 
 /// A run only adds to the logs.
@@ -65,4 +81,34 @@ pub fn machines_are_kept()
 /// A run keeps what every machine keeps.
 pub fn runs_keep_machines()
     ensures { RunsKeepMachines }
+{}
+
+/// Every message that was injected stands in the account, and goes on to.
+pub fn injected_stand_in_the_account()
+    ensures { InjectedStandInTheAccount }
+{}
+
+/// What is delivered to a processor stands in its memory, unaltered.
+pub fn payloads_are_received()
+    ensures { PayloadsAreReceived }
+{}
+
+/// The blank machine has what every machine keeps.
+pub fn blank_is_machine()
+    ensures { BlankIsMachine }
+{}
+
+/// Injection tells each processor whether its message was taken.
+pub fn senders_are_acknowledged()
+    ensures { SendersAreAcknowledged }
+{}
+
+/// A processor is delivered one message at most in a petit cycle, and only where its RECV was 0.
+pub fn deliveries_are_apart()
+    ensures { DeliveriesAreApart }
+{}
+
+/// Where the message of a tag is found, there it is.
+pub fn messages_are_found()
+    ensures { MessagesAreFound }
 {}

@@ -1,10 +1,8 @@
-use Rattle.std.proofs.Common.{◌≡◌, ℕ, ◌<◌, refl, sym, ap, ◌∙◌, arith, get_or}
-use Rattle.cm_bits.specs.Bit.{bit}
 use Rattle.cm_element.proofs.Planes.{flag_read}
 use Rattle.cm_element.proofs.chip.Chip.flag_plane.Goals as goal
 
 pub returns : goal.returns
 returns c = record {
   value = λ p h. rw (← c.self.view_is)
-      (flag_read c.self.inside.memory.items c.self.inside.flags c.args.number c.get.result c.from.result c.from.ensures c.get.ensures.value p h)
+      (flag_read c.self.inside.memory.items c.self.inside.flags c.args.number c.get.result c.from.result c.from.ensures c.get.ensures.value p h);
 }

@@ -1,0 +1,56 @@
+-- Laws of one step, each the contract of a function of its name.
+use Rattle.std.specs.Prelude.{◌≡◌, ℕ, ◌^◌, ◌<◌, Bool, Option, Some, List, [], map}
+use Rattle.cm_model.specs.declared.act.Nano.{Nano}
+use Rattle.cm_model.specs.declared.act.Act.TheVariants as act
+use Rattle.cm_model.specs.Router.{Standing, standing_at, target, leaver, after_dimension}
+use Rattle.cm_model.specs.Order.{queue, buffer}
+use Rattle.cm_model.specs.Leaver.{IsLeaver, SincesDiffer}
+use Rattle.std.specs.List.{find}
+use Rattle.cm_model.specs.declared.message.Message.{Message}
+use Rattle.cm_model.specs.Processor.{Processor}
+use Rattle.cm_model.specs.Chip.{processor_at}
+use Rattle.cm_model.specs.Whole.{IsChip}
+use Rattle.cm_model.specs.Letters.{is_among, chip_after_injection, is_for, chip_after_delivery, IsAcknowledged, AreDeliveries, HasReceived}
+use Rattle.cm_model.specs.Steps.{Step, IsStep}
+use Rattle.cm_model.specs.Machine.{Machine}
+use Rattle.cm_model.specs.Buffers.{leaving_place, element_at, delivered, after_step, after_act}
+use Rattle.cm_model.specs.Account.{account}
+use Rattle.cm_model.specs.Keeping.{HasRoom}
+
+-- injection tells each processor whether its message was taken
+abbrev pub SendersAreAcknowledged : Type 0
+SendersAreAcknowledged = (taken : List ℕ) (chip : List Processor) (p : ℕ) → IsChip chip → p < 16 →
+    IsAcknowledged (is_among p taken) (processor_at chip p) (processor_at (chip_after_injection taken chip) p)
+
+-- who leaves is the one with the least since of those that have to cross, or is referred with the greatest, or is nobody
+abbrev pub LeaversHaveTheirSince : Type 0
+LeaversHaveTheirSince = (cap d c : ℕ) (set : List Standing) → IsLeaver cap d c set (leaver cap d c set)
+
+-- and nobody else is, where no two records at the chip have one since
+abbrev pub LeaversAreUnique : Type 0
+LeaversAreUnique = (cap d c : ℕ) (set : List Standing) (leaving : Option Standing) → SincesDiffer (standing_at c set) → IsLeaver cap d c set leaving → leaving ≡ leaver cap d c set
+
+-- who leaves stands in the buffer at the place of the first that has to cross, or else, if it is full, last
+abbrev pub LeaversStandAtTheirPlace : Type 0
+LeaversStandAtTheirPlace = (cap d c : ℕ) (set : List Standing) → leaver cap d c set ≡ element_at (queue c set) (leaving_place cap d (buffer c set))
+
+-- a dimension step keeps the target of each record
+abbrev pub TargetsAreKept : Type 0
+TargetsAreKept = (cap d cycle : ℕ) (set : List Standing) → map target (after_dimension cap d cycle set) ≡ map target set
+
+-- a delivery takes messages that have arrived and whose processors can receive, one for each processor at most
+abbrev pub DeliveriesAreApart : Type 0
+DeliveriesAreApart = (receives : ℕ → Bool) (here : List Message) → AreDeliveries receives (delivered receives [] here)
+
+-- each message that is delivered is received, unaltered, by the processor that it is for
+abbrev pub PayloadsAreReceived : Type 0
+PayloadsAreReceived = (chip : List Processor) (delivered : List Message) (p : ℕ) (m : Message) → IsChip chip → p < 16 → m.payload < 2 ^ 32 →
+    find (is_for p) delivered ≡ Some m → HasReceived m (processor_at (chip_after_delivery delivered chip) p)
+
+-- where no buffer has more than cap messages, none has more after injection, after a dimension step or after delivery
+abbrev pub RoomIsKept : Type 0
+RoomIsKept = (n cap : ℕ) (machine : Machine) (step : Step) → IsStep n step → HasRoom n cap machine → HasRoom n cap (after_step n cap machine step)
+
+-- an instruction leaves the account as it is
+abbrev pub InstructionsKeepTheAccount : Type 0
+InstructionsKeepTheAccount = (n cap : ℕ) (machine : Machine) (nano : Nano) → account n (after_act n cap machine (act.Nano nano)) ≡ account n machine
