@@ -9,6 +9,8 @@ ghost use Rattle.cm_model.specs.Chip.{IsPlane, processor_at, blank_chip, chip_af
 ghost use Rattle.cm_model.specs.Whole.{IsChip};
 ghost use Rattle.cm_element.specs.Outputs.{AreOutputs};
 
+mod wide;
+
 use crate::outputs::Outputs;
 use cm_bits::{Addr, Field, FlagNo, NoMemory, Plane, Proc};
 use cm_model::Nano;
@@ -115,6 +117,7 @@ impl Chip {
     /// One flag of all processors: bit p is that of processor p.
     pub fn flag_plane(&self, number: FlagNo) -> Plane
         ensures value { IsPlane result (λ p. flag (processor_at self.now p) number) }
+        ensures whole { IsChip self.now }
     {
         self.flags[usize::from(number.get())]
     }
