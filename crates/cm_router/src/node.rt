@@ -1,11 +1,19 @@
 //! The node of one chip: a buffer of messages.
 
-ghost use Rattle.std.specs.Prelude.{◌≡◌, ◌<◌, ◌≤◌, ◌==◌, ◌-◌, [], ◌∷◌, ◌++◌, length, position, IfSome};
+ghost use Rattle.std.specs.Prelude.{◌≡◌, ◌<◌, ◌≤◌, ◌==◌, ◌-◌, [], ◌∷◌, ◌++◌, ◌+◌, length, map, position, IfSome, vec_len, vec_capacity};
+ghost use Rattle.cm_model.specs.Processor.{SEND, flag};
+ghost use Rattle.cm_model.specs.Chip.{IsPlane, processor_at};
+ghost use Rattle.cm_model.specs.Letters.{is_among, chip_after_injection, chip_after_delivery};
+ghost use Rattle.cm_router.specs.Buffer.{holding, taken_by, sent_to, delivered_by, kept_by};
 ghost use Rattle.cm_model.specs.Router.{has_to_cross, message_across};
 ghost use Rattle.cm_model.specs.Buffers.{leaving_place, outgoing, without};
 
+use crate::letters;
+use crate::letters::{acknowledge, is_one, message_sent, receive, tell_delivered, tell_injected};
 use arrayvec::ArrayVec;
-use cm_message::Message;
+use cm_bits::{Plane, Proc};
+use cm_element::Chip;
+use cm_message::{Event, Message};
 use std::marker::Model;
 
 /// The largest room that a node may have.
@@ -62,9 +70,8 @@ impl Node {
     pub fn leave(&mut self, dim: u8) -> Option<Message>
         requires dimension { dim < 12 }
         ensures value { result ≡ outgoing self.old.room dim self.old.messages }
-        ensures stays { self.new ≡ record self.old {
-            messages = without self.old.messages (leaving_place self.old.room dim self.old.messages)
-        } }
+        ensures stays { self.new ≡ holding self.old
+            (without self.old.messages (leaving_place self.old.room dim self.old.messages)) }
     {
         let place = self.leaving_place(dim)?;
         Some(across(self.messages.remove(place), dim))
@@ -95,9 +102,93 @@ impl Node {
     /// Takes in a message that comes across a dimension.
     pub fn arrive(&mut self, message: Message)
         requires room { length self.old.messages < self.old.room }
-        ensures value { self.new ≡ record self.old { messages = self.old.messages ++ message ∷ [] } }
+        ensures value { self.new ≡ holding self.old (self.old.messages ++ message ∷ []) }
     {
         self.messages.push(message);
+    }
+
+    /// Takes in messages of the processors that ask to send, by number, at most four and at most as
+    /// many as there is room for. The log tells of each.
+    pub fn inject(
+        &mut self,
+        chip: &mut Chip,
+        here: u16,
+        dims: u8,
+        clock: u64,
+        log: &mut Vec<Event>,
+    )
+        requires dims { dims ≤ 12 }
+        requires room { vec_len log.old + 4 ≤ vec_capacity log.old }
+        ensures messages { self.new ≡ holding self.old
+            (self.old.messages ++ sent_to self.old dims clock here chip.old) }
+        ensures chip { chip.new ≡ chip_after_injection (taken_by self.old chip.old) chip.old }
+        ensures log { log.new.items
+            ≡ log.old.items ++ map Event.Injected (sent_to self.old dims clock here chip.old) }
+        ensures log_room { vec_capacity log.old ≤ vec_capacity log.new }
+    {
+        let asking = letters::asking(chip);
+        let taken = self.take_in(chip, asking, here, dims, clock, log);
+        acknowledge(chip, asking, taken);
+    }
+
+    /// Takes the messages in, and tells in a plane whose they are.
+    fn take_in(
+        &mut self,
+        chip: &Chip,
+        asking: Plane,
+        here: u16,
+        dims: u8,
+        clock: u64,
+        log: &mut Vec<Event>,
+    ) -> Plane
+        requires asking { IsPlane asking (λ p. flag (processor_at chip.now p) SEND) }
+        requires dims { dims ≤ 12 }
+        requires room { vec_len log.old + 4 ≤ vec_capacity log.old }
+        ensures taken { IsPlane result (λ p. is_among p (taken_by self.old chip.now)) }
+        ensures messages { self.new ≡ holding self.old
+            (self.old.messages ++ sent_to self.old dims clock here chip.now) }
+        ensures log { log.new.items
+            ≡ log.old.items ++ map Event.Injected (sent_to self.old dims clock here chip.now) }
+        ensures log_room { vec_capacity log.old ≤ vec_capacity log.new }
+    {
+        let mut left = 4.min(usize::from(self.room) - self.messages.len());
+        let mut taken: Plane = 0;
+        for number in 0u8..16 {
+            let proc = Proc::new(number).unwrap();
+            if left > 0 && is_one(asking, proc) {
+                let message = message_sent(chip, proc, here, dims, clock);
+                tell_injected(log, &message);
+                self.messages.push(message);
+                taken |= 1 << number;
+                left -= 1;
+            }
+        }
+        taken
+    }
+
+    /// Delivers what has arrived: each message from the front whose processor can receive, at most
+    /// one to each. The log tells of each.
+    pub fn deliver(&mut self, chip: &mut Chip, here: u16, log: &mut Vec<Event>)
+        requires room { vec_len log.old + self.old.room ≤ vec_capacity log.old }
+        ensures stays { self.new ≡ holding self.old (kept_by self.old chip.old) }
+        ensures chip { chip.new ≡ chip_after_delivery (delivered_by self.old chip.old) chip.old }
+        ensures log { log.new.items
+            ≡ log.old.items ++ map (λ m. Event.Delivered m here) (delivered_by self.old chip.old) }
+        ensures log_room { vec_capacity log.old ≤ vec_capacity log.new }
+    {
+        let mut received = letters::received(chip);
+        let mut place = 0;
+        while place < self.messages.len() {
+            let message = self.messages[place];
+            if message.rel == 0 && !is_one(received, message.proc) {
+                receive(chip, &message);
+                received = letters::received(chip);
+                tell_delivered(log, &message, here);
+                self.messages.remove(place);
+            } else {
+                place += 1;
+            }
+        }
     }
 }
 
