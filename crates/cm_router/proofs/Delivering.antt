@@ -1,5 +1,5 @@
 -- The loop of a delivery: how far it has come, and that each message more brings it one on.
-use Rattle.std.proofs.Common.{◌≡◌, ◌≢◌, ℕ, zero, suc, ◌+◌, ◌<◌, ◌≤◌, ◌==◌, ◌&&◌, ◌||◌, Bool, true, false, not, List, [], ◌∷◌, ◌++◌, length, map, get_or, set, take, drop, remove, Option, Some, None, refl, sym, ap, ◌∙◌, subst, ⊎_elim, arith, append_assoc, eq-eqb, ne_eqb, get_or-set_same, get_or-set_other, length-set}
+use Rattle.std.proofs.Common.{◌≡◌, ◌≢◌, ℕ, ◌+◌, ◌<◌, ◌≤◌, ◌==◌, ◌&&◌, Bool, true, false, not, List, [], ◌∷◌, ◌++◌, length, map, get_or, remove, Option, Some, None, refl, sym, ap, ◌∙◌, ⊎_elim, arith, append_assoc, get_or-set_same, get_or-set_other}
 use Rattle.std.proofs.lemmas.Bool.{cases_Bool, eqb-true, eqb-false}
 use Rattle.std.proofs.lemmas.List.{map-append, append-nil, length-append}
 use Rattle.std.specs.List.{find}
@@ -10,7 +10,7 @@ use Rattle.cm_model.specs.Processor.{Processor, RECV, flag}
 use Rattle.cm_model.specs.Chip.{processor_at, no_processor}
 use Rattle.cm_model.specs.Whole.{IsChip}
 use Rattle.cm_model.specs.Letters.{can_receive, has_arrived, is_for, is_among, processor_after_delivery, chip_after_delivery}
-use Rattle.cm_model.specs.Buffers.{is_accepted, arrived_for, delivered, kept}
+use Rattle.cm_model.specs.Buffers.{is_accepted, delivered, kept}
 use Rattle.cm_model.proofs.Each.{is_each}
 use Rattle.cm_router.proofs.Scanning.{arrived_in, delivered-more, kept-more, arrived_in-more, none_delivered, after_one, processor_at-delivered, length-delivered, delivered_one_more}
 
@@ -107,13 +107,13 @@ still_open_delivered : (before : List Processor) (seen : List Message) (chip : L
     → length chip ≡ 16 → m.proc < 16 → length (processor_at chip m.proc).flags ≡ 16 → StillOpen before (seen ++ m ∷ []) (after_one m chip)
 still_open_delivered before seen chip m still arrived long below flags p h =
     rw (arrived_in-more [] seen m, arrived) (⊎_elim
-        (λ (e : (m.proc == p) ≡ true).
-            let same : m.proc ≡ p = eqb-true m.proc p e in
-            rw (e, ← same) (receives_no_more chip m long below flags ∙ sym (and_not_true (can_receive before m.proc))))
-        (λ (e : (m.proc == p) ≡ false).
-            let other : p ≢ m.proc = λ (s : p ≡ m.proc). eqb-false m.proc p e (sym s) in
-            rw e (receives_as_before chip m p other ∙ still p h))
-        (cases_Bool (m.proc == p)))
+    (λ (e : (m.proc == p) ≡ true).
+    let same : m.proc ≡ p = eqb-true m.proc p e in
+    rw (e, ← same) (receives_no_more chip m long below flags ∙ sym (and_not_true (can_receive before m.proc))))
+    (λ (e : (m.proc == p) ≡ false).
+    let other : p ≢ m.proc = λ (s : p ≡ m.proc). eqb-false m.proc p e (sym s) in
+    rw e (receives_as_before chip m p other ∙ still p h))
+    (cases_Bool (m.proc == p)))
 
 accepted_at : (before : List Processor) (old : List Message) (told : List Event) (here : ℕ) (chip : List Processor) (now : List Message) (place : ℕ) (events : List Event)
     (m : Message) (seen rest : List Message) → IsChip before → seen ++ rest ≡ old → now ≡ staying_of before seen ++ rest → length (staying_of before seen) ≡ place
@@ -130,8 +130,8 @@ accepted_at before old told here chip now place events m seen (x ∷ rest) whole
     let more : out_of before (seen ++ m ∷ []) ≡ out_of before seen ++ m ∷ [] = delivered-more (can_receive before) [] seen m ∙ rw accepted refl in
     let same : staying_of before (seen ++ m ∷ []) ≡ staying_of before seen = kept-more (can_receive before) [] seen m ∙ rw accepted (append-nil (staying_of before seen)) in
     let unchanged : processor_at chip m.proc ≡ processor_at before m.proc =
-        ap (λ (ps : List Processor). processor_at ps m.proc) chip_is ∙ processor_at-delivered (out_of before seen) before m.proc below
-        ∙ ap (λ (o : Option Message). processor_after_delivery o (processor_at before m.proc)) none in
+    ap (λ (ps : List Processor). processor_at ps m.proc) chip_is ∙ processor_at-delivered (out_of before seen) before m.proc below
+    ∙ ap (λ (o : Option Message). processor_after_delivery o (processor_at before m.proc)) none in
     record {
       seen = seen ++ m ∷ [];
       rest = rest;
@@ -163,21 +163,21 @@ is_accepted-refused : (before : List Processor) (seen : List Message) (chip : Li
     → is_accepted (can_receive before) (arrived_in [] seen) m ≡ false
 is_accepted-refused before seen chip m still refused =
     ⊎_elim (λ (a : has_arrived m ≡ true). is_accepted-now before seen chip m still (refused a).0 ∙ rw (a, (refused a).1) refl)
-        (λ (a : has_arrived m ≡ false). rw a refl)
-        (cases_Bool (has_arrived m))
+    (λ (a : has_arrived m ≡ false). rw a refl)
+    (cases_Bool (has_arrived m))
 
 still_open_kept : (before : List Processor) (seen : List Message) (chip : List Processor) (m : Message) → StillOpen before seen chip → IsRefused chip m
     → StillOpen before (seen ++ m ∷ []) chip
 still_open_kept before seen chip m still refused p h =
     rw (arrived_in-more [] seen m) (⊎_elim
-        (λ (a : has_arrived m ≡ true). rw a (⊎_elim
-            (λ (e : (m.proc == p) ≡ true).
-                let same : m.proc ≡ p = eqb-true m.proc p e in
-                rw (e, ← same) ((refused a).1 ∙ sym (and_not_true (can_receive before m.proc))))
-            (λ (e : (m.proc == p) ≡ false). rw e (still p h))
-            (cases_Bool (m.proc == p))))
-        (λ (a : has_arrived m ≡ false). rw a (still p h))
-        (cases_Bool (has_arrived m)))
+    (λ (a : has_arrived m ≡ true). rw a (⊎_elim
+    (λ (e : (m.proc == p) ≡ true).
+    let same : m.proc ≡ p = eqb-true m.proc p e in
+    rw (e, ← same) ((refused a).1 ∙ sym (and_not_true (can_receive before m.proc))))
+    (λ (e : (m.proc == p) ≡ false). rw e (still p h))
+    (cases_Bool (m.proc == p))))
+    (λ (a : has_arrived m ≡ false). rw a (still p h))
+    (cases_Bool (has_arrived m)))
 
 kept_at : (before : List Processor) (old : List Message) (told : List Event) (here : ℕ) (chip : List Processor) (now : List Message) (place : ℕ) (events : List Event)
     (m : Message) (seen rest : List Message) → IsChip before → seen ++ rest ≡ old → now ≡ staying_of before seen ++ rest → length (staying_of before seen) ≡ place

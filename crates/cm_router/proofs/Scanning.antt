@@ -1,21 +1,17 @@
 -- Delivery on one chip, message by message: what a scan from the front has delivered and kept so far.
-use Rattle.std.proofs.Common.{◌≡◌, ◌≢◌, ℕ, ◌+◌, ◌<◌, ◌==◌, ◌&&◌, ◌||◌, Bool, true, false, not, List, [], ◌∷◌, ◌++◌, length, map, get_or, set, Option, Some, None, refl, sym, ap, ◌∙◌, subst, ⊎_elim, arith, append_assoc, eq-eqb, ne_eqb, get_or-set_same, get_or-set_other, length-set}
+use Rattle.std.proofs.Common.{◌≡◌, ◌≢◌, ℕ, ◌<◌, ◌==◌, ◌&&◌, ◌||◌, Bool, true, false, not, List, [], ◌∷◌, ◌++◌, length, set, Option, Some, None, refl, sym, ap, ◌∙◌, ⊎_elim, arith, eq-eqb, get_or-set_same, get_or-set_other, length-set}
 use Rattle.std.proofs.lemmas.Bool.{cases_Bool, eqb-true, eqb-false}
-use Rattle.std.proofs.lemmas.List.{map-append, append-nil, set-set}
+use Rattle.std.proofs.lemmas.List.{set-set}
 use Rattle.std.proofs.lemmas.List.Folds.{find-append}
-use Rattle.std.specs.List.{find, list_any}
+use Rattle.std.specs.List.{find}
 use Rattle.std.specs.Option.{option_or}
 use Rattle.cm_model.specs.declared.message.Message.{Message}
-use Rattle.cm_model.specs.declared.message.Event.{Event}
-use Rattle.cm_model.specs.declared.message.Event.TheVariants.{Delivered}
-use Rattle.cm_model.specs.Each.{each_from}
-use Rattle.cm_model.specs.Processor.{Processor, RECV, flag}
+use Rattle.cm_model.specs.Processor.{Processor, RECV}
 use Rattle.cm_model.specs.Chip.{processor_at, no_processor, with_flag}
-use Rattle.cm_model.specs.Whole.{IsChip}
-use Rattle.cm_model.specs.Letters.{can_receive, has_arrived, is_for, is_among, with_field, processor_after_delivery, chip_after_delivery}
+use Rattle.cm_model.specs.Letters.{has_arrived, is_for, is_among, with_field, processor_after_delivery, chip_after_delivery}
 use Rattle.cm_element.specs.Wide.{with_memory_field}
 use Rattle.cm_model.specs.Buffers.{is_accepted, arrived_for, delivered, kept}
-use Rattle.cm_model.proofs.Each.{is_each, length-each_from, get_or-each_below, same_each_below}
+use Rattle.cm_model.proofs.Each.{is_each, length-each_from, get_or-each_below}
 
 -- the processors for which messages have arrived, these messages on
 abbrev pub arrived_in : List ℕ → List Message → List ℕ
@@ -29,16 +25,16 @@ pub delivered-more : (receives : ℕ → Bool) (before : List ℕ) (ms : List Me
 delivered-more receives before [] m = refl
 delivered-more receives before (x ∷ ms) m =
     ⊎_elim (λ (e : is_accepted receives before x ≡ true). rw e (ap (λ z. x ∷ z) (delivered-more receives (arrived_for before x) ms m)))
-        (λ (e : is_accepted receives before x ≡ false). rw e (delivered-more receives (arrived_for before x) ms m))
-        (cases_Bool (is_accepted receives before x))
+    (λ (e : is_accepted receives before x ≡ false). rw e (delivered-more receives (arrived_for before x) ms m))
+    (cases_Bool (is_accepted receives before x))
 
 pub kept-more : (receives : ℕ → Bool) (before : List ℕ) (ms : List Message) (m : Message)
     → kept receives before (ms ++ m ∷ []) ≡ kept receives before ms ++ kept receives (arrived_in before ms) (m ∷ [])
 kept-more receives before [] m = refl
 kept-more receives before (x ∷ ms) m =
     ⊎_elim (λ (e : is_accepted receives before x ≡ true). rw e (kept-more receives (arrived_for before x) ms m))
-        (λ (e : is_accepted receives before x ≡ false). rw e (ap (λ z. x ∷ z) (kept-more receives (arrived_for before x) ms m)))
-        (cases_Bool (is_accepted receives before x))
+    (λ (e : is_accepted receives before x ≡ false). rw e (ap (λ z. x ∷ z) (kept-more receives (arrived_for before x) ms m)))
+    (cases_Bool (is_accepted receives before x))
 
 pub arrived_in-more : (before : List ℕ) (ms : List Message) (m : Message) → arrived_in before (ms ++ m ∷ []) ≡ arrived_for (arrived_in before ms) m
 arrived_in-more before [] m = refl
@@ -49,8 +45,8 @@ arrived_in-more before (x ∷ ms) m = arrived_in-more (arrived_for before x) ms 
 among_earlier : (p : ℕ) (before : List ℕ) (m : Message) → is_among p (arrived_for before m) ≡ false → is_among p before ≡ false
 among_earlier p before m h =
     ⊎_elim (λ (e : has_arrived m ≡ true). second (m.proc == p) (is_among p before) (rw e at h))
-        (λ (e : has_arrived m ≡ false). rw e at h)
-        (cases_Bool (has_arrived m))
+    (λ (e : has_arrived m ≡ false). rw e at h)
+    (cases_Bool (has_arrived m))
   where
     second : (a b : Bool) → (a || b) ≡ false → b ≡ false
     second true b k = absurd cc
@@ -72,12 +68,12 @@ pub none_delivered : (receives : ℕ → Bool) (p : ℕ) (before : List ℕ) (ms
 none_delivered receives p before [] h = refl
 none_delivered receives p before (m ∷ ms) h =
     ⊎_elim (λ (e : is_accepted receives before m ≡ true).
-            let arrived : has_arrived m ≡ true = accepted_arrived receives before m e in
-            let here : is_among p (arrived_for before m) ≡ false = among_before p (arrived_for before m) ms h in
-            let other : (m.proc == p) ≡ false = first (m.proc == p) (is_among p before) (rw arrived at here) in
-            rw (e, other) (none_delivered receives p (arrived_for before m) ms h))
-        (λ (e : is_accepted receives before m ≡ false). rw e (none_delivered receives p (arrived_for before m) ms h))
-        (cases_Bool (is_accepted receives before m))
+    let arrived : has_arrived m ≡ true = accepted_arrived receives before m e in
+    let here : is_among p (arrived_for before m) ≡ false = among_before p (arrived_for before m) ms h in
+    let other : (m.proc == p) ≡ false = first (m.proc == p) (is_among p before) (rw arrived at here) in
+    rw (e, other) (none_delivered receives p (arrived_for before m) ms h))
+    (λ (e : is_accepted receives before m ≡ false). rw e (none_delivered receives p (arrived_for before m) ms h))
+    (cases_Bool (is_accepted receives before m))
   where
     first : (a b : Bool) → (a || b) ≡ false → a ≡ false
     first true b k = k
@@ -119,19 +115,19 @@ delivered_one_more ds m chip below none =
     let inside : m.proc < length old = omega arith in
     let here : processor_at old m.proc ≡ processor_at chip m.proc = processor_at-delivered ds chip m.proc below ∙ ap (λ (o : Option Message). processor_after_delivery o (processor_at chip m.proc)) none in
     is_each no_processor 16 (λ p. processor_after_delivery (find (is_for p) (ds ++ m ∷ [])) (processor_at chip p)) (after_one m old)
-        (length-set old m.proc (processor_after_delivery (Some m) (processor_at old m.proc)) ∙ long)
-        (λ p h. ⊎_elim
-            (λ (e : (m.proc == p) ≡ true).
-                let same : m.proc ≡ p = eqb-true m.proc p e in
-                rw (← same) (get_or-set_same old m.proc (processor_after_delivery (Some m) (processor_at old m.proc)) no_processor inside
-                    ∙ ap (processor_after_delivery (Some m)) here
-                    ∙ sym (ap (λ (o : Option Message). processor_after_delivery o (processor_at chip m.proc)) (find-first ds m none))))
-            (λ (e : (m.proc == p) ≡ false).
-                let other : p ≢ m.proc = λ (s : p ≡ m.proc). eqb-false m.proc p e (sym s) in
-                get_or-set_other old m.proc p (processor_after_delivery (Some m) (processor_at old m.proc)) no_processor other
-                    ∙ processor_at-delivered ds chip p h
-                    ∙ sym (ap (λ (o : Option Message). processor_after_delivery o (processor_at chip p)) (find-more p ds m e)))
-            (cases_Bool (m.proc == p)))
+    (length-set old m.proc (processor_after_delivery (Some m) (processor_at old m.proc)) ∙ long)
+    (λ p h. ⊎_elim
+    (λ (e : (m.proc == p) ≡ true).
+    let same : m.proc ≡ p = eqb-true m.proc p e in
+    rw (← same) (get_or-set_same old m.proc (processor_after_delivery (Some m) (processor_at old m.proc)) no_processor inside
+    ∙ ap (processor_after_delivery (Some m)) here
+    ∙ sym (ap (λ (o : Option Message). processor_after_delivery o (processor_at chip m.proc)) (find-first ds m none))))
+    (λ (e : (m.proc == p) ≡ false).
+    let other : p ≢ m.proc = λ (s : p ≡ m.proc). eqb-false m.proc p e (sym s) in
+    get_or-set_other old m.proc p (processor_after_delivery (Some m) (processor_at old m.proc)) no_processor other
+    ∙ processor_at-delivered ds chip p h
+    ∙ sym (ap (λ (o : Option Message). processor_after_delivery o (processor_at chip p)) (find-more p ds m e)))
+    (cases_Bool (m.proc == p)))
 
 -- a payload put into the field and a 1 into the flag, one after the other, are what delivery leaves
 pub received_is : (m : Message) (chip : List Processor) → m.proc < length chip

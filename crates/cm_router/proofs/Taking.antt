@@ -1,5 +1,5 @@
 -- Injection on one chip, processor by processor: whose messages were taken so far, as a list and as a plane.
-use Rattle.std.proofs.Common.{◌≡◌, ◌≢◌, ℕ, zero, suc, ◌+◌, ◌-◌, ◌*◌, ◌%◌, ◌^◌, ◌<◌, ◌≤◌, ◌==◌, ◌&&◌, ◌||◌, min, nat_cmp, Bool, true, false, not, cond, List, [], ◌∷◌, ◌++◌, length, map, get_or, set, take, refl, sym, ap, ◌∙◌, ◌⊎◌, ⊎_elim, append_assoc, arith, bit_and, bit_or, eq-eqb, if◌then◌else◌}
+use Rattle.std.proofs.Common.{◌≡◌, ◌≢◌, ℕ, zero, suc, ◌+◌, ◌-◌, ◌*◌, ◌%◌, ◌^◌, ◌<◌, ◌≤◌, ◌==◌, ◌&&◌, ◌||◌, min, nat_cmp, Bool, true, false, not, cond, List, [], ◌∷◌, ◌++◌, length, map, get_or, set, take, refl, sym, ap, ◌∙◌, ◌⊎◌, ⊎_elim, append_assoc, arith, add-one, bit_and, bit_or, if◌then◌else◌}
 use Rattle.std.proofs.lemmas.Bool.{cases_Bool, eqb-true, eqb-false}
 use Rattle.std.proofs.lemmas.List.{append-nil, map-append, take-append-le, take_all, length-append, length-take, set-get_or}
 use Rattle.std.proofs.lemmas.List.Elements.{filter-append}
@@ -8,14 +8,14 @@ use Rattle.std.proofs.lemmas.Nat.{one_shl}
 use Rattle.std.proofs.lemmas.Nat.Bits.{bit_at-pow_same, bit_at-pow_other}
 use Rattle.std.proofs.lemmas.Grind.{common_steps}
 use Rattle.std.specs.Ordering.{ord_min}
-use Rattle.std.specs.List.{filter, list_any, range_with_len}
+use Rattle.std.specs.List.{filter, range_with_len}
 use Rattle.cm_bits.specs.Bit.{bit}
 use Rattle.cm_model.specs.declared.message.Message.{Message}
 use Rattle.cm_model.specs.declared.message.Event.{Event}
 use Rattle.cm_model.specs.declared.message.Event.TheVariants.{Injected}
 use Rattle.cm_model.specs.Processor.{Processor, SEND, ACK, flag}
 use Rattle.cm_model.specs.Chip.{IsPlane, processor_at, no_processor}
-use Rattle.cm_model.specs.Letters.{senders, senders_taken, message_sent, messages_sent, is_among, processor_after_injection, chip_after_injection}
+use Rattle.cm_model.specs.Letters.{senders, message_sent, messages_sent, is_among, processor_after_injection, chip_after_injection}
 use Rattle.cm_model.proofs.Bits.{bit-bit_and, bit-bit_or, bit-bit_not, bit-zero}
 use Rattle.cm_model.proofs.Each.{same_each_below, get_or-each_below}
 use Rattle.cm_element.specs.Wide.{with_flag_plane}
@@ -102,6 +102,19 @@ pub record Taken (buffer : Buffer) (chip : List Processor) (n clock c : ℕ) (to
   pub plane_is : IsPlane plane (λ p. is_among p (taken_below (most_taken buffer) chip i))
   pub left_is : left + length (taken_below (most_taken buffer) chip i) ≡ most_taken buffer
 
+take_nil : (k : ℕ) → take {A = ℕ} k [] ≡ []
+take_nil zero = refl
+take_nil (suc k) = refl
+
+nobody_below : (most : ℕ) (chip : List Processor) → IsPlane 0 (asks chip) → (i : ℕ) → i ≤ 16 → taken_below most chip i ≡ []
+nobody_below most chip quiet zero h = take_nil most
+nobody_below most chip quiet (suc i) h =
+    ap (taken_below most chip) (sym (add-one i)) ∙ taken_none_more most chip i (sym (quiet i (omega arith)) ∙ bit-zero i) ∙ nobody_below most chip quiet i (omega arith)
+
+-- where nobody asks nobody is taken
+pub nobody_taken : (buffer : Buffer) (chip : List Processor) → IsPlane 0 (asks chip) → taken_by buffer chip ≡ []
+nobody_taken buffer chip quiet = sym (taken_all buffer chip 16 refl) ∙ nobody_below (most_taken buffer) chip quiet 16 (omega arith)
+
 pub taking_begins : (buffer : Buffer) (chip : List Processor) (n clock c : ℕ) (told : List Event) → Taken buffer chip n clock c told 0 buffer.messages told 0 (most_taken buffer)
 taking_begins buffer chip n clock c told =
     let none : taken_below (most_taken buffer) chip 0 ≡ [] = take_nil (most_taken buffer) in
@@ -111,16 +124,12 @@ taking_begins buffer chip n clock c told =
       plane_is = λ p h. rw none (bit-zero p);
       left_is = rw none (omega arith);
     }
-  where
-    take_nil : (k : ℕ) → take {A = ℕ} k [] ≡ []
-    take_nil zero = refl
-    take_nil (suc k) = refl
 
 -- a processor that asks, while there is room
 pub taking_more : (buffer : Buffer) (chip : List Processor) (n clock c : ℕ) (told : List Event) (i : ℕ) (messages : List Message) (events : List Event) (plane left : ℕ)
     → Taken buffer chip n clock c told i messages events plane left → i < 16 → 0 < left → asks chip i ≡ true
     → Taken buffer chip n clock c told (i + 1) (messages ++ message_sent n clock c chip i ∷ []) (events ++ Injected (message_sent n clock c chip i) ∷ [])
-        (bit_or plane ((1 * 2 ^ i) % 65536)) (left - 1)
+    (bit_or plane ((1 * 2 ^ i) % 65536)) (left - 1)
 taking_more buffer chip n clock c told i messages events plane left so_far below some asking =
     let old : List ℕ = taken_below (most_taken buffer) chip i in
     let few : length old < most_taken buffer = omega (arith, so_far.left_is) in
@@ -140,8 +149,8 @@ pub taking_no_more : (buffer : Buffer) (chip : List Processor) (n clock c : ℕ)
     → Taken buffer chip n clock c told (i + 1) messages events plane left
 taking_no_more buffer chip n clock c told i messages events plane left so_far why =
     let same : taken_below (most_taken buffer) chip (i + 1) ≡ taken_below (most_taken buffer) chip i =
-        ⊎_elim (λ (e : left ≡ 0). taken_full (most_taken buffer) chip i (omega (arith, so_far.left_is, e)))
-            (λ (e : asks chip i ≡ false). taken_none_more (most_taken buffer) chip i e) why in
+    ⊎_elim (λ (e : left ≡ 0). taken_full (most_taken buffer) chip i (omega (arith, so_far.left_is, e)))
+    (λ (e : asks chip i ≡ false). taken_none_more (most_taken buffer) chip i e) why in
     record {
       messages_are = rw same so_far.messages_are;
       log_is = rw same so_far.log_is;
@@ -172,11 +181,11 @@ unfolding chip_after_injection with_flag_plane
 acknowledged ps chip asking taken fits asking_is taken_is =
     let sent : ℕ → Bool = bit (bit_and asking (65535 - taken)) in
     same_each_below no_processor 16
-        (λ p. record (processor_at (with_flag_plane chip SEND sent) p) { flags = set (processor_at (with_flag_plane chip SEND sent) p).flags ACK (bit taken p) })
-        (λ p. processor_after_injection (is_among p ps) (processor_at chip p))
-        (λ p h.
-            let bits : sent p ≡ (asks chip p && not (is_among p ps)) =
-                bit-bit_and asking (65535 - taken) p ∙ rw (bit-bit_not taken p fits h, asking_is p h, taken_is p h) refl in
-            ap (λ (v : Processor). record v { flags = set v.flags ACK (bit taken p) }) (processor_at-with_flag_plane chip SEND p sent h)
-            ∙ ap (λ (b : Bool). record (processor_at chip p) { flags = set (set (processor_at chip p).flags SEND (sent p)) ACK b }) (taken_is p h)
-            ∙ ap (λ (fs : List Bool). record (processor_at chip p) { flags = fs }) (flags_acknowledged (is_among p ps) (asks chip p) (sent p) (processor_at chip p).flags bits refl))
+    (λ p. record (processor_at (with_flag_plane chip SEND sent) p) { flags = set (processor_at (with_flag_plane chip SEND sent) p).flags ACK (bit taken p) })
+    (λ p. processor_after_injection (is_among p ps) (processor_at chip p))
+    (λ p h.
+    let bits : sent p ≡ (asks chip p && not (is_among p ps)) =
+    bit-bit_and asking (65535 - taken) p ∙ rw (bit-bit_not taken p fits h, asking_is p h, taken_is p h) refl in
+    ap (λ (v : Processor). record v { flags = set v.flags ACK (bit taken p) }) (processor_at-with_flag_plane chip SEND p sent h)
+    ∙ ap (λ (b : Bool). record (processor_at chip p) { flags = set (set (processor_at chip p).flags SEND (sent p)) ACK b }) (taken_is p h)
+    ∙ ap (λ (fs : List Bool). record (processor_at chip p) { flags = fs }) (flags_acknowledged (is_among p ps) (asks chip p) (sent p) (processor_at chip p).flags bits refl))

@@ -1,5 +1,5 @@
 -- What contracts see of a node of the router, and what it takes in and delivers on its chip: Hillis 1985.
-use Rattle.std.specs.Prelude.{ℕ, List, [], length}
+use Rattle.std.specs.Prelude.{ℕ, ◌<◌, ◌≤◌, List, [], length}
 use Rattle.cm_model.specs.declared.message.Message.{Message}
 use Rattle.cm_model.specs.Processor.{Processor}
 use Rattle.cm_model.specs.Letters.{senders_taken, messages_sent, can_receive}
@@ -10,6 +10,12 @@ pub record Buffer : Type 0 where
   pub room : ℕ
   -- the messages that stand there, in order of arrival
   pub messages : List Message
+
+-- what every node keeps: its room, and no more messages than it has room for
+pub record IsBuffer (buffer : Buffer) : Type 0 where
+  pub some : 0 < buffer.room
+  pub most : buffer.room ≤ 15
+  pub within : length buffer.messages ≤ buffer.room
 
 -- the same node with these messages
 abbrev pub holding : Buffer → List Message → Buffer

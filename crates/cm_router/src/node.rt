@@ -3,10 +3,10 @@
 ghost use Rattle.std.specs.Prelude.{◌≡◌, ◌<◌, ◌≤◌, ◌==◌, ◌-◌, [], ◌∷◌, ◌++◌, ◌+◌, length, map, position, IfSome, vec_len, vec_capacity};
 ghost use Rattle.cm_model.specs.Processor.{SEND, flag};
 ghost use Rattle.cm_model.specs.Chip.{IsPlane, processor_at};
-ghost use Rattle.cm_model.specs.Letters.{is_among, chip_after_injection, chip_after_delivery};
-ghost use Rattle.cm_router.specs.Buffer.{holding, taken_by, sent_to, delivered_by, kept_by};
 ghost use Rattle.cm_model.specs.Router.{has_to_cross, message_across};
+ghost use Rattle.cm_model.specs.Letters.{is_among, chip_after_injection, chip_after_delivery};
 ghost use Rattle.cm_model.specs.Buffers.{leaving_place, outgoing, without};
+ghost use Rattle.cm_router.specs.Buffer.{IsBuffer, holding, taken_by, sent_to, delivered_by, kept_by};
 
 use crate::letters;
 use crate::letters::{acknowledge, is_one, message_sent, receive, tell_delivered, tell_injected};
@@ -16,9 +16,6 @@ use cm_element::Chip;
 use cm_message::{Event, Message};
 use std::marker::Model;
 
-/// The largest room that a node may have.
-const MOST: usize = 15;
-
 /// The buffer of one chip of the router (Hillis 1985; how large it is, is ours).
 #[derive(Debug, Drop)]
 pub struct Node {
@@ -27,14 +24,14 @@ pub struct Node {
 }
 
 impl Model for Node {
-    ghost use Rattle.std.specs.Prelude.{◌<◌, ◌≤◌, length};
-    ghost use Rattle.cm_router.specs.Buffer.{Buffer};
+    ghost use Rattle.cm_router.specs.Buffer.{Buffer, IsBuffer};
 
     ghost Value = { Buffer };
 
     ghost view = { λ node. record { room = node.room; messages = node.messages.items } };
 
-    ghost invariant = { λ node. (length node.messages.items ≤ node.room) × (0 < node.room) × (node.room ≤ 15) };
+    ghost invariant = { λ node.
+        IsBuffer (record { room = node.room; messages = node.messages.items }) };
 }
 
 impl Node {
@@ -50,6 +47,18 @@ impl Node {
         }
     }
 
+    /// A second node, with the room and the messages of this one.
+    pub fn copy(&self) -> Node
+        ensures value { result ≡ self.now }
+    {
+        let mut messages = ArrayVec::new();
+        messages.try_extend_from_slice(&self.messages).unwrap();
+        Node {
+            room: self.room,
+            messages,
+        }
+    }
+
     /// The messages that stand here, in order of arrival.
     pub fn messages(&self) -> &[Message]
         ensures value { result.now ≡ self.now.messages }
@@ -60,7 +69,7 @@ impl Node {
 
     pub fn is_full(&self) -> bool
         ensures value { result ≡ (length self.now.messages == self.now.room) }
-        ensures within { length self.now.messages ≤ self.now.room }
+        ensures whole { IsBuffer self.now }
     {
         self.messages.len() == usize::from(self.room)
     }
@@ -96,7 +105,9 @@ impl Node {
         ensures value { result ≡ position (has_to_cross dim) self.now.messages }
         ensures within { IfSome result (λ place. place < length self.now.messages) }
     {
-        self.messages.iter().position(|message| has_to_cross(message, dim))
+        self.messages
+            .iter()
+            .position(|message| has_to_cross(message, dim))
     }
 
     /// Takes in a message that comes across a dimension.
@@ -109,14 +120,7 @@ impl Node {
 
     /// Takes in messages of the processors that ask to send, by number, at most four and at most as
     /// many as there is room for. The log tells of each.
-    pub fn inject(
-        &mut self,
-        chip: &mut Chip,
-        here: u16,
-        dims: u8,
-        clock: u64,
-        log: &mut Vec<Event>,
-    )
+    pub fn inject(&mut self, chip: &mut Chip, here: u16, dims: u8, clock: u64, log: &mut Vec<Event>)
         requires dims { dims ≤ 12 }
         requires room { vec_len log.old + 4 ≤ vec_capacity log.old }
         ensures messages { self.new ≡ holding self.old
@@ -124,9 +128,14 @@ impl Node {
         ensures chip { chip.new ≡ chip_after_injection (taken_by self.old chip.old) chip.old }
         ensures log { log.new.items
             ≡ log.old.items ++ map Event.Injected (sent_to self.old dims clock here chip.old) }
+        ensures within { vec_len log.new ≤ vec_len log.old + 4 }
         ensures log_room { vec_capacity log.old ≤ vec_capacity log.new }
     {
         let asking = letters::asking(chip);
+        if asking == 0 {
+            acknowledge(chip, asking, 0);
+            return;
+        }
         let taken = self.take_in(chip, asking, here, dims, clock, log);
         acknowledge(chip, asking, taken);
     }
@@ -149,6 +158,7 @@ impl Node {
             (self.old.messages ++ sent_to self.old dims clock here chip.now) }
         ensures log { log.new.items
             ≡ log.old.items ++ map Event.Injected (sent_to self.old dims clock here chip.now) }
+        ensures within { vec_len log.new ≤ vec_len log.old + 4 }
         ensures log_room { vec_capacity log.old ≤ vec_capacity log.new }
     {
         let mut left = 4.min(usize::from(self.room) - self.messages.len());
@@ -156,9 +166,9 @@ impl Node {
         for number in 0u8..16 {
             let proc = Proc::new(number).unwrap();
             if left > 0 && is_one(asking, proc) {
-                let message = message_sent(chip, proc, here, dims, clock);
-                tell_injected(log, &message);
-                self.messages.push(message);
+                let sent = message_sent(chip, proc, here, dims, clock);
+                tell_injected(log, &sent);
+                self.messages.push(sent);
                 taken |= 1 << number;
                 left -= 1;
             }
@@ -174,9 +184,10 @@ impl Node {
         ensures chip { chip.new ≡ chip_after_delivery (delivered_by self.old chip.old) chip.old }
         ensures log { log.new.items
             ≡ log.old.items ++ map (λ m. Event.Delivered m here) (delivered_by self.old chip.old) }
+        ensures within { vec_len log.new ≤ vec_len log.old + self.old.room }
         ensures log_room { vec_capacity log.old ≤ vec_capacity log.new }
     {
-        let mut received = letters::received(chip);
+        let mut received: Plane = letters::received(chip);
         let mut place = 0;
         while place < self.messages.len() {
             let message = self.messages[place];
@@ -208,5 +219,140 @@ fn across(message: Message, dim: u8) -> Message
     Message {
         rel: message.rel ^ 1 << dim,
         ..message
+    }
+}
+
+#[cfg(test)]
+mod tests {
+    use super::Node;
+    use cm_bits::{Addr, Field, FlagNo, Plane, Proc};
+    use cm_element::Chip;
+    use cm_message::{Event, Message, Tag};
+    use std::test::Fail;
+
+    fn proc(number: u8) -> Proc
+        requires { number < 16 }
+        ensures { result ≡ number }
+    {
+        Proc::new(number).unwrap()
+    }
+
+    fn field(at: u16, len: u16) -> Field
+        requires some { 1 ≤ len }
+        requires narrow { len ≤ 64 }
+        requires within { at + len ≤ 4096 }
+    {
+        Field::new(at, len).unwrap()
+    }
+
+    fn flag(chip: &Chip, number: u8) -> Plane
+        requires { number < 16 }
+    {
+        chip.flag_plane(FlagNo::new(number).unwrap())
+    }
+
+    fn message(rel: u16, to: u8, birth: u64) -> Message
+        requires { to < 16 }
+    {
+        Message {
+            rel,
+            proc: proc(to),
+            payload: 0xdead_beef,
+            tag: Tag {
+                chip: 1,
+                proc: proc(9),
+                birth,
+            },
+        }
+    }
+
+    #[test]
+    fn a_record_crosses_and_is_delivered(rt: HostRuntime) -> Result<(), Fail> {
+        let mut chip = Chip::blank(rt.alloc())?;
+        chip.poke_field(proc(9), field(3968, 16), 0xffff);
+        chip.poke_field(proc(9), field(3984, 4), 5);
+        chip.poke_field(proc(9), field(3988, 32), 0xdead_beef);
+        chip.poke_flag_plane(FlagNo::new(12).unwrap(), 1 << 9);
+        let mut log = Vec::with_capacity(rt.alloc(), 5)?;
+        let mut node = Node::new(1);
+        node.inject(&mut chip, 1, 1, 41, &mut log);
+        assert_eq!(rt; node.messages(), [message(1, 5, 41)].as_slice());
+        assert_eq!(rt; log.pop(), Some(Event::Injected(message(1, 5, 41))));
+        assert!(rt; log.is_empty());
+        assert_eq!(rt; (flag(&chip, 12), flag(&chip, 13)), (0, 1 << 9));
+        assert_eq!(rt; node.leave(0), Some(message(0, 5, 41)));
+        assert!(rt; node.messages().is_empty());
+
+        let mut target = Chip::blank(rt.alloc())?;
+        let mut target_log = Vec::with_capacity(rt.alloc(), 1)?;
+        let mut there = Node::new(1);
+        there.arrive(message(0, 5, 41));
+        assert!(rt; there.is_full());
+        there.deliver(&mut target, 0, &mut target_log);
+        assert_eq!(rt; target.field(proc(5), field(4032, 32)), 0xdead_beef);
+        assert_eq!(rt; flag(&target, 14), 1 << 5);
+        assert!(rt; there.messages().is_empty());
+        let delivered = Event::Delivered {
+            message: message(0, 5, 41),
+            chip: 0,
+        };
+        assert_eq!(rt; target_log.pop(), Some(delivered));
+        assert!(rt; target_log.is_empty());
+        Ok(())
+    }
+
+    #[test]
+    fn four_of_six_senders_are_taken_and_one_delivered(rt: HostRuntime) -> Result<(), Fail> {
+        let mut chip = Chip::blank(rt.alloc())?;
+        chip.poke_flag_plane(FlagNo::new(12).unwrap(), 0x003f);
+        let mut log = Vec::with_capacity(rt.alloc(), 22)?;
+        let mut node = Node::new(7);
+        node.inject(&mut chip, 0, 0, 0, &mut log);
+        assert_eq!(rt; (flag(&chip, 12), flag(&chip, 13)), (0x0030, 0x000f));
+        node.deliver(&mut chip, 0, &mut log);
+        assert_eq!(rt; (node.messages().len(), flag(&chip, 14)), (3, 1));
+        node.inject(&mut chip, 0, 0, 1, &mut log);
+        assert_eq!(rt; (flag(&chip, 12), flag(&chip, 13)), (0, 0x0030));
+        node.deliver(&mut chip, 0, &mut log);
+        let senders = node.messages().iter().map(|message| message.tag.proc.get());
+        assert!(rt; senders.eq([1u8, 2, 3, 4, 5]));
+        assert_eq!(rt; log.len(), 7);
+        Ok(())
+    }
+
+    #[test]
+    fn a_full_node_refers_its_last_message(rt: HostRuntime) {
+        let mut node = Node::new(2);
+        node.arrive(message(1, 0, 0));
+        assert_eq!(rt; node.leave(3), None);
+        node.arrive(message(6, 0, 1));
+        let mut copy = node.copy();
+        assert_eq!(rt; node.leave(3), Some(message(14, 0, 1)));
+        assert_eq!(rt; node.messages(), [message(1, 0, 0)].as_slice());
+        assert_eq!(rt; copy.leave(0), Some(message(0, 0, 0)));
+        assert_eq!(rt; copy.messages(), [message(6, 0, 1)].as_slice());
+    }
+
+    #[test]
+    fn a_second_message_waits_for_recv(rt: HostRuntime) -> Result<(), Fail> {
+        let mut chip = Chip::blank(rt.alloc())?;
+        let mut log = Vec::with_capacity(rt.alloc(), 15)?;
+        let mut node = Node::new(5);
+        node.arrive(message(2, 3, 0));
+        node.arrive(message(0, 3, 1));
+        node.arrive(message(0, 3, 2));
+        node.arrive(message(0, 4, 3));
+        node.deliver(&mut chip, 6, &mut log);
+        let left = [message(2, 3, 0), message(0, 3, 2)];
+        assert_eq!(rt; node.messages(), left.as_slice());
+        assert_eq!(rt; flag(&chip, 14), 0x0018);
+        node.deliver(&mut chip, 6, &mut log);
+        assert_eq!(rt; node.messages(), left.as_slice());
+        chip.poke_flag_plane(FlagNo::new(14).unwrap(), 0x0010);
+        node.deliver(&mut chip, 6, &mut log);
+        assert_eq!(rt; node.messages(), [message(2, 3, 0)].as_slice());
+        assert_eq!(rt; (flag(&chip, 14), log.len()), (0x0018, 3));
+        assert!(rt; chip.read(proc(3), Addr::new(4034).unwrap()));
+        Ok(())
     }
 }

@@ -1,4 +1,3 @@
-use Rattle.std.proofs.Common.{◌≡◌, ◌∙◌, refl}
 use Rattle.cm_router.proofs.Taking.{acknowledged}
 use Rattle.cm_router.proofs.letters.acknowledge.Goals as goal
 

@@ -1,4 +1,3 @@
-use Rattle.std.proofs.Common.{◌≡◌, ◌∙◌, ◌^◌, ◌<◌}
 use Rattle.cm_model.specs.Chip.{processor_at}
 use Rattle.cm_model.proofs.Messages.{field_value-lt}
 use Rattle.cm_router.proofs.letters.field_value.Goals as goal

@@ -1,4 +1,4 @@
-use Rattle.std.proofs.Common.{◌≡◌, ◌∙◌, refl}
+use Rattle.std.proofs.Common.{◌∙◌}
 use Rattle.cm_router.proofs.Scanning.{received_is}
 use Rattle.cm_router.proofs.letters.receive.Goals as goal
 

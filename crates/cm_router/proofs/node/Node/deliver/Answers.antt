@@ -1,9 +1,7 @@
-use Rattle.std.proofs.Common.{◌≡◌, ◌+◌, ◌-◌, ◌<◌, ◌≤◌, ◌==◌, true, false, not, length, vec_len, vec_capacity, ap, ◌∙◌, sym, refl, arith, eq-eqb, ne_eqb, get_or}
+use Rattle.std.proofs.Common.{◌≡◌, ◌<◌, true, not, length, ap, ◌∙◌, sym, arith, eq-eqb, get_or}
 use Rattle.cm_model.specs.Letters.{can_receive, has_arrived}
-use Rattle.cm_model.specs.Processor.{RECV, flag}
-use Rattle.cm_model.specs.Chip.{IsPlane, processor_at}
 use Rattle.std.proofs.lemmas.Bool.{eqb-true}
-use Rattle.cm_router.proofs.Delivering.{Scan, IsRefused, scan_length, scan_begins, scan_accepts, scan_keeps, scan_ends, Scanned}
+use Rattle.cm_router.proofs.Delivering.{IsRefused, scan_length, scan_begins, scan_accepts, scan_keeps}
 use Rattle.cm_router.proofs.node.Node.deliver.Goals as goal
 use Rattle.cm_router.proofs.node.Node.deliver.Goals.{else-message-eq0-via-then-message-eq0+else-not-is_one, else-message-eq0-via-else-message-eq0}
 
@@ -12,16 +10,17 @@ loop-place-init c = record {
   scan = rw (ap (λ node. node.messages) c.self.view_is)
       (scan_begins c.args.chip.now c.args.self.now.messages c.args.log.now.items c.args.here c.received-received.ensures.whole);
   received = c.received-received.ensures.value;
-  log_room = let room_is : c.self.inside.room ≡ c.args.self.now.room = ap (λ node. node.room) c.self.view_is in omega (arith, c.requires.room, c.self.invariant.0);
+  log_room = let room_is : c.self.inside.room ≡ c.args.self.now.room = ap (λ node. node.room) c.self.view_is in omega (arith, c.requires.room, c.self.invariant.within);
+  log_len = let room_is : c.self.inside.room ≡ c.args.self.now.room = ap (λ node. node.room) c.self.view_is in omega (arith, c.self.invariant.within);
   capacity = omega arith;
   room = ap (λ node. node.room) c.self.view_is;
-  within = c.self.invariant.0;
-  some = c.self.invariant.1;
-  most = c.self.invariant.2;
+  within = c.self.invariant.within;
+  some = c.self.invariant.some;
+  most = c.self.invariant.most;
 }
 
 pub receive-requires : goal.receive-requires
-receive-requires c = record { there = omega (arith, scan_length c.loop-place.invariant.scan, c.is_one.ensures.in_range); }
+receive-requires c = record { there = omega (arith, scan_length c.loop-place.invariant.scan, c.is_one.ensures.in_range) }
 
 pub loop-place-preserved-then-not-is_one : goal.loop-place-preserved-then-not-is_one
 loop-place-preserved-then-not-is_one c =
@@ -38,6 +37,7 @@ loop-place-preserved-then-not-is_one c =
           (scan_accepts c.args.chip.now c.args.self.now.messages c.args.log.now.items c.args.here here.chip now here.place here.log.items m here.invariant.scan inside next below arrived receives);
       received = c.received-received-then-not-is_one.ensures.value;
       log_room = omega (arith, here.invariant.log_room, c.tell_delivered.ensures.len, c.tell_delivered.ensures.capacity, c.remove.ensures.len);
+      log_len = omega (arith, here.invariant.log_len, c.tell_delivered.ensures.len, c.remove.ensures.len);
       capacity = omega (arith, here.invariant.capacity, c.tell_delivered.ensures.capacity);
       room = here.invariant.room;
       within = omega (arith, here.invariant.within, c.remove.ensures.len);
@@ -53,14 +53,18 @@ loop-place-preserved c =
     let inside : here.place < length now = omega arith in
     let next : get_or now here.place m ≡ m = sym (c.index-deref-place.is ∙ ap (λ ms. get_or ms here.place m) c.deref.ensures.0) in
     let refused : IsRefused here.chip m =
-        elim c.else-message-eq0.branch [
-          else-message-eq0-via-then-message-eq0+else-not-is_one w ↦ λ arrived. (w.is_one.ensures.in_range,
-              ap not (sym (here.invariant.received m.proc w.is_one.ensures.in_range) ∙ sym w.is_one.ensures.value ∙ w.if-not-is_one.false))
-        | else-message-eq0-via-else-message-eq0 w ↦ λ arrived. absurd (w.if-message-eq0.false (eqb-true m.rel 0 arrived)) ] in
+    elim c.else-message-eq0.branch [
+      | else-message-eq0-via-then-message-eq0+else-not-is_one w ↦ λ arrived. (
+        w.is_one.ensures.in_range,
+        ap not (sym (here.invariant.received m.proc w.is_one.ensures.in_range) ∙ sym w.is_one.ensures.value ∙ w.if-not-is_one.false),
+      )
+      | else-message-eq0-via-else-message-eq0 w ↦ λ arrived. absurd (w.if-message-eq0.false (eqb-true m.rel 0 arrived))
+    ] in
     record {
       scan = scan_keeps c.args.chip.now c.args.self.now.messages c.args.log.now.items c.args.here here.chip now here.place here.log.items m here.invariant.scan inside next refused;
       received = here.invariant.received;
       log_room = omega (arith, here.invariant.log_room);
+      log_len = omega (arith, here.invariant.log_len);
       capacity = here.invariant.capacity;
       room = here.invariant.room;
       within = here.invariant.within;

@@ -9,6 +9,7 @@ invariant-loop-place l = record {
   scan : Scan l.fn.chip l.fn.self.messages l.fn.log.items l.here l.chip l.self-inside.messages.items l.place l.log.items;
   received : IsPlane l.received (λ p. flag (processor_at l.chip p) RECV);
   log_room : vec_len l.log + (length l.self-inside.messages.items - l.place) ≤ vec_capacity l.log;
+  log_len : vec_len l.log + (length l.self-inside.messages.items - l.place) ≤ vec_len l.fn.log + l.fn.self.room;
   capacity : vec_capacity l.fn.log ≤ vec_capacity l.log;
   room : l.self-inside.room ≡ l.fn.self.room;
   within : length l.self-inside.messages.items ≤ l.self-inside.room;
