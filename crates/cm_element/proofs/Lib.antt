@@ -2,3 +2,4 @@ mod Fields
 mod Planes
 mod Poking
 mod Storing
+mod Widening

@@ -1,2 +1,3 @@
 pub mod Planes
 pub mod Outputs
+pub mod Wide

@@ -9,6 +9,8 @@ ghost use Rattle.cm_model.specs.Chip.{IsPlane, processor_at, blank_chip, chip_af
 ghost use Rattle.cm_model.specs.Whole.{IsChip};
 ghost use Rattle.cm_element.specs.Outputs.{AreOutputs};
 
+mod wide;
+
 use crate::outputs::Outputs;
 use cm_bits::{Addr, Field, FlagNo, NoMemory, Plane, Proc};
 use cm_model::Nano;

@@ -26,7 +26,8 @@ value-lt [] = omega arith
 value-lt (true ∷ bs) = let h : value bs < 2 ^ length bs = value-lt bs in let twice : 2 ^ suc (length bs) ≡ 2 ^ length bs * 2 = simp unary_clauses in omega arith
 value-lt (false ∷ bs) = let h : value bs < 2 ^ length bs = value-lt bs in let twice : 2 ^ suc (length bs) ≡ 2 ^ length bs * 2 = simp unary_clauses in omega arith
 
-field_value-lt : (processor : Processor) (at len : ℕ) → field_value processor at len < 2 ^ len
+-- a field of so many bits has a value below that power of two
+pub field_value-lt : (processor : Processor) (at len : ℕ) → field_value processor at len < 2 ^ len
 unfolding field_value
 field_value-lt processor at len =
     let h : value (take len (drop at processor.memory)) < 2 ^ length (take len (drop at processor.memory)) = value-lt (take len (drop at processor.memory)) in

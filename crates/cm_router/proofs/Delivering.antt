@@ -1,0 +1,244 @@
+-- The loop of a delivery: how far it has come, and that each message more brings it one on.
+use Rattle.std.proofs.Common.{◌≡◌, ◌≢◌, ℕ, ◌+◌, ◌<◌, ◌≤◌, ◌==◌, ◌&&◌, Bool, true, false, not, List, [], ◌∷◌, ◌++◌, length, map, get_or, remove, Option, Some, None, refl, sym, ap, ◌∙◌, ⊎_elim, arith, append_assoc, get_or-set_same, get_or-set_other}
+use Rattle.std.proofs.lemmas.Bool.{cases_Bool, eqb-true, eqb-false}
+use Rattle.std.proofs.lemmas.List.{map-append, append-nil, length-append}
+use Rattle.std.specs.List.{find}
+use Rattle.cm_model.specs.declared.message.Message.{Message}
+use Rattle.cm_model.specs.declared.message.Event.{Event}
+use Rattle.cm_model.specs.declared.message.Event.TheVariants.{Delivered}
+use Rattle.cm_model.specs.Processor.{Processor, RECV, flag}
+use Rattle.cm_model.specs.Chip.{processor_at, no_processor}
+use Rattle.cm_model.specs.Whole.{IsChip}
+use Rattle.cm_model.specs.Letters.{can_receive, has_arrived, is_for, is_among, processor_after_delivery, chip_after_delivery}
+use Rattle.cm_model.specs.Buffers.{is_accepted, delivered, kept}
+use Rattle.cm_model.proofs.Each.{is_each}
+use Rattle.cm_router.proofs.Scanning.{arrived_in, delivered-more, kept-more, arrived_in-more, none_delivered, after_one, processor_at-delivered, length-delivered, delivered_one_more}
+
+-- the events of these deliveries
+abbrev pub delivery_events : ℕ → List Message → List Event
+delivery_events here ds = map (λ m. Delivered m here) ds
+
+-- of a buffer, what a whole chip delivers and what stays
+abbrev pub out_of : List Processor → List Message → List Message
+out_of before ms = delivered (can_receive before) [] ms
+
+abbrev pub staying_of : List Processor → List Message → List Message
+staying_of before ms = kept (can_receive before) [] ms
+
+-- each processor can receive if it could before, and none has arrived for it among the messages seen
+abbrev pub StillOpen : List Processor → List Message → List Processor → Type 0
+StillOpen before seen chip = (p : ℕ) → p < 16 → can_receive chip p ≡ (can_receive before p && not (is_among p (arrived_in [] seen)))
+
+-- how far a scan has come: the messages are those kept of the ones seen, and then the rest
+pub record Scan (before : List Processor) (old : List Message) (told : List Event) (here : ℕ) (chip : List Processor) (now : List Message) (place : ℕ) (events : List Event) : Type 0 where
+  pub seen : List Message
+  pub rest : List Message
+  pub whole : IsChip before
+  pub all : seen ++ rest ≡ old
+  pub stay : now ≡ staying_of before seen ++ rest
+  pub at : length (staying_of before seen) ≡ place
+  pub chip_is : chip ≡ chip_after_delivery (out_of before seen) before
+  pub log_is : events ≡ told ++ delivery_events here (out_of before seen)
+  pub «open» : StillOpen before seen chip
+
+-- ---- the beginning
+
+nobody_yet : (chip : List Processor) → IsChip chip → chip ≡ chip_after_delivery [] chip
+unfolding chip_after_delivery
+nobody_yet chip whole = is_each no_processor 16 (λ p. processor_at chip p) chip whole.count (λ p h. refl)
+
+and_not_false : (b : Bool) → b ≡ (b && not false)
+and_not_false true = refl
+and_not_false false = refl
+
+pub scan_begins : (chip : List Processor) (ms : List Message) (told : List Event) (here : ℕ) → IsChip chip → Scan chip ms told here chip ms 0 told
+scan_begins chip ms told here whole = record {
+  seen = [];
+  rest = ms;
+  whole = whole;
+  all = refl;
+  stay = refl;
+  at = refl;
+  chip_is = nobody_yet chip whole;
+  log_is = sym (append-nil told);
+  «open» = λ p h. and_not_false (can_receive chip p);
+}
+
+-- ---- who comes next
+
+-- in a list that is cut in two, the element where the second part begins
+next_is : {X : Type 0} (xs : List X) (x y : X) (ys : List X) → get_or (xs ++ x ∷ ys) (length xs) y ≡ x
+next_is [] x y ys = refl
+next_is (z ∷ xs) x y ys = next_is xs x y ys
+
+next_removed : {X : Type 0} (xs : List X) (x : X) (ys : List X) → remove (xs ++ x ∷ ys) (length xs) ≡ xs ++ ys
+next_removed [] x ys = refl
+next_removed (z ∷ xs) x ys = ap (λ w. z ∷ w) (next_removed xs x ys)
+
+-- the test of the loop is that of the definition
+is_accepted-now : (before : List Processor) (seen : List Message) (chip : List Processor) (m : Message) → StillOpen before seen chip → m.proc < 16
+    → is_accepted (can_receive before) (arrived_in [] seen) m ≡ (has_arrived m && can_receive chip m.proc)
+is_accepted-now before seen chip m still below = sym (ap (λ b. has_arrived m && b) (still m.proc below))
+
+-- ---- a message that is delivered
+
+receives_no_more : (chip : List Processor) (m : Message) → length chip ≡ 16 → m.proc < 16 → length (processor_at chip m.proc).flags ≡ 16
+    → can_receive (after_one m chip) m.proc ≡ false
+receives_no_more chip m long below flags =
+    let inside : m.proc < length chip = omega arith in
+    let wide : RECV < length (processor_at chip m.proc).flags = omega arith in
+    ap (λ (v : Processor). not (flag v RECV)) (get_or-set_same chip m.proc (processor_after_delivery (Some m) (processor_at chip m.proc)) no_processor inside)
+    ∙ ap not (get_or-set_same (processor_at chip m.proc).flags RECV true false wide)
+
+receives_as_before : (chip : List Processor) (m : Message) (p : ℕ) → p ≢ m.proc → can_receive (after_one m chip) p ≡ can_receive chip p
+receives_as_before chip m p other =
+    ap (λ (v : Processor). not (flag v RECV)) (get_or-set_other chip m.proc p (processor_after_delivery (Some m) (processor_at chip m.proc)) no_processor other)
+
+not_among_accepted : (a b : Bool) → (a && not b) ≡ true → b ≡ false
+not_among_accepted true true h = absurd cc
+not_among_accepted true false h = refl
+not_among_accepted false b h = absurd cc
+
+and_not_true : (b : Bool) → (b && not true) ≡ false
+and_not_true true = refl
+and_not_true false = refl
+
+still_open_delivered : (before : List Processor) (seen : List Message) (chip : List Processor) (m : Message) → StillOpen before seen chip → has_arrived m ≡ true
+    → length chip ≡ 16 → m.proc < 16 → length (processor_at chip m.proc).flags ≡ 16 → StillOpen before (seen ++ m ∷ []) (after_one m chip)
+still_open_delivered before seen chip m still arrived long below flags p h =
+    rw (arrived_in-more [] seen m, arrived) (⊎_elim
+    (λ (e : (m.proc == p) ≡ true).
+    let same : m.proc ≡ p = eqb-true m.proc p e in
+    rw (e, ← same) (receives_no_more chip m long below flags ∙ sym (and_not_true (can_receive before m.proc))))
+    (λ (e : (m.proc == p) ≡ false).
+    let other : p ≢ m.proc = λ (s : p ≡ m.proc). eqb-false m.proc p e (sym s) in
+    rw e (receives_as_before chip m p other ∙ still p h))
+    (cases_Bool (m.proc == p)))
+
+accepted_at : (before : List Processor) (old : List Message) (told : List Event) (here : ℕ) (chip : List Processor) (now : List Message) (place : ℕ) (events : List Event)
+    (m : Message) (seen rest : List Message) → IsChip before → seen ++ rest ≡ old → now ≡ staying_of before seen ++ rest → length (staying_of before seen) ≡ place
+    → chip ≡ chip_after_delivery (out_of before seen) before → events ≡ told ++ delivery_events here (out_of before seen) → StillOpen before seen chip
+    → place < length now → get_or now place m ≡ m → m.proc < 16 → has_arrived m ≡ true → can_receive chip m.proc ≡ true
+    → Scan before old told here (after_one m chip) (remove now place) place (events ++ Delivered m here ∷ [])
+accepted_at before old told here chip now place events m seen [] whole all stay at chip_is log_is still inside is below arrived receives =
+    absurd (omega (arith, ap length stay, length-append (staying_of before seen) []))
+accepted_at before old told here chip now place events m seen (x ∷ rest) whole all stay at chip_is log_is still inside is below arrived receives =
+    let m_is : x ≡ m = sym (next_is (staying_of before seen) x m rest) ∙ rw (at, ← stay) is in
+    let accepted : is_accepted (can_receive before) (arrived_in [] seen) m ≡ true = is_accepted-now before seen chip m still below ∙ rw (arrived, receives) refl in
+    let open_there : is_among m.proc (arrived_in [] seen) ≡ false = not_among_accepted (can_receive before m.proc) (is_among m.proc (arrived_in [] seen)) (sym (still m.proc below) ∙ receives) in
+    let none : find (is_for m.proc) (out_of before seen) ≡ None = none_delivered (can_receive before) m.proc [] seen open_there in
+    let more : out_of before (seen ++ m ∷ []) ≡ out_of before seen ++ m ∷ [] = delivered-more (can_receive before) [] seen m ∙ rw accepted refl in
+    let same : staying_of before (seen ++ m ∷ []) ≡ staying_of before seen = kept-more (can_receive before) [] seen m ∙ rw accepted (append-nil (staying_of before seen)) in
+    let unchanged : processor_at chip m.proc ≡ processor_at before m.proc =
+    ap (λ (ps : List Processor). processor_at ps m.proc) chip_is ∙ processor_at-delivered (out_of before seen) before m.proc below
+    ∙ ap (λ (o : Option Message). processor_after_delivery o (processor_at before m.proc)) none in
+    record {
+      seen = seen ++ m ∷ [];
+      rest = rest;
+      whole = whole;
+      all = append_assoc seen (m ∷ []) rest ∙ ap (λ (z : Message). seen ++ z ∷ rest) (sym m_is) ∙ all;
+      stay = ap (λ (ms : List Message). remove ms place) stay ∙ rw (← at) (next_removed (staying_of before seen) x rest) ∙ ap (λ (ms : List Message). ms ++ rest) (sym same);
+      at = ap length same ∙ at;
+      chip_is = ap (after_one m) chip_is ∙ delivered_one_more (out_of before seen) m before below none ∙ ap (λ (ds : List Message). chip_after_delivery ds before) (sym more);
+      log_is = rw (log_is, more, map-append (λ d. Delivered d here) (out_of before seen) (m ∷ [])) (append_assoc told (delivery_events here (out_of before seen)) (Delivered m here ∷ []));
+      «open» = still_open_delivered before seen chip m still arrived (ap length chip_is ∙ length-delivered (out_of before seen) before) below
+          (ap (λ (v : Processor). length v.flags) unchanged ∙ (whole.each m.proc below).flags);
+    }
+
+-- a message that has arrived, for a processor that can receive, is delivered
+pub scan_accepts : (before : List Processor) (old : List Message) (told : List Event) (here : ℕ) (chip : List Processor) (now : List Message) (place : ℕ) (events : List Event)
+    (m : Message) → Scan before old told here chip now place events
+    → place < length now → get_or now place m ≡ m → m.proc < 16 → has_arrived m ≡ true → can_receive chip m.proc ≡ true
+    → Scan before old told here (after_one m chip) (remove now place) place (events ++ Delivered m here ∷ [])
+scan_accepts before old told here chip now place events m scan inside is below arrived receives =
+    accepted_at before old told here chip now place events m scan.seen scan.rest scan.whole scan.all scan.stay scan.at scan.chip_is scan.log_is scan.open inside is below arrived receives
+
+-- ---- a message that stays
+
+-- if it has arrived, its processor cannot receive
+abbrev pub IsRefused : List Processor → Message → Type 0
+IsRefused chip m = has_arrived m ≡ true → (m.proc < 16) × (can_receive chip m.proc ≡ false)
+
+is_accepted-refused : (before : List Processor) (seen : List Message) (chip : List Processor) (m : Message) → StillOpen before seen chip → IsRefused chip m
+    → is_accepted (can_receive before) (arrived_in [] seen) m ≡ false
+is_accepted-refused before seen chip m still refused =
+    ⊎_elim (λ (a : has_arrived m ≡ true). is_accepted-now before seen chip m still (refused a).0 ∙ rw (a, (refused a).1) refl)
+    (λ (a : has_arrived m ≡ false). rw a refl)
+    (cases_Bool (has_arrived m))
+
+still_open_kept : (before : List Processor) (seen : List Message) (chip : List Processor) (m : Message) → StillOpen before seen chip → IsRefused chip m
+    → StillOpen before (seen ++ m ∷ []) chip
+still_open_kept before seen chip m still refused p h =
+    rw (arrived_in-more [] seen m) (⊎_elim
+    (λ (a : has_arrived m ≡ true). rw a (⊎_elim
+    (λ (e : (m.proc == p) ≡ true).
+    let same : m.proc ≡ p = eqb-true m.proc p e in
+    rw (e, ← same) ((refused a).1 ∙ sym (and_not_true (can_receive before m.proc))))
+    (λ (e : (m.proc == p) ≡ false). rw e (still p h))
+    (cases_Bool (m.proc == p))))
+    (λ (a : has_arrived m ≡ false). rw a (still p h))
+    (cases_Bool (has_arrived m)))
+
+kept_at : (before : List Processor) (old : List Message) (told : List Event) (here : ℕ) (chip : List Processor) (now : List Message) (place : ℕ) (events : List Event)
+    (m : Message) (seen rest : List Message) → IsChip before → seen ++ rest ≡ old → now ≡ staying_of before seen ++ rest → length (staying_of before seen) ≡ place
+    → chip ≡ chip_after_delivery (out_of before seen) before → events ≡ told ++ delivery_events here (out_of before seen) → StillOpen before seen chip
+    → place < length now → get_or now place m ≡ m → IsRefused chip m
+    → Scan before old told here chip now (place + 1) events
+kept_at before old told here chip now place events m seen [] whole all stay at chip_is log_is still inside is refused =
+    absurd (omega (arith, ap length stay, length-append (staying_of before seen) []))
+kept_at before old told here chip now place events m seen (x ∷ rest) whole all stay at chip_is log_is still inside is refused =
+    let m_is : x ≡ m = sym (next_is (staying_of before seen) x m rest) ∙ rw (at, ← stay) is in
+    let not_accepted : is_accepted (can_receive before) (arrived_in [] seen) m ≡ false = is_accepted-refused before seen chip m still refused in
+    let same : out_of before (seen ++ m ∷ []) ≡ out_of before seen = delivered-more (can_receive before) [] seen m ∙ rw not_accepted (append-nil (out_of before seen)) in
+    let more : staying_of before (seen ++ m ∷ []) ≡ staying_of before seen ++ m ∷ [] = kept-more (can_receive before) [] seen m ∙ rw not_accepted refl in
+    record {
+      seen = seen ++ m ∷ [];
+      rest = rest;
+      whole = whole;
+      all = append_assoc seen (m ∷ []) rest ∙ ap (λ (z : Message). seen ++ z ∷ rest) (sym m_is) ∙ all;
+      stay = stay ∙ ap (λ (z : Message). staying_of before seen ++ z ∷ rest) m_is ∙ sym (append_assoc (staying_of before seen) (m ∷ []) rest) ∙ ap (λ (ms : List Message). ms ++ rest) (sym more);
+      at = ap length more ∙ omega (arith, length-append (staying_of before seen) (m ∷ []), at);
+      chip_is = chip_is ∙ ap (λ (ds : List Message). chip_after_delivery ds before) (sym same);
+      log_is = log_is ∙ ap (λ (ds : List Message). told ++ delivery_events here ds) (sym same);
+      «open» = still_open_kept before seen chip m still refused;
+    }
+
+-- any other stays
+pub scan_keeps : (before : List Processor) (old : List Message) (told : List Event) (here : ℕ) (chip : List Processor) (now : List Message) (place : ℕ) (events : List Event)
+    (m : Message) → Scan before old told here chip now place events
+    → place < length now → get_or now place m ≡ m → IsRefused chip m
+    → Scan before old told here chip now (place + 1) events
+scan_keeps before old told here chip now place events m scan inside is refused =
+    kept_at before old told here chip now place events m scan.seen scan.rest scan.whole scan.all scan.stay scan.at scan.chip_is scan.log_is scan.open inside is refused
+
+-- a chip that is scanned has sixteen processors
+pub scan_length : {before : List Processor} {old : List Message} {told : List Event} {here : ℕ} {chip : List Processor} {now : List Message} {place : ℕ} {events : List Event}
+    → Scan before old told here chip now place events → length chip ≡ 16
+scan_length {before = before} scan = ap length scan.chip_is ∙ length-delivered (out_of before scan.seen) before
+
+-- ---- the end
+
+-- what a whole scan leaves
+pub record Scanned (before : List Processor) (old : List Message) (told : List Event) (here : ℕ) (chip : List Processor) (now : List Message) (events : List Event) : Type 0 where
+  pub stay : now ≡ staying_of before old
+  pub chip_is : chip ≡ chip_after_delivery (out_of before old) before
+  pub log_is : events ≡ told ++ delivery_events here (out_of before old)
+
+ended_at : (before : List Processor) (old : List Message) (told : List Event) (here : ℕ) (chip : List Processor) (now : List Message) (place : ℕ) (events : List Event)
+    (seen rest : List Message) → seen ++ rest ≡ old → now ≡ staying_of before seen ++ rest → length (staying_of before seen) ≡ place
+    → chip ≡ chip_after_delivery (out_of before seen) before → events ≡ told ++ delivery_events here (out_of before seen)
+    → length now ≤ place → Scanned before old told here chip now events
+ended_at before old told here chip now place events seen [] all stay at chip_is log_is past =
+    let seen_is : seen ≡ old = sym (append-nil seen) ∙ all in
+    record {
+      stay = stay ∙ append-nil (staying_of before seen) ∙ ap (staying_of before) seen_is;
+      chip_is = chip_is ∙ ap (λ (ms : List Message). chip_after_delivery (out_of before ms) before) seen_is;
+      log_is = log_is ∙ ap (λ (ms : List Message). told ++ delivery_events here (out_of before ms)) seen_is;
+    }
+ended_at before old told here chip now place events seen (x ∷ rest) all stay at chip_is log_is past =
+    absurd (omega (arith, ap length stay, length-append (staying_of before seen) (x ∷ rest)))
+
+pub scan_ends : (before : List Processor) (old : List Message) (told : List Event) (here : ℕ) (chip : List Processor) (now : List Message) (place : ℕ) (events : List Event)
+    → Scan before old told here chip now place events → length now ≤ place → Scanned before old told here chip now events
+scan_ends before old told here chip now place events scan past =
+    ended_at before old told here chip now place events scan.seen scan.rest scan.all scan.stay scan.at scan.chip_is scan.log_is past

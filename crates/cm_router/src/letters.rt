@@ -1,0 +1,132 @@
+//! What the router takes from a chip's processors, and what it leaves there.
+
+ghost use Rattle.std.specs.Prelude.{◌≡◌, ℕ, ◌+◌, ◌^◌, ◌<◌, ◌≤◌, Some, List, [], ◌∷◌, ◌++◌, length, not, slice_set, vec_len, vec_capacity};
+ghost use Rattle.cm_bits.specs.Bit.{bit};
+ghost use Rattle.cm_model.specs.Processor.{SEND, ACK, RECV, flag, field_value};
+ghost use Rattle.cm_model.specs.Chip.{IsPlane, processor_at};
+ghost use Rattle.cm_model.specs.Whole.{IsChip};
+ghost use Rattle.cm_model.specs.Letters.{is_among, message_sent, chip_after_injection, processor_after_delivery};
+
+use cm_bits::{Field, FlagNo, Plane, Proc};
+use cm_element::Chip;
+use cm_message::{Event, Message, Tag};
+
+/// Flag SEND of all processors.
+pub(crate) fn asking(chip: &Chip) -> Plane
+    ensures value { IsPlane result (λ p. flag (processor_at chip.now p) SEND) }
+{
+    chip.flag_plane(send_flag())
+}
+
+/// The message that a processor's record asks to send.
+pub(crate) fn message_sent(chip: &Chip, proc: Proc, here: u16, dims: u8, clock: u64) -> Message
+    requires dims { dims ≤ 12 }
+    ensures value { result ≡ message_sent dims clock here chip.now proc }
+{
+    let relative = field_value(chip, proc, 3968, 16);
+    let target = field_value(chip, proc, 3984, 4);
+    let payload = field_value(chip, proc, 3988, 32);
+    Message {
+        rel: (relative % (1 << dims)) as u16,
+        proc: Proc::new(target as u8).unwrap(),
+        payload: payload as u32,
+        tag: Tag {
+            chip: here,
+            proc,
+            birth: clock,
+        },
+    }
+}
+
+/// Tells the processors whose messages were taken: their SEND falls, and ACK is 1 for them alone.
+pub(crate) fn acknowledge(chip: &mut Chip, asking: Plane, taken: Plane)
+    requires asking { IsPlane asking (λ p. flag (processor_at chip.old p) SEND) }
+    ensures value { (ps : List ℕ) → IsPlane taken (λ p. is_among p ps)
+        → chip.new ≡ chip_after_injection ps chip.old }
+{
+    chip.poke_flag_plane(send_flag(), asking & !taken);
+    chip.poke_flag_plane(ack_flag(), taken);
+}
+
+/// Flag RECV of all processors.
+pub(crate) fn received(chip: &Chip) -> Plane
+    ensures value { IsPlane result (λ p. flag (processor_at chip.now p) RECV) }
+    ensures whole { IsChip chip.now }
+{
+    chip.flag_plane(recv_flag())
+}
+
+/// Whether the bit of a processor is 1 in a plane.
+pub(crate) fn is_one(plane: Plane, proc: Proc) -> bool
+    ensures value { result ≡ bit plane proc }
+    ensures in_range { proc < 16 }
+{
+    plane >> proc.get() & 1 == 1
+}
+
+/// Leaves the payload at the processor that the message is for.
+pub(crate) fn receive(chip: &mut Chip, message: &Message)
+    requires there { message.now.proc < length chip.old }
+    ensures value { chip.new ≡ slice_set chip.old message.now.proc
+        (processor_after_delivery (Some message.now) (processor_at chip.old message.now.proc)) }
+{
+    chip.poke_field(message.proc, payload_field(), u64::from(message.payload));
+    chip.poke_flag(message.proc, recv_flag(), true).unwrap();
+}
+
+pub(crate) fn tell_injected(log: &mut Vec<Event>, message: &Message)
+    requires room { vec_len log.old < vec_capacity log.old }
+    ensures items { log.new.items ≡ log.old.items ++ Event.Injected message.now ∷ [] }
+    ensures len { vec_len log.new ≡ vec_len log.old + 1 }
+    ensures capacity { vec_capacity log.old ≤ vec_capacity log.new }
+{
+    log.push(Event::Injected(*message)).unwrap();
+}
+
+pub(crate) fn tell_delivered(log: &mut Vec<Event>, message: &Message, here: u16)
+    requires room { vec_len log.old < vec_capacity log.old }
+    ensures items { log.new.items ≡ log.old.items ++ Event.Delivered message.now here ∷ [] }
+    ensures len { vec_len log.new ≡ vec_len log.old + 1 }
+    ensures capacity { vec_capacity log.old ≤ vec_capacity log.new }
+{
+    log.push(Event::Delivered {
+        message: *message,
+        chip: here,
+    })
+    .unwrap();
+}
+
+fn field_value(chip: &Chip, proc: Proc, at: u16, len: u16) -> u64
+    requires some { 1 ≤ len }
+    requires narrow { len ≤ 64 }
+    requires within { at + len ≤ 4096 }
+    ensures value { result ≡ field_value (processor_at chip.now proc) at len }
+    ensures below { result < 2 ^ len }
+{
+    chip.field(proc, Field::new(at, len).unwrap())
+}
+
+fn send_flag() -> FlagNo
+    ensures value { result ≡ SEND }
+{
+    FlagNo::new(12).unwrap()
+}
+
+fn ack_flag() -> FlagNo
+    ensures value { result ≡ ACK }
+{
+    FlagNo::new(13).unwrap()
+}
+
+fn recv_flag() -> FlagNo
+    ensures value { result ≡ RECV }
+{
+    FlagNo::new(14).unwrap()
+}
+
+fn payload_field() -> Field
+    ensures at { result.at ≡ 4032 }
+    ensures len { result.len ≡ 32 }
+{
+    Field::new(4032, 32).unwrap()
+}

@@ -1,0 +1,358 @@
+//! The node of one chip: a buffer of messages.
+
+ghost use Rattle.std.specs.Prelude.{◌≡◌, ◌<◌, ◌≤◌, ◌==◌, ◌-◌, [], ◌∷◌, ◌++◌, ◌+◌, length, map, position, IfSome, vec_len, vec_capacity};
+ghost use Rattle.cm_model.specs.Processor.{SEND, flag};
+ghost use Rattle.cm_model.specs.Chip.{IsPlane, processor_at};
+ghost use Rattle.cm_model.specs.Router.{has_to_cross, message_across};
+ghost use Rattle.cm_model.specs.Letters.{is_among, chip_after_injection, chip_after_delivery};
+ghost use Rattle.cm_model.specs.Buffers.{leaving_place, outgoing, without};
+ghost use Rattle.cm_router.specs.Buffer.{IsBuffer, holding, taken_by, sent_to, delivered_by, kept_by};
+
+use crate::letters;
+use crate::letters::{acknowledge, is_one, message_sent, receive, tell_delivered, tell_injected};
+use arrayvec::ArrayVec;
+use cm_bits::{Plane, Proc};
+use cm_element::Chip;
+use cm_message::{Event, Message};
+use std::marker::Model;
+
+/// The buffer of one chip of the router (Hillis 1985; how large it is, is ours).
+#[derive(Debug, Drop)]
+pub struct Node {
+    room: u8,
+    messages: ArrayVec<Message, 15>,
+}
+
+impl Model for Node {
+    ghost use Rattle.cm_router.specs.Buffer.{Buffer, IsBuffer};
+
+    ghost Value = { Buffer };
+
+    ghost view = { λ node. record { room = node.room; messages = node.messages.items } };
+
+    ghost invariant = { λ node.
+        IsBuffer (record { room = node.room; messages = node.messages.items }) };
+}
+
+impl Node {
+    /// An empty node with room for so many messages.
+    pub fn new(room: u8) -> Node
+        requires some { 0 < room }
+        requires most { room ≤ 15 }
+        ensures value { result ≡ record { room = room; messages = [] } }
+    {
+        Node {
+            room,
+            messages: ArrayVec::new(),
+        }
+    }
+
+    /// A second node, with the room and the messages of this one.
+    pub fn copy(&self) -> Node
+        ensures value { result ≡ self.now }
+    {
+        let mut messages = ArrayVec::new();
+        messages.try_extend_from_slice(&self.messages).unwrap();
+        Node {
+            room: self.room,
+            messages,
+        }
+    }
+
+    /// The messages that stand here, in order of arrival.
+    pub fn messages(&self) -> &[Message]
+        ensures value { result.now ≡ self.now.messages }
+        ensures within { length result.now ≤ self.now.room }
+    {
+        self.messages.as_slice()
+    }
+
+    pub fn is_full(&self) -> bool
+        ensures value { result ≡ (length self.now.messages == self.now.room) }
+        ensures whole { IsBuffer self.now }
+    {
+        self.messages.len() == usize::from(self.room)
+    }
+
+    /// Takes out what goes across a dimension: the first message that has to cross it, or else, where
+    /// the node is full, the last (which messages go, and that a full node refers one: ours).
+    pub fn leave(&mut self, dim: u8) -> Option<Message>
+        requires dimension { dim < 12 }
+        ensures value { result ≡ outgoing self.old.room dim self.old.messages }
+        ensures stays { self.new ≡ holding self.old
+            (without self.old.messages (leaving_place self.old.room dim self.old.messages)) }
+    {
+        let place = self.leaving_place(dim)?;
+        Some(across(self.messages.remove(place), dim))
+    }
+
+    /// The place of who leaves.
+    #[tactic(auto, unfolding(cm_model::specs::Buffers::leaving_place))]
+    fn leaving_place(&self, dim: u8) -> Option<usize>
+        requires dimension { dim < 12 }
+        ensures value { result ≡ leaving_place self.now.room dim self.now.messages }
+        ensures within { IfSome result (λ place. place < length self.now.messages) }
+    {
+        match self.first_to_cross(dim) {
+            Some(place) => Some(place),
+            None if self.is_full() => Some(self.messages.len() - 1),
+            None => None,
+        }
+    }
+
+    fn first_to_cross(&self, dim: u8) -> Option<usize>
+        requires dimension { dim < 12 }
+        ensures value { result ≡ position (has_to_cross dim) self.now.messages }
+        ensures within { IfSome result (λ place. place < length self.now.messages) }
+    {
+        self.messages
+            .iter()
+            .position(|message| has_to_cross(message, dim))
+    }
+
+    /// Takes in a message that comes across a dimension.
+    pub fn arrive(&mut self, message: Message)
+        requires room { length self.old.messages < self.old.room }
+        ensures value { self.new ≡ holding self.old (self.old.messages ++ message ∷ []) }
+    {
+        self.messages.push(message);
+    }
+
+    /// Takes in messages of the processors that ask to send, by number, at most four and at most as
+    /// many as there is room for. The log tells of each.
+    pub fn inject(&mut self, chip: &mut Chip, here: u16, dims: u8, clock: u64, log: &mut Vec<Event>)
+        requires dims { dims ≤ 12 }
+        requires room { vec_len log.old + 4 ≤ vec_capacity log.old }
+        ensures messages { self.new ≡ holding self.old
+            (self.old.messages ++ sent_to self.old dims clock here chip.old) }
+        ensures chip { chip.new ≡ chip_after_injection (taken_by self.old chip.old) chip.old }
+        ensures log { log.new.items
+            ≡ log.old.items ++ map Event.Injected (sent_to self.old dims clock here chip.old) }
+        ensures within { vec_len log.new ≤ vec_len log.old + 4 }
+        ensures log_room { vec_capacity log.old ≤ vec_capacity log.new }
+    {
+        let asking = letters::asking(chip);
+        if asking == 0 {
+            acknowledge(chip, asking, 0);
+            return;
+        }
+        let taken = self.take_in(chip, asking, here, dims, clock, log);
+        acknowledge(chip, asking, taken);
+    }
+
+    /// Takes the messages in, and tells in a plane whose they are.
+    fn take_in(
+        &mut self,
+        chip: &Chip,
+        asking: Plane,
+        here: u16,
+        dims: u8,
+        clock: u64,
+        log: &mut Vec<Event>,
+    ) -> Plane
+        requires asking { IsPlane asking (λ p. flag (processor_at chip.now p) SEND) }
+        requires dims { dims ≤ 12 }
+        requires room { vec_len log.old + 4 ≤ vec_capacity log.old }
+        ensures taken { IsPlane result (λ p. is_among p (taken_by self.old chip.now)) }
+        ensures messages { self.new ≡ holding self.old
+            (self.old.messages ++ sent_to self.old dims clock here chip.now) }
+        ensures log { log.new.items
+            ≡ log.old.items ++ map Event.Injected (sent_to self.old dims clock here chip.now) }
+        ensures within { vec_len log.new ≤ vec_len log.old + 4 }
+        ensures log_room { vec_capacity log.old ≤ vec_capacity log.new }
+    {
+        let mut left = 4.min(usize::from(self.room) - self.messages.len());
+        let mut taken: Plane = 0;
+        for number in 0u8..16 {
+            let proc = Proc::new(number).unwrap();
+            if left > 0 && is_one(asking, proc) {
+                let sent = message_sent(chip, proc, here, dims, clock);
+                tell_injected(log, &sent);
+                self.messages.push(sent);
+                taken |= 1 << number;
+                left -= 1;
+            }
+        }
+        taken
+    }
+
+    /// Delivers what has arrived: each message from the front whose processor can receive, at most
+    /// one to each. The log tells of each.
+    pub fn deliver(&mut self, chip: &mut Chip, here: u16, log: &mut Vec<Event>)
+        requires room { vec_len log.old + self.old.room ≤ vec_capacity log.old }
+        ensures stays { self.new ≡ holding self.old (kept_by self.old chip.old) }
+        ensures chip { chip.new ≡ chip_after_delivery (delivered_by self.old chip.old) chip.old }
+        ensures log { log.new.items
+            ≡ log.old.items ++ map (λ m. Event.Delivered m here) (delivered_by self.old chip.old) }
+        ensures within { vec_len log.new ≤ vec_len log.old + self.old.room }
+        ensures log_room { vec_capacity log.old ≤ vec_capacity log.new }
+    {
+        let mut received: Plane = letters::received(chip);
+        let mut place = 0;
+        while place < self.messages.len() {
+            let message = self.messages[place];
+            if message.rel == 0 && !is_one(received, message.proc) {
+                receive(chip, &message);
+                received = letters::received(chip);
+                tell_delivered(log, &message, here);
+                self.messages.remove(place);
+            } else {
+                place += 1;
+            }
+        }
+    }
+}
+
+/// Whether the message has to cross this dimension.
+fn has_to_cross(message: &Message, dim: u8) -> bool
+    requires dimension { dim < 12 }
+    ensures value { result ≡ has_to_cross dim message.now }
+{
+    message.rel >> dim & 1 == 1
+}
+
+/// The message as it arrives across this dimension.
+fn across(message: Message, dim: u8) -> Message
+    requires dimension { dim < 12 }
+    ensures value { result ≡ message_across dim message }
+{
+    Message {
+        rel: message.rel ^ 1 << dim,
+        ..message
+    }
+}
+
+#[cfg(test)]
+mod tests {
+    use super::Node;
+    use cm_bits::{Addr, Field, FlagNo, Plane, Proc};
+    use cm_element::Chip;
+    use cm_message::{Event, Message, Tag};
+    use std::test::Fail;
+
+    fn proc(number: u8) -> Proc
+        requires { number < 16 }
+        ensures { result ≡ number }
+    {
+        Proc::new(number).unwrap()
+    }
+
+    fn field(at: u16, len: u16) -> Field
+        requires some { 1 ≤ len }
+        requires narrow { len ≤ 64 }
+        requires within { at + len ≤ 4096 }
+    {
+        Field::new(at, len).unwrap()
+    }
+
+    fn flag(chip: &Chip, number: u8) -> Plane
+        requires { number < 16 }
+    {
+        chip.flag_plane(FlagNo::new(number).unwrap())
+    }
+
+    fn message(rel: u16, to: u8, birth: u64) -> Message
+        requires { to < 16 }
+    {
+        Message {
+            rel,
+            proc: proc(to),
+            payload: 0xdead_beef,
+            tag: Tag {
+                chip: 1,
+                proc: proc(9),
+                birth,
+            },
+        }
+    }
+
+    #[test]
+    fn a_record_crosses_and_is_delivered(rt: HostRuntime) -> Result<(), Fail> {
+        let mut chip = Chip::blank(rt.alloc())?;
+        chip.poke_field(proc(9), field(3968, 16), 0xffff);
+        chip.poke_field(proc(9), field(3984, 4), 5);
+        chip.poke_field(proc(9), field(3988, 32), 0xdead_beef);
+        chip.poke_flag_plane(FlagNo::new(12).unwrap(), 1 << 9);
+        let mut log = Vec::with_capacity(rt.alloc(), 5)?;
+        let mut node = Node::new(1);
+        node.inject(&mut chip, 1, 1, 41, &mut log);
+        assert_eq!(rt; node.messages(), [message(1, 5, 41)].as_slice());
+        assert_eq!(rt; log.pop(), Some(Event::Injected(message(1, 5, 41))));
+        assert!(rt; log.is_empty());
+        assert_eq!(rt; (flag(&chip, 12), flag(&chip, 13)), (0, 1 << 9));
+        assert_eq!(rt; node.leave(0), Some(message(0, 5, 41)));
+        assert!(rt; node.messages().is_empty());
+
+        let mut target = Chip::blank(rt.alloc())?;
+        let mut target_log = Vec::with_capacity(rt.alloc(), 1)?;
+        let mut there = Node::new(1);
+        there.arrive(message(0, 5, 41));
+        assert!(rt; there.is_full());
+        there.deliver(&mut target, 0, &mut target_log);
+        assert_eq!(rt; target.field(proc(5), field(4032, 32)), 0xdead_beef);
+        assert_eq!(rt; flag(&target, 14), 1 << 5);
+        assert!(rt; there.messages().is_empty());
+        let delivered = Event::Delivered {
+            message: message(0, 5, 41),
+            chip: 0,
+        };
+        assert_eq!(rt; target_log.pop(), Some(delivered));
+        assert!(rt; target_log.is_empty());
+        Ok(())
+    }
+
+    #[test]
+    fn four_of_six_senders_are_taken_and_one_delivered(rt: HostRuntime) -> Result<(), Fail> {
+        let mut chip = Chip::blank(rt.alloc())?;
+        chip.poke_flag_plane(FlagNo::new(12).unwrap(), 0x003f);
+        let mut log = Vec::with_capacity(rt.alloc(), 22)?;
+        let mut node = Node::new(7);
+        node.inject(&mut chip, 0, 0, 0, &mut log);
+        assert_eq!(rt; (flag(&chip, 12), flag(&chip, 13)), (0x0030, 0x000f));
+        node.deliver(&mut chip, 0, &mut log);
+        assert_eq!(rt; (node.messages().len(), flag(&chip, 14)), (3, 1));
+        node.inject(&mut chip, 0, 0, 1, &mut log);
+        assert_eq!(rt; (flag(&chip, 12), flag(&chip, 13)), (0, 0x0030));
+        node.deliver(&mut chip, 0, &mut log);
+        let senders = node.messages().iter().map(|message| message.tag.proc.get());
+        assert!(rt; senders.eq([1u8, 2, 3, 4, 5]));
+        assert_eq!(rt; log.len(), 7);
+        Ok(())
+    }
+
+    #[test]
+    fn a_full_node_refers_its_last_message(rt: HostRuntime) {
+        let mut node = Node::new(2);
+        node.arrive(message(1, 0, 0));
+        assert_eq!(rt; node.leave(3), None);
+        node.arrive(message(6, 0, 1));
+        let mut copy = node.copy();
+        assert_eq!(rt; node.leave(3), Some(message(14, 0, 1)));
+        assert_eq!(rt; node.messages(), [message(1, 0, 0)].as_slice());
+        assert_eq!(rt; copy.leave(0), Some(message(0, 0, 0)));
+        assert_eq!(rt; copy.messages(), [message(6, 0, 1)].as_slice());
+    }
+
+    #[test]
+    fn a_second_message_waits_for_recv(rt: HostRuntime) -> Result<(), Fail> {
+        let mut chip = Chip::blank(rt.alloc())?;
+        let mut log = Vec::with_capacity(rt.alloc(), 15)?;
+        let mut node = Node::new(5);
+        node.arrive(message(2, 3, 0));
+        node.arrive(message(0, 3, 1));
+        node.arrive(message(0, 3, 2));
+        node.arrive(message(0, 4, 3));
+        node.deliver(&mut chip, 6, &mut log);
+        let left = [message(2, 3, 0), message(0, 3, 2)];
+        assert_eq!(rt; node.messages(), left.as_slice());
+        assert_eq!(rt; flag(&chip, 14), 0x0018);
+        node.deliver(&mut chip, 6, &mut log);
+        assert_eq!(rt; node.messages(), left.as_slice());
+        chip.poke_flag_plane(FlagNo::new(14).unwrap(), 0x0010);
+        node.deliver(&mut chip, 6, &mut log);
+        assert_eq!(rt; node.messages(), [message(2, 3, 0)].as_slice());
+        assert_eq!(rt; (flag(&chip, 14), log.len()), (0x0018, 3));
+        assert!(rt; chip.read(proc(3), Addr::new(4034).unwrap()));
+        Ok(())
+    }
+}
