@@ -1,5 +1,5 @@
 -- The loop of a delivery: how far it has come, and that each message more brings it one on.
-use Rattle.std.proofs.Common.{◌≡◌, ◌≢◌, ℕ, ◌+◌, ◌<◌, ◌≤◌, ◌==◌, ◌&&◌, Bool, true, false, not, List, [], ◌∷◌, ◌++◌, length, map, get_or, remove, Option, Some, None, refl, sym, ap, ◌∙◌, ⊎_elim, arith, append_assoc, get_or-set_same, get_or-set_other}
+use Rattle.std.proofs.Common.{◌≡◌, ◌≢◌, ℕ, ◌+◌, ◌<◌, ◌==◌, ◌&&◌, Bool, true, false, not, List, [], ◌∷◌, ◌++◌, length, map, get_or, remove, Option, Some, None, refl, sym, ap, ◌∙◌, ⊎_elim, arith, append_assoc, get_or-set_same, get_or-set_other}
 use Rattle.std.proofs.lemmas.Bool.{cases_Bool, eqb-true, eqb-false}
 use Rattle.std.proofs.lemmas.List.{map-append, append-nil, length-append}
 use Rattle.std.specs.List.{find}
@@ -215,30 +215,3 @@ scan_keeps before old told here chip now place events m scan inside is refused =
 pub scan_length : {before : List Processor} {old : List Message} {told : List Event} {here : ℕ} {chip : List Processor} {now : List Message} {place : ℕ} {events : List Event}
     → Scan before old told here chip now place events → length chip ≡ 16
 scan_length {before = before} scan = ap length scan.chip_is ∙ length-delivered (out_of before scan.seen) before
-
--- ---- the end
-
--- what a whole scan leaves
-pub record Scanned (before : List Processor) (old : List Message) (told : List Event) (here : ℕ) (chip : List Processor) (now : List Message) (events : List Event) : Type 0 where
-  pub stay : now ≡ staying_of before old
-  pub chip_is : chip ≡ chip_after_delivery (out_of before old) before
-  pub log_is : events ≡ told ++ delivery_events here (out_of before old)
-
-ended_at : (before : List Processor) (old : List Message) (told : List Event) (here : ℕ) (chip : List Processor) (now : List Message) (place : ℕ) (events : List Event)
-    (seen rest : List Message) → seen ++ rest ≡ old → now ≡ staying_of before seen ++ rest → length (staying_of before seen) ≡ place
-    → chip ≡ chip_after_delivery (out_of before seen) before → events ≡ told ++ delivery_events here (out_of before seen)
-    → length now ≤ place → Scanned before old told here chip now events
-ended_at before old told here chip now place events seen [] all stay at chip_is log_is past =
-    let seen_is : seen ≡ old = sym (append-nil seen) ∙ all in
-    record {
-      stay = stay ∙ append-nil (staying_of before seen) ∙ ap (staying_of before) seen_is;
-      chip_is = chip_is ∙ ap (λ (ms : List Message). chip_after_delivery (out_of before ms) before) seen_is;
-      log_is = log_is ∙ ap (λ (ms : List Message). told ++ delivery_events here (out_of before ms)) seen_is;
-    }
-ended_at before old told here chip now place events seen (x ∷ rest) all stay at chip_is log_is past =
-    absurd (omega (arith, ap length stay, length-append (staying_of before seen) (x ∷ rest)))
-
-pub scan_ends : (before : List Processor) (old : List Message) (told : List Event) (here : ℕ) (chip : List Processor) (now : List Message) (place : ℕ) (events : List Event)
-    → Scan before old told here chip now place events → length now ≤ place → Scanned before old told here chip now events
-scan_ends before old told here chip now place events scan past =
-    ended_at before old told here chip now place events scan.seen scan.rest scan.all scan.stay scan.at scan.chip_is scan.log_is past
