@@ -11,7 +11,7 @@ ghost use Rattle.cm_model.specs.Chip.{each_processor, processor_at, with_memory_
 ghost use Rattle.cm_model.specs.Array.{each_chip, chip_at, after_nano};
 ghost use Rattle.cm_model.specs.Letters.{can_receive, chip_after_injection, chip_after_delivery};
 ghost use Rattle.cm_model.specs.Cycle.{log_at};
-ghost use Rattle.cm_model.specs.Machine.{Machine, buffer_at, run_of};
+ghost use Rattle.cm_model.specs.Machine.{Machine, buffer_at, blank_machine, run_of};
 ghost use Rattle.cm_model.specs.Buffers.{taken_in, sent_in, machine_after_injection, outgoing, buffer_after_dimension, machine_after_dimension, delivered_in, kept, machine_after_delivery, after_act};
 
 use crate::act::{Act, Nano};
@@ -54,6 +54,7 @@ impl<const N: usize, const CAP: usize> PlainRouter<N, CAP> {
           logs = each_chip N (λ c. []);
           clock = 0;
         }) }
+        ensures blank { addresses ≡ 4096 → IfOk result (λ router. router ≡ blank_machine N) }
     {
         let chips = PlainMachine::blank(alloc, addresses)?;
         let buffers = Self::no_buffers(alloc)?;
