@@ -69,7 +69,9 @@ fn no_input_is_a_blank_chip(rt: HostRuntime) -> Result<(), Fail> {
 }
 
 #[test]
-fn the_chain_leaves_out_the_first_processor_and_the_torus_turns(rt: HostRuntime) -> Result<(), Fail> {
+fn the_chain_leaves_out_the_first_processor_and_the_torus_turns(
+    rt: HostRuntime,
+) -> Result<(), Fail> {
     let alloc = rt.alloc();
     let text = b"nano 0 0 8 11 8 0 0xf0 0xff n\nnano 0 0 11 10 8 0 0xf0 0xaa n\n";
     let end = run_session(alloc, text, 4096, ROOM)?;
@@ -84,7 +86,8 @@ fn news_comes_whatever_the_senders_condition(rt: HostRuntime) -> Result<(), Fail
     let alloc = rt.alloc();
     // Flag 11 becomes 1 in all but processor 0, then flag 1 = 1 there; NEWS southward under
     // 'flag 11 = 0' is stored in processor 0 alone, whose sender, processor 12, has flag 11 = 1.
-    let text = b"nano 0 0 8 11 8 0 0xf0 0xff n\nnano 0 0 11 1 8 0 0xf0 0xaa n\nnano 0 0 1 10 11 0 0xf0 0xaa s\n";
+    let text =
+        b"nano 0 0 8 11 8 0 0xf0 0xff n\nnano 0 0 11 1 8 0 0xf0 0xaa n\nnano 0 0 1 10 11 0 0xf0 0xaa s\n";
     let end = run_session(alloc, text, 4096, ROOM)?;
     let wanted = flag_lines(alloc, [(1, "fffe"), (10, "0001"), (11, "fffe")].as_slice())?;
     assert_eq!(rt; end.answer, Ok(()));
@@ -118,13 +121,22 @@ fn refused(alloc: Global, text: &[u8]) -> Result<Option<AsmFault>, AllocError> {
 fn the_first_faulty_line_is_named_and_nothing_is_written(rt: HostRuntime) -> Result<(), Fail> {
     let alloc = rt.alloc();
     let second = b"nano 0 0 8 0 8 0 0xff 0xff n\ncycle\n";
-    let word = AsmFault { line: 2, kind: AsmKind::Word };
+    let word = AsmFault {
+        line: 2,
+        kind: AsmKind::Word,
+    };
     assert_eq!(rt; refused(alloc, second)?, Some(word));
     let both = b"\nnano 1\ncycle\n";
-    let operands = AsmFault { line: 2, kind: AsmKind::Operands };
+    let operands = AsmFault {
+        line: 2,
+        kind: AsmKind::Operands,
+    };
     assert_eq!(rt; refused(alloc, both)?, Some(operands));
     let commented = b"; one\r\n\t \n  ; three\nnano 0 0 0 0 0 2 0 0 n";
-    let number = AsmFault { line: 4, kind: AsmKind::Number };
+    let number = AsmFault {
+        line: 4,
+        kind: AsmKind::Number,
+    };
     assert_eq!(rt; refused(alloc, commented)?, Some(number));
     Ok(())
 }
@@ -160,7 +172,10 @@ static FAULTY: [(&str, AsmKind); 24] = [
 fn each_wrong_operand_has_its_kind(rt: HostRuntime) -> Result<(), Fail> {
     let alloc = rt.alloc();
     for (text, kind) in &FAULTY {
-        let fault = AsmFault { line: 1, kind: *kind };
+        let fault = AsmFault {
+            line: 1,
+            kind: *kind,
+        };
         assert_eq!(rt; refused(alloc, text.as_bytes())?, Some(fault), "{text}");
     }
     Ok(())
@@ -207,7 +222,10 @@ fn pieces_of_any_size_give_the_same_bytes(rt: HostRuntime) -> Result<(), Fail> {
     let whole = run_session(alloc, FULL_ADDER, 4096, ROOM)?;
     for piece in 1usize..20 {
         let end = run_session(alloc, FULL_ADDER, piece, ROOM)?;
-        assert!(rt; end.written.as_slice() == whole.written.as_slice(), "pieces of {piece}");
+        assert!(rt;
+            end.written.as_slice() == whole.written.as_slice(),
+            "pieces of {piece}"
+        );
     }
     Ok(())
 }
@@ -219,7 +237,10 @@ fn a_full_sink_has_the_first_bytes_of_the_answer(rt: HostRuntime) -> Result<(), 
     for room in 0..whole.written.len() {
         let end = run_session(alloc, FULL_ADDER, 4096, room)?;
         assert_eq!(rt; end.answer, Err(ChipFault::Write(room as u128)));
-        assert!(rt; end.written.as_slice() == &whole.written.as_slice()[..room], "room for {room}");
+        assert!(rt;
+            end.written.as_slice() == &whole.written.as_slice()[..room],
+            "room for {room}"
+        );
     }
     Ok(())
 }
@@ -248,7 +269,8 @@ fn a_failed_read_writes_nothing(rt: HostRuntime) -> Result<(), Fail> {
     Ok(())
 }
 
-static FULL_ADDER_ANSWER: &[u8] = b"flag 0 ffff\nflag 1 0000\nflag 2 0000\nflag 3 0000\nflag 4 0000\nflag 5 0000\nflag 6 0000\nflag 7 ffff\nflag 8 0000\nflag 9 0000\nflag 10 0000\nflag 11 0000\nflag 12 0000\nflag 13 0000\nflag 14 0000\nflag 15 0000\nplane 5 ffff\n";
+static FULL_ADDER_ANSWER: &[u8] =
+    b"flag 0 ffff\nflag 1 0000\nflag 2 0000\nflag 3 0000\nflag 4 0000\nflag 5 0000\nflag 6 0000\nflag 7 ffff\nflag 8 0000\nflag 9 0000\nflag 10 0000\nflag 11 0000\nflag 12 0000\nflag 13 0000\nflag 14 0000\nflag 15 0000\nplane 5 ffff\n";
 
 // Made for `rt try --test --fail-alloc 1..`, which makes each allocation fail in turn.
 #[test]
@@ -267,4 +289,25 @@ fn a_refused_growth_changes_no_answer(rt: HostRuntime) {
         assert_eq!(rt; end.answer, Ok(()));
         assert!(rt; end.written.as_slice() == FULL_ADDER_ANSWER);
     }
+}
+
+#[test]
+fn the_chain_moves_a_mark_from_processor_to_processor(rt: HostRuntime) -> Result<(), Fail> {
+    let alloc = rt.alloc();
+    let text = b"nano 0 0 8 11 8 0 0xf0 0xff n\nnano 0 0 11 0 8 0 0xf0 0x55 n\nnano 0 0 0 11 8 0 0xf0 0xaa n\nnano 0 0 11 11 8 0 0xf0 0xaa n\n";
+    let end = run_session(alloc, text, 4096, ROOM)?;
+    let wanted = flag_lines(alloc, [(0, "0001"), (11, "0004")].as_slice())?;
+    assert!(rt; end.written.as_slice() == wanted.as_bytes());
+    Ok(())
+}
+
+#[test]
+fn a_mark_goes_round_the_torus_of_one_chip(rt: HostRuntime) -> Result<(), Fail> {
+    let alloc = rt.alloc();
+    let text = b"nano 0 0 8 11 8 0 0xf0 0xff n\nnano 0 0 11 0 8 0 0xf0 0x55 n\nnano 0 0 0 10 8 0 0xf0 0xaa w\nnano 0 0 10 10 8 0 0xf0 0xaa n\nnano 0 0 10 8 8 0 0xaa 0x00 n\n";
+    let end = run_session(alloc, text, 4096, ROOM)?;
+    let mut wanted = flag_lines(alloc, [(0, "0001"), (10, "8000"), (11, "fffe")].as_slice())?;
+    wanted.push_str("plane 0 8000\n")?;
+    assert!(rt; end.written.as_slice() == wanted.as_bytes());
+    Ok(())
 }

@@ -11,27 +11,42 @@ static TOLD: [(ProgramFault, &str, u8); 10] = [
     (ProgramFault::TooMuch, "cm1: 32 TooMuch\n", 1),
     (ProgramFault::Memory, "cm1: 33 Memory\n", 3),
     (
-        ProgramFault::Text(AsmFault { line: 1, kind: AsmKind::Memory }),
+        ProgramFault::Text(AsmFault {
+            line: 1,
+            kind: AsmKind::Memory,
+        }),
         "cm1: line 1: 14 Memory\n",
         3,
     ),
     (
-        ProgramFault::Text(AsmFault { line: 2, kind: AsmKind::Word }),
+        ProgramFault::Text(AsmFault {
+            line: 2,
+            kind: AsmKind::Word,
+        }),
         "cm1: line 2: 15 Word\n",
         1,
     ),
     (
-        ProgramFault::Text(AsmFault { line: 30, kind: AsmKind::Operands }),
+        ProgramFault::Text(AsmFault {
+            line: 30,
+            kind: AsmKind::Operands,
+        }),
         "cm1: line 30: 16 Operands\n",
         1,
     ),
     (
-        ProgramFault::Text(AsmFault { line: 65535, kind: AsmKind::Number }),
+        ProgramFault::Text(AsmFault {
+            line: 65535,
+            kind: AsmKind::Number,
+        }),
         "cm1: line 65535: 17 Number\n",
         1,
     ),
     (
-        ProgramFault::Text(AsmFault { line: 18446744073709551615, kind: AsmKind::Number }),
+        ProgramFault::Text(AsmFault {
+            line: 18446744073709551615,
+            kind: AsmKind::Number,
+        }),
         "cm1: line 18446744073709551615: 17 Number\n",
         1,
     ),
@@ -77,7 +92,10 @@ fn a_fault_that_stands_in_no_line_is_told_without_one(rt: HostRuntime) -> Result
 
 #[test]
 fn faults_of_the_library_are_those_of_the_program(rt: HostRuntime) {
-    let text = AsmFault { line: 9, kind: AsmKind::Operands };
+    let text = AsmFault {
+        line: 9,
+        kind: AsmKind::Operands,
+    };
     assert!(rt; ProgramFault::from(ChipFault::Text(text)) == ProgramFault::Text(text));
     assert!(rt; ProgramFault::from(ChipFault::Read) == ProgramFault::Read);
     assert!(rt; ProgramFault::from(ChipFault::Write(5)) == ProgramFault::Write);
@@ -92,6 +110,7 @@ fn a_line_that_cannot_be_told_is_a_failed_write(rt: HostRuntime) -> Result<(), F
     for room in 0usize..20 {
         let mut sink = Room::new(rt.alloc(), room, 3)?;
         assert!(rt; report(15, Some(2), &mut sink).is_err(), "room for {room}");
+        assert!(rt; sink.taken() == &b"cm1: line 2: 15 Word\n".as_slice()[..room], "room for {room}");
     }
     Ok(())
 }
@@ -101,9 +120,15 @@ fn take_reads_to_the_end_and_no_further_than_its_limit(rt: HostRuntime) -> Resul
     let text = b"nano 0 0 8 0 8 0 0xff 0xff n\n";
     for piece in 1usize..31 {
         let taken = take(rt.alloc(), &mut Bytes::new(text, piece), 29);
-        assert!(rt; taken.is_ok_and(|bytes| bytes.as_slice() == text.as_slice()), "pieces of {piece}");
+        assert!(rt;
+            taken.is_ok_and(|bytes| bytes.as_slice() == text.as_slice()),
+            "pieces of {piece}"
+        );
         let over = take(rt.alloc(), &mut Bytes::new(text, piece), 28);
-        assert!(rt; over.is_err_and(|fault| fault == TakeFault::TooMuch), "pieces of {piece}");
+        assert!(rt;
+            over.is_err_and(|fault| fault == TakeFault::TooMuch),
+            "pieces of {piece}"
+        );
     }
     let none = take(rt.alloc(), &mut Bytes::new(b"", 1), 0);
     assert!(rt; none.is_ok_and(|bytes| bytes.is_empty()));

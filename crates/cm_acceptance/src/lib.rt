@@ -2,6 +2,8 @@
 #![tactic(auto)]
 
 #[cfg(test)]
+mod array;
+#[cfg(test)]
 mod chip;
 #[cfg(test)]
 mod ends;

@@ -1,4 +1,4 @@
--- The bits of a number: bit 0 is the lowest.
+-- The bits of a number: bit 0 is the lowest. Ours.
 use Rattle.std.specs.Prelude.{ℕ, Bool, true, false, not, ◌==◌}
 use Rattle.std.specs.Bool.{beq}
 use Rattle.std.specs.Int.{bit_at}

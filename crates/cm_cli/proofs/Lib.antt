@@ -1,3 +1,4 @@
 mod Reading
 mod Telling
 mod OneChip
+mod Fronts

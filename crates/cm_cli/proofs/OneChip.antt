@@ -1,15 +1,14 @@
 -- A machine of one chip is that chip.
-use Rattle.std.proofs.Common.{◌≡◌, ℕ, ◌+◌, ◌^◌, ◌<◌, ◌==◌, ◌||◌, zero, suc, Bool, true, false, List, [], ◌∷◌, ◌++◌, length, map, take, get_or, refl, sym, ap, ◌∙◌, arith, ⊎_elim, lit<, Option, Some, None}
+use Rattle.std.proofs.Common.{◌≡◌, ℕ, ◌+◌, ◌^◌, ◌<◌, ◌==◌, zero, suc, true, false, List, [], ◌∷◌, ◌++◌, length, map, take, get_or, refl, sym, ap, ◌∙◌, arith, ⊎_elim, lit<}
 use Rattle.std.proofs.lemmas.Bool.{cases_Bool}
 use Rattle.std.proofs.lemmas.List.{map-append, take_more}
 use Rattle.cm_bits.specs.Bit.{bit}
 use Rattle.cm_model.specs.declared.act.Nano.{Nano as Instruction}
-use Rattle.cm_model.specs.declared.act.Act.{Act}
 use Rattle.cm_model.specs.declared.act.Act.TheVariants.{Nano}
 use Rattle.cm_model.specs.Each.{each_from}
 use Rattle.cm_model.specs.Place.{source, predecessor}
 use Rattle.cm_model.specs.Processor.{Processor}
-use Rattle.cm_model.specs.Instruction.{flag_output, takes_incoming}
+use Rattle.cm_model.specs.Instruction.{flag_output}
 use Rattle.cm_model.specs.Chip.{IsPlane, blank_chip, chip_after, processor_at}
 use Rattle.cm_model.specs.Array.{incoming, after_nano}
 use Rattle.cm_model.specs.Machine.{Machine, blank_machine, run_of, opened, closed}
@@ -39,12 +38,12 @@ pub comes_in : (nano : Instruction) (chip : List Processor) (sent plane : ℕ) �
 comes_in nano chip sent plane is news daisy =
     let are : AreFlagOutputs 0 nano (chip ∷ []) (sent ∷ []) = one_plane nano chip sent is in
     same_chip nano (bit plane) (incoming 0 nano (chip ∷ []) 0) chip
-        (λ p h takes. ⊎_elim
-            (λ (e : (nano.write == 10) ≡ true). news e p h ∙ over_news 0 nano (chip ∷ []) (sent ∷ []) 0 p are (lit< tt) h e)
-            (λ (e : (nano.write == 10) ≡ false).
-                let other : (nano.write == 11) ≡ true = rw e at takes in
-                daisy other p h ∙ along_chain 0 nano (chip ∷ []) (sent ∷ []) 0 p (chain_bit sent) are (lit< tt) h e refl (λ q. refl))
-            (cases_Bool (nano.write == 10)))
+    (λ p h takes. ⊎_elim
+    (λ (e : (nano.write == 10) ≡ true). news e p h ∙ over_news 0 nano (chip ∷ []) (sent ∷ []) 0 p are (lit< tt) h e)
+    (λ (e : (nano.write == 10) ≡ false).
+    let other : (nano.write == 11) ≡ true = rw e at takes in
+    daisy other p h ∙ along_chain 0 nano (chip ∷ []) (sent ∷ []) 0 p (chain_bit sent) are (lit< tt) h e refl (λ q. refl))
+    (cases_Bool (nano.write == 10)))
 
 -- the chips of the machine after the first so many instructions
 abbrev pub chips_after : List Instruction → ℕ → List (List Processor)
@@ -61,7 +60,7 @@ pub run-more : (chip next : List Processor) (nanos : List Instruction) (count : 
     → next ∷ [] ≡ chips_after nanos (count + 1)
 run-more chip next nanos count nano below is before step =
     let more : map Nano (take (count + 1) nanos) ≡ map Nano (take count nanos) ++ Nano nano ∷ [] =
-        ap (map Nano) (take_more nanos count nano below ∙ ap (λ (v : Instruction). take count nanos ++ v ∷ []) (sym is)) ∙ map-append Nano (take count nanos) (nano ∷ []) in
+    ap (map Nano) (take_more nanos count nano below ∙ ap (λ (v : Instruction). take count nanos ++ v ∷ []) (sym is)) ∙ map-append Nano (take count nanos) (nano ∷ []) in
     ap (λ (v : List Processor). v ∷ []) step ∙ sym (one_step nano chip) ∙ ap (after_nano 0 nano) before
     ∙ sym (ap (λ (m : Machine). m.chips) (ap (run_of 0 7 (blank_machine 0)) more ∙ run_of_more 0 7 (blank_machine 0) (map Nano (take count nanos)) (Nano nano)))
 

@@ -1,6 +1,6 @@
 -- Reading a program line by line.
-use Rattle.std.proofs.Common.{◌≡◌, ℕ, ◌+◌, ◌≤◌, Bool, Option, Some, None, Result, Ok, Err, List, [], ◌∷◌, ◌++◌, length, refl, sym, ap, ◌∙◌, arith, append_assoc, append-nil, subst}
-use Rattle.std.specs.List.{slice_split, count_by}
+use Rattle.std.proofs.Common.{◌≡◌, ℕ, ◌+◌, ◌-◌, ◌≤◌, suc, take, drop, drop-drop, take-add, length-drop, append-nil, Option, Some, None, Result, Ok, Err, List, [], ◌∷◌, ◌++◌, length, refl, sym, ap, ◌∙◌, arith, append_assoc}
+use Rattle.std.specs.List.{slice_split}
 use Rattle.std.proofs.lemmas.List.Splits.{length-slice_split}
 use Rattle.std.proofs.lemmas.List.Sums.{count_by-le-length}
 use Rattle.cm_bits.specs.Text.{lines_of, is_line_end, without_empty_last, words_of}
@@ -8,7 +8,7 @@ use Rattle.cm_model.specs.declared.act.Nano.{Nano}
 use Rattle.cm_cli.specs.declared.fault.AsmKind.{AsmKind}
 use Rattle.cm_cli.specs.declared.fault.AsmKind.TheVariants.{Memory, Word, Operands, Number}
 use Rattle.cm_cli.specs.declared.fault.AsmFault.{AsmFault}
-use Rattle.cm_cli.specs.Program.{nanos_of_lines, with_line, IsKind}
+use Rattle.cm_cli.specs.Program.{nanos_of_lines, with_line, program_of, IsGrownFor, MatchKind, IsFaultOf}
 use Rattle.cm_cli.specs.NanoLine.{instruction_of}
 
 -- instructions before those that were read
@@ -53,9 +53,76 @@ pub read_fault : (nanos : List Nano) (number : ℕ) (line : List ℕ) (lines : L
     → prepended nanos (nanos_of_lines number (line ∷ lines)) ≡ Err (record { line = number; kind = kind })
 read_fault nanos number line lines kind is = ap (λ (r : Result (Option Nano) AsmKind). prepended nanos (with_line number r (nanos_of_lines (number + 1) lines))) is
 
--- a fact holds of every kind
-pub of_kind : {P : Type 0} (kind : AsmKind) → P → IsKind kind P
-of_kind Memory p = tt
-of_kind Word p = p
-of_kind Operands p = p
-of_kind Number p = p
+-- ---- the lines that were read, one more at a time
+
+-- what was read of the first lines, and then of the others
+abbrev pub joined : Result (List Nano) AsmFault → Result (List Nano) AsmFault → Result (List Nano) AsmFault
+joined (Ok nanos) after = prepended nanos after
+joined (Err fault) after = Err fault
+
+line_first : (number : ℕ) (first : Result (Option Nano) AsmKind) (before after : Result (List Nano) AsmFault)
+    → with_line number first (joined before after) ≡ joined (with_line number first before) after
+line_first number (Err kind) before after = refl
+line_first number (Ok None) before after = refl
+line_first number (Ok (Some nano)) (Err fault) after = refl
+line_first number (Ok (Some nano)) (Ok nanos) (Ok rest) = refl
+line_first number (Ok (Some nano)) (Ok nanos) (Err fault) = refl
+
+nanos_of_lines-append : (number : ℕ) (lines more : List (List ℕ))
+    → nanos_of_lines number (lines ++ more) ≡ joined (nanos_of_lines number lines) (nanos_of_lines (number + length lines) more)
+nanos_of_lines-append number [] more =
+    ap (λ (n : ℕ). nanos_of_lines n more) (omega arith) ∙ sym (none_before (nanos_of_lines (number + 0) more))
+nanos_of_lines-append number (line ∷ lines) more =
+    ap (with_line number (instruction_of (words_of line)))
+    (nanos_of_lines-append (number + 1) lines more
+    ∙ ap (λ (n : ℕ). joined (nanos_of_lines (number + 1) lines) (nanos_of_lines n more)) (omega arith))
+    ∙ line_first number (instruction_of (words_of line)) (nanos_of_lines (number + 1) lines) (nanos_of_lines (number + suc (length lines)) more)
+
+-- the lines up to the next one, and those after it
+pub record IsNext (lines : List (List ℕ)) (i : ℕ) (line : List ℕ) (rest : List (List ℕ)) : Type 0 where
+  pub after : rest ≡ drop (i + 1) lines
+  pub before : take (i + 1) lines ≡ take i lines ++ line ∷ []
+  pub within : i + 1 ≤ length lines
+
+pub next_line : (lines : List (List ℕ)) (i : ℕ) (line : List ℕ) (rest : List (List ℕ)) → line ∷ rest ≡ drop i lines → IsNext lines i line rest
+next_line lines i line rest is = record {
+  after = ap (drop 1) is ∙ drop-drop 1 i lines;
+  before = take-add i 1 lines ∙ ap (λ (xs : List (List ℕ)). take i lines ++ take 1 xs) (sym is);
+  within = omega (arith, length-drop i lines, ap length is);
+}
+
+-- what was read of the lines before, and of a line that is blank
+pub read_on_blank : (lines : List (List ℕ)) (line : List ℕ) (nanos : List Nano) → nanos_of_lines 1 lines ≡ Ok nanos → instruction_of (words_of line) ≡ Ok None
+    → nanos_of_lines 1 (lines ++ line ∷ []) ≡ Ok nanos
+read_on_blank lines line nanos before is =
+    nanos_of_lines-append 1 lines (line ∷ [])
+    ∙ ap (λ (r : Result (List Nano) AsmFault). joined r (nanos_of_lines (1 + length lines) (line ∷ []))) before
+    ∙ ap (λ (r : Result (Option Nano) AsmKind). prepended nanos (with_line (1 + length lines) r (Ok []))) is
+    ∙ ap (λ (xs : List Nano). Ok xs) (append-nil nanos)
+
+-- and of one that has an instruction
+pub read_on_instruction : (lines : List (List ℕ)) (line : List ℕ) (nanos : List Nano) (nano : Nano) → nanos_of_lines 1 lines ≡ Ok nanos → instruction_of (words_of line) ≡ Ok (Some nano)
+    → nanos_of_lines 1 (lines ++ line ∷ []) ≡ Ok (nanos ++ nano ∷ [])
+read_on_instruction lines line nanos nano before is =
+    nanos_of_lines-append 1 lines (line ∷ [])
+    ∙ ap (λ (r : Result (List Nano) AsmFault). joined r (nanos_of_lines (1 + length lines) (line ∷ []))) before
+    ∙ ap (λ (r : Result (Option Nano) AsmKind). prepended nanos (with_line (1 + length lines) r (Ok []))) is
+
+-- where memory is wanting
+pub is_grown_for : (text : List ℕ) (i : ℕ) (nanos : List Nano) → nanos_of_lines 1 (take i (lines_of text)) ≡ Ok nanos → i + 1 ≤ length (lines_of text) → IsGrownFor text (i + 1)
+is_grown_for text i nanos before within = record {
+  first = omega arith;
+  within = within;
+  nanos = nanos;
+  before = ap (λ (n : ℕ). nanos_of_lines 1 (take n (lines_of text))) (let e : i + 1 - 1 ≡ i = omega arith in e) ∙ before;
+}
+
+-- a line that is refused is told whatever its kind, since memory is not a kind of a line
+pub of_kind : (text : List ℕ) (fault : AsmFault) → IsGrownFor text fault.line → program_of text ≡ Err fault → IsFaultOf text fault
+of_kind text fault grown is = kinds fault.kind
+  where
+    kinds : (kind : AsmKind) → MatchKind kind (IsGrownFor text fault.line) (program_of text ≡ Err fault)
+    kinds Memory = grown
+    kinds Word = is
+    kinds Operands = is
+    kinds Number = is

@@ -16,12 +16,15 @@ plane_text plane = hex_digit (plane / 4096 % 16) ∷ hex_digit (plane / 256 % 16
 unfoldable pub plane_line : List ℕ → ℕ → ℕ → List ℕ
 plane_line name number plane = name ++ decimal number ++ codes " " ++ plane_text plane ++ codes "\n"
 
+-- a flag of all processors
 abbrev pub flag_plane : List Processor → ℕ → ℕ
 flag_plane chip number = plane_number (λ p. flag (processor_at chip p) number)
 
+-- a memory bit of all processors
 abbrev pub memory_plane : List Processor → ℕ → ℕ
 memory_plane chip address = plane_number (λ p. memory_bit (processor_at chip p) address)
 
+-- the line of a flag
 abbrev pub flag_line : List Processor → ℕ → List ℕ
 flag_line chip number = plane_line (codes "flag ") number (flag_plane chip number)
 

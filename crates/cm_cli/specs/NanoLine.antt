@@ -13,6 +13,7 @@ abbrev pub ◌>>=◌ : {A B : Type 0} → Result A AsmKind → (A → Result B A
 (Ok x) >>= f = f x
 (Err e) >>= f = Err e
 
+-- a number below a limit: no number, or one too large, is a fault
 abbrev pub number_below : ℕ → Option ℕ → Result ℕ AsmKind
 number_below limit None = Err Number
 number_below limit (Some n) = if nat_lt n limit then Ok n else Err Number
@@ -21,6 +22,7 @@ number_below limit (Some n) = if nat_lt n limit then Ok n else Err Number
 abbrev pub operand_of : ℕ → List ℕ → Result ℕ AsmKind
 operand_of limit word = number_below limit (number_of word)
 
+-- 0 or 1
 abbrev pub sense_of : List ℕ → Result Bool AsmKind
 sense_of word = operand_of 2 word >>= λ n. Ok (n == 1)
 

@@ -1,5 +1,5 @@
 -- A program text of one chip, line by line. Ours.
-use Rattle.std.specs.Prelude.{◌≡◌, ℕ, ◌+◌, Option, Some, None, Result, Ok, Err, List, [], ◌∷◌}
+use Rattle.std.specs.Prelude.{◌≡◌, ℕ, ◌+◌, ◌-◌, ◌≤◌, length, take, Option, Some, None, Result, Ok, Err, List, [], ◌∷◌}
 use Rattle.cm_bits.specs.Text.{lines_of, words_of}
 use Rattle.cm_model.specs.declared.act.Nano.{Nano}
 use Rattle.cm_cli.specs.declared.fault.AsmKind.{AsmKind}
@@ -23,12 +23,20 @@ nanos_of_lines number (line ∷ lines) = with_line number (instruction_of (words
 unfoldable pub program_of : List ℕ → Result (List Nano) AsmFault
 program_of text = nanos_of_lines 1 (lines_of text)
 
--- a fault is that of the text, unless memory ran out
-abbrev pub IsKind : AsmKind → Type 0 → Type 0
-IsKind Memory fact = Unit {0}
-IsKind Word fact = fact
-IsKind Operands fact = fact
-IsKind Number fact = fact
+-- memory ran out at this line: it is one of the text's, and the lines before it are accepted
+pub record IsGrownFor (text : List ℕ) (line : ℕ) : Type 0 where
+  pub first : 1 ≤ line
+  pub within : line ≤ length (lines_of text)
+  pub nanos : List Nano
+  pub before : nanos_of_lines 1 (take (line - 1) (lines_of text)) ≡ Ok nanos
 
+-- what a kind of fault says: want of memory the first, the others the second
+abbrev pub MatchKind : AsmKind → Type 0 → Type 0 → Type 0
+MatchKind Memory wanting faulty = wanting
+MatchKind Word wanting faulty = faulty
+MatchKind Operands wanting faulty = faulty
+MatchKind Number wanting faulty = faulty
+
+-- a fault that a text is refused with: its first faulty line, or where memory ran out
 abbrev pub IsFaultOf : List ℕ → AsmFault → Type 0
-IsFaultOf text fault = IsKind fault.kind (program_of text ≡ Err fault)
+IsFaultOf text fault = MatchKind fault.kind (IsGrownFor text fault.line) (program_of text ≡ Err fault)

@@ -9,12 +9,14 @@ use Rattle.cm_cli.specs.declared.fault.ChipFault.TheVariants as chip
 use Rattle.cm_cli.specs.declared.program_fault.ProgramFault.{ProgramFault}
 use Rattle.cm_cli.specs.declared.program_fault.ProgramFault.TheVariants.{BadLine, Text, Read, Write, TooMuch, Memory}
 
+-- the number of what is wrong with a line
 abbrev pub number_of_kind : AsmKind → ℕ
 number_of_kind kind.Memory = 14
 number_of_kind kind.Word = 15
 number_of_kind kind.Operands = 16
 number_of_kind kind.Number = 17
 
+-- the number of a fault
 abbrev pub number_of : ProgramFault → ℕ
 number_of BadLine = 38
 number_of (Text fault) = number_of_kind fault.kind

@@ -1,5 +1,6 @@
 -- What the program writes on standard error, and the status it ends with, by the number of the fault. Ours.
-use Rattle.std.specs.Prelude.{ℕ, T, ◌==◌, ◌||◌, ◌&&◌, nat_le, if◌then◌else◌, Option, Some, None, List, [], ◌∷◌, ◌++◌, codes, decimal}
+use Rattle.std.specs.Prelude.{ℕ, T, ◌==◌, ◌||◌, ◌&&◌, nat_le, if◌then◌else◌, Option, Some, None, List, [], ◌++◌, codes, decimal, ◌<◌, length, take}
+use Rattle.std.specs.Io.KnownBytes.{Appends}
 
 -- the name of a fault
 abbrev pub name_of : ℕ → List ℕ
@@ -68,3 +69,9 @@ status_of number =
     if number == BAD_LINE then 2
     else (if number == 8 || number == 9 || number == 14 || number == 33 then 3
     else (if number == 30 || number == 31 then 4 else 1))
+
+-- only the first bytes of a text were written
+pub record HasFront (held holds : Option (List ℕ)) (text : List ℕ) : Type 0 where
+  pub count : ℕ
+  pub short : count < length text
+  pub written : Appends held holds (take count text)

@@ -20,6 +20,7 @@ LIMIT = 1048576
 unfoldable pub chip_left : List Instruction → List Processor
 chip_left nanos = chip_at (run_of 0 7 (blank_machine 0) (map Nano nanos)).chips 0
 
+-- what is written for instructions that were read
 abbrev pub answer_to : Result (List Instruction) AsmFault → Result (List ℕ) AsmFault
 answer_to (Ok nanos) = Ok (chip_text (chip_left nanos))
 answer_to (Err fault) = Err fault

@@ -4,10 +4,9 @@ ghost use Rattle.std.specs.Prelude.{◌≡◌, ◌<◌, IfOk};
 ghost use Rattle.cm_cli.specs.NanoLine.{operand_of, sense_of, direction_of, nano_of, instruction_of};
 ghost use Rattle.cm_bits.specs.Text.{words_of, words_left};
 
+use crate::fault::AsmKind;
 use cm_bits::{Addr, Dir, FlagNo, Words, read_number};
 use cm_model::Nano;
-
-use crate::fault::AsmKind;
 
 /// The instruction of a line, none where the line is blank.
 pub fn read_line(line: &[u8]) -> Result<Option<Nano>, AsmKind>

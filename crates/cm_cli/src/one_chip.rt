@@ -18,6 +18,7 @@ use cm_news::Grid;
 use std::alloc::Global;
 
 const NEWS_FLAG: u8 = 10;
+
 const DAISY_FLAG: u8 = 11;
 
 /// A blank chip after a list of instructions.

@@ -3,12 +3,11 @@
 ghost use Rattle.std.specs.Prelude.{◌≡◌, ◌<◌, ◌^◌, length, Ok, MatchResult};
 ghost use Rattle.cm_cli.specs.Program.{program_of, IsFaultOf};
 
+use crate::fault::{AsmFault, AsmKind};
+use crate::nano_line::read_line;
 use cm_bits::Lines;
 use cm_model::Nano;
 use std::alloc::Global;
-
-use crate::fault::{AsmFault, AsmKind};
-use crate::nano_line::read_line;
 
 /// The instructions of a text, or its first faulty line.
 pub fn read_program(alloc: Global, text: &[u8]) -> Result<Vec<Nano>, AsmFault>

@@ -4,9 +4,8 @@ ghost use Rattle.std.specs.Prelude.{◌≡◌, ◌≤◌, IfSome};
 ghost use Rattle.cm_cli.specs.Report.{HasLine};
 ghost use Rattle.cm_cli.specs.ProgramFault.{number_of, number_of_kind, line_of};
 
-use cm_line::LineFault;
-
 use crate::fault::{AsmFault, AsmKind, ChipFault};
+use cm_line::LineFault;
 
 /// A fault of the whole program, by the numbers of the one list of refusals.
 #[derive(Clone, Copy, Debug, PartialEq, Eq)]

@@ -1,8 +1,8 @@
 //! The line that tells a fault, and the status that the program ends with.
 
-ghost use Rattle.std.specs.Prelude.{◌≡◌, ◌≤◌, ◌++◌, ◌==◌, false, codes, decimal, IfOk, OnOk, IfSome, is_err};
+ghost use Rattle.std.specs.Prelude.{◌≡◌, ◌≤◌, ◌++◌, ◌==◌, false, codes, decimal, IfOk, OnErr, OnOk, IfSome, is_err};
 ghost use Rattle.std.specs.Io.KnownBytes.{Appends};
-ghost use Rattle.cm_cli.specs.Report.{HasLine, name_of, place_of, message_of, status_of};
+ghost use Rattle.cm_cli.specs.Report.{HasFront, HasLine, name_of, place_of, message_of, status_of};
 
 use cm_bits::{Failed, Sink, write_all};
 use itoa::Buffer;
@@ -21,6 +21,7 @@ pub fn report<O: Sink>(number: u8, line: Option<u64>, sink: &mut O) -> Result<u8
 
     ensures ok { OnOk result (Appends (O.contents sink.old) (O.contents sink.new) (message_of number line)) }
     ensures status { IfOk result (λ status. status ≡ status_of number) }
+    ensures err { OnErr result (HasFront (O.contents sink.old) (O.contents sink.new) (message_of number line)) }
     ensures failed { O.has_failed sink.new ≡ is_err result }
 {
     write_message(sink, number, line)?;
@@ -88,6 +89,7 @@ fn fault_name(number: u8) -> &'static str
 fn write_text<O: Sink>(sink: &mut O, text: &str) -> Result<(), Failed>
     requires working { O.has_failed sink.old ≡ false }
     ensures ok { OnOk result (Appends (O.contents sink.old) (O.contents sink.new) text.now) }
+    ensures err { OnErr result (HasFront (O.contents sink.old) (O.contents sink.new) text.now) }
     ensures failed { O.has_failed sink.new ≡ is_err result }
 {
     match write_all(sink, text.as_bytes()) {
@@ -99,6 +101,7 @@ fn write_text<O: Sink>(sink: &mut O, text: &str) -> Result<(), Failed>
 fn write_number<O: Sink>(sink: &mut O, number: u64) -> Result<(), Failed>
     requires working { O.has_failed sink.old ≡ false }
     ensures ok { OnOk result (Appends (O.contents sink.old) (O.contents sink.new) (decimal number)) }
+    ensures err { OnErr result (HasFront (O.contents sink.old) (O.contents sink.new) (decimal number)) }
     ensures failed { O.has_failed sink.new ≡ is_err result }
 {
     let mut digits = Buffer::new();
@@ -110,6 +113,7 @@ fn write_message<O: Sink>(sink: &mut O, number: u8, line: Option<u64>) -> Result
     requires known { number ≤ 38 }
     requires working { O.has_failed sink.old ≡ false }
     ensures ok { OnOk result (Appends (O.contents sink.old) (O.contents sink.new) (message_of number line)) }
+    ensures err { OnErr result (HasFront (O.contents sink.old) (O.contents sink.new) (message_of number line)) }
     ensures failed { O.has_failed sink.new ≡ is_err result }
 {
     if number == BAD_LINE {
@@ -123,6 +127,7 @@ fn write_message<O: Sink>(sink: &mut O, number: u8, line: Option<u64>) -> Result
 fn write_place<O: Sink>(sink: &mut O, line: Option<u64>) -> Result<(), Failed>
     requires working { O.has_failed sink.old ≡ false }
     ensures ok { OnOk result (Appends (O.contents sink.old) (O.contents sink.new) (place_of line)) }
+    ensures err { OnErr result (HasFront (O.contents sink.old) (O.contents sink.new) (place_of line)) }
     ensures failed { O.has_failed sink.new ≡ is_err result }
 {
     let Some(line) = line else {
@@ -138,6 +143,7 @@ fn write_fault<O: Sink>(sink: &mut O, number: u8) -> Result<(), Failed>
     requires known { number ≤ 38 }
     requires working { O.has_failed sink.old ≡ false }
     ensures ok { OnOk result (Appends (O.contents sink.old) (O.contents sink.new) (decimal number ++ codes " " ++ name_of number ++ codes "\n")) }
+    ensures err { OnErr result (HasFront (O.contents sink.old) (O.contents sink.new) (decimal number ++ codes " " ++ name_of number ++ codes "\n")) }
     ensures failed { O.has_failed sink.new ≡ is_err result }
 {
     write_number(sink, u64::from(number))?;

@@ -3,20 +3,23 @@
 ghost use Rattle.std.specs.Prelude.{◌≡◌, ◌<◌, ◌^◌, ◌↔◌, true, false, length, Ok, IfSome, IsErrOf, MatchResult};
 ghost use Rattle.cm_cli.specs.Session.{Ends, is_write, answer_of, HasNoAnswer};
 
-use cm_bits::{Sink, Source, write_all};
-use std::alloc::Global;
-
 use crate::fault::ChipFault;
 use crate::one_chip::run_chip;
 use crate::program::read_program;
 use crate::takes::{TakeFault, take};
 use crate::texts::chip_text;
+use cm_bits::{Sink, Source, write_all};
+use std::alloc::Global;
 
 const LIMIT: u64 = 1048576;
 
 /// Reads a whole text of `nano` lines, at most 1,048,576 bytes, runs it on one blank chip and writes
 /// the chip's flags and planes. Nothing is written before the whole text was read, accepted and run.
-pub fn chip_session<I: Source, O: Sink>(alloc: Global, source: &mut I, sink: &mut O) -> Result<(), ChipFault>
+pub fn chip_session<I: Source, O: Sink>(
+    alloc: Global,
+    source: &mut I,
+    sink: &mut O,
+) -> Result<(), ChipFault>
     requires reader { I.has_failed source.old ≡ false }
     requires writer { O.has_failed sink.old ≡ false }
     ensures ends { IfSome (I.left source.old) (λ text. Ends text (O.contents sink.old) (O.contents sink.new) result) }

@@ -9,6 +9,7 @@ use itoa::Buffer;
 use std::alloc::{AllocError, Global};
 
 const FLAGS: u8 = 16;
+
 const ADDRESSES: u16 = 4096;
 
 /// The flag planes, then each plane of memory that is not 0, addresses rising.

@@ -1,15 +1,12 @@
 -- The bits of a plane that is shifted up by one place.
-use Rattle.std.proofs.Common.{◌≡◌, ℕ, ◌-◌, ◌*◌, ◌/◌, ◌%◌, ◌^◌, ◌<◌, ◌==◌, Bool, None, Some, if◌then◌else◌, zero, suc, ap, ◌∙◌, sym, arith, ne_eqb}
+use Rattle.std.proofs.Common.{◌≡◌, ℕ, ◌-◌, ◌*◌, ◌%◌, ◌<◌, ◌==◌, Bool, None, Some, if◌then◌else◌, zero, suc, ap, ◌∙◌, sym, arith, ne_eqb}
 use Rattle.std.specs.Int.{bit_at}
-use Rattle.std.proofs.lemmas.Nat.{shr_split, pow_pos}
+use Rattle.std.proofs.lemmas.Nat.{pow_pos}
 use Rattle.std.proofs.lemmas.Nat.Bits.{bit_at_cat_low, bit_at_cat_high, bit_at-zero}
 use Rattle.cm_bits.specs.Bit.{bit}
+use Rattle.cm_model.proofs.Bits.{bit_at-cut}
 use Rattle.cm_model.specs.Place.{predecessor}
 use Rattle.cm_daisy.specs.Chain.{chain_bit}
-
--- the low bits stay when the others are cut off
-bit_at-cut : (x w i : ℕ) → i < w → bit_at (x % 2 ^ w) i ≡ bit_at x i
-bit_at-cut x w i h = sym (bit_at_cat_low (x / 2 ^ w) w (x % 2 ^ w) i h) ∙ ap (λ (n : ℕ). bit_at n i) (shr_split x w)
 
 -- a processor with one before it has that one's bit
 predecessor-suc : (p : ℕ) → predecessor (suc p) ≡ Some p

@@ -1,2 +1,4 @@
+mod Fields
 mod Planes
+mod Poking
 mod Storing

@@ -1,11 +1,11 @@
 -- What the processors of a chip of planes read, and that such a chip is whole.
-use Rattle.std.proofs.Common.{◌≡◌, ℕ, ◌<◌, Bool, false, List, length, map, get_or, replicate, zero, suc, ◌∷◌, refl, sym, ap, ◌∙◌, subst, arith}
+use Rattle.std.proofs.Common.{◌≡◌, ℕ, ◌<◌, false, List, length, map, get_or, replicate, zero, suc, ◌∷◌, refl, sym, ap, ◌∙◌, arith}
 use Rattle.std.proofs.Math.ListN.{get_or-map}
 use Rattle.std.proofs.lemmas.List.{length-map, get_or_read}
 use Rattle.cm_bits.specs.Bit.{bit}
 use Rattle.cm_model.specs.Processor.{ZERO, memory_bit, flag, blank_processor}
 use Rattle.cm_model.specs.Chip.{processor_at, no_processor, blank_chip}
-use Rattle.cm_model.specs.Whole.{IsChip, IsProcessor}
+use Rattle.cm_model.specs.Whole.{IsChip}
 use Rattle.cm_model.proofs.Bits.{bit-zero}
 use Rattle.cm_model.proofs.Each.{get_or-each_below, length-each_from, same_each_below}
 use Rattle.cm_element.specs.Planes.{processor_in, chip_of, ArePlanes}
@@ -32,8 +32,8 @@ planes_are_whole memory flags planes = record {
   each = λ p h. rw (processor_at-chip_of memory flags p h) (record {
     memory = length-map memory (λ plane. bit plane p) ∙ planes.memory_planes;
     flags = length-map flags (λ plane. bit plane p) ∙ planes.flag_planes;
-    zero = bit_in_row flags ZERO p ∙ ap (λ (w : ℕ). bit w p) planes.zero ∙ bit-zero p
-  })
+    zero = bit_in_row flags ZERO p ∙ ap (λ (w : ℕ). bit w p) planes.zero ∙ bit-zero p;
+  });
 }
 
 -- the plane that was read at an address
@@ -64,7 +64,7 @@ pub blank_planes : (memory flags : List ℕ) → memory ≡ replicate 4096 0 →
 unfolding chip_of blank_chip blank_processor
 blank_planes memory flags m f =
     same_each_below no_processor 16 (processor_in memory flags) (λ p. blank_processor)
-        (λ p h. λ i. record {
-          memory = (ap (map (λ plane. bit plane p)) m ∙ zeros 4096 p) i;
-          flags = (ap (map (λ plane. bit plane p)) f ∙ zeros 16 p) i
-        })
+    (λ p h. λ i. record {
+      memory = (ap (map (λ plane. bit plane p)) m ∙ zeros 4096 p) i;
+      flags = (ap (map (λ plane. bit plane p)) f ∙ zeros 16 p) i;
+    })

@@ -1,10 +1,10 @@
 -- A chip of planes after a store is the chip of the definition.
-use Rattle.std.proofs.Common.{◌≡◌, ℕ, ◌<◌, ◌==◌, ◌||◌, Bool, true, false, cond, List, length, map, get_or, set, refl, sym, ap, ◌∙◌, if◌then◌else◌}
+use Rattle.std.proofs.Common.{◌≡◌, ℕ, ◌<◌, ◌==◌, Bool, true, false, cond, List, map, get_or, set, refl, sym, ap, ◌∙◌, if◌then◌else◌}
 use Rattle.std.proofs.Math.Seq.{map-set_same}
 use Rattle.std.proofs.lemmas.List.{map-set}
 use Rattle.cm_bits.specs.Bit.{bit}
 use Rattle.cm_model.specs.declared.act.Nano.{Nano}
-use Rattle.cm_model.specs.Processor.{Processor, memory_bit, flag}
+use Rattle.cm_model.specs.Processor.{Processor}
 use Rattle.cm_model.specs.Instruction.{holds, memory_output, flag_output, flags_after, takes_incoming, processor_after}
 use Rattle.cm_model.specs.Chip.{chip_after, processor_at, no_processor}
 use Rattle.cm_model.proofs.Each.{same_each_below}
@@ -51,17 +51,17 @@ pub stored_planes : (nano : Nano) (memory flags flags_new : List ℕ) (outputs :
     → AreOutputs nano (chip_of memory flags) outputs
     → ((p : ℕ) → bit word p ≡ cond (bit outputs.holds p) (bit outputs.mem p) (bit (get_or memory nano.a 0) p))
     → ((p : ℕ) → p < 16 → map (λ plane. bit plane p) flags_new ≡ cond (bit outputs.holds p)
-        (flags_after nano (if takes_incoming nano then bit incoming p else bit outputs.flag p) (map (λ plane. bit plane p) flags))
-        (map (λ plane. bit plane p) flags))
+    (flags_after nano (if takes_incoming nano then bit incoming p else bit outputs.flag p) (map (λ plane. bit plane p) flags))
+    (map (λ plane. bit plane p) flags))
     → chip_of (set memory nano.a word) flags_new ≡ chip_after nano (bit incoming) (chip_of memory flags)
 unfolding chip_of chip_after
 stored_planes nano memory flags flags_new outputs incoming word are memory_is flags_are =
     same_each_below no_processor 16 (processor_in (set memory nano.a word) flags_new)
-        (λ p. processor_after nano (bit incoming p) (processor_at (chip_of memory flags) p))
-        (λ p h. let here = processor_at-chip_of memory flags p h in
-            rw here (both_rows nano (bit incoming p) (bit outputs.holds p) (processor_in memory flags p)
-                (map (λ plane. bit plane p) (set memory nano.a word)) (map (λ plane. bit plane p) flags_new)
-                (sym (are.holds p h ∙ ap (holds nano) here))
-                (row-set memory nano.a word p (memory_output nano (processor_in memory flags p)) (bit outputs.holds p)
-                    (memory_is p ∙ ap (λ (v : Bool). cond (bit outputs.holds p) v (bit (get_or memory nano.a 0) p)) (are.mem p h ∙ ap (memory_output nano) here)))
-                (flags_are p h ∙ ap (λ (v : Bool). cond (bit outputs.holds p) (flags_after nano (if takes_incoming nano then bit incoming p else v) (map (λ plane. bit plane p) flags)) (map (λ plane. bit plane p) flags)) (are.flag p h ∙ ap (flag_output nano) here))))
+    (λ p. processor_after nano (bit incoming p) (processor_at (chip_of memory flags) p))
+    (λ p h. let here = processor_at-chip_of memory flags p h in
+    rw here (both_rows nano (bit incoming p) (bit outputs.holds p) (processor_in memory flags p)
+    (map (λ plane. bit plane p) (set memory nano.a word)) (map (λ plane. bit plane p) flags_new)
+    (sym (are.holds p h ∙ ap (holds nano) here))
+    (row-set memory nano.a word p (memory_output nano (processor_in memory flags p)) (bit outputs.holds p)
+    (memory_is p ∙ ap (λ (v : Bool). cond (bit outputs.holds p) v (bit (get_or memory nano.a 0) p)) (are.mem p h ∙ ap (memory_output nano) here)))
+    (flags_are p h ∙ ap (λ (v : Bool). cond (bit outputs.holds p) (flags_after nano (if takes_incoming nano then bit incoming p else v) (map (λ plane. bit plane p) flags)) (map (λ plane. bit plane p) flags)) (are.flag p h ∙ ap (flag_output nano) here))))

@@ -8,6 +8,7 @@ use Rattle.cm_model.specs.Chip.{each_processor}
 abbrev pub processor_in : List ℕ → List ℕ → ℕ → Processor
 processor_in memory flags p = record { memory = map (λ plane. bit plane p) memory; flags = map (λ plane. bit plane p) flags }
 
+-- the chip whose planes these are
 unfoldable pub chip_of : List ℕ → List ℕ → List Processor
 chip_of memory flags = each_processor (processor_in memory flags)
 

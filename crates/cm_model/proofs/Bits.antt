@@ -1,8 +1,9 @@
 -- The bits of a plane under the operations of the code, and truth values that are chosen by exclusive or.
-use Rattle.std.proofs.Common.{◌≡◌, ℕ, ◌+◌, ◌-◌, ◌*◌, ◌/◌, ◌%◌, ◌^◌, ◌<◌, zero, suc, min, max, Bool, true, false, not, cond, ◌&&◌, ◌||◌, ◌==◌, refl, ap, ◌∙◌, sym, arith, bit_and, bit_or, bit_xor, w16}
+use Rattle.std.proofs.Common.{◌≡◌, ℕ, ◌+◌, ◌-◌, ◌/◌, ◌%◌, ◌^◌, ◌<◌, zero, suc, min, max, Bool, true, false, not, cond, ◌&&◌, ◌||◌, ◌==◌, refl, ap, ◌∙◌, sym, arith, bit_and, bit_or, bit_xor, w16}
 use Rattle.std.specs.Bool.{beq}
 use Rattle.std.specs.Int.{bit_at, bit_not}
-use Rattle.std.proofs.lemmas.Nat.Bits.{bit_at_and, bit_at_or, bit_at_xor, bit_at_not, bit_at-lt, bit_at-zero}
+use Rattle.std.proofs.lemmas.Nat.Bits.{bit_at_and, bit_at_or, bit_at_xor, bit_at_not, bit_at-lt, bit_at-zero, bit_at_cat_low}
+use Rattle.std.proofs.lemmas.Nat.{shr_split}
 use Rattle.cm_bits.specs.Bit.{bit, differ}
 
 -- ---- one bit, as a number below 2
@@ -55,6 +56,10 @@ bit-bit_not x i fits h = ap (λ (n : ℕ). n == 1) (bit_at_not w16 x i fits h) �
 
 pub bit-zero : (i : ℕ) → bit 0 i ≡ false
 bit-zero i = ap (λ (n : ℕ). n == 1) (bit_at-zero i)
+
+-- the low bits stay when the others are cut off
+pub bit_at-cut : (x w i : ℕ) → i < w → bit_at (x % 2 ^ w) i ≡ bit_at x i
+bit_at-cut x w i h = sym (bit_at_cat_low (x / 2 ^ w) w (x % 2 ^ w) i h) ∙ ap (λ (n : ℕ). bit_at n i) (shr_split x w)
 
 -- ---- a choice by exclusive or
 

@@ -1,7 +1,6 @@
 -- Lists that a function of the number makes: their length, what is read of them, when two are one.
-use Rattle.std.proofs.Common.{◌≡◌, ℕ, ◌+◌, ◌<◌, ◌≤◌, List, length, get_or, map, refl, sym, ◌∙◌, arith, ext_get_or}
-use Rattle.std.proofs.lemmas.List.FromFn.{length-map-range_with_len, get_or-map-range_with_len, map-range_with_len_more}
-use Rattle.std.specs.List.{range_with_len}
+use Rattle.std.proofs.Common.{◌≡◌, ℕ, ◌+◌, ◌<◌, List, length, get_or, refl, sym, ◌∙◌, arith, ext_get_or}
+use Rattle.std.proofs.lemmas.List.FromFn.{length-map-range_with_len, get_or-map-range_with_len}
 use Rattle.cm_model.specs.Each.{each_from}
 
 -- as many as were asked for
@@ -23,21 +22,21 @@ get_or-each_below count f i d h = get_or-map-range_with_len f 0 count i i d h (o
 pub same_each : {X : Type 0} (d : X) (first count : ℕ) (f g : ℕ → X) → ((i : ℕ) → i < count → f (first + i) ≡ g (first + i)) → each_from first count f ≡ each_from first count g
 same_each d first count f g same =
     ext_get_or d (each_from first count f) (each_from first count g)
-        (length-each_from first count f ∙ sym (length-each_from first count g))
-        (λ i h. let below : i < count = omega (arith, length-each_from first count f) in
-            get_or-each_from first count f i d below ∙ same i below ∙ sym (get_or-each_from first count g i d below))
+    (length-each_from first count f ∙ sym (length-each_from first count g))
+    (λ i h. let below : i < count = omega (arith, length-each_from first count f) in
+    get_or-each_from first count f i d below ∙ same i below ∙ sym (get_or-each_from first count g i d below))
 
 -- the same, where the numbers begin at 0
 pub same_each_below : {X : Type 0} (d : X) (count : ℕ) (f g : ℕ → X) → ((i : ℕ) → i < count → f i ≡ g i) → each_from 0 count f ≡ each_from 0 count g
 same_each_below d count f g same =
     ext_get_or d (each_from 0 count f) (each_from 0 count g)
-        (length-each_from 0 count f ∙ sym (length-each_from 0 count g))
-        (λ i h. let below : i < count = omega (arith, length-each_from 0 count f) in
-            get_or-each_below count f i d below ∙ same i below ∙ sym (get_or-each_below count g i d below))
+    (length-each_from 0 count f ∙ sym (length-each_from 0 count g))
+    (λ i h. let below : i < count = omega (arith, length-each_from 0 count f) in
+    get_or-each_below count f i d below ∙ same i below ∙ sym (get_or-each_below count g i d below))
 
 -- a list that reads as the function at each index is the list that it makes
 pub is_each : {X : Type 0} (d : X) (count : ℕ) (f : ℕ → X) (xs : List X) → length xs ≡ count → ((i : ℕ) → i < count → get_or xs i d ≡ f i) → xs ≡ each_from 0 count f
 is_each d count f xs long reads =
     ext_get_or d xs (each_from 0 count f) (long ∙ sym (length-each_from 0 count f))
-        (λ i h. let below : i < count = omega (arith, long) in
-            reads i below ∙ sym (get_or-each_below count f i d below))
+    (λ i h. let below : i < count = omega (arith, long) in
+    reads i below ∙ sym (get_or-each_below count f i d below))

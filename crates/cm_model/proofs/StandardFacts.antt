@@ -1,6 +1,5 @@
 -- Worked values of the definitions, which the checker computes: tables, the grid, the chain, instructions, the wire.
-use Rattle.std.proofs.Common.{◌≡◌, ℕ, ◌==◌, Bool, true, false, Option, Some, None, List, [], ◌∷◌, replicate, set, refl}
-use Rattle.cm_bits.specs.declared.place.Place.{Place}
+use Rattle.std.proofs.Common.{◌≡◌, ℕ, ◌==◌, Bool, true, false, Some, None, [], ◌∷◌, replicate, set, refl}
 use Rattle.cm_bits.specs.declared.plane.Dir.TheVariants.{North, East, West, South}
 use Rattle.cm_model.specs.declared.act.Nano.{Nano}
 use Rattle.cm_model.specs.Each.{each_from}

@@ -1,5 +1,5 @@
 -- The torus of places: the rows and columns of a place, and that steps there and back end where they began.
-use Rattle.std.proofs.Common.{◌≡◌, ℕ, ◌+◌, ◌-◌, ◌*◌, ◌/◌, ◌%◌, ◌^◌, ◌<◌, ◌≤◌, zero, suc, ◌⊎◌, inl, inr, refl, ap, ◌∙◌, sym, subst, arith}
+use Rattle.std.proofs.Common.{◌≡◌, ℕ, ◌+◌, ◌-◌, ◌*◌, ◌/◌, ◌%◌, ◌^◌, ◌<◌, ◌≤◌, zero, suc, ◌⊎◌, inl, inr, ap, ◌∙◌, sym, subst, arith}
 use Rattle.std.proofs.Math.Nat.{mod-eq_of_lt, mod-lt, mod_self, add-mod_right}
 use Rattle.std.proofs.lemmas.Nat.{pow_pos, pow-add, div_below, mul-add-lt, div-mul-add, mod-mul-add, shr_split}
 use Rattle.std.proofs.lemmas.Bool.{cases_lt}
@@ -7,7 +7,7 @@ use Rattle.cm_bits.specs.declared.place.Place.{Place}
 use Rattle.cm_bits.specs.declared.plane.Dir.{Dir}
 use Rattle.cm_bits.specs.declared.plane.Dir.TheVariants.{North, East, West, South}
 use Rattle.cm_model.specs.Place.{chip_columns, rows, columns, row_of, column_of, place_at, neighbour, opposite}
-use Rattle.cm_model.specs.Laws.{IsPlace, LeadsBack, NeighboursLeadBack}
+use Rattle.cm_model.specs.Laws.{IsPlace, NeighboursLeadBack}
 
 -- ---- a ring of so many numbers
 
@@ -67,20 +67,20 @@ on_over a w h = by_last (cases_lt (a + 1) w) where
 pub back_within : (a r w : ℕ) → a < w → 0 < r → r < 4 → (4 * a + r + 4 * w - 1) % (4 * w) ≡ 4 * a + (r - 1)
 back_within a r w h some k =
     ap (λ (n : ℕ). n % (4 * w)) (let e : 4 * a + r + 4 * w - 1 ≡ 4 * a + (r - 1) + 4 * w = omega arith in e)
-        ∙ add-mod_right (4 * a + (r - 1)) (4 * w) ∙ mod-eq_of_lt (omega arith)
+    ∙ add-mod_right (4 * a + (r - 1)) (4 * w) ∙ mod-eq_of_lt (omega arith)
 
 -- one step back from the first of four leads to the last of the one before
 pub back_over : (a w : ℕ) → a < w → (4 * a + 0 + 4 * w - 1) % (4 * w) ≡ 4 * ((a + w - 1) % w) + 3
 back_over zero w h =
     let before : (0 + w - 1) % w ≡ w - 1 = back-first w h in
     let here : (4 * zero + 0 + 4 * w - 1) % (4 * w) ≡ 4 * w - 1 =
-      ap (λ (n : ℕ). n % (4 * w)) (let e : 4 * zero + 0 + 4 * w - 1 ≡ 4 * w - 1 = omega arith in e) ∙ mod-eq_of_lt (omega arith) in
+    ap (λ (n : ℕ). n % (4 * w)) (let e : 4 * zero + 0 + 4 * w - 1 ≡ 4 * w - 1 = omega arith in e) ∙ mod-eq_of_lt (omega arith) in
     omega arith
 back_over (suc a) w h =
     let before : (suc a + w - 1) % w ≡ suc a - 1 = back-other (suc a) w (omega arith) h in
     let here : (4 * suc a + 0 + 4 * w - 1) % (4 * w) ≡ 4 * a + 3 =
-      ap (λ (n : ℕ). n % (4 * w)) (let e : 4 * suc a + 0 + 4 * w - 1 ≡ 4 * a + 3 + 4 * w = omega arith in e)
-          ∙ add-mod_right (4 * a + 3) (4 * w) ∙ mod-eq_of_lt (omega arith) in
+    ap (λ (n : ℕ). n % (4 * w)) (let e : 4 * suc a + 0 + 4 * w - 1 ≡ 4 * a + 3 + 4 * w = omega arith in e)
+    ∙ add-mod_right (4 * a + 3) (4 * w) ∙ mod-eq_of_lt (omega arith) in
     omega arith
 
 -- ---- rows and columns
@@ -130,8 +130,9 @@ place_at-own n place below = λ i. record { chip = chip i; proc = proc i } where
   chip : (4 * (place.chip / chip_columns n) + place.proc / 4) / 4 * chip_columns n + (4 * (place.chip % chip_columns n) + place.proc % 4) / 4 ≡ place.chip
   chip =
       ap (λ (k : ℕ). k * chip_columns n + (4 * (place.chip % chip_columns n) + place.proc % 4) / 4) (omega arith)
-          ∙ ap (λ (k : ℕ). place.chip / chip_columns n * chip_columns n + k) (omega arith)
-          ∙ chip-own n place.chip
+      ∙ ap (λ (k : ℕ). place.chip / chip_columns n * chip_columns n + k) (omega arith)
+      ∙ chip-own n place.chip
+
   proc : 4 * ((4 * (place.chip / chip_columns n) + place.proc / 4) % 4) + (4 * (place.chip % chip_columns n) + place.proc % 4) % 4 ≡ place.proc
   proc = omega arith
 
@@ -140,7 +141,7 @@ pub place_at_is_place : (n row column : ℕ) → row < rows n → column < colum
 place_at_is_place n row column h k = record {
   chip = subst (λ (m : ℕ). row / 4 * chip_columns n + column / 4 < m) (sym (chips_in_rows n))
       (mul-add-lt (row / 4) (chip_columns n) (column / 4) (2 ^ (n - n / 2)) (omega arith) (omega arith));
-  proc = omega arith
+  proc = omega arith;
 }
 
 -- the place in a row and a column of a chip that stands in a row and a column of chips
@@ -149,7 +150,8 @@ place_at-split n a r b s h k = λ i. record { chip = chip i; proc = proc i } whe
   chip : (4 * a + r) / 4 * chip_columns n + (4 * b + s) / 4 ≡ a * chip_columns n + b
   chip =
       ap (λ (m : ℕ). m * chip_columns n + (4 * b + s) / 4) (let e : (4 * a + r) / 4 ≡ a = omega arith in e)
-          ∙ ap (λ (m : ℕ). a * chip_columns n + m) (let e : (4 * b + s) / 4 ≡ b = omega arith in e)
+      ∙ ap (λ (m : ℕ). a * chip_columns n + m) (let e : (4 * b + s) / 4 ≡ b = omega arith in e)
+
   proc : 4 * ((4 * a + r) % 4) + (4 * b + s) % 4 ≡ 4 * r + s
   proc = omega arith
 
@@ -175,32 +177,32 @@ unfolding neighbour
 there_and_back n North place there =
     let column_below = column_of-lt n place there.proc in
     (λ i. place_at n ((row_of-place_at n ((row_of n place + rows n - 1) % rows n) (column_of n place) column_below i + 1) % rows n)
-        (column_of-place_at n ((row_of n place + rows n - 1) % rows n) (column_of n place) column_below i))
-        ∙ ap (λ (k : ℕ). place_at n k (column_of n place)) (back_and_on (row_of n place) (rows n) (row_of-lt n place there))
-        ∙ place_at-own n place there.proc
+    (column_of-place_at n ((row_of n place + rows n - 1) % rows n) (column_of n place) column_below i))
+    ∙ ap (λ (k : ℕ). place_at n k (column_of n place)) (back_and_on (row_of n place) (rows n) (row_of-lt n place there))
+    ∙ place_at-own n place there.proc
 there_and_back n South place there =
     let column_below = column_of-lt n place there.proc in
     (λ i. place_at n ((row_of-place_at n ((row_of n place + 1) % rows n) (column_of n place) column_below i + rows n - 1) % rows n)
-        (column_of-place_at n ((row_of n place + 1) % rows n) (column_of n place) column_below i))
-        ∙ ap (λ (k : ℕ). place_at n k (column_of n place)) (on_and_back (row_of n place) (rows n) (row_of-lt n place there))
-        ∙ place_at-own n place there.proc
+    (column_of-place_at n ((row_of n place + 1) % rows n) (column_of n place) column_below i))
+    ∙ ap (λ (k : ℕ). place_at n k (column_of n place)) (on_and_back (row_of n place) (rows n) (row_of-lt n place there))
+    ∙ place_at-own n place there.proc
 there_and_back n West place there =
     let below = column_of-lt n place there.proc in
     let moved : (column_of n place + columns n - 1) % columns n < columns n = mod-lt (column_of n place + columns n - 1) (omega arith) in
     (λ i. place_at n (row_of-place_at n (row_of n place) ((column_of n place + columns n - 1) % columns n) moved i)
-        ((column_of-place_at n (row_of n place) ((column_of n place + columns n - 1) % columns n) moved i + 1) % columns n))
-        ∙ ap (λ (k : ℕ). place_at n (row_of n place) k) (back_and_on (column_of n place) (columns n) below)
-        ∙ place_at-own n place there.proc
+    ((column_of-place_at n (row_of n place) ((column_of n place + columns n - 1) % columns n) moved i + 1) % columns n))
+    ∙ ap (λ (k : ℕ). place_at n (row_of n place) k) (back_and_on (column_of n place) (columns n) below)
+    ∙ place_at-own n place there.proc
 there_and_back n East place there =
     let below = column_of-lt n place there.proc in
     let moved : (column_of n place + 1) % columns n < columns n = mod-lt (column_of n place + 1) (omega arith) in
     (λ i. place_at n (row_of-place_at n (row_of n place) ((column_of n place + 1) % columns n) moved i)
-        ((column_of-place_at n (row_of n place) ((column_of n place + 1) % columns n) moved i + columns n - 1) % columns n))
-        ∙ ap (λ (k : ℕ). place_at n (row_of n place) k) (on_and_back (column_of n place) (columns n) below)
-        ∙ place_at-own n place there.proc
+    ((column_of-place_at n (row_of n place) ((column_of n place + 1) % columns n) moved i + columns n - 1) % columns n))
+    ∙ ap (λ (k : ℕ). place_at n (row_of n place) k) (on_and_back (column_of n place) (columns n) below)
+    ∙ place_at-own n place there.proc
 
 pub neighbours_lead_back : NeighboursLeadBack
 neighbours_lead_back n dir place there = record {
   within = neighbour_is_place n dir place there;
-  back = there_and_back n dir place there
+  back = there_and_back n dir place there;
 }

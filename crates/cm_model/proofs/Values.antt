@@ -1,5 +1,5 @@
 -- Numbers by their bits: a word is the value of its bits, and a plane is told by them.
-use Rattle.std.proofs.Common.{◌≡◌, ℕ, ◌+◌, ◌*◌, ◌/◌, ◌%◌, ◌^◌, ◌<◌, zero, suc, Bool, List, [], ◌∷◌, map, ◌==◌, refl, sym, ap, ap₂, ◌∙◌, arith, div-one, mod-eq_of_lt, add-one, lit<, false, pow-suc, pow_pos}
+use Rattle.std.proofs.Common.{◌≡◌, ℕ, ◌+◌, ◌*◌, ◌/◌, ◌%◌, ◌^◌, ◌<◌, zero, suc, Bool, map, ◌==◌, refl, sym, ap, ◌∙◌, arith, div-one, mod-eq_of_lt, add-one, lit<, false, pow-suc, pow_pos}
 use Rattle.std.proofs.Math.Nat.{div-div-eq-div-mul, mod-one}
 use Rattle.std.proofs.Math.Arith.{mod-mul}
 use Rattle.std.specs.Int.{bit_at}
@@ -25,9 +25,9 @@ value-bits zero first word = sym (mod-one (word / 2 ^ first))
 value-bits (suc count) first word =
     let low : bit_number (bit word first) ≡ word / 2 ^ first % 2 = number_of_bit (bit_at word first) (bit_at-lt word first) in
     let high : value (map (bit word) (range_with_len (first + 1) count)) ≡ word / 2 ^ first / 2 % 2 ^ count =
-        value-bits count (first + 1) word ∙ ap (λ (q : ℕ). q % 2 ^ count) (halved word first) in
+    value-bits count (first + 1) word ∙ ap (λ (q : ℕ). q % 2 ^ count) (halved word first) in
     let split : word / 2 ^ first % (2 ^ count * 2) ≡ (word / 2 ^ first / 2 % 2 ^ count) * 2 + word / 2 ^ first % 2 =
-        mod-mul (word / 2 ^ first) {m = 2 ^ count} {c = 2} (pow_pos count) (lit< tt) in
+    mod-mul (word / 2 ^ first) {m = 2 ^ count} {c = 2} (pow_pos count) (lit< tt) in
     rw (low, high, pow-suc, split) (omega arith)
 
 -- a list of bits is worth the word that has them

@@ -9,6 +9,7 @@ use Rattle.cm_model.specs.Processor.{Processor, GLOBAL, NEWS, flag}
 use Rattle.cm_model.specs.Instruction.{flag_output}
 use Rattle.cm_model.specs.Chip.{processor_at, chip_after}
 
+-- the chips of a machine by number
 abbrev pub Chips : Type 0
 Chips = List (List Processor)
 
@@ -16,9 +17,11 @@ Chips = List (List Processor)
 abbrev pub each_chip : {X : Type 0} → ℕ → (ℕ → X) → List X
 each_chip n f = each_from 0 (2 ^ n) f
 
+-- the chip of a number
 abbrev pub chip_at : Chips → ℕ → List Processor
 chip_at chips c = slice_index_or chips c []
 
+-- the processor at a place
 abbrev pub processor_of : Chips → Place → Processor
 processor_of chips place = processor_at (chip_at chips place.chip) place.proc
 

@@ -1,4 +1,4 @@
--- The same steps told by the buffers alone, chip by chip: this is what a router's code keeps.
+-- The same steps told by the buffers alone, chip by chip: this is what a router's code keeps. Ours.
 use Rattle.std.specs.Prelude.{ℕ, ◌+◌, ◌-◌, ◌^◌, ◌==◌, ◌&&◌, Bool, not, List, [], ◌∷◌, ◌++◌, Option, Some, None, length, map, slice_get, bit_xor, if◌then◌else◌}
 use Rattle.std.specs.List.{position, remove}
 use Rattle.std.specs.Option.{option_or, option_map, option_to_list}
@@ -14,12 +14,15 @@ use Rattle.cm_model.specs.Machine.{Machine, buffer_at}
 
 -- ---- injection
 
+-- the processors of a chip whose messages are taken
 abbrev pub taken_in : ℕ → Machine → ℕ → List ℕ
 taken_in cap machine c = senders_taken cap (length (buffer_at machine.buffers c)) (chip_at machine.chips c)
 
+-- the messages that are taken there
 abbrev pub sent_in : ℕ → ℕ → Machine → ℕ → List Message
 sent_in n cap machine c = messages_sent n machine.clock c (chip_at machine.chips c) (taken_in cap machine c)
 
+-- all chips at once: the taken messages stand last in their buffers
 unfoldable pub machine_after_injection : ℕ → ℕ → Machine → Machine
 machine_after_injection n cap machine = record machine {
   chips = each_chip n (λ c. chip_after_injection (taken_in cap machine c) (chip_at machine.chips c));
@@ -55,6 +58,7 @@ outgoing cap d here = option_map (message_across d) (element_at here (leaving_pl
 unfoldable pub buffer_after_dimension : ℕ → ℕ → List Message → Option Message → List Message
 buffer_after_dimension cap d here coming = without here (leaving_place cap d here) ++ option_to_list coming
 
+-- all chips at once, from the old buffers
 unfoldable pub machine_after_dimension : ℕ → ℕ → ℕ → Machine → Machine
 machine_after_dimension n cap d machine = record machine {
   buffers = each_chip n (λ c. buffer_after_dimension cap d (buffer_at machine.buffers c) (outgoing cap d (buffer_at machine.buffers (bit_xor c (2 ^ d)))));
@@ -82,9 +86,11 @@ kept receives before [] = []
 kept receives before (m ∷ ms) =
     if is_accepted receives before m then kept receives (arrived_for before m) ms else m ∷ kept receives (arrived_for before m) ms
 
+-- what a chip delivers
 abbrev pub delivered_in : Machine → ℕ → List Message
 delivered_in machine c = delivered (can_receive (chip_at machine.chips c)) [] (buffer_at machine.buffers c)
 
+-- all chips at once: what is delivered is gone, and the counter is one more
 unfoldable pub machine_after_delivery : ℕ → Machine → Machine
 machine_after_delivery n machine = record {
   chips = each_chip n (λ c. chip_after_delivery (delivered_in machine c) (chip_at machine.chips c));
@@ -95,6 +101,7 @@ machine_after_delivery n machine = record {
 
 -- ---- all steps
 
+-- the machine after one step
 abbrev pub after_step : ℕ → ℕ → Machine → Step → Machine
 after_step n cap machine (Instruct nano) = record machine { chips = after_nano n nano machine.chips }
 after_step n cap machine Look = machine
@@ -102,6 +109,7 @@ after_step n cap machine Inject = machine_after_injection n cap machine
 after_step n cap machine (Cross d) = machine_after_dimension n cap d machine
 after_step n cap machine Deliver = machine_after_delivery n machine
 
+-- the machine after a list of steps
 abbrev pub after_steps : ℕ → ℕ → Machine → List Step → Machine
 after_steps n cap machine [] = machine
 after_steps n cap machine (step ∷ steps) = after_steps n cap (after_step n cap machine step) steps

@@ -14,9 +14,11 @@ each_processor f = each_from 0 16 f
 abbrev pub no_processor : Processor
 no_processor = record { memory = []; flags = [] }
 
+-- the processor of a number
 abbrev pub processor_at : List Processor → ℕ → Processor
 processor_at chip p = slice_index_or chip p no_processor
 
+-- all bits and flags 0
 unfoldable pub blank_chip : List Processor
 blank_chip = each_processor (λ p. blank_processor)
 

@@ -10,6 +10,7 @@ use Rattle.cm_model.specs.Order.{in_order, messages_of}
 use Rattle.cm_model.specs.Letters.{senders_taken, message_sent, messages_sent, chip_after_injection, can_receive, has_arrived, is_for, chip_after_delivery}
 use Rattle.cm_model.specs.Steps.{Step, Instruct, Look, Inject, Cross, Deliver}
 
+-- a machine while it runs: its messages are a set of records
 pub record State : Type 0 where
   -- by number
   pub chips : Chips
@@ -22,6 +23,7 @@ pub record State : Type 0 where
   -- the petit cycle since it was handed over, from 1 on
   pub cycle : ℕ
 
+-- the log of a chip
 abbrev pub log_at : List (List Event) → ℕ → List Event
 log_at logs c = slice_index_or logs c []
 
@@ -39,9 +41,11 @@ new_record n state c p = record {
   since = record { cycle = state.cycle; turn = p };
 }
 
+-- the records that injection adds on a chip
 abbrev pub new_records : ℕ → ℕ → State → ℕ → List Standing
 new_records n cap state c = map (new_record n state c) (taken_at cap state c)
 
+-- injection on all chips at once
 unfoldable pub after_injection : ℕ → ℕ → State → State
 after_injection n cap state = record state {
   chips = each_chip n (λ c. chip_after_injection (taken_at cap state c) (chip_at state.chips c));
@@ -84,6 +88,7 @@ state_after n cap state Inject = after_injection n cap state
 state_after n cap state (Cross d) = record state { standing = after_dimension cap d state.cycle state.standing }
 state_after n cap state Deliver = after_delivery n state
 
+-- the state after a list of steps
 abbrev pub state_after_all : ℕ → ℕ → State → List Step → State
 state_after_all n cap state [] = state
 state_after_all n cap state (step ∷ steps) = state_after_all n cap (state_after n cap state step) steps

@@ -1,4 +1,4 @@
--- Lists that a function of the number makes, which is how every step of the machine is told.
+-- Lists that a function of the number makes, which is how every step of the machine is told. Ours.
 use Rattle.std.specs.Prelude.{ℕ, List, map}
 use Rattle.std.specs.List.{range_with_len}
 

@@ -10,6 +10,7 @@ use Rattle.cm_model.specs.declared.found.Found.TheVariants as found
 use Rattle.cm_model.specs.Cycle.{log_at}
 use Rattle.cm_model.specs.Machine.{Machine, buffer_at}
 
+-- two tags are one
 abbrev pub same_tag : Tag → Tag → Bool
 same_tag s t = s.chip == t.chip && (s.proc == t.proc && s.birth == t.birth)
 
@@ -26,6 +27,7 @@ delivery_place tag (Delivered m c) = if same_tag m.tag tag then Some (record { c
 abbrev pub delivery_places : ℕ → Machine → Tag → List Place
 delivery_places n machine tag = flat_map (λ c. filter_map (delivery_place tag) (log_at machine.logs c)) (range_with_len 0 (2 ^ n))
 
+-- where a tag is: a router comes before a place of delivery
 abbrev pub found_from : Option ℕ → List Place → Found
 found_from (Some c) places = found.Router c
 found_from None (place ∷ places) = found.Delivered place.chip place.proc

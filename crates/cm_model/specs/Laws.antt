@@ -1,4 +1,4 @@
--- Laws over the definitions, each the contract of a function of its name.
+-- Laws over the definitions, each the contract of a function of its name. Ours.
 use Rattle.std.specs.Prelude.{◌≡◌, ℕ, ◌^◌, ◌<◌, List, ◌++◌, length, take}
 use Rattle.cm_bits.specs.declared.place.Place.{Place}
 use Rattle.cm_bits.specs.declared.plane.Dir.{Dir}
@@ -23,6 +23,7 @@ pub record LeadsBack (n : ℕ) (dir : Dir) (place : Place) : Type 0 where
   pub within : IsPlace n (neighbour n dir place)
   pub back : neighbour n (opposite dir) (neighbour n dir place) ≡ place
 
+-- so it is at every place, in every direction, for every cube
 abbrev pub NeighboursLeadBack : Type 0
 NeighboursLeadBack = (n : ℕ) (dir : Dir) (place : Place) → IsPlace n place → LeadsBack n dir place
 

@@ -25,9 +25,11 @@ message_sent n clock c chip p = record {
   tag = record { chip = c; proc = p; birth = clock };
 }
 
+-- the messages of these processors
 abbrev pub messages_sent : ℕ → ℕ → ℕ → List Processor → List ℕ → List Message
 messages_sent n clock c chip ps = map (message_sent n clock c chip) ps
 
+-- the processor is one of these
 abbrev pub is_among : ℕ → List ℕ → Bool
 is_among p ps = list_any (λ q. q == p) ps
 
@@ -56,6 +58,7 @@ can_receive chip p = not (flag (processor_at chip p) RECV)
 abbrev pub has_arrived : Message → Bool
 has_arrived m = m.rel == 0
 
+-- the message is for this processor
 abbrev pub is_for : ℕ → Message → Bool
 is_for p m = m.proc == p
 

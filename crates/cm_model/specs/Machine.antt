@@ -11,6 +11,7 @@ use Rattle.cm_model.specs.Order.{buffer}
 use Rattle.cm_model.specs.Steps.{all_steps}
 use Rattle.cm_model.specs.Cycle.{State, state_after_all}
 
+-- what a machine keeps from one act to the next
 pub record Machine : Type 0 where
   -- by number
   pub chips : Chips
@@ -30,6 +31,7 @@ blank_machine n = record {
   clock = 0;
 }
 
+-- the buffer of a chip
 abbrev pub buffer_at : List (List Message) → ℕ → List Message
 buffer_at buffers c = slice_index_or buffers c []
 

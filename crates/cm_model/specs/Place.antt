@@ -16,10 +16,11 @@ rows n = 4 * 2 ^ (n - n / 2)
 abbrev pub columns : ℕ → ℕ
 columns n = 4 * chip_columns n
 
--- a chip is four by four processors
+-- the row of a place: a chip is four by four processors
 abbrev pub row_of : ℕ → Place → ℕ
 row_of n place = 4 * (place.chip / chip_columns n) + place.proc / 4
 
+-- its column
 abbrev pub column_of : ℕ → Place → ℕ
 column_of n place = 4 * (place.chip % chip_columns n) + place.proc % 4
 
@@ -27,7 +28,7 @@ column_of n place = 4 * (place.chip % chip_columns n) + place.proc % 4
 abbrev pub place_at : ℕ → ℕ → ℕ → Place
 place_at n row column = record {
   chip = row / 4 * chip_columns n + column / 4;
-  proc = 4 * (row % 4) + column % 4
+  proc = 4 * (row % 4) + column % 4;
 }
 
 -- the place one step on in a direction, round the torus: north is the lower row, west the lower column
@@ -37,6 +38,7 @@ neighbour n South place = place_at n ((row_of n place + 1) % rows n) (column_of 
 neighbour n West place = place_at n (row_of n place) ((column_of n place + columns n - 1) % columns n)
 neighbour n East place = place_at n (row_of n place) ((column_of n place + 1) % columns n)
 
+-- the direction back
 abbrev pub opposite : Dir → Dir
 opposite North = South
 opposite South = North

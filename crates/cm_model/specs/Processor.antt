@@ -2,6 +2,7 @@
 use Rattle.std.specs.Prelude.{ℕ, ◌+◌, ◌*◌, Bool, false, List, [], ◌∷◌, take, drop, replicate, slice_index_or}
 use Rattle.cm_bits.specs.Bit.{bit, bit_number}
 
+-- what one processor keeps
 pub record Processor : Type 0 where
   -- by address
   pub memory : List Bool
@@ -36,9 +37,11 @@ ACK = 13
 abbrev pub RECV : ℕ
 RECV = 14
 
+-- the memory bit of an address
 abbrev pub memory_bit : Processor → ℕ → Bool
 memory_bit processor address = slice_index_or processor.memory address false
 
+-- the flag of a number
 abbrev pub flag : Processor → ℕ → Bool
 flag processor number = slice_index_or processor.flags number false
 
@@ -55,5 +58,6 @@ value (b ∷ bs) = bit_number b + 2 * value bs
 unfoldable pub field_value : Processor → ℕ → ℕ → ℕ
 field_value processor at len = value (take len (drop at processor.memory))
 
+-- all bits and flags 0
 unfoldable pub blank_processor : Processor
 blank_processor = record { memory = replicate 4096 false; flags = replicate 16 false }

@@ -15,6 +15,7 @@ pub record Since : Type 0 where
 abbrev pub is_before : Since → Since → Bool
 is_before s t = nat_lt s.cycle t.cycle || (s.cycle == t.cycle && nat_lt s.turn t.turn)
 
+-- the same cycle and turn
 abbrev pub same_since : Since → Since → Bool
 same_since s t = s.cycle == t.cycle && s.turn == t.turn
 
@@ -28,9 +29,11 @@ pub record Standing : Type 0 where
 abbrev pub target_from : ℕ → Message → Place
 target_from c m = record { chip = bit_xor c m.rel; proc = m.proc }
 
+-- the place that a record is bound for: across all dimensions of its relative address
 abbrev pub target : Standing → Place
 target r = target_from r.chip r.message
 
+-- the record stands at this chip
 abbrev pub is_at : ℕ → Standing → Bool
 is_at c r = r.chip == c
 
@@ -58,6 +61,7 @@ abbrev pub latest : List Standing → Option Standing
 latest [] = None
 latest (r ∷ rs) = Some (later r (latest rs))
 
+-- the message has to cross this dimension
 abbrev pub has_to_cross : ℕ → Message → Bool
 has_to_cross d m = bit m.rel d
 

@@ -1,4 +1,4 @@
--- Laws of one step, each the contract of a function of its name.
+-- Laws of one step, each the contract of a function of its name. Ours.
 use Rattle.std.specs.Prelude.{◌≡◌, ℕ, ◌^◌, ◌<◌, Bool, Option, Some, List, [], map}
 use Rattle.cm_model.specs.declared.act.Nano.{Nano}
 use Rattle.cm_model.specs.declared.act.Act.TheVariants as act

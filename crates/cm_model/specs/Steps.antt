@@ -5,6 +5,7 @@ use Rattle.cm_model.specs.declared.act.Nano.{Nano}
 use Rattle.cm_model.specs.declared.act.Act.{Act}
 use Rattle.cm_model.specs.declared.act.Act.TheVariants as act
 
+-- what a machine does at once: an instruction, a look, or a part of a petit cycle
 pub data Step : Type 0 where
   -- an instruction in every processor
   Instruct : Nano → Step
@@ -54,5 +55,6 @@ phases_from n at (one ∷ more) = phases_of n at one ++ phases_from n (at + 1) m
 abbrev pub phases : ℕ → List Act → List Phase
 phases n acts = phases_from n 0 acts
 
+-- the steps of a list of phases
 abbrev pub steps_in : List Phase → List Step
 steps_in run = map (λ phase. phase.step) run

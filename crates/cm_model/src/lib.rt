@@ -5,6 +5,7 @@
 
 mod act;
 mod found;
+mod grid;
 mod laws;
 mod message;
 mod plain;
@@ -14,6 +15,7 @@ mod plain_router;
 
 pub use act::{Act, Nano};
 pub use found::Found;
+pub use grid::{PlainGrid, opposite};
 pub use laws::{
     account_is_conserved, blank_is_machine, deliveries_are_apart, injected_stand_in_the_account,
     instructions_keep_the_account, leavers_are_unique, leavers_have_their_since,

@@ -1,15 +1,15 @@
 //! The plain program beside the definitions: a whole machine kept bit by bit, one place after
 //! another, each from the old state. It is slow, and is there to be run beside a fast one.
 
-ghost use Rattle.std.specs.Prelude.{◌≡◌, ℕ, ◌+◌, ◌*◌, ◌-◌, ◌/◌, ◌%◌, ◌^◌, ◌<◌, ◌≤◌, ◌==◌, Bool, false, List, length, replicate, slice_index_or, slice_set, IfOk, OnOk, OnErr, if◌then◌else◌};
-ghost use Rattle.cm_model.specs.Place.{rows, columns, chip_columns, row_of, column_of, place_at, neighbour, opposite};
+ghost use Rattle.std.specs.Prelude.{◌≡◌, ◌^◌, ◌<◌, ◌≤◌, ◌==◌, Bool, false, List, length, replicate, slice_index_or, slice_set, IfOk, OnOk, OnErr, if◌then◌else◌};
 ghost use Rattle.cm_model.specs.Processor.{Processor, ZERO, memory_bit, flag, entry};
 ghost use Rattle.cm_model.specs.Instruction.{memory_output, flag_output, takes_incoming, processor_after};
 ghost use Rattle.cm_model.specs.Chip.{each_processor, processor_at, chip_after, with_memory_bit, with_flag};
 ghost use Rattle.cm_model.specs.Array.{Chips, each_chip, chip_at, incoming, after_nano};
 
 use crate::act::Nano;
-use cm_bits::{Addr, Dir, FlagNo, NoMemory, Place, Proc};
+use crate::grid::{PlainGrid, opposite};
+use cm_bits::{Addr, FlagNo, NoMemory, Place, Proc};
 use std::alloc::Global;
 use std::marker::Model;
 
@@ -163,7 +163,7 @@ impl<const N: usize> PlainMachine<N> {
         ensures value { result ≡ incoming N nano.now self.now chip proc }
     {
         if nano.write.get() == NEWS_FLAG {
-            let source = Self::neighbour(Place { chip, proc }, opposite(nano.dir));
+            let source = PlainGrid::<N>::neighbour(Place { chip, proc }, opposite(nano.dir));
             return self.processor(source.chip, source.proc).flag_output(nano);
         }
         let number = proc.get();
@@ -188,79 +188,6 @@ impl<const N: usize> PlainMachine<N> {
         ensures value { result ≡ 2 ^ N }
     {
         1 << N
-    }
-
-    /// The place one step on in a direction, round the torus.
-    fn neighbour(place: Place, dir: Dir) -> Place
-        requires dimension { N ≤ 12 }
-        requires chip { place.chip < 2 ^ N }
-        ensures value { result ≡ neighbour N dir place }
-        ensures within { result.chip < 2 ^ N }
-    {
-        let row = Self::row_of(&place);
-        let column = Self::column_of(&place);
-        let rows = Self::rows();
-        let columns = Self::columns();
-        match dir {
-            Dir::North => Self::place_at((row + rows - 1) % rows, column),
-            Dir::South => Self::place_at((row + 1) % rows, column),
-            Dir::West => Self::place_at(row, (column + columns - 1) % columns),
-            Dir::East => Self::place_at(row, (column + 1) % columns),
-        }
-    }
-
-    fn rows() -> u16
-        requires dimension { N ≤ 12 }
-        ensures value { result ≡ rows N }
-    {
-        4 << (N - N / 2)
-    }
-
-    fn columns() -> u16
-        requires dimension { N ≤ 12 }
-        ensures value { result ≡ columns N }
-    {
-        4 * Self::chip_columns()
-    }
-
-    fn chip_columns() -> u16
-        requires dimension { N ≤ 12 }
-        ensures value { result ≡ chip_columns N }
-        ensures within { result ≤ 64 }
-    {
-        1 << (N / 2)
-    }
-
-    fn row_of(place: &Place) -> u16
-        requires dimension { N ≤ 12 }
-        requires chip { place.now.chip < 2 ^ N }
-        ensures value { result ≡ row_of N place.now }
-        ensures within { result < rows N }
-    {
-        4 * (place.chip / Self::chip_columns()) + u16::from(place.proc.get() / 4)
-    }
-
-    fn column_of(place: &Place) -> u16
-        requires dimension { N ≤ 12 }
-        requires chip { place.now.chip < 2 ^ N }
-        ensures value { result ≡ column_of N place.now }
-        ensures within { result < columns N }
-    {
-        4 * (place.chip % Self::chip_columns()) + u16::from(place.proc.get() % 4)
-    }
-
-    fn place_at(row: u16, column: u16) -> Place
-        requires dimension { N ≤ 12 }
-        requires row { row < rows N }
-        requires column { column < columns N }
-        ensures value { result ≡ place_at N row column }
-        ensures within { result.chip < 2 ^ N }
-    {
-        let proc = 4 * (row % 4) + column % 4;
-        Place {
-            chip: row / 4 * Self::chip_columns() + column / 4,
-            proc: Proc::new(proc as u8).unwrap(),
-        }
     }
 }
 
@@ -409,21 +336,11 @@ fn entry(table: u8, a: bool, b: bool, f: bool) -> bool
     table >> place & 1 == 1
 }
 
-fn opposite(dir: Dir) -> Dir
-    ensures value { result ≡ opposite dir }
-{
-    match dir {
-        Dir::North => Dir::South,
-        Dir::South => Dir::North,
-        Dir::West => Dir::East,
-        Dir::East => Dir::West,
-    }
-}
-
 #[cfg(test)]
 mod tests {
     use super::PlainMachine;
     use crate::act::Nano;
+    use crate::grid::{PlainGrid, opposite};
     use cm_bits::{Addr, Dir, FlagNo, Proc};
     use std::test::Fail;
 

@@ -1,13 +1,13 @@
 -- The bits of words that are shifted and masked, and of four bits that are spread or gathered.
-use Rattle.std.proofs.Common.{◌≡◌, ◌⊎◌, inl, inr, if◌then◌else◌, ℕ, ◌+◌, ◌-◌, ◌*◌, ◌/◌, ◌%◌, ◌^◌, ◌<◌, ◌≤◌, ◌==◌, zero, suc, Bool, true, false, ◌&&◌, ◌||◌, bit_and, bit_or, refl, ap, ◌∙◌, sym, subst, arith}
+use Rattle.std.proofs.Common.{◌≡◌, ◌⊎◌, inl, inr, if◌then◌else◌, ℕ, ◌+◌, ◌-◌, ◌*◌, ◌/◌, ◌%◌, ◌^◌, ◌<◌, ◌≤◌, ◌==◌, zero, suc, Bool, true, false, ◌&&◌, ◌||◌, bit_and, bit_or, refl, ap, ◌∙◌, subst, arith}
 use Rattle.std.specs.Bool.{beq}
 use Rattle.std.specs.Int.{bit_at}
 use Rattle.std.proofs.Math.Bool.{and-false, or-false}
 use Rattle.std.proofs.lemmas.Bool.{cases_lt, eqb-true}
-use Rattle.std.proofs.lemmas.Nat.{shr_split, shr-shr, pow_pos}
+use Rattle.std.proofs.lemmas.Nat.{shr-shr, pow_pos}
 use Rattle.std.proofs.lemmas.Nat.Bits.{bit_at_cat_low, bit_at_cat_high, bit_at-zero, bit_at_above}
 use Rattle.cm_bits.specs.Bit.{bit}
-use Rattle.cm_model.proofs.Bits.{bit-bit_and, bit-bit_or}
+use Rattle.cm_model.proofs.Bits.{bit_at-cut, bit-bit_and, bit-bit_or}
 
 -- ---- tests of truth values, and facts that are tested below a number
 
@@ -44,10 +44,6 @@ pub masked : (mask : ℕ) (test : ℕ → Bool) → holds_below 16 (λ p. beq (b
 masked mask test h p below = same_beq (bit mask p) (test p) (tested 16 (λ k. beq (bit mask k) (test k)) h p below)
 
 -- ---- shifts
-
--- the low bits stay when the others are cut off
-bit_at-cut : (x w i : ℕ) → i < w → bit_at (x % 2 ^ w) i ≡ bit_at x i
-bit_at-cut x w i h = sym (bit_at_cat_low (x / 2 ^ w) w (x % 2 ^ w) i h) ∙ ap (λ (n : ℕ). bit_at n i) (shr_split x w)
 
 pub bit-down : (x k p : ℕ) → bit (x / 2 ^ k) p ≡ bit x (k + p)
 bit-down x k p = ap (λ (n : ℕ). n % 2 == 1) (shr-shr x k p)

@@ -1,4 +1,4 @@
--- Laws over the steps on one chip, each the contract of a function of its name.
+-- Laws over the steps on one chip, each the contract of a function of its name. Ours.
 use Rattle.std.specs.Prelude.{◌≡◌, ℕ, ◌<◌, ◌^◌, true, false, ◌⊎◌, Some}
 use Rattle.cm_bits.specs.declared.plane.Dir.{Dir}
 use Rattle.cm_model.specs.Place.{source}

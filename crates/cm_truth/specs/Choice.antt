@@ -1,4 +1,4 @@
--- Choosing one of several truth values by others.
+-- Choosing one of several truth values by others. Ours.
 use Rattle.std.specs.Prelude.{Bool, cond}
 
 -- of four values the one that b and f choose

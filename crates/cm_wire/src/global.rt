@@ -3,16 +3,14 @@ ghost use Rattle.cm_model.specs.Array.{wire};
 ghost use Rattle.cm_model.specs.Processor.{GLOBAL};
 ghost use Rattle.cm_wire.specs.Wire.{chip_or};
 
-use cm_bits::{FlagNo, Proc};
+use cm_bits::FlagNo;
 use cm_element::Chip;
 
 /// What a chip gives to the global wire (Hillis 1985): whether flag GLOBAL is 1 in one of its processors.
 pub fn chip_or(chip: &Chip) -> bool
     ensures value { result ≡ chip_or chip.now }
 {
-    let global = global_flag();
-    // That the first processor is asked alone tells the proof that the chip has sixteen.
-    chip.flag(Proc::default(), global) || chip.flag_plane(global) != 0
+    chip.flag_plane(global_flag()) != 0
 }
 
 /// The global wire: whether flag GLOBAL is 1 in some processor of some chip.

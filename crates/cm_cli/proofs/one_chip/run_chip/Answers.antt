@@ -1,4 +1,4 @@
-use Rattle.std.proofs.Common.{◌≡◌, take, take_all, List}
+use Rattle.std.proofs.Common.{take_all}
 use Rattle.cm_cli.proofs.OneChip.{run-begun, run-more, run-ended}
 use Rattle.cm_cli.proofs.one_chip.run_chip.Goals as goal
 

@@ -6,7 +6,7 @@ abbrev pub invariant-loop-count : goal.invariant-loop-count
 invariant-loop-count g l = record {
   within : vec_len l.taken ≤ l.limit;
   consumed : Consumes (g.I.Source.left l.fn.source) (g.I.Source.left l.source) l.taken.items;
-  working : g.I.Source.has_failed l.source ≡ false
+  working : g.I.Source.has_failed l.source ≡ false;
 }
 
 abbrev pub decreases-loop-count : goal.decreases-loop-count

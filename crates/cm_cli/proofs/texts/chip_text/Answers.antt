@@ -1,5 +1,5 @@
-use Rattle.std.proofs.Common.{◌≡◌, ◌++◌, refl}
-use Rattle.cm_cli.specs.ChipText.{chip_text, lines_below, flag_line, memory_line}
+use Rattle.std.proofs.Common.{refl}
+use Rattle.cm_cli.specs.ChipText.{chip_text}
 use Rattle.cm_cli.proofs.texts.chip_text.Goals as goal
 
 pub returns : goal.returns

@@ -1,4 +1,4 @@
-use Rattle.std.proofs.Common.{◌≡◌, ◌++◌, ap, ◌∙◌, List, ℕ}
+use Rattle.std.proofs.Common.{◌++◌, ap, ◌∙◌, List, ℕ}
 use Rattle.cm_cli.specs.ChipText.{flag_line}
 use Rattle.cm_cli.proofs.Telling.{lines_below-zero, lines_below-more}
 use Rattle.cm_cli.proofs.texts.push_flags.Goals as goal

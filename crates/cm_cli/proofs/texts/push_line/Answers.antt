@@ -1,11 +1,19 @@
-use Rattle.std.proofs.Common.{◌≡◌, List, ℕ, ◌++◌, codes, decimal, refl, ap, ◌∙◌, append_assoc}
-use Rattle.cm_cli.specs.ChipText.{plane_line, plane_text}
+use Rattle.std.proofs.Common.{append_assoc}
+use Rattle.cm_cli.specs.ChipText.{plane_line}
 use Rattle.cm_cli.proofs.texts.push_line.Goals as goal
 
 pub returns : goal.returns
 unfolding plane_line
 returns c = record {
-  ok = rw (c.in_ok-push-2.ensures.items, c.in_ok-extend_from_slice-3.ensures.items, c.plane_digits.ensures.value, c.in_ok-push.ensures.items,
-        c.in_ok-extend_from_slice-2.ensures.items, c.as_bytes.ensures.value, c.format.ensures.text, c.in_ok-extend_from_slice.ensures.items)
-      (simp append_assoc)
+  ok = rw (
+    c.in_ok-push-2.ensures.items,
+    c.in_ok-extend_from_slice-3.ensures.items,
+    c.plane_digits.ensures.value,
+    c.in_ok-push.ensures.items,
+    c.in_ok-extend_from_slice-2.ensures.items,
+    c.as_bytes.ensures.value,
+    c.format.ensures.text,
+    c.in_ok-extend_from_slice.ensures.items,
+  )
+      (simp append_assoc);
 }

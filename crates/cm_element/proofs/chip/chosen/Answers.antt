@@ -1,10 +1,8 @@
-use Rattle.std.proofs.Common.{◌≡◌, ℕ, ◌<◌, refl, sym, ap, ◌∙◌, arith, get_or}
 use Rattle.cm_bits.specs.Bit.{bit}
-use Rattle.std.proofs.Common.{bit_and, bit_xor, Bool}
 use Rattle.cm_model.proofs.Bits.{bit-bit_and, bit-bit_xor, differ_chosen}
 use Rattle.cm_element.proofs.chip.chosen.Goals as goal
 
 pub returns : goal.returns
 returns c = record {
-  value = λ p. rw (bit-bit_xor, bit-bit_and, bit-bit_xor) (differ_chosen (bit c.args.choice p) (bit c.args.clear p) (bit c.args.set p))
+  value = λ p. rw (bit-bit_xor, bit-bit_and, bit-bit_xor) (differ_chosen (bit c.args.choice p) (bit c.args.clear p) (bit c.args.set p));
 }

@@ -1,4 +1,4 @@
-use Rattle.std.proofs.Common.{◌≡◌, ℕ, ◌<◌, Bool, refl, sym, ap, ◌∙◌, arith, get_or}
+use Rattle.std.proofs.Common.{sym, ap, ◌∙◌, arith}
 use Rattle.cm_bits.specs.Bit.{bit}
 use Rattle.std.specs.Bool.{beq}
 use Rattle.cm_model.proofs.Bits.{bit-bit_not, beq-false}
@@ -6,5 +6,5 @@ use Rattle.cm_element.proofs.chip.holding.Goals as goal
 
 pub returns-else-sense : goal.returns-else-sense
 returns-else-sense c = record {
-  value = λ p h. bit-bit_not c.args.flag_plane p (omega arith) h ∙ sym (ap (beq (bit c.args.flag_plane p)) c.if-sense.false ∙ beq-false (bit c.args.flag_plane p))
+  value = λ p h. bit-bit_not c.args.flag_plane p (omega arith) h ∙ sym (ap (beq (bit c.args.flag_plane p)) c.if-sense.false ∙ beq-false (bit c.args.flag_plane p));
 }

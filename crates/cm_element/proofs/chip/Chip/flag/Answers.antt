@@ -1,5 +1,3 @@
-use Rattle.std.proofs.Common.{◌≡◌, ℕ, ◌<◌, refl, sym, ap, ◌∙◌, arith, get_or}
-use Rattle.cm_bits.specs.Bit.{bit}
 use Rattle.cm_element.proofs.Planes.{flag_read, planes_are_whole}
 use Rattle.cm_element.proofs.chip.Chip.flag.Goals as goal
 

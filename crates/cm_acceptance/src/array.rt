@@ -1,0 +1,419 @@
+//! Machines of many chips: the torus, the wire, refusals, long runs, and a plain program beside them.
+
+ghost use Rattle.std.specs.Prelude.{◌≡◌, ◌<◌, ◌≤◌, ◌^◌, ◌↔◌, IfOk, OnOk, OnErr, length};
+ghost use Rattle.cm_model.specs.Machine.{run_of};
+ghost use Rattle.cm_array.specs.Acts.{HasNoCycles};
+
+use cm_array::{Machine, MachineFault, Plain, RunFault, Runner};
+use cm_bits::{Addr, Dir, Field, FlagNo, Plane, Proc};
+use cm_model::{Act, Nano, PlainMachine};
+use cm_wire::chip_or;
+use std::alloc::{AllocError, Global};
+use std::test::Fail;
+
+fn address(number: u16) -> Addr
+    requires { number < 4096 }
+    ensures { result ≡ number }
+{
+    Addr::new(number).unwrap()
+}
+
+fn flag(number: u8) -> FlagNo
+    requires { number < 16 }
+    ensures { result ≡ number }
+{
+    FlagNo::new(number).unwrap()
+}
+
+fn processor(number: u8) -> Proc
+    requires { number < 16 }
+    ensures { result ≡ number }
+{
+    Proc::new(number).unwrap()
+}
+
+/// Flag 0 of every processor goes to flag 10, over the grid.
+fn flag_0_over_news(dir: Dir) -> Nano {
+    Nano {
+        a: address(0),
+        b: address(0),
+        read: flag(0),
+        write: flag(10),
+        cond: flag(8),
+        sense: false,
+        mem_table: 0xf0,
+        flag_table: 0xaa,
+        dir,
+    }
+}
+
+/// Gives one flag of the sixteen processors of a chip these bits; flag 8 stays as it is.
+fn poke_plane<const N: usize>(machine: &mut Machine<N, 7>, chip: u16, number: FlagNo, plane: Plane)
+    requires chip { chip < 2 ^ N }
+{
+    for p in 0u8..16 {
+        let _ = machine.poke_flag(chip, processor(p), number, plane >> p & 1 == 1);
+    }
+}
+
+/// What a caller knows of any runner.
+fn go_by<const N: usize, R: Runner<N, 7>>(
+    runner: &mut R,
+    machine: &mut Machine<N, 7>,
+    acts: &[Act],
+) -> Result<(), RunFault>
+    requires runner { R.ready }
+    requires no_cycles { HasNoCycles acts.now }
+    ensures long { (result ≡ Err RunFault.Long) ↔ (4096 < length acts.now) }
+    ensures ok { OnOk result (machine.new ≡ run_of N 7 machine.old acts.now) }
+    ensures err { OnErr result (machine.new ≡ machine.old) }
+{
+    runner.go(machine, acts)
+}
+
+/// Whether two machines of so many chips have the same bits and flags.
+fn are_same<const N: usize>(left: &Machine<N, 7>, right: &Machine<N, 7>, chips: u16) -> bool
+    requires chips { chips ≡ 2 ^ N }
+{
+    for c in 0..chips {
+        for number in 0u8..16 {
+            if left.chip(c).flag_plane(flag(number)) != right.chip(c).flag_plane(flag(number)) {
+                return false;
+            }
+        }
+        for at in 0u16..4096 {
+            if left.chip(c).plane(address(at)) != right.chip(c).plane(address(at)) {
+                return false;
+            }
+        }
+    }
+    true
+}
+
+#[test]
+fn a_bit_of_eight_chips_moves_to_one_processor(rt: HostRuntime) -> Result<(), Fail> {
+    let table = [
+        (Dir::North, 7u16, 0x8000u16),
+        (Dir::South, 1, 0x0080),
+        (Dir::East, 0, 0x0001),
+        (Dir::West, 1, 0x0004),
+    ];
+    for (dir, chip, plane) in table {
+        let mut machine = Machine::<3, 7>::blank(rt.alloc())?;
+        poke_plane(&mut machine, 1, flag(0), 0x0008);
+        let act = Act::Nano(flag_0_over_news(dir));
+        assert!(rt; Plain.go(&mut machine, &[act]).is_ok());
+        for c in 0u16..8 {
+            let want = if c == chip { plane } else { 0 };
+            assert_eq!(rt; machine.chip(c).flag_plane(flag(10)), want, "chip {c}");
+        }
+    }
+    Ok(())
+}
+
+#[test]
+fn southward_two_chips_send_their_last_rows_to_themselves(rt: HostRuntime) -> Result<(), Fail> {
+    let mut machine = Machine::<1, 7>::blank(rt.alloc())?;
+    poke_plane(&mut machine, 0, flag(0), 0xf000);
+    poke_plane(&mut machine, 1, flag(0), 0x1000);
+    let act = Act::Nano(flag_0_over_news(Dir::South));
+    assert!(rt; Plain.go(&mut machine, &[act]).is_ok());
+    assert_eq!(rt; machine.chip(0).flag_plane(flag(10)), 0x0001);
+    assert_eq!(rt; machine.chip(1).flag_plane(flag(10)), 0x000f);
+    Ok(())
+}
+
+#[test]
+fn one_processor_of_the_second_chip_drives_the_wire(rt: HostRuntime) -> Result<(), Fail> {
+    let mut machine = Machine::<1, 7>::blank(rt.alloc())?;
+    assert!(rt; !machine.wire());
+    poke_plane(&mut machine, 1, flag(9), 0x8000);
+    assert!(rt; machine.wire());
+    assert!(rt; !chip_or(machine.chip(0)));
+    assert!(rt; chip_or(machine.chip(1)));
+    Ok(())
+}
+
+#[test]
+fn the_dimension_is_refused_before_the_room(rt: HostRuntime) {
+    let alloc = rt.alloc();
+    assert_eq!(rt;
+        Machine::<13, 7>::blank(alloc).err(),
+        Some(MachineFault::Dim)
+    );
+    assert_eq!(rt;
+        Machine::<13, 0>::blank(alloc).err(),
+        Some(MachineFault::Dim)
+    );
+    assert_eq!(rt;
+        Machine::<0, 0>::blank(alloc).err(),
+        Some(MachineFault::Cap)
+    );
+    assert_eq!(rt;
+        Machine::<0, 16>::blank(alloc).err(),
+        Some(MachineFault::Cap)
+    );
+    assert_eq!(rt; Machine::<0, 1>::blank(alloc).err(), None);
+    assert_eq!(rt; Machine::<1, 15>::blank(alloc).err(), None);
+}
+
+/// So many times the instruction that moves flag 0.
+fn repeated(alloc: Global, count: usize) -> Result<Vec<Act>, AllocError>
+    ensures { IfOk result (λ acts. HasNoCycles acts.items) }
+{
+    let mut acts = Vec::with_capacity(alloc, count)?;
+    for _turn in 0..count {
+        let Ok(()) = acts.push(Act::Nano(flag_0_over_news(Dir::East))) else {
+            return Err(AllocError);
+        };
+    }
+    Ok(acts)
+}
+
+#[test]
+fn a_stretch_has_at_most_4096_acts(rt: HostRuntime) -> Result<(), Fail> {
+    let mut machine = Machine::<1, 7>::blank(rt.alloc())?;
+    poke_plane(&mut machine, 1, flag(0), 0x1248);
+    machine.poke(0, processor(7), address(4095), true);
+    let before = machine.copy(rt.alloc())?;
+    assert!(rt; are_same(&machine, &before, 2));
+    let too_long = repeated(rt.alloc(), 4097)?;
+    assert_eq!(rt;
+        Plain.go(&mut machine, too_long.as_slice()),
+        Err(RunFault::Long)
+    );
+    assert!(rt; are_same(&machine, &before, 2));
+    assert_eq!(rt; Plain.go(&mut machine, &[]), Ok(()));
+    assert_eq!(rt; Plain.go(&mut machine, &[Act::Sense, Act::Sense]), Ok(()));
+    assert!(rt; are_same(&machine, &before, 2));
+    let longest = repeated(rt.alloc(), 4096)?;
+    assert_eq!(rt; Plain.go(&mut machine, longest.as_slice()), Ok(()));
+    assert!(rt; !are_same(&machine, &before, 2));
+    Ok(())
+}
+
+#[test]
+fn flag_8_cannot_be_poked_in_any_chip(rt: HostRuntime) -> Result<(), Fail> {
+    let mut machine = Machine::<2, 7>::blank(rt.alloc())?;
+    let before = machine.copy(rt.alloc())?;
+    for c in 0u16..4 {
+        assert!(rt;
+            machine
+                .poke_flag(c, processor(c as u8), flag(8), true)
+                .is_err()
+        );
+    }
+    assert!(rt; are_same(&machine, &before, 4));
+    Ok(())
+}
+
+/// An instruction of an addition of 32 bits: at 0 the carry in flag 0 is cleared, and then memory
+/// bit `turn - 1` becomes its sum with the bit 32 further on.
+fn addition_step(turn: u16) -> Nano
+    requires { turn < 33 }
+{
+    let (at, mem_table, flag_table) = if turn == 0 {
+        (0, 0xf0, 0x00)
+    } else {
+        (turn - 1, 0x96, 0xe8)
+    };
+    Nano {
+        a: address(at),
+        b: address(at + 32),
+        read: flag(0),
+        write: flag(0),
+        cond: flag(8),
+        sense: false,
+        mem_table,
+        flag_table,
+        dir: Dir::North,
+    }
+}
+
+/// So many additions of 32 bits, and looks at the wire up to 4,096 acts.
+fn additions(alloc: Global, count: u16) -> Result<Vec<Act>, AllocError>
+    ensures { IfOk result (λ acts. HasNoCycles acts.items) }
+{
+    let mut acts = Vec::with_capacity(alloc, 4096)?;
+    for turn in 0u16..4096 {
+        let act = if turn / 33 < count {
+            Act::Nano(addition_step(turn % 33))
+        } else {
+            Act::Sense
+        };
+        let Ok(()) = acts.push(act) else {
+            return Err(AllocError);
+        };
+    }
+    Ok(acts)
+}
+
+// No clock is read: what took more than the time of a test would fail it.
+#[test]
+fn the_largest_machine_adds_124_times_in_one_stretch(rt: HostRuntime) -> Result<(), Fail> {
+    let mut machine = Machine::<12, 7>::blank(rt.alloc())?;
+    for chip in [0u16, 63, 4095] {
+        for bit in 0u16..32 {
+            machine.poke(
+                chip,
+                processor(3),
+                address(32 + bit),
+                0x0123_4567u32 >> bit & 1 == 1,
+            );
+        }
+    }
+    let acts = additions(rt.alloc(), 124)?;
+    assert_eq!(rt; Plain.go(&mut machine, acts.as_slice()), Ok(()));
+    let sum = Field::new(0, 32)?;
+    for chip in [0u16, 63, 4095] {
+        assert_eq!(rt; machine.chip(chip).field(processor(3), sum), 2_367_004_132);
+        assert_eq!(rt; machine.chip(chip).field(processor(2), sum), 0);
+    }
+    assert_eq!(rt; machine.chip(1).field(processor(3), sum), 0);
+    Ok(())
+}
+
+/// Numbers that look random and are always the same.
+#[derive(Drop)]
+struct Draws {
+    state: u32,
+}
+
+impl Draws {
+    fn below(&mut self, limit: u16) -> u16
+        requires some { 0 < limit }
+        ensures within { result < limit }
+    {
+        self.state ^= self.state << 13;
+        self.state ^= self.state >> 17;
+        self.state ^= self.state << 5;
+        (self.state >> 16) as u16 % limit
+    }
+
+    /// An instruction on the first eight addresses, with each flag in each part, about half of the
+    /// time under a condition.
+    fn nano(&mut self) -> Nano {
+        let cond = if self.below(2) == 0 {
+            8
+        } else {
+            self.below(16)
+        };
+        Nano {
+            a: address(self.below(8)),
+            b: address(self.below(8)),
+            read: flag(self.below(16) as u8),
+            write: flag(self.write()),
+            cond: flag(cond as u8),
+            sense: cond != 8 && self.below(2) == 1,
+            mem_table: self.below(256) as u8,
+            flag_table: self.below(256) as u8,
+            dir: self.dir(),
+        }
+    }
+
+    /// Every second instruction goes over the grid or the chain.
+    fn write(&mut self) -> u8
+        ensures within { result < 16 }
+    {
+        match self.below(4) {
+            0 => 10,
+            1 => 11,
+            _ => self.below(16) as u8,
+        }
+    }
+
+    fn dir(&mut self) -> Dir {
+        match self.below(4) {
+            0 => Dir::North,
+            1 => Dir::East,
+            2 => Dir::West,
+            _ => Dir::South,
+        }
+    }
+
+    /// Forty acts, of which every eighth looks at the wire.
+    fn acts(&mut self, alloc: Global) -> Result<Vec<Act>, AllocError>
+        ensures { IfOk result (λ acts. HasNoCycles acts.items) }
+    {
+        let mut acts = Vec::new(alloc);
+        for turn in 0..40 {
+            let act = if turn % 8 == 7 {
+                Act::Sense
+            } else {
+                Act::Nano(self.nano())
+            };
+            let Ok(()) = acts.push(act) else {
+                return Err(AllocError);
+            };
+        }
+        Ok(acts)
+    }
+}
+
+/// Whether the two machines have the same flags, and the same bits at the first eight addresses.
+fn agree<const N: usize>(machine: &Machine<N, 7>, plain: &PlainMachine<N>, chips: u16) -> bool
+    requires chips { chips ≡ 2 ^ N }
+{
+    for c in 0..chips {
+        for p in 0u8..16 {
+            let proc = processor(p);
+            for number in 0u8..16 {
+                let number = flag(number);
+                if machine.chip(c).flag(proc, number) != plain.flag(c, proc, number) {
+                    return false;
+                }
+            }
+            for at in 0u16..8 {
+                let at = address(at);
+                if machine.chip(c).read(proc, at) != plain.read(c, proc, at) {
+                    return false;
+                }
+            }
+        }
+    }
+    true
+}
+
+/// Whether a machine agrees with a plain one after each of ten stretches of forty acts.
+fn stays_plain<const N: usize>(alloc: Global, chips: u16) -> Result<bool, Fail>
+    requires dimension { N ≤ 12 }
+    requires chips { chips ≡ 2 ^ N }
+{
+    let mut machine = Machine::<N, 7>::blank(alloc)?;
+    let mut plain = PlainMachine::<N>::blank(alloc, 8)?;
+    let mut draws = Draws { state: 0x2545_f491 };
+    for c in 0..chips {
+        for p in 0u8..16 {
+            let number = flag(p);
+            let bit = draws.below(2) == 1;
+            let _ = machine.poke_flag(c, processor(p), number, bit);
+            plain.poke_flag(c, processor(p), number, bit);
+        }
+    }
+    for _stretch in 0..10 {
+        let acts = draws.acts(alloc)?;
+        if go_by(&mut Plain, &mut machine, acts.as_slice()).is_err() {
+            return Ok(false);
+        }
+        for act in &acts {
+            if let Act::Nano(nano) = act {
+                plain.step(alloc, nano)?;
+            }
+        }
+        if !agree(&machine, &plain, chips) {
+            return Ok(false);
+        }
+    }
+    Ok(true)
+}
+
+#[test]
+fn every_size_goes_as_a_plain_machine_does(rt: HostRuntime) -> Result<(), Fail> {
+    let alloc = rt.alloc();
+    assert!(rt; stays_plain::<0>(alloc, 1)?);
+    assert!(rt; stays_plain::<1>(alloc, 2)?);
+    assert!(rt; stays_plain::<2>(alloc, 4)?);
+    assert!(rt; stays_plain::<3>(alloc, 8)?);
+    assert!(rt; stays_plain::<5>(alloc, 32)?);
+    Ok(())
+}

@@ -1,0 +1,5 @@
+mod Lists
+mod Computing
+mod Storing
+mod Wholes
+mod Machines

@@ -1,0 +1,61 @@
+-- Blank chips are whole, and a poke keeps a chip whole.
+use Rattle.std.proofs.Common.{◌≡◌, ℕ, ◌<◌, Bool, true, false, List, set, sym, ◌∙◌, subst, arith, ⊎_elim, get_or-set_other, Result, Ok, Err, IsErr, OnOk, OnErr, ◌↔◌, ◌≤◌}
+use Rattle.std.proofs.lemmas.Bool.{cases_lt}
+use Rattle.std.proofs.lemmas.List.{length-set, set_past, length-replicate, get_or-replicate}
+use Rattle.cm_model.specs.Processor.{Processor, blank_processor}
+use Rattle.cm_model.specs.Chip.{processor_at, no_processor, blank_chip, with_memory_bit, with_flag}
+use Rattle.cm_model.specs.Whole.{IsProcessor, IsChip}
+use Rattle.cm_model.proofs.Each.{length-each_from, get_or-each_below}
+use Rattle.cm_array.proofs.Lists.{each_after_set}
+
+blank_processor_is_whole : IsProcessor blank_processor
+unfolding blank_processor
+blank_processor_is_whole = record {
+  memory = length-replicate 4096 false;
+  flags = length-replicate 16 false;
+  zero = get_or-replicate 16 8 false false (omega arith);
+}
+
+pub blank_chip_is_whole : IsChip blank_chip
+unfolding blank_chip
+blank_chip_is_whole = record {
+  count = length-each_from 0 16 (λ p. blank_processor);
+  each = λ p h. subst (λ (q : Processor). IsProcessor q) (sym (get_or-each_below 16 (λ p. blank_processor) p no_processor h)) blank_processor_is_whole;
+}
+
+-- a chip in which one processor is another whole one
+with_processor : (chip : List Processor) (p : ℕ) (processor : Processor) → IsChip chip → (p < 16 → IsProcessor processor) → IsChip (set chip p processor)
+with_processor chip p processor h new =
+    ⊎_elim
+    (λ (below : p < 16). record {
+      count = length-set chip p processor ∙ h.count;
+      each = each_after_set (λ (q : Processor). IsProcessor q) chip no_processor p processor 16 h.count h.each (new below);
+    })
+    (λ (past : 16 ≤ p). subst (λ (c : List Processor). IsChip c) (sym (set_past chip p processor (omega (arith, h.count)))) h)
+    (cases_lt p 16)
+
+IsChip-with_memory_bit : (chip : List Processor) (p at : ℕ) (b : Bool) → IsChip chip → IsChip (with_memory_bit chip p at b)
+unfolding with_memory_bit
+IsChip-with_memory_bit chip p at b h =
+    with_processor chip p (record (processor_at chip p) { memory = set (processor_at chip p).memory at b }) h
+    (λ l. record { memory = length-set (processor_at chip p).memory at b ∙ (h.each p l).memory; flags = (h.each p l).flags; zero = (h.each p l).zero })
+
+-- a chip of which a memory bit was put
+pub IsChip-poked_bit : (chip next : List Processor) (p at : ℕ) (b : Bool) → next ≡ with_memory_bit chip p at b → IsChip chip → IsChip next
+IsChip-poked_bit chip next p at b is h = subst (λ (c : List Processor). IsChip c) (sym is) (IsChip-with_memory_bit chip p at b h)
+
+IsChip-with_flag : (chip : List Processor) (p number : ℕ) (b : Bool) → (number ≡ 8 → ⊥) → IsChip chip → IsChip (with_flag chip p number b)
+unfolding with_flag
+IsChip-with_flag chip p number b other h =
+    with_processor chip p (record (processor_at chip p) { flags = set (processor_at chip p).flags number b }) h
+    (λ l. record {
+      memory = (h.each p l).memory;
+      flags = length-set (processor_at chip p).flags number b ∙ (h.each p l).flags;
+      zero = get_or-set_other (processor_at chip p).flags number 8 b false (λ e. other (sym e)) ∙ (h.each p l).zero;
+    })
+
+-- a chip of which a flag was put, or not
+pub IsChip-poked_flag : {X Y : Type 0} (result : Result X Y) (chip next : List Processor) (p number : ℕ) (b : Bool)
+    → (IsErr result ↔ (number ≡ 8)) → OnOk result (next ≡ with_flag chip p number b) → OnErr result (next ≡ chip) → IsChip chip → IsChip next
+IsChip-poked_flag (Ok x) chip next p number b refused ok err h = subst (λ (c : List Processor). IsChip c) (sym ok) (IsChip-with_flag chip p number b (λ e. let wrong : false ≡ true = refused.1 e in cc) h)
+IsChip-poked_flag (Err y) chip next p number b refused ok err h = subst (λ (c : List Processor). IsChip c) (sym err) h

@@ -1,0 +1,5 @@
+pub mod Rows
+pub mod Parts
+pub mod Faults
+pub mod Acts
+pub mod Pokes

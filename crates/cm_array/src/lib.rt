@@ -1,0 +1,9 @@
+//! The machine of 2^N chips, all of which step at once, and the runner of one thread.
+#![tactic(auto)]
+
+mod machine;
+mod runner;
+mod stepping;
+
+pub use machine::{Machine, MachineFault};
+pub use runner::{Plain, RunFault, Runner};
