@@ -17,6 +17,9 @@ pub mod Torus
 pub mod Values
 pub mod Incoming
 mod Made
+mod Filtered
+mod Sorting
+mod Cycles
 pub mod Counting
 pub mod Conserving
 pub mod Accounting

@@ -9,6 +9,9 @@ mod grid;
 mod laws;
 mod message;
 mod plain;
+mod plain_buffer;
+mod plain_letters;
+mod plain_router;
 
 pub use act::{Act, Nano};
 pub use found::Found;
@@ -23,3 +26,4 @@ pub use laws::{
 };
 pub use message::{Event, Message, Tag};
 pub use plain::PlainMachine;
+pub use plain_router::PlainRouter;

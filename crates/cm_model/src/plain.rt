@@ -13,7 +13,7 @@ use cm_bits::{Addr, FlagNo, NoMemory, Place, Proc};
 use std::alloc::Global;
 use std::marker::Model;
 
-const PROCESSORS: u8 = 16;
+pub(crate) const PROCESSORS: u8 = 16;
 
 const FLAGS: usize = 16;
 
@@ -28,7 +28,7 @@ const DAISY_FLAG: u8 = 11;
 /// Contracts see the list of its chips, each the list of its processors.
 #[derive(Debug, Drop)]
 pub struct PlainMachine<const N: usize> {
-    chips: Vec<PlainChip>,
+    pub(crate) chips: Vec<PlainChip>,
 }
 
 impl<const N: usize> Model for PlainMachine<N> {
@@ -40,8 +40,8 @@ impl<const N: usize> Model for PlainMachine<N> {
 }
 
 #[derive(Debug, Drop)]
-struct PlainChip {
-    processors: Vec<PlainProcessor>,
+pub(crate) struct PlainChip {
+    pub(crate) processors: Vec<PlainProcessor>,
 }
 
 impl Model for PlainChip {
@@ -53,9 +53,9 @@ impl Model for PlainChip {
 }
 
 #[derive(Debug, Drop)]
-struct PlainProcessor {
-    memory: Vec<bool>,
-    flags: Vec<bool>,
+pub(crate) struct PlainProcessor {
+    pub(crate) memory: Vec<bool>,
+    pub(crate) flags: Vec<bool>,
 }
 
 impl Model for PlainProcessor {
@@ -183,7 +183,7 @@ impl<const N: usize> PlainMachine<N> {
         &chip.processors[usize::from(proc.get())]
     }
 
-    fn chip_count() -> u16
+    pub(crate) fn chip_count() -> u16
         requires dimension { N ≤ 12 }
         ensures value { result ≡ 2 ^ N }
     {
@@ -228,7 +228,7 @@ impl PlainProcessor {
         Ok(PlainProcessor { memory, flags })
     }
 
-    fn copy(&self, alloc: Global) -> Result<PlainProcessor, NoMemory>
+    pub(crate) fn copy(&self, alloc: Global) -> Result<PlainProcessor, NoMemory>
         ensures value { IfOk result (λ processor. processor ≡ self.now) }
     {
         let memory = self.memory.to_vec(alloc)?;
@@ -242,7 +242,7 @@ impl PlainProcessor {
         bit_at(&self.memory, usize::from(at.get()))
     }
 
-    fn flag(&self, number: FlagNo) -> bool
+    pub(crate) fn flag(&self, number: FlagNo) -> bool
         ensures value { result ≡ flag self.now number }
     {
         bit_at(&self.flags, usize::from(number.get()))
@@ -254,7 +254,7 @@ impl PlainProcessor {
         put(&mut self.memory, usize::from(at.get()), bit);
     }
 
-    fn poke_flag(&mut self, number: FlagNo, bit: bool)
+    pub(crate) fn poke_flag(&mut self, number: FlagNo, bit: bool)
         ensures value { self.new ≡ record self.old { flags = slice_set self.old.flags number bit } }
     {
         put(&mut self.flags, usize::from(number.get()), bit);
@@ -320,7 +320,7 @@ fn bit_at(bits: &[bool], index: usize) -> bool
 }
 
 /// Replaces a bit of a list: there is nothing to replace beyond its end.
-fn put(bits: &mut [bool], index: usize, bit: bool)
+pub(crate) fn put(bits: &mut [bool], index: usize, bit: bool)
     ensures value { bits.new ≡ slice_set bits.old index bit }
 {
     if index < bits.len() {
