@@ -26,6 +26,7 @@ after_crossings-more n cap machine d =
 pub after_cycle-is : (n cap : ℕ) (machine : Machine) → after_act n cap machine act.Cycle ≡ machine_after_delivery n (after_crossings n cap (machine_after_injection n cap machine) n)
 after_cycle-is n cap machine = after_steps-append n cap (machine_after_injection n cap machine) (map Cross (range_with_len 0 n)) (Deliver ∷ [])
 
+-- only delivery counts a petit cycle
 clock-machine_after_injection : (n cap : ℕ) (machine : Machine) → (machine_after_injection n cap machine).clock ≡ machine.clock
 unfolding machine_after_injection
 clock-machine_after_injection n cap machine = refl

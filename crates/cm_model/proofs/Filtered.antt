@@ -15,15 +15,18 @@ range-more first (suc count) =
     let last : first + 1 + count ≡ first + suc count = omega arith in
     ap (range_with_len first) more ∙ ap (λ z. first ∷ z) (range-more (first + 1) count ∙ ap (λ j. range_with_len (first + 1) count ++ j ∷ []) last)
 
+-- those of one number more that pass
 filter-more : (p : ℕ → Bool) (n : ℕ) → filter p (range_with_len 0 (n + 1)) ≡ filter p (range_with_len 0 n) ++ cond (p n) (n ∷ []) []
 filter-more p n =
     ap (filter p) (range-more 0 n)
     ∙ (filter-append p (range_with_len 0 n) ((0 + n) ∷ [])
     ∙ ap (λ (j : ℕ). filter p (range_with_len 0 n) ++ cond (p j) (j ∷ []) []) (let same : 0 + n ≡ n = omega arith in same))
 
+-- a number that passes is pushed
 pub filtered_in : (p : ℕ → Bool) (n x : ℕ) (before after : List ℕ) → before ≡ filter p (range_with_len 0 n) → after ≡ before ++ x ∷ [] → x ≡ n → p n ≡ true → after ≡ filter p (range_with_len 0 (n + 1))
 filtered_in p n x before after grown is number passes = is ∙ (λ i. grown i ++ number i ∷ []) ∙ sym (filter-more p n ∙ rw passes refl)
 
+-- one that does not is left out
 pub filtered_out : (p : ℕ → Bool) (n : ℕ) (before : List ℕ) → before ≡ filter p (range_with_len 0 n) → p n ≡ false → before ≡ filter p (range_with_len 0 (n + 1))
 filtered_out p n before grown fails = grown ∙ sym (filter-more p n ∙ rw fails (append-nil (filter p (range_with_len 0 n))))
 

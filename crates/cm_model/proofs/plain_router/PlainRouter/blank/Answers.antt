@@ -15,6 +15,7 @@ bare n addresses = record {
   clock = 0;
 }
 
+-- with 4,096 of them it is the blank machine
 bare-whole : (n addresses : ℕ) → addresses ≡ 4096 → bare n addresses ≡ blank_machine n
 unfolding blank_machine blank_chip blank_processor
 bare-whole n addresses full = ap (bare n) full
@@ -23,12 +24,11 @@ pub invariant_of-result : goal.invariant_of-result
 invariant_of-result g c = (
   c.requires.dimension,
   ap length c.in_ok-buffers.ensures.value ∙ length-each_from 0 (2 ^ g.row.N) _,
-  ap length c.in_ok-logs.ensures.value ∙ length-each_from 0 (2 ^ g.row.N) _
+  ap length c.in_ok-logs.ensures.value ∙ length-each_from 0 (2 ^ g.row.N) _,
 )
 
 pub returns-clause-blank : goal.returns-clause-blank
 returns-clause-blank g c = λ full.
-    let made : Machine = bare g.row.N c.args.addresses in
     (λ i. record {
       chips = c.in_ok-chips.ensures.value i;
       buffers = c.in_ok-buffers.ensures.value i;
