@@ -18,7 +18,7 @@ pub record State : Type 0 where
   pub standing : List Standing
   -- by chip, its events since the machine was made
   pub logs : List (List Event)
-  -- petit cycles since the machine was made
+  -- the counter of petit cycles
   pub clock : ℕ
   -- the petit cycle since it was handed over, from 1 on
   pub cycle : ℕ
