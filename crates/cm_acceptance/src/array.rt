@@ -1,8 +1,8 @@
 //! Machines of many chips: the torus, the wire, refusals, long runs, and a plain program beside them.
 
-ghost use Rattle.std.specs.Prelude.{◌≡◌, ◌<◌, ◌≤◌, ◌^◌, ◌↔◌, IfOk, OnOk, OnErr, length};
+ghost use Rattle.std.specs.Prelude.{◌≡◌, ◌<◌, ◌≤◌, ◌^◌, ◌↔◌, [], IfOk, IsOk, IsTrue, OnOk, OnErr};
 ghost use Rattle.cm_model.specs.Machine.{run_of};
-ghost use Rattle.cm_array.specs.Acts.{HasNoCycles};
+ghost use Rattle.cm_array.specs.Acts.{HasNoCycles, is_long};
 
 use cm_array::{Machine, MachineFault, Plain, RunFault, Runner};
 use cm_bits::{Addr, Dir, Field, FlagNo, Plane, Proc};
@@ -47,6 +47,21 @@ fn flag_0_over_news(dir: Dir) -> Nano {
     }
 }
 
+/// A flag of every processor goes to flag 11, over the chain.
+fn flag_over_chain(read: FlagNo) -> Nano {
+    Nano {
+        a: address(0),
+        b: address(0),
+        read,
+        write: flag(11),
+        cond: flag(8),
+        sense: false,
+        mem_table: 0xf0,
+        flag_table: 0xaa,
+        dir: Dir::North,
+    }
+}
+
 /// Gives one flag of the sixteen processors of a chip these bits; flag 8 stays as it is.
 fn poke_plane<const N: usize>(machine: &mut Machine<N, 7>, chip: u16, number: FlagNo, plane: Plane)
     requires chip { chip < 2 ^ N }
@@ -64,7 +79,8 @@ fn go_by<const N: usize, R: Runner<N, 7>>(
 ) -> Result<(), RunFault>
     requires runner { R.ready }
     requires no_cycles { HasNoCycles acts.now }
-    ensures long { (result ≡ Err RunFault.Long) ↔ (4096 < length acts.now) }
+    ensures long { (result ≡ Err RunFault.Long) ↔ IsTrue (is_long acts.now) }
+    ensures empty { acts.now ≡ [] → IsOk result }
     ensures ok { OnOk result (machine.new ≡ run_of N 7 machine.old acts.now) }
     ensures err { OnErr result (machine.new ≡ machine.old) }
 {
@@ -120,6 +136,29 @@ fn southward_two_chips_send_their_last_rows_to_themselves(rt: HostRuntime) -> Re
     assert!(rt; Plain.go(&mut machine, &[act]).is_ok());
     assert_eq!(rt; machine.chip(0).flag_plane(flag(10)), 0x0001);
     assert_eq!(rt; machine.chip(1).flag_plane(flag(10)), 0x000f);
+    Ok(())
+}
+
+#[test]
+fn northward_one_chip_sends_its_first_row_to_its_last(rt: HostRuntime) -> Result<(), Fail> {
+    let mut machine = Machine::<0, 7>::blank(rt.alloc())?;
+    poke_plane(&mut machine, 0, flag(0), 0x000f);
+    let act = Act::Nano(flag_0_over_news(Dir::North));
+    assert!(rt; Plain.go(&mut machine, &[act]).is_ok());
+    assert_eq!(rt; machine.chip(0).flag_plane(flag(10)), 0xf000);
+    Ok(())
+}
+
+#[test]
+fn the_chain_writes_one_flag_and_shows_the_next(rt: HostRuntime) -> Result<(), Fail> {
+    let mut machine = Machine::<0, 7>::blank(rt.alloc())?;
+    poke_plane(&mut machine, 0, flag(0), 0x8001);
+    let onward = Act::Nano(flag_over_chain(flag(0)));
+    assert!(rt; Plain.go(&mut machine, &[onward]).is_ok());
+    assert_eq!(rt; machine.chip(0).flag_plane(flag(11)), 0x0002);
+    let again = Act::Nano(flag_over_chain(flag(11)));
+    assert!(rt; Plain.go(&mut machine, &[again]).is_ok());
+    assert_eq!(rt; machine.chip(0).flag_plane(flag(11)), 0x0004);
     Ok(())
 }
 
