@@ -1,36 +1,17 @@
 //! Machines of many chips: the torus, the wire, refusals, long runs, and a plain program beside them.
 
-ghost use Rattle.std.specs.Prelude.{◌≡◌, ◌<◌, ◌≤◌, ◌^◌, ◌↔◌, [], IfOk, IsOk, IsTrue, OnOk, OnErr};
+ghost use Rattle.std.specs.Prelude.{◌≡◌, ◌<◌, ◌≤◌, ◌^◌, ◌↔◌, [], IsFalse, IsOk, IsTrue, OnOk, OnErr};
 ghost use Rattle.cm_model.specs.Machine.{run_of};
-ghost use Rattle.cm_array.specs.Acts.{HasNoCycles, is_long};
+ghost use Rattle.cm_array.specs.Acts.{is_late, is_long};
 
+use crate::draws::Draws;
+use crate::machines::{address, are_same, flag, poke_plane, processor};
 use cm_array::{Machine, MachineFault, Plain, RunFault, Runner};
-use cm_bits::{Addr, Dir, Field, FlagNo, Plane, Proc};
+use cm_bits::{Dir, Field, FlagNo};
 use cm_model::{Act, Nano, PlainMachine};
 use cm_wire::chip_or;
 use std::alloc::{AllocError, Global};
 use std::test::Fail;
-
-fn address(number: u16) -> Addr
-    requires { number < 4096 }
-    ensures { result ≡ number }
-{
-    Addr::new(number).unwrap()
-}
-
-fn flag(number: u8) -> FlagNo
-    requires { number < 16 }
-    ensures { result ≡ number }
-{
-    FlagNo::new(number).unwrap()
-}
-
-fn processor(number: u8) -> Proc
-    requires { number < 16 }
-    ensures { result ≡ number }
-{
-    Proc::new(number).unwrap()
-}
 
 /// Flag 0 of every processor goes to flag 10, over the grid.
 fn flag_0_over_news(dir: Dir) -> Nano {
@@ -62,15 +43,6 @@ fn flag_over_chain(read: FlagNo) -> Nano {
     }
 }
 
-/// Gives one flag of the sixteen processors of a chip these bits; flag 8 stays as it is.
-fn poke_plane<const N: usize>(machine: &mut Machine<N, 7>, chip: u16, number: FlagNo, plane: Plane)
-    requires chip { chip < 2 ^ N }
-{
-    for p in 0u8..16 {
-        let _ = machine.poke_flag(chip, processor(p), number, plane >> p & 1 == 1);
-    }
-}
-
 /// What a caller knows of any runner.
 fn go_by<const N: usize, R: Runner<N, 7>>(
     runner: &mut R,
@@ -78,32 +50,14 @@ fn go_by<const N: usize, R: Runner<N, 7>>(
     acts: &[Act],
 ) -> Result<(), RunFault>
     requires runner { R.ready }
-    requires no_cycles { HasNoCycles acts.now }
     ensures long { (result ≡ Err RunFault.Long) ↔ IsTrue (is_long acts.now) }
+    ensures clock { (result ≡ Err RunFault.Clock)
+        ↔ (IsFalse (is_long acts.now) × IsTrue (is_late machine.old.clock acts.now)) }
     ensures empty { acts.now ≡ [] → IsOk result }
     ensures ok { OnOk result (machine.new ≡ run_of N 7 machine.old acts.now) }
     ensures err { OnErr result (machine.new ≡ machine.old) }
 {
     runner.go(machine, acts)
-}
-
-/// Whether two machines of so many chips have the same bits and flags.
-fn are_same<const N: usize>(left: &Machine<N, 7>, right: &Machine<N, 7>, chips: u16) -> bool
-    requires chips { chips ≡ 2 ^ N }
-{
-    for c in 0..chips {
-        for number in 0u8..16 {
-            if left.chip(c).flag_plane(flag(number)) != right.chip(c).flag_plane(flag(number)) {
-                return false;
-            }
-        }
-        for at in 0u16..4096 {
-            if left.chip(c).plane(address(at)) != right.chip(c).plane(address(at)) {
-                return false;
-            }
-        }
-    }
-    true
 }
 
 #[test]
@@ -196,10 +150,36 @@ fn the_dimension_is_refused_before_the_room(rt: HostRuntime) {
     assert_eq!(rt; Machine::<1, 15>::blank(alloc).err(), None);
 }
 
+#[test]
+fn faults_tell_their_causes(rt: HostRuntime) -> Result<(), Fail> {
+    let alloc = rt.alloc();
+    let runs = [
+        (
+            RunFault::Long,
+            "more than 4,096 acts or 64 petit cycles in one stretch",
+        ),
+        (RunFault::Clock, "more than 2^63 - 1 petit cycles in all"),
+        (RunFault::Memory, "out of memory"),
+    ];
+    for (fault, cause) in runs {
+        assert_eq!(rt; format!(in alloc; "{fault}")?.as_str(), cause);
+    }
+    let machines = [
+        (MachineFault::Dim, "more than 12 dimensions"),
+        (
+            MachineFault::Cap,
+            "a router's buffer has room for 1 to 15 messages",
+        ),
+        (MachineFault::Memory, "out of memory"),
+    ];
+    for (fault, cause) in machines {
+        assert_eq!(rt; format!(in alloc; "{fault}")?.as_str(), cause);
+    }
+    Ok(())
+}
+
 /// So many times the instruction that moves flag 0.
-fn repeated(alloc: Global, count: usize) -> Result<Vec<Act>, AllocError>
-    ensures { IfOk result (λ acts. HasNoCycles acts.items) }
-{
+fn repeated(alloc: Global, count: usize) -> Result<Vec<Act>, AllocError> {
     let mut acts = Vec::with_capacity(alloc, count)?;
     for _turn in 0..count {
         let Ok(()) = acts.push(Act::Nano(flag_0_over_news(Dir::East))) else {
@@ -270,9 +250,7 @@ fn addition_step(turn: u16) -> Nano
 }
 
 /// So many additions of 32 bits, and looks at the wire up to 4,096 acts.
-fn additions(alloc: Global, count: u16) -> Result<Vec<Act>, AllocError>
-    ensures { IfOk result (λ acts. HasNoCycles acts.items) }
-{
+fn additions(alloc: Global, count: u16) -> Result<Vec<Act>, AllocError> {
     let mut acts = Vec::with_capacity(alloc, 4096)?;
     for turn in 0u16..4096 {
         let act = if turn / 33 < count {
@@ -312,81 +290,22 @@ fn the_largest_machine_adds_124_times_in_one_stretch(rt: HostRuntime) -> Result<
     Ok(())
 }
 
-/// Numbers that look random and are always the same.
-#[derive(Drop)]
-struct Draws {
-    state: u32,
-}
-
-impl Draws {
-    fn below(&mut self, limit: u16) -> u16
-        requires some { 0 < limit }
-        ensures within { result < limit }
-    {
-        self.state ^= self.state << 13;
-        self.state ^= self.state >> 17;
-        self.state ^= self.state << 5;
-        (self.state >> 16) as u16 % limit
-    }
-
-    /// An instruction on the first eight addresses, with each flag in each part, about half of the
-    /// time under a condition.
-    fn nano(&mut self) -> Nano {
-        let cond = if self.below(2) == 0 {
-            8
+/// Forty acts on the first eight addresses, of which every eighth looks at the wire.
+fn drawn_acts(alloc: Global, draws: &mut Draws) -> Result<Vec<Act>, AllocError> {
+    let mut acts = Vec::new(alloc);
+    for turn in 0..40 {
+        let act = if turn % 8 == 7 {
+            Act::Sense
         } else {
-            self.below(16)
+            let a = address(draws.below(8));
+            let b = address(draws.below(8));
+            Act::Nano(draws.nano(a, b))
         };
-        Nano {
-            a: address(self.below(8)),
-            b: address(self.below(8)),
-            read: flag(self.below(16) as u8),
-            write: flag(self.write()),
-            cond: flag(cond as u8),
-            sense: cond != 8 && self.below(2) == 1,
-            mem_table: self.below(256) as u8,
-            flag_table: self.below(256) as u8,
-            dir: self.dir(),
-        }
+        let Ok(()) = acts.push(act) else {
+            return Err(AllocError);
+        };
     }
-
-    /// Every second instruction goes over the grid or the chain.
-    fn write(&mut self) -> u8
-        ensures within { result < 16 }
-    {
-        match self.below(4) {
-            0 => 10,
-            1 => 11,
-            _ => self.below(16) as u8,
-        }
-    }
-
-    fn dir(&mut self) -> Dir {
-        match self.below(4) {
-            0 => Dir::North,
-            1 => Dir::East,
-            2 => Dir::West,
-            _ => Dir::South,
-        }
-    }
-
-    /// Forty acts, of which every eighth looks at the wire.
-    fn acts(&mut self, alloc: Global) -> Result<Vec<Act>, AllocError>
-        ensures { IfOk result (λ acts. HasNoCycles acts.items) }
-    {
-        let mut acts = Vec::new(alloc);
-        for turn in 0..40 {
-            let act = if turn % 8 == 7 {
-                Act::Sense
-            } else {
-                Act::Nano(self.nano())
-            };
-            let Ok(()) = acts.push(act) else {
-                return Err(AllocError);
-            };
-        }
-        Ok(acts)
-    }
+    Ok(acts)
 }
 
 /// Whether the two machines have the same flags, and the same bits at the first eight addresses.
@@ -420,7 +339,7 @@ fn stays_plain<const N: usize>(alloc: Global, chips: u16) -> Result<bool, Fail>
 {
     let mut machine = Machine::<N, 7>::blank(alloc)?;
     let mut plain = PlainMachine::<N>::blank(alloc, 8)?;
-    let mut draws = Draws { state: 0x2545_f491 };
+    let mut draws = Draws::new();
     for c in 0..chips {
         for p in 0u8..16 {
             let number = flag(p);
@@ -430,7 +349,7 @@ fn stays_plain<const N: usize>(alloc: Global, chips: u16) -> Result<bool, Fail>
         }
     }
     for _stretch in 0..10 {
-        let acts = draws.acts(alloc)?;
+        let acts = drawn_acts(alloc, &mut draws)?;
         if go_by(&mut Plain, &mut machine, acts.as_slice()).is_err() {
             return Ok(false);
         }

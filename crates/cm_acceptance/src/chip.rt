@@ -272,7 +272,7 @@ fn a_failed_read_writes_nothing(rt: HostRuntime) -> Result<(), Fail> {
 static FULL_ADDER_ANSWER: &[u8] =
     b"flag 0 ffff\nflag 1 0000\nflag 2 0000\nflag 3 0000\nflag 4 0000\nflag 5 0000\nflag 6 0000\nflag 7 ffff\nflag 8 0000\nflag 9 0000\nflag 10 0000\nflag 11 0000\nflag 12 0000\nflag 13 0000\nflag 14 0000\nflag 15 0000\nplane 5 ffff\n";
 
-// Made for `rt try --test --fail-alloc 1..`, which makes each allocation fail in turn.
+// Made for `rt try --test --fail-alloc N`, which makes the Nth allocation fail.
 #[test]
 fn a_refused_growth_changes_no_answer(rt: HostRuntime) {
     let Ok(end) = run_session(rt.alloc(), FULL_ADDER, 16, ROOM) else {

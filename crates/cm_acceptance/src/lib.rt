@@ -2,8 +2,20 @@
 #![tactic(auto)]
 
 #[cfg(test)]
+mod accounts;
+#[cfg(test)]
 mod array;
+#[cfg(test)]
+mod beside;
 #[cfg(test)]
 mod chip;
 #[cfg(test)]
+mod draws;
+#[cfg(test)]
 mod ends;
+#[cfg(test)]
+mod largest;
+#[cfg(test)]
+mod machines;
+#[cfg(test)]
+mod router;

@@ -1,109 +1,153 @@
--- The parts of a machine are a machine, with nothing on its way.
-use Rattle.std.proofs.Common.{◌≡◌, ℕ, ◌^◌, ◌<◌, ◌≤◌, List, [], ◌++◌, length, map, get_or, set, sym, ap, ◌∙◌, subst, arith, ⊎_elim}
-use Rattle.std.proofs.lemmas.Bool.{cases_lt}
-use Rattle.std.proofs.lemmas.List.{get_or_past, get_or_read, length-set}
-use Rattle.std.proofs.lemmas.List.Elements.{All-nil}
-use Rattle.std.specs.List.{All, range_with_len, filter_map, count_by}
-use Rattle.cm_element.specs.declared.outputs.Outputs.{Outputs}
-use Rattle.cm_model.specs.declared.act.Nano.{Nano as Instruction}
-use Rattle.cm_model.specs.declared.act.Act.TheVariants.{Nano}
-use Rattle.cm_model.specs.declared.message.Message.{Message}
-use Rattle.cm_model.specs.declared.message.Event.{Event}
+-- The parts of a machine stay the parts of a machine.
+use Rattle.std.proofs.Common.{◌≡◌, ℕ, ◌^◌, ◌<◌, ◌≤◌, List, [], length, get_or, set, refl, sym, ap, ◌∙◌, subst, arith}
+use Rattle.std.proofs.lemmas.List.{get_or_read, length-set, length-map}
+use Rattle.std.proofs.lemmas.Simd.{map-map}
+use Rattle.std.proofs.Math.Nat.{pow-le-pow_right}
+use Rattle.std.specs.List.{All, range_with_len}
+use Rattle.std.specs.Vec.{with_item}
+use Rattle.cm_model.specs.declared.act.Act.{Act}
 use Rattle.cm_model.specs.Processor.{Processor}
-use Rattle.cm_model.specs.Chip.{blank_chip}
 use Rattle.cm_model.specs.Whole.{IsChip}
+use Rattle.cm_model.specs.Array.{Chips, chip_at}
 use Rattle.cm_model.specs.Each.{each_from}
-use Rattle.cm_model.specs.Array.{Chips, chip_at, after_nano}
-use Rattle.cm_model.specs.Cycle.{log_at}
-use Rattle.cm_model.specs.Machine.{blank_machine}
-use Rattle.cm_model.specs.Account.{Triple, account, account_at, standing_triple, delivered_triple}
-use Rattle.cm_model.specs.Found.{same_tag}
-use Rattle.cm_model.specs.Keeping.{IsMessage, IsMachine}
+use Rattle.cm_model.specs.Chip.{blank_chip}
+use Rattle.cm_model.specs.Machine.{Machine, blank_machine}
+use Rattle.cm_model.specs.Buffers.{after_act}
+use Rattle.cm_model.specs.Account.{account, all_injected}
+use Rattle.cm_model.specs.Keeping.{IsMachine}
 use Rattle.cm_model.proofs.Each.{length-each_from, get_or-each_below}
+use Rattle.cm_model.proofs.Blanks.{IsMachine-blank_at}
 use Rattle.cm_model.proofs.Keeping.{IsMachine-after_act}
+use Rattle.cm_router.specs.Buffer.{Buffer}
+use Rattle.cm_petit.specs.Routers.{Log, buffers_of, events_of}
+use Rattle.cm_array.specs.declared.parts.Parts.{Parts}
 use Rattle.cm_array.specs.Parts.{machine_of, AreParts}
-use Rattle.cm_array.proofs.Lists.{each_after_set, flat_map-none}
-use Rattle.cm_array.proofs.Wholes.{blank_chip_is_whole}
+use Rattle.cm_array.proofs.Lists.{each_after_set}
+use Rattle.cm_array.proofs.Searching.{AreOf}
 
--- every list of a row of empty ones is empty, also past its end
-nothing_at : {X : Type 0} (count c : ℕ) → get_or (each_from 0 count (λ (i : ℕ). let none : List X = [] in none)) c [] ≡ []
-nothing_at {X} count c =
-    let none : ℕ → List X = λ i. [] in
-    ⊎_elim
-    (λ (l : c < count). get_or-each_below count none c [] l)
-    (λ (l : count ≤ c). get_or_past (each_from 0 count none) c [] (omega (arith, length-each_from 0 count none)))
-    (cases_lt c count)
-
-account-machine_of : (n : ℕ) (chips : Chips) → account n (machine_of n chips) ≡ []
-unfolding account
-account-machine_of n chips =
-    flat_map-none (account_at (machine_of n chips)) (range_with_len 0 (2 ^ n))
-    (λ (c : ℕ). ap (λ (ms : List Message). map (standing_triple c) ms ++ filter_map delivered_triple (log_at (machine_of n chips).logs c)) (nothing_at {X = Message} (2 ^ n) c)
-    ∙ ap (λ (es : List Event). filter_map delivered_triple es) (nothing_at {X = Event} (2 ^ n) c))
-
-pub parts_are_machine : (n cap : ℕ) (chips : Chips) (outputs : List Outputs) (sent : List ℕ) → AreParts n cap chips outputs sent → IsMachine n cap (machine_of n chips)
-parts_are_machine n cap chips outputs sent h = record {
-  chip_count = h.chip_count;
-  buffer_count = length-each_from 0 (2 ^ n) (λ c. []);
-  log_count = length-each_from 0 (2 ^ n) (λ c. []);
-  whole = h.whole;
-  room = λ c l. subst (λ (ms : List Message). length ms ≤ cap) (sym (nothing_at {X = Message} (2 ^ n) c)) (omega arith);
-  messages = λ c l. subst (λ (ms : List Message). All (IsMessage n) ms) (sym (nothing_at {X = Message} (2 ^ n) c)) (All-nil (IsMessage n));
-  births = subst (λ (ts : List Triple). All (λ triple. triple.tag.birth < 0) ts) (sym (account-machine_of n chips)) (All-nil (λ (triple : Triple). triple.tag.birth < 0));
-  tags = λ tag. subst (λ (ts : List Triple). count_by (λ triple. same_tag triple.tag tag) ts ≤ 1) (sym (account-machine_of n chips)) (omega arith);
+-- a machine with other whole chips
+IsMachine-with_chips : (n cap : ℕ) (machine : Machine) (chips : Chips) → length chips ≡ 2 ^ n → ((c : ℕ) → c < 2 ^ n → IsChip (chip_at chips c))
+    → IsMachine n cap machine → IsMachine n cap (record machine { chips = chips })
+unfolding account all_injected
+IsMachine-with_chips n cap machine chips long whole h = record {
+  chip_count = long;
+  buffer_count = h.buffer_count;
+  log_count = h.log_count;
+  whole = whole;
+  room = h.room;
+  messages = h.messages;
+  events = h.events;
+  births = h.births;
+  tags = h.tags;
+  injected = h.injected;
 }
 
--- an instruction keeps the parts what they are, whatever the rows have
-pub AreParts-after_nano : (n cap : ℕ) (nano : Instruction) (chips : Chips) (outputs : List Outputs) (sent : List ℕ) (next : Chips) (next_outputs : List Outputs) (next_sent : List ℕ)
-    → AreParts n cap chips outputs sent → next ≡ after_nano n nano chips → length next_outputs ≡ length outputs → length next_sent ≡ length sent
-    → AreParts n cap next next_outputs next_sent
-AreParts-after_nano n cap nano chips outputs sent next next_outputs next_sent h is same_outputs same_sent =
-    let after : IsMachine n cap (machine_of n (after_nano n nano chips)) = IsMachine-after_act n cap (machine_of n chips) (Nano nano) (parts_are_machine n cap chips outputs sent h) in
-    record {
-      dimension = h.dimension;
-      some_room = h.some_room;
-      most_room = h.most_room;
-      chip_count = ap length is ∙ after.chip_count;
-      output_count = same_outputs ∙ h.output_count;
-      sent_count = same_sent ∙ h.sent_count;
-      whole = subst (λ (cs : Chips). (c : ℕ) → c < 2 ^ n → IsChip (chip_at cs c)) (sym is) after.whole;
-    }
-
--- blank chips are the parts of a machine
-pub blank_parts : (n cap : ℕ) (chips : Chips) (outputs : List Outputs) (sent : List ℕ) (count : ℕ) → n ≤ 12 → 1 ≤ cap → cap ≤ 15 → count ≡ 2 ^ n
-    → chips ≡ each_from 0 count (λ c. blank_chip) → length outputs ≡ count → length sent ≡ count → AreParts n cap chips outputs sent
-blank_parts n cap chips outputs sent count few some most all is same_outputs same_sent = record {
-  dimension = few;
-  some_room = some;
-  most_room = most;
-  chip_count = ap length is ∙ length-each_from 0 count (λ c. blank_chip) ∙ all;
-  output_count = same_outputs ∙ all;
-  sent_count = same_sent ∙ all;
-  whole = λ c h.
-      let below : c < count = omega arith in
-      subst (λ (chip : List Processor). IsChip chip) (sym (ap (λ (cs : Chips). chip_at cs c) is ∙ get_or-each_below count (λ c. blank_chip) c [] below)) blank_chip_is_whole;
-}
-
-pub blank_is : (n count : ℕ) (chips : Chips) → count ≡ 2 ^ n → chips ≡ each_from 0 count (λ c. blank_chip) → machine_of n chips ≡ blank_machine n
-unfolding blank_machine
-blank_is n count chips all is = ap (machine_of n) (is ∙ ap (λ (k : ℕ). each_from 0 k (λ c. blank_chip)) all)
-
--- a chip that was read is whole
-pub read_chip_is_whole : (n cap : ℕ) (chips : Chips) (outputs : List Outputs) (sent : List ℕ) (i : ℕ) (chip : List Processor) → AreParts n cap chips outputs sent
-    → i < 2 ^ n → chip ≡ get_or chips i chip → IsChip chip
-read_chip_is_whole n cap chips outputs sent i chip h below is =
-    let inside : i < length chips = omega (arith, h.chip_count) in
-    subst (λ (c : List Processor). IsChip c) (sym (get_or_read chips i chip inside is [])) (h.whole i below)
-
--- with another whole chip in its place they are still the parts of a machine
-pub AreParts-with_chip : (n cap : ℕ) (chips : Chips) (outputs : List Outputs) (sent : List ℕ) (i : ℕ) (chip : List Processor) → AreParts n cap chips outputs sent
-    → IsChip chip → AreParts n cap (set chips i chip) outputs sent
-AreParts-with_chip n cap chips outputs sent i chip h whole = record {
+-- after an act the parts are the parts of a machine, if sizes and rooms are as before
+pub AreParts-after_act : (n cap : ℕ) (a : Act) (before after : Parts) → AreParts n cap before → machine_of after ≡ after_act n cap (machine_of before) a
+    → All (λ (node : Buffer). node.room ≡ cap) after.nodes.items → length after.outputs.items ≡ length before.outputs.items → length after.sent.items ≡ length before.sent.items
+    → after.clock < 2 ^ 63 → AreParts n cap after
+AreParts-after_act n cap a before after h is rooms same_outputs same_sent clock = record {
   dimension = h.dimension;
   some_room = h.some_room;
   most_room = h.most_room;
-  chip_count = length-set chips i chip ∙ h.chip_count;
+  rooms = rooms;
+  output_count = same_outputs ∙ h.output_count;
+  sent_count = same_sent ∙ h.sent_count;
+  clock = clock;
+  machine = subst (λ (m : Machine). IsMachine n cap m) (sym is) (IsMachine-after_act n cap (machine_of before) a h.machine);
+}
+
+-- a chip that was read is whole
+pub read_chip_is_whole : (n cap : ℕ) (parts : Parts) (i : ℕ) (chip : List Processor) → AreParts n cap parts
+    → i < 2 ^ n → chip ≡ get_or parts.chips.items i chip → IsChip chip
+read_chip_is_whole n cap parts i chip h below is =
+    let inside : i < length parts.chips.items = omega (arith, h.machine.chip_count) in
+    subst (λ (c : List Processor). IsChip c) (sym (get_or_read parts.chips.items i chip inside is [])) (h.machine.whole i below)
+
+-- with another whole chip in its place it is still a machine
+IsMachine-with_chip : (n cap : ℕ) (machine : Machine) (i : ℕ) (chip : List Processor) → IsChip chip → IsMachine n cap machine
+    → IsMachine n cap (record machine { chips = set machine.chips i chip })
+IsMachine-with_chip n cap machine i chip whole h =
+    IsMachine-with_chips n cap machine (set machine.chips i chip) (length-set machine.chips i chip ∙ h.chip_count)
+    (each_after_set (λ (c : List Processor). IsChip c) machine.chips [] i chip (2 ^ n) h.chip_count h.whole whole) h
+
+-- one log for each chip
+pub length-logs : (n cap : ℕ) (parts : Parts) → AreParts n cap parts → length parts.logs.items ≡ 2 ^ n
+length-logs n cap parts h = sym (length-map parts.logs.items (λ (log : Log). log.items)) ∙ h.machine.log_count
+
+-- one node for each chip
+pub length-nodes : (n cap : ℕ) (parts : Parts) → AreParts n cap parts → length parts.nodes.items ≡ 2 ^ n
+length-nodes n cap parts h = sym (length-map parts.nodes.items (λ (node : Buffer). node.messages)) ∙ h.machine.buffer_count
+
+-- at most 4,096
+pub few_nodes : (n cap : ℕ) (parts : Parts) → AreParts n cap parts → length parts.nodes.items ≤ 4096
+few_nodes n cap parts h =
+    let most : 2 ^ n ≤ 2 ^ 12 = pow-le-pow_right (omega arith) h.dimension in
+    omega (arith, length-nodes n cap parts h, most)
+
+-- its nodes and logs, as they were read, are those of the machine
+pub AreOf-parts : (n cap : ℕ) (parts : Parts) (machine : Machine) (nodes : List Buffer) (logs : List Log) → AreParts n cap parts → machine_of parts ≡ machine
+    → nodes ≡ parts.nodes.items → logs ≡ parts.logs.items → AreOf n machine nodes logs
+AreOf-parts n cap parts machine nodes logs h view same_nodes same_logs = record {
+  buffers = ap buffers_of same_nodes ∙ ap (λ (m : Machine). m.buffers) view;
+  events = ap events_of same_logs ∙ ap (λ (m : Machine). m.logs) view;
+  node_count = ap length same_nodes ∙ length-nodes n cap parts h;
+  log_count = ap length same_logs ∙ length-logs n cap parts h;
+}
+
+-- ---- blank parts
+
+-- blank nodes have empty buffers
+buffers_of-blank : (count room : ℕ) → buffers_of (each_from 0 count (λ c. record { room = room; messages = [] })) ≡ each_from 0 count (λ c. [])
+unfolding each_from
+buffers_of-blank count room = map-map (λ (node : Buffer). node.messages) (λ (c : ℕ). record { room = room; messages = [] }) (range_with_len 0 count)
+
+-- blank parts are the blank machine, at whatever count of petit cycles
+pub machine_of-blank : (n count room : ℕ) (parts : Parts) → count ≡ 2 ^ n → parts.chips.items ≡ each_from 0 count (λ c. blank_chip)
+    → parts.nodes.items ≡ each_from 0 count (λ c. record { room = room; messages = [] }) → events_of parts.logs.items ≡ each_from 0 count (λ c. [])
+    → machine_of parts ≡ record (blank_machine n) { clock = parts.clock }
+unfolding blank_machine
+machine_of-blank n count room parts all chips nodes logs =
+    let buffers : buffers_of parts.nodes.items ≡ each_from 0 count (λ c. []) = ap buffers_of nodes ∙ buffers_of-blank count room in
+    let all_chips : parts.chips.items ≡ each_from 0 (2 ^ n) (λ c. blank_chip) = chips ∙ ap (λ (k : ℕ). each_from 0 k (λ c. blank_chip)) all in
+    let all_buffers : buffers_of parts.nodes.items ≡ each_from 0 (2 ^ n) (λ c. []) = buffers ∙ ap (λ (k : ℕ). each_from 0 k (λ c. [])) all in
+    let all_logs : events_of parts.logs.items ≡ each_from 0 (2 ^ n) (λ c. []) = logs ∙ ap (λ (k : ℕ). each_from 0 k (λ c. [])) all in
+    λ i. record { chips = all_chips i; buffers = all_buffers i; logs = all_logs i; clock = parts.clock }
+
+-- they are the parts of a machine
+pub AreParts-blank : (n cap count : ℕ) (parts : Parts) → n ≤ 12 → 1 ≤ cap → cap ≤ 15 → count ≡ 2 ^ n → parts.chips.items ≡ each_from 0 count (λ c. blank_chip)
+    → parts.nodes.items ≡ each_from 0 count (λ c. record { room = cap; messages = [] }) → events_of parts.logs.items ≡ each_from 0 count (λ c. [])
+    → length parts.outputs.items ≡ count → length parts.sent.items ≡ count → parts.clock < 2 ^ 63 → AreParts n cap parts
+AreParts-blank n cap count parts few some most all chips nodes logs same_outputs same_sent clock =
+    let blank : ℕ → Buffer = λ c. record { room = cap; messages = [] } in
+    record {
+      dimension = few;
+      some_room = some;
+      most_room = most;
+      rooms = subst (λ (ns : List Buffer). All (λ (node : Buffer). node.room ≡ cap) ns) (sym nodes)
+          (λ (i : ℕ) (d : Buffer) (l : i < length (each_from 0 count blank)).
+          let below : i < count = omega (arith, length-each_from 0 count blank) in
+          ap (λ (node : Buffer). node.room) (get_or-each_below count blank i d below));
+      output_count = same_outputs ∙ all;
+      sent_count = same_sent ∙ all;
+      clock = clock;
+      machine = subst (λ (m : Machine). IsMachine n cap m) (sym (machine_of-blank n count cap parts all chips nodes logs)) (IsMachine-blank_at n cap parts.clock);
+    }
+
+-- the blank machine counts from 0
+pub blank_machine-from_zero : (n : ℕ) → record (blank_machine n) { clock = 0 } ≡ blank_machine n
+unfolding blank_machine
+blank_machine-from_zero n = refl
+
+-- with another whole chip in its place they are still the parts of a machine
+pub AreParts-with_chip : (n cap : ℕ) (parts : Parts) (i : ℕ) (chip : List Processor) → IsChip chip → AreParts n cap parts → AreParts n cap (record parts { chips = with_item parts.chips i chip })
+AreParts-with_chip n cap parts i chip whole h = record {
+  dimension = h.dimension;
+  some_room = h.some_room;
+  most_room = h.most_room;
+  rooms = h.rooms;
   output_count = h.output_count;
   sent_count = h.sent_count;
-  whole = each_after_set (λ (c : List Processor). IsChip c) chips [] i chip (2 ^ n) h.chip_count h.whole whole;
+  clock = h.clock;
+  machine = IsMachine-with_chip n cap (machine_of parts) i chip whole h.machine;
 }

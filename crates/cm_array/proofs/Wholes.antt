@@ -1,27 +1,11 @@
--- Blank chips are whole, and a poke keeps a chip whole.
+-- A poke keeps a chip whole.
 use Rattle.std.proofs.Common.{◌≡◌, ℕ, ◌<◌, Bool, true, false, List, set, sym, ◌∙◌, subst, arith, ⊎_elim, get_or-set_other, Result, Ok, Err, IsErr, OnOk, OnErr, ◌↔◌, ◌≤◌}
 use Rattle.std.proofs.lemmas.Bool.{cases_lt}
-use Rattle.std.proofs.lemmas.List.{length-set, set_past, length-replicate, get_or-replicate}
-use Rattle.cm_model.specs.Processor.{Processor, blank_processor}
-use Rattle.cm_model.specs.Chip.{processor_at, no_processor, blank_chip, with_memory_bit, with_flag}
+use Rattle.std.proofs.lemmas.List.{length-set, set_past}
+use Rattle.cm_model.specs.Processor.{Processor}
+use Rattle.cm_model.specs.Chip.{processor_at, no_processor, with_memory_bit, with_flag}
 use Rattle.cm_model.specs.Whole.{IsProcessor, IsChip}
-use Rattle.cm_model.proofs.Each.{length-each_from, get_or-each_below}
 use Rattle.cm_array.proofs.Lists.{each_after_set}
-
-blank_processor_is_whole : IsProcessor blank_processor
-unfolding blank_processor
-blank_processor_is_whole = record {
-  memory = length-replicate 4096 false;
-  flags = length-replicate 16 false;
-  zero = get_or-replicate 16 8 false false (omega arith);
-}
-
-pub blank_chip_is_whole : IsChip blank_chip
-unfolding blank_chip
-blank_chip_is_whole = record {
-  count = length-each_from 0 16 (λ p. blank_processor);
-  each = λ p h. subst (λ (q : Processor). IsProcessor q) (sym (get_or-each_below 16 (λ p. blank_processor) p no_processor h)) blank_processor_is_whole;
-}
 
 -- a chip in which one processor is another whole one
 with_processor : (chip : List Processor) (p : ℕ) (processor : Processor) → IsChip chip → (p < 16 → IsProcessor processor) → IsChip (set chip p processor)
@@ -34,6 +18,7 @@ with_processor chip p processor h new =
     (λ (past : 16 ≤ p). subst (λ (c : List Processor). IsChip c) (sym (set_past chip p processor (omega (arith, h.count)))) h)
     (cases_lt p 16)
 
+-- a chip with another memory bit
 IsChip-with_memory_bit : (chip : List Processor) (p at : ℕ) (b : Bool) → IsChip chip → IsChip (with_memory_bit chip p at b)
 unfolding with_memory_bit
 IsChip-with_memory_bit chip p at b h =
@@ -44,6 +29,7 @@ IsChip-with_memory_bit chip p at b h =
 pub IsChip-poked_bit : (chip next : List Processor) (p at : ℕ) (b : Bool) → next ≡ with_memory_bit chip p at b → IsChip chip → IsChip next
 IsChip-poked_bit chip next p at b is h = subst (λ (c : List Processor). IsChip c) (sym is) (IsChip-with_memory_bit chip p at b h)
 
+-- a chip with another flag, but not flag 8
 IsChip-with_flag : (chip : List Processor) (p number : ℕ) (b : Bool) → (number ≡ 8 → ⊥) → IsChip chip → IsChip (with_flag chip p number b)
 unfolding with_flag
 IsChip-with_flag chip p number b other h =

@@ -1,20 +1,28 @@
--- A machine that is kept as its chips and two rows of working room: ours.
-use Rattle.std.specs.Prelude.{◌≡◌, ℕ, ◌<◌, ◌≤◌, ◌^◌, List, [], length}
-use Rattle.cm_element.specs.declared.outputs.Outputs.{Outputs}
-use Rattle.cm_model.specs.Whole.{IsChip}
-use Rattle.cm_model.specs.Array.{Chips, each_chip, chip_at}
+-- A machine as it is kept: chips, nodes and logs by number, a counter, and two rows of working room. Ours.
+use Rattle.std.specs.Prelude.{◌≡◌, ℕ, ◌<◌, ◌≤◌, ◌^◌, length}
+use Rattle.std.specs.List.{All}
 use Rattle.cm_model.specs.Machine.{Machine}
+use Rattle.cm_model.specs.Keeping.{IsMachine}
+use Rattle.cm_petit.specs.Routers.{machine_of as machine_from}
+use Rattle.cm_array.specs.declared.parts.Parts.{Parts}
 
--- the machine of these chips: no message stands in it and no petit cycle has been
-abbrev pub machine_of : ℕ → Chips → Machine
-machine_of n chips = record { chips = chips; buffers = each_chip n (λ c. []); logs = each_chip n (λ c. []); clock = 0 }
+-- the machine that the parts are
+abbrev pub machine_of : Parts → Machine
+machine_of parts = machine_from parts.chips.items parts.nodes.items parts.logs.items parts.clock
 
--- sizes within bounds, a place in both rows for each chip, and whole chips
-pub record AreParts (n cap : ℕ) (chips : Chips) (outputs : List Outputs) (sent : List ℕ) : Type 0 where
+-- a dimension of a cube, and how many messages a router has room for
+pub record AreSizes (n cap : ℕ) : Type 0 where
   pub dimension : n ≤ 12
   pub some_room : 1 ≤ cap
   pub most_room : cap ≤ 15
-  pub chip_count : length chips ≡ 2 ^ n
-  pub output_count : length outputs ≡ 2 ^ n
-  pub sent_count : length sent ≡ 2 ^ n
-  pub whole : (c : ℕ) → c < 2 ^ n → IsChip (chip_at chips c)
+
+-- sizes within bounds, nodes with room for cap messages, a place in both rows for each chip, and a machine
+pub record AreParts (n cap : ℕ) (parts : Parts) : Type 0 where
+  pub dimension : n ≤ 12
+  pub some_room : 1 ≤ cap
+  pub most_room : cap ≤ 15
+  pub rooms : All (λ node. node.room ≡ cap) parts.nodes.items
+  pub output_count : length parts.outputs.items ≡ 2 ^ n
+  pub sent_count : length parts.sent.items ≡ 2 ^ n
+  pub clock : parts.clock < 2 ^ 63
+  pub machine : IsMachine n cap (machine_of parts)

@@ -1,7 +1,9 @@
-//! The machine of 2^N chips, all of which step at once, and the runner of one thread.
+//! The machine of 2^N chips with their routers, all of which step at once, and the runner of one thread.
 #![tactic(auto)]
 
+mod finding;
 mod machine;
+mod parts;
 mod runner;
 mod stepping;
 

@@ -1,21 +1,26 @@
 //! A machine of 2^N chips.
 
-ghost use Rattle.std.specs.Prelude.{◌≡◌, ◌^◌, ◌<◌, ◌≤◌, ◌↔◌, IfOk, IfSome, IsErr, IsErrOf, IsOkUnless, OnOk, OnErr, None, length};
+ghost use Rattle.std.specs.Prelude.{◌≡◌, ◌+◌, ◌^◌, ◌<◌, ◌≤◌, ◌↔◌, IfOk, IfSome, IsErr, IsErrOf, IsOk, IsOkUnless, OnOk, OnErr, None};
 ghost use Rattle.cm_model.specs.Processor.{ZERO};
-ghost use Rattle.cm_model.specs.Chip.{blank_chip};
-ghost use Rattle.cm_model.specs.Each.{each_from};
 ghost use Rattle.cm_model.specs.Array.{chip_at, wire};
-ghost use Rattle.cm_model.specs.Machine.{blank_machine, run_of};
-ghost use Rattle.cm_model.specs.Buffers.{after_act};
+ghost use Rattle.cm_model.specs.Cycle.{log_at};
+ghost use Rattle.cm_model.specs.Machine.{buffer_at, blank_machine, run_of};
+ghost use Rattle.cm_model.specs.Found.{found_in, IsWhereabouts};
 ghost use Rattle.cm_model.specs.Keeping.{IsMachine};
-ghost use Rattle.cm_array.specs.Acts.{HasNoCycles, IsNoCycle};
+ghost use Rattle.cm_array.specs.Acts.{cycles_in};
 ghost use Rattle.cm_array.specs.Faults.{size_fault};
+ghost use Rattle.cm_array.specs.Parts.{AreSizes};
 ghost use Rattle.cm_array.specs.Pokes.{with_memory_bit, with_flag};
 
-use crate::stepping::{compute, step_alone, store_all};
-use cm_bits::{Addr, FlagNo, NoMemory, Plane, Proc};
-use cm_element::{Chip, Outputs, ZeroFlag};
-use cm_model::{Act, Nano};
+use crate::finding::{delivered_to, router_of};
+use crate::parts::{
+    Parts, blank_chips, blank_logs, blank_nodes, blank_outputs, blank_planes, copied_chips,
+    copied_logs, copied_nodes, reserve, run,
+};
+use cm_bits::{Addr, FlagNo, NoMemory, Proc};
+use cm_element::{Chip, ZeroFlag};
+use cm_message::{Event, Message, Tag};
+use cm_model::{Act, Found};
 use std::alloc::Global;
 use std::marker::Model;
 use thiserror::Error;
@@ -24,7 +29,8 @@ const MOST_DIMENSIONS: usize = 12;
 
 const MOST_ROOM: usize = 15;
 
-const NEWS_FLAG: u8 = 10;
+/// Most events of a chip in one petit cycle, beside one for each message that its router has room for.
+const MOST_INJECTED: usize = 4;
 
 /// Why a machine was not made.
 #[derive(Clone, Copy, Debug, PartialEq, Eq, Error)]
@@ -50,17 +56,12 @@ impl From<NoMemory> for MachineFault {
 
 /// A machine of 2^`N` chips, whose routers have room for `CAP` messages each.
 ///
-/// Contracts see its chips by number, its buffers and logs, which stay empty, and the count of its
-/// petit cycles, which stays 0. The working room of an instruction is kept with it, so that a run
-/// takes no memory.
+/// Contracts see its chips by number, the buffer and the log of each, and the count of its petit
+/// cycles. No tag stands twice in its account, and each message whose injection a log tells of stands
+/// there once.
 #[derive(Debug, Drop)]
 pub struct Machine<const N: usize, const CAP: usize> {
-    /// By number.
-    chips: Vec<Chip>,
-    /// By chip, what it computed of an instruction.
-    outputs: Vec<Outputs>,
-    /// By chip, what it sends over the grid.
-    sent: Vec<Plane>,
+    parts: Parts,
 }
 
 impl<const N: usize, const CAP: usize> Model for Machine<N, CAP> {
@@ -69,15 +70,25 @@ impl<const N: usize, const CAP: usize> Model for Machine<N, CAP> {
 
     ghost Value = { Whole };
 
-    ghost view = { λ machine. machine_of N machine.chips.items };
+    ghost view = { λ machine. machine_of machine.parts };
 
-    ghost invariant = { λ machine. AreParts N CAP machine.chips.items machine.outputs.items machine.sent.items };
+    ghost invariant = { λ machine. AreParts N CAP machine.parts };
 }
 
 impl<const N: usize, const CAP: usize> Machine<N, CAP> {
-    /// A machine with all bits and flags 0.
+    /// A machine with all bits and flags 0, no message and no event.
     pub fn blank(alloc: Global) -> Result<Self, MachineFault>
         ensures value { IfOk result (λ machine. machine ≡ blank_machine N) }
+        ensures refused { IfSome (size_fault N CAP) (λ fault. IsErrOf result fault) }
+        ensures otherwise { size_fault N CAP ≡ None → IsOkUnless result MachineFault.Memory }
+    {
+        Self::blank_at(alloc, 0)
+    }
+
+    /// The same, after so many petit cycles.
+    fn blank_at(alloc: Global, clock: u64) -> Result<Self, MachineFault>
+        requires clock { clock < 2 ^ 63 }
+        ensures value { IfOk result (λ machine. machine ≡ record (blank_machine N) { clock = clock }) }
         ensures refused { IfSome (size_fault N CAP) (λ fault. IsErrOf result fault) }
         ensures otherwise { size_fault N CAP ≡ None → IsOkUnless result MachineFault.Memory }
     {
@@ -89,35 +100,94 @@ impl<const N: usize, const CAP: usize> Machine<N, CAP> {
         }
         let count = Self::chip_count();
         let chips = blank_chips(alloc, count)?;
+        let nodes = blank_nodes(alloc, count, CAP as u8)?;
+        let logs = blank_logs(alloc, count)?;
         let outputs = blank_outputs(alloc, count)?;
         let sent = blank_planes(alloc, count)?;
         Ok(Machine {
-            chips,
-            outputs,
-            sent,
+            parts: Parts {
+                chips,
+                nodes,
+                logs,
+                clock,
+                outputs,
+                sent,
+            },
         })
     }
 
-    /// A second machine, the same as this one.
+    /// A second machine, the same as this one, its logs too.
     pub fn copy(&self, alloc: Global) -> Result<Self, NoMemory>
         ensures value { IfOk result (λ machine. machine ≡ self.now) }
     {
-        let chips = copies(alloc, &self.chips)?;
-        let outputs = blank_outputs(alloc, self.chips.len())?;
-        let sent = blank_planes(alloc, self.chips.len())?;
+        let count = self.parts.chips.len();
+        let chips = copied_chips(alloc, &self.parts.chips)?;
+        let nodes = copied_nodes(alloc, &self.parts.nodes)?;
+        let logs = copied_logs(alloc, &self.parts.logs)?;
+        let outputs = blank_outputs(alloc, count)?;
+        let sent = blank_planes(alloc, count)?;
         Ok(Machine {
-            chips,
-            outputs,
-            sent,
+            parts: Parts {
+                chips,
+                nodes,
+                logs,
+                clock: self.parts.clock,
+                outputs,
+                sent,
+            },
         })
     }
 
+    /// The chip of that number, to be read.
     pub fn chip(&self, number: u16) -> &Chip
         requires number { number < 2 ^ N }
         ensures value { result.now ≡ chip_at self.now.chips number }
         ensures whole { IsMachine N CAP self.now }
     {
-        &self.chips[usize::from(number)]
+        &self.parts.chips[usize::from(number)]
+    }
+
+    /// The messages that stand in a chip's router, in order of arrival.
+    pub fn buffer(&self, chip: u16) -> &[Message]
+        requires chip { chip < 2 ^ N }
+        ensures value { result.now ≡ buffer_at self.now.buffers chip }
+        ensures whole { IsMachine N CAP self.now }
+    {
+        self.parts.nodes[usize::from(chip)].messages()
+    }
+
+    /// A chip's events since the machine was made, the oldest first; a copy has those of its original.
+    pub fn log(&self, chip: u16) -> &[Event]
+        requires chip { chip < 2 ^ N }
+        ensures value { result.now ≡ log_at self.now.logs chip }
+        ensures whole { IsMachine N CAP self.now }
+    {
+        &self.parts.logs[usize::from(chip)]
+    }
+
+    /// Petit cycles so far.
+    pub fn clock(&self) -> u64
+        ensures value { result ≡ self.now.clock }
+        ensures within { result < 2 ^ 63 }
+        ensures sizes { AreSizes N CAP }
+        ensures whole { IsMachine N CAP self.now }
+    {
+        self.parts.clock
+    }
+
+    /// Where the message of a tag is: in a router, or else delivered, or else nowhere.
+    pub fn find(&self, tag: Tag) -> Found
+        ensures value { result ≡ found_in N self.now tag }
+        ensures there { IsWhereabouts N self.now tag result }
+        ensures whole { IsMachine N CAP self.now }
+    {
+        if let Some(chip) = router_of(&self.parts.nodes, &tag) {
+            return Found::Router(chip);
+        }
+        match delivered_to(&self.parts.logs, &tag) {
+            Some(place) => Found::Delivered(place.chip, place.proc),
+            None => Found::Unknown,
+        }
     }
 
     /// The global wire: whether flag GLOBAL is 1 in some processor (Hillis 1985).
@@ -125,7 +195,7 @@ impl<const N: usize, const CAP: usize> Machine<N, CAP> {
         ensures value { result ≡ wire self.now.chips }
         ensures whole { IsMachine N CAP self.now }
     {
-        cm_wire::wire(&self.chips)
+        cm_wire::wire(&self.parts.chips)
     }
 
     /// Puts a bit into the memory of one processor.
@@ -133,7 +203,7 @@ impl<const N: usize, const CAP: usize> Machine<N, CAP> {
         requires chip { chip < 2 ^ N }
         ensures value { self.new ≡ with_memory_bit self.old chip proc at bit }
     {
-        let poked = &mut self.chips[usize::from(chip)];
+        let poked = &mut self.parts.chips[usize::from(chip)];
         poked.poke(proc, at, bit);
     }
 
@@ -150,7 +220,7 @@ impl<const N: usize, const CAP: usize> Machine<N, CAP> {
         ensures ok { OnOk result (self.new ≡ with_flag self.old chip proc number bit) }
         ensures err { OnErr result (self.new ≡ self.old) }
     {
-        let chip = &mut self.chips[usize::from(chip)];
+        let chip = &mut self.parts.chips[usize::from(chip)];
         chip.poke_flag(proc, number, bit)
     }
 
@@ -161,72 +231,84 @@ impl<const N: usize, const CAP: usize> Machine<N, CAP> {
         1 << N
     }
 
-    /// Runs the acts one after another.
-    pub(crate) fn run(&mut self, acts: &[Act])
-        requires no_cycles { HasNoCycles acts.now }
-        ensures value { self.new ≡ run_of N CAP self.old acts.now }
+    /// Runs acts, so many of them petit cycles, one after another, or none of them.
+    pub(crate) fn run(&mut self, acts: &[Act], cycles: usize) -> Result<(), NoMemory>
+        requires cycles { cycles ≡ cycles_in acts.now }
+        requires few { cycles ≤ 64 }
+        requires clock { self.old.clock + cycles < 2 ^ 63 }
+        ensures no_cycles { cycles ≡ 0 → IsOk result }
+        ensures ok { OnOk result (self.new ≡ run_of N CAP self.old acts.now) }
+        ensures err { OnErr result (self.new ≡ self.old) }
     {
-        // To reach for the chips tells the proof how many there are.
-        let _ = &self.chips;
-        for act in acts {
-            self.act(act);
-        }
+        reserve(&mut self.parts.logs, cycles * (MOST_INJECTED + CAP))?;
+        run::<N, CAP>(&mut self.parts, acts);
+        Ok(())
+    }
+}
+
+#[cfg(test)]
+mod tests {
+    use super::{Machine, MachineFault};
+    use crate::runner::{Plain, RunFault, Runner};
+    use cm_bits::{FlagNo, Proc};
+    use cm_model::Act;
+    use std::alloc::Global;
+    use std::test::Fail;
+
+    const LAST: u64 = u64::MAX >> 1;
+
+    /// Two chips one petit cycle before the last, in which a processor asks to send.
+    fn almost_last(alloc: Global) -> Result<Machine<1, 1>, MachineFault> {
+        let mut machine = Machine::<1, 1>::blank_at(alloc, LAST - 1)?;
+        let _ = machine.poke_flag(1, Proc::new(3).unwrap(), FlagNo::new(12).unwrap(), true);
+        Ok(machine)
     }
 
-    fn act(&mut self, act: &Act)
-        requires no_cycle { IsNoCycle act.now }
-        ensures value { self.new ≡ after_act N CAP self.old act.now }
-    {
-        if let Act::Nano(nano) = act {
-            if nano.write.get() == NEWS_FLAG {
-                compute(&self.chips, nano, &mut self.outputs, &mut self.sent);
-                store_all::<N>(&mut self.chips, nano, &self.outputs, &self.sent);
-            } else {
-                step_alone::<N>(&mut self.chips, nano);
+    /// Whether they have the same flags, buffers, logs and count of petit cycles.
+    fn are_same(left: &Machine<1, 1>, right: &Machine<1, 1>) -> bool {
+        for c in 0u16..2 {
+            for number in 0u8..16 {
+                let flag = FlagNo::new(number).unwrap();
+                if left.chip(c).flag_plane(flag) != right.chip(c).flag_plane(flag) {
+                    return false;
+                }
+            }
+            if left.buffer(c) != right.buffer(c) || left.log(c) != right.log(c) {
+                return false;
             }
         }
+        left.clock() == right.clock()
     }
-}
 
-fn blank_chips(alloc: Global, count: usize) -> Result<Vec<Chip>, NoMemory>
-    ensures value { IfOk result (λ chips. chips.items ≡ each_from 0 count (λ c. blank_chip)) }
-{
-    let mut chips = Vec::with_capacity(alloc, count)?;
-    for _c in 0..count {
-        let chip = Chip::blank(alloc)?;
-        let Ok(()) = chips.push(chip) else {
-            return Err(NoMemory);
-        };
+    #[test]
+    fn the_petit_cycle_to_2_63_less_1_is_the_last(rt: HostRuntime) -> Result<(), Fail> {
+        let mut machine = almost_last(rt.alloc())?;
+        let before = machine.copy(rt.alloc())?;
+        assert!(rt; are_same(&machine, &before));
+        assert_eq!(rt; Plain.go(&mut machine, &[Act::Cycle]), Ok(()));
+        assert_eq!(rt; machine.clock(), 9_223_372_036_854_775_807);
+        // A router with room for one message refers it as soon as it was taken in.
+        assert_eq!(rt; (machine.buffer(0).len(), machine.buffer(1).len()), (1, 0));
+        assert_eq!(rt; (machine.log(0).len(), machine.log(1).len()), (0, 1));
+        let last = machine.copy(rt.alloc())?;
+        assert_eq!(rt; Plain.go(&mut machine, &[Act::Cycle]), Err(RunFault::Clock));
+        assert!(rt; are_same(&machine, &last));
+        assert_eq!(rt; Plain.go(&mut machine, &[]), Ok(()));
+        assert!(rt; are_same(&machine, &last));
+        Ok(())
     }
-    Ok(chips)
-}
 
-fn copies(alloc: Global, chips: &[Chip]) -> Result<Vec<Chip>, NoMemory>
-    ensures value { IfOk result (λ copies. copies.items ≡ chips.now) }
-{
-    let mut copies = Vec::with_capacity(alloc, chips.len())?;
-    for chip in chips {
-        let copy = chip.copy(alloc)?;
-        let Ok(()) = copies.push(copy) else {
-            return Err(NoMemory);
-        };
+    #[test]
+    fn two_petit_cycles_past_the_last_are_refused_before_the_first(
+        rt: HostRuntime,
+    ) -> Result<(), Fail> {
+        let mut machine = almost_last(rt.alloc())?;
+        let before = machine.copy(rt.alloc())?;
+        let two = [Act::Cycle, Act::Sense, Act::Cycle];
+        assert_eq!(rt; Plain.go(&mut machine, &two), Err(RunFault::Clock));
+        assert!(rt; are_same(&machine, &before));
+        assert_eq!(rt; Plain.go(&mut machine, &[Act::Sense]), Ok(()));
+        assert!(rt; are_same(&machine, &before));
+        Ok(())
     }
-    Ok(copies)
-}
-
-fn blank_outputs(alloc: Global, count: usize) -> Result<Vec<Outputs>, NoMemory>
-    ensures count { IfOk result (λ outputs. length outputs.items ≡ count) }
-{
-    let none = Outputs {
-        mem: 0,
-        flag: 0,
-        holds: 0,
-    };
-    Ok(vec![in alloc; none; count]?)
-}
-
-fn blank_planes(alloc: Global, count: usize) -> Result<Vec<Plane>, NoMemory>
-    ensures count { IfOk result (λ planes. length planes.items ≡ count) }
-{
-    Ok(vec![in alloc; 0; count]?)
 }

@@ -1,10 +1,12 @@
 //! What makes a machine go through a list of acts, and the plain one, of one thread.
 
-ghost use Rattle.std.specs.Prelude.{◌≡◌, ◌↔◌, IsFalse, IsOk, IsTrue, OnOk, OnErr, []};
+ghost use Rattle.std.specs.Prelude.{◌≡◌, ◌↔◌, ◌++◌, IsFalse, IsOk, IsTrue, OnOk, OnErr, []};
 ghost use Rattle.cm_model.specs.Machine.{run_of};
-ghost use Rattle.cm_array.specs.Acts.{HasNoCycles, is_cycle, is_long};
+ghost use Rattle.cm_model.specs.Account.{account, newly_injected, SameLines};
+ghost use Rattle.cm_array.specs.Acts.{cycles_in, is_cycle, is_late, is_long};
 
 use crate::machine::Machine;
+use cm_bits::NoMemory;
 use cm_model::Act;
 use thiserror::Error;
 
@@ -12,26 +14,46 @@ const LONGEST: usize = 4096;
 
 const MOST_CYCLES: usize = 64;
 
+const LAST_CLOCK: u64 = u64::MAX >> 1;
+
 /// Why a list of acts was not run.
 #[derive(Clone, Copy, Debug, PartialEq, Eq, Error)]
 pub enum RunFault {
     #[error("more than 4,096 acts or 64 petit cycles in one stretch")]
     Long,
+    #[error("more than 2^63 - 1 petit cycles in all")]
+    Clock,
     #[error("out of memory")]
     Memory,
 }
 
+impl From<NoMemory> for RunFault {
+    ghost use Rattle.std.specs.Prelude.{◌≡◌};
+    ghost use Rattle.cm_array.specs.declared.runner.RunFault.TheVariants.{Memory};
+
+    ghost from_gives = { λ _ fault. fault ≡ Memory };
+
+    fn from(_: NoMemory) -> RunFault {
+        RunFault::Memory
+    }
+}
+
 /// Makes a machine go through lists of at most 4,096 acts, of which at most 64 are petit cycles.
 pub trait Runner<const N: usize, const CAP: usize> {
+    /// What a caller of an unknown runner has to know of its type; of `Plain` it is no condition.
     ghost ready: { Type 0 };
 
-    /// Runs the acts one after another, or none of them.
+    /// Runs the acts one after another, or none of them. The account has then the lines of what was
+    /// injected in addition, and no others.
     fn go(&mut self, machine: &mut Machine<N, CAP>, acts: &[Act]) -> Result<(), RunFault>
         requires runner { ready }
-        requires no_cycles { HasNoCycles acts.now }
         ensures long { (result ≡ Err RunFault.Long) ↔ IsTrue (is_long acts.now) }
+        ensures clock { (result ≡ Err RunFault.Clock)
+            ↔ (IsFalse (is_long acts.now) × IsTrue (is_late machine.old.clock acts.now)) }
         ensures empty { acts.now ≡ [] → IsOk result }
         ensures ok { OnOk result (machine.new ≡ run_of N CAP machine.old acts.now) }
+        ensures account { OnOk result (SameLines (account N machine.new)
+            (account N machine.old ++ newly_injected N machine.old machine.new)) }
         ensures err { OnErr result (machine.new ≡ machine.old) };
 }
 
@@ -42,28 +64,36 @@ pub struct Plain;
 impl<const N: usize, const CAP: usize> Runner<N, CAP> for Plain {
     ghost ready = { Unit {0} };
 
-    /// Takes no memory.
+    /// Takes memory for the logs of all petit cycles in the list, before the first act, and none where
+    /// there is no petit cycle among the acts.
     fn go(&mut self, machine: &mut Machine<N, CAP>, acts: &[Act]) -> Result<(), RunFault>
-        requires no_cycles { HasNoCycles acts.now }
         ensures long { (result ≡ Err RunFault.Long) ↔ IsTrue (is_long acts.now) }
+        ensures clock { (result ≡ Err RunFault.Clock)
+            ↔ (IsFalse (is_long acts.now) × IsTrue (is_late machine.old.clock acts.now)) }
         ensures empty { acts.now ≡ [] → IsOk result }
-        ensures succeeds { HasNoCycles acts.now → IsFalse (is_long acts.now) → IsOk result }
+        ensures no_cycles { cycles_in acts.now ≡ 0 → IsFalse (is_long acts.now) → IsOk result }
         ensures ok { OnOk result (machine.new ≡ run_of N CAP machine.old acts.now) }
+        ensures account { OnOk result (SameLines (account N machine.new)
+            (account N machine.old ++ newly_injected N machine.old machine.new)) }
         ensures err { OnErr result (machine.new ≡ machine.old) }
     {
-        if is_long(acts) {
+        let cycles = cycles_in(acts);
+        if acts.len() > LONGEST || cycles > MOST_CYCLES {
             return Err(RunFault::Long);
         }
-        machine.run(acts);
+        if cycles as u64 > LAST_CLOCK - machine.clock() {
+            return Err(RunFault::Clock);
+        }
+        machine.run(acts, cycles)?;
         Ok(())
     }
 }
 
-/// Whether there are more acts, or petit cycles, than a runner takes at once.
-fn is_long(acts: &[Act]) -> bool
-    ensures value { result ≡ is_long acts.now }
+/// How many petit cycles are among the acts.
+fn cycles_in(acts: &[Act]) -> usize
+    ensures value { result ≡ cycles_in acts.now }
 {
-    acts.len() > LONGEST || acts.iter().filter(|act| is_cycle(act)).count() > MOST_CYCLES
+    acts.iter().filter(|act| is_cycle(act)).count()
 }
 
 fn is_cycle(act: &Act) -> bool

@@ -14,7 +14,7 @@ use cm_element::{Chip, Outputs};
 use cm_model::Nano;
 use cm_news::Grid;
 
-/// Writes down what every chip computes of an instruction, and what each sends over NEWS and DAISY.
+/// Writes down what every chip computes of an instruction, and what each sends over NEWS.
 pub fn compute(chips: &[Chip], nano: &Nano, outputs: &mut [Outputs], sent: &mut [Plane])
     requires outputs { length outputs.old ≡ length chips.now }
     requires sent { length sent.old ≡ length chips.now }

@@ -2,7 +2,7 @@
 use Rattle.std.proofs.Common.{◌≡◌, ℕ, zero, suc, ◌+◌, ◌<◌, ◌≤◌, ◌^◌, false, List, [], length, refl, sym, subst, arith}
 use Rattle.std.proofs.lemmas.List.{length-replicate, get_or-replicate}
 use Rattle.std.proofs.lemmas.List.Elements.{All-nil}
-use Rattle.std.specs.List.{All, count_by, flat_map, range_with_len}
+use Rattle.std.specs.List.{All, count_by, filter_map, flat_map, range_with_len}
 use Rattle.cm_model.specs.declared.message.Message.{Message}
 use Rattle.cm_model.specs.declared.message.Event.{Event}
 use Rattle.cm_model.specs.Processor.{Processor, blank_processor}
@@ -10,9 +10,9 @@ use Rattle.cm_model.specs.Chip.{no_processor, blank_chip}
 use Rattle.cm_model.specs.Whole.{IsProcessor, IsChip}
 use Rattle.cm_model.specs.Cycle.{log_at}
 use Rattle.cm_model.specs.Machine.{blank_machine, buffer_at}
-use Rattle.cm_model.specs.Account.{Triple, account_at, account}
+use Rattle.cm_model.specs.Account.{Triple, injected_triple, account_at, account, all_injected}
 use Rattle.cm_model.specs.Found.{same_tag}
-use Rattle.cm_model.specs.Keeping.{IsMessage, IsMachine}
+use Rattle.cm_model.specs.Keeping.{IsMessage, IsEventOf, IsMachine}
 use Rattle.cm_model.proofs.Each.{length-each_from, get_or-each_below}
 
 IsProcessor-blank : IsProcessor blank_processor
@@ -43,15 +43,26 @@ no_account : (n : ℕ) → account n (blank_machine n) ≡ []
 unfolding account
 no_account n = nothing_gathered (account_at (blank_machine n)) 0 (2 ^ n) (λ c l. rw (no_buffer n c (omega arith), no_log n c (omega arith)) refl)
 
-pub IsMachine-blank : (n cap : ℕ) → IsMachine n cap (blank_machine n)
-unfolding blank_machine
-IsMachine-blank n cap = record {
+none_injected : (n : ℕ) → all_injected n (blank_machine n) ≡ []
+unfolding all_injected
+none_injected n = nothing_gathered (λ c. filter_map (injected_triple c) (log_at (blank_machine n).logs c)) 0 (2 ^ n) (λ c l. rw (no_log n c (omega arith)) refl)
+
+-- at whatever count of petit cycles
+pub IsMachine-blank_at : (n cap clock : ℕ) → IsMachine n cap (record (blank_machine n) { clock = clock })
+unfolding blank_machine account all_injected
+IsMachine-blank_at n cap clock = record {
   chip_count = length-each_from 0 (2 ^ n) (λ c. blank_chip);
   buffer_count = length-each_from {X = List Message} 0 (2 ^ n) (λ c. []);
   log_count = length-each_from {X = List Event} 0 (2 ^ n) (λ c. []);
   whole = λ c l. subst (λ (chip : List Processor). IsChip chip) (sym (get_or-each_below (2 ^ n) (λ b. blank_chip) c [] l)) IsChip-blank;
   room = λ c l. subst (λ (ms : List Message). length ms ≤ cap) (sym (no_buffer n c l)) (omega arith);
   messages = λ c l. subst (λ (ms : List Message). All (IsMessage n) ms) (sym (no_buffer n c l)) (All-nil (IsMessage n));
-  births = subst (λ (lines : List Triple). All (λ triple. triple.tag.birth < 0) lines) (sym (no_account n)) (All-nil (λ (triple : Triple). triple.tag.birth < 0));
+  events = λ c l. subst (λ (es : List Event). All (IsEventOf n c) es) (sym (no_log n c l)) (All-nil (IsEventOf n c));
+  births = subst (λ (lines : List Triple). All (λ triple. triple.tag.birth < clock) lines) (sym (no_account n)) (All-nil (λ (triple : Triple). triple.tag.birth < clock));
   tags = λ tag. subst (λ (lines : List Triple). count_by (λ triple. same_tag triple.tag tag) lines ≤ 1) (sym (no_account n)) (omega arith);
+  injected = λ kind. subst (λ (lines : List Triple). count_by kind lines ≤ count_by kind (account n (blank_machine n))) (sym (none_injected n)) (omega arith);
 }
+
+pub IsMachine-blank : (n cap : ℕ) → IsMachine n cap (blank_machine n)
+unfolding blank_machine
+IsMachine-blank n cap = IsMachine-blank_at n cap 0

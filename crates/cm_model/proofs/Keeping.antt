@@ -17,16 +17,17 @@ use Rattle.cm_model.specs.Steps.{Step, Instruct, Look, Inject, Cross, Deliver, I
 use Rattle.cm_model.specs.Cycle.{log_at}
 use Rattle.cm_model.specs.Machine.{Machine, buffer_at, run_of}
 use Rattle.cm_model.specs.Buffers.{taken_in, sent_in, machine_after_injection, outgoing, buffer_after_dimension, machine_after_dimension, kept, delivered_in, machine_after_delivery, after_step, after_steps, after_act, after_acts}
-use Rattle.cm_model.specs.Keeping.{IsMessage, HasRoom, HasMessages, BornBefore, HasTagsOnce, IsMachine}
+use Rattle.cm_model.specs.Account.{account, all_injected, HasLines}
+use Rattle.cm_model.specs.Keeping.{IsMessage, IsEventOf, HasRoom, HasMessages, HasEvents, BornBefore, HasTagsOnce, IsMachine}
 use Rattle.cm_model.proofs.Each.{length-each_from, get_or-each_below}
 use Rattle.cm_model.proofs.Flips.{across_below}
 use Rattle.cm_model.proofs.Injecting.{AllBelow-taken}
 use Rattle.cm_model.proofs.Runs.{run_of-one, run_of-acted}
 use Rattle.cm_model.proofs.Rooms.{HasRoom-after_injection, HasRoom-after_dimension, HasRoom-after_delivery}
-use Rattle.cm_model.proofs.Accounting.{AreSteps, AreSteps-act}
+use Rattle.cm_model.proofs.Accounting.{AreSteps, AreSteps-act, injected_stand_in_the_account}
 use Rattle.cm_model.proofs.Tags.{tags_stay_once, births_stay_before}
 use Rattle.cm_model.proofs.Wholes.{IsChip-after, IsChip-after_injection, IsChip-after_delivery}
-use Rattle.cm_model.proofs.Messages.{AllMessages-sent, AllMessages-after_dimension, AllMessages-kept}
+use Rattle.cm_model.proofs.Messages.{AllMessages-sent, AllMessages-after_dimension, AllMessages-kept, AllEvents-sent, AllEvents-delivered}
 
 -- what even each step of a petit cycle keeps
 record IsSound (n cap : ℕ) (machine : Machine) : Type 0 where
@@ -36,6 +37,7 @@ record IsSound (n cap : ℕ) (machine : Machine) : Type 0 where
   whole : (c : ℕ) → c < 2 ^ n → IsChip (chip_at machine.chips c)
   room : HasRoom n cap machine
   messages : HasMessages n machine
+  events : HasEvents n machine
 
 -- chips that are made one by one
 made_whole : (n : ℕ) (f : ℕ → List Processor) → ((c : ℕ) → c < 2 ^ n → IsChip (f c)) → (c : ℕ) → c < 2 ^ n → IsChip (chip_at (each_chip n f) c)
@@ -43,6 +45,9 @@ made_whole n f h c l = subst (λ (chip : List Processor). IsChip chip) (sym (get
 
 made_messages : (n : ℕ) (f : ℕ → List Message) → ((c : ℕ) → c < 2 ^ n → All (IsMessage n) (f c)) → (c : ℕ) → c < 2 ^ n → All (IsMessage n) (buffer_at (each_chip n f) c)
 made_messages n f h c l = subst (λ (ms : List Message). All (IsMessage n) ms) (sym (get_or-each_below (2 ^ n) f c [] l)) (h c l)
+
+made_events : (n : ℕ) (f : ℕ → List Event) → ((c : ℕ) → c < 2 ^ n → All (IsEventOf n c) (f c)) → (c : ℕ) → c < 2 ^ n → All (IsEventOf n c) (log_at (each_chip n f) c)
+made_events n f h c l = subst (λ (es : List Event). All (IsEventOf n c) es) (sym (get_or-each_below (2 ^ n) f c [] l)) (h c l)
 
 sound-nano : (n cap : ℕ) (machine : Machine) (nano : Nano) → IsSound n cap machine → IsSound n cap (record machine { chips = after_nano n nano machine.chips })
 unfolding after_nano
@@ -55,6 +60,7 @@ sound-nano n cap machine nano h =
       whole = made_whole n f (λ c l. IsChip-after nano (incoming n nano machine.chips c) (chip_at machine.chips c) (h.whole c l));
       room = h.room;
       messages = h.messages;
+      events = h.events;
     }
 
 sound-injection : (n cap : ℕ) (machine : Machine) → IsSound n cap machine → IsSound n cap (machine_after_injection n cap machine)
@@ -71,6 +77,8 @@ sound-injection n cap machine h =
       room = HasRoom-after_injection n cap machine h.room;
       messages = made_messages n buffers (λ c l. All-append (IsMessage n) (buffer_at machine.buffers c) (sent_in n cap machine c) (h.messages c l)
           (AllMessages-sent n machine.clock c (chip_at machine.chips c) (taken_in cap machine c) l (AllBelow-taken cap (length (buffer_at machine.buffers c)) (chip_at machine.chips c))));
+      events = made_events n logs (λ c l. All-append (IsEventOf n c) (log_at machine.logs c) (map Injected (sent_in n cap machine c)) (h.events c l)
+          (AllEvents-sent n machine.clock c (chip_at machine.chips c) (taken_in cap machine c) l (AllBelow-taken cap (length (buffer_at machine.buffers c)) (chip_at machine.chips c))));
     }
 
 sound-dimension : (n cap d : ℕ) (machine : Machine) → d < n → IsSound n cap machine → IsSound n cap (machine_after_dimension n cap d machine)
@@ -85,6 +93,7 @@ sound-dimension n cap d machine below h =
       room = HasRoom-after_dimension n cap d machine below h.room;
       messages = made_messages n buffers (λ c l. AllMessages-after_dimension n cap d (buffer_at machine.buffers c) (buffer_at machine.buffers (bit_xor c (2 ^ d))) below
           (h.messages c l) (h.messages (bit_xor c (2 ^ d)) (across_below n d c below l)));
+      events = h.events;
     }
 
 sound-delivery : (n cap : ℕ) (machine : Machine) → IsSound n cap machine → IsSound n cap (machine_after_delivery n machine)
@@ -100,6 +109,8 @@ sound-delivery n cap machine h =
       whole = made_whole n chips (λ c l. IsChip-after_delivery (delivered_in machine c) (chip_at machine.chips c) (h.whole c l));
       room = HasRoom-after_delivery n cap machine h.room;
       messages = made_messages n buffers (λ c l. AllMessages-kept n (can_receive (chip_at machine.chips c)) [] (buffer_at machine.buffers c) (h.messages c l));
+      events = made_events n logs (λ c l. All-append (IsEventOf n c) (log_at machine.logs c) (map (λ m. Delivered m c) (delivered_in machine c)) (h.events c l)
+          (AllEvents-delivered n c (can_receive (chip_at machine.chips c)) [] (buffer_at machine.buffers c) (h.messages c l)));
     }
 
 sound-step : (n cap : ℕ) (machine : Machine) (step : Step) → IsStep n step → IsSound n cap machine → IsSound n cap (after_step n cap machine step)
@@ -117,7 +128,7 @@ sound-steps n cap machine (step ∷ steps) s h = sound-steps n cap (after_step n
 pub IsMachine-after_act : (n cap : ℕ) (machine : Machine) (a : Act) → IsMachine n cap machine → IsMachine n cap (after_act n cap machine a)
 IsMachine-after_act n cap machine a h =
     let sound : IsSound n cap (after_act n cap machine a) = sound-steps n cap machine (steps_of n a) (AreSteps-act n a)
-    (record { chip_count = h.chip_count; buffer_count = h.buffer_count; log_count = h.log_count; whole = h.whole; room = h.room; messages = h.messages }) in
+    (record { chip_count = h.chip_count; buffer_count = h.buffer_count; log_count = h.log_count; whole = h.whole; room = h.room; messages = h.messages; events = h.events }) in
     let same : run_of n cap machine (a ∷ []) ≡ after_act n cap machine a = run_of-one n cap machine a h.buffer_count in
     record {
       chip_count = sound.chip_count;
@@ -126,8 +137,10 @@ IsMachine-after_act n cap machine a h =
       whole = sound.whole;
       room = sound.room;
       messages = sound.messages;
+      events = sound.events;
       births = subst (λ (m : Machine). BornBefore n m) same (births_stay_before n cap machine (a ∷ []) h.tags h.births);
       tags = subst (λ (m : Machine). HasTagsOnce n m) same (tags_stay_once n cap machine (a ∷ []) h.tags h.births);
+      injected = subst (λ (m : Machine). HasLines (all_injected n m) (account n m)) same (injected_stand_in_the_account n cap machine (a ∷ []) h.injected);
     }
 
 IsMachine-after_acts : (n cap : ℕ) (machine : Machine) (acts : List Act) → IsMachine n cap machine → IsMachine n cap (after_acts n cap machine acts)

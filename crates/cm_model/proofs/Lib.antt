@@ -19,7 +19,7 @@ pub mod Incoming
 mod Made
 mod Filtered
 mod Sorting
-mod Cycles
+pub mod Cycles
 pub mod Counting
 pub mod Conserving
 pub mod Accounting

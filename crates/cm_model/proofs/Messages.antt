@@ -1,6 +1,6 @@
 -- Every step keeps the messages of a cube within it.
-use Rattle.std.proofs.Common.{◌≡◌, ℕ, zero, suc, ◌*◌, ◌<◌, ◌≤◌, ◌^◌, Bool, true, false, List, [], ◌∷◌, length, take, drop, Option, Some, None, ⊎_elim, arith}
-use Rattle.std.proofs.lemmas.Bool.{cases_Bool}
+use Rattle.std.proofs.Common.{◌≡◌, ℕ, zero, suc, ◌*◌, ◌<◌, ◌≤◌, ◌^◌, Bool, true, false, not, ◌&&◌, List, [], ◌∷◌, length, map, take, drop, Option, Some, None, refl, ⊎_elim, arith}
+use Rattle.std.proofs.lemmas.Bool.{cases_Bool, and_parts, eqb-true}
 use Rattle.std.proofs.lemmas.List.{length-take}
 use Rattle.std.proofs.lemmas.List.Elements.{All-nil, All-cons, All-head, All-tail, All-append, All-take, All-drop}
 use Rattle.std.proofs.Math.Numerals.{unary_clauses}
@@ -10,12 +10,13 @@ use Rattle.std.specs.Prelude.{slice_get}
 use Rattle.std.specs.List.{All}
 use Rattle.std.specs.Option.{option_map, option_to_list}
 use Rattle.cm_model.specs.declared.message.Message.{Message}
+use Rattle.cm_model.specs.declared.message.Event.TheVariants.{Injected, Delivered}
 use Rattle.cm_model.specs.Processor.{Processor, value, field_value}
 use Rattle.cm_model.specs.Chip.{processor_at}
 use Rattle.cm_model.specs.Router.{message_across}
-use Rattle.cm_model.specs.Letters.{message_sent, messages_sent}
-use Rattle.cm_model.specs.Buffers.{leaving_place, element_at, without, outgoing, buffer_after_dimension, is_accepted, arrived_for, kept}
-use Rattle.cm_model.specs.Keeping.{IsMessage}
+use Rattle.cm_model.specs.Letters.{message_sent, messages_sent, has_arrived, is_among}
+use Rattle.cm_model.specs.Buffers.{leaving_place, element_at, without, outgoing, buffer_after_dimension, is_accepted, arrived_for, delivered, kept}
+use Rattle.cm_model.specs.Keeping.{IsMessage, IsEventOf}
 use Rattle.cm_model.proofs.Flips.{across_below}
 use Rattle.cm_model.proofs.Injecting.{AllBelow}
 
@@ -52,6 +53,13 @@ pub AllMessages-sent : (n clock c : ℕ) (chip : List Processor) (ps : List ℕ)
 AllMessages-sent n clock c chip [] l h = All-nil (IsMessage n)
 AllMessages-sent n clock c chip (p ∷ ps) l h =
     All-cons (IsMessage n) (message_sent n clock c chip p) (messages_sent n clock c chip ps) (IsMessage-sent n clock c chip p l h.0) (AllMessages-sent n clock c chip ps l h.1)
+
+-- the events that tell of it are of its chip
+pub AllEvents-sent : (n clock c : ℕ) (chip : List Processor) (ps : List ℕ) → c < 2 ^ n → AllBelow 16 ps → All (IsEventOf n c) (map Injected (messages_sent n clock c chip ps))
+AllEvents-sent n clock c chip [] l h = All-nil (IsEventOf n c)
+AllEvents-sent n clock c chip (p ∷ ps) l h =
+    All-cons (IsEventOf n c) (Injected (message_sent n clock c chip p)) (map Injected (messages_sent n clock c chip ps))
+    (record { message = IsMessage-sent n clock c chip p l h.0; here = refl }) (AllEvents-sent n clock c chip ps l h.1)
 
 -- ---- a dimension
 
@@ -90,4 +98,19 @@ AllMessages-kept n receives before (m ∷ ms) h =
     let ih : All (IsMessage n) (kept receives (arrived_for before m) ms) = AllMessages-kept n receives (arrived_for before m) ms (All-tail (IsMessage n) m ms h) in
     ⊎_elim (λ (e : is_accepted receives before m ≡ true). rw e ih)
     (λ (e : is_accepted receives before m ≡ false). rw e (All-cons (IsMessage n) m (kept receives (arrived_for before m) ms) (All-head (IsMessage n) m ms h) ih))
+    (cases_Bool (is_accepted receives before m))
+
+-- the events that tell of what is delivered are of its chip
+pub AllEvents-delivered : (n c : ℕ) (receives : ℕ → Bool) (before : List ℕ) (ms : List Message) → All (IsMessage n) ms
+    → All (IsEventOf n c) (map (λ m. Delivered m c) (delivered receives before ms))
+AllEvents-delivered n c receives before [] h = All-nil (IsEventOf n c)
+AllEvents-delivered n c receives before (m ∷ ms) h =
+    let ih : All (IsEventOf n c) (map (λ m. Delivered m c) (delivered receives (arrived_for before m) ms)) =
+    AllEvents-delivered n c receives (arrived_for before m) ms (All-tail (IsMessage n) m ms h) in
+    ⊎_elim
+    (λ (e : is_accepted receives before m ≡ true).
+    let home : has_arrived m ≡ true = (and_parts (has_arrived m) (receives m.proc && not (is_among m.proc before)) e).0 in
+    rw e (All-cons (IsEventOf n c) (Delivered m c) (map (λ m. Delivered m c) (delivered receives (arrived_for before m) ms))
+    (record { message = All-head (IsMessage n) m ms h; arrived = eqb-true m.rel 0 home; here = refl }) ih))
+    (λ (e : is_accepted receives before m ≡ false). rw e ih)
     (cases_Bool (is_accepted receives before m))

@@ -45,6 +45,12 @@ full_loses_one cap d here full room =
     (λ t. let l : length here - 1 < length here = omega arith in omega (arith, length-remove here (length here - 1) l))
     (λ t. absurd (eqb-false (length here) cap t full)))
 
+-- who has been left by all who leave has room for one who comes
+pub leaving_makes_room : (cap d : ℕ) (here : List Message) → length here ≤ cap → 0 < cap → length (without here (leaving_place cap d here)) < cap
+leaving_makes_room cap d here within some =
+    let fewer : length (without here (leaving_place cap d here)) ≤ length here = length-without here (leaving_place cap d here) in
+    ⊎_elim (λ (l : length here < cap). omega arith) (λ (l : cap ≤ length here). full_loses_one cap d here (omega arith) some) (cases_lt (length here) cap)
+
 none_leaves_none : (cap d : ℕ) (there : List Message) → length there ≡ 0 → outgoing cap d there ≡ None
 none_leaves_none cap d there e = let empty : there ≡ [] = nil_from_length there e in rw empty (from_nobody (leaving_place cap d []))
   where

@@ -3,10 +3,13 @@ use Rattle.std.specs.Prelude.{◌≡◌, ℕ, ◌<◌, ◌≤◌, ◌^◌, lengt
 use Rattle.std.specs.List.{All, count_by}
 use Rattle.cm_model.specs.declared.message.Message.{Message}
 use Rattle.cm_model.specs.declared.message.Tag.{Tag}
+use Rattle.cm_model.specs.declared.message.Event.{Event}
+use Rattle.cm_model.specs.declared.message.Event.TheVariants.{Injected, Delivered}
 use Rattle.cm_model.specs.Whole.{IsChip}
 use Rattle.cm_model.specs.Array.{chip_at}
+use Rattle.cm_model.specs.Cycle.{log_at}
 use Rattle.cm_model.specs.Machine.{Machine, buffer_at}
-use Rattle.cm_model.specs.Account.{account}
+use Rattle.cm_model.specs.Account.{account, all_injected, HasLines}
 use Rattle.cm_model.specs.Found.{same_tag}
 
 -- a message of a cube of n dimensions
@@ -16,6 +19,26 @@ pub record IsMessage (n : ℕ) (m : Message) : Type 0 where
   pub payload : m.payload < 2 ^ 32
   pub origin : m.tag.chip < 2 ^ n
   pub sender : m.tag.proc < 16
+
+-- what the log of chip c tells was injected was sent from there
+pub record IsInjection (n c : ℕ) (m : Message) : Type 0 where
+  pub message : IsMessage n m
+  pub here : m.tag.chip ≡ c
+
+-- what it tells was delivered had arrived there
+pub record IsDelivery (n c d : ℕ) (m : Message) : Type 0 where
+  pub message : IsMessage n m
+  pub arrived : m.rel ≡ 0
+  pub here : d ≡ c
+
+-- an event of chip c
+abbrev pub IsEventOf : ℕ → ℕ → Event → Type 0
+IsEventOf n c (Injected m) = IsInjection n c m
+IsEventOf n c (Delivered m d) = IsDelivery n c d m
+
+-- all events in its logs are of the chip whose log it is
+abbrev pub HasEvents : ℕ → Machine → Type 0
+HasEvents n machine = (c : ℕ) → c < 2 ^ n → All (IsEventOf n c) (log_at machine.logs c)
 
 -- no buffer has more than cap messages
 abbrev pub HasRoom : ℕ → ℕ → Machine → Type 0
@@ -46,5 +69,8 @@ pub record IsMachine (n cap : ℕ) (machine : Machine) : Type 0 where
   pub whole : (c : ℕ) → c < 2 ^ n → IsChip (chip_at machine.chips c)
   pub room : HasRoom n cap machine
   pub messages : HasMessages n machine
+  pub events : HasEvents n machine
   pub births : BornBefore n machine
   pub tags : HasTagsOnce n machine
+  -- so that each message whose injection a log tells of stands in the account, and once
+  pub injected : HasLines (all_injected n machine) (account n machine)

@@ -13,7 +13,7 @@ pub record HasGreatestSince (records : List Standing) (r : Standing) : Type 0 wh
   pub here : Contains records r
   pub greatest : All (λ q. is_before r.since q.since ≡ false) records
 
--- a chip is referred a record: none there has to cross, it is full, and this is the one with the greatest since
+-- a chip refers a record: none there has to cross, it is full, and this is the one with the greatest since
 pub record IsReferred (cap : ℕ) (crossers here : List Standing) (r : Standing) : Type 0 where
   pub none_crosses : crossers ≡ []
   pub full : length here ≡ cap

@@ -67,6 +67,7 @@ impl Node {
         self.messages.as_slice()
     }
 
+    /// Whether there is no room left.
     pub fn is_full(&self) -> bool
         ensures value { result ≡ (length self.now.messages == self.now.room) }
         ensures whole { IsBuffer self.now }
@@ -81,6 +82,7 @@ impl Node {
         ensures value { result ≡ outgoing self.old.room dim self.old.messages }
         ensures stays { self.new ≡ holding self.old
             (without self.old.messages (leaving_place self.old.room dim self.old.messages)) }
+        ensures room { length self.new.messages < self.new.room }
     {
         let place = self.leaving_place(dim)?;
         Some(across(self.messages.remove(place), dim))

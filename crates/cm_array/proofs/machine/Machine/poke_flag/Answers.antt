@@ -6,10 +6,10 @@ use Rattle.cm_array.proofs.machine.Machine.poke_flag.Goals as goal
 
 pub invariant_of-self : goal.invariant_of-self
 invariant_of-self g c =
-    let parts = c.self.inside in
+    let parts = c.self.inside.parts in
     let below : c.from.result < 2 ^ g.row.N = omega arith in
     let was : IsChip c.index_mut-chip.result.now =
-    read_chip_is_whole g.row.N g.row.CAP parts.chips.items parts.outputs.items parts.sent.items c.from.result c.index_mut-chip.result.now c.self.invariant below c.index_mut-chip.ensures.value in
-    AreParts-with_chip g.row.N g.row.CAP parts.chips.items parts.outputs.items parts.sent.items c.from.result c.poke_flag.new.self c.self.invariant
+    read_chip_is_whole g.row.N g.row.CAP parts c.from.result c.index_mut-chip.result.now c.self.invariant below c.index_mut-chip.ensures.value in
+    AreParts-with_chip g.row.N g.row.CAP parts c.from.result c.poke_flag.new.self
     (IsChip-poked_flag c.poke_flag.result c.index_mut-chip.result.now c.poke_flag.new.self _ _ _
-    c.poke_flag.ensures.zero_flag c.poke_flag.ensures.ok c.poke_flag.ensures.err was)
+    c.poke_flag.ensures.zero_flag c.poke_flag.ensures.ok c.poke_flag.ensures.err was) c.self.invariant

@@ -1,0 +1,294 @@
+//! Random machines beside the plain program of the router: petit cycles, with instructions between
+//! them, leave the same bits, flags, buffers and logs, and every message is found where it is.
+
+ghost use Rattle.std.specs.Prelude.{◌≡◌, ◌+◌, ◌<◌, ◌≤◌, ◌^◌};
+
+use crate::accounts::are_found;
+use crate::draws::Draws;
+use crate::machines::{RECV, SEND, address, ask, flag, message, processor};
+use cm_array::{Machine, Plain, Runner};
+use cm_bits::{Addr, Proc};
+use cm_message::{Message, Tag};
+use cm_model::{Act, PlainRouter};
+use std::alloc::{AllocError, Global};
+use std::test::Fail;
+
+// As many memory bits as the records of messages need.
+const ADDRESSES: u16 = 4064;
+
+const ROUNDS: u16 = 30;
+
+// ---- what is put into both
+
+/// In each chip twice, on average, a processor asks to send to a random place, and two others can
+/// receive again. Half of the messages go to processors 0, so that they wait.
+fn poke_both<const N: usize, const CAP: usize>(
+    machine: &mut Machine<N, CAP>,
+    plain: &mut PlainRouter<N, CAP>,
+    draws: &mut Draws,
+    chips: u16,
+)
+    requires chips { chips ≡ 2 ^ N }
+    requires some { 0 < chips }
+{
+    for _turn in 0..chips {
+        for _ask in 0..2 {
+            let sent = drawn_message(draws, chips);
+            ask(machine, &sent);
+            ask_plain(plain, &sent);
+        }
+        for _clear in 0..2 {
+            let chip = draws.below(chips);
+            let proc = processor(draws.below(16) as u8);
+            let _ = machine.poke_flag(chip, proc, flag(RECV), false);
+            plain.poke_flag(chip, proc, flag(RECV), false);
+        }
+    }
+}
+
+fn drawn_message(draws: &mut Draws, chips: u16) -> Message
+    requires some { 0 < chips }
+    ensures chip { result.tag.chip < chips }
+{
+    let chip = draws.below(chips);
+    let tag = Tag {
+        chip,
+        proc: processor(draws.below(16) as u8),
+        birth: 0,
+    };
+    let rel = draws.below(65_535);
+    let receiver = if draws.below(2) == 0 {
+        0
+    } else {
+        draws.below(16) as u8
+    };
+    message(rel, receiver, draws.number(), tag)
+}
+
+/// Makes the processor from which a message comes ask that it be sent.
+fn ask_plain<const N: usize, const CAP: usize>(plain: &mut PlainRouter<N, CAP>, message: &Message)
+    requires chip { message.now.tag.chip < 2 ^ N }
+{
+    let chip = message.tag.chip;
+    let proc = message.tag.proc;
+    poke_field(plain, chip, proc, 3968, 16, u32::from(message.rel));
+    poke_field(plain, chip, proc, 3984, 4, u32::from(message.proc.get()));
+    poke_field(plain, chip, proc, 3988, 32, message.payload);
+    plain.poke_flag(chip, proc, flag(SEND), true);
+}
+
+/// Puts a number into a field of one processor, the lowest bit first.
+fn poke_field<const N: usize, const CAP: usize>(
+    plain: &mut PlainRouter<N, CAP>,
+    chip: u16,
+    proc: Proc,
+    at: u16,
+    len: u16,
+    number: u32,
+)
+    requires chip { chip < 2 ^ N }
+    requires at { at + len ≤ 4096 }
+    requires len { len ≤ 32 }
+{
+    for place in 0..len {
+        plain.poke(chip, proc, address(at + place), number >> place & 1 == 1);
+    }
+}
+
+// ---- what both do
+
+/// Up to two instructions, and one or two petit cycles.
+fn drawn_acts(alloc: Global, draws: &mut Draws) -> Result<Vec<Act>, AllocError> {
+    let mut acts = Vec::new(alloc);
+    if draws.below(2) == 0 {
+        put(&mut acts, drawn_nano(draws))?;
+        put(&mut acts, Act::Sense)?;
+    }
+    put(&mut acts, Act::Cycle)?;
+    match draws.below(4) {
+        0 => put(&mut acts, drawn_nano(draws))?,
+        1 => put(&mut acts, Act::Cycle)?,
+        _ => {}
+    }
+    Ok(acts)
+}
+
+fn put(acts: &mut Vec<Act>, act: Act) -> Result<(), AllocError> {
+    let Ok(()) = acts.push(act) else {
+        return Err(AllocError);
+    };
+    Ok(())
+}
+
+fn drawn_nano(draws: &mut Draws) -> Act {
+    let a = drawn_address(draws);
+    let b = drawn_address(draws);
+    Act::Nano(draws.nano(a, b))
+}
+
+/// An address of a record, or sometimes one of the first eight.
+fn drawn_address(draws: &mut Draws) -> Addr {
+    if draws.below(4) == 0 {
+        address(draws.below(8))
+    } else {
+        address(3968 + draws.below(96))
+    }
+}
+
+/// Runs the acts in both, and tells whether neither refused.
+fn go_in_both<const N: usize, const CAP: usize>(
+    alloc: Global,
+    machine: &mut Machine<N, CAP>,
+    plain: &mut PlainRouter<N, CAP>,
+    acts: &[Act],
+) -> bool {
+    if plain.clock() >= 1_000 || acts.len() >= 1_000 {
+        return false;
+    }
+    Plain.go(machine, acts).is_ok() && plain.run(alloc, acts).is_ok()
+}
+
+// ---- what is seen afterwards
+
+/// Whether both have the same flags and records, the same bits at the first eight addresses, the same
+/// messages, events and petit cycles.
+fn agree<const N: usize, const CAP: usize>(
+    machine: &Machine<N, CAP>,
+    plain: &PlainRouter<N, CAP>,
+    chips: u16,
+) -> bool
+    requires chips { chips ≡ 2 ^ N }
+{
+    for c in 0..chips {
+        for p in 0u8..16 {
+            if !agree_at(machine, plain, c, processor(p)) {
+                return false;
+            }
+        }
+        if machine.buffer(c) != plain.buffer(c) || machine.log(c) != plain.log(c) {
+            return false;
+        }
+    }
+    machine.clock() == plain.clock()
+}
+
+fn agree_at<const N: usize, const CAP: usize>(
+    machine: &Machine<N, CAP>,
+    plain: &PlainRouter<N, CAP>,
+    chip: u16,
+    proc: Proc,
+) -> bool
+    requires chip { chip < 2 ^ N }
+{
+    for number in 0u8..16 {
+        let number = flag(number);
+        if machine.chip(chip).flag(proc, number) != plain.flag(chip, proc, number) {
+            return false;
+        }
+    }
+    for at in 0u16..8 {
+        let at = address(at);
+        if machine.chip(chip).read(proc, at) != plain.read(chip, proc, at) {
+            return false;
+        }
+    }
+    for at in 3968..ADDRESSES {
+        let at = address(at);
+        if machine.chip(chip).read(proc, at) != plain.read(chip, proc, at) {
+            return false;
+        }
+    }
+    true
+}
+
+/// Whether a buffer of the machine is full.
+fn has_full<const N: usize, const CAP: usize>(machine: &Machine<N, CAP>, chips: u16) -> bool
+    requires chips { chips ≡ 2 ^ N }
+{
+    for c in 0..chips {
+        if machine.buffer(c).len() == CAP {
+            return true;
+        }
+    }
+    false
+}
+
+/// Whether a machine goes as a plain one does through rounds of petit cycles, and a buffer was full
+/// after one of them.
+fn stays_plain<const N: usize, const CAP: usize>(alloc: Global, chips: u16) -> Result<bool, Fail>
+    requires dimension { N ≤ 12 }
+    requires chips { chips ≡ 2 ^ N }
+    requires some { 0 < chips }
+{
+    let mut machine = Machine::<N, CAP>::blank(alloc)?;
+    let mut plain = PlainRouter::<N, CAP>::blank(alloc, ADDRESSES)?;
+    let mut draws = Draws::new();
+    let mut was_full = false;
+    for round in 0..ROUNDS {
+        poke_both(&mut machine, &mut plain, &mut draws, chips);
+        let acts = drawn_acts(alloc, &mut draws)?;
+        if !go_in_both(alloc, &mut machine, &mut plain, acts.as_slice()) {
+            return Ok(false);
+        }
+        if !agree(&machine, &plain, chips) {
+            return Ok(false);
+        }
+        if round % 5 == 4 && !are_found(alloc, &machine, &plain, chips)? {
+            return Ok(false);
+        }
+        if has_full(&machine, chips) {
+            was_full = true;
+        }
+    }
+    Ok(was_full)
+}
+
+#[test]
+fn one_chip_goes_as_the_plain_router_does(rt: HostRuntime) -> Result<(), Fail> {
+    let alloc = rt.alloc();
+    assert!(rt; stays_plain::<0, 1>(alloc, 1)?);
+    assert!(rt; stays_plain::<0, 2>(alloc, 1)?);
+    assert!(rt; stays_plain::<0, 7>(alloc, 1)?);
+    assert!(rt; stays_plain::<0, 15>(alloc, 1)?);
+    Ok(())
+}
+
+#[test]
+fn two_chips_go_as_the_plain_router_does(rt: HostRuntime) -> Result<(), Fail> {
+    let alloc = rt.alloc();
+    assert!(rt; stays_plain::<1, 1>(alloc, 2)?);
+    assert!(rt; stays_plain::<1, 2>(alloc, 2)?);
+    assert!(rt; stays_plain::<1, 7>(alloc, 2)?);
+    assert!(rt; stays_plain::<1, 15>(alloc, 2)?);
+    Ok(())
+}
+
+#[test]
+fn four_chips_go_as_the_plain_router_does(rt: HostRuntime) -> Result<(), Fail> {
+    let alloc = rt.alloc();
+    assert!(rt; stays_plain::<2, 1>(alloc, 4)?);
+    assert!(rt; stays_plain::<2, 2>(alloc, 4)?);
+    assert!(rt; stays_plain::<2, 7>(alloc, 4)?);
+    assert!(rt; stays_plain::<2, 15>(alloc, 4)?);
+    Ok(())
+}
+
+#[test]
+fn eight_chips_go_as_the_plain_router_does(rt: HostRuntime) -> Result<(), Fail> {
+    let alloc = rt.alloc();
+    assert!(rt; stays_plain::<3, 1>(alloc, 8)?);
+    assert!(rt; stays_plain::<3, 2>(alloc, 8)?);
+    assert!(rt; stays_plain::<3, 7>(alloc, 8)?);
+    assert!(rt; stays_plain::<3, 15>(alloc, 8)?);
+    Ok(())
+}
+
+#[test]
+fn sixteen_chips_go_as_the_plain_router_does(rt: HostRuntime) -> Result<(), Fail> {
+    let alloc = rt.alloc();
+    assert!(rt; stays_plain::<4, 1>(alloc, 16)?);
+    assert!(rt; stays_plain::<4, 2>(alloc, 16)?);
+    assert!(rt; stays_plain::<4, 7>(alloc, 16)?);
+    assert!(rt; stays_plain::<4, 15>(alloc, 16)?);
+    Ok(())
+}

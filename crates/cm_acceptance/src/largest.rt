@@ -1,0 +1,135 @@
+//! How long the largest machine takes for 64 petit cycles: each test tells it, and none judges it.
+
+ghost use Rattle.std.specs.Prelude.{◌<◌};
+
+use crate::draws::Draws;
+use crate::machines::{RECV, SEND, address, ask, flag, message, processor};
+use cm_array::{Machine, Plain, Runner};
+use cm_bits::{Dir, FlagNo};
+use cm_message::Tag;
+use cm_model::{Act, Nano};
+use std::alloc::{AllocError, Global};
+use std::test::Fail;
+use std::time::Instant;
+
+/// In every processor a flag becomes what this table says where memory bit 0 and flag 0 are 0.
+fn everywhere(write: FlagNo, flag_table: u8) -> Act {
+    Act::Nano(Nano {
+        a: address(0),
+        b: address(0),
+        read: flag(0),
+        write,
+        cond: flag(8),
+        sense: false,
+        mem_table: 0xf0,
+        flag_table,
+        dir: Dir::North,
+    })
+}
+
+/// 64 times these acts.
+fn turns(alloc: Global, turn: &[Act]) -> Result<Vec<Act>, AllocError> {
+    let mut acts = Vec::new(alloc);
+    for _turn in 0..64 {
+        for act in turn {
+            put(&mut acts, *act)?;
+        }
+    }
+    Ok(acts)
+}
+
+fn put(acts: &mut Vec<Act>, act: Act) -> Result<(), AllocError> {
+    let Ok(()) = acts.push(act) else {
+        return Err(AllocError);
+    };
+    Ok(())
+}
+
+/// Puts into every processor a record to a random place.
+fn fill(machine: &mut Machine<12, 7>) {
+    let mut draws = Draws::new();
+    for chip in 0u16..4096 {
+        for p in 0u8..16 {
+            let rel = draws.below(4096);
+            let receiver = draws.below(16) as u8;
+            let payload = draws.number();
+            let tag = Tag {
+                chip,
+                proc: processor(p),
+                birth: 0,
+            };
+            ask(machine, &message(rel, receiver, payload, tag));
+        }
+    }
+}
+
+fn events_in(machine: &Machine<12, 7>) -> usize {
+    let mut events: usize = 0;
+    for chip in 0u16..4096 {
+        events = events.saturating_add(machine.log(chip).len());
+    }
+    events
+}
+
+/// All processors ask to send.
+fn all_send() -> Act {
+    everywhere(flag(SEND), 0xff)
+}
+
+/// All processors can receive.
+fn all_can_receive() -> Act {
+    everywhere(flag(RECV), 0x00)
+}
+
+/// Runs these acts 64 times, and that as often as is given, each time after what the last has left.
+fn time(rt: &HostRuntime, turn: &[Act], runs: usize) -> Result<(), Fail> {
+    let mut machine = Machine::<12, 7>::blank(rt.alloc())?;
+    fill(&mut machine);
+    let acts = turns(rt.alloc(), turn)?;
+    for _run in 0..runs {
+        let start = Instant::now(rt)?;
+        let ended = Plain.go(&mut machine, acts.as_slice());
+        let took = start.elapsed(rt)?;
+        ended?;
+        println!(rt;
+            "{} microseconds a turn, {} events so far",
+            took.as_micros() / 64,
+            events_in(&machine)
+        )?;
+    }
+    Ok(())
+}
+
+#[test]
+fn all_processors_of_the_largest_machine_send_in_each_cycle(rt: HostRuntime) -> Result<(), Fail> {
+    time(&rt, &[all_send(), Act::Cycle], 3)
+}
+
+#[test]
+fn all_processors_of_the_largest_machine_send_and_can_receive_in_each_cycle(
+    rt: HostRuntime,
+) -> Result<(), Fail> {
+    time(&rt, &[all_send(), all_can_receive(), Act::Cycle], 5)
+}
+
+#[test]
+fn the_largest_machine_has_two_instructions_for_each_cycle(rt: HostRuntime) -> Result<(), Fail> {
+    time(&rt, &[all_send(), all_can_receive()], 3)
+}
+
+#[test]
+fn the_largest_machine_idles(rt: HostRuntime) -> Result<(), Fail> {
+    let mut machine = Machine::<12, 7>::blank(rt.alloc())?;
+    for _run in 0..3 {
+        let start = Instant::now(&rt)?;
+        let ended = Plain.go(&mut machine, &[Act::Cycle; 64]);
+        let took = start.elapsed(&rt)?;
+        ended?;
+        println!(rt;
+            "{} microseconds an idle petit cycle",
+            took.as_micros() / 64
+        )?;
+    }
+    assert_eq!(rt; machine.clock(), 192);
+    Ok(())
+}

@@ -1,0 +1,145 @@
+//! What the tests put into whole machines, and how they see that two are the same.
+
+ghost use Rattle.std.specs.Prelude.{◌≡◌, ◌+◌, ◌<◌, ◌≤◌, ◌^◌};
+
+use cm_array::Machine;
+use cm_bits::{Addr, FlagNo, Plane, Proc};
+use cm_message::{Message, Tag};
+
+pub(crate) const SEND: u8 = 12;
+
+pub(crate) const ACK: u8 = 13;
+
+pub(crate) const RECV: u8 = 14;
+
+pub(crate) fn address(number: u16) -> Addr
+    requires { number < 4096 }
+    ensures { result ≡ number }
+{
+    Addr::new(number).unwrap()
+}
+
+pub(crate) fn flag(number: u8) -> FlagNo
+    requires { number < 16 }
+    ensures { result ≡ number }
+{
+    FlagNo::new(number).unwrap()
+}
+
+pub(crate) fn processor(number: u8) -> Proc
+    requires { number < 16 }
+    ensures { result ≡ number }
+{
+    Proc::new(number).unwrap()
+}
+
+/// Gives one flag of the sixteen processors of a chip these bits; flag 8 stays as it is.
+pub(crate) fn poke_plane<const N: usize, const CAP: usize>(
+    machine: &mut Machine<N, CAP>,
+    chip: u16,
+    number: FlagNo,
+    plane: Plane,
+)
+    requires chip { chip < 2 ^ N }
+{
+    for p in 0u8..16 {
+        let _ = machine.poke_flag(chip, processor(p), number, plane >> p & 1 == 1);
+    }
+}
+
+/// Puts a number into a field of one processor, the lowest bit first.
+fn poke_field<const N: usize, const CAP: usize>(
+    machine: &mut Machine<N, CAP>,
+    chip: u16,
+    proc: Proc,
+    at: u16,
+    len: u16,
+    number: u32,
+)
+    requires chip { chip < 2 ^ N }
+    requires at { at + len ≤ 4096 }
+    requires len { len ≤ 32 }
+{
+    for place in 0..len {
+        machine.poke(chip, proc, address(at + place), number >> place & 1 == 1);
+    }
+}
+
+/// Makes the processor from which a message comes ask that it be sent; its birth does not count.
+pub(crate) fn ask<const N: usize, const CAP: usize>(
+    machine: &mut Machine<N, CAP>,
+    message: &Message,
+)
+    requires chip { message.now.tag.chip < 2 ^ N }
+{
+    let chip = message.tag.chip;
+    let proc = message.tag.proc;
+    poke_field(machine, chip, proc, 3968, 16, u32::from(message.rel));
+    poke_field(machine, chip, proc, 3984, 4, u32::from(message.proc.get()));
+    poke_field(machine, chip, proc, 3988, 32, message.payload);
+    let _ = machine.poke_flag(chip, proc, flag(SEND), true);
+}
+
+/// The tag of a message that a processor sent before the first petit cycle.
+pub(crate) fn tag(chip: u16, sender: u8) -> Tag
+    requires sender { sender < 16 }
+    ensures chip { result.chip ≡ chip }
+{
+    Tag {
+        chip,
+        proc: processor(sender),
+        birth: 0,
+    }
+}
+
+/// The message with a tag.
+pub(crate) fn message(rel: u16, receiver: u8, payload: u32, tag: Tag) -> Message
+    requires receiver { receiver < 16 }
+    ensures tag { result.tag ≡ tag }
+{
+    Message {
+        rel,
+        proc: processor(receiver),
+        payload,
+        tag,
+    }
+}
+
+/// Whether two machines of so many chips have the same bits and flags.
+pub(crate) fn are_same<const N: usize, const CAP: usize>(
+    left: &Machine<N, CAP>,
+    right: &Machine<N, CAP>,
+    chips: u16,
+) -> bool
+    requires chips { chips ≡ 2 ^ N }
+{
+    for c in 0..chips {
+        for number in 0u8..16 {
+            if left.chip(c).flag_plane(flag(number)) != right.chip(c).flag_plane(flag(number)) {
+                return false;
+            }
+        }
+        for at in 0u16..4096 {
+            if left.chip(c).plane(address(at)) != right.chip(c).plane(address(at)) {
+                return false;
+            }
+        }
+    }
+    true
+}
+
+/// Whether two machines of so many chips have the same messages, events and petit cycles.
+pub(crate) fn have_same_messages<const N: usize, const CAP: usize>(
+    left: &Machine<N, CAP>,
+    right: &Machine<N, CAP>,
+    chips: u16,
+) -> bool
+    requires chips { chips ≡ 2 ^ N }
+{
+    for c in 0..chips {
+        if left.buffer(c) != right.buffer(c) || left.log(c) != right.log(c) {
+            return false;
+        }
+    }
+    left.clock() == right.clock()
+}

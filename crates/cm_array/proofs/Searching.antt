@@ -1,0 +1,119 @@
+-- What is looked for chip by chip, from the first on.
+use Rattle.std.proofs.Common.{◌≡◌, ℕ, suc, ◌+◌, ◌-◌, ◌^◌, ◌<◌, Bool, true, false, List, [], ◌∷◌, ◌++◌, length, get_or, Option, Some, None, refl, sym, ◌∙◌, ap, arith}
+use Rattle.std.proofs.lemmas.List.{get_or-map}
+use Rattle.std.specs.Prelude.{slice_get}
+use Rattle.std.specs.List.{find, filter_map, flat_map, list_any, range_with_len}
+use Rattle.cm_bits.specs.declared.place.Place.{Place}
+use Rattle.cm_model.specs.declared.message.Tag.{Tag}
+use Rattle.cm_model.specs.declared.found.Found.TheVariants as found
+use Rattle.cm_model.specs.declared.message.Message.{Message}
+use Rattle.cm_model.specs.declared.message.Event.{Event}
+use Rattle.cm_model.specs.Cycle.{log_at}
+use Rattle.cm_model.specs.Machine.{Machine, buffer_at}
+use Rattle.cm_model.specs.Found.{same_tag, router_of, delivery_place, delivery_places, found_from, found_in}
+use Rattle.cm_router.specs.Buffer.{Buffer}
+use Rattle.cm_petit.specs.Routers.{Log, buffers_of, events_of}
+
+-- ---- the numbers of a range
+
+-- the numbers from one on are that one and the next ones
+range-next : (c count : ℕ) → c < count → range_with_len c (count - c) ≡ c ∷ range_with_len (c + 1) (count - (c + 1))
+range-next c count l = let one : count - c ≡ suc (count - (c + 1)) = omega arith in ap (range_with_len c) one
+
+-- the number itself passes
+pub find_here : (t : ℕ → Bool) (c count : ℕ) → c < count → t c ≡ true → find t (range_with_len c (count - c)) ≡ Some c
+find_here t c count l e = ap (find t) (range-next c count l) ∙ rw e refl
+
+-- it does not, so the next ones are looked at
+pub find_next : (t : ℕ → Bool) (c count : ℕ) → c < count → t c ≡ false → find t (range_with_len c (count - c)) ≡ find t (range_with_len (c + 1) (count - (c + 1)))
+find_next t c count l e = ap (find t) (range-next c count l) ∙ rw e refl
+
+-- ---- the first of what each number of a range gives
+
+-- where the first list is empty
+first_of_second : {Y : Type 0} (xs ys : List Y) → slice_get xs 0 ≡ None → slice_get (xs ++ ys) 0 ≡ slice_get ys 0
+first_of_second [] ys e = refl
+first_of_second (x ∷ xs) ys e = absurd cc
+
+-- a number gives none, so the next ones are looked at
+pub first_next : {Y : Type 0} (f : ℕ → List Y) (c count : ℕ) → c < count → slice_get (f c) 0 ≡ None
+    → slice_get (flat_map f (range_with_len c (count - c))) 0 ≡ slice_get (flat_map f (range_with_len (c + 1) (count - (c + 1)))) 0
+first_next {Y} f c count l e =
+    ap (λ (cs : List ℕ). slice_get (flat_map f cs) 0) (range-next c count l)
+    ∙ first_of_second (f c) (flat_map f (range_with_len (c + 1) (count - (c + 1)))) e
+
+-- ---- what stands at a chip, and what its log tells
+
+-- the messages of a node that was read
+pub buffer_at-read : (nodes : List Buffer) (c : ℕ) (node : Buffer) → c < length nodes → node ≡ get_or nodes c node → buffer_at (buffers_of nodes) c ≡ node.messages
+buffer_at-read nodes c node l e = get_or-map (λ (n : Buffer). n.messages) nodes c node [] l ∙ ap (λ (n : Buffer). n.messages) (sym e)
+
+-- the events of a log that was read
+pub log_at-read : (logs : List Log) (c : ℕ) (log : Log) → c < length logs → log ≡ get_or logs c log → log_at (events_of logs) c ≡ log.items
+log_at-read logs c log l e = get_or-map (λ (v : Log). v.items) logs c log [] l ∙ ap (λ (v : Log). v.items) (sym e)
+
+-- ---- where the message of a tag is
+
+-- the test whether a message of the tag stands at a chip
+abbrev stands : Tag → List Buffer → ℕ → Bool
+stands tag nodes c = list_any (λ m. same_tag m.tag tag) (buffer_at (buffers_of nodes) c)
+
+-- the places to which messages of the tag were delivered, of a chip
+abbrev places : Tag → List Log → ℕ → List Place
+places tag logs c = filter_map (delivery_place tag) (log_at (events_of logs) c)
+
+-- these nodes and logs are those of a machine
+pub record AreOf (n : ℕ) (machine : Machine) (nodes : List Buffer) (logs : List Log) : Type 0 where
+  pub buffers : buffers_of nodes ≡ machine.buffers
+  pub events : events_of logs ≡ machine.logs
+  pub node_count : length nodes ≡ 2 ^ n
+  pub log_count : length logs ≡ 2 ^ n
+
+-- what is found among the nodes is found in the machine
+router_of-nodes : (n : ℕ) (machine : Machine) (tag : Tag) (nodes : List Buffer) (logs : List Log) → AreOf n machine nodes logs
+    → find (stands tag nodes) (range_with_len 0 (length nodes)) ≡ router_of n machine tag
+router_of-nodes n machine tag nodes logs h =
+    ap (λ (count : ℕ). find (stands tag nodes) (range_with_len 0 count)) h.node_count
+    ∙ ap (λ (buffers : List (List Message)). find (λ c. list_any (λ m. same_tag m.tag tag) (buffer_at buffers c)) (range_with_len 0 (2 ^ n))) h.buffers
+
+-- what the logs tell was delivered is what the machine's logs tell
+delivery_places-logs : (n : ℕ) (machine : Machine) (tag : Tag) (nodes : List Buffer) (logs : List Log) → AreOf n machine nodes logs
+    → flat_map (places tag logs) (range_with_len 0 (length logs)) ≡ delivery_places n machine tag
+delivery_places-logs n machine tag nodes logs h =
+    ap (λ (count : ℕ). flat_map (places tag logs) (range_with_len 0 count)) h.log_count
+    ∙ ap (λ (events : List (List Event)). flat_map (λ c. filter_map (delivery_place tag) (log_at events c)) (range_with_len 0 (2 ^ n))) h.events
+
+-- delivered to the first of the places
+found_at_first : (ps : List Place) (p : Place) → Some p ≡ slice_get ps 0 → found_from None ps ≡ found.Delivered p.chip p.proc
+found_at_first [] p e = absurd cc
+found_at_first (q ∷ ps) p e = let same : q ≡ p = cc in ap (λ (place : Place). found.Delivered place.chip place.proc) same
+
+-- nowhere, where there is no place
+found_at_none : (ps : List Place) → None ≡ slice_get ps 0 → found_from None ps ≡ found.Unknown
+found_at_none [] e = refl
+found_at_none (q ∷ ps) e = absurd cc
+
+-- in a router
+pub found_in-router : (n : ℕ) (machine : Machine) (tag : Tag) (nodes : List Buffer) (logs : List Log) (c : ℕ) → AreOf n machine nodes logs
+    → Some c ≡ find (stands tag nodes) (range_with_len 0 (length nodes)) → found.Router c ≡ found_in n machine tag
+unfolding found_in
+found_in-router n machine tag nodes logs c h is =
+    ap (λ (o : Option ℕ). found_from o (delivery_places n machine tag)) (is ∙ router_of-nodes n machine tag nodes logs h)
+
+-- delivered
+pub found_in-delivered : (n : ℕ) (machine : Machine) (tag : Tag) (nodes : List Buffer) (logs : List Log) (place : Place) → AreOf n machine nodes logs
+    → None ≡ find (stands tag nodes) (range_with_len 0 (length nodes)) → Some place ≡ slice_get (flat_map (places tag logs) (range_with_len 0 (length logs))) 0
+    → found.Delivered place.chip place.proc ≡ found_in n machine tag
+unfolding found_in
+found_in-delivered n machine tag nodes logs place h none is =
+    sym (found_at_first (delivery_places n machine tag) place (is ∙ ap (λ (ps : List Place). slice_get ps 0) (delivery_places-logs n machine tag nodes logs h)))
+    ∙ ap (λ (o : Option ℕ). found_from o (delivery_places n machine tag)) (none ∙ router_of-nodes n machine tag nodes logs h)
+
+-- nowhere
+pub found_in-nowhere : (n : ℕ) (machine : Machine) (tag : Tag) (nodes : List Buffer) (logs : List Log) → AreOf n machine nodes logs
+    → None ≡ find (stands tag nodes) (range_with_len 0 (length nodes)) → None ≡ slice_get (flat_map (places tag logs) (range_with_len 0 (length logs))) 0
+    → found.Unknown ≡ found_in n machine tag
+unfolding found_in
+found_in-nowhere n machine tag nodes logs h none is =
+    sym (found_at_none (delivery_places n machine tag) (is ∙ ap (λ (ps : List Place). slice_get ps 0) (delivery_places-logs n machine tag nodes logs h)))
+    ∙ ap (λ (o : Option ℕ). found_from o (delivery_places n machine tag)) (none ∙ router_of-nodes n machine tag nodes logs h)

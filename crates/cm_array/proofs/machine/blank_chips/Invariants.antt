@@ -1,7 +1,0 @@
-use Rattle.std.proofs.Common.{◌≡◌}
-use Rattle.cm_model.specs.Chip.{blank_chip}
-use Rattle.cm_model.specs.Each.{each_from}
-use Rattle.cm_array.proofs.machine.blank_chips.Given as goal
-
-abbrev pub invariant-loop-c : goal.invariant-loop-c
-invariant-loop-c l = l.chips.items ≡ each_from 0 l._c (λ c. blank_chip)

@@ -1,0 +1,6 @@
+use Rattle.std.proofs.Common.{◌≡◌, take}
+use Rattle.cm_petit.specs.Routers.{events_of}
+use Rattle.cm_array.proofs.parts.copied_logs.Given as goal
+
+abbrev pub invariant-loop-log : goal.invariant-loop-log
+invariant-loop-log l = events_of l.copies.items ≡ events_of (take l.log-index l.logs)

@@ -1,0 +1,9 @@
+use Rattle.std.proofs.Common.{◌≡◌, ℕ, ◌<◌, ◌≤◌}
+use Rattle.cm_petit.specs.Routers.{events_of, free_at}
+use Rattle.cm_array.proofs.parts.reserve.Given as goal
+
+abbrev pub invariant-loop-c : goal.invariant-loop-c
+invariant-loop-c l = record {
+  events : events_of l.logs ≡ events_of l.fn.logs;
+  room : (k : ℕ) → k < l.c → l.more ≤ free_at l.logs k;
+}

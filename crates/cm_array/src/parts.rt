@@ -1,0 +1,201 @@
+//! What a machine is kept as, and what acts do to it.
+
+ghost use Rattle.std.specs.Prelude.{◌≡◌, ℕ, ◌+◌, ◌*◌, ◌^◌, ◌<◌, ◌≤◌, [], ◌∷◌, IfOk, IsOk, OnOk, length};
+ghost use Rattle.cm_model.specs.Chip.{blank_chip};
+ghost use Rattle.cm_model.specs.Each.{each_from};
+ghost use Rattle.cm_model.specs.Array.{after_nano};
+ghost use Rattle.cm_model.specs.Machine.{run_of};
+ghost use Rattle.cm_model.specs.Buffers.{after_act};
+ghost use Rattle.cm_petit.specs.Routers.{events_of, HasLogRoom, LosesAtMost};
+ghost use Rattle.cm_array.specs.Acts.{cycles_in};
+ghost use Rattle.cm_array.specs.Parts.{machine_of, AreParts};
+
+use crate::stepping::{compute, step_alone, store_all};
+use cm_bits::{NoMemory, Plane};
+use cm_element::{Chip, Outputs};
+use cm_message::Event;
+use cm_model::{Act, Nano};
+use cm_petit::cycle;
+use cm_router::Node;
+use std::alloc::Global;
+
+const NEWS_FLAG: u8 = 10;
+
+/// What a machine keeps, and the working room of an instruction, so that a run of instructions takes
+/// no memory.
+#[derive(Debug, Drop)]
+pub(crate) struct Parts {
+    /// By number.
+    pub(crate) chips: Vec<Chip>,
+    /// By chip, its node of the router.
+    pub(crate) nodes: Vec<Node>,
+    /// By chip, its events since the machine was made.
+    pub(crate) logs: Vec<Vec<Event>>,
+    /// Petit cycles so far.
+    pub(crate) clock: u64,
+    /// By chip, what it computed of an instruction.
+    pub(crate) outputs: Vec<Outputs>,
+    /// By chip, what it sends over the grid.
+    pub(crate) sent: Vec<Plane>,
+}
+
+/// Runs the acts one after another, in routers with room for `CAP` messages each.
+pub(crate) fn run<const N: usize, const CAP: usize>(parts: &mut Parts, acts: &[Act])
+    requires parts { AreParts N CAP parts.old }
+    requires clock { parts.old.clock + cycles_in acts.now < 2 ^ 63 }
+    requires log_room { HasLogRoom (cycles_in acts.now * (4 + CAP)) parts.old.logs.items }
+    ensures value { machine_of parts.new ≡ run_of N CAP (machine_of parts.old) acts.now }
+    ensures parts { AreParts N CAP parts.new }
+{
+    for act in acts {
+        run_one::<N, CAP>(parts, act);
+    }
+}
+
+fn run_one<const N: usize, const CAP: usize>(parts: &mut Parts, act: &Act)
+    requires parts { AreParts N CAP parts.old }
+    requires clock { parts.old.clock + cycles_in (act.now ∷ []) < 2 ^ 63 }
+    requires log_room { HasLogRoom (cycles_in (act.now ∷ []) * (4 + CAP)) parts.old.logs.items }
+    ensures value { machine_of parts.new ≡ after_act N CAP (machine_of parts.old) act.now }
+    ensures parts { AreParts N CAP parts.new }
+    ensures clock { parts.new.clock ≡ parts.old.clock + cycles_in (act.now ∷ []) }
+    ensures log_room { LosesAtMost (cycles_in (act.now ∷ []) * (4 + CAP)) parts.old.logs.items parts.new.logs.items }
+{
+    match act {
+        Act::Nano(nano) => instruct::<N, CAP>(parts, nano),
+        Act::Sense => {}
+        Act::Cycle => {
+            cycle::<N, CAP>(
+                &mut parts.chips,
+                &mut parts.nodes,
+                &mut parts.logs,
+                parts.clock,
+            );
+            parts.clock += 1;
+        }
+    }
+}
+
+/// One instruction in all chips.
+fn instruct<const N: usize, const CAP: usize>(parts: &mut Parts, nano: &Nano)
+    requires parts { AreParts N CAP parts.old }
+    ensures value { machine_of parts.new ≡ record (machine_of parts.old) { chips = after_nano N nano.now parts.old.chips.items } }
+    ensures parts { AreParts N CAP parts.new }
+    ensures logs { parts.new.logs ≡ parts.old.logs }
+{
+    if nano.write.get() == NEWS_FLAG {
+        compute(&parts.chips, nano, &mut parts.outputs, &mut parts.sent);
+        store_all::<N>(&mut parts.chips, nano, &parts.outputs, &parts.sent);
+    } else {
+        step_alone::<N>(&mut parts.chips, nano);
+    }
+}
+
+/// Makes room in each log for so many events more.
+pub(crate) fn reserve(logs: &mut [Vec<Event>], more: usize) -> Result<(), NoMemory>
+    ensures events { events_of logs.new ≡ events_of logs.old }
+    ensures ok { OnOk result (HasLogRoom more logs.new) }
+    ensures no_more { more ≡ 0 → IsOk result }
+{
+    if more == 0 {
+        return Ok(());
+    }
+    for c in 0..logs.len() {
+        logs[c].reserve(more)?;
+    }
+    Ok(())
+}
+
+pub(crate) fn blank_chips(alloc: Global, count: usize) -> Result<Vec<Chip>, NoMemory>
+    ensures value { IfOk result (λ chips. chips.items ≡ each_from 0 count (λ c. blank_chip)) }
+{
+    let mut chips = Vec::with_capacity(alloc, count)?;
+    for _c in 0..count {
+        let chip = Chip::blank(alloc)?;
+        let Ok(()) = chips.push(chip) else {
+            return Err(NoMemory);
+        };
+    }
+    Ok(chips)
+}
+
+pub(crate) fn blank_nodes(alloc: Global, count: usize, room: u8) -> Result<Vec<Node>, NoMemory>
+    requires some { 0 < room }
+    requires most { room ≤ 15 }
+    ensures value { IfOk result (λ nodes. nodes.items ≡ each_from 0 count (λ c. record { room = room; messages = [] })) }
+{
+    let mut nodes = Vec::with_capacity(alloc, count)?;
+    for _c in 0..count {
+        let Ok(()) = nodes.push(Node::new(room)) else {
+            return Err(NoMemory);
+        };
+    }
+    Ok(nodes)
+}
+
+pub(crate) fn blank_logs(alloc: Global, count: usize) -> Result<Vec<Vec<Event>>, NoMemory>
+    ensures value { IfOk result (λ logs. events_of logs.items ≡ each_from 0 count (λ c. [])) }
+{
+    let mut logs = Vec::with_capacity(alloc, count)?;
+    for _c in 0..count {
+        let Ok(()) = logs.push(Vec::new(alloc)) else {
+            return Err(NoMemory);
+        };
+    }
+    Ok(logs)
+}
+
+pub(crate) fn blank_outputs(alloc: Global, count: usize) -> Result<Vec<Outputs>, NoMemory>
+    ensures count { IfOk result (λ outputs. length outputs.items ≡ count) }
+{
+    let none = Outputs {
+        mem: 0,
+        flag: 0,
+        holds: 0,
+    };
+    Ok(vec![in alloc; none; count]?)
+}
+
+pub(crate) fn blank_planes(alloc: Global, count: usize) -> Result<Vec<Plane>, NoMemory>
+    ensures count { IfOk result (λ planes. length planes.items ≡ count) }
+{
+    Ok(vec![in alloc; 0; count]?)
+}
+
+pub(crate) fn copied_chips(alloc: Global, chips: &[Chip]) -> Result<Vec<Chip>, NoMemory>
+    ensures value { IfOk result (λ copies. copies.items ≡ chips.now) }
+{
+    let mut copies = Vec::with_capacity(alloc, chips.len())?;
+    for chip in chips {
+        let copy = chip.copy(alloc)?;
+        let Ok(()) = copies.push(copy) else {
+            return Err(NoMemory);
+        };
+    }
+    Ok(copies)
+}
+
+pub(crate) fn copied_nodes(alloc: Global, nodes: &[Node]) -> Result<Vec<Node>, NoMemory>
+    ensures value { IfOk result (λ copies. copies.items ≡ nodes.now) }
+{
+    let mut copies = Vec::with_capacity(alloc, nodes.len())?;
+    for node in nodes {
+        let Ok(()) = copies.push(node.copy()) else {
+            return Err(NoMemory);
+        };
+    }
+    Ok(copies)
+}
+
+pub(crate) fn copied_logs(alloc: Global, logs: &[Vec<Event>]) -> Result<Vec<Vec<Event>>, NoMemory>
+    ensures value { IfOk result (λ copies. events_of copies.items ≡ events_of logs.now) }
+{
+    let mut copies = Vec::with_capacity(alloc, logs.len())?;
+    for log in logs {
+        let copy = log.to_vec(alloc)?;
+        let Ok(()) = copies.push(copy) else {
+            return Err(NoMemory);
+        };
+    }
+    Ok(copies)
+}

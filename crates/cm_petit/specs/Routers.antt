@@ -1,0 +1,48 @@
+-- A machine as the code of its router has it: chips, nodes and logs by the chip's number. Ours.
+use Rattle.std.specs.Prelude.{◌≡◌, ℕ, ◌+◌, ◌-◌, ◌<◌, ◌≤◌, ◌^◌, List, length, map, slice_index, Vec, vec_len, vec_capacity}
+use Rattle.std.specs.List.{All}
+use Rattle.std.specs.declared.alloc.Global.{Global}
+use Rattle.cm_model.specs.declared.message.Message.{Message}
+use Rattle.cm_model.specs.declared.message.Event.{Event}
+use Rattle.cm_model.specs.Array.{Chips}
+use Rattle.cm_model.specs.Machine.{Machine}
+use Rattle.cm_router.specs.Buffer.{Buffer}
+
+-- the log of one chip
+abbrev pub Log : Type 0
+Log = Vec Event Global
+
+-- the messages of each node
+abbrev pub buffers_of : List Buffer → List (List Message)
+buffers_of nodes = map (λ node. node.messages) nodes
+
+-- the events of each log
+abbrev pub events_of : List Log → List (List Event)
+events_of logs = map (λ log. log.items) logs
+
+-- the machine that these are at a count of petit cycles
+abbrev pub machine_of : Chips → List Buffer → List Log → ℕ → Machine
+machine_of chips nodes logs clock = record { chips = chips; buffers = buffers_of nodes; logs = events_of logs; clock = clock }
+
+-- one chip, one node with room for cap messages and one log for each number of a cube of n dimensions
+pub record AreRouters (n cap : ℕ) (chips : Chips) (nodes : List Buffer) (logs : List Log) : Type 0 where
+  pub chip_count : length chips ≡ 2 ^ n
+  pub node_count : length nodes ≡ 2 ^ n
+  pub log_count : length logs ≡ 2 ^ n
+  pub rooms : All (λ node. node.room ≡ cap) nodes
+
+-- how many events more a log takes before it has to grow
+abbrev pub free_places : Log → ℕ
+free_places log = vec_capacity log - vec_len log
+
+-- how many the log of a chip takes
+abbrev pub free_at : List Log → ℕ → ℕ
+free_at logs c = slice_index (map free_places logs) c
+
+-- each log takes so many
+abbrev pub HasLogRoom : ℕ → List Log → Type 0
+HasLogRoom count logs = (c : ℕ) → c < length logs → count ≤ free_at logs c
+
+-- each log takes as many as before, less at most so many
+abbrev pub LosesAtMost : ℕ → List Log → List Log → Type 0
+LosesAtMost count before after = (c : ℕ) → free_at before c ≤ free_at after c + count
