@@ -12,7 +12,8 @@ use std::alloc::{AllocError, Global};
 use std::test::Fail;
 use std::time::Instant;
 
-/// In every processor a flag becomes what this table says where memory bit 0 and flag 0 are 0.
+/// In every processor a flag becomes what this table says of memory bit 0, the table's left half where
+/// that is 1.
 fn everywhere(write: FlagNo, flag_table: u8) -> Act {
     Act::Nano(Nano {
         a: address(0),
@@ -45,7 +46,7 @@ fn put(acts: &mut Vec<Act>, act: Act) -> Result<(), AllocError> {
     Ok(())
 }
 
-/// Puts into every processor a record to a random place.
+/// Puts into every processor a record to a random place, and into one of them a 1 at address 0.
 fn fill(machine: &mut Machine<12, 7>) {
     let mut draws = Draws::new();
     for chip in 0u16..4096 {
@@ -61,6 +62,7 @@ fn fill(machine: &mut Machine<12, 7>) {
             ask(machine, &message(rel, receiver, payload, tag));
         }
     }
+    machine.poke(1234, processor(5), address(0), true);
 }
 
 fn events_in(machine: &Machine<12, 7>) -> usize {
@@ -74,6 +76,11 @@ fn events_in(machine: &Machine<12, 7>) -> usize {
 /// All processors ask to send.
 fn all_send() -> Act {
     everywhere(flag(SEND), 0xff)
+}
+
+/// The one processor asks to send.
+fn one_sends() -> Act {
+    everywhere(flag(SEND), 0xf0)
 }
 
 /// All processors can receive.
@@ -110,6 +117,11 @@ fn all_processors_of_the_largest_machine_send_and_can_receive_in_each_cycle(
     rt: HostRuntime,
 ) -> Result<(), Fail> {
     time(&rt, &[all_send(), all_can_receive(), Act::Cycle], 5)
+}
+
+#[test]
+fn one_processor_of_the_largest_machine_sends_in_each_cycle(rt: HostRuntime) -> Result<(), Fail> {
+    time(&rt, &[one_sends(), Act::Cycle], 3)
 }
 
 #[test]

@@ -40,6 +40,30 @@ fn a_message_crosses_to_its_processor_in_one_cycle(rt: HostRuntime) -> Result<()
 }
 
 #[test]
+fn messages_wake_chips_far_apart(rt: HostRuntime) -> Result<(), Fail> {
+    let mut machine = Machine::<8, 2>::blank(rt.alloc())?;
+    ask(&mut machine, &message(0xff, 3, 7, tag(0, 0)));
+    ask(&mut machine, &message(0x41, 2, 8, tag(200, 0)));
+    assert_eq!(rt; Plain.go(&mut machine, &[Act::Cycle]), Ok(()));
+    assert_eq!(rt;
+        machine.find(tag(0, 0)),
+        Found::Delivered(255, processor(3))
+    );
+    assert_eq!(rt;
+        machine.find(tag(200, 0)),
+        Found::Delivered(137, processor(2))
+    );
+    ask(&mut machine, &message(0x80, 4, 9, tag(130, 1)));
+    assert_eq!(rt; Plain.go(&mut machine, &[Act::Cycle]), Ok(()));
+    let mut late = tag(130, 1);
+    late.birth = 1;
+    assert_eq!(rt; machine.find(late), Found::Delivered(2, processor(4)));
+    let received = Field::new(4032, 32)?;
+    assert_eq!(rt; machine.chip(2).field(processor(4), received), 9);
+    Ok(())
+}
+
+#[test]
 fn two_full_chips_refer_to_each_other_and_deliver_in_the_second_cycle(
     rt: HostRuntime,
 ) -> Result<(), Fail> {

@@ -18,8 +18,8 @@ use Rattle.cm_model.specs.Keeping.{IsMachine}
 use Rattle.cm_model.proofs.Each.{length-each_from, get_or-each_below}
 use Rattle.cm_model.proofs.Blanks.{IsMachine-blank_at}
 use Rattle.cm_model.proofs.Keeping.{IsMachine-after_act}
-use Rattle.cm_router.specs.Buffer.{Buffer}
-use Rattle.cm_petit.specs.Routers.{Log, buffers_of, events_of}
+use Rattle.cm_router.specs.Buffer.{Buffer, buffers_of}
+use Rattle.cm_petit.specs.Routers.{Log, events_of}
 use Rattle.cm_array.specs.declared.parts.Parts.{Parts}
 use Rattle.cm_array.specs.Parts.{machine_of, AreParts}
 use Rattle.cm_array.proofs.Lists.{each_after_set}
@@ -45,14 +45,15 @@ IsMachine-with_chips n cap machine chips long whole h = record {
 -- after an act the parts are the parts of a machine, if sizes and rooms are as before
 pub AreParts-after_act : (n cap : ℕ) (a : Act) (before after : Parts) → AreParts n cap before → machine_of after ≡ after_act n cap (machine_of before) a
     → All (λ (node : Buffer). node.room ≡ cap) after.nodes.items → length after.outputs.items ≡ length before.outputs.items → length after.sent.items ≡ length before.sent.items
-    → after.clock < 2 ^ 63 → AreParts n cap after
-AreParts-after_act n cap a before after h is rooms same_outputs same_sent clock = record {
+    → length after.crossing ≡ length before.crossing → after.clock < 2 ^ 63 → AreParts n cap after
+AreParts-after_act n cap a before after h is rooms same_outputs same_sent same_crossing clock = record {
   dimension = h.dimension;
   some_room = h.some_room;
   most_room = h.most_room;
   rooms = rooms;
   output_count = same_outputs ∙ h.output_count;
   sent_count = same_sent ∙ h.sent_count;
+  crossing_count = same_crossing ∙ h.crossing_count;
   clock = clock;
   machine = subst (λ (m : Machine). IsMachine n cap m) (sym is) (IsMachine-after_act n cap (machine_of before) a h.machine);
 }
@@ -80,10 +81,11 @@ pub length-nodes : (n cap : ℕ) (parts : Parts) → AreParts n cap parts → le
 length-nodes n cap parts h = sym (length-map parts.nodes.items (λ (node : Buffer). node.messages)) ∙ h.machine.buffer_count
 
 -- at most 4,096
+pub few_chips : (n : ℕ) → n ≤ 12 → 2 ^ n ≤ 4096
+few_chips n small = let most : 2 ^ n ≤ 2 ^ 12 = pow-le-pow_right (omega arith) small in omega (arith, most)
+
 pub few_nodes : (n cap : ℕ) (parts : Parts) → AreParts n cap parts → length parts.nodes.items ≤ 4096
-few_nodes n cap parts h =
-    let most : 2 ^ n ≤ 2 ^ 12 = pow-le-pow_right (omega arith) h.dimension in
-    omega (arith, length-nodes n cap parts h, most)
+few_nodes n cap parts h = omega (arith, length-nodes n cap parts h, few_chips n h.dimension)
 
 -- its nodes and logs, as they were read, are those of the machine
 pub AreOf-parts : (n cap : ℕ) (parts : Parts) (machine : Machine) (nodes : List Buffer) (logs : List Log) → AreParts n cap parts → machine_of parts ≡ machine
@@ -117,8 +119,8 @@ machine_of-blank n count room parts all chips nodes logs =
 -- they are the parts of a machine
 pub AreParts-blank : (n cap count : ℕ) (parts : Parts) → n ≤ 12 → 1 ≤ cap → cap ≤ 15 → count ≡ 2 ^ n → parts.chips.items ≡ each_from 0 count (λ c. blank_chip)
     → parts.nodes.items ≡ each_from 0 count (λ c. record { room = cap; messages = [] }) → events_of parts.logs.items ≡ each_from 0 count (λ c. [])
-    → length parts.outputs.items ≡ count → length parts.sent.items ≡ count → parts.clock < 2 ^ 63 → AreParts n cap parts
-AreParts-blank n cap count parts few some most all chips nodes logs same_outputs same_sent clock =
+    → length parts.outputs.items ≡ count → length parts.sent.items ≡ count → parts.crossing ≡ each_from 0 count (λ c. []) → parts.clock < 2 ^ 63 → AreParts n cap parts
+AreParts-blank n cap count parts few some most all chips nodes logs same_outputs same_sent crossing clock =
     let blank : ℕ → Buffer = λ c. record { room = cap; messages = [] } in
     record {
       dimension = few;
@@ -130,6 +132,7 @@ AreParts-blank n cap count parts few some most all chips nodes logs same_outputs
           ap (λ (node : Buffer). node.room) (get_or-each_below count blank i d below));
       output_count = same_outputs ∙ all;
       sent_count = same_sent ∙ all;
+      crossing_count = ap length crossing ∙ length-each_from 0 count (λ c. []) ∙ all;
       clock = clock;
       machine = subst (λ (m : Machine). IsMachine n cap m) (sym (machine_of-blank n count cap parts all chips nodes logs)) (IsMachine-blank_at n cap parts.clock);
     }
@@ -148,6 +151,26 @@ AreParts-with_chip n cap parts i chip whole h = record {
   rooms = h.rooms;
   output_count = h.output_count;
   sent_count = h.sent_count;
+  crossing_count = h.crossing_count;
   clock = h.clock;
   machine = IsMachine-with_chip n cap (machine_of parts) i chip whole h.machine;
 }
+
+-- a copy of the parts of a machine, with working room of its own, are the parts of a machine
+pub AreParts-copied : (n cap count : ℕ) (parts copy : Parts) → AreParts n cap parts → count ≡ length parts.chips.items
+    → copy.chips.items ≡ parts.chips.items → copy.nodes.items ≡ parts.nodes.items → events_of copy.logs.items ≡ events_of parts.logs.items → copy.clock ≡ parts.clock
+    → length copy.outputs.items ≡ count → length copy.sent.items ≡ count → copy.crossing ≡ each_from 0 count (λ c. []) → AreParts n cap copy
+AreParts-copied n cap count parts copy h counted chips nodes logs clock outputs sent crossing =
+    let all : count ≡ 2 ^ n = counted ∙ h.machine.chip_count in
+    record {
+      dimension = h.dimension;
+      some_room = h.some_room;
+      most_room = h.most_room;
+      rooms = subst (λ (ns : List Buffer). All (λ (node : Buffer). node.room ≡ cap) ns) (sym nodes) h.rooms;
+      output_count = outputs ∙ all;
+      sent_count = sent ∙ all;
+      crossing_count = ap length crossing ∙ length-each_from 0 count (λ c. []) ∙ all;
+      clock = omega (arith, clock, h.clock);
+      machine = subst (λ (m : Machine). IsMachine n cap m)
+          (λ i. record { chips = sym chips i; buffers = buffers_of (sym nodes i); logs = sym logs i; clock = sym clock i }) h.machine;
+    }

@@ -11,8 +11,8 @@ use Rattle.cm_model.specs.declared.message.Event.{Event}
 use Rattle.cm_model.specs.Cycle.{log_at}
 use Rattle.cm_model.specs.Machine.{Machine, buffer_at}
 use Rattle.cm_model.specs.Found.{same_tag, router_of, delivery_place, delivery_places, found_from, found_in}
-use Rattle.cm_router.specs.Buffer.{Buffer}
-use Rattle.cm_petit.specs.Routers.{Log, buffers_of, events_of}
+use Rattle.cm_router.specs.Buffer.{Buffer, buffers_of}
+use Rattle.cm_petit.specs.Routers.{Log, events_of}
 
 -- ---- the numbers of a range
 

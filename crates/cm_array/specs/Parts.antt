@@ -1,4 +1,4 @@
--- A machine as it is kept: chips, nodes and logs by number, a counter, and two rows of working room. Ours.
+-- A machine as it is kept: chips, nodes and logs by number, a counter, and working room by number. Ours.
 use Rattle.std.specs.Prelude.{◌≡◌, ℕ, ◌<◌, ◌≤◌, ◌^◌, length}
 use Rattle.std.specs.List.{All}
 use Rattle.cm_model.specs.Machine.{Machine}
@@ -16,7 +16,7 @@ pub record AreSizes (n cap : ℕ) : Type 0 where
   pub some_room : 1 ≤ cap
   pub most_room : cap ≤ 15
 
--- sizes within bounds, nodes with room for cap messages, a place in both rows for each chip, and a machine
+-- sizes within bounds, nodes with room for cap messages, a place in each row of working room for each chip, and a machine
 pub record AreParts (n cap : ℕ) (parts : Parts) : Type 0 where
   pub dimension : n ≤ 12
   pub some_room : 1 ≤ cap
@@ -24,5 +24,6 @@ pub record AreParts (n cap : ℕ) (parts : Parts) : Type 0 where
   pub rooms : All (λ node. node.room ≡ cap) parts.nodes.items
   pub output_count : length parts.outputs.items ≡ 2 ^ n
   pub sent_count : length parts.sent.items ≡ 2 ^ n
+  pub crossing_count : length parts.crossing ≡ 2 ^ n
   pub clock : parts.clock < 2 ^ 63
   pub machine : IsMachine n cap (machine_of parts)

@@ -5,7 +5,8 @@ ghost use Rattle.std.specs.List.{find, filter_map, flat_map, list_any, range_wit
 ghost use Rattle.cm_model.specs.Cycle.{log_at};
 ghost use Rattle.cm_model.specs.Machine.{buffer_at};
 ghost use Rattle.cm_model.specs.Found.{same_tag, delivery_place};
-ghost use Rattle.cm_petit.specs.Routers.{buffers_of, events_of};
+ghost use Rattle.cm_router.specs.Buffer.{buffers_of};
+ghost use Rattle.cm_petit.specs.Routers.{events_of};
 
 use cm_bits::Place;
 use cm_message::{Event, Tag};

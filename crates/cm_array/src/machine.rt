@@ -18,6 +18,7 @@ use crate::parts::{
     copied_logs, copied_nodes, reserve, run,
 };
 use cm_bits::{Addr, FlagNo, NoMemory, Proc};
+use cm_crossing::Crossing;
 use cm_element::{Chip, ZeroFlag};
 use cm_message::{Event, Message, Tag};
 use cm_model::{Act, Found};
@@ -104,6 +105,7 @@ impl<const N: usize, const CAP: usize> Machine<N, CAP> {
         let logs = blank_logs(alloc, count)?;
         let outputs = blank_outputs(alloc, count)?;
         let sent = blank_planes(alloc, count)?;
+        let crossing = Crossing::new(alloc, count)?;
         Ok(Machine {
             parts: Parts {
                 chips,
@@ -112,6 +114,7 @@ impl<const N: usize, const CAP: usize> Machine<N, CAP> {
                 clock,
                 outputs,
                 sent,
+                crossing,
             },
         })
     }
@@ -126,6 +129,7 @@ impl<const N: usize, const CAP: usize> Machine<N, CAP> {
         let logs = copied_logs(alloc, &self.parts.logs)?;
         let outputs = blank_outputs(alloc, count)?;
         let sent = blank_planes(alloc, count)?;
+        let crossing = Crossing::new(alloc, count)?;
         Ok(Machine {
             parts: Parts {
                 chips,
@@ -134,6 +138,7 @@ impl<const N: usize, const CAP: usize> Machine<N, CAP> {
                 clock: self.parts.clock,
                 outputs,
                 sent,
+                crossing,
             },
         })
     }

@@ -1,6 +1,6 @@
 //! What a machine is kept as, and what acts do to it.
 
-ghost use Rattle.std.specs.Prelude.{◌≡◌, ℕ, ◌+◌, ◌*◌, ◌^◌, ◌<◌, ◌≤◌, [], ◌∷◌, IfOk, IsOk, OnOk, length};
+ghost use Rattle.std.specs.Prelude.{◌≡◌, ◌+◌, ◌*◌, ◌^◌, ◌<◌, ◌≤◌, [], ◌∷◌, IfOk, IsOk, OnOk, length, vec_len, vec_capacity};
 ghost use Rattle.cm_model.specs.Chip.{blank_chip};
 ghost use Rattle.cm_model.specs.Each.{each_from};
 ghost use Rattle.cm_model.specs.Array.{after_nano};
@@ -12,6 +12,7 @@ ghost use Rattle.cm_array.specs.Parts.{machine_of, AreParts};
 
 use crate::stepping::{compute, step_alone, store_all};
 use cm_bits::{NoMemory, Plane};
+use cm_crossing::Crossing;
 use cm_element::{Chip, Outputs};
 use cm_message::Event;
 use cm_model::{Act, Nano};
@@ -21,8 +22,8 @@ use std::alloc::Global;
 
 const NEWS_FLAG: u8 = 10;
 
-/// What a machine keeps, and the working room of an instruction, so that a run of instructions takes
-/// no memory.
+/// What a machine keeps, and the working room of instructions and petit cycles, so that these take no
+/// memory.
 #[derive(Debug, Drop)]
 pub(crate) struct Parts {
     /// By number.
@@ -37,6 +38,8 @@ pub(crate) struct Parts {
     pub(crate) outputs: Vec<Outputs>,
     /// By chip, what it sends over the grid.
     pub(crate) sent: Vec<Plane>,
+    /// What stands at each chip while messages cross the dimensions.
+    pub(crate) crossing: Crossing,
 }
 
 /// Runs the acts one after another, in routers with room for `CAP` messages each.
@@ -70,6 +73,7 @@ fn run_one<const N: usize, const CAP: usize>(parts: &mut Parts, act: &Act)
                 &mut parts.nodes,
                 &mut parts.logs,
                 parts.clock,
+                &mut parts.crossing,
             );
             parts.clock += 1;
         }
@@ -101,8 +105,31 @@ pub(crate) fn reserve(logs: &mut [Vec<Event>], more: usize) -> Result<(), NoMemo
         return Ok(());
     }
     for c in 0..logs.len() {
-        logs[c].reserve(more)?;
+        make_room(&mut logs[c], more)?;
     }
+    Ok(())
+}
+
+/// Makes room in a log for so many events more. A log that has to grow gets twice its room at least,
+/// and only the events that it holds are moved, not all that it had room for.
+fn make_room(log: &mut Vec<Event>, more: usize) -> Result<(), NoMemory>
+    ensures items { log.new.items ≡ log.old.items }
+    ensures len { vec_len log.new ≡ vec_len log.old }
+    ensures ok { OnOk result (vec_len log.new + more ≤ vec_capacity log.new) }
+    ensures succeeds { vec_len log.old + more ≤ vec_capacity log.old → IsOk result }
+    ensures grows { OnOk result (vec_capacity log.old < vec_capacity log.new
+        → 2 * vec_capacity log.old ≤ vec_capacity log.new) }
+{
+    if more <= log.capacity() - log.len() {
+        return Ok(());
+    }
+    let Some(wanted) = log.len().checked_add(more) else {
+        return Err(NoMemory);
+    };
+    let room = wanted.max(log.capacity().saturating_mul(2));
+    let mut grown = Vec::with_capacity(*log.allocator(), room)?;
+    grown.extend_from_slice(log)?;
+    *log = grown;
     Ok(())
 }
 

@@ -12,8 +12,8 @@ use Rattle.cm_model.specs.Cycle.{log_at}
 use Rattle.cm_model.specs.Machine.{Machine, buffer_at}
 use Rattle.cm_model.specs.Letters.{can_receive, chip_after_delivery}
 use Rattle.cm_model.specs.Buffers.{delivered_in, kept, machine_after_delivery}
-use Rattle.cm_router.specs.Buffer.{Buffer, holding, delivered_by, kept_by}
-use Rattle.cm_petit.specs.Routers.{Log, free_at, buffers_of, events_of, machine_of, AreRouters, HasLogRoom}
+use Rattle.cm_router.specs.Buffer.{Buffer, holding, delivered_by, kept_by, buffers_of}
+use Rattle.cm_petit.specs.Routers.{Log, free_at, events_of, machine_of, AreRouters, HasLogRoom}
 use Rattle.cm_petit.proofs.Made.{AreMade, HaveLost, made_more, made_more_of, not_yet_made, not_yet_made_of, made_all, lost_more, free_read}
 
 -- what delivery makes of a chip, its buffer and its log

@@ -14,8 +14,8 @@ use Rattle.cm_model.specs.Cycle.{log_at}
 use Rattle.cm_model.specs.Machine.{Machine, buffer_at}
 use Rattle.cm_model.specs.Letters.{is_among, processor_after_injection, chip_after_injection}
 use Rattle.cm_model.specs.Buffers.{taken_in, sent_in, machine_after_injection}
-use Rattle.cm_router.specs.Buffer.{Buffer, holding, taken_by, sent_to}
-use Rattle.cm_petit.specs.Routers.{Log, buffers_of, events_of, machine_of, AreRouters}
+use Rattle.cm_router.specs.Buffer.{Buffer, holding, taken_by, sent_to, buffers_of}
+use Rattle.cm_petit.specs.Routers.{Log, events_of, machine_of, AreRouters}
 use Rattle.cm_petit.proofs.Made.{AreMade, HaveLost, made_more, made_more_of, not_yet_made, not_yet_made_of, made_all, lost_more}
 
 -- what injection makes of a chip, its buffer and its log

@@ -1,6 +1,5 @@
 pub mod Made
-pub mod Pairing
 pub mod Injecting
 pub mod Delivering
-pub mod Crossing
+pub mod Dimensions
 pub mod Quiet

@@ -2,19 +2,14 @@
 use Rattle.std.specs.Prelude.{◌≡◌, ℕ, ◌+◌, ◌-◌, ◌<◌, ◌≤◌, ◌^◌, List, length, map, slice_index, Vec, vec_len, vec_capacity}
 use Rattle.std.specs.List.{All}
 use Rattle.std.specs.declared.alloc.Global.{Global}
-use Rattle.cm_model.specs.declared.message.Message.{Message}
 use Rattle.cm_model.specs.declared.message.Event.{Event}
 use Rattle.cm_model.specs.Array.{Chips}
 use Rattle.cm_model.specs.Machine.{Machine}
-use Rattle.cm_router.specs.Buffer.{Buffer}
+use Rattle.cm_router.specs.Buffer.{Buffer, buffers_of}
 
 -- the log of one chip
 abbrev pub Log : Type 0
 Log = Vec Event Global
-
--- the messages of each node
-abbrev pub buffers_of : List Buffer → List (List Message)
-buffers_of nodes = map (λ node. node.messages) nodes
 
 -- the events of each log
 abbrev pub events_of : List Log → List (List Event)

@@ -1,5 +1,5 @@
 -- What contracts see of a node of the router, and what it takes in and delivers on its chip: Hillis 1985.
-use Rattle.std.specs.Prelude.{ℕ, ◌<◌, ◌≤◌, List, [], length}
+use Rattle.std.specs.Prelude.{ℕ, ◌<◌, ◌≤◌, List, [], length, map}
 use Rattle.cm_model.specs.declared.message.Message.{Message}
 use Rattle.cm_model.specs.Processor.{Processor}
 use Rattle.cm_model.specs.Letters.{senders_taken, messages_sent, can_receive}
@@ -20,6 +20,10 @@ pub record IsBuffer (buffer : Buffer) : Type 0 where
 -- the same node with these messages
 abbrev pub holding : Buffer → List Message → Buffer
 holding buffer ms = record buffer { messages = ms }
+
+-- the messages of each node
+abbrev pub buffers_of : List Buffer → List (List Message)
+buffers_of nodes = map (λ node. node.messages) nodes
 
 -- the processors of a chip whose messages it takes in
 abbrev pub taken_by : Buffer → List Processor → List ℕ

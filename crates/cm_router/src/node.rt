@@ -63,8 +63,16 @@ impl Node {
     pub fn messages(&self) -> &[Message]
         ensures value { result.now ≡ self.now.messages }
         ensures within { length result.now ≤ self.now.room }
+        ensures whole { IsBuffer self.now }
     {
         self.messages.as_slice()
+    }
+
+    /// Takes all messages away.
+    pub fn clear(&mut self)
+        ensures value { self.new ≡ holding self.old [] }
+    {
+        self.messages.clear();
     }
 
     /// Whether there is no room left.

@@ -3,7 +3,7 @@ use Rattle.std.specs.List.{list_any}
 use Rattle.cm_model.specs.declared.message.Message.{Message}
 use Rattle.cm_model.specs.Machine.{buffer_at}
 use Rattle.cm_model.specs.Found.{same_tag}
-use Rattle.cm_petit.specs.Routers.{buffers_of}
+use Rattle.cm_router.specs.Buffer.{buffers_of}
 use Rattle.cm_array.proofs.Searching.{find_here, find_next, buffer_at-read}
 use Rattle.cm_array.proofs.finding.router_of.Goals as goal
 

@@ -2,7 +2,7 @@ use Rattle.std.proofs.Common.{◌≡◌, ◌-◌, length}
 use Rattle.std.specs.List.{find, list_any, range_with_len}
 use Rattle.cm_model.specs.Machine.{buffer_at}
 use Rattle.cm_model.specs.Found.{same_tag}
-use Rattle.cm_petit.specs.Routers.{buffers_of}
+use Rattle.cm_router.specs.Buffer.{buffers_of}
 use Rattle.cm_array.proofs.finding.router_of.Given as goal
 
 abbrev pub invariant-loop-c : goal.invariant-loop-c

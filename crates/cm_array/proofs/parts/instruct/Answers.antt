@@ -20,7 +20,7 @@ returns-then-get-eq-NEWS_FLAG-clause-parts g c =
     c.requires.parts.rooms
     (ap length (items-lent before.outputs c.compute.new.outputs same_outputs) ∙ same_outputs)
     (ap length (items-lent before.sent c.compute.new.sent same_sent) ∙ same_sent)
-    c.requires.parts.clock
+    refl c.requires.parts.clock
 
 pub returns-else-get-eq-NEWS_FLAG-clause-parts : goal.returns-else-get-eq-NEWS_FLAG-clause-parts
 returns-else-get-eq-NEWS_FLAG-clause-parts g c =
@@ -31,4 +31,4 @@ returns-else-get-eq-NEWS_FLAG-clause-parts g c =
     c.step_alone.ensures.value ∙ ap (λ (chips : Chips). after_nano g.row.N c.args.nano.now chips) lent in
     AreParts-after_act g.row.N g.row.CAP (Nano c.args.nano.now) before _ c.requires.parts
     (ap (λ (chips : Chips). record (machine_of before) { chips = chips }) (items-lent before.chips c.step_alone.new.chips same_chips ∙ stepped))
-    c.requires.parts.rooms refl refl c.requires.parts.clock
+    c.requires.parts.rooms refl refl refl c.requires.parts.clock

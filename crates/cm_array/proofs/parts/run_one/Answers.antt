@@ -6,8 +6,8 @@ use Rattle.cm_model.specs.declared.act.Act.TheVariants.{Cycle}
 use Rattle.cm_model.specs.Array.{Chips}
 use Rattle.cm_model.specs.Machine.{Machine}
 use Rattle.cm_model.specs.Buffers.{after_act}
-use Rattle.cm_router.specs.Buffer.{Buffer}
-use Rattle.cm_petit.specs.Routers.{Log, buffers_of, events_of, machine_of as machine_from}
+use Rattle.cm_router.specs.Buffer.{Buffer, buffers_of}
+use Rattle.cm_petit.specs.Routers.{Log, events_of, machine_of as machine_from}
 use Rattle.cm_array.specs.Acts.{cycles_in}
 use Rattle.cm_array.proofs.Lists.{items-lent}
 use Rattle.cm_array.proofs.Machines.{AreParts-after_act}
@@ -34,4 +34,4 @@ returns-in-Cycle-clause-parts g c =
     ∙ ap (λ (ns : List Buffer). was (machine_from before.chips.items ns c.deref_mut-in-Cycle-2.result.now before.clock)) c.deref_mut-in-Cycle.ensures.value
     ∙ ap (λ (ls : List Log). was (machine_from before.chips.items before.nodes.items ls before.clock)) c.deref_mut-in-Cycle-2.ensures.value)
     (subst (λ (ns : List Buffer). All (λ (node : Buffer). node.room ≡ g.row.CAP) ns) (sym nodes_back) c.cycle.ensures.routers.rooms)
-    refl refl (omega (arith, counted))
+    refl refl (c.cycle.ensures.working_room ∙ sym c.requires.parts.crossing_count) (omega (arith, counted))

@@ -1,0 +1,340 @@
+//! The messages of all chips while they cross.
+
+ghost use Rattle.std.specs.Prelude.{◌≡◌, ◌+◌, ◌*◌, ◌^◌, ◌<◌, ◌≤◌, [], ◌∷◌, ◌++◌, IfOk, IsFalse, false, IsTrue, length, bit_xor, vec_len, vec_capacity};
+ghost use Rattle.std.specs.List.{All};
+ghost use Rattle.cm_model.specs.Each.{each_from};
+ghost use Rattle.cm_model.specs.Array.{each_chip};
+ghost use Rattle.cm_model.specs.Machine.{buffer_at};
+ghost use Rattle.cm_model.specs.Buffers.{outgoing, buffer_after_dimension};
+ghost use Rattle.cm_router.specs.Buffer.{IsBuffer, holding, buffers_of};
+ghost use Rattle.cm_crossing.specs.Standing.{message_of, standing, all_standing, AreKept, AreQuiet};
+
+use crate::exchange::{BLOCK, cross_row};
+use crate::queue::{Queue, Ticket};
+use cm_bits::NoMemory;
+use cm_message::Message;
+use cm_router::Node;
+use std::alloc::Global;
+use std::marker::Model;
+
+/// As many blocks as the largest machine has.
+const BLOCKS: usize = 64;
+
+/// The working room of petit cycles: what stands at each chip while messages cross the dimensions. A
+/// message stays where it is kept; what crosses is a ticket, the relative address and the place of
+/// the message (ours).
+#[derive(Debug, Drop)]
+pub struct Crossing {
+    /// The messages as they were before the first dimension.
+    row: Vec<Message>,
+    /// By chip, the tickets of the messages that stand there.
+    queues: Vec<Queue>,
+    /// By block of chips, whether a ticket may stand there.
+    busy: [bool; BLOCKS],
+}
+
+impl Model for Crossing {
+    ghost use Rattle.std.specs.Prelude.{List};
+    ghost use Rattle.cm_model.specs.declared.message.Message.{Message};
+    ghost use Rattle.cm_crossing.specs.Standing.{all_standing, IsCrossing};
+
+    ghost Value = { List (List Message) };
+
+    ghost view = { λ crossing. all_standing crossing.row.items crossing.queues.items };
+
+    ghost invariant = { λ crossing. IsCrossing crossing.row crossing.queues.items crossing.busy };
+}
+
+impl Crossing {
+    /// Working room for so many chips, at which no message stands.
+    pub fn new(alloc: Global, chips: usize) -> Result<Crossing, NoMemory>
+        requires few { chips ≤ 4096 }
+        ensures value { IfOk result (λ crossing. crossing ≡ each_from 0 chips (λ c. [])) }
+        ensures count { IfOk result (λ crossing. length crossing ≡ chips) }
+    {
+        let row = Vec::with_capacity(alloc, 15 * chips)?;
+        let queues = empty_queues(alloc, chips)?;
+        Ok(Crossing {
+            row,
+            queues,
+            busy: [false; BLOCKS],
+        })
+    }
+
+    /// Takes the messages out of the nodes; what stood here before is gone.
+    pub fn take_up<const CAP: usize>(&mut self, nodes: &mut [Node])
+        requires count { length nodes.old ≡ length self.old }
+        requires rooms { All (λ node. node.room ≡ CAP) nodes.old }
+        ensures value { self.new ≡ buffers_of nodes.old }
+        ensures count { length self.new ≡ length nodes.old }
+        ensures within { All (λ ms. length ms ≤ CAP) self.new }
+        ensures room { 0 < length nodes.old → (0 < CAP) × (CAP ≤ 15) }
+        ensures rooms { All (λ node. node.room ≡ CAP) nodes.new }
+        ensures taken { All (λ node. node.messages ≡ []) nodes.new }
+    {
+        forget(&mut self.queues, &mut self.busy);
+        issue::<CAP>(&mut self.row, &mut self.queues, &mut self.busy, nodes);
+    }
+
+    /// True only where no message stands here.
+    pub fn is_empty(&self) -> bool
+        ensures none { IsTrue result → All (λ ms. ms ≡ []) self.now }
+    {
+        self.row.is_empty()
+    }
+
+    /// The messages cross a dimension.
+    pub fn cross<const N: usize, const CAP: usize>(&mut self, dim: u8)
+        requires dimension { N ≤ 12 }
+        requires dim { dim < N }
+        requires some { 0 < CAP }
+        requires most { CAP ≤ 15 }
+        requires count { length self.old ≡ 2 ^ N }
+        requires within { All (λ ms. length ms ≤ CAP) self.old }
+        ensures value { self.new ≡ each_chip N (λ c. buffer_after_dimension CAP dim
+            (buffer_at self.old c) (outgoing CAP dim (buffer_at self.old (bit_xor c (2 ^ dim))))) }
+        ensures count { length self.new ≡ 2 ^ N }
+        ensures within { All (λ ms. length ms ≤ CAP) self.new }
+    {
+        cross_row::<N>(&mut self.queues, &mut self.busy, CAP as u8, dim);
+    }
+
+    /// Puts the messages back into the nodes.
+    pub fn put_back<const CAP: usize>(&self, nodes: &mut [Node])
+        requires count { length nodes.old ≡ length self.now }
+        requires rooms { All (λ node. node.room ≡ CAP) nodes.old }
+        requires taken { All (λ node. node.messages ≡ []) nodes.old }
+        requires within { All (λ ms. length ms ≤ CAP) self.now }
+        ensures value { buffers_of nodes.new ≡ self.now }
+        ensures rooms { All (λ node. node.room ≡ CAP) nodes.new }
+    {
+        let mut c = 0;
+        while c < nodes.len() {
+            if c % BLOCK == 0 && !self.busy[c / BLOCK] {
+                c += BLOCK;
+            } else {
+                settle(&mut nodes[c], &self.row, &self.queues[c]);
+                c += 1;
+            }
+        }
+    }
+}
+
+fn empty_queues(alloc: Global, chips: usize) -> Result<Vec<Queue>, NoMemory>
+    ensures value { IfOk result (λ queues. queues.items ≡ each_from 0 chips (λ c. [])) }
+{
+    let mut queues = Vec::with_capacity(alloc, chips)?;
+    for _c in 0..chips {
+        let Ok(()) = queues.push(Queue::new()) else {
+            return Err(NoMemory);
+        };
+    }
+    Ok(queues)
+}
+
+/// Takes all tickets away.
+fn forget(queues: &mut [Queue], busy: &mut [bool])
+    requires few { length queues.old ≤ 4096 }
+    requires blocks { length busy.old ≡ 64 }
+    requires quiet { AreQuiet busy.old queues.old }
+    ensures none { All (λ ts. ts ≡ []) queues.new }
+    ensures idle { All (λ b. b ≡ false) busy.new }
+{
+    let mut c = 0;
+    while c < queues.len() {
+        if c % BLOCK == 0 && !busy[c / BLOCK] {
+            c += BLOCK;
+        } else {
+            queues[c].clear();
+            c += 1;
+        }
+    }
+    busy.fill(false);
+}
+
+/// Gives each message of the nodes a place in the row, and its chip a ticket for it.
+fn issue<const CAP: usize>(
+    row: &mut Vec<Message>,
+    queues: &mut [Queue],
+    busy: &mut [bool],
+    nodes: &mut [Node],
+)
+    requires few { length queues.old ≤ 4096 }
+    requires blocks { length busy.old ≡ 64 }
+    requires none { All (λ ts. ts ≡ []) queues.old }
+    requires capacity { 15 * length queues.old ≤ vec_capacity row.old }
+    requires count { length nodes.old ≡ length queues.old }
+    requires rooms { All (λ node. node.room ≡ CAP) nodes.old }
+    ensures value { all_standing row.new.items queues.new ≡ buffers_of nodes.old }
+    ensures kept { All (AreKept (length row.new.items)) queues.new }
+    ensures capacity { vec_capacity row.old ≤ vec_capacity row.new }
+    ensures within { All (λ ts. length ts ≤ CAP) queues.new }
+    ensures quiet { AreQuiet busy.new queues.new }
+    ensures room { 0 < length nodes.old → (0 < CAP) × (CAP ≤ 15) }
+    ensures rooms { All (λ node. node.room ≡ CAP) nodes.new }
+    ensures taken { All (λ node. node.messages ≡ []) nodes.new }
+{
+    row.clear();
+    for c in 0..nodes.len() {
+        if enter(row, &mut queues[c], &mut nodes[c]) {
+            busy[c / BLOCK] = true;
+        }
+    }
+}
+
+/// Takes the messages out of one node, and tells whether there were any.
+fn enter(row: &mut Vec<Message>, queue: &mut Queue, node: &mut Node) -> bool
+    requires few { vec_len row.old + 15 ≤ 65536 }
+    requires capacity { vec_len row.old + 15 ≤ vec_capacity row.old }
+    requires none { queue.old ≡ [] }
+    ensures items { row.new.items ≡ row.old.items ++ node.old.messages }
+    ensures value { standing row.new.items queue.new ≡ node.old.messages }
+    ensures kept { AreKept (length row.new.items) queue.new }
+    ensures within { length queue.new ≤ node.old.room }
+    ensures len { vec_len row.new ≤ vec_len row.old + 15 }
+    ensures capacity { vec_capacity row.old ≤ vec_capacity row.new }
+    ensures whole { IsBuffer node.old }
+    ensures taken { node.new ≡ holding node.old [] }
+    ensures told { IsFalse result → queue.new ≡ [] }
+    ensures some { IsTrue result → 0 < length queue.new }
+{
+    if node.messages().is_empty() {
+        return false;
+    }
+    stand(row, queue, node);
+    node.clear();
+    true
+}
+
+/// The messages of one node.
+fn stand(row: &mut Vec<Message>, queue: &mut Queue, node: &Node)
+    requires few { vec_len row.old + 15 ≤ 65536 }
+    requires capacity { vec_len row.old + 15 ≤ vec_capacity row.old }
+    requires none { queue.old ≡ [] }
+    ensures items { row.new.items ≡ row.old.items ++ node.now.messages }
+    ensures value { standing row.new.items queue.new ≡ node.now.messages }
+    ensures kept { AreKept (length row.new.items) queue.new }
+    ensures within { length queue.new ≤ node.now.room }
+    ensures len { vec_len row.new ≤ vec_len row.old + 15 }
+    ensures capacity { vec_capacity row.old ≤ vec_capacity row.new }
+    ensures whole { IsBuffer node.now }
+{
+    for message in node.messages() {
+        let number = keep(row, message);
+        queue.arrive(Ticket {
+            rel: message.rel,
+            number,
+        });
+    }
+}
+
+/// Keeps a message in the row, and tells its place there.
+fn keep(row: &mut Vec<Message>, message: &Message) -> u16
+    requires few { vec_len row.old < 65536 }
+    requires room { vec_len row.old < vec_capacity row.old }
+    ensures number { result ≡ length row.old.items }
+    ensures items { row.new.items ≡ row.old.items ++ message.now ∷ [] }
+    ensures len { vec_len row.new ≡ vec_len row.old + 1 }
+    ensures capacity { vec_capacity row.old ≤ vec_capacity row.new }
+{
+    let number = row.len() as u16;
+    row.push(*message).unwrap();
+    number
+}
+
+/// Puts the messages of a queue into a node.
+fn settle(node: &mut Node, row: &[Message], queue: &Queue)
+    requires kept { AreKept (length row.now) queue.now }
+    requires room { length queue.now ≤ node.old.room }
+    requires taken { node.old.messages ≡ [] }
+    ensures value { node.new ≡ holding node.old (standing row.now queue.now) }
+{
+    for place in 0..queue.len() {
+        node.arrive(message_of(row, queue.ticket(place)));
+    }
+}
+
+/// The message that a ticket stands for.
+fn message_of(row: &[Message], ticket: Ticket) -> Message
+    requires kept { ticket.number < length row.now }
+    ensures value { result ≡ message_of row.now ticket }
+{
+    Message {
+        rel: ticket.rel,
+        ..row[usize::from(ticket.number)]
+    }
+}
+
+#[cfg(test)]
+mod tests {
+    use super::Crossing;
+    use cm_bits::Proc;
+    use cm_message::{Message, Tag};
+    use cm_router::Node;
+    use std::test::Fail;
+
+    fn message(rel: u16, birth: u64) -> Message {
+        Message {
+            rel,
+            proc: Proc::default(),
+            payload: 0xdead_beef,
+            tag: Tag {
+                chip: 1,
+                proc: Proc::default(),
+                birth,
+            },
+        }
+    }
+
+    #[test]
+    fn messages_cross_in_order_and_come_back(rt: HostRuntime) -> Result<(), Fail> {
+        let mut nodes = [Node::new(3), Node::new(3)];
+        nodes[0].arrive(message(0, 0));
+        nodes[0].arrive(message(1, 1));
+        nodes[0].arrive(message(1, 2));
+        nodes[1].arrive(message(0, 3));
+        let mut crossing = Crossing::new(rt.alloc(), 2)?;
+        crossing.take_up::<3>(&mut nodes);
+        crossing.cross::<1, 3>(0);
+        crossing.put_back::<3>(&mut nodes);
+        let stayed = [message(0, 0), message(1, 2)];
+        let came = [message(0, 3), message(0, 1)];
+        assert_eq!(rt; nodes[0].messages(), stayed.as_slice());
+        assert_eq!(rt; nodes[1].messages(), came.as_slice());
+        Ok(())
+    }
+
+    #[test]
+    fn two_full_chips_refer_their_last_to_each_other(rt: HostRuntime) -> Result<(), Fail> {
+        let mut nodes = [Node::new(1), Node::new(1)];
+        nodes[0].arrive(message(0, 0));
+        nodes[1].arrive(message(0, 1));
+        let mut crossing = Crossing::new(rt.alloc(), 2)?;
+        crossing.take_up::<1>(&mut nodes);
+        crossing.cross::<1, 1>(0);
+        crossing.put_back::<1>(&mut nodes);
+        assert_eq!(rt; nodes[0].messages(), [message(1, 1)].as_slice());
+        assert_eq!(rt; nodes[1].messages(), [message(1, 0)].as_slice());
+        Ok(())
+    }
+
+    #[test]
+    fn what_stood_in_the_working_room_is_of_no_account(rt: HostRuntime) -> Result<(), Fail> {
+        let mut nodes = [Node::new(2), Node::new(2), Node::new(2), Node::new(2)];
+        nodes[3].arrive(message(3, 0));
+        nodes[3].arrive(message(3, 1));
+        let mut crossing = Crossing::new(rt.alloc(), 4)?;
+        crossing.take_up::<2>(&mut nodes);
+        crossing.cross::<2, 2>(0);
+        nodes[1].arrive(message(2, 7));
+        crossing.take_up::<2>(&mut nodes);
+        crossing.cross::<2, 2>(0);
+        crossing.cross::<2, 2>(1);
+        crossing.put_back::<2>(&mut nodes);
+        assert!(rt; nodes[0].messages().is_empty());
+        assert!(rt; nodes[1].messages().is_empty());
+        assert!(rt; nodes[2].messages().is_empty());
+        assert_eq!(rt; nodes[3].messages(), [message(0, 7)].as_slice());
+        Ok(())
+    }
+}

@@ -1,0 +1,277 @@
+//! The tickets of one chip.
+
+ghost use Rattle.std.specs.Prelude.{◌≡◌, ◌<◌, ◌≤◌, [], ◌∷◌, ◌++◌, length, position, remove, slice_index_or, IfSome};
+ghost use Rattle.cm_model.specs.Buffers.{without};
+ghost use Rattle.cm_crossing.specs.Rows.{IsClosed, IsFirstWith};
+ghost use Rattle.cm_crossing.specs.Tickets.{has_to_go, place_left, ticket_across, ticket_going};
+
+use std::marker::Model;
+use std::simd::prelude::*;
+
+/// Crosses in the place of a message: which dimensions that has still to cross, and where it is kept.
+#[derive(Clone, Copy, Debug, Default, PartialEq, Eq)]
+pub struct Ticket {
+    /// The message's relative address by now.
+    pub rel: u16,
+    /// The message's place in the row.
+    pub number: u16,
+}
+
+/// The tickets of a chip's messages, in order of arrival, at most 15: in two rows, so that all are
+/// looked at, and moved, at once.
+#[derive(Clone, Debug, Drop)]
+pub struct Queue {
+    rels: [u16; 16],
+    numbers: [u16; 16],
+    // the places from here on hold anything
+    len: u8,
+}
+
+impl Model for Queue {
+    ghost use Rattle.std.specs.Prelude.{List, ◌≤◌};
+    ghost use Rattle.cm_crossing.specs.declared.queue.Ticket.{Ticket};
+    ghost use Rattle.cm_crossing.specs.Rows.{tickets_in};
+
+    ghost Value = { List Ticket };
+
+    ghost view = { λ queue. tickets_in queue.rels queue.numbers queue.len };
+
+    ghost invariant = { λ queue. queue.len ≤ 15 };
+}
+
+const PLACES: [u16; 16] = [0, 1, 2, 3, 4, 5, 6, 7, 8, 9, 10, 11, 12, 13, 14, 15];
+
+impl Queue {
+    /// An empty queue.
+    pub fn new() -> Queue
+        ensures value { result ≡ [] }
+    {
+        Queue {
+            rels: [0; 16],
+            numbers: [0; 16],
+            len: 0,
+        }
+    }
+
+    /// How many tickets stand here.
+    pub fn len(&self) -> usize
+        ensures value { result ≡ length self.now }
+        ensures most { result ≤ 15 }
+    {
+        usize::from(self.len)
+    }
+
+    /// The ticket at a place, 0 the first that came.
+    pub fn ticket(&self, place: usize) -> Ticket
+        requires within { place < length self.now }
+        ensures value { result ≡ slice_index_or self.now place result }
+    {
+        let rels = &self.rels;
+        let numbers = &self.numbers;
+        Ticket {
+            rel: rels[place],
+            number: numbers[place],
+        }
+    }
+
+    /// Takes all tickets away.
+    pub fn clear(&mut self)
+        ensures value { self.new ≡ [] }
+    {
+        self.len = 0;
+    }
+
+    /// Takes in a ticket, which stands last.
+    pub fn arrive(&mut self, ticket: Ticket)
+        requires room { length self.old < 15 }
+        ensures value { self.new ≡ self.old ++ ticket ∷ [] }
+    {
+        let place = usize::from(self.len);
+        self.rels[place] = ticket.rel;
+        self.numbers[place] = ticket.number;
+        self.len += 1;
+    }
+
+    /// Takes out what goes across a dimension, where there is room for so many messages: the first
+    /// that has to cross it, or else, where the queue is full, the last.
+    pub fn leave(&mut self, room: u8, dim: u8) -> Option<Ticket>
+        requires dimension { dim < 12 }
+        requires some { 0 < room }
+        requires most { room ≤ 15 }
+        requires within { length self.old ≤ room }
+        ensures value { result ≡ ticket_going room dim self.old }
+        ensures stays { self.new ≡ without self.old (place_left room dim self.old) }
+        ensures room { length self.new < room }
+    {
+        if self.len() == 0 {
+            return None;
+        }
+        let place = self.place_left(room, dim)?;
+        Some(across(self.remove(place), dim))
+    }
+
+    /// The place of who leaves.
+    #[tactic(auto, unfolding(crate::specs::Tickets::place_left))]
+    fn place_left(&self, room: u8, dim: u8) -> Option<usize>
+        requires dimension { dim < 12 }
+        requires some { 0 < room }
+        ensures value { result ≡ place_left room dim self.now }
+        ensures within { IfSome result (λ place. place < length self.now) }
+    {
+        match self.first_to_go(dim) {
+            Some(place) => Some(place),
+            None if self.len() == usize::from(room) => Some(self.len() - 1),
+            None => None,
+        }
+    }
+
+    fn first_to_go(&self, dim: u8) -> Option<usize>
+        requires dimension { dim < 12 }
+        ensures value { result ≡ position (has_to_go dim) self.now }
+        ensures within { IfSome result (λ place. place < length self.now) }
+    {
+        let place = first_with(self.rels, dim);
+        if place < self.len() {
+            Some(place)
+        } else {
+            None
+        }
+    }
+
+    /// Takes out the ticket at a place; the later ones stand one place nearer the front.
+    fn remove(&mut self, place: usize) -> Ticket
+        requires within { place < length self.old }
+        ensures value { result ≡ slice_index_or self.old place result }
+        ensures stays { self.new ≡ remove self.old place }
+    {
+        let ticket = self.ticket(place);
+        self.rels = closed(self.rels, place);
+        self.numbers = closed(self.numbers, place);
+        self.len -= 1;
+        ticket
+    }
+}
+
+/// The place of the first number of a row with this bit.
+fn first_with(row: [u16; 16], dim: u8) -> usize
+    requires long { length row ≡ 16 }
+    requires dimension { dim < 12 }
+    ensures value { IsFirstWith dim row result }
+{
+    let bit = u16x16::splat(1 << dim);
+    let hits = (u16x16::from_array(row) & bit).simd_eq(bit).to_bitmask();
+    hits.trailing_zeros() as usize
+}
+
+/// The row without the number at a place: the later ones stand one place nearer the front, and the
+/// last place holds anything.
+fn closed(row: [u16; 16], place: usize) -> [u16; 16]
+    requires long { length row ≡ 16 }
+    requires within { place < 16 }
+    ensures value { IsClosed place row result }
+{
+    let row = u16x16::from_array(row);
+    u16x16::from_array(PLACES)
+        .simd_lt(u16x16::splat(place as u16))
+        .select(row, row.rotate_elements_left::<1>())
+        .to_array()
+}
+
+/// The ticket as it arrives across this dimension.
+fn across(ticket: Ticket, dim: u8) -> Ticket
+    requires dimension { dim < 12 }
+    ensures value { result ≡ ticket_across dim ticket }
+{
+    Ticket {
+        rel: ticket.rel ^ 1 << dim,
+        ..ticket
+    }
+}
+
+#[cfg(test)]
+mod tests {
+    use super::{Queue, Ticket};
+    use std::test::Fail;
+
+    fn ticket(rel: u16, number: u16) -> Ticket
+        ensures value { result ≡ record { rel = rel; number = number } }
+    {
+        Ticket { rel, number }
+    }
+
+    fn at(queue: &Queue, place: usize) -> Option<Ticket> {
+        if place < queue.len() {
+            Some(queue.ticket(place))
+        } else {
+            None
+        }
+    }
+
+    #[test]
+    fn a_ticket_that_has_to_cross_leaves_and_its_bit_falls(rt: HostRuntime) {
+        let mut queue = Queue::new();
+        assert_eq!(rt; queue.leave(15, 3), None);
+        queue.arrive(ticket(0b1_1010, 7));
+        assert_eq!(rt; queue.leave(15, 2), None);
+        assert_eq!(rt; queue.len(), 1);
+        assert_eq!(rt; queue.leave(15, 3), Some(ticket(0b1_0010, 7)));
+        assert_eq!(rt; queue.len(), 0);
+        assert_eq!(rt; queue.leave(15, 4), None);
+    }
+
+    #[test]
+    fn the_first_leaves_and_the_others_keep_their_order(rt: HostRuntime) {
+        let mut queue = Queue::new();
+        queue.arrive(ticket(0b010, 40));
+        queue.arrive(ticket(0b011, 41));
+        queue.arrive(ticket(0b100, 42));
+        queue.arrive(ticket(0b001, 43));
+        assert_eq!(rt; queue.leave(15, 0), Some(ticket(0b010, 41)));
+        assert_eq!(rt; queue.len(), 3);
+        assert_eq!(rt; at(&queue, 0), Some(ticket(0b010, 40)));
+        assert_eq!(rt; at(&queue, 1), Some(ticket(0b100, 42)));
+        assert_eq!(rt; at(&queue, 2), Some(ticket(0b001, 43)));
+        queue.arrive(ticket(0b111, 44));
+        assert_eq!(rt; at(&queue, 3), Some(ticket(0b111, 44)));
+    }
+
+    #[test]
+    fn a_full_queue_refers_its_last(rt: HostRuntime) {
+        let mut queue = Queue::new();
+        queue.arrive(ticket(0b0001, 1));
+        queue.arrive(ticket(0b0010, 2));
+        assert_eq!(rt; queue.leave(3, 11), None);
+        queue.arrive(ticket(0b0100, 3));
+        assert_eq!(rt; queue.leave(3, 11), Some(ticket(0b1000_0000_0100, 3)));
+        assert_eq!(rt; queue.len(), 2);
+        assert_eq!(rt; at(&queue, 0), Some(ticket(0b0001, 1)));
+        assert_eq!(rt; at(&queue, 1), Some(ticket(0b0010, 2)));
+    }
+
+    #[test]
+    fn fifteen_stand_and_the_last_place_is_looked_at(rt: HostRuntime) {
+        let mut queue = Queue::new();
+        for number in 0..15 {
+            if queue.len() < 15 {
+                queue.arrive(ticket(if number == 14 { 1 } else { 2 }, number));
+            }
+        }
+        assert_eq!(rt; queue.len(), 15);
+        assert_eq!(rt; queue.leave(15, 0), Some(ticket(0, 14)));
+        assert_eq!(rt; queue.leave(15, 0), None);
+        assert_eq!(rt; queue.leave(15, 1), Some(ticket(0, 0)));
+        assert_eq!(rt; at(&queue, 12), Some(ticket(2, 13)));
+    }
+
+    #[test]
+    fn a_queue_that_is_cleared_is_empty(rt: HostRuntime) -> Result<(), Fail> {
+        let mut queue = Queue::new();
+        queue.arrive(ticket(0b1, 1));
+        let copy = queue.clone()?;
+        queue.clear();
+        assert_eq!(rt; queue.len(), 0);
+        assert_eq!(rt; queue.leave(15, 0), None);
+        assert_eq!(rt; at(&copy, 0), Some(ticket(0b1, 1)));
+        Ok(())
+    }
+}
