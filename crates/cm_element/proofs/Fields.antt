@@ -1,15 +1,68 @@
--- The value of a memory field, from its top bit down.
-use Rattle.std.proofs.Common.{◌≡◌, ℕ, ◌+◌, ◌-◌, ◌*◌, ◌^◌, ◌<◌, ◌≤◌, suc, Bool, true, false, length, take, refl, ap, ◌∙◌, arith, add-one, pow-suc, lit<}
-use Rattle.std.proofs.Math.Seq.{drop-cons}
+-- The value of a memory field, from its top bit down, or sixteen bits at once.
+use Rattle.std.proofs.Common.{◌≡◌, ℕ, ◌+◌, ◌-◌, ◌*◌, ◌^◌, ◌<◌, ◌≤◌, zero, suc, Bool, true, false, List, [], ◌∷◌, length, map, take, drop, refl, ap, ◌∙◌, arith, add-one, pow-suc, lit<}
+use Rattle.std.proofs.Math.Nat.{mul-zero, mul_comm, mul_assoc}
+use Rattle.std.proofs.Math.Seq.{drop-cons, drop-drop}
+use Rattle.std.proofs.lemmas.List.{take-map, drop-map}
+use Rattle.std.proofs.Math.Pow.{pow_mono}
 use mir.Val.{bool_byte}
-use Rattle.cm_bits.specs.Bit.{bit_number}
+use Rattle.cm_bits.specs.Bit.{bit, bit_number}
 use Rattle.cm_model.specs.Processor.{Processor, memory_bit, value, field_value}
+use Rattle.cm_model.specs.Chip.{processor_at}
+use Rattle.cm_model.proofs.Messages.{field_value-lt}
+use Rattle.cm_element.specs.Planes.{chip_of}
+use Rattle.cm_element.proofs.Planes.{processor_at-chip_of}
 
 -- a field's lowest bit and the field of the others
 field-lowest : (processor : Processor) (a n : ℕ) → a < length processor.memory
     → field_value processor a (suc n) ≡ bit_number (memory_bit processor a) + 2 * field_value processor (suc a) n
 unfolding field_value
 field-lowest processor a n inside = ap (λ bits. value (take (suc n) bits)) (drop-cons processor.memory a false inside)
+
+value-nothing : (n : ℕ) → value (take n []) ≡ 0
+value-nothing zero = refl
+value-nothing (suc n) = refl
+
+-- the lowest bits of a number, and the others
+value-parts : (low high : ℕ) (bits : List Bool) → value (take (low + high) bits) ≡ value (take low bits) + 2 ^ low * value (take high (drop low bits))
+value-parts zero high bits =
+    let all : 0 + high ≡ high = omega arith in
+    let alone : value (take high bits) ≡ 0 + 1 * value (take high bits) = omega arith in
+    ap (λ (n : ℕ). value (take n bits)) all ∙ alone
+value-parts (suc low) high [] =
+    let above : 2 ^ suc low * value (take high []) ≡ 0 = ap (λ (n : ℕ). 2 ^ suc low * n) (value-nothing high) ∙ mul-zero (2 ^ suc low) in
+    let both : 0 ≡ 0 + 2 ^ suc low * value (take high []) = omega (arith, above) in
+    value-nothing (suc low + high) ∙ both
+value-parts (suc low) high (b ∷ bits) =
+    let next : suc low + high ≡ suc (low + high) = omega arith in
+    let rest : value (take (low + high) bits) ≡ value (take low bits) + 2 ^ low * value (take high (drop low bits)) = value-parts low high bits in
+    let twice : 2 ^ suc low * value (take high (drop low bits)) ≡ 2 * (2 ^ low * value (take high (drop low bits))) =
+    ap (λ (n : ℕ). n * value (take high (drop low bits))) (pow-suc 2 low ∙ mul_comm (2 ^ low) 2) ∙ mul_assoc 2 (2 ^ low) (value (take high (drop low bits))) in
+    ap (λ (n : ℕ). value (take n (b ∷ bits))) next ∙ omega (arith, rest, twice)
+
+-- sixteen more bits below the topmost bits of a field
+pub field-sixteen_lower : (processor : Processor) (at n top number : ℕ) → top ≡ field_value processor (at + 16) n → number ≡ field_value processor at 16
+    → top * 65536 + number ≡ field_value processor at (16 + n)
+unfolding field_value
+field-sixteen_lower processor at n top number top_is number_is =
+    let both : value (take (16 + n) (drop at processor.memory)) ≡ value (take 16 (drop at processor.memory)) + 65536 * value (take n (drop 16 (drop at processor.memory))) =
+    value-parts 16 n (drop at processor.memory) in
+    let above : value (take n (drop 16 (drop at processor.memory))) ≡ value (take n (drop (at + 16) processor.memory)) = ap (λ bits. value (take n bits)) (drop-drop 16 at processor.memory) in
+    omega (arith, both, above, top_is, number_is)
+
+-- a field's value is below any power of two of as many bits or more
+pub field_below : (processor : Processor) (at len most number : ℕ) → number ≡ field_value processor at len → len ≤ most → number < 2 ^ most
+field_below processor at len most number is few =
+    let more : 2 ^ len ≤ 2 ^ most = pow_mono few in
+    omega (arith, is, field_value-lt processor at len, more)
+
+-- a field as it stands in the planes
+pub field_value-chip_of : (memory flags : List ℕ) (p at len : ℕ) → p < 16
+    → field_value (processor_at (chip_of memory flags) p) at len ≡ value (map (λ plane. bit plane p) (take len (drop at memory)))
+unfolding field_value
+field_value-chip_of memory flags p at len h =
+    ap (λ (v : Processor). value (take len (drop at v.memory))) (processor_at-chip_of memory flags p h)
+    ∙ ap (λ bits. value (take len bits)) (drop-map (λ plane. bit plane p) at memory)
+    ∙ ap value (take-map (λ plane. bit plane p) len (drop at memory))
 
 -- one more bit below the topmost bits of a field
 pub field-one_lower : (processor : Processor) (at len n top number : ℕ) → n < len → at + len ≤ length processor.memory

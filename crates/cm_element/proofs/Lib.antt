@@ -1,4 +1,5 @@
 mod Fields
+mod Lanes
 mod Planes
 mod Poking
 mod Storing

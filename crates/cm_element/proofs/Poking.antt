@@ -49,7 +49,7 @@ bit-cleared plane k p h below =
 -- ---- one processor of a chip
 
 -- another processor in place of one
-put_there : (old new : ℕ → Processor) (p : ℕ) (processor : Processor) → p < 16 → processor ≡ new p
+pub put_there : (old new : ℕ → Processor) (p : ℕ) (processor : Processor) → p < 16 → processor ≡ new p
     → ((q : ℕ) → q < 16 → q ≢ p → old q ≡ new q) → each_from 0 16 new ≡ set (each_from 0 16 old) p processor
 put_there old new p processor below here others =
     let long : length (each_from 0 16 old) ≡ 16 = length-each_from 0 16 old in

@@ -3,7 +3,7 @@
 ghost use Rattle.std.specs.Prelude.{◌≡◌, ℕ, ◌<◌, ◌↔◌, ◌==◌, ◌||◌, IfOk, IsErr, OnOk, OnErr, cond, if◌then◌else◌};
 ghost use Rattle.std.specs.Bool.{beq};
 ghost use Rattle.cm_bits.specs.Bit.{bit};
-ghost use Rattle.cm_model.specs.Processor.{ZERO, memory_bit, flag, field_value};
+ghost use Rattle.cm_model.specs.Processor.{ZERO, memory_bit, flag};
 ghost use Rattle.cm_model.specs.Instruction.{takes_incoming};
 ghost use Rattle.cm_model.specs.Chip.{IsPlane, processor_at, blank_chip, chip_after, with_memory_bit, with_flag};
 ghost use Rattle.cm_model.specs.Whole.{IsChip};
@@ -12,7 +12,7 @@ ghost use Rattle.cm_element.specs.Outputs.{AreOutputs};
 mod wide;
 
 use crate::outputs::Outputs;
-use cm_bits::{Addr, Field, FlagNo, NoMemory, Plane, Proc};
+use cm_bits::{Addr, FlagNo, NoMemory, Plane, Proc};
 use cm_model::Nano;
 use cm_truth::apply;
 use std::alloc::Global;
@@ -91,20 +91,6 @@ impl Chip {
         ensures value { IsPlane result (λ p. memory_bit (processor_at self.now p) at) }
     {
         self.memory[usize::from(at.get())]
-    }
-
-    /// The value of a memory field: bit 0 lies at the field's address.
-    pub fn field(&self, proc: Proc, field: Field) -> u64
-        ensures value { result ≡ field_value (processor_at self.now proc) field.at field.len }
-    {
-        let at = usize::from(field.at());
-        let len = usize::from(field.len());
-        let mut value: u64 = 0;
-        for below_top in 0..len {
-            let bit = is_one(self.memory[at + (len - 1 - below_top)], proc);
-            value = value * 2 + u64::from(bit);
-        }
-        value
     }
 
     pub fn flag(&self, proc: Proc, number: FlagNo) -> bool

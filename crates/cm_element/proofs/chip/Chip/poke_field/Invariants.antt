@@ -1,13 +1,11 @@
-use Rattle.std.proofs.Common.{◌≡◌}
-use Rattle.cm_model.specs.Whole.{IsChip}
-use Rattle.cm_element.specs.Planes.{chip_of, ArePlanes}
-use Rattle.cm_element.specs.Wide.{with_memory_field}
+use Rattle.std.proofs.Common.{◌≡◌, ◌*◌, ◌/◌, ◌^◌}
+use Rattle.cm_element.proofs.Widening.{ArePutFrom}
 use Rattle.cm_element.proofs.chip.Chip.poke_field.Given as goal
 
--- the lowest bits of the number stand there
+-- the lowest bits of the number stand in their planes
 abbrev pub invariant-loop-i : goal.invariant-loop-i
 invariant-loop-i l = record {
-  value : chip_of l.self-inside.memory.items l.self-inside.flags ≡ with_memory_field l.fn.self l.proc l.at l.i l.value;
-  planes : ArePlanes l.self-inside.memory.items l.self-inside.flags;
-  whole : IsChip l.fn.self;
+  put : ArePutFrom l.proc l.value l.at (l.i * 16) l.initial.self-inside.memory.items l.self-inside.memory.items;
+  flags : l.self-inside.flags ≡ l.initial.self-inside.flags;
+  rest : l.rest ≡ l.value / 2 ^ (l.i * 16);
 }
