@@ -1,4 +1,4 @@
--- The loop of a delivery: how far it has come, and that each message more brings it one on.
+-- A delivery, one message after another: that each message more brings the chip one on, and a node's list with it.
 use Rattle.std.proofs.Common.{◌≡◌, ◌≢◌, ℕ, ◌+◌, ◌<◌, ◌==◌, ◌&&◌, Bool, true, false, not, List, [], ◌∷◌, ◌++◌, length, map, get_or, remove, Option, Some, None, refl, sym, ap, ◌∙◌, ⊎_elim, arith, append_assoc, get_or-set_same, get_or-set_other}
 use Rattle.std.proofs.lemmas.Bool.{cases_Bool, eqb-true, eqb-false}
 use Rattle.std.proofs.lemmas.List.{map-append, append-nil, length-append}
@@ -12,11 +12,8 @@ use Rattle.cm_model.specs.Whole.{IsChip}
 use Rattle.cm_model.specs.Letters.{can_receive, has_arrived, is_for, is_among, processor_after_delivery, chip_after_delivery}
 use Rattle.cm_model.specs.Buffers.{is_accepted, delivered, kept}
 use Rattle.cm_model.proofs.Each.{is_each}
-use Rattle.cm_router.proofs.Scanning.{arrived_in, delivered-more, kept-more, arrived_in-more, none_delivered, after_one, processor_at-delivered, length-delivered, delivered_one_more}
-
--- the events of these deliveries
-abbrev pub delivery_events : ℕ → List Message → List Event
-delivery_events here ds = map (λ m. Delivered m here) ds
+use Rattle.cm_router.specs.Delivery.{arrived_in, HasGone, HasHandedOver}
+use Rattle.cm_router.proofs.Scanning.{delivered-more, kept-more, arrived_in-more, none_delivered, after_one, processor_at-delivered, length-delivered, delivered_one_more}
 
 -- of a buffer, what a whole chip delivers and what stays
 abbrev pub out_of : List Processor → List Message → List Message
@@ -29,53 +26,7 @@ staying_of before ms = kept (can_receive before) [] ms
 abbrev pub StillOpen : List Processor → List Message → List Processor → Type 0
 StillOpen before seen chip = (p : ℕ) → p < 16 → can_receive chip p ≡ (can_receive before p && not (is_among p (arrived_in [] seen)))
 
--- how far a scan has come: the messages are those kept of the ones seen, and then the rest
-pub record Scan (before : List Processor) (old : List Message) (told : List Event) (here : ℕ) (chip : List Processor) (now : List Message) (place : ℕ) (events : List Event) : Type 0 where
-  pub seen : List Message
-  pub rest : List Message
-  pub whole : IsChip before
-  pub all : seen ++ rest ≡ old
-  pub stay : now ≡ staying_of before seen ++ rest
-  pub at : length (staying_of before seen) ≡ place
-  pub chip_is : chip ≡ chip_after_delivery (out_of before seen) before
-  pub log_is : events ≡ told ++ delivery_events here (out_of before seen)
-  pub «open» : StillOpen before seen chip
-
--- ---- the beginning
-
-nobody_yet : (chip : List Processor) → IsChip chip → chip ≡ chip_after_delivery [] chip
-unfolding chip_after_delivery
-nobody_yet chip whole = is_each no_processor 16 (λ p. processor_at chip p) chip whole.count (λ p h. refl)
-
-and_not_false : (b : Bool) → b ≡ (b && not false)
-and_not_false true = refl
-and_not_false false = refl
-
-pub scan_begins : (chip : List Processor) (ms : List Message) (told : List Event) (here : ℕ) → IsChip chip → Scan chip ms told here chip ms 0 told
-scan_begins chip ms told here whole = record {
-  seen = [];
-  rest = ms;
-  whole = whole;
-  all = refl;
-  stay = refl;
-  at = refl;
-  chip_is = nobody_yet chip whole;
-  log_is = sym (append-nil told);
-  «open» = λ p h. and_not_false (can_receive chip p);
-}
-
--- ---- who comes next
-
--- in a list that is cut in two, the element where the second part begins
-next_is : {X : Type 0} (xs : List X) (x y : X) (ys : List X) → get_or (xs ++ x ∷ ys) (length xs) y ≡ x
-next_is [] x y ys = refl
-next_is (z ∷ xs) x y ys = next_is xs x y ys
-
-next_removed : {X : Type 0} (xs : List X) (x : X) (ys : List X) → remove (xs ++ x ∷ ys) (length xs) ≡ xs ++ ys
-next_removed [] x ys = refl
-next_removed (z ∷ xs) x ys = ap (λ w. z ∷ w) (next_removed xs x ys)
-
--- the test of the loop is that of the definition
+-- the test of the code is that of the definition
 is_accepted-now : (before : List Processor) (seen : List Message) (chip : List Processor) (m : Message) → StillOpen before seen chip → m.proc < 16
     → is_accepted (can_receive before) (arrived_in [] seen) m ≡ (has_arrived m && can_receive chip m.proc)
 is_accepted-now before seen chip m still below = sym (ap (λ b. has_arrived m && b) (still m.proc below))
@@ -115,45 +66,29 @@ still_open_delivered before seen chip m still arrived long below flags p h =
     rw e (receives_as_before chip m p other ∙ still p h))
     (cases_Bool (m.proc == p)))
 
-accepted_at : (before : List Processor) (old : List Message) (told : List Event) (here : ℕ) (chip : List Processor) (now : List Message) (place : ℕ) (events : List Event)
-    (m : Message) (seen rest : List Message) → IsChip before → seen ++ rest ≡ old → now ≡ staying_of before seen ++ rest → length (staying_of before seen) ≡ place
-    → chip ≡ chip_after_delivery (out_of before seen) before → events ≡ told ++ delivery_events here (out_of before seen) → StillOpen before seen chip
-    → place < length now → get_or now place m ≡ m → m.proc < 16 → has_arrived m ≡ true → can_receive chip m.proc ≡ true
-    → Scan before old told here (after_one m chip) (remove now place) place (events ++ Delivered m here ∷ [])
-accepted_at before old told here chip now place events m seen [] whole all stay at chip_is log_is still inside is below arrived receives =
-    absurd (omega (arith, ap length stay, length-append (staying_of before seen) []))
-accepted_at before old told here chip now place events m seen (x ∷ rest) whole all stay at chip_is log_is still inside is below arrived receives =
-    let m_is : x ≡ m = sym (next_is (staying_of before seen) x m rest) ∙ rw (at, ← stay) is in
-    let accepted : is_accepted (can_receive before) (arrived_in [] seen) m ≡ true = is_accepted-now before seen chip m still below ∙ rw (arrived, receives) refl in
-    let open_there : is_among m.proc (arrived_in [] seen) ≡ false = not_among_accepted (can_receive before m.proc) (is_among m.proc (arrived_in [] seen)) (sym (still m.proc below) ∙ receives) in
+-- a message that has arrived, for a processor that can receive, is delivered
+pub hands_over : (before : List Processor) (seen : List Message) (chip : List Processor) (m : Message) → HasGone before seen chip
+    → m.proc < 16 → has_arrived m ≡ true → can_receive chip m.proc ≡ true → HasHandedOver true before seen m (after_one m chip)
+hands_over before seen chip m gone below arrived receives =
+    let accepted : is_accepted (can_receive before) (arrived_in [] seen) m ≡ true = is_accepted-now before seen chip m gone.open below ∙ rw (arrived, receives) refl in
+    let open_there : is_among m.proc (arrived_in [] seen) ≡ false = not_among_accepted (can_receive before m.proc) (is_among m.proc (arrived_in [] seen)) (sym (gone.open m.proc below) ∙ receives) in
     let none : find (is_for m.proc) (out_of before seen) ≡ None = none_delivered (can_receive before) m.proc [] seen open_there in
     let more : out_of before (seen ++ m ∷ []) ≡ out_of before seen ++ m ∷ [] = delivered-more (can_receive before) [] seen m ∙ rw accepted refl in
-    let same : staying_of before (seen ++ m ∷ []) ≡ staying_of before seen = kept-more (can_receive before) [] seen m ∙ rw accepted (append-nil (staying_of before seen)) in
     let unchanged : processor_at chip m.proc ≡ processor_at before m.proc =
-    ap (λ (ps : List Processor). processor_at ps m.proc) chip_is ∙ processor_at-delivered (out_of before seen) before m.proc below
+    ap (λ (ps : List Processor). processor_at ps m.proc) gone.chip_is ∙ processor_at-delivered (out_of before seen) before m.proc below
     ∙ ap (λ (o : Option Message). processor_after_delivery o (processor_at before m.proc)) none in
     record {
-      seen = seen ++ m ∷ [];
-      rest = rest;
-      whole = whole;
-      all = append_assoc seen (m ∷ []) rest ∙ ap (λ (z : Message). seen ++ z ∷ rest) (sym m_is) ∙ all;
-      stay = ap (λ (ms : List Message). remove ms place) stay ∙ rw (← at) (next_removed (staying_of before seen) x rest) ∙ ap (λ (ms : List Message). ms ++ rest) (sym same);
-      at = ap length same ∙ at;
-      chip_is = ap (after_one m) chip_is ∙ delivered_one_more (out_of before seen) m before below none ∙ ap (λ (ds : List Message). chip_after_delivery ds before) (sym more);
-      log_is = rw (log_is, more, map-append (λ d. Delivered d here) (out_of before seen) (m ∷ [])) (append_assoc told (delivery_events here (out_of before seen)) (Delivered m here ∷ []));
-      «open» = still_open_delivered before seen chip m still arrived (ap length chip_is ∙ length-delivered (out_of before seen) before) below
-          (ap (λ (v : Processor). length v.flags) unchanged ∙ (whole.each m.proc below).flags);
+      gone = record {
+        whole = gone.whole;
+        chip_is = ap (after_one m) gone.chip_is ∙ delivered_one_more (out_of before seen) m before below none ∙ ap (λ (ds : List Message). chip_after_delivery ds before) (sym more);
+        «open» = still_open_delivered before seen chip m gone.open arrived (ap length gone.chip_is ∙ length-delivered (out_of before seen) before) below
+            (ap (λ (v : Processor). length v.flags) unchanged ∙ (gone.whole.each m.proc below).flags);
+      };
+      delivered_is = more;
+      kept_is = kept-more (can_receive before) [] seen m ∙ rw accepted refl;
     }
 
--- a message that has arrived, for a processor that can receive, is delivered
-pub scan_accepts : (before : List Processor) (old : List Message) (told : List Event) (here : ℕ) (chip : List Processor) (now : List Message) (place : ℕ) (events : List Event)
-    (m : Message) → Scan before old told here chip now place events
-    → place < length now → get_or now place m ≡ m → m.proc < 16 → has_arrived m ≡ true → can_receive chip m.proc ≡ true
-    → Scan before old told here (after_one m chip) (remove now place) place (events ++ Delivered m here ∷ [])
-scan_accepts before old told here chip now place events m scan inside is below arrived receives =
-    accepted_at before old told here chip now place events m scan.seen scan.rest scan.whole scan.all scan.stay scan.at scan.chip_is scan.log_is scan.open inside is below arrived receives
-
--- ---- a message that stays
+-- ---- a message that is kept
 
 -- if it has arrived, its processor cannot receive
 abbrev pub IsRefused : List Processor → Message → Type 0
@@ -179,39 +114,128 @@ still_open_kept before seen chip m still refused p h =
     (λ (a : has_arrived m ≡ false). rw a (still p h))
     (cases_Bool (has_arrived m)))
 
-kept_at : (before : List Processor) (old : List Message) (told : List Event) (here : ℕ) (chip : List Processor) (now : List Message) (place : ℕ) (events : List Event)
-    (m : Message) (seen rest : List Message) → IsChip before → seen ++ rest ≡ old → now ≡ staying_of before seen ++ rest → length (staying_of before seen) ≡ place
-    → chip ≡ chip_after_delivery (out_of before seen) before → events ≡ told ++ delivery_events here (out_of before seen) → StillOpen before seen chip
-    → place < length now → get_or now place m ≡ m → IsRefused chip m
-    → Scan before old told here chip now (place + 1) events
-kept_at before old told here chip now place events m seen [] whole all stay at chip_is log_is still inside is refused =
+-- any other is kept
+pub keeps : (before : List Processor) (seen : List Message) (chip : List Processor) (m : Message) → HasGone before seen chip → IsRefused chip m
+    → HasHandedOver false before seen m chip
+keeps before seen chip m gone refused =
+    let not_accepted : is_accepted (can_receive before) (arrived_in [] seen) m ≡ false = is_accepted-refused before seen chip m gone.open refused in
+    let same : out_of before (seen ++ m ∷ []) ≡ out_of before seen ++ [] = delivered-more (can_receive before) [] seen m ∙ rw not_accepted refl in
+    record {
+      gone = record {
+        whole = gone.whole;
+        chip_is = gone.chip_is ∙ ap (λ (ds : List Message). chip_after_delivery ds before) (sym (same ∙ append-nil (out_of before seen)));
+        «open» = still_open_kept before seen chip m gone.open refused;
+      };
+      delivered_is = same;
+      kept_is = kept-more (can_receive before) [] seen m ∙ rw not_accepted refl;
+    }
+
+-- ---- the beginning
+
+nobody_yet : (chip : List Processor) → IsChip chip → chip ≡ chip_after_delivery [] chip
+unfolding chip_after_delivery
+nobody_yet chip whole = is_each no_processor 16 (λ p. processor_at chip p) chip whole.count (λ p h. refl)
+
+and_not_false : (b : Bool) → b ≡ (b && not false)
+and_not_false true = refl
+and_not_false false = refl
+
+-- none of the messages gone through yet
+pub nothing_seen : (chip : List Processor) → IsChip chip → HasGone chip [] chip
+nothing_seen chip whole = record {
+  whole = whole;
+  chip_is = nobody_yet chip whole;
+  «open» = λ p h. and_not_false (can_receive chip p);
+}
+
+-- ---- a node's list
+
+-- the events of these deliveries
+abbrev pub delivery_events : ℕ → List Message → List Event
+delivery_events here ds = map (λ m. Delivered m here) ds
+
+-- how far a scan has come: the messages are those kept of the ones seen, and then the rest
+pub record Scan (before : List Processor) (old : List Message) (told : List Event) (here : ℕ) (chip : List Processor) (now : List Message) (place : ℕ) (events : List Event) : Type 0 where
+  pub seen : List Message
+  pub rest : List Message
+  pub gone : HasGone before seen chip
+  pub all : seen ++ rest ≡ old
+  pub stay : now ≡ staying_of before seen ++ rest
+  pub at : length (staying_of before seen) ≡ place
+  pub log_is : events ≡ told ++ delivery_events here (out_of before seen)
+
+pub scan_begins : (chip : List Processor) (ms : List Message) (told : List Event) (here : ℕ) → HasGone chip [] chip → Scan chip ms told here chip ms 0 told
+scan_begins chip ms told here gone = record {
+  seen = [];
+  rest = ms;
+  gone = gone;
+  all = refl;
+  stay = refl;
+  at = refl;
+  log_is = sym (append-nil told);
+}
+
+-- in a list that is cut in two, the element where the second part begins
+next_is : {X : Type 0} (xs : List X) (x y : X) (ys : List X) → get_or (xs ++ x ∷ ys) (length xs) y ≡ x
+next_is [] x y ys = refl
+next_is (z ∷ xs) x y ys = next_is xs x y ys
+
+next_removed : {X : Type 0} (xs : List X) (x : X) (ys : List X) → remove (xs ++ x ∷ ys) (length xs) ≡ xs ++ ys
+next_removed [] x ys = refl
+next_removed (z ∷ xs) x ys = ap (λ w. z ∷ w) (next_removed xs x ys)
+
+-- what the step does, whatever was seen before
+abbrev pub HandsOver : Bool → List Processor → Message → List Processor → List Processor → Type 0
+HandsOver was_delivered before m chip after = (seen : List Message) → HasGone before seen chip → HasHandedOver was_delivered before seen m after
+
+accepted_at : (before : List Processor) (old : List Message) (told : List Event) (here : ℕ) (after : List Processor) (now : List Message) (place : ℕ) (events : List Event)
+    (m : Message) (seen rest : List Message) → HasHandedOver true before seen m after → seen ++ rest ≡ old → now ≡ staying_of before seen ++ rest → length (staying_of before seen) ≡ place
+    → events ≡ told ++ delivery_events here (out_of before seen) → place < length now → get_or now place m ≡ m
+    → Scan before old told here after (remove now place) place (events ++ Delivered m here ∷ [])
+accepted_at before old told here after now place events m seen [] step all stay at log_is inside is =
     absurd (omega (arith, ap length stay, length-append (staying_of before seen) []))
-kept_at before old told here chip now place events m seen (x ∷ rest) whole all stay at chip_is log_is still inside is refused =
+accepted_at before old told here after now place events m seen (x ∷ rest) step all stay at log_is inside is =
     let m_is : x ≡ m = sym (next_is (staying_of before seen) x m rest) ∙ rw (at, ← stay) is in
-    let not_accepted : is_accepted (can_receive before) (arrived_in [] seen) m ≡ false = is_accepted-refused before seen chip m still refused in
-    let same : out_of before (seen ++ m ∷ []) ≡ out_of before seen = delivered-more (can_receive before) [] seen m ∙ rw not_accepted (append-nil (out_of before seen)) in
-    let more : staying_of before (seen ++ m ∷ []) ≡ staying_of before seen ++ m ∷ [] = kept-more (can_receive before) [] seen m ∙ rw not_accepted refl in
+    let same : staying_of before (seen ++ m ∷ []) ≡ staying_of before seen = step.kept_is ∙ append-nil (staying_of before seen) in
     record {
       seen = seen ++ m ∷ [];
       rest = rest;
-      whole = whole;
+      gone = step.gone;
       all = append_assoc seen (m ∷ []) rest ∙ ap (λ (z : Message). seen ++ z ∷ rest) (sym m_is) ∙ all;
-      stay = stay ∙ ap (λ (z : Message). staying_of before seen ++ z ∷ rest) m_is ∙ sym (append_assoc (staying_of before seen) (m ∷ []) rest) ∙ ap (λ (ms : List Message). ms ++ rest) (sym more);
-      at = ap length more ∙ omega (arith, length-append (staying_of before seen) (m ∷ []), at);
-      chip_is = chip_is ∙ ap (λ (ds : List Message). chip_after_delivery ds before) (sym same);
-      log_is = log_is ∙ ap (λ (ds : List Message). told ++ delivery_events here ds) (sym same);
-      «open» = still_open_kept before seen chip m still refused;
+      stay = ap (λ (ms : List Message). remove ms place) stay ∙ rw (← at) (next_removed (staying_of before seen) x rest) ∙ ap (λ (ms : List Message). ms ++ rest) (sym same);
+      at = ap length same ∙ at;
+      log_is = rw (log_is, step.delivered_is, map-append (λ d. Delivered d here) (out_of before seen) (m ∷ [])) (append_assoc told (delivery_events here (out_of before seen)) (Delivered m here ∷ []));
     }
 
--- any other stays
-pub scan_keeps : (before : List Processor) (old : List Message) (told : List Event) (here : ℕ) (chip : List Processor) (now : List Message) (place : ℕ) (events : List Event)
-    (m : Message) → Scan before old told here chip now place events
-    → place < length now → get_or now place m ≡ m → IsRefused chip m
-    → Scan before old told here chip now (place + 1) events
-scan_keeps before old told here chip now place events m scan inside is refused =
-    kept_at before old told here chip now place events m scan.seen scan.rest scan.whole scan.all scan.stay scan.at scan.chip_is scan.log_is scan.open inside is refused
+-- the message at the place is delivered, and taken out
+pub scan_accepts : (before : List Processor) (old : List Message) (told : List Event) (here : ℕ) (chip after : List Processor) (now : List Message) (place : ℕ) (events : List Event)
+    (m : Message) → Scan before old told here chip now place events → place < length now → get_or now place m ≡ m → HandsOver true before m chip after
+    → Scan before old told here after (remove now place) place (events ++ Delivered m here ∷ [])
+scan_accepts before old told here chip after now place events m scan inside is step =
+    accepted_at before old told here after now place events m scan.seen scan.rest (step scan.seen scan.gone) scan.all scan.stay scan.at scan.log_is inside is
 
--- a chip that is scanned has sixteen processors
-pub scan_length : {before : List Processor} {old : List Message} {told : List Event} {here : ℕ} {chip : List Processor} {now : List Message} {place : ℕ} {events : List Event}
-    → Scan before old told here chip now place events → length chip ≡ 16
-scan_length {before = before} scan = ap length scan.chip_is ∙ length-delivered (out_of before scan.seen) before
+kept_at : (before : List Processor) (old : List Message) (told : List Event) (here : ℕ) (after : List Processor) (now : List Message) (place : ℕ) (events : List Event)
+    (m : Message) (seen rest : List Message) → HasHandedOver false before seen m after → seen ++ rest ≡ old → now ≡ staying_of before seen ++ rest → length (staying_of before seen) ≡ place
+    → events ≡ told ++ delivery_events here (out_of before seen) → place < length now → get_or now place m ≡ m
+    → Scan before old told here after now (place + 1) events
+kept_at before old told here after now place events m seen [] step all stay at log_is inside is =
+    absurd (omega (arith, ap length stay, length-append (staying_of before seen) []))
+kept_at before old told here after now place events m seen (x ∷ rest) step all stay at log_is inside is =
+    let m_is : x ≡ m = sym (next_is (staying_of before seen) x m rest) ∙ rw (at, ← stay) is in
+    let same : out_of before (seen ++ m ∷ []) ≡ out_of before seen = step.delivered_is ∙ append-nil (out_of before seen) in
+    record {
+      seen = seen ++ m ∷ [];
+      rest = rest;
+      gone = step.gone;
+      all = append_assoc seen (m ∷ []) rest ∙ ap (λ (z : Message). seen ++ z ∷ rest) (sym m_is) ∙ all;
+      stay = stay ∙ ap (λ (z : Message). staying_of before seen ++ z ∷ rest) m_is ∙ sym (append_assoc (staying_of before seen) (m ∷ []) rest) ∙ ap (λ (ms : List Message). ms ++ rest) (sym step.kept_is);
+      at = ap length step.kept_is ∙ omega (arith, length-append (staying_of before seen) (m ∷ []), at);
+      log_is = log_is ∙ ap (λ (ds : List Message). told ++ delivery_events here ds) (sym same);
+    }
+
+-- the message at the place is kept, and the scan goes on behind it
+pub scan_keeps : (before : List Processor) (old : List Message) (told : List Event) (here : ℕ) (chip after : List Processor) (now : List Message) (place : ℕ) (events : List Event)
+    (m : Message) → Scan before old told here chip now place events → place < length now → get_or now place m ≡ m → HandsOver false before m chip after
+    → Scan before old told here after now (place + 1) events
+scan_keeps before old told here chip after now place events m scan inside is step =
+    kept_at before old told here after now place events m scan.seen scan.rest (step scan.seen scan.gone) scan.all scan.stay scan.at scan.log_is inside is

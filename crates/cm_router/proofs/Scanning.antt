@@ -12,11 +12,7 @@ use Rattle.cm_model.specs.Letters.{has_arrived, is_for, is_among, with_field, pr
 use Rattle.cm_element.specs.Wide.{with_memory_field}
 use Rattle.cm_model.specs.Buffers.{is_accepted, arrived_for, delivered, kept}
 use Rattle.cm_model.proofs.Each.{is_each, length-each_from, get_or-each_below}
-
--- the processors for which messages have arrived, these messages on
-abbrev pub arrived_in : List ℕ → List Message → List ℕ
-arrived_in before [] = before
-arrived_in before (m ∷ ms) = arrived_in (arrived_for before m) ms
+use Rattle.cm_router.specs.Delivery.{arrived_in}
 
 -- ---- one message more
 

@@ -15,7 +15,7 @@ use Rattle.cm_model.specs.declared.message.Event.{Event}
 use Rattle.cm_model.specs.declared.message.Event.TheVariants.{Injected}
 use Rattle.cm_model.specs.Processor.{Processor, SEND, ACK, flag}
 use Rattle.cm_model.specs.Chip.{IsPlane, processor_at, no_processor}
-use Rattle.cm_model.specs.Letters.{senders, message_sent, messages_sent, is_among, processor_after_injection, chip_after_injection}
+use Rattle.cm_model.specs.Letters.{senders, senders_taken, message_sent, messages_sent, is_among, processor_after_injection, chip_after_injection}
 use Rattle.cm_model.proofs.Bits.{bit-bit_and, bit-bit_or, bit-bit_not, bit-zero}
 use Rattle.cm_model.proofs.Each.{same_each_below, get_or-each_below}
 use Rattle.cm_element.specs.Wide.{with_flag_plane}
@@ -114,6 +114,10 @@ nobody_below most chip quiet (suc i) h =
 -- where nobody asks nobody is taken
 pub nobody_taken : (buffer : Buffer) (chip : List Processor) → IsPlane 0 (asks chip) → taken_by buffer chip ≡ []
 nobody_taken buffer chip quiet = sym (taken_all buffer chip 16 refl) ∙ nobody_below (most_taken buffer) chip quiet 16 (omega arith)
+
+pub nobody_asks : (cap standing : ℕ) (chip : List Processor) → IsPlane 0 (asks chip) → senders_taken cap standing chip ≡ []
+unfolding senders
+nobody_asks cap standing chip quiet = nobody_below (min 4 (cap - standing)) chip quiet 16 (omega arith)
 
 pub taking_begins : (buffer : Buffer) (chip : List Processor) (n clock c : ℕ) (told : List Event) → Taken buffer chip n clock c told 0 buffer.messages told 0 (most_taken buffer)
 taking_begins buffer chip n clock c told =

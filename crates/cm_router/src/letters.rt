@@ -1,11 +1,11 @@
 //! What the router takes from a chip's processors, and what it leaves there.
 
-ghost use Rattle.std.specs.Prelude.{◌≡◌, ℕ, ◌+◌, ◌^◌, ◌<◌, ◌≤◌, Some, List, [], ◌∷◌, ◌++◌, length, not, slice_set, vec_len, vec_capacity};
+ghost use Rattle.std.specs.Prelude.{◌≡◌, ℕ, ◌+◌, ◌^◌, ◌<◌, ◌≤◌, Some, List, [], ◌∷◌, ◌++◌, length, not, IsFalse, slice_set, vec_len, vec_capacity};
 ghost use Rattle.cm_bits.specs.Bit.{bit};
 ghost use Rattle.cm_model.specs.Processor.{SEND, ACK, RECV, flag, field_value};
 ghost use Rattle.cm_model.specs.Chip.{IsPlane, processor_at};
 ghost use Rattle.cm_model.specs.Whole.{IsChip};
-ghost use Rattle.cm_model.specs.Letters.{is_among, message_sent, chip_after_injection, processor_after_delivery};
+ghost use Rattle.cm_model.specs.Letters.{senders_taken, is_among, message_sent, chip_after_injection, processor_after_delivery};
 
 use cm_bits::{Field, FlagNo, Plane, Proc};
 use cm_element::Chip;
@@ -36,6 +36,21 @@ pub(crate) fn message_sent(chip: &Chip, proc: Proc, here: u16, dims: u8, clock: 
             birth: clock,
         },
     }
+}
+
+/// False only where no processor asks to send.
+pub fn may_ask(chip: &Chip) -> bool
+    ensures none { IsFalse result → (cap standing : ℕ) → senders_taken cap standing chip.now ≡ [] }
+{
+    asking(chip) != 0
+}
+
+/// Takes in no message: whoever asks to send goes on asking, and ACK is 0 everywhere.
+pub fn take_none(chip: &mut Chip)
+    ensures value { chip.new ≡ chip_after_injection [] chip.old }
+{
+    let asking = asking(chip);
+    acknowledge(chip, asking, 0);
 }
 
 /// Tells the processors whose messages were taken: their SEND falls, and ACK is 1 for them alone.
@@ -129,4 +144,23 @@ fn payload_field() -> Field
     ensures len { result.len ≡ 32 }
 {
     Field::new(4032, 32).unwrap()
+}
+
+#[cfg(test)]
+mod tests {
+    use super::take_none;
+    use cm_bits::FlagNo;
+    use cm_element::Chip;
+    use std::test::Fail;
+
+    #[test]
+    fn senders_that_are_not_taken_go_on_asking(rt: HostRuntime) -> Result<(), Fail> {
+        let (send, ack) = (FlagNo::new(12).unwrap(), FlagNo::new(13).unwrap());
+        let mut chip = Chip::blank(rt.alloc())?;
+        chip.poke_flag_plane(send, 0x8005);
+        chip.poke_flag_plane(ack, 0x00ff);
+        take_none(&mut chip);
+        assert_eq!(rt; (chip.flag_plane(send), chip.flag_plane(ack)), (0x8005, 0));
+        Ok(())
+    }
 }

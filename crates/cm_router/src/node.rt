@@ -8,8 +8,9 @@ ghost use Rattle.cm_model.specs.Letters.{is_among, chip_after_injection, chip_af
 ghost use Rattle.cm_model.specs.Buffers.{leaving_place, outgoing, without};
 ghost use Rattle.cm_router.specs.Buffer.{IsBuffer, holding, taken_by, sent_to, delivered_by, kept_by};
 
+use crate::delivery::{begin, hand_over};
 use crate::letters;
-use crate::letters::{acknowledge, is_one, message_sent, receive, tell_delivered, tell_injected};
+use crate::letters::{acknowledge, is_one, message_sent, take_none, tell_injected};
 use arrayvec::ArrayVec;
 use cm_bits::{Plane, Proc};
 use cm_element::Chip;
@@ -143,7 +144,7 @@ impl Node {
     {
         let asking = letters::asking(chip);
         if asking == 0 {
-            acknowledge(chip, asking, 0);
+            take_none(chip);
             return;
         }
         let taken = self.take_in(chip, asking, here, dims, clock, log);
@@ -197,14 +198,11 @@ impl Node {
         ensures within { vec_len log.new ≤ vec_len log.old + self.old.room }
         ensures log_room { vec_capacity log.old ≤ vec_capacity log.new }
     {
-        let mut received: Plane = letters::received(chip);
+        begin(chip);
         let mut place = 0;
         while place < self.messages.len() {
             let message = self.messages[place];
-            if message.rel == 0 && !is_one(received, message.proc) {
-                receive(chip, &message);
-                received = letters::received(chip);
-                tell_delivered(log, &message, here);
+            if hand_over(chip, &message, here, log) {
                 self.messages.remove(place);
             } else {
                 place += 1;

@@ -3,7 +3,6 @@ use Rattle.std.proofs.lemmas.List.{append-nil}
 use Rattle.cm_bits.specs.Bit.{bit}
 use Rattle.cm_model.specs.declared.message.Event.TheVariants.{Injected}
 use Rattle.cm_model.specs.Letters.{messages_sent, chip_after_injection}
-use Rattle.cm_model.proofs.Bits.{bit-zero}
 use Rattle.cm_router.specs.Buffer.{holding, taken_by}
 use Rattle.cm_router.proofs.Taking.{nobody_taken}
 use Rattle.cm_router.proofs.node.Node.inject.Goals as goal
@@ -16,7 +15,7 @@ returns-then-asking-eq0 c =
     nobody_taken old chip (λ p h. ap (λ (w : ℕ). bit w p) (sym c.if-asking-eq0.true) ∙ c.asking-asking.ensures.value p h) in
     record {
       messages = ap (holding old) (sym (append-nil old.messages) ∙ ap (λ ps. old.messages ++ messages_sent c.args.dims c.args.clock c.args.here chip ps) (sym nobody));
-      chip = c.acknowledge.ensures.value [] (λ p h. bit-zero p) ∙ ap (λ ps. chip_after_injection ps chip) (sym nobody);
+      chip = c.take_none.ensures.value ∙ ap (λ ps. chip_after_injection ps chip) (sym nobody);
       log = sym (append-nil c.args.log.now.items) ∙ ap (λ ps. c.args.log.now.items ++ map Injected (messages_sent c.args.dims c.args.clock c.args.here chip ps)) (sym nobody);
       within = omega arith;
       log_room = omega arith;
