@@ -5,7 +5,7 @@ ghost use Rattle.std.specs.Prelude.{◌≡◌, ◌+◌, ◌<◌, ◌≤◌, ◌^
 
 use crate::accounts::are_found;
 use crate::draws::Draws;
-use crate::machines::{RECV, SEND, address, ask, flag, message, processor};
+use crate::machines::{RECV, SEND, address, ask, everywhere, flag, message, processor, tag};
 use cm_array::{Machine, Plain, Runner};
 use cm_bits::{Addr, Proc};
 use cm_message::{Message, Tag};
@@ -290,5 +290,55 @@ fn sixteen_chips_go_as_the_plain_router_does(rt: HostRuntime) -> Result<(), Fail
     assert!(rt; stays_plain::<4, 2>(alloc, 16)?);
     assert!(rt; stays_plain::<4, 7>(alloc, 16)?);
     assert!(rt; stays_plain::<4, 15>(alloc, 16)?);
+    Ok(())
+}
+
+/// Thirty times: all processors ask to send, all can receive, and a petit cycle.
+fn busy_acts(alloc: Global) -> Result<Vec<Act>, AllocError> {
+    let mut acts = Vec::new(alloc);
+    for _round in 0..ROUNDS {
+        put(&mut acts, everywhere(flag(SEND), 0xff))?;
+        put(&mut acts, everywhere(flag(RECV), 0x00))?;
+        put(&mut acts, Act::Cycle)?;
+    }
+    Ok(acts)
+}
+
+/// Whether a machine in which all processors send goes as a plain one does through one list of thirty
+/// petit cycles, in which more messages are taken in than there are places for at a time.
+fn stays_plain_in_one_list<const N: usize, const CAP: usize>(
+    alloc: Global,
+    chips: u16,
+) -> Result<bool, Fail>
+    requires dimension { N ≤ 12 }
+    requires chips { chips ≡ 2 ^ N }
+    requires some { 0 < chips }
+{
+    let mut machine = Machine::<N, CAP>::blank(alloc)?;
+    let mut plain = PlainRouter::<N, CAP>::blank(alloc, ADDRESSES)?;
+    let mut draws = Draws::new();
+    for chip in 0..chips {
+        for sender in 0u8..16 {
+            let sent = Message {
+                tag: tag(chip, sender),
+                ..drawn_message(&mut draws, chips)
+            };
+            ask(&mut machine, &sent);
+            ask_plain(&mut plain, &sent);
+        }
+    }
+    let acts = busy_acts(alloc)?;
+    Ok(
+        go_in_both(alloc, &mut machine, &mut plain, acts.as_slice())
+            && agree(&machine, &plain, chips)
+            && are_found(alloc, &machine, &plain, chips)?,
+    )
+}
+
+#[test]
+fn messages_get_new_places_within_a_list_of_acts(rt: HostRuntime) -> Result<(), Fail> {
+    let alloc = rt.alloc();
+    assert!(rt; stays_plain_in_one_list::<0, 15>(alloc, 1)?);
+    assert!(rt; stays_plain_in_one_list::<2, 7>(alloc, 4)?);
     Ok(())
 }

@@ -3,30 +3,13 @@
 ghost use Rattle.std.specs.Prelude.{◌<◌};
 
 use crate::draws::Draws;
-use crate::machines::{RECV, SEND, address, ask, flag, message, processor};
+use crate::machines::{RECV, SEND, address, ask, everywhere, flag, message, processor};
 use cm_array::{Machine, Plain, Runner};
-use cm_bits::{Dir, FlagNo};
 use cm_message::Tag;
-use cm_model::{Act, Nano};
+use cm_model::Act;
 use std::alloc::{AllocError, Global};
 use std::test::Fail;
 use std::time::Instant;
-
-/// In every processor a flag becomes what this table says of memory bit 0, the table's left half where
-/// that is 1.
-fn everywhere(write: FlagNo, flag_table: u8) -> Act {
-    Act::Nano(Nano {
-        a: address(0),
-        b: address(0),
-        read: flag(0),
-        write,
-        cond: flag(8),
-        sense: false,
-        mem_table: 0xf0,
-        flag_table,
-        dir: Dir::North,
-    })
-}
 
 /// 64 times these acts.
 fn turns(alloc: Global, turn: &[Act]) -> Result<Vec<Act>, AllocError> {

@@ -3,8 +3,9 @@
 ghost use Rattle.std.specs.Prelude.{◌≡◌, ◌+◌, ◌<◌, ◌≤◌, ◌^◌};
 
 use cm_array::Machine;
-use cm_bits::{Addr, FlagNo, Plane, Proc};
+use cm_bits::{Addr, Dir, FlagNo, Plane, Proc};
 use cm_message::{Message, Tag};
+use cm_model::{Act, Nano};
 
 pub(crate) const SEND: u8 = 12;
 
@@ -31,6 +32,22 @@ pub(crate) fn processor(number: u8) -> Proc
     ensures { result ≡ number }
 {
     Proc::new(number).unwrap()
+}
+
+/// In every processor a flag becomes what this table says of memory bit 0, the table's left half where
+/// that is 1.
+pub(crate) fn everywhere(write: FlagNo, flag_table: u8) -> Act {
+    Act::Nano(Nano {
+        a: address(0),
+        b: address(0),
+        read: flag(0),
+        write,
+        cond: flag(8),
+        sense: false,
+        mem_table: 0xf0,
+        flag_table,
+        dir: Dir::North,
+    })
 }
 
 /// Gives one flag of the sixteen processors of a chip these bits; flag 8 stays as it is.

@@ -3,12 +3,17 @@ use Rattle.std.specs.Prelude.{◌≡◌, ℕ, ◌<◌, ◌≤◌, ◌^◌, lengt
 use Rattle.std.specs.List.{All}
 use Rattle.cm_model.specs.Machine.{Machine}
 use Rattle.cm_model.specs.Keeping.{IsMachine}
-use Rattle.cm_petit.specs.Routers.{machine_of as machine_from}
+use Rattle.cm_router.specs.Buffer.{buffers_of}
+use Rattle.cm_petit.specs.Routers.{machine_of as machine_from, AreNodes, AreEmpty}
 use Rattle.cm_array.specs.declared.parts.Parts.{Parts}
 
 -- the machine that the parts are
 abbrev pub machine_of : Parts → Machine
-machine_of parts = machine_from parts.chips.items parts.nodes.items parts.logs.items parts.clock
+machine_of parts = machine_from parts.chips.items (buffers_of parts.nodes.items) parts.logs.items parts.clock
+
+-- the machine that they are while acts are run of which some are petit cycles
+abbrev pub under_way : Parts → Machine
+under_way parts = machine_from parts.chips.items parts.crossing.buffers parts.logs.items parts.clock
 
 -- a dimension of a cube, and how many messages a router has room for
 pub record AreSizes (n cap : ℕ) : Type 0 where
@@ -24,6 +29,19 @@ pub record AreParts (n cap : ℕ) (parts : Parts) : Type 0 where
   pub rooms : All (λ node. node.room ≡ cap) parts.nodes.items
   pub output_count : length parts.outputs.items ≡ 2 ^ n
   pub sent_count : length parts.sent.items ≡ 2 ^ n
-  pub crossing_count : length parts.crossing ≡ 2 ^ n
+  pub crossing_count : length parts.crossing.buffers ≡ 2 ^ n
   pub clock : parts.clock < 2 ^ 63
   pub machine : IsMachine n cap (machine_of parts)
+
+-- the same, where the messages are under way: the nodes are empty
+pub record AreUnderWay (n cap : ℕ) (parts : Parts) : Type 0 where
+  pub dimension : n ≤ 12
+  pub some_room : 1 ≤ cap
+  pub most_room : cap ≤ 15
+  pub nodes : AreNodes n cap parts.nodes.items
+  pub empty : AreEmpty parts.nodes.items
+  pub within : All (λ ms. length ms ≤ cap) parts.crossing.buffers
+  pub output_count : length parts.outputs.items ≡ 2 ^ n
+  pub sent_count : length parts.sent.items ≡ 2 ^ n
+  pub clock : parts.clock < 2 ^ 63
+  pub machine : IsMachine n cap (under_way parts)

@@ -15,7 +15,7 @@ ghost use Rattle.cm_array.specs.Pokes.{with_memory_bit, with_flag};
 use crate::finding::{delivered_to, router_of};
 use crate::parts::{
     Parts, blank_chips, blank_logs, blank_nodes, blank_outputs, blank_planes, copied_chips,
-    copied_logs, copied_nodes, reserve, run,
+    copied_logs, copied_nodes, reserve, run, run_in_place,
 };
 use cm_bits::{Addr, FlagNo, NoMemory, Proc};
 use cm_crossing::Crossing;
@@ -246,7 +246,12 @@ impl<const N: usize, const CAP: usize> Machine<N, CAP> {
         ensures err { OnErr result (self.new ≡ self.old) }
     {
         reserve(&mut self.parts.logs, cycles * (MOST_INJECTED + CAP))?;
-        run::<N, CAP>(&mut self.parts, acts);
+        // Without petit cycles the messages need not be taken up.
+        if cycles == 0 {
+            run_in_place::<N, CAP>(&mut self.parts, acts);
+        } else {
+            run::<N, CAP>(&mut self.parts, acts);
+        }
         Ok(())
     }
 }

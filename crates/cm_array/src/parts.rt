@@ -1,6 +1,6 @@
 //! What a machine is kept as, and what acts do to it.
 
-ghost use Rattle.std.specs.Prelude.{◌≡◌, ◌+◌, ◌*◌, ◌^◌, ◌<◌, ◌≤◌, [], ◌∷◌, IfOk, IsOk, OnOk, length, vec_len, vec_capacity};
+ghost use Rattle.std.specs.Prelude.{◌≡◌, ◌+◌, ◌*◌, ◌/◌, ◌^◌, ◌<◌, ◌≤◌, [], ◌∷◌, IfOk, IsOk, OnOk, length, vec_len, vec_capacity};
 ghost use Rattle.cm_model.specs.Chip.{blank_chip};
 ghost use Rattle.cm_model.specs.Each.{each_from};
 ghost use Rattle.cm_model.specs.Array.{after_nano};
@@ -8,7 +8,7 @@ ghost use Rattle.cm_model.specs.Machine.{run_of};
 ghost use Rattle.cm_model.specs.Buffers.{after_act};
 ghost use Rattle.cm_petit.specs.Routers.{events_of, HasLogRoom, LosesAtMost};
 ghost use Rattle.cm_array.specs.Acts.{cycles_in};
-ghost use Rattle.cm_array.specs.Parts.{machine_of, AreParts};
+ghost use Rattle.cm_array.specs.Parts.{machine_of, under_way, AreParts, AreUnderWay};
 
 use crate::stepping::{compute, step_alone, store_all};
 use cm_bits::{NoMemory, Plane};
@@ -38,11 +38,37 @@ pub(crate) struct Parts {
     pub(crate) outputs: Vec<Outputs>,
     /// By chip, what it sends over the grid.
     pub(crate) sent: Vec<Plane>,
-    /// What stands at each chip while messages cross the dimensions.
+    /// The messages in place of the nodes, from the first act to the last of a list with petit cycles.
     pub(crate) crossing: Crossing,
 }
 
-/// Runs the acts one after another, in routers with room for `CAP` messages each.
+/// Runs acts of which none is a petit cycle, one after another.
+pub(crate) fn run_in_place<const N: usize, const CAP: usize>(parts: &mut Parts, acts: &[Act])
+    requires parts { AreParts N CAP parts.old }
+    requires no_cycles { cycles_in acts.now ≡ 0 }
+    ensures value { machine_of parts.new ≡ run_of N CAP (machine_of parts.old) acts.now }
+    ensures parts { AreParts N CAP parts.new }
+{
+    for act in acts {
+        run_one_in_place::<N, CAP>(parts, act);
+    }
+}
+
+fn run_one_in_place<const N: usize, const CAP: usize>(parts: &mut Parts, act: &Act)
+    requires parts { AreParts N CAP parts.old }
+    requires no_cycle { cycles_in (act.now ∷ []) ≡ 0 }
+    ensures value { machine_of parts.new ≡ after_act N CAP (machine_of parts.old) act.now }
+    ensures parts { AreParts N CAP parts.new }
+{
+    match act {
+        Act::Nano(nano) => instruct::<N>(parts, nano),
+        Act::Sense => {}
+        Act::Cycle => unreachable!(),
+    }
+}
+
+/// Runs acts one after another, in routers with room for `CAP` messages each. Between the first act and
+/// the last no message stands in a node: all are in `crossing`.
 pub(crate) fn run<const N: usize, const CAP: usize>(parts: &mut Parts, acts: &[Act])
     requires parts { AreParts N CAP parts.old }
     requires clock { parts.old.clock + cycles_in acts.now < 2 ^ 63 }
@@ -50,30 +76,42 @@ pub(crate) fn run<const N: usize, const CAP: usize>(parts: &mut Parts, acts: &[A
     ensures value { machine_of parts.new ≡ run_of N CAP (machine_of parts.old) acts.now }
     ensures parts { AreParts N CAP parts.new }
 {
+    parts.crossing.take_up::<CAP>(&mut parts.nodes);
+    run_under_way::<N, CAP>(parts, acts);
+    parts.crossing.put_back::<CAP>(&mut parts.nodes);
+}
+
+fn run_under_way<const N: usize, const CAP: usize>(parts: &mut Parts, acts: &[Act])
+    requires parts { AreUnderWay N CAP parts.old }
+    requires clock { parts.old.clock + cycles_in acts.now < 2 ^ 63 }
+    requires log_room { HasLogRoom (cycles_in acts.now * (4 + CAP)) parts.old.logs.items }
+    ensures value { under_way parts.new ≡ run_of N CAP (under_way parts.old) acts.now }
+    ensures parts { AreUnderWay N CAP parts.new }
+{
     for act in acts {
-        run_one::<N, CAP>(parts, act);
+        run_one_under_way::<N, CAP>(parts, act);
     }
 }
 
-fn run_one<const N: usize, const CAP: usize>(parts: &mut Parts, act: &Act)
-    requires parts { AreParts N CAP parts.old }
+fn run_one_under_way<const N: usize, const CAP: usize>(parts: &mut Parts, act: &Act)
+    requires parts { AreUnderWay N CAP parts.old }
     requires clock { parts.old.clock + cycles_in (act.now ∷ []) < 2 ^ 63 }
     requires log_room { HasLogRoom (cycles_in (act.now ∷ []) * (4 + CAP)) parts.old.logs.items }
-    ensures value { machine_of parts.new ≡ after_act N CAP (machine_of parts.old) act.now }
-    ensures parts { AreParts N CAP parts.new }
+    ensures value { under_way parts.new ≡ after_act N CAP (under_way parts.old) act.now }
+    ensures parts { AreUnderWay N CAP parts.new }
     ensures clock { parts.new.clock ≡ parts.old.clock + cycles_in (act.now ∷ []) }
     ensures log_room { LosesAtMost (cycles_in (act.now ∷ []) * (4 + CAP)) parts.old.logs.items parts.new.logs.items }
 {
     match act {
-        Act::Nano(nano) => instruct::<N, CAP>(parts, nano),
+        Act::Nano(nano) => instruct::<N>(parts, nano),
         Act::Sense => {}
         Act::Cycle => {
             cycle::<N, CAP>(
                 &mut parts.chips,
-                &mut parts.nodes,
+                &mut parts.crossing,
                 &mut parts.logs,
                 parts.clock,
-                &mut parts.crossing,
+                &mut parts.nodes,
             );
             parts.clock += 1;
         }
@@ -81,11 +119,18 @@ fn run_one<const N: usize, const CAP: usize>(parts: &mut Parts, act: &Act)
 }
 
 /// One instruction in all chips.
-fn instruct<const N: usize, const CAP: usize>(parts: &mut Parts, nano: &Nano)
-    requires parts { AreParts N CAP parts.old }
-    ensures value { machine_of parts.new ≡ record (machine_of parts.old) { chips = after_nano N nano.now parts.old.chips.items } }
-    ensures parts { AreParts N CAP parts.new }
+fn instruct<const N: usize>(parts: &mut Parts, nano: &Nano)
+    requires dimension { N ≤ 12 }
+    requires chip_count { length parts.old.chips.items ≡ 2 ^ N }
+    requires output_count { length parts.old.outputs.items ≡ 2 ^ N }
+    requires sent_count { length parts.old.sent.items ≡ 2 ^ N }
+    ensures chips { parts.new.chips.items ≡ after_nano N nano.now parts.old.chips.items }
+    ensures nodes { parts.new.nodes ≡ parts.old.nodes }
     ensures logs { parts.new.logs ≡ parts.old.logs }
+    ensures clock { parts.new.clock ≡ parts.old.clock }
+    ensures output_count { length parts.new.outputs.items ≡ 2 ^ N }
+    ensures sent_count { length parts.new.sent.items ≡ 2 ^ N }
+    ensures crossing { parts.new.crossing ≡ parts.old.crossing }
 {
     if nano.write.get() == NEWS_FLAG {
         compute(&parts.chips, nano, &mut parts.outputs, &mut parts.sent);
@@ -110,8 +155,9 @@ pub(crate) fn reserve(logs: &mut [Vec<Event>], more: usize) -> Result<(), NoMemo
     Ok(())
 }
 
-/// Makes room in a log for so many events more. A log that has to grow gets twice its room at least,
-/// and only the events that it holds are moved, not all that it had room for.
+/// Makes room in a log for so many events more. A log that has to grow gets twice its room at least, and
+/// an eighth more than is wanted, so that after few events the next list of acts finds room; only the
+/// events that it holds are moved, not all that it had room for.
 fn make_room(log: &mut Vec<Event>, more: usize) -> Result<(), NoMemory>
     ensures items { log.new.items ≡ log.old.items }
     ensures len { vec_len log.new ≡ vec_len log.old }
@@ -119,6 +165,8 @@ fn make_room(log: &mut Vec<Event>, more: usize) -> Result<(), NoMemory>
     ensures succeeds { vec_len log.old + more ≤ vec_capacity log.old → IsOk result }
     ensures grows { OnOk result (vec_capacity log.old < vec_capacity log.new
         → 2 * vec_capacity log.old ≤ vec_capacity log.new) }
+    ensures ample { OnOk result (vec_capacity log.old < vec_capacity log.new
+        → vec_len log.old + more + (vec_len log.old + more) / 8 ≤ vec_capacity log.new) }
 {
     if more <= log.capacity() - log.len() {
         return Ok(());
@@ -126,7 +174,8 @@ fn make_room(log: &mut Vec<Event>, more: usize) -> Result<(), NoMemory>
     let Some(wanted) = log.len().checked_add(more) else {
         return Err(NoMemory);
     };
-    let room = wanted.max(log.capacity().saturating_mul(2));
+    let ample = wanted.saturating_add(wanted / 8);
+    let room = ample.max(log.capacity().saturating_mul(2));
     let mut grown = Vec::with_capacity(*log.allocator(), room)?;
     grown.extend_from_slice(log)?;
     *log = grown;

@@ -1,8 +1,9 @@
 -- Tickets and the row of messages that they stand for, as a petit cycle begins and ends.
-use Rattle.std.proofs.Common.{◌≡◌, ◌≢◌, ℕ, suc, ◌+◌, ◌<◌, ◌≤◌, ◌++◌, Bool, List, [], ◌∷◌, length, take, set, get_or, refl, sym, ap, ◌∙◌, subst, arith, ⊎_elim, below_more, get_or-set_same, get_or-set_other}
-use Rattle.std.specs.List.{All}
+use Rattle.std.proofs.Common.{◌≡◌, ◌≢◌, ℕ, suc, ◌+◌, ◌<◌, ◌≤◌, ◌++◌, Bool, true, false, not, IsTrue, List, [], ◌∷◌, length, take, set, get_or, refl, sym, ap, ◌∙◌, subst, arith, ⊎_elim, below_more, get_or-set_same, get_or-set_other}
+use Rattle.std.specs.Bool.{beq}
+use Rattle.std.specs.List.{All, IsAnyAnswer}
 use Rattle.std.proofs.lemmas.Bool.{cases_eq, cases_lt}
-use Rattle.std.proofs.lemmas.List.{length-map, map-append, map-set, length-append, length-set, get_or-map, get_or_append_left, get_or_at, get_or_past, take_more, ext_get_or}
+use Rattle.std.proofs.lemmas.List.{length-map, map-append, map-set, length-append, append_assoc, length-set, get_or-map, get_or_append_left, get_or_at, get_or_past, take_more, ext_get_or}
 use Rattle.std.proofs.lemmas.List.Elements.{All-append, All-cons, All-nil, All-set}
 use Rattle.std.proofs.lemmas.List.FromFn.{map-range_with_len_more}
 use Rattle.cm_model.specs.declared.message.Message.{Message}
@@ -32,14 +33,15 @@ kept_longer few many ts more h = λ k e l. let was = h k e l in omega arith
 newest : (row : List Message) (m : Message) (number : ℕ) → number ≡ length row → message_of (row ++ m ∷ []) (record { rel = m.rel; number = number }) ≡ m
 newest row m number is = ap (λ (found : Message). record found { rel = m.rel }) (get_or_at row m [] no_message number (sym is))
 
-pub entered_more : (row : List Message) (queue : List Ticket) (ms : List Message) (i number : ℕ) (m : Message) → number ≡ length row → AreKept (length row) queue → i < length ms → m ≡ get_or ms i m
-    → standing row queue ≡ take i ms → standing (row ++ m ∷ []) (queue ++ record { rel = m.rel; number = number } ∷ []) ≡ take (i + 1) ms
-entered_more row queue ms i number m is kept inside read was =
+pub entered_more : (row : List Message) (queue : List Ticket) (old ms : List Message) (i number : ℕ) (m : Message) → number ≡ length row → AreKept (length row) queue → i < length ms → m ≡ get_or ms i m
+    → standing row queue ≡ old ++ take i ms → standing (row ++ m ∷ []) (queue ++ record { rel = m.rel; number = number } ∷ []) ≡ old ++ take (i + 1) ms
+entered_more row queue old ms i number m is kept inside read was =
     let t : Ticket = record { rel = m.rel; number = number } in
     map-append (message_of (row ++ m ∷ [])) queue (t ∷ [])
     ∙ ap (λ (xs : List Message). xs ++ message_of (row ++ m ∷ []) t ∷ []) (standing_kept row (m ∷ []) queue kept ∙ was)
-    ∙ ap (λ (x : Message). take i ms ++ x ∷ []) (newest row m number is ∙ read)
-    ∙ sym (take_more ms i m inside)
+    ∙ append_assoc old (take i ms) (message_of (row ++ m ∷ []) t ∷ [])
+    ∙ ap (λ (x : Message). old ++ (take i ms ++ x ∷ [])) (newest row m number is ∙ read)
+    ∙ ap (λ (xs : List Message). old ++ xs) (sym (take_more ms i m inside))
 
 pub entered_kept : (row : List Message) (queue : List Ticket) (number : ℕ) (m : Message) → number ≡ length row → AreKept (length row) queue
     → AreKept (length (row ++ m ∷ [])) (queue ++ record { rel = m.rel; number = number } ∷ [])
@@ -199,3 +201,18 @@ each_from-none f = refl
 pub each_from-next : {X : Type 0} (f : ℕ → X) (count : ℕ) → each_from 0 (count + 1) f ≡ each_from 0 count f ++ f count ∷ []
 unfolding each_from
 each_from-next f count = map-range_with_len_more f 0 count count (omega arith)
+
+-- ---- blocks that are looked at
+
+-- where none is true, each reads false, past the end too
+pub none_true : (busy : List Bool) (found : Bool) → IsTrue (not found) → IsAnyAnswer (λ b t. beq b true ≡ t) busy found → (k : ℕ) → get_or busy k false ≡ false
+none_true busy true h answer k = let wrong : false ≡ true = h in absurd cc
+none_true busy false h answer k =
+    ⊎_elim
+    (λ (l : k < length busy). is_false (get_or busy k false) (answer k false (omega arith) l))
+    (λ (l : length busy ≤ k). get_or_past busy k false l)
+    (cases_lt k (length busy))
+  where
+    is_false : (b : Bool) → beq b true ≡ false → b ≡ false
+    is_false true e = absurd cc
+    is_false false e = refl

@@ -7,3 +7,5 @@ pub mod Pairing
 pub mod Carrying
 pub mod Keeping
 pub mod Wholes
+pub mod Changing
+pub mod Giving

@@ -1,10 +1,17 @@
 -- A queue in two rows: what is read of it, who is first to go, who arrives and who is taken out.
-use Rattle.std.proofs.Common.{◌≡◌, ℕ, zero, suc, ◌+◌, ◌-◌, ◌<◌, ◌≤◌, Bool, true, false, ltb, List, [], ◌∷◌, ◌++◌, length, get_or, slice_set, remove, Some, None, refl, sym, ◌∙◌, ap, ap₂, ⊎_elim, arith}
+use Rattle.std.proofs.Common.{◌≡◌, ℕ, ◌+◌, ◌-◌, ◌<◌, ◌≤◌, Bool, true, false, ltb, min, List, [], ◌∷◌, ◌++◌, length, get_or, slice_set, remove, Some, refl, sym, ◌∙◌, ap, ap₂, subst, ⊎_elim, arith}
 use Rattle.std.proofs.lemmas.Bool.{cases_lt, lt-ltb, le-ltb}
-use Rattle.std.proofs.lemmas.List.{length-append, get_or_append_left, get_or-append_right, get_or-set_same, get_or-set_other}
+use Rattle.std.proofs.lemmas.List.{length-append, append-nil, get_or_append_left, get_or-append_right, get_or-set_same, get_or-set_other}
 use Rattle.std.proofs.lemmas.List.Edits.{length-remove, get_or-remove_below, get_or-remove_above}
-use Rattle.std.specs.List.{position, position_or_len}
+use Rattle.std.proofs.lemmas.List.Sums.{position_or_len_is}
+use Rattle.std.proofs.lemmas.Option.{slice_get-get_or, slice_get_past}
+use Rattle.std.specs.Bool.{then_some}
+use Rattle.std.specs.List.{position_or_len, slice_get}
+use Rattle.std.specs.Option.{option_to_list}
+use mir.Val.{bool_byte}
+use Rattle.cm_bits.specs.Bit.{bit}
 use Rattle.cm_model.proofs.Each.{length-each_from, get_or-each_below, is_each}
+use Rattle.cm_model.proofs.Leaving.{remove_past}
 use Rattle.cm_crossing.specs.declared.queue.Ticket.{Ticket}
 use Rattle.cm_crossing.specs.Rows.{ticket_in, tickets_in, IsFirstWith, IsClosed}
 use Rattle.cm_crossing.specs.Tickets.{has_to_go}
@@ -30,42 +37,16 @@ ticket r n = record { rel = r; number = n }
 
 -- ---- who is first to go
 
-first_is : {X : Type 0} (p : X → Bool) (xs : List X) (i : ℕ) (d : X) → i < length xs → ((k : ℕ) → k < i → p (get_or xs k d) ≡ false) → p (get_or xs i d) ≡ true → position_or_len p xs ≡ i
-first_is p [] i d within before at = absurd (omega arith)
-first_is p (x ∷ xs) zero d within before at = rw at refl
-first_is p (x ∷ xs) (suc i) d within before at =
-    let first : p x ≡ false = before 0 (omega arith) in
-    rw (first, first_is p xs i d (omega arith) (λ k h. before (suc k) (omega arith)) at) (omega arith)
-
-none_is : {X : Type 0} (p : X → Bool) (xs : List X) (d : X) → ((k : ℕ) → k < length xs → p (get_or xs k d) ≡ false) → position_or_len p xs ≡ length xs
-none_is p [] d all = refl
-none_is p (x ∷ xs) d all =
-    let first : p x ≡ false = all 0 (omega arith) in
-    rw (first, none_is p xs d (λ k h. all (suc k) (omega arith))) (omega arith)
-
-pub first_goes : (d : ℕ) (rels numbers : List ℕ) (count place : ℕ) → IsFirstWith d rels place → count ≤ 15 → place < count → Some place ≡ position (has_to_go d) (tickets_in rels numbers count)
-first_goes d rels numbers count place first few within =
+-- the first number with the bit is the first ticket that has to cross, if a ticket stands there
+pub first_to_go : (room d : ℕ) (rels numbers : List ℕ) (count place : ℕ) → IsFirstWith room d rels place → count ≤ room → position_or_len (has_to_go d) (tickets_in rels numbers count) ≡ min place count
+first_to_go room d rels numbers count place first few =
     let ts : List Ticket = tickets_in rels numbers count in
     let long : length ts ≡ count = length-tickets_in rels numbers count in
     let t : Ticket = ticket 0 0 in
-    let is : position_or_len (has_to_go d) ts ≡ place =
-    first_is (has_to_go d) ts place t (omega (arith, long))
-    (λ k h. ap (has_to_go d) (get_or-tickets_in rels numbers count k t (omega arith)) ∙ first.none_before k (omega arith) h)
-    (ap (has_to_go d) (get_or-tickets_in rels numbers count place t within) ∙ first.there (omega arith)) in
-    let below : ltb place count ≡ true = lt-ltb place count within in
-    rw (is, long, below) refl
-
-pub none_goes : (d : ℕ) (rels numbers : List ℕ) (count place : ℕ) → IsFirstWith d rels place → count ≤ 15 → count ≤ place → None ≡ position (has_to_go d) (tickets_in rels numbers count)
-none_goes d rels numbers count place first few past =
-    let ts : List Ticket = tickets_in rels numbers count in
-    let long : length ts ≡ count = length-tickets_in rels numbers count in
-    let t : Ticket = ticket 0 0 in
-    let is : position_or_len (has_to_go d) ts ≡ length ts =
-    none_is (has_to_go d) ts t
-    (λ k h. let less : k < count = omega (arith, long) in
-    ap (has_to_go d) (get_or-tickets_in rels numbers count k t less) ∙ first.none_before k (omega arith) (omega arith)) in
-    let not_below : ltb count count ≡ false = le-ltb count count (omega arith) in
-    rw (is, long, not_below) refl
+    position_or_len_is (has_to_go d) ts (min place count) t (omega (arith, long))
+    (λ k h. ap (has_to_go d) (get_or-tickets_in rels numbers count k t (omega arith)) ∙ first.none_before k (omega arith) (omega arith))
+    (λ h. let is : min place count ≡ place = omega (arith, long) in
+    ap (has_to_go d) (get_or-tickets_in rels numbers count (min place count) t (omega (arith, long))) ∙ ap (λ (k : ℕ). bit (get_or rels k 0) d) is ∙ first.there (omega (arith, long)))
 
 -- ---- who arrives stands last
 
@@ -90,11 +71,24 @@ arrived rels numbers count r n rels_long numbers_long room =
     ∙ sym (ap₂ ticket (get_or-set_same rels count r 0 (omega arith)) (get_or-set_same numbers count n 0 (omega arith)))))
     (cases_lt i count)))
 
+-- who comes, if anyone does
+pub taken_in : (rels numbers : List ℕ) (count r n : ℕ) (comes : Bool) → length rels ≡ 16 → length numbers ≡ 16 → count < 15 →
+    tickets_in (slice_set rels count r) (slice_set numbers count n) (count + bool_byte comes) ≡ tickets_in rels numbers count ++ option_to_list (then_some comes (ticket r n))
+taken_in rels numbers count r n true rels_long numbers_long room = arrived rels numbers count r n rels_long numbers_long room
+taken_in rels numbers count r n false rels_long numbers_long room =
+    let t : Ticket = ticket 0 0 in
+    let none : count + 0 ≡ count = omega arith in
+    rw (none, append-nil (tickets_in rels numbers count))
+    (sym (is_each t count (ticket_in (slice_set rels count r) (slice_set numbers count n)) (tickets_in rels numbers count)
+    (length-tickets_in rels numbers count)
+    (λ i h. get_or-tickets_in rels numbers count i t h
+    ∙ sym (ap₂ ticket (get_or-set_other rels count i r 0 (omega arith)) (get_or-set_other numbers count i n 0 (omega arith))))))
+
 -- ---- who is taken out
 
-pub taken_out : (rels numbers rels_after numbers_after : List ℕ) (count place : ℕ) → IsClosed place rels rels_after → IsClosed place numbers numbers_after → count ≤ 15 → place < count →
+pub taken_out : (room : ℕ) (rels numbers rels_after numbers_after : List ℕ) (count place : ℕ) → IsClosed room place rels rels_after → IsClosed room place numbers numbers_after → count ≤ room → place < count →
     tickets_in rels_after numbers_after (count - 1) ≡ remove (tickets_in rels numbers count) place
-taken_out rels numbers rels_after numbers_after count place rels_closed numbers_closed few within =
+taken_out room rels numbers rels_after numbers_after count place rels_closed numbers_closed few within =
     let ts : List Ticket = tickets_in rels numbers count in
     let long : length ts ≡ count = length-tickets_in rels numbers count in
     let there : place < length ts = omega (arith, long) in
@@ -109,3 +103,45 @@ taken_out rels numbers rels_after numbers_after count place rels_closed numbers_
     get_or-remove_above ts place t i l there ∙ get_or-tickets_in rels numbers count (i + 1) t (omega arith)
     ∙ sym (ap₂ ticket (rels_closed.later i (omega arith) l) (numbers_closed.later i (omega arith) l)))
     (cases_lt i place)))
+
+-- who is at a place, if anyone is
+pub at_place : (rels numbers : List ℕ) (count place : ℕ) → then_some (ltb place count) (ticket_in rels numbers place) ≡ slice_get (tickets_in rels numbers count) place
+at_place rels numbers count place =
+    let ts : List Ticket = tickets_in rels numbers count in
+    let long : length ts ≡ count = length-tickets_in rels numbers count in
+    let t : Ticket = ticket 0 0 in
+    ⊎_elim
+    (λ (l : place < count).
+    let yes : ltb place count ≡ true = lt-ltb place count l in
+    rw yes (ap Some (sym (get_or-tickets_in rels numbers count place t l)) ∙ sym (slice_get-get_or ts place t (omega (arith, long)))))
+    (λ (l : count ≤ place).
+    let no : ltb place count ≡ false = le-ltb place count l in
+    rw no (sym (slice_get_past ts place (omega (arith, long)))))
+    (cases_lt place count)
+
+-- past the last the rows may close as well
+nobody_taken : (room : ℕ) (rels numbers rels_after numbers_after : List ℕ) (count : ℕ) → IsClosed room count rels rels_after → IsClosed room count numbers numbers_after → count ≤ room →
+    tickets_in rels_after numbers_after count ≡ tickets_in rels numbers count
+nobody_taken room rels numbers rels_after numbers_after count rels_closed numbers_closed few =
+    let t : Ticket = ticket 0 0 in
+    sym (is_each t count (ticket_in rels_after numbers_after) (tickets_in rels numbers count)
+    (length-tickets_in rels numbers count)
+    (λ i h. get_or-tickets_in rels numbers count i t h
+    ∙ sym (ap₂ ticket (rels_closed.earlier i (omega arith) h) (numbers_closed.earlier i (omega arith) h))))
+
+pub taken_out_at : (room : ℕ) (rels numbers rels_after numbers_after : List ℕ) (count place : ℕ) → IsClosed room place rels rels_after → IsClosed room place numbers numbers_after → count ≤ room → place ≤ count →
+    tickets_in rels_after numbers_after (count - bool_byte (ltb place count)) ≡ remove (tickets_in rels numbers count) place
+taken_out_at room rels numbers rels_after numbers_after count place rels_closed numbers_closed few within =
+    let ts : List Ticket = tickets_in rels numbers count in
+    ⊎_elim
+    (λ (l : place < count).
+    let yes : ltb place count ≡ true = lt-ltb place count l in
+    rw yes (taken_out room rels numbers rels_after numbers_after count place rels_closed numbers_closed few l))
+    (λ (l : count ≤ place).
+    let no : ltb place count ≡ false = le-ltb place count l in
+    let is : place ≡ count = omega arith in
+    let none : count - 0 ≡ count = omega arith in
+    rw (no, none)
+    (nobody_taken room rels numbers rels_after numbers_after count (subst (λ (k : ℕ). IsClosed room k rels rels_after) is rels_closed) (subst (λ (k : ℕ). IsClosed room k numbers numbers_after) is numbers_closed) few
+    ∙ sym (remove_past ts place (omega (arith, length-tickets_in rels numbers count)))))
+    (cases_lt place count)

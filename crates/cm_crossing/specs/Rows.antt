@@ -12,12 +12,12 @@ ticket_in rels numbers i = record { rel = slice_index rels i; number = slice_ind
 abbrev pub tickets_in : List ℕ → List ℕ → ℕ → List Ticket
 tickets_in rels numbers count = each_from 0 count (ticket_in rels numbers)
 
--- the place of the first number of a row whose bit d is set; where there is none, a place past the row
-pub record IsFirstWith (d : ℕ) (row : List ℕ) (place : ℕ) : Type 0 where
-  pub none_before : (i : ℕ) → i < 16 → i < place → bit (slice_index row i) d ≡ false
-  pub there : place < 16 → bit (slice_index row place) d ≡ true
+-- the place of the first of so many numbers of a row whose bit d is set; where there is none, a place past them
+pub record IsFirstWith (width d : ℕ) (row : List ℕ) (place : ℕ) : Type 0 where
+  pub none_before : (i : ℕ) → i < width → i < place → bit (slice_index row i) d ≡ false
+  pub there : place < width → bit (slice_index row place) d ≡ true
 
--- a row without the number at a place: the later ones stand one place nearer the front, and the last place holds anything
-pub record IsClosed (place : ℕ) (row closed : List ℕ) : Type 0 where
-  pub earlier : (i : ℕ) → i < 15 → i < place → slice_index closed i ≡ slice_index row i
-  pub later : (i : ℕ) → i < 15 → place ≤ i → slice_index closed i ≡ slice_index row (i + 1)
+-- so many numbers of a row without the one at a place: the later ones stand one place nearer the front, and the last place holds anything
+pub record IsClosed (width place : ℕ) (row closed : List ℕ) : Type 0 where
+  pub earlier : (i : ℕ) → i < width → i < place → slice_index closed i ≡ slice_index row i
+  pub later : (i : ℕ) → i + 1 < width → place ≤ i → slice_index closed i ≡ slice_index row (i + 1)

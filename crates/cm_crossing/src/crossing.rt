@@ -1,32 +1,38 @@
-//! The messages of all chips while they cross.
+//! The messages of all chips while they are under way.
 
-ghost use Rattle.std.specs.Prelude.{◌≡◌, ◌+◌, ◌*◌, ◌^◌, ◌<◌, ◌≤◌, [], ◌∷◌, ◌++◌, IfOk, IsFalse, false, IsTrue, length, bit_xor, vec_len, vec_capacity};
+ghost use Rattle.std.specs.Prelude.{◌≡◌, ℕ, ◌+◌, ◌*◌, ◌/◌, ◌^◌, ◌<◌, ◌≤◌, ◌++◌, [], ◌∷◌, IfOk, IsFalse, IsTrue, false, length, map, slice_index_or, slice_set, bit_xor, vec_len, vec_capacity};
 ghost use Rattle.std.specs.List.{All};
+ghost use Rattle.cm_model.specs.declared.message.Event.TheVariants as event;
+ghost use Rattle.cm_model.specs.Letters.{chip_after_injection, chip_after_delivery};
 ghost use Rattle.cm_model.specs.Each.{each_from};
 ghost use Rattle.cm_model.specs.Array.{each_chip};
 ghost use Rattle.cm_model.specs.Machine.{buffer_at};
 ghost use Rattle.cm_model.specs.Buffers.{outgoing, buffer_after_dimension};
 ghost use Rattle.cm_router.specs.Buffer.{IsBuffer, holding, buffers_of};
-ghost use Rattle.cm_crossing.specs.Standing.{message_of, standing, all_standing, AreKept, AreQuiet};
+ghost use Rattle.cm_crossing.specs.Standing.{message_of, standing, all_standing, AreKept, AreQuiet, taken_with, sent_with, delivered_of, kept_of};
 
 use crate::exchange::{BLOCK, cross_row};
-use crate::queue::{Queue, Ticket};
+use crate::queue::{MOST_TICKETS, Queue, Ticket};
 use cm_bits::NoMemory;
-use cm_message::Message;
-use cm_router::Node;
+use cm_element::Chip;
+use cm_message::{Event, Message};
+use cm_router::{Node, begin, hand_over, may_ask, take_none};
 use std::alloc::Global;
 use std::marker::Model;
 
 /// As many blocks as the largest machine has.
 const BLOCKS: usize = 64;
 
-/// The working room of petit cycles: what stands at each chip while messages cross the dimensions. A
-/// message stays where it is kept; what crosses is a ticket, the relative address and the place of
-/// the message (ours).
+/// Most places of the row: a ticket tells one in sixteen bits.
+const MOST_PLACES: usize = 65536;
+
+/// The messages of all chips from the first act of a list to the last. A message stays where it is kept; what crosses is a ticket, the relative address and the place of the message (ours).
 #[derive(Debug, Drop)]
 pub struct Crossing {
-    /// The messages as they were before the first dimension.
+    /// The messages as they were when they got their tickets; some may have been delivered.
     row: Vec<Message>,
+    /// Most messages that the row may have.
+    places: usize,
     /// By chip, the tickets of the messages that stand there.
     queues: Vec<Queue>,
     /// By block of chips, whether a ticket may stand there.
@@ -34,28 +40,32 @@ pub struct Crossing {
 }
 
 impl Model for Crossing {
-    ghost use Rattle.std.specs.Prelude.{List};
-    ghost use Rattle.cm_model.specs.declared.message.Message.{Message};
-    ghost use Rattle.cm_crossing.specs.Standing.{all_standing, IsCrossing};
+    ghost use Rattle.std.specs.Prelude.{◌-◌, vec_len};
+    ghost use Rattle.cm_crossing.specs.Standing.{UnderWay, all_standing, IsCrossing};
 
-    ghost Value = { List (List Message) };
+    ghost Value = { UnderWay };
 
-    ghost view = { λ crossing. all_standing crossing.row.items crossing.queues.items };
+    ghost view = { λ crossing. record {
+      buffers = all_standing crossing.row.items crossing.queues.items;
+      free = crossing.places - vec_len crossing.row;
+    } };
 
-    ghost invariant = { λ crossing. IsCrossing crossing.row crossing.queues.items crossing.busy };
+    ghost invariant = { λ crossing. IsCrossing crossing.row crossing.places crossing.queues.items crossing.busy };
 }
 
 impl Crossing {
     /// Working room for so many chips, at which no message stands.
     pub fn new(alloc: Global, chips: usize) -> Result<Crossing, NoMemory>
         requires few { chips ≤ 4096 }
-        ensures value { IfOk result (λ crossing. crossing ≡ each_from 0 chips (λ c. [])) }
-        ensures count { IfOk result (λ crossing. length crossing ≡ chips) }
+        ensures value { IfOk result (λ crossing. crossing.buffers ≡ each_from 0 chips (λ c. [])) }
+        ensures count { IfOk result (λ crossing. length crossing.buffers ≡ chips) }
     {
-        let row = Vec::with_capacity(alloc, 15 * chips)?;
+        let places = MOST_PLACES.min(32 * chips);
+        let row = Vec::with_capacity(alloc, places)?;
         let queues = empty_queues(alloc, chips)?;
         Ok(Crossing {
             row,
+            places,
             queues,
             busy: [false; BLOCKS],
         })
@@ -63,11 +73,11 @@ impl Crossing {
 
     /// Takes the messages out of the nodes; what stood here before is gone.
     pub fn take_up<const CAP: usize>(&mut self, nodes: &mut [Node])
-        requires count { length nodes.old ≡ length self.old }
+        requires count { length nodes.old ≡ length self.old.buffers }
         requires rooms { All (λ node. node.room ≡ CAP) nodes.old }
-        ensures value { self.new ≡ buffers_of nodes.old }
-        ensures count { length self.new ≡ length nodes.old }
-        ensures within { All (λ ms. length ms ≤ CAP) self.new }
+        ensures value { self.new.buffers ≡ buffers_of nodes.old }
+        ensures count { length self.new.buffers ≡ length nodes.old }
+        ensures within { All (λ ms. length ms ≤ CAP) self.new.buffers }
         ensures room { 0 < length nodes.old → (0 < CAP) × (CAP ≤ 15) }
         ensures rooms { All (λ node. node.room ≡ CAP) nodes.new }
         ensures taken { All (λ node. node.messages ≡ []) nodes.new }
@@ -78,9 +88,49 @@ impl Crossing {
 
     /// True only where no message stands here.
     pub fn is_empty(&self) -> bool
-        ensures none { IsTrue result → All (λ ms. ms ≡ []) self.now }
+        ensures none { IsTrue result → All (λ ms. ms ≡ []) self.now.buffers }
     {
-        self.row.is_empty()
+        !self.busy.contains(&true)
+    }
+
+    /// Whether there are places for so many messages more.
+    pub fn has_places(&self, count: usize) -> bool
+        ensures free { IsTrue result → count ≤ self.now.free }
+        ensures few { IsFalse result → self.now.free < count }
+    {
+        count <= self.places - self.row.len()
+    }
+
+    /// At one chip, takes in messages of the processors that ask to send, by number, at most four and
+    /// at most as many as there is room for. The log tells of each.
+    pub fn inject<const N: usize, const CAP: usize>(
+        &mut self,
+        here: usize,
+        chip: &mut Chip,
+        clock: u64,
+        log: &mut Vec<Event>,
+    )
+        requires dimension { N ≤ 12 }
+        requires some { 0 < CAP }
+        requires most { CAP ≤ 15 }
+        requires here { here < length self.old.buffers }
+        requires within { All (λ ms. length ms ≤ CAP) self.old.buffers }
+        requires free { 4 ≤ self.old.free }
+        requires room { vec_len log.old + 4 ≤ vec_capacity log.old }
+        ensures value { self.new.buffers ≡ slice_set self.old.buffers here (buffer_at self.old.buffers here
+            ++ sent_with N CAP clock here (buffer_at self.old.buffers here) chip.old) }
+        ensures chip { chip.new ≡ chip_after_injection (taken_with CAP (buffer_at self.old.buffers here) chip.old) chip.old }
+        ensures log { log.new.items ≡ log.old.items
+            ++ map event.Injected (sent_with N CAP clock here (buffer_at self.old.buffers here) chip.old) }
+        ensures told { vec_len log.new ≤ vec_len log.old + 4 }
+        ensures log_room { vec_capacity log.old ≤ vec_capacity log.new }
+        ensures free { self.old.free ≤ self.new.free + 4 }
+        ensures within { All (λ ms. length ms ≤ CAP) self.new.buffers }
+    {
+        let queue = &mut self.queues[here];
+        if take_in::<N, CAP>(&mut self.row, queue, chip, here as u16, clock, log) {
+            self.busy[here / BLOCK] = true;
+        }
     }
 
     /// The messages cross a dimension.
@@ -89,23 +139,51 @@ impl Crossing {
         requires dim { dim < N }
         requires some { 0 < CAP }
         requires most { CAP ≤ 15 }
-        requires count { length self.old ≡ 2 ^ N }
-        requires within { All (λ ms. length ms ≤ CAP) self.old }
-        ensures value { self.new ≡ each_chip N (λ c. buffer_after_dimension CAP dim
-            (buffer_at self.old c) (outgoing CAP dim (buffer_at self.old (bit_xor c (2 ^ dim))))) }
-        ensures count { length self.new ≡ 2 ^ N }
-        ensures within { All (λ ms. length ms ≤ CAP) self.new }
+        requires count { length self.old.buffers ≡ 2 ^ N }
+        requires within { All (λ ms. length ms ≤ CAP) self.old.buffers }
+        ensures value { self.new.buffers ≡ each_chip N (λ c. buffer_after_dimension CAP dim
+            (buffer_at self.old.buffers c) (outgoing CAP dim (buffer_at self.old.buffers (bit_xor c (2 ^ dim))))) }
+        ensures count { length self.new.buffers ≡ 2 ^ N }
+        ensures within { All (λ ms. length ms ≤ CAP) self.new.buffers }
+        ensures free { self.new.free ≡ self.old.free }
     {
         cross_row::<N>(&mut self.queues, &mut self.busy, CAP as u8, dim);
     }
 
-    /// Puts the messages back into the nodes.
+    /// At one chip, delivers what has arrived: each message from the front whose processor can receive,
+    /// at most one to each. The log tells of each.
+    pub fn deliver<const CAP: usize>(&mut self, here: usize, chip: &mut Chip, log: &mut Vec<Event>)
+        requires most { CAP ≤ 15 }
+        requires here { here < length self.old.buffers }
+        requires within { All (λ ms. length ms ≤ CAP) self.old.buffers }
+        requires room { vec_len log.old + CAP ≤ vec_capacity log.old }
+        ensures value { self.new.buffers ≡ slice_set self.old.buffers here
+            (kept_of (buffer_at self.old.buffers here) chip.old) }
+        ensures chip { chip.new ≡ chip_after_delivery (delivered_of (buffer_at self.old.buffers here) chip.old) chip.old }
+        ensures log { log.new.items ≡ log.old.items
+            ++ map (λ m. event.Delivered m here) (delivered_of (buffer_at self.old.buffers here) chip.old) }
+        ensures told { vec_len log.new ≤ vec_len log.old + CAP }
+        ensures log_room { vec_capacity log.old ≤ vec_capacity log.new }
+        ensures within { All (λ ms. length ms ≤ CAP) self.new.buffers }
+        ensures free { self.new.free ≡ self.old.free }
+    {
+        give_out(&self.row, &mut self.queues[here], chip, here as u16, log);
+    }
+
+    /// Looks again in which blocks messages stand; the chips of the others need no look from here on.
+    pub fn watch(&mut self)
+        ensures value { self.new ≡ self.old }
+    {
+        look_again(&self.queues, &mut self.busy);
+    }
+
+    /// Puts the messages back into the nodes; they stand here too until these are taken up again.
     pub fn put_back<const CAP: usize>(&self, nodes: &mut [Node])
-        requires count { length nodes.old ≡ length self.now }
+        requires count { length nodes.old ≡ length self.now.buffers }
         requires rooms { All (λ node. node.room ≡ CAP) nodes.old }
         requires taken { All (λ node. node.messages ≡ []) nodes.old }
-        requires within { All (λ ms. length ms ≤ CAP) self.now }
-        ensures value { buffers_of nodes.new ≡ self.now }
+        requires within { All (λ ms. length ms ≤ CAP) self.now.buffers }
+        ensures value { buffers_of nodes.new ≡ self.now.buffers }
         ensures rooms { All (λ node. node.room ≡ CAP) nodes.new }
     {
         let mut c = 0;
@@ -168,6 +246,7 @@ fn issue<const CAP: usize>(
     ensures value { all_standing row.new.items queues.new ≡ buffers_of nodes.old }
     ensures kept { All (AreKept (length row.new.items)) queues.new }
     ensures capacity { vec_capacity row.old ≤ vec_capacity row.new }
+    ensures filled { vec_len row.new ≤ 15 * length queues.old }
     ensures within { All (λ ts. length ts ≤ CAP) queues.new }
     ensures quiet { AreQuiet busy.new queues.new }
     ensures room { 0 < length nodes.old → (0 < CAP) × (CAP ≤ 15) }
@@ -201,25 +280,25 @@ fn enter(row: &mut Vec<Message>, queue: &mut Queue, node: &mut Node) -> bool
     if node.messages().is_empty() {
         return false;
     }
-    stand(row, queue, node);
+    stand(row, queue, node.messages());
     node.clear();
     true
 }
 
-/// The messages of one node.
-fn stand(row: &mut Vec<Message>, queue: &mut Queue, node: &Node)
-    requires few { vec_len row.old + 15 ≤ 65536 }
-    requires capacity { vec_len row.old + 15 ≤ vec_capacity row.old }
-    requires none { queue.old ≡ [] }
-    ensures items { row.new.items ≡ row.old.items ++ node.now.messages }
-    ensures value { standing row.new.items queue.new ≡ node.now.messages }
+/// Messages get places in the row, and stand last at their chip.
+fn stand(row: &mut Vec<Message>, queue: &mut Queue, messages: &[Message])
+    requires few { vec_len row.old + length messages.now ≤ 65536 }
+    requires capacity { vec_len row.old + length messages.now ≤ vec_capacity row.old }
+    requires kept { AreKept (length row.old.items) queue.old }
+    requires room { length queue.old + length messages.now ≤ 15 }
+    ensures items { row.new.items ≡ row.old.items ++ messages.now }
+    ensures value { standing row.new.items queue.new ≡ standing row.old.items queue.old ++ messages.now }
     ensures kept { AreKept (length row.new.items) queue.new }
-    ensures within { length queue.new ≤ node.now.room }
-    ensures len { vec_len row.new ≤ vec_len row.old + 15 }
+    ensures within { length queue.new ≡ length queue.old + length messages.now }
+    ensures len { vec_len row.new ≡ vec_len row.old + length messages.now }
     ensures capacity { vec_capacity row.old ≤ vec_capacity row.new }
-    ensures whole { IsBuffer node.now }
 {
-    for message in node.messages() {
+    for message in messages {
         let number = keep(row, message);
         queue.arrive(Ticket {
             rel: message.rel,
@@ -240,6 +319,107 @@ fn keep(row: &mut Vec<Message>, message: &Message) -> u16
     let number = row.len() as u16;
     row.push(*message).unwrap();
     number
+}
+
+/// Takes messages in at one chip, and tells whether there were any.
+fn take_in<const N: usize, const CAP: usize>(
+    row: &mut Vec<Message>,
+    queue: &mut Queue,
+    chip: &mut Chip,
+    here: u16,
+    clock: u64,
+    log: &mut Vec<Event>,
+) -> bool
+    requires dimension { N ≤ 12 }
+    requires some { 0 < CAP }
+    requires most { CAP ≤ 15 }
+    requires within { length queue.old ≤ CAP }
+    requires kept { AreKept (length row.old.items) queue.old }
+    requires few { vec_len row.old + 4 ≤ 65536 }
+    requires capacity { vec_len row.old + 4 ≤ vec_capacity row.old }
+    requires room { vec_len log.old + 4 ≤ vec_capacity log.old }
+    ensures items { row.new.items ≡ row.old.items
+        ++ sent_with N CAP clock here (standing row.old.items queue.old) chip.old }
+    ensures value { standing row.new.items queue.new ≡ standing row.old.items queue.old
+        ++ sent_with N CAP clock here (standing row.old.items queue.old) chip.old }
+    ensures kept { AreKept (length row.new.items) queue.new }
+    ensures within { length queue.new ≤ CAP }
+    ensures len { vec_len row.new ≤ vec_len row.old + 4 }
+    ensures row_capacity { vec_capacity row.old ≤ vec_capacity row.new }
+    ensures quiet { IsFalse result → queue.new ≡ queue.old }
+    ensures some { IsTrue result → 0 < length queue.new }
+    ensures chip { chip.new ≡ chip_after_injection (taken_with CAP (standing row.old.items queue.old) chip.old) chip.old }
+    ensures log { log.new.items ≡ log.old.items
+        ++ map event.Injected (sent_with N CAP clock here (standing row.old.items queue.old) chip.old) }
+    ensures told { vec_len log.new ≤ vec_len log.old + 4 }
+    ensures log_room { vec_capacity log.old ≤ vec_capacity log.new }
+{
+    let left = CAP - queue.len();
+    if left == 0 || !may_ask(chip) {
+        take_none(chip);
+        return false;
+    }
+    let mut taken = Node::new(left as u8);
+    taken.inject(chip, here, N as u8, clock, log);
+    if taken.messages().is_empty() {
+        return false;
+    }
+    stand(row, queue, taken.messages());
+    true
+}
+
+/// Delivers to one chip, message by message.
+fn give_out(row: &[Message], queue: &mut Queue, chip: &mut Chip, here: u16, log: &mut Vec<Event>)
+    requires kept { AreKept (length row.now) queue.old }
+    requires room { vec_len log.old + length queue.old ≤ vec_capacity log.old }
+    ensures value { standing row.now queue.new ≡ kept_of (standing row.now queue.old) chip.old }
+    ensures kept { AreKept (length row.now) queue.new }
+    ensures fewer { length queue.new ≤ length queue.old }
+    ensures chip { chip.new ≡ chip_after_delivery (delivered_of (standing row.now queue.old) chip.old) chip.old }
+    ensures log { log.new.items ≡ log.old.items
+        ++ map (λ m. event.Delivered m here) (delivered_of (standing row.now queue.old) chip.old) }
+    ensures told { vec_len log.new ≤ vec_len log.old + length queue.old }
+    ensures log_room { vec_capacity log.old ≤ vec_capacity log.new }
+{
+    begin(chip);
+    let mut place = 0;
+    while place < queue.len() {
+        let message = message_of(row, queue.ticket(place));
+        if hand_over(chip, &message, here, log) {
+            queue.remove(MOST_TICKETS, place);
+        } else {
+            place += 1;
+        }
+    }
+}
+
+/// Looks which of the blocks that were busy still are.
+fn look_again(queues: &[Queue], busy: &mut [bool])
+    requires few { length queues.now ≤ 4096 }
+    requires blocks { length busy.old ≡ 64 }
+    requires quiet { AreQuiet busy.old queues.now }
+    ensures quiet { AreQuiet busy.new queues.now }
+{
+    for block in 0..busy.len() {
+        if busy[block] {
+            busy[block] = is_busy(queues, block);
+        }
+    }
+}
+
+/// Whether a ticket stands at some chip of a block.
+fn is_busy(queues: &[Queue], block: usize) -> bool
+    requires block { block < 64 }
+    ensures none { IsFalse result → (c : ℕ) → c < length queues.now → c / 64 ≡ block → slice_index_or queues.now c [] ≡ [] }
+{
+    let mut c = block * BLOCK;
+    while c < queues.len() && c < (block + 1) * BLOCK {
+        if queues[c].len() > 0 {
+            return true;
+        }
+        c += 1;
+    }
+    false
 }
 
 /// Puts the messages of a queue into a node.

@@ -1,13 +1,12 @@
 //! A dimension crossed: of each pair of chips both send who leaves before either takes in who comes.
 
-ghost use Rattle.std.specs.Prelude.{◌≡◌, ◌≢◌, ◌^◌, ◌<◌, ◌≤◌, ◌++◌, length, slice_set, bit_xor};
-ghost use Rattle.std.specs.Option.{option_to_list};
+ghost use Rattle.std.specs.Prelude.{◌≡◌, ◌≢◌, ◌^◌, ◌<◌, ◌≤◌, length, slice_set, bit_xor};
 ghost use Rattle.std.specs.List.{All};
 ghost use Rattle.cm_model.specs.Array.{each_chip};
 ghost use Rattle.cm_crossing.specs.Tickets.{queue_at, exchanged};
 ghost use Rattle.cm_crossing.specs.Standing.{AreQuiet};
 
-use crate::queue::{Queue, Ticket};
+use crate::queue::Queue;
 
 /// So many chips are looked at together: where no ticket may stand at any of them, nor at those across,
 /// they cost one look.
@@ -69,18 +68,6 @@ fn exchange(queues: &mut [Queue], here: usize, there: usize, room: u8, dim: u8)
 {
     let going = queues[here].leave(room, dim);
     let coming = queues[there].leave(room, dim);
-    welcome(&mut queues[here], coming, room);
-    welcome(&mut queues[there], going, room);
-}
-
-/// Who comes, if anyone does, stands last.
-fn welcome(queue: &mut Queue, coming: Option<Ticket>, room: u8)
-    requires most { room ≤ 15 }
-    requires room { length queue.old < room }
-    ensures value { queue.new ≡ queue.old ++ option_to_list coming }
-    ensures within { length queue.new ≤ room }
-{
-    if let Some(ticket) = coming {
-        queue.arrive(ticket);
-    }
+    queues[here].take_in(coming);
+    queues[there].take_in(going);
 }

@@ -1,5 +1,5 @@
-//! Messages while they cross the dimensions of a petit cycle: they stay in one row, and tickets cross
-//! in their place.
+//! Messages through a list of acts with petit cycles: they stay in one row, and tickets cross in their
+//! place.
 #![tactic(auto)]
 
 mod crossing;

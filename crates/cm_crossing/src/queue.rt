@@ -1,9 +1,10 @@
 //! The tickets of one chip.
 
-ghost use Rattle.std.specs.Prelude.{◌≡◌, ◌<◌, ◌≤◌, [], ◌∷◌, ◌++◌, length, position, remove, slice_index_or, IfSome};
+ghost use Rattle.std.specs.Prelude.{◌≡◌, ◌<◌, ◌≤◌, [], ◌∷◌, ◌++◌, length, remove, slice_get, slice_index_or, unwrap_or};
+ghost use Rattle.std.specs.Option.{option_map, option_to_list};
 ghost use Rattle.cm_model.specs.Buffers.{without};
 ghost use Rattle.cm_crossing.specs.Rows.{IsClosed, IsFirstWith};
-ghost use Rattle.cm_crossing.specs.Tickets.{has_to_go, place_left, ticket_across, ticket_going};
+ghost use Rattle.cm_crossing.specs.Tickets.{place_left, ticket_across, ticket_going};
 
 use std::marker::Model;
 use std::simd::prelude::*;
@@ -38,6 +39,28 @@ impl Model for Queue {
 
     ghost invariant = { λ queue. queue.len ≤ 15 };
 }
+
+/// What goes across a dimension, if anything does. There is a ticket to read and to write in either case:
+/// whether it counts is a number to add, and no branch.
+#[derive(Debug, Drop)]
+pub struct Leaving {
+    ticket: Ticket,
+    // else the ticket is anything
+    leaves: bool,
+}
+
+impl Model for Leaving {
+    ghost use Rattle.std.specs.Prelude.{Option};
+    ghost use Rattle.std.specs.Bool.{then_some};
+    ghost use Rattle.cm_crossing.specs.declared.queue.Ticket.{Ticket};
+
+    ghost Value = { Option Ticket };
+
+    ghost view = { λ leaving. then_some leaving.leaves leaving.ticket };
+}
+
+/// Most tickets of a chip.
+pub const MOST_TICKETS: u8 = 15;
 
 const PLACES: [u16; 16] = [0, 1, 2, 3, 4, 5, 6, 7, 8, 9, 10, 11, 12, 13, 14, 15];
 
@@ -86,15 +109,27 @@ impl Queue {
         requires room { length self.old < 15 }
         ensures value { self.new ≡ self.old ++ ticket ∷ [] }
     {
+        self.take_in(Leaving {
+            ticket,
+            leaves: true,
+        });
+    }
+
+    /// Takes in who comes, if anyone does, who stands last.
+    pub fn take_in(&mut self, coming: Leaving)
+        requires room { length self.old < 15 }
+        ensures value { self.new ≡ self.old ++ option_to_list coming }
+    {
         let place = usize::from(self.len);
-        self.rels[place] = ticket.rel;
-        self.numbers[place] = ticket.number;
-        self.len += 1;
+        self.rels[place] = coming.ticket.rel;
+        self.numbers[place] = coming.ticket.number;
+        self.len += u8::from(coming.leaves);
     }
 
     /// Takes out what goes across a dimension, where there is room for so many messages: the first
-    /// that has to cross it, or else, where the queue is full, the last.
-    pub fn leave(&mut self, room: u8, dim: u8) -> Option<Ticket>
+    /// that has to cross it, or else, where the queue is full, the last. It takes the same steps
+    /// whatever the queue holds.
+    pub fn leave(&mut self, room: u8, dim: u8) -> Leaving
         requires dimension { dim < 12 }
         requires some { 0 < room }
         requires most { room ≤ 15 }
@@ -103,72 +138,126 @@ impl Queue {
         ensures stays { self.new ≡ without self.old (place_left room dim self.old) }
         ensures room { length self.new < room }
     {
-        if self.len() == 0 {
-            return None;
-        }
-        let place = self.place_left(room, dim)?;
-        Some(across(self.remove(place), dim))
+        let place = self.place_left(room, dim);
+        self.remove(room, place).across(dim)
     }
 
-    /// The place of who leaves.
-    #[tactic(auto, unfolding(crate::specs::Tickets::place_left))]
-    fn place_left(&self, room: u8, dim: u8) -> Option<usize>
+    /// The place of who leaves, or past the last where nobody does.
+    fn place_left(&self, room: u8, dim: u8) -> usize
         requires dimension { dim < 12 }
         requires some { 0 < room }
-        ensures value { result ≡ place_left room dim self.now }
-        ensures within { IfSome result (λ place. place < length self.now) }
+        requires most { room ≤ 15 }
+        requires within { length self.now ≤ room }
+        ensures value { result ≡ unwrap_or (place_left room dim self.now) (length self.now) }
+        ensures within { result ≤ length self.now }
     {
-        match self.first_to_go(dim) {
-            Some(place) => Some(place),
-            None if self.len() == usize::from(room) => Some(self.len() - 1),
-            None => None,
-        }
+        let full = self.len == room;
+        first_with(&self.rels, room, dim).min(usize::from(self.len) - usize::from(full))
     }
 
-    fn first_to_go(&self, dim: u8) -> Option<usize>
-        requires dimension { dim < 12 }
-        ensures value { result ≡ position (has_to_go dim) self.now }
-        ensures within { IfSome result (λ place. place < length self.now) }
-    {
-        let place = first_with(self.rels, dim);
-        if place < self.len() {
-            Some(place)
-        } else {
-            None
-        }
-    }
-
-    /// Takes out the ticket at a place; the later ones stand one place nearer the front.
-    fn remove(&mut self, place: usize) -> Ticket
-        requires within { place < length self.old }
-        ensures value { result ≡ slice_index_or self.old place result }
+    /// Takes out the ticket at a place, if one stands there; the later ones stand one place nearer
+    /// the front.
+    pub fn remove(&mut self, room: u8, place: usize) -> Leaving
+        requires most { room ≤ 15 }
+        requires within { length self.old ≤ room }
+        requires place { place ≤ length self.old }
+        ensures value { result ≡ slice_get self.old place }
         ensures stays { self.new ≡ remove self.old place }
     {
-        let ticket = self.ticket(place);
-        self.rels = closed(self.rels, place);
-        self.numbers = closed(self.numbers, place);
-        self.len -= 1;
-        ticket
+        let leaves = place < usize::from(self.len);
+        let ticket = Ticket {
+            rel: self.rels[place],
+            number: self.numbers[place],
+        };
+        close(&mut self.rels, room, place);
+        close(&mut self.numbers, room, place);
+        self.len -= u8::from(leaves);
+        Leaving { ticket, leaves }
     }
 }
 
-/// The place of the first number of a row with this bit.
-fn first_with(row: [u16; 16], dim: u8) -> usize
-    requires long { length row ≡ 16 }
+impl Leaving {
+    /// What arrives across this dimension.
+    fn across(self, dim: u8) -> Leaving
+        requires dimension { dim < 12 }
+        ensures value { result ≡ option_map (ticket_across dim) self }
+    {
+        Leaving {
+            ticket: across(self.ticket, dim),
+            leaves: self.leaves,
+        }
+    }
+}
+
+/// The place of the first of so many numbers of a row with this bit, or a place past them. Of eight or
+/// fewer only half the row is read.
+fn first_with(row: &[u16; 16], room: u8, dim: u8) -> usize
+    requires long { length row.now ≡ 16 }
+    requires most { room ≤ 15 }
     requires dimension { dim < 12 }
-    ensures value { IsFirstWith dim row result }
+    ensures value { IsFirstWith room dim row.now result }
 {
-    let bit = u16x16::splat(1 << dim);
-    let hits = (u16x16::from_array(row) & bit).simd_eq(bit).to_bitmask();
+    if room <= 8 {
+        first_of_8_with(row, dim)
+    } else {
+        first_of_16_with(row, dim)
+    }
+}
+
+fn first_of_8_with(row: &[u16; 16], dim: u8) -> usize
+    requires long { length row.now ≡ 16 }
+    requires dimension { dim < 12 }
+    ensures value { IsFirstWith 8 dim row.now result }
+{
+    let bit = u16x8::splat(1 << dim);
+    let hits = (u16x8::from_slice(row) & bit).simd_eq(bit).to_bitmask();
     hits.trailing_zeros() as usize
 }
 
-/// The row without the number at a place: the later ones stand one place nearer the front, and the
-/// last place holds anything.
-fn closed(row: [u16; 16], place: usize) -> [u16; 16]
+fn first_of_16_with(row: &[u16; 16], dim: u8) -> usize
+    requires long { length row.now ≡ 16 }
+    requires dimension { dim < 12 }
+    ensures value { IsFirstWith 16 dim row.now result }
+{
+    let bit = u16x16::splat(1 << dim);
+    let hits = (u16x16::from_array(*row) & bit).simd_eq(bit).to_bitmask();
+    hits.trailing_zeros() as usize
+}
+
+/// Takes the number at a place out of so many of a row: the later ones stand one place nearer the front,
+/// and the last place holds anything. Of eight or fewer only half the row is written.
+fn close(row: &mut [u16; 16], room: u8, place: usize)
+    requires long { length row.old ≡ 16 }
+    requires most { room ≤ 15 }
+    requires within { place ≤ room }
+    ensures long { length row.new ≡ 16 }
+    ensures value { IsClosed room place row.old row.new }
+{
+    if room <= 8 {
+        close_8(row, place);
+    } else {
+        *row = closed_16(*row, place);
+    }
+}
+
+fn close_8(row: &mut [u16; 16], place: usize)
+    requires long { length row.old ≡ 16 }
+    requires within { place ≤ 8 }
+    ensures long { length row.new ≡ 16 }
+    ensures value { IsClosed 8 place row.old row.new }
+{
+    let here = u16x8::from_slice(row);
+    let next = u16x8::from_slice(&row[1..]);
+    u16x8::from_slice(&PLACES)
+        .simd_lt(u16x8::splat(place as u16))
+        .select(here, next)
+        .copy_to_slice(row);
+}
+
+fn closed_16(row: [u16; 16], place: usize) -> [u16; 16]
     requires long { length row ≡ 16 }
     requires within { place < 16 }
-    ensures value { IsClosed place row result }
+    ensures value { IsClosed 16 place row result }
 {
     let row = u16x16::from_array(row);
     u16x16::from_array(PLACES)
@@ -207,16 +296,33 @@ mod tests {
         }
     }
 
+    fn left(queue: &mut Queue, room: u8, dim: u8) -> Option<Ticket>
+        requires dimension { dim < 12 }
+        requires some { 0 < room }
+        requires most { room ≤ 15 }
+        requires within { length queue.old ≤ room }
+        ensures value { result ≡ ticket_going room dim queue.old }
+        ensures stays { queue.new ≡ without queue.old (place_left room dim queue.old) }
+        ensures room { length queue.new < room }
+    {
+        let leaving = queue.leave(room, dim);
+        if leaving.leaves {
+            Some(leaving.ticket)
+        } else {
+            None
+        }
+    }
+
     #[test]
     fn a_ticket_that_has_to_cross_leaves_and_its_bit_falls(rt: HostRuntime) {
         let mut queue = Queue::new();
-        assert_eq!(rt; queue.leave(15, 3), None);
+        assert_eq!(rt; left(&mut queue, 15, 3), None);
         queue.arrive(ticket(0b1_1010, 7));
-        assert_eq!(rt; queue.leave(15, 2), None);
+        assert_eq!(rt; left(&mut queue, 15, 2), None);
         assert_eq!(rt; queue.len(), 1);
-        assert_eq!(rt; queue.leave(15, 3), Some(ticket(0b1_0010, 7)));
+        assert_eq!(rt; left(&mut queue, 15, 3), Some(ticket(0b1_0010, 7)));
         assert_eq!(rt; queue.len(), 0);
-        assert_eq!(rt; queue.leave(15, 4), None);
+        assert_eq!(rt; left(&mut queue, 15, 4), None);
     }
 
     #[test]
@@ -226,7 +332,7 @@ mod tests {
         queue.arrive(ticket(0b011, 41));
         queue.arrive(ticket(0b100, 42));
         queue.arrive(ticket(0b001, 43));
-        assert_eq!(rt; queue.leave(15, 0), Some(ticket(0b010, 41)));
+        assert_eq!(rt; left(&mut queue, 15, 0), Some(ticket(0b010, 41)));
         assert_eq!(rt; queue.len(), 3);
         assert_eq!(rt; at(&queue, 0), Some(ticket(0b010, 40)));
         assert_eq!(rt; at(&queue, 1), Some(ticket(0b100, 42)));
@@ -240,9 +346,9 @@ mod tests {
         let mut queue = Queue::new();
         queue.arrive(ticket(0b0001, 1));
         queue.arrive(ticket(0b0010, 2));
-        assert_eq!(rt; queue.leave(3, 11), None);
+        assert_eq!(rt; left(&mut queue, 3, 11), None);
         queue.arrive(ticket(0b0100, 3));
-        assert_eq!(rt; queue.leave(3, 11), Some(ticket(0b1000_0000_0100, 3)));
+        assert_eq!(rt; left(&mut queue, 3, 11), Some(ticket(0b1000_0000_0100, 3)));
         assert_eq!(rt; queue.len(), 2);
         assert_eq!(rt; at(&queue, 0), Some(ticket(0b0001, 1)));
         assert_eq!(rt; at(&queue, 1), Some(ticket(0b0010, 2)));
@@ -257,9 +363,9 @@ mod tests {
             }
         }
         assert_eq!(rt; queue.len(), 15);
-        assert_eq!(rt; queue.leave(15, 0), Some(ticket(0, 14)));
-        assert_eq!(rt; queue.leave(15, 0), None);
-        assert_eq!(rt; queue.leave(15, 1), Some(ticket(0, 0)));
+        assert_eq!(rt; left(&mut queue, 15, 0), Some(ticket(0, 14)));
+        assert_eq!(rt; left(&mut queue, 15, 0), None);
+        assert_eq!(rt; left(&mut queue, 15, 1), Some(ticket(0, 0)));
         assert_eq!(rt; at(&queue, 12), Some(ticket(2, 13)));
     }
 
@@ -270,7 +376,7 @@ mod tests {
         let copy = queue.clone()?;
         queue.clear();
         assert_eq!(rt; queue.len(), 0);
-        assert_eq!(rt; queue.leave(15, 0), None);
+        assert_eq!(rt; left(&mut queue, 15, 0), None);
         assert_eq!(rt; at(&copy, 0), Some(ticket(0b1, 1)));
         Ok(())
     }

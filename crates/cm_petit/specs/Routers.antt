@@ -1,11 +1,12 @@
--- A machine as the code of its router has it: chips, nodes and logs by the chip's number. Ours.
-use Rattle.std.specs.Prelude.{◌≡◌, ℕ, ◌+◌, ◌-◌, ◌<◌, ◌≤◌, ◌^◌, List, length, map, slice_index, Vec, vec_len, vec_capacity}
+-- A machine as the code of its router has it: chips, buffers and logs by the chip's number. Ours.
+use Rattle.std.specs.Prelude.{◌≡◌, ℕ, ◌+◌, ◌-◌, ◌<◌, ◌≤◌, ◌^◌, List, [], length, map, slice_index, Vec, vec_len, vec_capacity}
 use Rattle.std.specs.List.{All}
 use Rattle.std.specs.declared.alloc.Global.{Global}
+use Rattle.cm_model.specs.declared.message.Message.{Message}
 use Rattle.cm_model.specs.declared.message.Event.{Event}
 use Rattle.cm_model.specs.Array.{Chips}
 use Rattle.cm_model.specs.Machine.{Machine}
-use Rattle.cm_router.specs.Buffer.{Buffer, buffers_of}
+use Rattle.cm_router.specs.Buffer.{Buffer}
 
 -- the log of one chip
 abbrev pub Log : Type 0
@@ -16,15 +17,24 @@ abbrev pub events_of : List Log → List (List Event)
 events_of logs = map (λ log. log.items) logs
 
 -- the machine that these are at a count of petit cycles
-abbrev pub machine_of : Chips → List Buffer → List Log → ℕ → Machine
-machine_of chips nodes logs clock = record { chips = chips; buffers = buffers_of nodes; logs = events_of logs; clock = clock }
+abbrev pub machine_of : Chips → List (List Message) → List Log → ℕ → Machine
+machine_of chips buffers logs clock = record { chips = chips; buffers = buffers; logs = events_of logs; clock = clock }
 
--- one chip, one node with room for cap messages and one log for each number of a cube of n dimensions
-pub record AreRouters (n cap : ℕ) (chips : Chips) (nodes : List Buffer) (logs : List Log) : Type 0 where
+-- one chip, at most cap messages and one log for each number of a cube of n dimensions
+pub record AreRouters (n cap : ℕ) (chips : Chips) (buffers : List (List Message)) (logs : List Log) : Type 0 where
   pub chip_count : length chips ≡ 2 ^ n
-  pub node_count : length nodes ≡ 2 ^ n
+  pub buffer_count : length buffers ≡ 2 ^ n
   pub log_count : length logs ≡ 2 ^ n
+  pub within : All (λ ms. length ms ≤ cap) buffers
+
+-- one node with room for cap messages for each number of a cube of n dimensions
+pub record AreNodes (n cap : ℕ) (nodes : List Buffer) : Type 0 where
+  pub count : length nodes ≡ 2 ^ n
   pub rooms : All (λ node. node.room ≡ cap) nodes
+
+-- no message stands in a node
+abbrev pub AreEmpty : List Buffer → Type 0
+AreEmpty nodes = All (λ node. node.messages ≡ []) nodes
 
 -- how many events more a log takes before it has to grow
 abbrev pub free_places : Log → ℕ

@@ -1,9 +1,10 @@
 //! The parts of a petit cycle, each on all chips before the next begins.
 
-ghost use Rattle.std.specs.Prelude.{◌≡◌, ℕ, ◌+◌, ◌^◌, ◌<◌, ◌≤◌, length};
+ghost use Rattle.std.specs.Prelude.{◌≡◌, ℕ, ◌+◌, ◌*◌, ◌^◌, ◌<◌, ◌≤◌, length};
 ghost use Rattle.cm_model.specs.declared.act.Act.TheVariants as act;
 ghost use Rattle.cm_model.specs.Buffers.{machine_after_injection, machine_after_delivery, after_act};
-ghost use Rattle.cm_petit.specs.Routers.{machine_of, AreRouters, HasLogRoom, LosesAtMost};
+ghost use Rattle.cm_router.specs.Buffer.{buffers_of};
+ghost use Rattle.cm_petit.specs.Routers.{machine_of, AreRouters, AreNodes, AreEmpty, HasLogRoom, LosesAtMost};
 
 use cm_crossing::Crossing;
 use cm_element::Chip;
@@ -12,50 +13,110 @@ use cm_router::Node;
 
 /// One petit cycle: every router takes messages in, they cross each dimension, from the lowest on,
 /// and those that have arrived go to their processors (a dimension at a time: Hillis 1985; the order:
-/// ours). The counter stands at `clock`; that it is one more afterwards is for the caller to keep. What
-/// stood in the working room before is of no account.
+/// ours). The counter stands at `clock`; that it is one more afterwards is for the caller to keep. The
+/// nodes are working room: the messages are all in `crossing`.
 pub fn cycle<const N: usize, const CAP: usize>(
     chips: &mut [Chip],
-    nodes: &mut [Node],
+    crossing: &mut Crossing,
     logs: &mut [Vec<Event>],
     clock: u64,
-    crossing: &mut Crossing,
+    nodes: &mut [Node],
 )
     requires dimension { N ≤ 12 }
-    requires routers { AreRouters N CAP chips.old nodes.old logs.old }
+    requires some { 0 < CAP }
+    requires most { CAP ≤ 15 }
+    requires routers { AreRouters N CAP chips.old crossing.old.buffers logs.old }
+    requires nodes { AreNodes N CAP nodes.old }
+    requires empty { AreEmpty nodes.old }
     requires log_room { HasLogRoom (4 + CAP) logs.old }
-    requires working_room { length crossing.old ≡ 2 ^ N }
-    ensures value { machine_of chips.new nodes.new logs.new (clock + 1)
-        ≡ after_act N CAP (machine_of chips.old nodes.old logs.old clock) act.Cycle }
-    ensures routers { AreRouters N CAP chips.new nodes.new logs.new }
+    ensures value { machine_of chips.new crossing.new.buffers logs.new (clock + 1)
+        ≡ after_act N CAP (machine_of chips.old crossing.old.buffers logs.old clock) act.Cycle }
+    ensures routers { AreRouters N CAP chips.new crossing.new.buffers logs.new }
+    ensures nodes { AreNodes N CAP nodes.new }
+    ensures empty { AreEmpty nodes.new }
     ensures log_room { LosesAtMost (4 + CAP) logs.old logs.new }
-    ensures working_room { length crossing.new ≡ 2 ^ N }
 {
-    inject::<N, CAP>(chips, nodes, logs, clock);
-    crossing.take_up::<CAP>(nodes);
+    inject::<N, CAP>(chips, crossing, logs, clock, nodes);
     if crossing.is_empty() {
         return;
     }
     for dim in 0..N {
         crossing.cross::<N, CAP>(dim as u8);
     }
-    crossing.put_back::<CAP>(nodes);
-    deliver::<N, CAP>(chips, nodes, logs);
+    deliver::<N, CAP>(chips, crossing, logs);
+    crossing.watch();
 }
 
 /// Every router takes in messages of its chip's processors.
 fn inject<const N: usize, const CAP: usize>(
+    chips: &mut [Chip],
+    crossing: &mut Crossing,
+    logs: &mut [Vec<Event>],
+    clock: u64,
+    nodes: &mut [Node],
+)
+    requires dimension { N ≤ 12 }
+    requires some { 0 < CAP }
+    requires most { CAP ≤ 15 }
+    requires routers { AreRouters N CAP chips.old crossing.old.buffers logs.old }
+    requires nodes { AreNodes N CAP nodes.old }
+    requires empty { AreEmpty nodes.old }
+    requires log_room { HasLogRoom 4 logs.old }
+    ensures value { machine_of chips.new crossing.new.buffers logs.new clock
+        ≡ machine_after_injection N CAP (machine_of chips.old crossing.old.buffers logs.old clock) }
+    ensures routers { AreRouters N CAP chips.new crossing.new.buffers logs.new }
+    ensures nodes { AreNodes N CAP nodes.new }
+    ensures empty { AreEmpty nodes.new }
+    ensures log_room { LosesAtMost 4 logs.old logs.new }
+{
+    if crossing.has_places(4 * chips.len()) {
+        inject_under_way::<N, CAP>(chips, crossing, logs, clock);
+    } else {
+        crossing.put_back::<CAP>(nodes);
+        inject_at_nodes::<N, CAP>(chips, nodes, logs, clock);
+        crossing.take_up::<CAP>(nodes);
+    }
+}
+
+/// Takes them in among the messages under way, where there are places for all that may come.
+fn inject_under_way<const N: usize, const CAP: usize>(
+    chips: &mut [Chip],
+    crossing: &mut Crossing,
+    logs: &mut [Vec<Event>],
+    clock: u64,
+)
+    requires dimension { N ≤ 12 }
+    requires some { 0 < CAP }
+    requires most { CAP ≤ 15 }
+    requires routers { AreRouters N CAP chips.old crossing.old.buffers logs.old }
+    requires places { 4 * length chips.old ≤ crossing.old.free }
+    requires log_room { HasLogRoom 4 logs.old }
+    ensures value { machine_of chips.new crossing.new.buffers logs.new clock
+        ≡ machine_after_injection N CAP (machine_of chips.old crossing.old.buffers logs.old clock) }
+    ensures routers { AreRouters N CAP chips.new crossing.new.buffers logs.new }
+    ensures log_room { LosesAtMost 4 logs.old logs.new }
+{
+    for c in 0..chips.len() {
+        crossing.inject::<N, CAP>(c, &mut chips[c], clock, &mut logs[c]);
+    }
+}
+
+/// Takes them in at the nodes, to which the messages were put back.
+fn inject_at_nodes<const N: usize, const CAP: usize>(
     chips: &mut [Chip],
     nodes: &mut [Node],
     logs: &mut [Vec<Event>],
     clock: u64,
 )
     requires dimension { N ≤ 12 }
-    requires routers { AreRouters N CAP chips.old nodes.old logs.old }
+    requires nodes { AreNodes N CAP nodes.old }
+    requires routers { AreRouters N CAP chips.old (buffers_of nodes.old) logs.old }
     requires log_room { HasLogRoom 4 logs.old }
-    ensures value { machine_of chips.new nodes.new logs.new clock
-        ≡ machine_after_injection N CAP (machine_of chips.old nodes.old logs.old clock) }
-    ensures routers { AreRouters N CAP chips.new nodes.new logs.new }
+    ensures value { machine_of chips.new (buffers_of nodes.new) logs.new clock
+        ≡ machine_after_injection N CAP (machine_of chips.old (buffers_of nodes.old) logs.old clock) }
+    ensures nodes { AreNodes N CAP nodes.new }
+    ensures chip_count { length chips.new ≡ 2 ^ N }
+    ensures log_count { length logs.new ≡ 2 ^ N }
     ensures log_room { LosesAtMost 4 logs.old logs.new }
 {
     for c in 0..chips.len() {
@@ -67,19 +128,19 @@ fn inject<const N: usize, const CAP: usize>(
 /// Messages that have arrived go to their processors.
 fn deliver<const N: usize, const CAP: usize>(
     chips: &mut [Chip],
-    nodes: &mut [Node],
+    crossing: &mut Crossing,
     logs: &mut [Vec<Event>],
 )
     requires dimension { N ≤ 12 }
-    requires routers { AreRouters N CAP chips.old nodes.old logs.old }
+    requires most { CAP ≤ 15 }
+    requires routers { AreRouters N CAP chips.old crossing.old.buffers logs.old }
     requires log_room { HasLogRoom CAP logs.old }
-    ensures value { (clock : ℕ) → machine_of chips.new nodes.new logs.new (clock + 1)
-        ≡ machine_after_delivery N (machine_of chips.old nodes.old logs.old clock) }
-    ensures routers { AreRouters N CAP chips.new nodes.new logs.new }
+    ensures value { (clock : ℕ) → machine_of chips.new crossing.new.buffers logs.new (clock + 1)
+        ≡ machine_after_delivery N (machine_of chips.old crossing.old.buffers logs.old clock) }
+    ensures routers { AreRouters N CAP chips.new crossing.new.buffers logs.new }
     ensures log_room { LosesAtMost CAP logs.old logs.new }
 {
     for c in 0..chips.len() {
-        let node = &mut nodes[c];
-        node.deliver(&mut chips[c], c as u16, &mut logs[c]);
+        crossing.deliver::<CAP>(c, &mut chips[c], &mut logs[c]);
     }
 }

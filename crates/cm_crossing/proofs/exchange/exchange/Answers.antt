@@ -4,6 +4,7 @@ use Rattle.std.proofs.lemmas.List.{get_or_read}
 use Rattle.std.proofs.lemmas.List.Elements.{All-set}
 use Rattle.cm_crossing.specs.declared.queue.Ticket.{Ticket}
 use Rattle.cm_crossing.specs.Tickets.{queue_at, exchanged}
+use Rattle.cm_crossing.proofs.Leaving.{has_room}
 use Rattle.cm_crossing.proofs.Pairing.{written_twice, exchanged_is}
 use Rattle.cm_crossing.proofs.exchange.exchange.Goals as goal
 
@@ -17,8 +18,8 @@ returns c =
     let back : j ≢ i = λ e. c.requires.apart (sym e) in
     let left_here : List Ticket = c.leave-going.new.self in
     let left_there : List Ticket = c.leave-coming.new.self in
-    let after_here : List Ticket = c.welcome.new.queue in
-    let after_there : List Ticket = c.welcome-2.new.queue in
+    let after_here : List Ticket = c.take_in.new.self in
+    let after_there : List Ticket = c.take_in-2.new.self in
     let once : List (List Ticket) = set queues i left_here in
     let twice : List (List Ticket) = set once j left_there in
     let thrice : List (List Ticket) = set twice i after_here in
@@ -41,17 +42,17 @@ returns c =
     let stays_here = rw (← c.index-queues-here.is, here) at c.leave-going.ensures.stays in
     let coming = rw (← c.index-queues-there.is, there) at c.leave-coming.ensures.value in
     let stays_there = rw (← c.index-queues-there.is, there) at c.leave-coming.ensures.stays in
-    let came_here = rw (← c.index-queues-here-2.is, here_again) at c.welcome.ensures.value in
-    let came_there = rw (← c.index-queues-there-2.is, there_again) at c.welcome-2.ensures.value in
+    let came_here = rw (← c.index-queues-here-2.is, here_again) at c.take_in.ensures.value in
+    let came_there = rw (← c.index-queues-there-2.is, there_again) at c.take_in-2.ensures.value in
     let is_room : List Ticket → Type 0 = λ ts. length ts ≤ room in
     let roomy_once : All is_room once = All-set is_room queues i left_here (omega (arith, c.leave-going.ensures.room)) c.requires.within in
     let roomy_twice : All is_room twice = All-set is_room once j left_there (omega (arith, c.leave-coming.ensures.room)) roomy_once in
-    let roomy_thrice : All is_room thrice = All-set is_room twice i after_here c.welcome.ensures.within roomy_twice in
+    let roomy_thrice : All is_room thrice = All-set is_room twice i after_here (has_room room left_here after_here c.leave-coming.result came_here c.leave-going.ensures.room) roomy_twice in
     record {
       value = written_twice queues i j left_here left_there after_here after_there c.requires.apart
           ∙ ap (λ (ts : List Ticket). set (set queues i ts) j after_there)
           (exchanged_is room d (queue_at queues i) (queue_at queues j) left_here after_here c.leave-coming.result stays_here coming came_here)
           ∙ ap (λ (ts : List Ticket). set (set queues i (exchanged room d (queue_at queues i) (queue_at queues j))) j ts)
           (exchanged_is room d (queue_at queues j) (queue_at queues i) left_there after_there c.leave-going.result stays_there going came_there);
-      within = All-set is_room thrice j after_there c.welcome-2.ensures.within roomy_thrice;
+      within = All-set is_room thrice j after_there (has_room room left_there after_there c.leave-going.result came_there c.leave-coming.ensures.room) roomy_thrice;
     }

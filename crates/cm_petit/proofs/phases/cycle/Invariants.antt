@@ -3,13 +3,12 @@ use Rattle.std.specs.List.{All}
 use Rattle.cm_model.specs.Buffers.{machine_after_injection}
 use Rattle.cm_model.proofs.Cycles.{after_crossings}
 use Rattle.cm_petit.specs.Routers.{machine_of}
-use Rattle.cm_petit.proofs.Dimensions.{machine_with}
 use Rattle.cm_petit.proofs.phases.cycle.Given as goal
 
 abbrev pub invariant-loop-dim : goal.invariant-loop-dim
 invariant-loop-dim g l = record {
-  crossed : machine_with l.chips l.crossing l.logs l.clock
-      ≡ after_crossings g.row.N g.row.CAP (machine_after_injection g.row.N g.row.CAP (machine_of l.fn.chips l.fn.nodes l.fn.logs l.clock)) l.dim;
-  count : length l.crossing ≡ 2 ^ g.row.N;
-  within : All (λ ms. length ms ≤ g.row.CAP) l.crossing;
+  crossed : machine_of l.chips l.crossing.buffers l.logs l.clock
+      ≡ after_crossings g.row.N g.row.CAP (machine_after_injection g.row.N g.row.CAP (machine_of l.fn.chips l.fn.crossing.buffers l.fn.logs l.clock)) l.dim;
+  count : length l.crossing.buffers ≡ 2 ^ g.row.N;
+  within : All (λ ms. length ms ≤ g.row.CAP) l.crossing.buffers;
 }

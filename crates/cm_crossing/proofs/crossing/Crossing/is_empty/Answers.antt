@@ -1,11 +1,19 @@
-use Rattle.std.proofs.Common.{◌≡◌, length, vec_len, sym, ◌∙◌}
-use Rattle.std.proofs.lemmas.Bool.{eqb-true}
-use Rattle.cm_crossing.proofs.Wholes.{none_kept_none}
+use Rattle.std.proofs.Common.{◌/◌, ◌<◌, List, [], length, ap, ◌∙◌, arith}
+use Rattle.std.proofs.lemmas.List.{length-map, get_or-map}
+use Rattle.cm_model.specs.declared.message.Message.{Message}
+use Rattle.cm_crossing.specs.declared.queue.Ticket.{Ticket}
+use Rattle.cm_crossing.specs.Standing.{UnderWay, standing}
+use Rattle.cm_crossing.proofs.Keeping.{none_true}
 use Rattle.cm_crossing.proofs.crossing.Crossing.is_empty.Goals as goal
 
 pub returns : goal.returns
 returns c = record {
   none = λ empty.
-      let none : length c.self.inside.row.items ≡ 0 = sym c.self.inside.row.ok.0 ∙ eqb-true (vec_len c.self.inside.row) 0 (sym c.is_empty.ensures ∙ empty) in
-      rw (← c.self.view_is) (none_kept_none c.self.inside.row.items c.self.inside.queues.items none c.self.invariant.kept);
+      let queues : List (List Ticket) = c.self.inside.queues.items in
+      let row : List Message = c.self.inside.row.items in
+      let quiet = none_true c.self.inside.busy c.contains.result empty c.contains.ensures.cases in
+      rw (← ap (λ (u : UnderWay). u.buffers) c.self.view_is)
+      (λ k d l.
+      let inside : k < length queues = omega (arith, length-map queues (standing row)) in
+      get_or-map (standing row) queues k [] d inside ∙ ap (standing row) (c.self.invariant.quiet k inside (quiet (k / 64))));
 }

@@ -13,7 +13,10 @@ invariant_of-result c =
     let long : length c.in_ok-queues.queues.items ≡ c.args.chips = ap length c.in_ok-queues.ensures.value ∙ length-each_from 0 c.args.chips none in
     record {
       few = omega (arith, long, c.requires.few);
-      capacity = omega (arith, long, c.in_ok-row.ensures.capacity);
+      enough = omega (arith, long, c.requires.few, c.min-places.ensures);
+      most = omega (arith, c.min-places.ensures);
+      capacity = omega (arith, c.in_ok-row.ensures.capacity);
+      filled = omega (arith, c.in_ok-row.ensures.len);
       kept = subst (λ (queues : List (List Ticket)). All (AreKept (length c.in_ok-row.row.items)) queues) (sym c.in_ok-queues.ensures.value) (none_kept c.args.chips (length c.in_ok-row.row.items));
       blocks = refl;
       quiet = λ k l calm. ap (λ (queues : List (List Ticket)). get_or queues k []) c.in_ok-queues.ensures.value ∙ get_or-each_below c.args.chips none k [] (omega (arith, long));

@@ -6,4 +6,4 @@ abbrev pub decreases-loop-c : goal.decreases-loop-c
 decreases-loop-c g l = length l.initial.nodes - l.c
 
 abbrev pub invariant-loop-c : goal.invariant-loop-c
-invariant-loop-c g l = AreSettled g.row.CAP l.self l.fn.nodes l.nodes l.c
+invariant-loop-c g l = AreSettled g.row.CAP l.self.buffers l.fn.nodes l.nodes l.c

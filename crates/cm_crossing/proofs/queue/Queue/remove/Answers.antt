@@ -1,22 +1,39 @@
-use Rattle.std.proofs.Common.{◌≡◌, ap, ◌∙◌, length, remove, arith}
-use Rattle.cm_crossing.proofs.Rows.{long_as, on_row, taken_out}
+use Rattle.std.proofs.Common.{◌≡◌, ◌<◌, ap, ◌∙◌, length, remove, arith}
+use Rattle.std.specs.List.{slice_get}
+use Rattle.cm_crossing.proofs.Rows.{long_as, at_place, taken_out_at}
 use Rattle.cm_crossing.proofs.queue.Queue.remove.Goals as goal
 
-pub closed-self-inside-requires-clause-within : goal.closed-self-inside-requires-clause-within
-closed-self-inside-requires-clause-within c =
-    on_row c.self.inside.rels c.self.inside.numbers c.self.inside.len c.args.self.now c.args.place c.self.view_is c.self.invariant c.requires.within
-
-pub closed-self-inside-requires-2-clause-within : goal.closed-self-inside-requires-2-clause-within
-closed-self-inside-requires-2-clause-within c =
-    on_row c.self.inside.rels c.self.inside.numbers c.self.inside.len c.args.self.now c.args.place c.self.view_is c.self.invariant c.requires.within
-
-pub overflow_sub-self : goal.overflow_sub-self
-overflow_sub-self c =
+pub offset_bounds-self-inside-place : goal.offset_bounds-self-inside-place
+offset_bounds-self-inside-place c =
     let long : c.self.inside.len ≡ length c.args.self.now = long_as c.self.inside.rels c.self.inside.numbers c.self.inside.len c.args.self.now c.self.view_is in
-    omega (arith, long, c.requires.within)
+    let few : c.args.place < 16 = omega (arith, long, c.requires.place, c.self.invariant) in
+    record { fits = omega arith }
+
+pub bounds-self-inside-place : goal.bounds-self-inside-place
+bounds-self-inside-place c =
+    let long : c.self.inside.len ≡ length c.args.self.now = long_as c.self.inside.rels c.self.inside.numbers c.self.inside.len c.args.self.now c.self.view_is in
+    omega (arith, long, c.requires.place, c.self.invariant)
+
+pub offset_bounds-self-inside-place-2 : goal.offset_bounds-self-inside-place-2
+offset_bounds-self-inside-place-2 c =
+    let long : c.self.inside.len ≡ length c.args.self.now = long_as c.self.inside.rels c.self.inside.numbers c.self.inside.len c.args.self.now c.self.view_is in
+    let few : c.args.place < 16 = omega (arith, long, c.requires.place, c.self.invariant) in
+    record { fits = omega arith }
+
+pub bounds-self-inside-place-2 : goal.bounds-self-inside-place-2
+bounds-self-inside-place-2 c =
+    let long : c.self.inside.len ≡ length c.args.self.now = long_as c.self.inside.rels c.self.inside.numbers c.self.inside.len c.args.self.now c.self.view_is in
+    omega (arith, long, c.requires.place, c.self.invariant)
+
+pub returns-clause-value : goal.returns-clause-value
+returns-clause-value c =
+    rw c.from.ensures
+    (at_place c.self.inside.rels c.self.inside.numbers c.self.inside.len c.args.place
+    ∙ ap (λ ts. slice_get ts c.args.place) c.self.view_is)
 
 pub returns-clause-stays : goal.returns-clause-stays
 returns-clause-stays c =
     let long : c.self.inside.len ≡ length c.args.self.now = long_as c.self.inside.rels c.self.inside.numbers c.self.inside.len c.args.self.now c.self.view_is in
-    taken_out c.self.inside.rels c.self.inside.numbers c.closed-self-inside.result c.closed-self-inside-2.result c.self.inside.len c.args.place c.closed-self-inside.ensures.value c.closed-self-inside-2.ensures.value c.self.invariant (omega (arith, long, c.requires.within))
-    ∙ ap (λ ts. remove ts c.args.place) c.self.view_is
+    rw (c.from-2.ensures, c.from.ensures)
+    (taken_out_at c.args.room c.self.inside.rels c.self.inside.numbers c.close.new.row c.close-2.new.row c.self.inside.len c.args.place c.close.ensures.value c.close-2.ensures.value (omega (arith, long, c.requires.within)) (omega (arith, long, c.requires.place))
+    ∙ ap (λ ts. remove ts c.args.place) c.self.view_is)

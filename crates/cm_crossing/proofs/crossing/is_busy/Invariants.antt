@@ -1,0 +1,12 @@
+use Rattle.std.proofs.Common.{◌≡◌, ℕ, ◌*◌, ◌-◌, ◌<◌, ◌≤◌, [], length}
+use Rattle.cm_crossing.specs.Tickets.{queue_at}
+use Rattle.cm_crossing.proofs.crossing.is_busy.Given as goal
+
+abbrev pub decreases-loop-c : goal.decreases-loop-c
+decreases-loop-c l = length l.queues - l.c
+
+abbrev pub invariant-loop-c : goal.invariant-loop-c
+invariant-loop-c l = record {
+  from : l.block * 64 ≤ l.c;
+  none : (c : ℕ) → c < length l.queues → l.block * 64 ≤ c → c < l.c → queue_at l.queues c ≡ [];
+}
