@@ -26,7 +26,8 @@ const BLOCKS: usize = 64;
 /// Most places of the row: a ticket tells one in sixteen bits.
 const MOST_PLACES: usize = 65536;
 
-/// The messages of all chips from the first act of a list to the last. A message stays where it is kept; what crosses is a ticket, the relative address and the place of the message (ours).
+/// The messages of all chips from the first act of a list to the last. A message stays where it is
+/// kept; what crosses is a ticket, the relative address and the place of the message (ours).
 #[derive(Debug, Drop)]
 pub struct Crossing {
     /// The messages as they were when they got their tickets; some may have been delivered.
