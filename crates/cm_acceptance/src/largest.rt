@@ -3,7 +3,7 @@
 ghost use Rattle.std.specs.Prelude.{◌<◌};
 
 use crate::draws::Draws;
-use crate::machines::{RECV, SEND, address, ask, everywhere, flag, message, processor};
+use crate::machines::{RECV, SEND, address, ask, everywhere, flag, message, processor, tag};
 use cm_array::{Machine, Plain, Runner};
 use cm_message::Tag;
 use cm_model::Act;
@@ -112,19 +112,36 @@ fn the_largest_machine_has_two_instructions_for_each_cycle(rt: HostRuntime) -> R
     time(&rt, &[all_send(), all_can_receive()], 3)
 }
 
+/// Runs 64 petit cycles and nothing else, three times.
+fn time_cycles(rt: &HostRuntime, machine: &mut Machine<12, 7>) -> Result<(), Fail> {
+    for _run in 0..3 {
+        let start = Instant::now(rt)?;
+        let ended = Plain.go(machine, &[Act::Cycle; 64]);
+        let took = start.elapsed(rt)?;
+        ended?;
+        println!(rt; "{} nanoseconds a petit cycle", took.as_nanos() / 64)?;
+    }
+    Ok(())
+}
+
 #[test]
 fn the_largest_machine_idles(rt: HostRuntime) -> Result<(), Fail> {
     let mut machine = Machine::<12, 7>::blank(rt.alloc())?;
-    for _run in 0..3 {
-        let start = Instant::now(&rt)?;
-        let ended = Plain.go(&mut machine, &[Act::Cycle; 64]);
-        let took = start.elapsed(&rt)?;
-        ended?;
-        println!(rt;
-            "{} microseconds an idle petit cycle",
-            took.as_micros() / 64
-        )?;
-    }
+    time_cycles(&rt, &mut machine)?;
     assert_eq!(rt; machine.clock(), 192);
+    Ok(())
+}
+
+#[test]
+fn one_message_waits_in_the_largest_machine(rt: HostRuntime) -> Result<(), Fail> {
+    let mut machine = Machine::<12, 7>::blank(rt.alloc())?;
+    let (from, to) = (1234, 1234 ^ 4095);
+    ask(&mut machine, &message(4095, 7, 0xdead_beef, tag(from, 5)));
+    machine.poke_flag(to, processor(7), flag(RECV), true)?;
+    time_cycles(&rt, &mut machine)?;
+    assert_eq!(rt;
+        machine.buffer(to),
+        [message(0, 7, 0xdead_beef, tag(from, 5))].as_slice()
+    );
     Ok(())
 }

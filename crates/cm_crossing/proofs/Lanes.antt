@@ -53,10 +53,10 @@ pub finds : (width d b place : ℕ) (row : List ℕ) → length row ≡ width �
     → place ≡ count_trailing_zeros 64 (mask_l (map (top 15) (zip2 (λ x y. cond (eqb x y) 65535 0) (zip2 bit_and row (replicate width b)) (replicate width b))) % 2 ^ 64) → IsFirstWith width d row place
 finds width d b place row long few is found =
     let lanes : zip2 bit_and row (replicate width b) ≡ map (λ x. bit_and x b) row = zip2_splat bit_and row width b long in
-    let mask : mask_l (map (top 15) (zip2 (λ x y. cond (eqb x y) 65535 0) (zip2 bit_and row (replicate width b)) (replicate width b))) % 2 ^ 64 ≡ mask_l (map (keeps b) row) =
+    let hits : mask_l (map (top 15) (zip2 (λ x y. cond (eqb x y) 65535 0) (zip2 bit_and row (replicate width b)) (replicate width b))) % 2 ^ 64 ≡ mask_l (map (keeps b) row) =
     bitmask_splat w16 eqb (zip2 bit_and row (replicate width b)) width b (omega (arith, ap length lanes, length-map row (λ x. bit_and x b), long)) (omega arith)
     ∙ ap (λ l. mask_l (map (λ x. eqb x b) l)) lanes ∙ ap mask_l (map-map (λ x. eqb x b) (λ x. bit_and x b) row) in
-    first_lane width d place row long few (found ∙ ap (count_trailing_zeros 64) mask ∙ ap (λ c. count_trailing_zeros 64 (mask_l (map (keeps c) row))) is)
+    first_lane width d place row long few (found ∙ ap (count_trailing_zeros 64) hits ∙ ap (λ c. count_trailing_zeros 64 (mask_l (map (keeps c) row))) is)
 
 get_or-half : (row : List ℕ) (i : ℕ) → i < 8 → get_or (chunk 0 8 row) i 0 ≡ get_or row i 0
 get_or-half row i h = let same : 0 + i ≡ i = omega arith in get_or-chunk 0 8 row i 0 h ∙ ap (λ k. get_or row k 0) same
@@ -77,13 +77,13 @@ joined width here next place = sel_l (map (top 15) (zip2 (λ a b. cond (ltb a b)
 get_or-joined : (width place : ℕ) (here next : List ℕ) (i : ℕ) → length here ≡ width → length next ≡ width → i < width → get_or (joined width here next place) i 0 ≡ cond (ltb i place) (get_or here i 0) (get_or next i 0)
 get_or-joined width place here next i here_long next_long h =
     let places : List ℕ = range_with_len 0 width in
-    let masks : List Bool = zip2 ltb places (replicate width place) in
+    let earlier : List Bool = zip2 ltb places (replicate width place) in
     let long : length places ≡ width = length-range_with_len 0 width in
     let all_long : length (replicate width place) ≡ width = length-replicate width place in
-    let masks_long : length masks ≡ width = length-zip2 ltb places (replicate width place) (omega arith) ∙ long in
+    let earlier_long : length earlier ≡ width = length-zip2 ltb places (replicate width place) (omega arith) ∙ long in
     let at : get_or places i 0 ≡ i = get_or-range_with_len 0 width i 0 h ∙ omega arith in
     ap (λ l. get_or (sel_l l here next) i 0) (tops_compared w16 ltb places (replicate width place))
-    ∙ get_or-sel_l masks here next i 0 (omega arith) (omega arith) (omega arith)
+    ∙ get_or-sel_l earlier here next i 0 (omega arith) (omega arith) (omega arith)
     ∙ ap (λ t. cond t (get_or here i 0) (get_or next i 0))
     (get_or-zip2 ltb places (replicate width place) i 0 0 false (omega arith) (omega arith) ∙ ap (λ k. ltb k (get_or (replicate width place) i 0)) at ∙ ap (ltb i) (get_or-replicate width i place 0 h))
 

@@ -105,6 +105,19 @@ crossed_past room d before now c last ordered none inside was =
       rest = λ b h. was.rest b (omega arith);
     }
 
+-- where a pair has no ticket
+pub crossed_one : (room d : ℕ) (before now : List (List Ticket)) (c other : ℕ) → other ≡ bit_xor c (2 ^ d) → queue_at now c ≡ [] → queue_at now other ≡ []
+    → ((b : ℕ) → b < length before → bit_xor b (2 ^ d) < length before)
+    → AreCrossed room d before now c → AreCrossed room d before now (c + 1)
+crossed_one room d before now c other across here there inside was =
+    crossed_past room d before now c (c + 1) (omega arith)
+    (λ b from to l.
+    let same : b ≡ c = omega arith in (
+      ap (queue_at now) same ∙ here,
+      ap (λ (k : ℕ). queue_at now (bit_xor k (2 ^ d))) same ∙ ap (queue_at now) (sym across) ∙ there,
+    ))
+    inside was
+
 -- a pair more
 pub crossed_more : (room d : ℕ) (before now : List (List Ticket)) (c other : ℕ) → other ≡ bit_xor c (2 ^ d) → c < other → other < length before
     → All (λ ts. length ts ≤ room) (set (set now c (exchanged room d (queue_at now c) (queue_at now other))) other (exchanged room d (queue_at now other) (queue_at now c)))

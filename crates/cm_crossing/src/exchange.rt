@@ -1,6 +1,6 @@
 //! A dimension crossed: of each pair of chips both send who leaves before either takes in who comes.
 
-ghost use Rattle.std.specs.Prelude.{◌≡◌, ◌≢◌, ◌^◌, ◌<◌, ◌≤◌, length, slice_set, bit_xor};
+ghost use Rattle.std.specs.Prelude.{◌≡◌, ◌≢◌, ◌^◌, ◌<◌, ◌≤◌, [], IsTrue, length, slice_set, bit_xor};
 ghost use Rattle.std.specs.List.{All};
 ghost use Rattle.cm_model.specs.Array.{each_chip};
 ghost use Rattle.cm_crossing.specs.Tickets.{queue_at, exchanged};
@@ -34,7 +34,7 @@ pub(crate) fn cross_row<const N: usize>(queues: &mut [Queue], busy: &mut [bool],
         if c % BLOCK == 0 && !busy[c / BLOCK] && !busy[other / BLOCK] {
             c += BLOCK;
         } else {
-            if c < other {
+            if c < other && !are_empty(queues, c, other) {
                 busy[c / BLOCK] = true;
                 busy[other / BLOCK] = true;
                 exchange(queues, c, other, room, dim);
@@ -50,6 +50,15 @@ fn across(chip: usize, dim: u8) -> usize
     ensures value { result ≡ bit_xor chip (2 ^ dim) }
 {
     chip ^ 1 << dim
+}
+
+/// Whether no ticket stands at either of two chips.
+fn are_empty(queues: &[Queue], here: usize, there: usize) -> bool
+    requires here { here < length queues.now }
+    requires there { there < length queues.now }
+    ensures none { IsTrue result → (queue_at queues.now here ≡ []) × (queue_at queues.now there ≡ []) }
+{
+    queues[here].len() == 0 && queues[there].len() == 0
 }
 
 /// Two chips of a dimension send each other who leaves.
