@@ -6,11 +6,8 @@ ghost use Rattle.cm_model.specs.Array.{each_chip};
 ghost use Rattle.cm_crossing.specs.Tickets.{queue_at, exchanged};
 ghost use Rattle.cm_crossing.specs.Standing.{AreQuiet};
 
+use crate::marks::BLOCK;
 use crate::queue::Queue;
-
-/// So many chips are looked at together: where no ticket may stand at any of them, nor at those across,
-/// they cost one look.
-pub(crate) const BLOCK: usize = 64;
 
 /// The tickets cross a dimension of the cube, with room for so many at each chip.
 pub(crate) fn cross_row<const N: usize>(queues: &mut [Queue], busy: &mut [bool], room: u8, dim: u8)

@@ -4,6 +4,9 @@
 
 mod crossing;
 mod exchange;
+mod marks;
 mod queue;
+mod row;
+mod wide;
 
 pub use crossing::Crossing;

@@ -1,6 +1,6 @@
 use Rattle.std.proofs.Common.{◌-◌, length}
 use Rattle.cm_crossing.proofs.Keeping.{AreForgotten}
-use Rattle.cm_crossing.proofs.crossing.forget.Given as goal
+use Rattle.cm_crossing.proofs.marks.forget.Given as goal
 
 abbrev pub decreases-loop-c : goal.decreases-loop-c
 decreases-loop-c l = length l.initial.queues - l.c

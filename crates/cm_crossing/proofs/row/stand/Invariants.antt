@@ -1,6 +1,6 @@
 use Rattle.std.proofs.Common.{◌≡◌, ◌+◌, ◌≤◌, ◌++◌, length, take, vec_len, vec_capacity}
 use Rattle.cm_crossing.specs.Standing.{standing, AreKept}
-use Rattle.cm_crossing.proofs.crossing.stand.Given as goal
+use Rattle.cm_crossing.proofs.row.stand.Given as goal
 
 abbrev pub invariant-loop-message : goal.invariant-loop-message
 invariant-loop-message l = record {

@@ -6,7 +6,7 @@ use Rattle.cm_model.specs.declared.message.Event.TheVariants.{Delivered}
 use Rattle.cm_crossing.specs.declared.queue.Ticket.{Ticket}
 use Rattle.cm_crossing.specs.Standing.{message_of, standing}
 use Rattle.cm_crossing.proofs.Giving.{giving_begins, gives, passes, given_all, remove-standing, remove_kept, read_standing}
-use Rattle.cm_crossing.proofs.crossing.give_out.Goals as goal
+use Rattle.cm_crossing.proofs.row.give_out.Goals as goal
 
 pub loop-place-init : goal.loop-place-init
 loop-place-init c = record {

@@ -1,6 +1,6 @@
 use Rattle.std.proofs.Common.{◌≡◌, ℕ, ◌*◌, ◌-◌, ◌<◌, ◌≤◌, [], length}
 use Rattle.cm_crossing.specs.Tickets.{queue_at}
-use Rattle.cm_crossing.proofs.crossing.is_busy.Given as goal
+use Rattle.cm_crossing.proofs.marks.is_busy.Given as goal
 
 abbrev pub decreases-loop-c : goal.decreases-loop-c
 decreases-loop-c l = length l.queues - l.c

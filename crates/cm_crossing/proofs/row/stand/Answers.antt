@@ -3,7 +3,7 @@ use Rattle.std.proofs.lemmas.List.{length-append, take_more, append_assoc}
 use Rattle.cm_model.specs.declared.message.Message.{Message}
 use Rattle.cm_crossing.specs.Standing.{standing}
 use Rattle.cm_crossing.proofs.Keeping.{entered_more, entered_kept}
-use Rattle.cm_crossing.proofs.crossing.stand.Goals as goal
+use Rattle.cm_crossing.proofs.row.stand.Goals as goal
 
 pub loop-message-preserved : goal.loop-message-preserved
 loop-message-preserved c =

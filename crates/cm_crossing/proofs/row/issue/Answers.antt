@@ -6,8 +6,8 @@ use Rattle.cm_crossing.specs.declared.queue.Ticket.{Ticket}
 use Rattle.cm_crossing.specs.Standing.{AreKept, AreQuiet}
 use Rattle.cm_crossing.proofs.Blocks.{quiet_after_one, quiet_still}
 use Rattle.cm_crossing.proofs.Keeping.{AreIssued, issued_begins, issued_more, issued_all}
-use Rattle.cm_crossing.proofs.crossing.issue.Goals as goal
-use Rattle.cm_crossing.proofs.crossing.issue.Goals.{then-enter, else-enter}
+use Rattle.cm_crossing.proofs.row.issue.Goals as goal
+use Rattle.cm_crossing.proofs.row.issue.Goals.{then-enter, else-enter}
 
 pub loop-c-init : goal.loop-c-init
 loop-c-init g c = record {

@@ -1,7 +1,7 @@
 use Rattle.std.proofs.Common.{◌+◌, ◌-◌, ◌≤◌, length, vec_len, vec_capacity}
 use Rattle.cm_crossing.specs.Standing.{standing, AreKept}
 use Rattle.cm_crossing.proofs.Giving.{Giving}
-use Rattle.cm_crossing.proofs.crossing.give_out.Given as goal
+use Rattle.cm_crossing.proofs.row.give_out.Given as goal
 
 abbrev pub decreases-loop-place : goal.decreases-loop-place
 decreases-loop-place l = length l.queue - l.place

@@ -1,6 +1,6 @@
 use Rattle.std.proofs.Common.{◌≡◌, ◌*◌, ◌<◌, ◌≤◌, length, vec_len, vec_capacity}
 use Rattle.cm_crossing.proofs.Keeping.{AreIssued}
-use Rattle.cm_crossing.proofs.crossing.issue.Given as goal
+use Rattle.cm_crossing.proofs.row.issue.Given as goal
 
 abbrev pub invariant-loop-c : goal.invariant-loop-c
 invariant-loop-c g l = record {
