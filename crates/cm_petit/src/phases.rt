@@ -144,3 +144,65 @@ fn deliver<const N: usize, const CAP: usize>(
         crossing.deliver::<CAP>(c, &mut chips[c], &mut logs[c]);
     }
 }
+
+#[cfg(test)]
+mod tests {
+    use super::cycle;
+    use cm_bits::{Field, FlagNo, Proc};
+    use cm_crossing::Crossing;
+    use cm_element::Chip;
+    use cm_message::{Event, Message, Tag};
+    use cm_router::Node;
+    use std::test::Fail;
+
+    fn proc(number: u8) -> Proc
+        requires { number < 16 }
+        ensures { result ≡ number }
+    {
+        Proc::new(number).unwrap()
+    }
+
+    fn field(at: u16, len: u16) -> Field
+        requires some { 1 ≤ len }
+        requires narrow { len ≤ 64 }
+        requires within { at + len ≤ 4096 }
+    {
+        Field::new(at, len).unwrap()
+    }
+
+    #[test]
+    fn a_message_is_taken_in_and_crosses_and_is_delivered(rt: HostRuntime) -> Result<(), Fail> {
+        let message = Message {
+            rel: 1,
+            proc: proc(5),
+            payload: 0xdead_beef,
+            tag: Tag {
+                chip: 1,
+                proc: proc(9),
+                birth: 41,
+            },
+        };
+        let delivered = Event::Delivered {
+            message: Message { rel: 0, ..message },
+            chip: 0,
+        };
+        let mut sender = Chip::blank(rt.alloc())?;
+        sender.poke_field(proc(9), field(3968, 16), 1);
+        sender.poke_field(proc(9), field(3984, 4), 5);
+        sender.poke_field(proc(9), field(3988, 32), 0xdead_beef);
+        sender.poke_flag_plane(FlagNo::new(12).unwrap(), 1 << 9);
+        let mut chips = [Chip::blank(rt.alloc())?, sender];
+        let mut crossing = Crossing::new(rt.alloc(), 2)?;
+        let mut logs = [
+            Vec::with_capacity(rt.alloc(), 5)?,
+            Vec::with_capacity(rt.alloc(), 5)?,
+        ];
+        let mut nodes = [Node::new(1), Node::new(1)];
+        cycle::<1, 1>(&mut chips, &mut crossing, &mut logs, 41, &mut nodes);
+        assert!(rt; crossing.is_empty());
+        assert_eq!(rt; logs[1].as_slice(), [Event::Injected(message)].as_slice());
+        assert_eq!(rt; logs[0].as_slice(), [delivered].as_slice());
+        assert_eq!(rt; chips[0].field(proc(5), field(4032, 32)), 0xdead_beef);
+        Ok(())
+    }
+}
