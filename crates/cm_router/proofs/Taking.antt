@@ -17,7 +17,7 @@ use Rattle.cm_model.specs.Processor.{Processor, SEND, ACK, flag}
 use Rattle.cm_model.specs.Chip.{IsPlane, processor_at, no_processor}
 use Rattle.cm_model.specs.Letters.{senders, senders_taken, message_sent, messages_sent, is_among, processor_after_injection, chip_after_injection}
 use Rattle.cm_model.proofs.Bits.{bit-bit_and, bit-bit_or, bit-bit_not, bit-zero}
-use Rattle.cm_model.proofs.Each.{same_each_below, get_or-each_below}
+use Rattle.cm_model.proofs.Each.{same_each_below, get_or-each_below, is_each}
 use Rattle.cm_element.specs.Wide.{with_flag_plane}
 use Rattle.cm_router.specs.Buffer.{Buffer, taken_by}
 
@@ -193,3 +193,13 @@ acknowledged ps chip asking taken fits asking_is taken_is =
     ap (λ (v : Processor). record v { flags = set v.flags ACK (bit taken p) }) (processor_at-with_flag_plane chip SEND p sent h)
     ∙ ap (λ (b : Bool). record (processor_at chip p) { flags = set (set (processor_at chip p).flags SEND (sent p)) ACK b }) (taken_is p h)
     ∙ ap (λ (fs : List Bool). record (processor_at chip p) { flags = fs }) (flags_acknowledged (is_among p ps) (asks chip p) (sent p) (processor_at chip p).flags bits refl))
+
+-- where no message is taken and nobody is told of an earlier one, the chip is as before
+nobody_told : (processor : Processor) → flag processor ACK ≡ false → processor ≡ processor_after_injection false processor
+nobody_told processor quiet =
+    let flags = sym (ap (set processor.flags ACK) (sym quiet) ∙ set-get_or processor.flags ACK false) in
+    λ i. record processor { flags = flags i }
+
+pub nothing_taken : (chip : List Processor) → length chip ≡ 16 → ((p : ℕ) → p < 16 → flag (processor_at chip p) ACK ≡ false) → chip ≡ chip_after_injection [] chip
+unfolding chip_after_injection
+nothing_taken chip long quiet = is_each no_processor 16 (λ p. processor_after_injection false (processor_at chip p)) chip long (λ p h. nobody_told (processor_at chip p) (quiet p h))

@@ -45,12 +45,16 @@ pub fn may_ask(chip: &Chip) -> bool
     asking(chip) != 0
 }
 
-/// Takes in no message: whoever asks to send goes on asking, and ACK is 0 everywhere.
+/// Takes in no message: whoever asks to send goes on asking, and ACK is 0 everywhere. Where it is so
+/// already, this costs a look at ACK.
 pub fn take_none(chip: &mut Chip)
     ensures value { chip.new ≡ chip_after_injection [] chip.old }
 {
-    let asking = asking(chip);
-    acknowledge(chip, asking, 0);
+    let told = chip.flag_plane(ack_flag());
+    if told != 0 {
+        let asking = asking(chip);
+        acknowledge(chip, asking, 0);
+    }
 }
 
 /// Tells the processors whose messages were taken: their SEND falls, and ACK is 1 for them alone.

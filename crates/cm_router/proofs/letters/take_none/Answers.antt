@@ -1,6 +1,12 @@
-use Rattle.std.proofs.Common.{[]}
+use Rattle.std.proofs.Common.{ℕ, sym, ap, ◌∙◌}
+use Rattle.cm_bits.specs.Bit.{bit}
 use Rattle.cm_model.proofs.Bits.{bit-zero}
+use Rattle.cm_router.proofs.Taking.{nothing_taken}
 use Rattle.cm_router.proofs.letters.take_none.Goals as goal
 
-pub returns : goal.returns
-returns c = record { value = c.acknowledge.ensures.value [] (λ p h. bit-zero p) }
+pub returns-else-told-ne0 : goal.returns-else-told-ne0
+returns-else-told-ne0 c =
+    record {
+      value = nothing_taken c.args.chip.now c.flag_plane-told.ensures.whole.count
+          (λ p h. let read = rw c.ack_flag.ensures.value at c.flag_plane-told.ensures.value in sym (read p h) ∙ ap (λ (w : ℕ). bit w p) c.if-told-ne0.false ∙ bit-zero p);
+    }
