@@ -105,16 +105,13 @@ fn run_one_under_way<const N: usize, const CAP: usize>(parts: &mut Parts, act: &
     match act {
         Act::Nano(nano) => instruct::<N>(parts, nano),
         Act::Sense => {}
-        Act::Cycle => {
-            cycle::<N, CAP>(
-                &mut parts.chips,
-                &mut parts.crossing,
-                &mut parts.logs,
-                parts.clock,
-                &mut parts.nodes,
-            );
-            parts.clock += 1;
-        }
+        Act::Cycle => cycle::<N, CAP>(
+            &mut parts.chips,
+            &mut parts.crossing,
+            &mut parts.logs,
+            &mut parts.clock,
+            &mut parts.nodes,
+        ),
     }
 }
 

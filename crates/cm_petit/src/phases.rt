@@ -13,13 +13,12 @@ use cm_router::Node;
 
 /// One petit cycle: every router takes messages in, they cross each dimension, from the lowest on,
 /// and those that have arrived go to their processors (a dimension at a time: Hillis 1985; the order:
-/// ours). The counter stands at `clock`; that it is one more afterwards is for the caller to keep. The
-/// nodes are working room: the messages are all in `crossing`.
+/// ours). The counter is one more then. The nodes are working room: the messages are all in `crossing`.
 pub fn cycle<const N: usize, const CAP: usize>(
     chips: &mut [Chip],
     crossing: &mut Crossing,
     logs: &mut [Vec<Event>],
-    clock: u64,
+    clock: &mut u64,
     nodes: &mut [Node],
 )
     requires dimension { N ≤ 12 }
@@ -29,14 +28,17 @@ pub fn cycle<const N: usize, const CAP: usize>(
     requires nodes { AreNodes N CAP nodes.old }
     requires empty { AreEmpty nodes.old }
     requires log_room { HasLogRoom (4 + CAP) logs.old }
-    ensures value { machine_of chips.new crossing.new.buffers logs.new (clock + 1)
-        ≡ after_act N CAP (machine_of chips.old crossing.old.buffers logs.old clock) act.Cycle }
+    requires counter { clock.old < 2 ^ 63 }
+    ensures value { machine_of chips.new crossing.new.buffers logs.new clock.new
+        ≡ after_act N CAP (machine_of chips.old crossing.old.buffers logs.old clock.old) act.Cycle }
+    ensures counter { clock.new ≡ clock.old + 1 }
     ensures routers { AreRouters N CAP chips.new crossing.new.buffers logs.new }
     ensures nodes { AreNodes N CAP nodes.new }
     ensures empty { AreEmpty nodes.new }
     ensures log_room { LosesAtMost (4 + CAP) logs.old logs.new }
 {
-    inject::<N, CAP>(chips, crossing, logs, clock, nodes);
+    inject::<N, CAP>(chips, crossing, logs, *clock, nodes);
+    *clock += 1;
     if crossing.is_empty() {
         return;
     }
@@ -198,7 +200,9 @@ mod tests {
             Vec::with_capacity(rt.alloc(), 5)?,
         ];
         let mut nodes = [Node::new(1), Node::new(1)];
-        cycle::<1, 1>(&mut chips, &mut crossing, &mut logs, 41, &mut nodes);
+        let mut clock = 41;
+        cycle::<1, 1>(&mut chips, &mut crossing, &mut logs, &mut clock, &mut nodes);
+        assert_eq!(rt; clock, 42);
         assert!(rt; crossing.is_empty());
         assert_eq!(rt; logs[1].as_slice(), [Event::Injected(message)].as_slice());
         assert_eq!(rt; logs[0].as_slice(), [delivered].as_slice());

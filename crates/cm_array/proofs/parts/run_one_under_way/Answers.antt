@@ -26,7 +26,7 @@ returns-in-Cycle-clause-parts g c =
     let chips_back = items-lent before.chips chips (c.cycle.auto.chips ∙ ap length c.deref_mut.ensures.value) in
     let logs_back = items-lent before.logs logs (c.cycle.auto.logs ∙ ap length c.deref_mut-in-Cycle.ensures.value) in
     let nodes_back = items-lent before.nodes nodes (c.cycle.auto.nodes ∙ ap length c.deref_mut-in-Cycle-2.ensures.value) in
-    let next : ℕ = before.clock + 1 in
+    let next : ℕ = c.cycle.new.clock in
     let was : Machine → Machine = λ m. after_act g.row.N g.row.CAP m Cycle in
     let counted : before.clock + cycles_in (Cycle ∷ []) < 2 ^ 63 = subst (λ (a : Act). before.clock + cycles_in (a ∷ []) < 2 ^ 63) c.in-Cycle.is c.requires.clock in
     AreUnderWay-after_act g.row.N g.row.CAP Cycle before _ c.requires.parts
@@ -38,4 +38,4 @@ returns-in-Cycle-clause-parts g c =
     (subst (λ (ns : List Buffer). AreNodes g.row.N g.row.CAP ns) (sym nodes_back) c.cycle.ensures.nodes)
     (subst (λ (ns : List Buffer). AreEmpty ns) (sym nodes_back) c.cycle.ensures.empty)
     c.cycle.ensures.routers.within
-    refl refl (omega (arith, counted))
+    refl refl (omega (arith, counted, c.cycle.ensures.counter))
