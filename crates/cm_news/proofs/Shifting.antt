@@ -1,4 +1,4 @@
--- The bits of words that are shifted and masked, and of four bits that are spread or gathered.
+-- The bits of words that are shifted and of which some bits are kept, and of four bits that are spread or gathered.
 use Rattle.std.proofs.Common.{◌≡◌, ◌⊎◌, inl, inr, if◌then◌else◌, ℕ, ◌+◌, ◌-◌, ◌*◌, ◌/◌, ◌%◌, ◌^◌, ◌<◌, ◌≤◌, ◌==◌, zero, suc, Bool, true, false, ◌&&◌, ◌||◌, bit_and, bit_or, refl, ap, ◌∙◌, subst, arith}
 use Rattle.std.specs.Bool.{beq}
 use Rattle.std.specs.Int.{bit_at}
@@ -39,9 +39,9 @@ same_beq true false h = cc
 same_beq false true h = cc
 same_beq false false h = refl
 
--- a mask of sixteen bits is a test of the number
-pub masked : (mask : ℕ) (test : ℕ → Bool) → holds_below 16 (λ p. beq (bit mask p) (test p)) ≡ true → (p : ℕ) → p < 16 → bit mask p ≡ test p
-masked mask test h p below = same_beq (bit mask p) (test p) (tested 16 (λ k. beq (bit mask k) (test k)) h p below)
+-- a word of sixteen bits is a test of the number
+pub bits_by_test : (word : ℕ) (test : ℕ → Bool) → holds_below 16 (λ p. beq (bit word p) (test p)) ≡ true → (p : ℕ) → p < 16 → bit word p ≡ test p
+bits_by_test word test h p below = same_beq (bit word p) (test p) (tested 16 (λ k. beq (bit word k) (test k)) h p below)
 
 -- ---- shifts
 
@@ -118,7 +118,7 @@ four_spread x (suc (suc (suc (suc k)))) small h = absurd (omega arith)
 
 pub spread : (x : ℕ) → x < 16 → (p : ℕ) → p < 16
     → bit (bit_and (bit_or (bit_or (bit_or x (x * 8 % 65536)) (x * 64 % 65536)) (x * 512 % 65536)) 4369) p ≡ if p % 4 == 0 then bit x (p / 4) else false
-spread x small p h = bit-spread x p ∙ ap (λ (b : Bool). any_of_four x p && b) (masked 4369 (λ k. k % 4 == 0) refl p h) ∙ by (p % 4 == 0) refl where
+spread x small p h = bit-spread x p ∙ ap (λ (b : Bool). any_of_four x p && b) (bits_by_test 4369 (λ k. k % 4 == 0) refl p h) ∙ by (p % 4 == 0) refl where
   by : (b : Bool) → (p % 4 == 0) ≡ b → any_of_four x p && b ≡ if b then bit x (p / 4) else false
   by true first =
       let none : p % 4 ≡ 0 = eqb-true (p % 4) 0 first in

@@ -7,7 +7,7 @@ use Rattle.cm_bits.specs.declared.plane.Dir.TheVariants.{North, East, West, Sout
 use Rattle.cm_model.specs.Chip.{IsPlane}
 use Rattle.cm_model.proofs.Bits.{bit-bit_and}
 use Rattle.cm_news.specs.Moves.{is_entry, one_back, sender, bit_of, at_edge, along}
-use Rattle.cm_news.proofs.Shifting.{and-true, masked, bit-down, bit-up_below, bit-up_above, bit-past}
+use Rattle.cm_news.proofs.Shifting.{and-true, bits_by_test, bit-down, bit-up_below, bit-up_above, bit-past}
 
 -- a bit that is 0 where steps come in from another chip, and else the one before's, is the sender's
 by_sender : (entry : Bool) (x q : ℕ) (v : Bool) → (entry ≡ true → v ≡ false) → (entry ≡ false → v ≡ bit x q) → v ≡ bit_of x (if entry then None else Some q)
@@ -34,14 +34,14 @@ inside_south x p h = by_sender (is_entry South p) x (one_back South p) (bit (x *
 
 pub inside_west : (x p : ℕ) → p < 16 → bit (bit_and (x / 2) 30583) p ≡ bit_of x (sender West p)
 inside_west x p h =
-    bit-bit_and (x / 2) 30583 p ∙ ap (λ (b : Bool). bit (x / 2) p && b) (masked 30583 (λ k. not (k % 4 == 3)) refl p h)
+    bit-bit_and (x / 2) 30583 p ∙ ap (λ (b : Bool). bit (x / 2) p && b) (bits_by_test 30583 (λ k. not (k % 4 == 3)) refl p h)
     ∙ by_sender (is_entry West p) x (one_back West p) (bit (x / 2) p && not (p % 4 == 3))
     (λ entry. ap (λ (b : Bool). bit (x / 2) p && not b) entry ∙ and-false (bit (x / 2) p))
     (λ entry. ap (λ (b : Bool). bit (x / 2) p && not b) entry ∙ and-true (bit (x / 2) p) ∙ bit-down x 1 p ∙ ap (bit x) (omega arith))
 
 pub inside_east : (x p : ℕ) → p < 16 → bit (bit_and (x * 2 % 65536) 61166) p ≡ bit_of x (sender East p)
 inside_east x p h =
-    bit-bit_and (x * 2 % 65536) 61166 p ∙ ap (λ (b : Bool). bit (x * 2 % 65536) p && b) (masked 61166 (λ k. not (k % 4 == 0)) refl p h)
+    bit-bit_and (x * 2 % 65536) 61166 p ∙ ap (λ (b : Bool). bit (x * 2 % 65536) p && b) (bits_by_test 61166 (λ k. not (k % 4 == 0)) refl p h)
     ∙ by_sender (is_entry East p) x (one_back East p) (bit (x * 2 % 65536) p && not (p % 4 == 0))
     (λ entry. ap (λ (b : Bool). bit (x * 2 % 65536) p && not b) entry ∙ and-false (bit (x * 2 % 65536) p))
     (λ entry. let others : ¬ (p % 4 ≡ 0) = eqb-false (p % 4) 0 entry in
@@ -52,7 +52,7 @@ inside_east x p h =
 
 pub edge_north : (x i : ℕ) → i < 4 → bit (bit_and x 15) i ≡ bit x (at_edge North i)
 edge_north x i h =
-    bit-bit_and x 15 i ∙ ap (λ (b : Bool). bit x i && b) (masked 15 (λ k. nat_lt k 4) refl i (omega arith) ∙ lt-ltb i 4 h)
+    bit-bit_and x 15 i ∙ ap (λ (b : Bool). bit x i && b) (bits_by_test 15 (λ k. nat_lt k 4) refl i (omega arith) ∙ lt-ltb i 4 h)
     ∙ and-true (bit x i) ∙ ap (bit x) (omega arith)
 
 pub edge_south : (x i : ℕ) → bit (x / 4096) i ≡ bit x (at_edge South i)
