@@ -137,12 +137,11 @@ pub(crate) fn take_in<const N: usize, const CAP: usize>(
     ensures told { vec_len log.new ≤ vec_len log.old + 4 }
     ensures log_room { vec_capacity log.old ≤ vec_capacity log.new }
 {
-    let left = CAP - queue.len();
-    if left == 0 || !may_ask(chip) {
+    if !may_ask(chip) || queue.len() == CAP {
         take_none(chip);
         return false;
     }
-    let mut taken = Node::new(left as u8);
+    let mut taken = Node::new((CAP - queue.len()) as u8);
     taken.inject(chip, here, N as u8, clock, log);
     if taken.messages().is_empty() {
         return false;
