@@ -5,7 +5,7 @@ use crate::machines::{
 };
 use cm_array::{Machine, Plain, RunFault, Runner};
 use cm_bits::Field;
-use cm_message::Event;
+use cm_message::{Event, Tag};
 use cm_model::{Act, Found};
 use std::test::Fail;
 
@@ -128,7 +128,7 @@ fn a_full_chip_refers_the_message_that_came_last(rt: HostRuntime) -> Result<(), 
 }
 
 #[test]
-fn the_second_of_two_on_one_way_stays_behind(rt: HostRuntime) -> Result<(), Fail> {
+fn the_second_of_two_on_one_way_stays_behind_and_comes_later(rt: HostRuntime) -> Result<(), Fail> {
     let mut machine = Machine::<2, 7>::blank(rt.alloc())?;
     ask(&mut machine, &message(3, 3, 7, tag(0, 0)));
     ask(&mut machine, &message(3, 3, 8, tag(0, 1)));
@@ -136,7 +136,33 @@ fn the_second_of_two_on_one_way_stays_behind(rt: HostRuntime) -> Result<(), Fail
     assert_eq!(rt; machine.find(tag(0, 0)), Found::Delivered(3, processor(3)));
     assert_eq!(rt; machine.find(tag(0, 1)), Found::Router(2));
     assert_eq!(rt; machine.buffer(2), [message(1, 3, 8, tag(0, 1))].as_slice());
+    assert_eq!(rt; Plain.go(&mut machine, &[Act::Cycle]), Ok(()));
+    assert_eq!(rt; machine.find(tag(0, 1)), Found::Router(3));
+    assert_eq!(rt; machine.buffer(3), [message(0, 3, 8, tag(0, 1))].as_slice());
+    let received = Field::new(4032, 32)?;
+    assert_eq!(rt; machine.chip(3).field(processor(3), received), 7);
+    assert!(rt;
+        machine
+            .poke_flag(3, processor(3), flag(RECV), false)
+            .is_ok()
+    );
+    assert_eq!(rt; Plain.go(&mut machine, &[Act::Cycle]), Ok(()));
+    assert_eq!(rt; machine.find(tag(0, 1)), Found::Delivered(3, processor(3)));
+    assert_eq!(rt; machine.chip(3).field(processor(3), received), 8);
+    assert_eq!(rt; machine.chip(3).flag_plane(flag(RECV)), 0x0008);
+    assert_eq!(rt;
+        machine.log(3),
+        [delivered(7, tag(0, 0)), delivered(8, tag(0, 1))].as_slice()
+    );
     Ok(())
+}
+
+/// That a message with this payload came to processor 3 of chip 3.
+fn delivered(payload: u32, tag: Tag) -> Event {
+    Event::Delivered {
+        message: message(0, 3, payload, tag),
+        chip: 3,
+    }
 }
 
 #[test]
