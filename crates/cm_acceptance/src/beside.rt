@@ -1,20 +1,18 @@
 //! Random machines beside the plain program of the router: petit cycles, with instructions between
 //! them, leave the same bits, flags, buffers and logs, and every message is found where it is.
 
-ghost use Rattle.std.specs.Prelude.{◌≡◌, ◌+◌, ◌<◌, ◌≤◌, ◌^◌};
+ghost use Rattle.std.specs.Prelude.{◌≡◌, ◌<◌, ◌≤◌, ◌^◌};
 
 use crate::accounts::are_found;
+use crate::both::Both;
 use crate::draws::Draws;
-use crate::machines::{RECV, SEND, address, ask, everywhere, flag, message, processor, tag};
-use cm_array::{Machine, Plain, Runner};
-use cm_bits::{Addr, Proc};
+use crate::machines::{RECV, SEND, address, everywhere, flag, message, processor, tag};
+use cm_array::Machine;
+use cm_bits::Addr;
 use cm_message::{Message, Tag};
-use cm_model::{Act, PlainRouter};
+use cm_model::Act;
 use std::alloc::{AllocError, Global};
 use std::test::Fail;
-
-// As many memory bits as a true processor has.
-const ADDRESSES: u16 = 4096;
 
 const ROUNDS: u16 = 30;
 
@@ -23,8 +21,7 @@ const ROUNDS: u16 = 30;
 /// In each chip twice, on average, a processor asks to send to a random place, and two others can
 /// receive again. Half of the messages go to processors 0, so that they wait.
 fn poke_both<const N: usize, const CAP: usize>(
-    machine: &mut Machine<N, CAP>,
-    plain: &mut PlainRouter<N, CAP>,
+    both: &mut Both<N, CAP>,
     draws: &mut Draws,
     chips: u16,
 )
@@ -33,15 +30,12 @@ fn poke_both<const N: usize, const CAP: usize>(
 {
     for _turn in 0..chips {
         for _ask in 0..2 {
-            let sent = drawn_message(draws, chips);
-            ask(machine, &sent);
-            ask_plain(plain, &sent);
+            both.ask(&drawn_message(draws, chips));
         }
         for _clear in 0..2 {
             let chip = draws.below(chips);
             let proc = processor(draws.below(16) as u8);
-            let _ = machine.poke_flag(chip, proc, flag(RECV), false);
-            plain.poke_flag(chip, proc, flag(RECV), false);
+            let _ = both.poke_flag(chip, proc, flag(RECV), false);
         }
     }
 }
@@ -63,36 +57,6 @@ fn drawn_message(draws: &mut Draws, chips: u16) -> Message
         draws.below(16) as u8
     };
     message(rel, receiver, draws.number(), tag)
-}
-
-/// Makes the processor from which a message comes ask that it be sent.
-fn ask_plain<const N: usize, const CAP: usize>(plain: &mut PlainRouter<N, CAP>, message: &Message)
-    requires chip { message.now.tag.chip < 2 ^ N }
-{
-    let chip = message.tag.chip;
-    let proc = message.tag.proc;
-    poke_field(plain, chip, proc, 3968, 16, u32::from(message.rel));
-    poke_field(plain, chip, proc, 3984, 4, u32::from(message.proc.get()));
-    poke_field(plain, chip, proc, 3988, 32, message.payload);
-    plain.poke_flag(chip, proc, flag(SEND), true);
-}
-
-/// Puts a number into a field of one processor, the lowest bit first.
-fn poke_field<const N: usize, const CAP: usize>(
-    plain: &mut PlainRouter<N, CAP>,
-    chip: u16,
-    proc: Proc,
-    at: u16,
-    len: u16,
-    number: u32,
-)
-    requires chip { chip < 2 ^ N }
-    requires at { at + len ≤ 4096 }
-    requires len { len ≤ 32 }
-{
-    for place in 0..len {
-        plain.poke(chip, proc, address(at + place), number >> place & 1 == 1);
-    }
 }
 
 // ---- what both do
@@ -133,64 +97,7 @@ fn drawn_address(draws: &mut Draws) -> Addr {
     }
 }
 
-/// Runs the acts in both, and tells whether neither refused.
-fn go_in_both<const N: usize, const CAP: usize>(
-    alloc: Global,
-    machine: &mut Machine<N, CAP>,
-    plain: &mut PlainRouter<N, CAP>,
-    acts: &[Act],
-) -> bool {
-    if plain.clock() >= 1_000 || acts.len() >= 1_000 {
-        return false;
-    }
-    Plain.go(machine, acts).is_ok() && plain.run(alloc, acts).is_ok()
-}
-
 // ---- what is seen afterwards
-
-/// Whether both have the same flags and memory bits, the same messages, events and petit cycles.
-fn agree<const N: usize, const CAP: usize>(
-    machine: &Machine<N, CAP>,
-    plain: &PlainRouter<N, CAP>,
-    chips: u16,
-) -> bool
-    requires chips { chips ≡ 2 ^ N }
-{
-    for c in 0..chips {
-        for p in 0u8..16 {
-            if !agree_at(machine, plain, c, processor(p)) {
-                return false;
-            }
-        }
-        if machine.buffer(c) != plain.buffer(c) || machine.log(c) != plain.log(c) {
-            return false;
-        }
-    }
-    machine.clock() == plain.clock()
-}
-
-fn agree_at<const N: usize, const CAP: usize>(
-    machine: &Machine<N, CAP>,
-    plain: &PlainRouter<N, CAP>,
-    chip: u16,
-    proc: Proc,
-) -> bool
-    requires chip { chip < 2 ^ N }
-{
-    for number in 0u8..16 {
-        let number = flag(number);
-        if machine.chip(chip).flag(proc, number) != plain.flag(chip, proc, number) {
-            return false;
-        }
-    }
-    for at in 0..ADDRESSES {
-        let at = address(at);
-        if machine.chip(chip).read(proc, at) != plain.read(chip, proc, at) {
-            return false;
-        }
-    }
-    true
-}
 
 /// Whether a buffer of the machine is full.
 fn has_full<const N: usize, const CAP: usize>(machine: &Machine<N, CAP>, chips: u16) -> bool
@@ -211,23 +118,19 @@ fn stays_plain<const N: usize, const CAP: usize>(alloc: Global, chips: u16) -> R
     requires chips { chips ≡ 2 ^ N }
     requires some { 0 < chips }
 {
-    let mut machine = Machine::<N, CAP>::blank(alloc)?;
-    let mut plain = PlainRouter::<N, CAP>::blank(alloc, ADDRESSES)?;
+    let mut both = Both::<N, CAP>::blank(alloc)?;
     let mut draws = Draws::new();
     let mut was_full = false;
     for _round in 0..ROUNDS {
-        poke_both(&mut machine, &mut plain, &mut draws, chips);
+        poke_both(&mut both, &mut draws, chips);
         let acts = drawn_acts(alloc, &mut draws)?;
-        if !go_in_both(alloc, &mut machine, &mut plain, acts.as_slice()) {
+        if !both.go(alloc, acts.as_slice()) || !both.agree(chips) {
             return Ok(false);
         }
-        if !agree(&machine, &plain, chips) {
+        if !are_found(alloc, &both.machine, &both.plain, chips)? {
             return Ok(false);
         }
-        if !are_found(alloc, &machine, &plain, chips)? {
-            return Ok(false);
-        }
-        if has_full(&machine, chips) {
+        if has_full(&both.machine, chips) {
             was_full = true;
         }
     }
@@ -305,8 +208,7 @@ fn stays_plain_in_one_list<const N: usize, const CAP: usize>(
     requires chips { chips ≡ 2 ^ N }
     requires some { 0 < chips }
 {
-    let mut machine = Machine::<N, CAP>::blank(alloc)?;
-    let mut plain = PlainRouter::<N, CAP>::blank(alloc, ADDRESSES)?;
+    let mut both = Both::<N, CAP>::blank(alloc)?;
     let mut draws = Draws::new();
     for chip in 0..chips {
         for sender in 0u8..16 {
@@ -314,15 +216,14 @@ fn stays_plain_in_one_list<const N: usize, const CAP: usize>(
                 tag: tag(chip, sender),
                 ..drawn_message(&mut draws, chips)
             };
-            ask(&mut machine, &sent);
-            ask_plain(&mut plain, &sent);
+            both.ask(&sent);
         }
     }
     let acts = busy_acts(alloc)?;
     Ok(
-        go_in_both(alloc, &mut machine, &mut plain, acts.as_slice())
-            && agree(&machine, &plain, chips)
-            && are_found(alloc, &machine, &plain, chips)?,
+        both.go(alloc, acts.as_slice())
+            && both.agree(chips)
+            && are_found(alloc, &both.machine, &both.plain, chips)?,
     )
 }
 

@@ -8,6 +8,8 @@ mod array;
 #[cfg(test)]
 mod beside;
 #[cfg(test)]
+mod both;
+#[cfg(test)]
 mod chip;
 #[cfg(test)]
 mod draws;
