@@ -170,6 +170,33 @@ fn a_full_chip_refers_the_message_that_came_last(rt: HostRuntime) -> Result<(), 
 }
 
 #[test]
+fn the_second_of_three_crosses_as_the_first_that_has_to(rt: HostRuntime) -> Result<(), Fail> {
+    let mut both = Both::<1, 4>::blank(rt.alloc())?;
+    both.ask(&message(0, 0, 1, tag(0, 0)));
+    both.ask(&message(1, 0, 2, tag(0, 1)));
+    both.ask(&message(1, 0, 3, tag(0, 2)));
+    assert!(rt; both.go(rt.alloc(), &[Act::Cycle]));
+    assert_eq!(rt;
+        both.machine.find(tag(0, 0)),
+        Found::Delivered(0, processor(0))
+    );
+    assert_eq!(rt;
+        both.machine.find(tag(0, 1)),
+        Found::Delivered(1, processor(0))
+    );
+    assert_eq!(rt;
+        both.machine.buffer(0),
+        [message(1, 0, 3, tag(0, 2))].as_slice()
+    );
+    assert!(rt; both.machine.buffer(1).is_empty());
+    let received = Field::new(4032, 32)?;
+    assert_eq!(rt; both.machine.chip(0).field(processor(0), received), 1);
+    assert_eq!(rt; both.machine.chip(1).field(processor(0), received), 2);
+    assert!(rt; both.agree(2));
+    Ok(())
+}
+
+#[test]
 fn the_second_of_two_on_one_way_stays_behind_and_comes_later(rt: HostRuntime) -> Result<(), Fail> {
     let mut both = Both::<2, 7>::blank(rt.alloc())?;
     both.ask(&message(3, 3, 7, tag(0, 0)));
