@@ -187,6 +187,12 @@ fn sixteen_chips_go_as_the_plain_router_does(rt: HostRuntime) -> Result<(), Fail
     Ok(())
 }
 
+#[test]
+fn two_blocks_of_chips_go_as_the_plain_router_does(rt: HostRuntime) -> Result<(), Fail> {
+    assert!(rt; stays_plain::<7, 2>(rt.alloc(), 128)?);
+    Ok(())
+}
+
 /// Thirty times: all processors ask to send, all can receive, and a petit cycle.
 fn busy_acts(alloc: Global) -> Result<Vec<Act>, AllocError> {
     let mut acts = Vec::new(alloc);
