@@ -260,34 +260,55 @@ impl<const N: usize, const CAP: usize> Machine<N, CAP> {
 mod tests {
     use super::{Machine, MachineFault};
     use crate::runner::{Plain, RunFault, Runner};
-    use cm_bits::{FlagNo, Proc};
+    use cm_bits::{Addr, FlagNo, Proc};
+    use cm_element::Chip;
     use cm_model::Act;
     use std::alloc::Global;
     use std::test::Fail;
 
     const LAST: u64 = u64::MAX >> 1;
 
-    /// Two chips one petit cycle before the last, in which a processor asks to send.
+    /// Two chips one petit cycle before the last, in which a processor asks to send payload 1.
     fn almost_last(alloc: Global) -> Result<Machine<1, 1>, MachineFault> {
         let mut machine = Machine::<1, 1>::blank_at(alloc, LAST - 1)?;
-        let _ = machine.poke_flag(1, Proc::new(3).unwrap(), FlagNo::new(12).unwrap(), true);
+        let sender = Proc::new(3).unwrap();
+        machine.poke(1, sender, Addr::new(3988).unwrap(), true);
+        let _ = machine.poke_flag(1, sender, FlagNo::new(12).unwrap(), true);
         Ok(machine)
     }
 
-    /// Whether they have the same flags, buffers, logs and count of petit cycles.
+    /// Whether they have the same flags, memory bits, buffers, logs and count of petit cycles.
     fn are_same(left: &Machine<1, 1>, right: &Machine<1, 1>) -> bool {
         for c in 0u16..2 {
-            for number in 0u8..16 {
-                let flag = FlagNo::new(number).unwrap();
-                if left.chip(c).flag_plane(flag) != right.chip(c).flag_plane(flag) {
-                    return false;
-                }
-            }
-            if left.buffer(c) != right.buffer(c) || left.log(c) != right.log(c) {
+            if !have_same_flags(left.chip(c), right.chip(c))
+                || !have_same_memory(left.chip(c), right.chip(c))
+                || left.buffer(c) != right.buffer(c)
+                || left.log(c) != right.log(c)
+            {
                 return false;
             }
         }
         left.clock() == right.clock()
+    }
+
+    fn have_same_flags(left: &Chip, right: &Chip) -> bool {
+        for number in 0u8..16 {
+            let flag = FlagNo::new(number).unwrap();
+            if left.flag_plane(flag) != right.flag_plane(flag) {
+                return false;
+            }
+        }
+        true
+    }
+
+    fn have_same_memory(left: &Chip, right: &Chip) -> bool {
+        for at in 0u16..4096 {
+            let at = Addr::new(at).unwrap();
+            if left.plane(at) != right.plane(at) {
+                return false;
+            }
+        }
+        true
     }
 
     #[test]
