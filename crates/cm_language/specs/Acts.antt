@@ -129,5 +129,5 @@ nanos (Set f) c = set_flag c f ∷ []
 nanos (Clear f) c = clear_flag c f ∷ []
 
 -- the acts of a macro under a context
-unfoldable pub acts_of : Macro → Context → List Act
+abbrev pub acts_of : Macro → Context → List Act
 acts_of m c = map act.Nano (nanos m c)

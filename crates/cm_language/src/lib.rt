@@ -4,9 +4,11 @@
 #![tactic(auto)]
 
 mod fault;
+mod laws;
 mod macros;
 mod statement;
 
 pub use fault::{AsmFault, AsmKind, MacroFault};
+pub use laws::{macros_are_right, macros_leave_the_rest};
 pub use macros::{Context, Macro};
 pub use statement::{Statement, Verb};
