@@ -9,6 +9,10 @@ pub record NamedField : Type 0 where
   pub name : List ℕ
   pub field : Span
 
+-- a field under a name
+abbrev pub named : List ℕ → Span → NamedField
+named name field = record { name = name; field = field }
+
 -- a letter, digit or `_`
 abbrev pub is_name_byte : ℕ → Bool
 is_name_byte byte = is_ascii_alphanumeric byte || byte == 95

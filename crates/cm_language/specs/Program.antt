@@ -33,9 +33,13 @@ pub record Reading : Type 0 where
 abbrev pub nothing_read : Reading
 nothing_read = record { fields = []; context = Always; acts = [] }
 
--- these acts are the next ones, unless there are too many then
-unfoldable pub with_acts : Reading → List Act → Result Reading AsmKind
-with_acts r acts = if nat_lt MOST_ACTS (length r.acts + length acts) then Err kind.TooLong else Ok (record r { acts = r.acts ++ acts })
+-- what was read, unless it has more acts than a program can have
+abbrev pub within_length : Reading → Result Reading AsmKind
+within_length r = if nat_lt MOST_ACTS (length r.acts) then Err kind.TooLong else Ok r
+
+-- these acts are the next ones
+abbrev pub with_acts : Reading → List Act → Result Reading AsmKind
+with_acts r acts = within_length (record { fields = r.fields; context = r.context; acts = r.acts ++ acts })
 
 -- the acts of a macro are the next ones, unless it is refused
 abbrev pub with_macro : Reading → Macro → Option MacroFault → Result Reading AsmKind
@@ -44,16 +48,21 @@ with_macro r m None = with_acts r (acts_of m r.context)
 
 -- one statement more
 abbrev pub after_statement : Reading → Statement → Result Reading AsmKind
-after_statement r (statement.Context context) = Ok (record r { context = context })
+after_statement r (statement.Context context) = Ok (record { fields = r.fields; context = context; acts = r.acts })
 after_statement r (statement.Macro m) = with_macro r m (first_fault m r.context)
 after_statement r (statement.Act a) = with_acts r (a ∷ [])
+
+-- a definition more, by the words after `field`
+abbrev pub after_definition : Reading → List (List ℕ) → Result Reading AsmKind
+after_definition r operands =
+    definition_of r.fields operands >>= λ defined. Ok (record { fields = r.fields ++ defined ∷ []; context = r.context; acts = r.acts })
 
 -- one line more, by its words
 abbrev pub after_words : Reading → List (List ℕ) → Result Reading AsmKind
 after_words r [] = Ok r
 after_words r (word ∷ operands) =
     if bytes_eq word (codes "field")
-    then (definition_of r.fields operands >>= λ defined. Ok (record r { fields = r.fields ++ defined ∷ [] }))
+    then after_definition r operands
     else (ok_or (verb_of word) kind.Word >>= λ verb. statement_of r.fields verb operands >>= after_statement r)
 
 -- what comes after a line, unless it has a fault
@@ -102,6 +111,10 @@ MatchKind kind.Number wanting faulty = faulty
 MatchKind kind.Name wanting faulty = faulty
 MatchKind kind.Twice wanting faulty = faulty
 MatchKind kind.TooLong wanting faulty = faulty
+
+-- a fault that a line is refused with: its own, or want of memory
+abbrev pub IsLineFault : Result Reading AsmKind → AsmKind → Type 0
+IsLineFault read kind = MatchKind kind (Unit {0}) (read ≡ Err kind)
 
 -- a fault that a text is refused with: its first faulty line, or where memory ran out
 abbrev pub IsFaultOf : List ℕ → AsmFault → Type 0
