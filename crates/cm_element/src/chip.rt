@@ -210,7 +210,8 @@ mod tests {
     use super::Chip;
     use crate::outputs::Outputs;
     use cm_bits::{Addr, Dir, Field, FlagNo, Plane, Proc};
-    use cm_model::{Nano, PlainMachine};
+    use cm_model::Nano;
+    use cm_plain::PlainMachine;
     use std::test::Fail;
 
     fn address(number: u16) -> Addr
