@@ -1,6 +1,6 @@
 //! Steps on the grid.
 
-ghost use Rattle.std.specs.Prelude.{◌≡◌, IfOk};
+ghost use Rattle.std.specs.Prelude.{◌≡◌, length, IfOk};
 
 use crate::cases::{Case, first_not_so};
 use crate::numbers::processor;
@@ -43,21 +43,33 @@ impl Case for Stepped {
 
     fn is_so(&self, _alloc: Global) -> Result<bool, Fail> {
         let Stepped(_, dir, chip, proc) = *self;
+        let from = place(1, 3)?;
         let to = place(chip, proc)?;
-        let neighbour = Grid::<3>::neighbour(place(1, 3)?, dir);
-        let planes = [0, ONE, 0, 0, 0, 0, 0, 0];
-        for chip in 0u16..8 {
-            let comes = Grid::<3>::incoming(&planes, dir, chip);
-            let wanted = if chip == to.chip {
-                1 << to.proc.get()
-            } else {
-                0
-            };
-            if comes != wanted {
-                return Ok(false);
-            }
+        Ok(Grid::<3>::neighbour(from, dir) == to && comes_in_at(&SENT_BY_ONE, &to, dir))
+    }
+}
+
+// Of eight chips, chip 1 alone sends.
+static SENT_BY_ONE: [Plane; 8] = [0, ONE, 0, 0, 0, 0, 0, 0];
+
+/// Whether of what eight chips send one bit comes in, at this place.
+fn comes_in_at(planes: &[Plane], to: &Place, dir: Dir) -> bool
+    requires planes { length planes.now ≡ 8 }
+{
+    for chip in 0u16..8 {
+        if Grid::<3>::incoming(planes, dir, chip) != plane_at(to, chip) {
+            return false;
         }
-        Ok(neighbour == to)
+    }
+    true
+}
+
+/// The plane of a chip in which one place alone has a bit.
+fn plane_at(place: &Place, chip: u16) -> Plane {
+    if chip == place.chip {
+        1 << place.proc.get()
+    } else {
+        0
     }
 }
 

@@ -5,17 +5,7 @@ use cm_bits::{Lines, Words, read_number};
 use std::alloc::Global;
 use std::test::Fail;
 
-/// Whether these items come, and then none, however often one asks.
-fn gives<'a, I: Iterator<Item = &'a [u8]>>(mut items: I, wanted: &[&[u8]]) -> bool {
-    for want in wanted {
-        if items.next() != Some(*want) {
-            return false;
-        }
-    }
-    items.next().is_none() && items.next().is_none()
-}
-
-/// A text, and its lines.
+/// A text, and its lines: then none comes, however often one asks.
 struct Lined {
     name: &'static str,
     text: &'static [u8],
@@ -28,7 +18,13 @@ impl Case for Lined {
     }
 
     fn is_so(&self, _alloc: Global) -> Result<bool, Fail> {
-        Ok(gives(Lines::new(self.text), self.lines))
+        let mut lines = Lines::new(self.text);
+        for wanted in self.lines {
+            if lines.next() != Some(*wanted) {
+                return Ok(false);
+            }
+        }
+        Ok(lines.next().is_none() && lines.next().is_none())
     }
 }
 
@@ -55,7 +51,7 @@ static LINED: [Lined; 4] = [
     },
 ];
 
-/// A line, and its words.
+/// A line, and its words: then none comes, however often one asks.
 struct Worded {
     name: &'static str,
     line: &'static [u8],
@@ -68,7 +64,13 @@ impl Case for Worded {
     }
 
     fn is_so(&self, _alloc: Global) -> Result<bool, Fail> {
-        Ok(gives(Words::new(self.line), self.words))
+        let mut words = Words::new(self.line);
+        for wanted in self.words {
+            if words.next() != Some(*wanted) {
+                return Ok(false);
+            }
+        }
+        Ok(words.next().is_none() && words.next().is_none())
     }
 }
 
