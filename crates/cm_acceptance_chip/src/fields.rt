@@ -78,13 +78,10 @@ static MET: [Met; 5] = [
 ];
 
 #[test]
-fn the_length_is_judged_before_the_end(rt: HostRuntime) -> Result<(), Fail> {
+fn fields_are_judged_by_length_then_end_and_meet_by_their_bits(
+    rt: HostRuntime,
+) -> Result<(), Fail> {
     assert_eq!(rt; first_not_so(rt.alloc(), &JUDGED)?, None);
-    Ok(())
-}
-
-#[test]
-fn fields_are_the_same_apart_or_meet_partly(rt: HostRuntime) -> Result<(), Fail> {
     assert_eq!(rt; first_not_so(rt.alloc(), &MET)?, None);
     Ok(())
 }

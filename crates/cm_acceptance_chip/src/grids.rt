@@ -145,25 +145,10 @@ fn place(chip: u16, number: u8) -> Result<Place, Fail>
 }
 
 #[test]
-fn one_bit_stays_on_the_chip_or_leaves_it(rt: HostRuntime) -> Result<(), Fail> {
+fn steps_lead_round_the_torus(rt: HostRuntime) -> Result<(), Fail> {
     assert_eq!(rt; first_not_so(rt.alloc(), &SENT)?, None);
-    Ok(())
-}
-
-#[test]
-fn one_bit_of_eight_chips_comes_in_at_one_place(rt: HostRuntime) -> Result<(), Fail> {
     assert_eq!(rt; first_not_so(rt.alloc(), &STEPPED)?, None);
-    Ok(())
-}
-
-#[test]
-fn one_chip_is_a_torus(rt: HostRuntime) -> Result<(), Fail> {
     assert_eq!(rt; first_not_so(rt.alloc(), &ALONE)?, None);
-    Ok(())
-}
-
-#[test]
-fn the_largest_machine_wraps_at_its_corner(rt: HostRuntime) -> Result<(), Fail> {
     assert_eq!(rt; first_not_so(rt.alloc(), &WRAPPED)?, None);
     Ok(())
 }

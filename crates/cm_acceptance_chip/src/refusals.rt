@@ -166,17 +166,24 @@ static TOLD: [Told; 10] = [
     ),
 ];
 
-/// A fault of a session, and that of the program which it becomes.
-struct OfSession(&'static str, ChipFault, ProgramFault);
+/// A fault of a session or of a command line, and that of the program which it becomes.
+enum Becomes {
+    OfSession(&'static str, ChipFault, ProgramFault),
+    OfLine(&'static str, LineFault, ProgramFault),
+}
 
-impl Case for OfSession {
+impl Case for Becomes {
     fn name(&self) -> &'static str {
-        self.0
+        match *self {
+            Becomes::OfSession(name, _, _) | Becomes::OfLine(name, _, _) => name,
+        }
     }
 
     fn is_so(&self, _alloc: Global) -> Result<bool, Fail> {
-        let OfSession(_, fault, becomes) = *self;
-        Ok(ProgramFault::from(fault) == becomes)
+        Ok(match *self {
+            Becomes::OfSession(_, fault, becomes) => ProgramFault::from(fault) == becomes,
+            Becomes::OfLine(_, fault, becomes) => ProgramFault::from(fault) == becomes,
+        })
     }
 }
 
@@ -185,12 +192,14 @@ const NINTH: AsmFault = AsmFault {
     kind: AsmKind::Operands,
 };
 
-static OF_SESSION: [OfSession; 5] = [
-    OfSession("a text", ChipFault::Text(NINTH), ProgramFault::Text(NINTH)),
-    OfSession("a read", ChipFault::Read, ProgramFault::Read),
-    OfSession("a write", ChipFault::Write(5), ProgramFault::Write),
-    OfSession("too much", ChipFault::TooMuch, ProgramFault::TooMuch),
-    OfSession("memory", ChipFault::Memory, ProgramFault::Memory),
+static BECOMES: [Becomes; 7] = [
+    Becomes::OfSession("a text", ChipFault::Text(NINTH), ProgramFault::Text(NINTH)),
+    Becomes::OfSession("a read", ChipFault::Read, ProgramFault::Read),
+    Becomes::OfSession("a write", ChipFault::Write(5), ProgramFault::Write),
+    Becomes::OfSession("too much", ChipFault::TooMuch, ProgramFault::TooMuch),
+    Becomes::OfSession("memory", ChipFault::Memory, ProgramFault::Memory),
+    Becomes::OfLine("a bad line", LineFault::BadLine, ProgramFault::BadLine),
+    Becomes::OfLine("memory of a line", LineFault::Memory, ProgramFault::Memory),
 ];
 
 /// The room of the first sink, of those too small for this line, which takes no front of it.
@@ -209,20 +218,13 @@ fn first_untold(alloc: Global) -> Result<Option<usize>, Fail> {
 #[test]
 fn each_number_has_its_name_its_line_and_its_status(rt: HostRuntime) -> Result<(), Fail> {
     assert_eq!(rt; first_not_so(rt.alloc(), &NUMBERED)?, None);
-    Ok(())
-}
-
-#[test]
-fn each_fault_of_the_program_has_its_line_and_status(rt: HostRuntime) -> Result<(), Fail> {
     assert_eq!(rt; first_not_so(rt.alloc(), &TOLD)?, None);
     Ok(())
 }
 
 #[test]
 fn faults_of_the_library_are_those_of_the_program(rt: HostRuntime) -> Result<(), Fail> {
-    assert_eq!(rt; first_not_so(rt.alloc(), &OF_SESSION)?, None);
-    assert!(rt; ProgramFault::from(LineFault::BadLine) == ProgramFault::BadLine);
-    assert!(rt; ProgramFault::from(LineFault::Memory) == ProgramFault::Memory);
+    assert_eq!(rt; first_not_so(rt.alloc(), &BECOMES)?, None);
     Ok(())
 }
 

@@ -465,14 +465,10 @@ fn the_input_is_read_to_its_end_or_1048576_bytes(rt: HostRuntime) -> Result<(), 
 }
 
 #[test]
-fn pieces_of_any_size_give_the_same_bytes(rt: HostRuntime) -> Result<(), Fail> {
+fn pieces_full_sinks_and_failed_reads_are_told_as_they_are(rt: HostRuntime) -> Result<(), Fail> {
     assert_eq!(rt; first_odd_piece(rt.alloc())?, None);
-    Ok(())
-}
-
-#[test]
-fn a_full_sink_has_the_first_bytes_of_the_answer(rt: HostRuntime) -> Result<(), Fail> {
     assert_eq!(rt; first_odd_room(rt.alloc())?, None);
+    assert_eq!(rt; first_odd_failure(rt.alloc())?, None);
     Ok(())
 }
 
@@ -483,12 +479,6 @@ fn a_sink_that_takes_nothing_is_a_failed_write(rt: HostRuntime) -> Result<(), Fa
     let answer = chip_session(rt.alloc(), &mut source, &mut sink);
     let ended = Ended { answer, sink };
     assert!(rt; ended.is(Err(ChipFault::Write(3)), b"fla"));
-    Ok(())
-}
-
-#[test]
-fn a_failed_read_writes_nothing(rt: HostRuntime) -> Result<(), Fail> {
-    assert_eq!(rt; first_odd_failure(rt.alloc())?, None);
     Ok(())
 }
 

@@ -187,19 +187,9 @@ static WHOLE: [Whole; 3] = [
 ];
 
 #[test]
-fn a_full_room_fails_or_takes_nothing(rt: HostRuntime) -> Result<(), Fail> {
+fn sinks_take_each_write_once_and_tell_how_far_it_came(rt: HostRuntime) -> Result<(), Fail> {
     assert_eq!(rt; first_not_so(rt.alloc(), &IN_MEMORY)?, None);
-    Ok(())
-}
-
-#[test]
-fn std_hands_each_write_on_once_and_whole(rt: HostRuntime) -> Result<(), Fail> {
     assert_eq!(rt; first_not_so(rt.alloc(), &OF_STD)?, None);
-    Ok(())
-}
-
-#[test]
-fn a_full_sink_tells_how_far_a_write_came(rt: HostRuntime) -> Result<(), Fail> {
     assert_eq!(rt; first_not_so(rt.alloc(), &WHOLE)?, None);
     Ok(())
 }

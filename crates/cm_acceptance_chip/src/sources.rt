@@ -218,17 +218,17 @@ static TAKEN: [Taken; 9] = [
     ),
 ];
 
-#[test]
-fn bytes_come_in_steps_until_the_source_fails(rt: HostRuntime) -> Result<(), Fail> {
-    assert_eq!(rt; first_not_so(rt.alloc(), &IN_MEMORY)?, None);
-    Ok(())
+/// Whether a reader of std over three bytes gives them two a call, and then its end.
+fn std_gives_its_bytes() -> bool {
+    let mut source = Std::new(b"abc".as_slice());
+    gives(&mut source, 2, &[Ok(b"ab"), Ok(b"c"), Ok(b"")])
 }
 
 #[test]
-fn std_hands_each_read_on_once(rt: HostRuntime) -> Result<(), Fail> {
+fn sources_give_each_read_once(rt: HostRuntime) -> Result<(), Fail> {
+    assert_eq!(rt; first_not_so(rt.alloc(), &IN_MEMORY)?, None);
     assert_eq!(rt; first_not_so(rt.alloc(), &OF_STD)?, None);
-    let mut source = Std::new(b"abc".as_slice());
-    assert!(rt; gives(&mut source, 2, &[Ok(b"ab"), Ok(b"c"), Ok(b"")]));
+    assert!(rt; std_gives_its_bytes());
     Ok(())
 }
 

@@ -142,19 +142,9 @@ static NUMBERED: [Numbered; 16] = [
 ];
 
 #[test]
-fn lines_end_with_their_line_end_or_the_text(rt: HostRuntime) -> Result<(), Fail> {
+fn texts_have_their_lines_words_and_numbers(rt: HostRuntime) -> Result<(), Fail> {
     assert_eq!(rt; first_not_so(rt.alloc(), &LINED)?, None);
-    Ok(())
-}
-
-#[test]
-fn words_stand_between_blanks_before_the_comment(rt: HostRuntime) -> Result<(), Fail> {
     assert_eq!(rt; first_not_so(rt.alloc(), &WORDED)?, None);
-    Ok(())
-}
-
-#[test]
-fn numbers_are_decimal_or_begin_with_0x(rt: HostRuntime) -> Result<(), Fail> {
     assert_eq!(rt; first_not_so(rt.alloc(), &NUMBERED)?, None);
     Ok(())
 }
