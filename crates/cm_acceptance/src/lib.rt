@@ -10,11 +10,7 @@ mod beside;
 #[cfg(test)]
 mod both;
 #[cfg(test)]
-mod chip;
-#[cfg(test)]
 mod draws;
-#[cfg(test)]
-mod ends;
 #[cfg(test)]
 mod largest;
 #[cfg(test)]
