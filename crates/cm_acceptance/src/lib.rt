@@ -16,4 +16,10 @@ mod largest;
 #[cfg(test)]
 mod machines;
 #[cfg(test)]
+mod nodes;
+#[cfg(test)]
 mod router;
+#[cfg(test)]
+mod scenario;
+#[cfg(test)]
+mod scenarios;
