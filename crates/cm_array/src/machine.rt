@@ -205,7 +205,8 @@ impl<const N: usize, const CAP: usize> Machine<N, CAP> {
     /// Puts a bit into the memory of one processor.
     pub fn poke(&mut self, chip: u16, proc: Proc, at: Addr, bit: bool)
         requires chip { chip < 2 ^ N }
-        ensures value { self.new ≡ record self.old { machine = with_memory_bit self.old.machine chip proc at bit } }
+        ensures value { self.new
+            ≡ record self.old { machine = with_memory_bit self.old.machine chip proc at bit } }
     {
         let poked = &mut self.parts.chips[usize::from(chip)];
         poked.poke(proc, at, bit);
@@ -221,7 +222,8 @@ impl<const N: usize, const CAP: usize> Machine<N, CAP> {
     ) -> Result<(), ZeroFlag>
         requires chip { chip < 2 ^ N }
         ensures zero_flag { IsErr result ↔ (number ≡ ZERO) }
-        ensures ok { OnOk result (self.new ≡ record self.old { machine = with_flag self.old.machine chip proc number bit }) }
+        ensures ok { OnOk result (self.new
+            ≡ record self.old { machine = with_flag self.old.machine chip proc number bit }) }
         ensures err { OnErr result (self.new ≡ self.old) }
     {
         let chip = &mut self.parts.chips[usize::from(chip)];
