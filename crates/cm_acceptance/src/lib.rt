@@ -20,4 +20,8 @@ mod largest;
 #[cfg(test)]
 mod machines;
 #[cfg(test)]
+mod plain;
+#[cfg(test)]
 mod router;
+#[cfg(test)]
+mod steps;
