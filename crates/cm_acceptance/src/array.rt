@@ -238,13 +238,11 @@ fn additions(alloc: Global) -> Result<Vec<Act>, AllocError> {
     Ok(acts)
 }
 
-/// A machine with the addend in memory bits 32 to 63 of processor 3 of three chips.
-fn with_addends(alloc: Global) -> Result<Machine<12, 7>, MachineFault> {
-    let mut machine = Machine::blank(alloc)?;
+/// Puts the addend into memory bits 32 to 63 of processor 3 of three chips.
+fn poke_addends(machine: &mut Machine<12, 7>) {
     for chip in [0u16, 63, 4095] {
-        poke_field(&mut machine, chip, processor(3), 32, 32, ADDEND);
+        poke_field(machine, chip, processor(3), 32, 32, ADDEND);
     }
-    Ok(machine)
 }
 
 /// The place of the first sum that does not stand where it should, or else how many there are.
@@ -264,7 +262,8 @@ fn sums_in(machine: &Machine<12, 7>) -> Result<usize, Fail> {
 // No clock is read: what took more than the time of a test would fail it.
 #[test]
 fn the_largest_machine_adds_124_times_in_one_stretch(rt: HostRuntime) -> Result<(), Fail> {
-    let mut machine = with_addends(rt.alloc())?;
+    let mut machine = Machine::<12, 7>::blank(rt.alloc())?;
+    poke_addends(&mut machine);
     let acts = additions(rt.alloc())?;
     go_by(&mut Plain, &mut machine, acts.as_slice())?;
     assert_eq!(rt; sums_in(&machine)?, SUMS.len());

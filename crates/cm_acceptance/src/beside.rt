@@ -198,6 +198,26 @@ fn busy_acts(alloc: Global) -> Result<Vec<Act>, AllocError> {
     Ok(acts)
 }
 
+/// In each chip every processor asks to send to a random place.
+fn ask_everywhere<const N: usize, const CAP: usize>(
+    both: &mut Both<N, CAP>,
+    draws: &mut Draws,
+    chips: u16,
+)
+    requires chips { chips ≡ 2 ^ N }
+    requires some { 0 < chips }
+{
+    for chip in 0..chips {
+        for sender in 0u8..16 {
+            let sent = Message {
+                tag: tag(chip, sender),
+                ..drawn_message(draws, chips)
+            };
+            both.ask(&sent);
+        }
+    }
+}
+
 /// Whether a machine in which all processors send goes as a plain one does through one list of thirty
 /// petit cycles, in which more messages are taken in than there are places for at a time.
 fn stays_plain_in_one_list<const N: usize, const CAP: usize>(
@@ -210,21 +230,12 @@ fn stays_plain_in_one_list<const N: usize, const CAP: usize>(
 {
     let mut both = Both::<N, CAP>::blank(alloc)?;
     let mut draws = Draws::new();
-    for chip in 0..chips {
-        for sender in 0u8..16 {
-            let sent = Message {
-                tag: tag(chip, sender),
-                ..drawn_message(&mut draws, chips)
-            };
-            both.ask(&sent);
-        }
-    }
+    ask_everywhere(&mut both, &mut draws, chips);
     let acts = busy_acts(alloc)?;
-    Ok(
-        both.go(alloc, acts.as_slice())
-            && both.agree(chips)
-            && are_found(alloc, &both.machine, &both.plain, chips)?,
-    )
+    if !both.go(alloc, acts.as_slice()) || !both.agree(chips) {
+        return Ok(false);
+    }
+    Ok(are_found(alloc, &both.machine, &both.plain, chips)?)
 }
 
 #[test]

@@ -45,7 +45,7 @@ pub(crate) enum Step {
 #[derive(Drop)]
 struct Trial<const N: usize> {
     machine: Machine<N, 7>,
-    kept: Machine<N, 7>,
+    kept: Option<Machine<N, 7>>,
 }
 
 impl Step {
@@ -61,7 +61,7 @@ impl Step {
             Step::Chain(read) => read < 16 && trial.sends(alloc, Act::Nano(over_chain(flag(read))), 1, Ok(())),
             Step::Senses(count, end) => trial.sends(alloc, Act::Sense, count, end),
             Step::Keep => trial.keeps(alloc),
-            Step::IsKept(kept) => are_same(&trial.machine, &trial.kept, chips) == kept,
+            Step::IsKept(kept) => trial.is_kept(chips) == Some(kept),
             Step::Flag(chip, number, plane) => trial.has_flag(chip, number, plane, chips),
             Step::News10(chip, plane) => trial.has_only(chip, plane, chips),
             Step::Wire(bit) => trial.machine.wire() == bit,
@@ -73,8 +73,10 @@ impl Step {
 impl<const N: usize> Trial<N> {
     fn blank(alloc: Global) -> Result<Self, MachineFault> {
         let machine = Machine::blank(alloc)?;
-        let kept = Machine::blank(alloc)?;
-        Ok(Trial { machine, kept })
+        Ok(Trial {
+            machine,
+            kept: None,
+        })
     }
 
     fn pokes(&mut self, chip: u16, number: u8, plane: Plane, chips: u16) -> bool
@@ -124,10 +126,20 @@ impl<const N: usize> Trial<N> {
     fn keeps(&mut self, alloc: Global) -> bool {
         match self.machine.copy(alloc) {
             Ok(copy) => {
-                self.kept = copy;
+                self.kept = Some(copy);
                 true
             }
             Err(_) => false,
+        }
+    }
+
+    /// Whether the machine has the bits and flags of its copy, where there is one.
+    fn is_kept(&self, chips: u16) -> Option<bool>
+        requires chips { chips ≡ 2 ^ N }
+    {
+        match &self.kept {
+            Some(kept) => Some(are_same(&self.machine, kept, chips)),
+            None => None,
         }
     }
 
