@@ -111,6 +111,21 @@ fn has_full<const N: usize, const CAP: usize>(machine: &Machine<N, CAP>, chips: 
     false
 }
 
+/// Whether both go through the acts, and are the same afterwards.
+fn stays_plain_through<const N: usize, const CAP: usize>(
+    both: &mut Both<N, CAP>,
+    alloc: Global,
+    acts: &[Act],
+    chips: u16,
+) -> Result<bool, AllocError>
+    requires chips { chips ≡ 2 ^ N }
+{
+    if !both.go(alloc, acts) || !both.agree(chips) {
+        return Ok(false);
+    }
+    are_found(alloc, &both.machine, &both.plain, chips)
+}
+
 /// Whether a machine goes as a plain one does through rounds of petit cycles, and a buffer was full
 /// after one of them.
 fn stays_plain<const N: usize, const CAP: usize>(alloc: Global, chips: u16) -> Result<bool, Fail>
@@ -124,10 +139,7 @@ fn stays_plain<const N: usize, const CAP: usize>(alloc: Global, chips: u16) -> R
     for _round in 0..ROUNDS {
         poke_both(&mut both, &mut draws, chips);
         let acts = drawn_acts(alloc, &mut draws)?;
-        if !both.go(alloc, acts.as_slice()) || !both.agree(chips) {
-            return Ok(false);
-        }
-        if !are_found(alloc, &both.machine, &both.plain, chips)? {
+        if !stays_plain_through(&mut both, alloc, acts.as_slice(), chips)? {
             return Ok(false);
         }
         if has_full(&both.machine, chips) {
@@ -232,10 +244,7 @@ fn stays_plain_in_one_list<const N: usize, const CAP: usize>(
     let mut draws = Draws::new();
     ask_everywhere(&mut both, &mut draws, chips);
     let acts = busy_acts(alloc)?;
-    if !both.go(alloc, acts.as_slice()) || !both.agree(chips) {
-        return Ok(false);
-    }
-    Ok(are_found(alloc, &both.machine, &both.plain, chips)?)
+    Ok(stays_plain_through(&mut both, alloc, acts.as_slice(), chips)?)
 }
 
 #[test]

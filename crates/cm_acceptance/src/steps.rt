@@ -13,7 +13,7 @@ use std::alloc::{AllocError, Global};
 use std::test::Fail;
 
 /// What is done to a machine, or what has to be so of it.
-#[derive(Clone, Copy, Debug)]
+#[derive(Clone, Copy)]
 pub(crate) enum Step {
     /// A flag of the sixteen processors of a chip gets these bits.
     Poke(u16, u8, Plane),
