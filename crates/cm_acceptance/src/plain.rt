@@ -193,7 +193,10 @@ fn poked_at(machine: &mut PlainMachine<0>, at: u16) -> (bool, bool)
 {
     let at = address(at);
     machine.poke(0, processor(7), at, true);
-    (machine.read(0, processor(7), at), machine.read(0, processor(6), at))
+    (
+        machine.read(0, processor(7), at),
+        machine.read(0, processor(6), at),
+    )
 }
 
 /// The same of flag 8.
@@ -214,7 +217,12 @@ fn a_poke_beyond_the_memory_or_into_flag_8_is_dropped(rt: HostRuntime) -> Result
         poked_at(&mut machine, 4095),
         poked_into_flag_8(&mut machine),
     ];
-    let wanted = [(true, false), (false, false), (false, false), (false, false)];
+    let wanted = [
+        (true, false),
+        (false, false),
+        (false, false),
+        (false, false),
+    ];
     assert_eq!(rt; poked, wanted);
     Ok(())
 }

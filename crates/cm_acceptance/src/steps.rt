@@ -57,8 +57,14 @@ impl Step {
             Step::Poke(chip, number, plane) => trial.pokes(chip, number, plane, chips),
             Step::Set(chip, proc, at) => trial.sets(chip, proc, at, chips),
             Step::Zero(chip, proc) => trial.refuses(chip, proc, chips),
-            Step::News(dir, count, end) => trial.sends(alloc, Act::Nano(over_news(dir)), count, end),
-            Step::Chain(read) => read < 16 && trial.sends(alloc, Act::Nano(over_chain(flag(read))), 1, Ok(())),
+            Step::News(dir, count, end) => trial.sends(
+                alloc,
+                Act::Nano(over_news(dir)),
+                count,
+                end,
+            ),
+            Step::Chain(read) => read < 16
+                && trial.sends(alloc, Act::Nano(over_chain(flag(read))), 1, Ok(())),
             Step::Senses(count, end) => trial.sends(alloc, Act::Sense, count, end),
             Step::Keep => trial.keeps(alloc),
             Step::IsKept(kept) => trial.is_kept(chips) == Some(kept),
@@ -110,13 +116,7 @@ impl<const N: usize> Trial<N> {
                 .is_err()
     }
 
-    fn sends(
-        &mut self,
-        alloc: Global,
-        act: Act,
-        count: usize,
-        end: Result<(), RunFault>,
-    ) -> bool {
+    fn sends(&mut self, alloc: Global, act: Act, count: usize, end: Result<(), RunFault>) -> bool {
         match repeated(alloc, act, count) {
             Ok(acts) => go_by(&mut Plain, &mut self.machine, acts.as_slice()) == end,
             Err(_) => false,
@@ -163,7 +163,11 @@ impl<const N: usize> Trial<N> {
 }
 
 /// The place of the first step that does not go as it says, or else how many steps there are.
-pub(crate) fn plays<const N: usize>(alloc: Global, chips: u16, steps: &[Step]) -> Result<usize, Fail>
+pub(crate) fn plays<const N: usize>(
+    alloc: Global,
+    chips: u16,
+    steps: &[Step],
+) -> Result<usize, Fail>
     requires chips { chips ≡ 2 ^ N }
 {
     let mut trial = Trial::<N>::blank(alloc)?;
