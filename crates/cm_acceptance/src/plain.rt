@@ -7,7 +7,8 @@ use crate::machines::{address, flag, processor};
 use crate::steps::{go_by, over_chain, over_news};
 use cm_array::{Machine, Plain};
 use cm_bits::{Dir, Proc};
-use cm_model::{Act, PlainMachine};
+use cm_model::Act;
+use cm_plain::PlainMachine;
 use std::alloc::{AllocError, Global};
 use std::test::Fail;
 
