@@ -18,8 +18,12 @@ mod machines;
 #[cfg(test)]
 mod nodes;
 #[cfg(test)]
+mod plain;
+#[cfg(test)]
 mod router;
 #[cfg(test)]
 mod scenario;
 #[cfg(test)]
 mod scenarios;
+#[cfg(test)]
+mod steps;
