@@ -29,11 +29,11 @@ processor_read chip p index processor index_is inside read =
 
 -- ---- one processor
 
-of_not_true : (x : Bool) → not x ≡ true → x ≡ false
+pub of_not_true : (x : Bool) → not x ≡ true → x ≡ false
 of_not_true false _ = refl
 of_not_true true e = cc
 
-of_not_false : (x : Bool) → not x ≡ false → x ≡ true
+pub of_not_false : (x : Bool) → not x ≡ false → x ≡ true
 of_not_false true _ = refl
 of_not_false false e = cc
 
