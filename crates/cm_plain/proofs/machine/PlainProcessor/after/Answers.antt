@@ -1,6 +1,7 @@
 use Rattle.std.proofs.Common.{◌≡◌, ◌==◌, sym, ◌∙◌, set}
+use Rattle.std.proofs.lemmas.Bool.{not-true, not-false}
 use Rattle.cm_model.specs.Instruction.{memory_output}
-use Rattle.cm_plain.proofs.Made.{of_not_true, of_not_false, processor_after-kept, processor_after-stored, processor_after-dropped}
+use Rattle.cm_plain.proofs.Made.{processor_after-kept, processor_after-stored, processor_after-dropped}
 use Rattle.cm_plain.proofs.machine.PlainProcessor.after.Goals as goal
 use Rattle.cm_plain.proofs.machine.PlainProcessor.after.Goals.{then-ne, else-ne}
 
@@ -19,12 +20,12 @@ returns c =
     record {
       value = elim c.if-ne.branch [
         | then-ne w ↦
-            let other = of_not_true (nano.write == 8) (sym c.ne.ensures ∙ w.if-ne.true) in
+            let other = not-true (nano.write == 8) (sym c.ne.ensures ∙ w.if-ne.true) in
             w.after-is ∙ w.poke_flag.ensures.value
             ∙ (λ i. let v = poked i in record v { flags = set v.flags nano.write (w.stored.ensures.value i) })
             ∙ sym (processor_after-stored nano c.args.incoming c.flag.result old c.flag.ensures.value c.if-flag-nano.false other)
         | else-ne w ↦
-            let zero_flag = of_not_false (nano.write == 8) (sym c.ne.ensures ∙ w.if-ne.false) in
+            let zero_flag = not-false (nano.write == 8) (sym c.ne.ensures ∙ w.if-ne.false) in
             w.after-is ∙ poked ∙ sym (processor_after-dropped nano c.args.incoming c.flag.result old c.flag.ensures.value c.if-flag-nano.false zero_flag)
       ];
     }
