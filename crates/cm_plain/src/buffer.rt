@@ -206,7 +206,7 @@ fn leave(messages: &mut Vec<Message>, room: usize, dim: usize)
     }
 }
 
-/// Who comes, if anyone does, stands last.
+/// Puts the message that comes over the dimension, if there is one, behind all others.
 fn come(messages: &mut Vec<Message>, coming: Option<Message>) -> Result<(), NoMemory>
     ensures ok { OnOk result (messages.new.items ≡ messages.old.items ++ option_to_list coming) }
 {
@@ -292,5 +292,7 @@ fn message_across(message: &Message, dim: usize) -> Message
 fn is_accepted(chip: &PlainChip, before: &[Proc], message: &Message) -> bool
     ensures value { result ≡ is_accepted (can_receive chip.now) before.now message.now }
 {
-    message.rel == 0 && !chip.has_flag(message.proc, FlagNo::RECV) && !is_among(message.proc, before)
+    message.rel == 0
+        && !chip.has_flag(message.proc, FlagNo::RECV)
+        && !is_among(message.proc, before)
 }
