@@ -85,7 +85,7 @@ impl<const N: usize, const CAP: usize> Machine<N, CAP> {
         Self::blank_at(alloc, 0)
     }
 
-    /// The same, after so many petit cycles.
+    /// A machine with all bits and flags 0, no message and no event, whose count of petit cycles begins at `clock`.
     fn blank_at(alloc: Global, clock: u64) -> Result<Self, MachineFault>
         requires clock { clock < 2 ^ 63 }
         ensures value { IfOk result (λ kept. kept.machine ≡ record (blank_machine N) { clock = clock }) }

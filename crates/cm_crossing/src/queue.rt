@@ -112,7 +112,7 @@ impl Queue {
         });
     }
 
-    /// Takes in who comes, if anyone does, who stands last.
+    /// Puts the ticket that comes over the dimension, if there is one, behind all others of the queue.
     pub fn take_in(&mut self, coming: Leaving)
         requires room { length self.old < 15 }
         ensures value { self.new ≡ self.old ++ option_to_list coming }
