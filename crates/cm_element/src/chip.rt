@@ -3,7 +3,7 @@
 ghost use Rattle.std.specs.Prelude.{◌≡◌, ℕ, ◌<◌, ◌↔◌, ◌==◌, ◌||◌, IfOk, IsErr, OnOk, OnErr, cond, if◌then◌else◌};
 ghost use Rattle.std.specs.Bool.{beq};
 ghost use Rattle.cm_bits.specs.Bit.{bit};
-ghost use Rattle.cm_model.specs.Processor.{ZERO, memory_bit, flag};
+ghost use Rattle.cm_model.specs.Processor.{ZERO, NEWS, DAISY, memory_bit, flag};
 ghost use Rattle.cm_model.specs.Instruction.{takes_incoming};
 ghost use Rattle.cm_model.specs.Chip.{IsPlane, processor_at, blank_chip, chip_after, with_memory_bit, with_flag};
 ghost use Rattle.cm_model.specs.Whole.{IsChip};
@@ -22,12 +22,6 @@ use thiserror::Error;
 const ADDRESSES: usize = 4096;
 
 const FLAGS: usize = 16;
-
-const ZERO_FLAG: u8 = 8;
-
-const NEWS_FLAG: u8 = 10;
-
-const DAISY_FLAG: u8 = 11;
 
 /// Flag 8 cannot be poked: it always reads 0.
 #[derive(Clone, Copy, Debug, PartialEq, Eq, Error)]
@@ -122,11 +116,10 @@ impl Chip {
         ensures ok { OnOk result (self.new ≡ with_flag self.old proc number bit) }
         ensures err { OnErr result (self.new ≡ self.old) }
     {
-        let number = number.get();
-        if number == ZERO_FLAG {
+        if number == FlagNo::ZERO {
             return Err(ZeroFlag);
         }
-        let number = usize::from(number);
+        let number = usize::from(number.get());
         self.flags[number] = with_bit(self.flags[number], proc, bit);
         Ok(())
     }
@@ -154,10 +147,9 @@ impl Chip {
     {
         let at = usize::from(nano.a.get());
         self.memory[at] = chosen(outputs.holds, outputs.mem, self.memory[at]);
-        let write = nano.write.get();
-        if write != ZERO_FLAG {
-            let stored = stored_plane(write, outputs.flag, incoming);
-            let number = usize::from(write);
+        if nano.write != FlagNo::ZERO {
+            let stored = stored_plane(nano.write, outputs.flag, incoming);
+            let number = usize::from(nano.write.get());
             self.flags[number] = chosen(outputs.holds, stored, self.flags[number]);
         }
     }
@@ -195,248 +187,12 @@ fn chosen(choice: Plane, set: Plane, clear: Plane) -> Plane
 }
 
 /// What a store into a flag takes: the processors' own outputs, or what comes in.
-fn stored_plane(write: u8, own: Plane, incoming: Plane) -> Plane
-    ensures value { result ≡ (if write == 10 || write == 11 then incoming else own) }
+fn stored_plane(write: FlagNo, own: Plane, incoming: Plane) -> Plane
+    ensures value { result ≡ (if write == NEWS || write == DAISY then incoming else own) }
 {
-    if write == NEWS_FLAG || write == DAISY_FLAG {
+    if write == FlagNo::NEWS || write == FlagNo::DAISY {
         incoming
     } else {
         own
-    }
-}
-
-#[cfg(test)]
-mod tests {
-    use super::Chip;
-    use crate::outputs::Outputs;
-    use cm_bits::{Addr, Dir, Field, FlagNo, Plane, Proc};
-    use cm_model::{Nano, PlainMachine};
-    use std::test::Fail;
-
-    fn address(number: u16) -> Addr
-        requires { number < 4096 }
-        ensures { result ≡ number }
-    {
-        Addr::new(number).unwrap()
-    }
-
-    fn number_of_flag(number: u8) -> FlagNo
-        requires { number < 16 }
-        ensures { result ≡ number }
-    {
-        FlagNo::new(number).unwrap()
-    }
-
-    fn processor(number: u8) -> Proc
-        requires { number < 16 }
-        ensures { result ≡ number }
-    {
-        Proc::new(number).unwrap()
-    }
-
-    // Flag 9 goes to memory bit 5 and to the flag `write`, where flag 9 is `sense`.
-    fn copying(write: u8, sense: bool) -> Nano
-        requires { write < 16 }
-    {
-        Nano {
-            a: address(5),
-            b: address(6),
-            read: number_of_flag(9),
-            write: number_of_flag(write),
-            cond: number_of_flag(9),
-            sense,
-            mem_table: 0xaa,
-            flag_table: 0xaa,
-            dir: Dir::North,
-        }
-    }
-
-    #[test]
-    fn a_poke_of_flag_8_is_refused_whatever_the_bit(rt: HostRuntime) -> Result<(), Fail> {
-        let mut chip = Chip::blank(rt.alloc())?;
-        chip.poke(processor(3), address(4095), true);
-        assert!(rt;
-            chip.poke_flag(processor(3), number_of_flag(7), true)
-                .is_ok()
-        );
-        let before = chip.copy(rt.alloc())?;
-        for bit in [false, true] {
-            assert!(rt;
-                chip.poke_flag(processor(3), number_of_flag(8), bit)
-                    .is_err()
-            );
-            for flag in 0u8..16 {
-                let number = number_of_flag(flag);
-                assert_eq!(rt;
-                    chip.flag_plane(number),
-                    before.flag_plane(number),
-                    "flag {flag}"
-                );
-            }
-            for at in [0u16, 8, 4095] {
-                assert_eq!(rt;
-                    chip.plane(address(at)),
-                    before.plane(address(at)),
-                    "address {at}"
-                );
-            }
-        }
-        assert_eq!(rt; chip.flag_plane(number_of_flag(7)), 0x0008);
-        assert_eq!(rt; chip.plane(address(4095)), 0x0008);
-        Ok(())
-    }
-
-    #[test]
-    fn the_lowest_bit_of_a_field_lies_at_its_address(rt: HostRuntime) -> Result<(), Fail> {
-        let mut chip = Chip::blank(rt.alloc())?;
-        for at in [100u16, 102, 103, 4032, 4095] {
-            chip.poke(processor(15), address(at), true);
-        }
-        chip.poke(processor(14), address(101), true);
-        let table = [
-            (100u16, 4u16, 0b1101),
-            (101, 3, 0b110),
-            (104, 8, 0),
-            (4032, 64, 0x8000_0000_0000_0001),
-            (4095, 1, 1),
-        ];
-        for (at, len, want) in table {
-            let field = Field::new(at, len)?;
-            assert_eq!(rt;
-                chip.field(processor(15), field),
-                want,
-                "at {at}, {len} bits"
-            );
-        }
-        assert_eq!(rt; chip.field(processor(14), Field::new(100, 4)?), 0b0010);
-        Ok(())
-    }
-
-    #[test]
-    fn a_copy_stands_apart_from_its_original(rt: HostRuntime) -> Result<(), Fail> {
-        let mut chip = Chip::blank(rt.alloc())?;
-        chip.poke(processor(0), address(9), true);
-        let mut copy = chip.copy(rt.alloc())?;
-        chip.poke(processor(1), address(9), true);
-        copy.poke(processor(0), address(9), false);
-        assert!(rt;
-            copy.poke_flag(processor(2), number_of_flag(0), true)
-                .is_ok()
-        );
-        assert_eq!(rt; chip.plane(address(9)), 0x0003);
-        assert_eq!(rt; copy.plane(address(9)), 0x0000);
-        assert_eq!(rt; chip.flag_plane(number_of_flag(0)), 0x0000);
-        assert_eq!(rt; copy.flag_plane(number_of_flag(0)), 0x0004);
-        assert!(rt; chip.read(processor(1), address(9)));
-        assert!(rt; copy.flag(processor(2), number_of_flag(0)));
-        Ok(())
-    }
-
-    #[test]
-    fn bits_come_in_where_news_or_daisy_is_written_and_the_condition_holds(
-        rt: HostRuntime,
-    ) -> Result<(), Fail> {
-        let table = [
-            (3u8, true, 0x00f0, 0x00f0),
-            (8, true, 0x0000, 0x00f0),
-            (10, true, 0x0050, 0x00f0),
-            (11, true, 0x0050, 0x00f0),
-            (10, false, 0x5505, 0x0000),
-            (3, false, 0x0000, 0x0000),
-        ];
-        for (write, sense, in_flag, in_memory) in table {
-            let mut chip = Chip::blank(rt.alloc())?;
-            for at in 4u8..8 {
-                let poked = chip.poke_flag(processor(at), number_of_flag(9), true);
-                assert!(rt; poked.is_ok());
-            }
-            let nano = copying(write, sense);
-            let outputs = chip.outputs(&nano);
-            let holds = if sense { 0x00f0 } else { 0xff0f };
-            assert_eq!(rt;
-                outputs,
-                Outputs {
-                    mem: 0x00f0,
-                    flag: 0x00f0,
-                    holds
-                }
-            );
-            chip.store(&nano, outputs, 0x5555);
-            assert_eq!(rt;
-                chip.flag_plane(nano.write),
-                in_flag,
-                "flag {write}, {sense}"
-            );
-            assert_eq!(rt; chip.plane(nano.a), in_memory, "flag {write}, {sense}");
-            assert_eq!(rt; chip.flag_plane(nano.cond), 0x00f0);
-        }
-        Ok(())
-    }
-
-    // What comes in from these outputs on a machine of one chip.
-    fn coming_in(nano: &Nano, flag: Plane) -> Plane {
-        if nano.write.get() != 10 {
-            return flag << 1;
-        }
-        match nano.dir {
-            Dir::North => flag >> 4 | flag << 12,
-            Dir::South => flag << 4 | flag >> 12,
-            Dir::West => flag >> 1 & 0x7777 | flag << 3 & 0x8888,
-            Dir::East => flag << 1 & 0xeeee | flag >> 3 & 0x1111,
-        }
-    }
-
-    fn nano_of(drawn: u32, tables: u32) -> Nano {
-        Nano {
-            a: address((drawn >> 4 & 7) as u16),
-            b: address((drawn >> 7 & 7) as u16),
-            read: number_of_flag((drawn >> 10 & 15) as u8),
-            write: number_of_flag((drawn >> 14 & 15) as u8),
-            cond: number_of_flag((drawn >> 18 & 15) as u8),
-            sense: drawn >> 22 & 1 == 1,
-            mem_table: (tables >> 8 & 0xff) as u8,
-            flag_table: (tables >> 16 & 0xff) as u8,
-            dir: match drawn >> 23 & 3 {
-                0 => Dir::North,
-                1 => Dir::East,
-                2 => Dir::West,
-                _ => Dir::South,
-            },
-        }
-    }
-
-    #[test]
-    fn a_chip_takes_the_steps_of_the_plain_machine(rt: HostRuntime) -> Result<(), Fail> {
-        let mut chip = Chip::blank(rt.alloc())?;
-        let mut plain = PlainMachine::<0>::blank(rt.alloc(), 8)?;
-        let mut drawn: u32 = 1985;
-        for round in 0u32..160 {
-            let tables = drawn;
-            drawn = drawn.wrapping_mul(1_664_525).wrapping_add(1_013_904_223);
-            let nano = nano_of(drawn, tables);
-            plain.step(rt.alloc(), &nano)?;
-            let outputs = chip.outputs(&nano);
-            chip.store(&nano, outputs, coming_in(&nano, outputs.flag));
-            if round % 32 == 31 {
-                for number in 0u8..16 {
-                    let proc = processor(number);
-                    for at in 0u16..8 {
-                        let at = address(at);
-                        assert_eq!(rt; chip.read(proc, at), plain.read(0, proc, at), "{round}");
-                    }
-                    for flag in 0u8..16 {
-                        let flag = number_of_flag(flag);
-                        assert_eq!(rt; chip.flag(proc, flag), plain.flag(0, proc, flag), "{round}");
-                    }
-                }
-            }
-        }
-        // Not all of this was about zeros.
-        let mut ones: u32 = 0;
-        for flag in 0u8..16 {
-            ones |= u32::from(chip.flag_plane(number_of_flag(flag)));
-        }
-        assert!(rt; ones != 0);
-        Ok(())
     }
 }
