@@ -1,11 +1,10 @@
 -- Reading a text line by line.
-use Rattle.std.proofs.Common.{◌≡◌, ℕ, ◌+◌, ◌-◌, ◌≤◌, ◌⊎◌, Bool, true, false, suc, take, drop, drop-drop, take-add, length-drop, Result, Ok, Err, List, [], ◌∷◌, ◌++◌, length, refl, sym, ap, ◌∙◌, arith, inl, inr, ⊎_elim}
+use Rattle.std.proofs.Common.{◌≡◌, ℕ, ◌+◌, ◌-◌, ◌≤◌, ◌⊎◌, Bool, true, false, take, drop, drop-drop, take-add, length-drop, Result, Ok, Err, List, [], ◌∷◌, ◌++◌, length, refl, sym, ap, ◌∙◌, arith, inl, inr, ⊎_elim}
 use Rattle.std.specs.List.{slice_split, onto_first}
 use Rattle.std.proofs.lemmas.List.Splits.{slice_split-cons_yes, slice_split-cons_no}
 use Rattle.cm_bits.specs.Text.{lines_of, is_line_end, without_empty_last, words_of}
 use Rattle.cm_language.specs.declared.fault.AsmKind.{AsmKind}
 use Rattle.cm_language.specs.declared.fault.AsmKind.TheVariants as kind
-use Rattle.cm_language.specs.declared.fault.AsmFault.{AsmFault}
 use Rattle.cm_language.specs.Program.{Reading, nothing_read, after_words, unless_faulty, after_lines, IsGrownFor, MatchKind}
 
 -- ---- a text has no more lines than bytes
@@ -57,8 +56,8 @@ one_more n r read next [] line h e =
     ∙ ap (λ (q : Result Reading AsmKind). unless_faulty n q (λ r'. after_lines r' (n + 1) [])) e
 one_more n r read next (first ∷ lines) line h e =
     (elim (after_words r (words_of first)) as (λ q. unless_faulty n q (λ r'. after_lines r' (n + 1) lines) ≡ Ok read → unless_faulty n q (λ r'. after_lines r' (n + 1) (lines ++ line ∷ [])) ≡ Ok next) [
-      Ok s ↦ λ k. one_more (n + 1) s read next lines line k e
-    | Err f ↦ λ k. absurd cc
+      | Ok s ↦ λ k. one_more (n + 1) s read next lines line k e
+      | Err f ↦ λ k. absurd cc
     ]) h
 
 -- where memory is wanting

@@ -1,6 +1,5 @@
 -- The lines of a listing, one more at a time.
-use Rattle.std.proofs.Common.{◌≡◌, ℕ, ◌+◌, ◌<◌, List, [], ◌∷◌, ◌++◌, length, get_or, drop, flat_map, refl, sym, ap, ◌∙◌, append_assoc, append-nil}
-use Rattle.std.proofs.lemmas.List.{drop_more}
+use Rattle.std.proofs.Common.{◌≡◌, ℕ, ◌+◌, List, [], ◌∷◌, ◌++◌, flat_map, sym, ap, ◌∙◌, append_assoc, append-nil}
 use Rattle.cm_model.specs.declared.act.Act.{Act}
 use Rattle.cm_language.specs.Names.{NamedField}
 use Rattle.cm_language.specs.Listing.{field_line, act_line, act_lines}

@@ -1,11 +1,10 @@
 -- All macros: in one processor, and in all at once.
-use Rattle.std.proofs.Common.{◌≡◌, ℕ, ◌+◌, ◌-◌, ◌<◌, ◌≤◌, ◌^◌, ◌⊎◌, ◌&&◌, ◌||◌, Bool, true, false, not, eqb, leb, List, [], ◌∷◌, ◌++◌, length, map, Option, Some, None, refl, sym, ap, ◌∙◌, subst, arith, inl, inr, ⊎_elim, length-append}
+use Rattle.std.proofs.Common.{◌≡◌, ℕ, ◌+◌, ◌-◌, ◌<◌, ◌≤◌, ◌⊎◌, ◌&&◌, ◌||◌, Bool, true, false, not, eqb, leb, [], ◌∷◌, ◌++◌, length, map, Option, Some, None, refl, sym, ◌∙◌, arith, inl, inr, ⊎_elim, length-append}
 use Rattle.std.specs.Prelude.{if◌then◌else◌}
-use Rattle.std.specs.List.{range_with_len, flat_map}
+use Rattle.std.specs.List.{range_with_len}
 use Rattle.std.proofs.lemmas.Bool.Decides.{nat_tests}
 use Rattle.cm_bits.specs.Span.{Span, IsField}
 use Rattle.cm_bits.specs.Field.{meeting}
-use Rattle.cm_bits.specs.declared.field.Meets.{Meets}
 use Rattle.cm_bits.specs.declared.field.Meets.TheVariants.{Same, Apart, Partly}
 use Rattle.cm_model.specs.declared.act.Nano.{Nano}
 use Rattle.cm_model.specs.declared.act.Act.TheVariants as act
@@ -25,10 +24,10 @@ use Rattle.cm_language.specs.declared.macros.Context.TheVariants.{Always, On, Of
 use Rattle.cm_language.specs.declared.fault.MacroFault.{MacroFault}
 use Rattle.cm_language.specs.declared.fault.MacroFault.TheVariants as fault
 use Rattle.cm_language.specs.Effect.{selected, assigned, effect}
-use Rattle.cm_language.specs.Acts.{nano, nanos, acts_of, clear_flag, set_flag, each_bit, number_bits, product, product_round, above, lowest}
+use Rattle.cm_language.specs.Acts.{nano, nanos, acts_of, clear_flag, each_bit, number_bits, product, product_round, above, lowest}
 use Rattle.cm_language.specs.Faults.{is_partly, is_apart, overlaps, misfits, writes, writes_condition, names_fixed, is_fixed, is_conditional, is_conditional_product, first_fault}
 use Rattle.cm_language.specs.Laws.{HasFields, machine_after_macro}
-use Rattle.cm_language.proofs.Steps.{run, Ready, Free, AllUnder, AllHome, under-each, home-each, home-append, home-flat_map, run-unselected}
+use Rattle.cm_language.proofs.Steps.{run, Free, AllUnder, AllHome, under-each, home-each, home-append, home-flat_map, run-unselected}
 use Rattle.cm_language.proofs.Loops.{IsBehind}
 use Rattle.cm_language.proofs.Selected.{Whole, Pair, add_is, sub_is, less_is, equal_is, move_is, select_is, const_is, shift_is, set_step, clear_step}
 use Rattle.cm_language.proofs.Products.{AreApart, Factors, mul_is}

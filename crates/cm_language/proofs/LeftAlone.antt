@@ -17,7 +17,7 @@ use Rattle.cm_model.proofs.Wholes.{length-bits_of}
 use Rattle.cm_language.specs.declared.macros.Macro.{Macro}
 use Rattle.cm_language.specs.declared.macros.Macro.TheVariants.{Add, Sub, Less, Equal, Move, Select, Const, Shift, Mul, Set, Clear}
 use Rattle.cm_language.specs.declared.macros.Context.{Context}
-use Rattle.cm_language.specs.Effect.{selected, assigned, effect, with_value, with_flag, value_of}
+use Rattle.cm_language.specs.Effect.{selected, assigned, effect, with_value, value_of}
 use Rattle.cm_language.specs.Acts.{acts_of}
 use Rattle.cm_language.specs.Faults.{writes, first_fault}
 use Rattle.cm_language.specs.Laws.{HasFields, Stores, IsLeftAlone, machine_after_macro}

@@ -1,10 +1,9 @@
 -- A list of instructions that take nothing from others does to every processor what it does to one.
-use Rattle.std.proofs.Common.{◌≡◌, ℕ, ◌+◌, ◌<◌, ◌^◌, Bool, false, List, [], ◌∷◌, length, map, refl, sym, ap, ◌∙◌, arith}
-use Rattle.std.specs.Prelude.{if◌then◌else◌}
+use Rattle.std.proofs.Common.{◌≡◌, ℕ, ◌<◌, ◌^◌, Bool, false, List, [], ◌∷◌, length, map, refl, ap, ◌∙◌, arith}
 use Rattle.cm_model.specs.declared.act.Nano.{Nano}
 use Rattle.cm_model.specs.declared.act.Act.TheVariants as act
 use Rattle.cm_model.specs.Processor.{Processor}
-use Rattle.cm_model.specs.Instruction.{holds, memory_output, flag_output, flags_after, takes_incoming, processor_after}
+use Rattle.cm_model.specs.Instruction.{takes_incoming, processor_after}
 use Rattle.cm_model.specs.Chip.{each_processor, processor_at, no_processor, chip_after}
 use Rattle.cm_model.specs.Array.{Chips, each_chip, chip_at, incoming, after_nano}
 use Rattle.cm_model.specs.Machine.{Machine}

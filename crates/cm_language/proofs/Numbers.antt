@@ -1,16 +1,16 @@
 -- Fields and numbers: what runs of bits in a field are worth.
-use Rattle.std.proofs.Common.{◌≡◌, ℕ, zero, suc, ◌+◌, ◌-◌, ◌*◌, ◌%◌, ◌^◌, ◌<◌, ◌≤◌, Bool, true, false, eqb, ltb, leb, List, [], ◌∷◌, ◌++◌, length, get_or, set, take, drop, map, refl, sym, ap, ◌∙◌, arith}
+use Rattle.std.proofs.Common.{◌≡◌, ℕ, zero, suc, ◌+◌, ◌*◌, ◌%◌, ◌^◌, ◌<◌, ◌≤◌, Bool, true, false, leb, List, [], ◌∷◌, ◌++◌, length, take, drop, map, refl, sym, ap, ◌∙◌, arith}
 use Rattle.std.proofs.Math.Nat.{mod-eq_of_lt, div-one}
 use Rattle.std.specs.List.{range_with_len}
 use Rattle.std.specs.Prelude.{if◌then◌else◌}
 use Rattle.cm_bits.specs.Bit.{bit, bit_number}
-use Rattle.cm_bits.specs.Span.{Span, IsField}
+use Rattle.cm_bits.specs.Span.{Span}
 use Rattle.cm_model.specs.Processor.{Processor, value, field_value, entry}
 use Rattle.cm_model.specs.Letters.{bits_of, with_field}
 use Rattle.cm_model.proofs.Values.{value-bits}
 use Rattle.cm_model.proofs.Wholes.{length-bits_of}
 use Rattle.cm_language.specs.Effect.{value_of}
-use Rattle.cm_language.proofs.Bits.{reads, writes, reads-is, writes-is, length-reads}
+use Rattle.cm_language.proofs.Bits.{reads, writes, reads-is, writes-is}
 use Rattle.cm_language.proofs.Sums.{outs, carried, total, Adds, sum-outs, length-outs, value_below, low_part, high_part, table_0, table_1}
 use Rattle.cm_language.proofs.Loops.{choices}
 

@@ -1,10 +1,10 @@
 -- The product: after each round the field is worth the rounds so far, and what was dropped.
-use Rattle.std.proofs.Common.{◌≡◌, ℕ, zero, suc, ◌+◌, ◌-◌, ◌*◌, ◌%◌, ◌^◌, ◌<◌, ◌≤◌, ◌⊎◌, Bool, true, false, not, eqb, List, [], ◌∷◌, ◌++◌, length, get_or, set, take, drop, map, refl, sym, ap, ◌∙◌, subst, arith, inl, inr, ⊎_elim}
-use Rattle.std.proofs.Math.Nat.{mul_comm, mul_assoc, mul-one, mul-zero, zero-mul, mul-add, add-mul, zero-mod}
+use Rattle.std.proofs.Common.{◌≡◌, ℕ, zero, suc, ◌+◌, ◌-◌, ◌*◌, ◌%◌, ◌^◌, ◌<◌, ◌≤◌, ◌⊎◌, Bool, true, false, List, [], ◌∷◌, ◌++◌, length, get_or, set, take, drop, refl, sym, ap, ◌∙◌, subst, arith, inl, inr, ⊎_elim}
+use Rattle.std.proofs.Math.Nat.{mul-one, mul-zero, zero-mul, mul-add, add-mul, zero-mod}
 use Rattle.std.specs.List.{range_with_len, flat_map}
 use Rattle.std.proofs.lemmas.List.{set-set, set_comm, set-get_or, get_or-set_same, get_or-set_other, length-set, length-take-le, length-drop, length-append, take-append-drop}
 use Rattle.cm_bits.specs.Bit.{bit_number}
-use Rattle.cm_bits.specs.Span.{Span, IsField}
+use Rattle.cm_bits.specs.Span.{Span}
 use Rattle.cm_model.specs.declared.act.Nano.{Nano}
 use Rattle.cm_model.specs.Processor.{Processor, value}
 use Rattle.cm_model.specs.Each.{each_from}
@@ -15,8 +15,8 @@ use Rattle.cm_language.specs.declared.macros.Context.TheVariants.{Always, On}
 use Rattle.cm_language.specs.declared.macros.Macro.TheVariants.{Mul}
 use Rattle.cm_language.specs.Effect.{assigned, value_of}
 use Rattle.cm_language.specs.Acts.{nano, nanos, clear_flag, each_bit, above, lowest, number_bits, product, product_round}
-use Rattle.cm_language.proofs.Bits.{reads, writes, length-reads, length-writes, get_or-writes, reads-writes_apart, reads-writes_above, writes-append, writes-over, reads_more, take-reads, reads-is}
-use Rattle.cm_language.proofs.Sums.{outs, carried, Adds, sum-outs, length-outs, value_below, value-append, low_part, total as weighed, both, total-both, twice_power, adds_sum, table_a}
+use Rattle.cm_language.proofs.Bits.{reads, writes, length-reads, get_or-writes, reads-writes_apart, reads-writes_above, writes-append, writes-over, reads_more, take-reads}
+use Rattle.cm_language.proofs.Sums.{outs, carried, sum-outs, length-outs, value_below, value-append, low_part, total as weighed, both, total-both, twice_power, adds_sum, table_a}
 use Rattle.cm_language.proofs.Steps.{run, run-append, Ready, AllUnder, run-unselected, under-each, ready-flag, one_flag}
 use Rattle.cm_language.proofs.Numbers.{stored, read_value, value-bits_of}
 use Rattle.cm_language.proofs.Selected.{Whole, clear_step, begun_ripple, numbered}
@@ -123,9 +123,10 @@ low_and_high : (m : List Bool) (y j k n : ℕ) → j + k ≡ n → (r : ℕ) × 
 low_and_high m y j k n e =
     let whole : n ≡ k + j = omega (arith, e) in
     let parts : reads m y n ≡ reads m y k ++ drop k (reads m y n) =
-    sym (take-append-drop k (reads m y n)) ∙ ap (λ front. front ++ drop k (reads m y n)) (ap (λ (z : ℕ). take k (reads m y z)) whole ∙ take-reads m y k j) in
-    (value (drop k (reads m y n)),
-    ap value parts ∙ value-append (reads m y k) (drop k (reads m y n)) ∙ ap (λ (z : ℕ). value (reads m y k) + 2 ^ z * value (drop k (reads m y n))) (length-reads m y k))
+    sym (take-append-drop k (reads m y n)) ∙ ap (λ front. front ++ drop k (reads m y n)) (ap (λ (z : ℕ). take k (reads m y z)) whole ∙ take-reads m y k j) in (
+      value (drop k (reads m y n)),
+      ap value parts ∙ value-append (reads m y k) (drop k (reads m y n)) ∙ ap (λ (z : ℕ). value (reads m y k) + 2 ^ z * value (drop k (reads m y n))) (length-reads m y k),
+    )
 
 -- where it is 1, y is added
 round_of_1 : (p q : Processor) (d x y : Span) (j total : ℕ) → j < d.len → Ready Always q → length p.memory ≡ 4096 → Factors d x y
@@ -166,7 +167,7 @@ round_of_1 p q d x y j total l h wide fields one_bit s =
       memory = writes q.memory (d.at + j) (outs 0x96 0xe8 false (reads q.memory (d.at + j) k) (reads q.memory y.at k));
       flags = set fs 7 (carried 0xe8 false (reads q.memory (d.at + j) k) (reads q.memory y.at k));
     } = begun_ripple (On 6) 0x96 0xe8 false (clear_flag (On 6) 7) (above d j) (lowest y k) left ready
-        (apart_above d y j l fields.second_len fields.second_apart) refl (clear_step (On 6) 7 left ready refl refl refl) in
+    (apart_above d y j l fields.second_len fields.second_apart) refl (clear_step (On 6) 7 left ready refl refl refl) in
     let sums : List Bool = outs 0x96 0xe8 false highs addend in
     let out : Bool = carried 0xe8 false highs addend in
     let same : length highs ≡ length addend = high_long ∙ sym addend_long in

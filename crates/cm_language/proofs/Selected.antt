@@ -1,20 +1,18 @@
 -- Each macro but the product, in a processor that the context means.
-use Rattle.std.proofs.Common.{◌≡◌, ℕ, zero, suc, ◌+◌, ◌-◌, ◌*◌, ◌%◌, ◌^◌, ◌<◌, ◌≤◌, Bool, true, false, not, eqb, ltb, leb, List, [], ◌∷◌, ◌++◌, length, get_or, set, map, refl, sym, ap, ◌∙◌, arith, inl}
+use Rattle.std.proofs.Common.{◌≡◌, ℕ, zero, suc, ◌+◌, ◌-◌, ◌*◌, ◌%◌, ◌^◌, ◌<◌, ◌≤◌, Bool, true, false, not, eqb, ltb, leb, List, ◌∷◌, length, get_or, set, map, refl, sym, ap, ◌∙◌, arith, inl}
 use Rattle.std.specs.Prelude.{if◌then◌else◌}
-use Rattle.std.specs.List.{range_with_len}
 use Rattle.std.proofs.lemmas.Bool.Decides.{nat_tests}
-use Rattle.std.proofs.lemmas.List.{set-set, set-get_or, get_or-set_same, length-map}
+use Rattle.std.proofs.lemmas.List.{set-set, set-get_or, get_or-set_same}
 use Rattle.cm_bits.specs.Bit.{bit, bit_number}
 use Rattle.cm_bits.specs.Span.{Span, IsField}
 use Rattle.cm_model.specs.declared.act.Nano.{Nano}
-use Rattle.cm_model.specs.Processor.{Processor, value, flag, entry}
+use Rattle.cm_model.specs.Processor.{Processor, value, entry}
 use Rattle.cm_model.specs.Each.{each_from}
 use Rattle.cm_model.specs.Instruction.{processor_after}
 use Rattle.cm_model.specs.Letters.{with_field, bits_of}
 use Rattle.cm_language.specs.declared.macros.Context.{Context}
-use Rattle.cm_language.specs.declared.macros.Macro.{Macro}
-use Rattle.cm_language.specs.declared.macros.Macro.TheVariants.{Add, Sub, Less, Equal, Move, Select, Const, Shift, Set, Clear}
-use Rattle.cm_language.specs.Effect.{assigned, value_of, size}
+use Rattle.cm_language.specs.declared.macros.Macro.TheVariants.{Add, Sub, Less, Equal, Move, Select, Const, Shift}
+use Rattle.cm_language.specs.Effect.{assigned, value_of}
 use Rattle.cm_language.specs.Acts.{nano, nanos, set_flag, clear_flag, each_bit, number_bits}
 use Rattle.cm_language.proofs.Bits.{reads, writes, length-reads, writes-reads}
 use Rattle.cm_language.proofs.Sums.{outs, carried, total, Adds, value_below, value-not, both, total-both, first_but_second, total-first_but_second, first_twice, total-first_twice, adds_sum, adds_difference, adds_twice, carried-less, carried-equal_all, table_a, table_b, table_0, table_1, table_choice_0, table_choice_1, outs-first}

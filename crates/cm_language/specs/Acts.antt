@@ -75,8 +75,15 @@ sense_of (Off f) = false
 -- an instruction under a context
 abbrev pub nano : Context → ℕ → ℕ → ℕ → ℕ → ℕ → ℕ → Nano
 nano context a b read write mem_table flag_table = record {
-  a = a; b = b; read = read; write = write; cond = cond_of context; sense = sense_of context;
-  mem_table = mem_table; flag_table = flag_table; dir = North;
+  a = a;
+  b = b;
+  read = read;
+  write = write;
+  cond = cond_of context;
+  sense = sense_of context;
+  mem_table = mem_table;
+  flag_table = flag_table;
+  dir = North;
 }
 
 -- 1 into a flag

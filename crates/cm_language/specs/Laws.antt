@@ -1,6 +1,6 @@
 -- Laws over the definitions, each the contract of a function of its name. Ours.
 use Rattle.std.specs.Prelude.{◌≡◌, ℕ, ◌^◌, ◌<◌, false, None}
-use Rattle.cm_bits.specs.Span.{Span, IsField}
+use Rattle.cm_bits.specs.Span.{IsField}
 use Rattle.cm_bits.specs.Field.{IsIn}
 use Rattle.cm_model.specs.Processor.{Processor, memory_bit, flag}
 use Rattle.cm_model.specs.Array.{each_chip, chip_at}

@@ -1,5 +1,5 @@
 -- A line of a program text, by its words: ours.
-use Rattle.std.specs.Prelude.{ℕ, ◌+◌, ◌==◌, Bool, true, false, not, nat_lt, if◌then◌else◌, Option, Some, None, Result, Ok, Err, List, [], ◌∷◌, codes, bytes_eq}
+use Rattle.std.specs.Prelude.{ℕ, ◌==◌, Bool, not, nat_lt, if◌then◌else◌, Option, Some, None, Result, Ok, Err, List, [], ◌∷◌, codes, bytes_eq}
 use Rattle.std.specs.Option.{is_some, ok_or}
 use Rattle.cm_bits.specs.Span.{Span}
 use Rattle.cm_bits.specs.Field.{field_fault}
@@ -17,7 +17,7 @@ use Rattle.cm_language.specs.declared.statement.Verb.TheVariants as verb
 use Rattle.cm_language.specs.declared.statement.Statement.{Statement}
 use Rattle.cm_language.specs.declared.statement.Statement.TheVariants as statement
 use Rattle.cm_language.specs.declared.fault.AsmKind.{AsmKind}
-use Rattle.cm_language.specs.declared.fault.AsmKind.TheVariants.{Width, Range, Word, Operands, Number, Name, Twice}
+use Rattle.cm_language.specs.declared.fault.AsmKind.TheVariants.{Width, Range, Operands, Number, Name, Twice}
 use Rattle.cm_language.specs.Names.{NamedField, is_name, field_named}
 
 -- what comes after, unless there was a fault before

@@ -97,7 +97,14 @@ impl Tables {
 }
 
 /// An instruction under a context.
-pub fn nano(context: &Context, a: Addr, b: Addr, read: FlagNo, write: FlagNo, tables: Tables) -> Nano
+pub fn nano(
+    context: &Context,
+    a: Addr,
+    b: Addr,
+    read: FlagNo,
+    write: FlagNo,
+    tables: Tables,
+) -> Nano
     ensures { result ≡ nano context.now a b read write tables.memory tables.flag }
 {
     Nano {

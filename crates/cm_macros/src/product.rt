@@ -61,8 +61,19 @@ fn push_round(list: &mut Vec<Act>, d: Field, x: Field, y: Field, j: u16)
 {
     let bit = address(x, j);
     let under = Context::On(factor());
-    push(list, nano(&Context::Always, bit, bit, zero(), factor(), Tables::A));
+    push(
+        list,
+        nano(&Context::Always, bit, bit, zero(), factor(), Tables::A),
+    );
     push_clear(list, &under, carry());
     let addend = lowest(y, d.len() - j);
-    push_bits(list, &under, above(d, j), addend, carry(), carry(), Tables::SUM);
+    push_bits(
+        list,
+        &under,
+        above(d, j),
+        addend,
+        carry(),
+        carry(),
+        Tables::SUM,
+    );
 }

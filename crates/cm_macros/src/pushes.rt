@@ -60,7 +60,10 @@ pub fn push_bits(
     ensures capacity { vec_capacity list.old ≤ vec_capacity list.new }
 {
     for i in 0..x.len() {
-        push(list, nano(context, address(x, i), address(y, i), read, write, tables));
+        push(
+            list,
+            nano(context, address(x, i), address(y, i), read, write, tables),
+        );
     }
 }
 
@@ -81,6 +84,17 @@ fn number_bit(context: &Context, d: Field, number: u64, i: u16) -> Nano
     requires { i < d.len }
     ensures { result ≡ nano context.now (d.at + i) (d.at + i) ZERO ZERO (if bit number i then ALWAYS_1 else ALWAYS_0) ALWAYS_0 }
 {
-    let tables = if number >> i & 1 == 1 { Tables::ONE } else { Tables::NONE };
-    nano(context, address(d, i), address(d, i), zero(), zero(), tables)
+    let tables = if number >> i & 1 == 1 {
+        Tables::ONE
+    } else {
+        Tables::NONE
+    };
+    nano(
+        context,
+        address(d, i),
+        address(d, i),
+        zero(),
+        zero(),
+        tables,
+    )
 }

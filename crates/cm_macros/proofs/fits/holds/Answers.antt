@@ -1,4 +1,4 @@
-use Rattle.std.proofs.Common.{◌≡◌, ◌^◌, ℕ, ap, ◌∙◌, pow_pos, not, leb, eqb, ◌/◌}
+use Rattle.std.proofs.Common.{◌^◌, ℕ, ap, ◌∙◌, pow_pos, eqb, ◌/◌}
 use Rattle.cm_macros.proofs.Lists.{shifted_out}
 use Rattle.cm_macros.proofs.fits.holds.Goals as goal
 

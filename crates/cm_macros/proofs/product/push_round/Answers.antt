@@ -1,4 +1,3 @@
-use Rattle.std.proofs.Common.{refl}
 use Rattle.cm_macros.proofs.Lists.{round_is}
 use Rattle.cm_macros.proofs.product.push_round.Goals as goal
 
