@@ -25,7 +25,8 @@ fn listing_of(alloc: Global, text: &[u8]) -> Option<Vec<u8>> {
 fn a_listing_is_a_text_whose_listing_it_is(rt: HostRuntime) {
     for (i, (text, listing)) in LISTED.into_iter().enumerate() {
         let first = listing_of(rt.alloc(), text).is_some_and(|found| found.as_slice() == listing);
-        let second = listing_of(rt.alloc(), listing).is_some_and(|found| found.as_slice() == listing);
+        let second = listing_of(rt.alloc(), listing).is_some_and(|found| found.as_slice()
+            == listing);
         assert!(rt; first && second, "in row {i}");
     }
 }

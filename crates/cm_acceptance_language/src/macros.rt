@@ -178,7 +178,13 @@ fn is_selected(context: Context, machine: &PlainMachine<0>, number: u8) -> bool 
 }
 
 /// All bits and flags of one processor are as they should be.
-fn is_right_in(wanted: &Macro, context: Context, before: &PlainMachine<0>, after: &PlainMachine<0>, number: u8) -> bool {
+fn is_right_in(
+    wanted: &Macro,
+    context: Context,
+    before: &PlainMachine<0>,
+    after: &PlainMachine<0>,
+    number: u8,
+) -> bool {
     let outcome = if is_selected(context, before, number) {
         wanted_outcome(wanted, before, number)
     } else {
@@ -187,7 +193,8 @@ fn is_right_in(wanted: &Macro, context: Context, before: &PlainMachine<0>, after
     let p = processor(number);
     (0..ADDRESSES).all(|at| {
         after.read(0, p, address(at)) == outcome.bit(at, before.read(0, p, address(at)))
-    }) && (0..16u16).all(|f| after.flag(0, p, flag(f)) == outcome.flag(f, before.flag(0, p, flag(f))))
+    }) && (0..16u16).all(|f| after.flag(0, p, flag(f))
+        == outcome.flag(f, before.flag(0, p, flag(f))))
 }
 
 fn run(alloc: Global, machine: &mut PlainMachine<0>, acts: &[Act]) -> Result<(), NoMemory> {

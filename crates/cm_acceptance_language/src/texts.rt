@@ -37,20 +37,44 @@ const FAULTS: [(&[u8], u64, AsmKind); 44] = [
     (b"const x 0x", 1, AsmKind::Name),
     (b"field x 0 8\nconst x 0x", 2, AsmKind::Number),
     (b"shift x", 1, AsmKind::Name),
-    (b"field x 0 8\nfield y 4 9\nif 7\nadd x y", 4, AsmKind::Overlap),
+    (
+        b"field x 0 8\nfield y 4 9\nif 7\nadd x y",
+        4,
+        AsmKind::Overlap,
+    ),
     (b"field d 0 8\nfield x 8 8\nmul d d x", 3, AsmKind::Overlap),
-    (b"field x 0 8\nfield y 8 9\nif 7\nadd x y", 4, AsmKind::Lengths),
+    (
+        b"field x 0 8\nfield y 8 9\nif 7\nadd x y",
+        4,
+        AsmKind::Lengths,
+    ),
     (b"field x 0 8\nconst x 256", 2, AsmKind::Lengths),
     (b"field x 0 8\nif 7\nshift x", 3, AsmKind::Scratch),
     (b"set 11", 1, AsmKind::Scratch),
     (b"clear 8", 1, AsmKind::Scratch),
     (b"if 3\nset 10", 2, AsmKind::Scratch),
-    (b"field d 0 8\nfield x 8 8\nunless 6\nmul d x x", 4, AsmKind::Scratch),
-    (b"field d 0 8\nfield x 8 8\nif 0\nmul d x x", 4, AsmKind::Context),
-    (b"field d 0 8\nfield x 8 8\nunless 8\nmul d x x", 4, AsmKind::Context),
+    (
+        b"field d 0 8\nfield x 8 8\nunless 6\nmul d x x",
+        4,
+        AsmKind::Scratch,
+    ),
+    (
+        b"field d 0 8\nfield x 8 8\nif 0\nmul d x x",
+        4,
+        AsmKind::Context,
+    ),
+    (
+        b"field d 0 8\nfield x 8 8\nunless 8\nmul d x x",
+        4,
+        AsmKind::Context,
+    ),
     (b"cycle\njump\njump 1\n", 2, AsmKind::Word),
     (b"\n; set 8\n\tset 8\r\n", 3, AsmKind::Scratch),
-    (b"field d 0 64\nfield x 64 64\nif 1\nshift y", 4, AsmKind::Name),
+    (
+        b"field d 0 64\nfield x 64 64\nif 1\nshift y",
+        4,
+        AsmKind::Name,
+    ),
 ];
 
 /// A text and how many acts it has.
@@ -58,7 +82,10 @@ const ACCEPTED: [(&[u8], usize); 9] = [
     (b"", 0),
     (b"cycle ; \xff\r\n\r\nsense", 2),
     (b"if 0000000000000000000000003\nset 9", 1),
-    (b"field x 0 8\nfield y 8 8\nconst x 200\nconst y 100\nadd x y", 25),
+    (
+        b"field x 0 8\nfield y 8 8\nconst x 200\nconst y 100\nadd x y",
+        25,
+    ),
     (b"field d 0 8\nfield x 8 8\nfield y 16 8\nmul d x y", 62),
     (b"field d 0 8\nfield x 8 8\nmul d x x", 62),
     (b"field add 0 1\nfield field 1 1\nadd add field", 2),
@@ -69,7 +96,11 @@ const ACCEPTED: [(&[u8], usize); 9] = [
 #[test]
 fn a_faulty_line_is_told_with_its_first_fault(rt: HostRuntime) {
     for (i, (text, line, kind)) in FAULTS.into_iter().enumerate() {
-        assert_eq!(rt; assemble(rt.alloc(), text).err(), Some(AsmFault { line, kind }), "in row {i}");
+        assert_eq!(rt;
+            assemble(rt.alloc(), text).err(),
+            Some(AsmFault { line, kind }),
+            "in row {i}"
+        );
     }
 }
 
