@@ -1,0 +1,4 @@
+mod Numbers
+mod Forms
+mod Parts
+mod Images
