@@ -2,3 +2,5 @@ mod Numbers
 mod Forms
 mod Parts
 mod Images
+mod Planes
+mod Chips
