@@ -4,3 +4,6 @@ mod Parts
 mod Images
 mod Planes
 mod Chips
+mod Accounts
+mod Machines
+mod Theorems
