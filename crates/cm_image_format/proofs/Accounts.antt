@@ -1,16 +1,16 @@
 -- Tags and births of a machine without logs: its account is the messages in its buffers.
-use Rattle.std.proofs.Common.{◌≡◌, ℕ, zero, suc, ◌+◌, ◌<◌, ◌≤◌, ◌^◌, ◌||◌, ◌&&◌, ◌==◌, Bool, true, false, cond, List, [], ◌∷◌, ◌++◌, length, get_or, map, refl, sym, ap, ◌∙◌, subst, ⊎_elim, arith}
+use Rattle.std.proofs.Common.{◌≡◌, ℕ, zero, suc, ◌+◌, ◌<◌, ◌≤◌, ◌^◌, ◌&&◌, ◌==◌, Bool, true, false, cond, List, [], ◌∷◌, ◌++◌, map, refl, sym, ap, ◌∙◌, subst, ⊎_elim, arith}
 use Rattle.std.proofs.lemmas.Bool.{cases_Bool, and_parts, and_from, eqb-true, eq-eqb, or_parts, or_cases}
 use Rattle.std.proofs.lemmas.List.{append-nil}
 use Rattle.std.proofs.lemmas.List.Elements.{All-nil, All-head, All-tail, All-cons, All-append}
-use Rattle.std.proofs.lemmas.List.Sums.{sum_by-cons, sum_by-append}
+use Rattle.std.proofs.lemmas.List.Sums.{sum_by-cons}
 use Rattle.std.proofs.lemmas.List.Folds.{flat_map-map}
 use Rattle.std.specs.List.{All, count_by, sum_by, list_any, flat_map, filter_map, range_with_len}
 use Rattle.cm_model.specs.declared.message.Message.{Message}
 use Rattle.cm_model.specs.declared.message.Tag.{Tag}
 use Rattle.cm_model.specs.declared.message.Event.{Event}
 use Rattle.cm_model.specs.Each.{each_from}
-use Rattle.cm_model.specs.Array.{each_chip, chip_at}
+use Rattle.cm_model.specs.Array.{chip_at}
 use Rattle.cm_model.specs.Cycle.{log_at}
 use Rattle.cm_model.specs.Machine.{Machine, buffer_at}
 use Rattle.cm_model.specs.Found.{same_tag}
@@ -19,7 +19,7 @@ use Rattle.cm_model.specs.Keeping.{BornBefore, HasTagsOnce}
 use Rattle.cm_model.proofs.Each.{get_or-each_below}
 use Rattle.cm_model.proofs.Counting.{sum_by-map, sum_by-flat_map, sum_by-range}
 use Rattle.cm_image_format.specs.Image.{ChipImage}
-use Rattle.cm_image_format.specs.Whole.{image_of_chip, Image, image_of, has_tag_twice, messages_in}
+use Rattle.cm_image_format.specs.Whole.{image_of_chip, image_of, has_tag_twice, messages_in}
 use Rattle.cm_image_format.specs.Laws.{IsUnlogged}
 
 -- ---- one tag twice

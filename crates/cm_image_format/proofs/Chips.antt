@@ -1,6 +1,6 @@
 -- A chip and what an image has of it, both ways.
-use Rattle.std.proofs.Common.{◌≡◌, ℕ, zero, suc, ◌+◌, ◌^◌, ◌<◌, ◌≤◌, ◌==◌, ◌||◌, not, Bool, true, false, List, [], ◌∷◌, length, get_or, map, None, refl, sym, ap, ◌∙◌, subst, arith, nat_le, lit<}
-use Rattle.std.proofs.lemmas.Bool.{eqb-true, le-leb, leb-true, or_right, or_left, not_from_false, cases_Bool}
+use Rattle.std.proofs.Common.{◌≡◌, ℕ, zero, suc, ◌+◌, ◌<◌, ◌≤◌, ◌==◌, ◌||◌, not, Bool, true, false, List, [], ◌∷◌, length, get_or, map, refl, sym, ap, ◌∙◌, subst, arith, nat_le, lit<}
+use Rattle.std.proofs.lemmas.Bool.{eqb-true, le-leb}
 use Rattle.std.proofs.lemmas.List.{length-map, get_or-map}
 use Rattle.std.proofs.lemmas.List.Elements.{All-head, All-tail, All-cons, All-nil}
 use Rattle.std.proofs.lemmas.List.Sums.{length-filter, count_by-le-length}
@@ -9,17 +9,16 @@ use Rattle.cm_bits.specs.Bit.{bit}
 use Rattle.cm_model.specs.declared.message.Message.{Message}
 use Rattle.cm_model.specs.Processor.{Processor, memory_bit, flag}
 use Rattle.cm_model.specs.Each.{each_from}
-use Rattle.cm_model.specs.Chip.{processor_at, no_processor, plane_number}
+use Rattle.cm_model.specs.Chip.{processor_at, no_processor}
 use Rattle.cm_model.specs.Whole.{IsProcessor, IsChip}
 use Rattle.cm_model.proofs.Each.{length-each_from, get_or-each_below, is_each}
 use Rattle.cm_model.proofs.Values.{plane_number-is}
 use Rattle.cm_model.proofs.Bits.{bit-zero}
 use Rattle.cm_image_format.specs.declared.fault.ImageFault.TheVariants.{Count, Value}
-use Rattle.cm_image_format.specs.Reading.{must}
 use Rattle.cm_image_format.specs.Image.{Listed, ChipImage}
 use Rattle.cm_image_format.specs.Whole.{flag_plane_of, memory_plane_of, image_of_chip, planes_of, plane_at, chip_from}
 use Rattle.cm_image_format.proofs.Forms.{must_pass, must_hold, AllFrom}
-use Rattle.cm_image_format.proofs.Parts.{IsStoredMessage, IsListed, IsFlagPlane, AreFlags, IsMemory, AreMessages, IsChipImage}
+use Rattle.cm_image_format.proofs.Parts.{IsStoredMessage, IsFlagPlane, AreFlags, IsMemory, AreMessages, IsChipImage}
 use Rattle.cm_image_format.proofs.Planes.{bit-plane_number, plane_number-lt, bits_of_planes, entry, is_some, plane_at-listing, AllListed-each, plane_at-lt, relisted-each}
 
 -- ---- a chip is made again of its image
@@ -108,19 +107,22 @@ zero_plane : (chip : List Processor) → IsChip chip → flag_plane_of chip 8 �
 zero_plane chip is = sym (plane_number-is 0 (λ p. flag (processor_at chip p) 8) (lit< tt) (λ p h. bit-zero p ∙ sym (is.each p h).zero))
 
 AreFlags-chip : (chip : List Processor) → IsChip chip → AreFlags (each_from 0 16 (flag_plane_of chip))
-AreFlags-chip chip is =
-    (length-each_from 0 16 (flag_plane_of chip),
-    AllFrom-each (flag_plane_of chip) 16 (λ f below.
-    (plane_number-lt (λ p. flag (processor_at chip p) f),
+AreFlags-chip chip is = (
+  length-each_from 0 16 (flag_plane_of chip),
+  AllFrom-each (flag_plane_of chip) 16 (λ f below. (
+    plane_number-lt (λ p. flag (processor_at chip p) f),
     must_pass Value (not (f == 8) || flag_plane_of chip f == 0)
-    (flag_test (f == 8) (flag_plane_of chip f) (λ e. ap (flag_plane_of chip) (eqb-true f 8 e) ∙ zero_plane chip is)))))
+        (flag_test (f == 8) (flag_plane_of chip f) (λ e. ap (flag_plane_of chip) (eqb-true f 8 e) ∙ zero_plane chip is)),
+  )),
+)
 
 IsMemory-chip : (chip : List Processor) → IsMemory (filter is_some (each_from 0 4096 (entry (memory_plane_of chip))))
 IsMemory-chip chip =
     let all : List Listed = each_from 0 4096 (entry (memory_plane_of chip)) in
-    let most : length (filter is_some all) ≤ 4096 = omega (arith, length-filter is_some all, count_by-le-length is_some all, length-each_from 0 4096 (entry (memory_plane_of chip))) in
-    ((omega arith, must_pass Count (nat_le (length (filter is_some all)) 4096) (le-leb (length (filter is_some all)) 4096 most)),
-    AllListed-each (memory_plane_of chip) 4096 refl (λ address. plane_number-lt (λ p. memory_bit (processor_at chip p) address)))
+    let most : length (filter is_some all) ≤ 4096 = omega (arith, length-filter is_some all, count_by-le-length is_some all, length-each_from 0 4096 (entry (memory_plane_of chip))) in (
+      (omega arith, must_pass Count (nat_le (length (filter is_some all)) 4096) (le-leb (length (filter is_some all)) 4096 most)),
+      AllListed-each (memory_plane_of chip) 4096 refl (λ address. plane_number-lt (λ p. memory_bit (processor_at chip p) address)),
+    )
 
 -- what holds of each holds at any number
 pub AllFrom-All : {A : Type 0} (P : A → Type 0) (s : ℕ) (xs : List A) → All P xs → AllFrom (λ i x. i) (λ i. P) s xs
@@ -149,8 +151,8 @@ IsChip-chip_from image good = record {
     memory = length-map (planes_of image.memory) (λ plane. bit plane p) ∙ length-each_from 0 4096 (plane_at image.memory);
     flags = length-map image.flags (λ plane. bit plane p) ∙ good.0;
     zero =
-      let eighth = flag_plane_at 0 image.flags 8 good.1 (omega (arith, good.0)) in
-      let none : get_or image.flags 8 0 ≡ 0 = eqb-true (get_or image.flags 8 0) 0 (must_hold Value (get_or image.flags 8 0 == 0) eighth.1) in
-      get_or-map (λ plane. bit plane p) image.flags 8 0 false (omega (arith, good.0)) ∙ (ap (λ (plane : ℕ). bit plane p) none ∙ bit-zero p);
+        let eighth = flag_plane_at 0 image.flags 8 good.1 (omega (arith, good.0)) in
+        let none : get_or image.flags 8 0 ≡ 0 = eqb-true (get_or image.flags 8 0) 0 (must_hold Value (get_or image.flags 8 0 == 0) eighth.1) in
+        get_or-map (λ plane. bit plane p) image.flags 8 0 false (omega (arith, good.0)) ∙ (ap (λ (plane : ℕ). bit plane p) none ∙ bit-zero p);
   });
 }

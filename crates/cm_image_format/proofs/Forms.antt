@@ -1,5 +1,5 @@
 -- Forms of parts: what is written is what is read, for each way of putting parts together.
-use Rattle.std.proofs.Common.{◌≡◌, ℕ, zero, suc, ◌+◌, ◌<◌, Bool, true, false, List, [], ◌∷◌, ◌++◌, length, Option, Some, None, Result, Ok, Err, refl, sym, ap, ◌∙◌, subst, arith, append_assoc, if◌then◌else◌}
+use Rattle.std.proofs.Common.{◌≡◌, ℕ, zero, suc, Bool, true, false, List, [], ◌∷◌, ◌++◌, length, Option, Some, None, Result, Ok, Err, refl, sym, ap, ◌∙◌, subst, arith, append_assoc, if◌then◌else◌}
 use Rattle.std.specs.Int.{Width}
 use Rattle.std.specs.List.{flat_map}
 use Rattle.cm_message.specs.Bytes.{number}
@@ -37,10 +37,10 @@ pub Reads-part : (w : Width) (check : Check) (Fits : ℕ → Type 0) → Reads F
 Reads-part w check Fits inner = record {
   back = λ n rest good. rw (inner.back n rest good.0, good.1) refl;
   only = λ bytes rest n are read.
-    let first = bound (number_at w bytes) (λ x. unless (check x.0) (x.0, x.1)) (n, rest) read in
-    let checked = passed (check first.0.0) (first.0.0, first.0.1) (n, rest) first.2 in
-    let told = inner.only bytes first.0.1 first.0.0 are first.1 in
-    subst (λ (y : ℕ × List ℕ). (bytes ≡ number w y.0 ++ y.1) × (Fits y.0 × (check y.0 ≡ None))) checked.1 (told.0, (told.1, checked.0));
+      let first = bound (number_at w bytes) (λ x. unless (check x.0) (x.0, x.1)) (n, rest) read in
+      let checked = passed (check first.0.0) (first.0.0, first.0.1) (n, rest) first.2 in
+      let told = inner.only bytes first.0.1 first.0.0 are first.1 in
+      subst (λ (y : ℕ × List ℕ). (bytes ≡ number w y.0 ++ y.1) × (Fits y.0 × (check y.0 ≡ None))) checked.1 (told.0, (told.1, checked.0));
 }
 
 -- ---- one after another
@@ -50,13 +50,13 @@ pub Reads-followed : {A B : Type 0} (GA : A → Type 0) (GB : A → B → Type 0
 Reads-followed {A} {B} GA GB ta tb ra rb first second = record {
   back = λ p rest good. rw (append_assoc (ta p.0) (tb p.0 p.1) rest, first.back p.0 (tb p.0 p.1 ++ rest) good.0, (second p.0 good.0).back p.1 rest good.1) refl;
   only = λ bytes rest p are read.
-    let a = bound (ra bytes) (λ a. rb a.0 a.1 >>= (λ b. Ok ((a.0, b.0), b.1))) (p, rest) read in
-    let front = first.only bytes a.0.1 a.0.0 are a.1 in
-    let b = bound (rb a.0.0 a.0.1) (λ b. Ok ((a.0.0, b.0), b.1)) (p, rest) a.2 in
-    let behind = (second a.0.0 front.1).only a.0.1 b.0.1 b.0.0 (AreBytes-rest (ta a.0.0) a.0.1 (subst AreBytes front.0 are)) b.1 in
-    subst (λ (y : (A × B) × List ℕ). (bytes ≡ (ta y.0.0 ++ tb y.0.0 y.0.1) ++ y.1) × (GA y.0.0 × GB y.0.0 y.0.1))
-    (same_ok ((a.0.0, b.0.0), b.0.1) (p, rest) b.2)
-    (front.0 ∙ ap (λ z. ta a.0.0 ++ z) behind.0 ∙ sym (append_assoc (ta a.0.0) (tb a.0.0 b.0.0) b.0.1), (front.1, behind.1));
+      let a = bound (ra bytes) (λ a. rb a.0 a.1 >>= (λ b. Ok ((a.0, b.0), b.1))) (p, rest) read in
+      let front = first.only bytes a.0.1 a.0.0 are a.1 in
+      let b = bound (rb a.0.0 a.0.1) (λ b. Ok ((a.0.0, b.0), b.1)) (p, rest) a.2 in
+      let behind = (second a.0.0 front.1).only a.0.1 b.0.1 b.0.0 (AreBytes-rest (ta a.0.0) a.0.1 (subst AreBytes front.0 are)) b.1 in
+      subst (λ (y : (A × B) × List ℕ). (bytes ≡ (ta y.0.0 ++ tb y.0.0 y.0.1) ++ y.1) × (GA y.0.0 × GB y.0.0 y.0.1))
+      (same_ok ((a.0.0, b.0.0), b.0.1) (p, rest) b.2)
+      (front.0 ∙ ap (λ z. ta a.0.0 ++ z) behind.0 ∙ sym (append_assoc (ta a.0.0) (tb a.0.0 b.0.0) b.0.1), (front.1, behind.1));
 }
 
 -- ---- what is made of a value, and the value that it is made of
@@ -67,11 +67,11 @@ pub Reads-made : {A B : Type 0} (GA : A → Type 0) (GB : B → Type 0) (ta : A 
 Reads-made {A} {B} GA GB ta tb f g ra inner round into text out = record {
   back = λ b rest good. rw (text b good, inner.back (g b) rest (into b good), round b good) refl;
   only = λ bytes rest b are read.
-    let x = bound (ra bytes) (λ x. Ok (f x.0, x.1)) (b, rest) read in
-    let told = inner.only bytes x.0.1 x.0.0 are x.1 in
-    let made_of = out x.0.0 told.1 in
-    subst (λ (y : B × List ℕ). (bytes ≡ tb y.0 ++ y.1) × GB y.0) (same_ok (f x.0.0, x.0.1) (b, rest) x.2)
-    (told.0 ∙ ap (λ z. z ++ x.0.1) made_of.1, made_of.0);
+      let x = bound (ra bytes) (λ x. Ok (f x.0, x.1)) (b, rest) read in
+      let told = inner.only bytes x.0.1 x.0.0 are x.1 in
+      let made_of = out x.0.0 told.1 in
+      subst (λ (y : B × List ℕ). (bytes ≡ tb y.0 ++ y.1) × GB y.0) (same_ok (f x.0.0, x.0.1) (b, rest) x.2)
+      (told.0 ∙ ap (λ z. z ++ x.0.1) made_of.1, made_of.0);
 }
 
 -- ---- so many values
@@ -88,8 +88,11 @@ many_back next Good text one each zero s [] rest long good = refl
 many_back next Good text one each zero s (x ∷ xs) rest long good = absurd (omega (arith, long))
 many_back next Good text one each (suc count) s [] rest long good = absurd (omega (arith, long))
 many_back next Good text one each (suc count) s (x ∷ xs) rest long good =
-    rw (append_assoc (text x) (flat_map text xs) rest, (each s).back x (flat_map text xs ++ rest) good.0,
-    many_back next Good text one each count (next s x) xs rest (omega (arith, long)) good.1) refl
+    rw (
+      append_assoc (text x) (flat_map text xs) rest,
+      (each s).back x (flat_map text xs ++ rest) good.0,
+      many_back next Good text one each count (next s x) xs rest (omega (arith, long)) good.1,
+    ) refl
 
 many_only : {A : Type 0} (next : ℕ → A → ℕ) (Good : ℕ → A → Type 0) (text : A → List ℕ) (one : ℕ → List ℕ → Read A) → ((s : ℕ) → Reads (Good s) text (one s))
     → (count s : ℕ) (bytes rest : List ℕ) (xs : List A) → AreBytes bytes → many next one count s bytes ≡ Ok (xs, rest) → (bytes ≡ flat_map text xs ++ rest) × ((length xs ≡ count) × AllFrom next Good s xs)

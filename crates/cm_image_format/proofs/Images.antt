@@ -1,13 +1,13 @@
 -- The header, and an image as a whole: text and reading, both ways.
-use Rattle.std.proofs.Common.{◌≡◌, ℕ, ◌+◌, ◌<◌, ◌≤◌, ◌^◌, ◌==◌, ◌&&◌, Bool, true, false, List, ◌++◌, length, Option, Some, None, refl, sym, ap, ◌∙◌, subst, arith, append_assoc, nat_lt, nat_le, lit<, lit≤}
-use Rattle.std.specs.Int.{w8, w16, w32, w64}
+use Rattle.std.proofs.Common.{◌≡◌, ℕ, ◌<◌, ◌≤◌, ◌^◌, ◌==◌, ◌&&◌, Bool, true, List, ◌++◌, length, None, refl, sym, ◌∙◌, arith, append_assoc, nat_lt, nat_le, lit<}
+use Rattle.std.specs.Int.{w8, w32, w64}
 use Rattle.std.specs.List.{flat_map}
 use Rattle.std.proofs.lemmas.Bool.{and_parts, and_from, eqb-true, eq-eqb, leb-true, le-leb}
 use Rattle.std.proofs.Math.Nat.{pow-le-pow_right}
 use Rattle.cm_message.specs.Bytes.{number}
 use Rattle.cm_image_format.specs.declared.fault.ImageFault.{ImageFault}
 use Rattle.cm_image_format.specs.declared.fault.ImageFault.TheVariants.{Magic, Version, Shape, Value}
-use Rattle.cm_image_format.specs.Reading.{Read, must, part, followed, ◌⨾◌, made, many}
+use Rattle.cm_image_format.specs.Reading.{must, part, followed, ◌⨾◌, many}
 use Rattle.cm_image_format.specs.Image.{ChipImage, MAGIC, is_dimension, is_room, shape_text, shape_part, clock_part, chip_text, chip_part}
 use Rattle.cm_image_format.specs.Whole.{Image, image_text, image_part}
 use Rattle.cm_image_format.proofs.Numbers.{Reads, Fits8, Fits32, Fits64, number_8, number_32, number_64}
@@ -168,9 +168,10 @@ whole_text p = header_text p.0 ++ flat_map chip_text p.1
 
 from_whole : (n cap : ℕ) (p : Whole) → IsWhole n cap p → IsImage n cap (record { clock = p.0.1; chips = p.1 }) × (whole_text p ≡ image_text n cap (record { clock = p.0.1; chips = p.1 }))
 from_whole n cap p good =
-    let t = told n cap p.0 good.0 in
-    (record { dimension = t.dimension; some_room = t.some_room; most_room = t.most_room; clock = t.clock; count = good.1.0; each = good.1.1 },
-    (λ i. (shape_text (t.is_dim i) (t.is_room i) ++ number w64 p.0.1) ++ flat_map chip_text p.1) ∙ sym (text_is n cap (record { clock = p.0.1; chips = p.1 })))
+    let t = told n cap p.0 good.0 in (
+      record { dimension = t.dimension; some_room = t.some_room; most_room = t.most_room; clock = t.clock; count = good.1.0; each = good.1.1 },
+      (λ i. (shape_text (t.is_dim i) (t.is_room i) ++ number w64 p.0.1) ++ flat_map chip_text p.1) ∙ sym (text_is n cap (record { clock = p.0.1; chips = p.1 })),
+    )
 
 pub Reads-image : (n cap : ℕ) → Reads (IsImage n cap) (image_text n cap) (image_part n cap)
 unfolding image_part

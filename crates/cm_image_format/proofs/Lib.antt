@@ -7,3 +7,4 @@ mod Chips
 mod Accounts
 mod Machines
 mod Theorems
+mod StandardFacts

@@ -1,5 +1,5 @@
 -- A machine and its image, both ways.
-use Rattle.std.proofs.Common.{◌≡◌, ℕ, ◌+◌, ◌<◌, ◌≤◌, ◌^◌, Bool, true, false, List, [], ◌∷◌, length, get_or, map, refl, sym, ap, ◌∙◌, subst, arith, nat_le}
+use Rattle.std.proofs.Common.{◌≡◌, ℕ, ◌<◌, ◌≤◌, ◌^◌, false, List, [], length, get_or, map, refl, sym, ap, ◌∙◌, subst, arith, nat_le}
 use Rattle.std.proofs.lemmas.Bool.{leb-true}
 use Rattle.std.proofs.lemmas.List.{length-map, get_or-map}
 use Rattle.std.proofs.lemmas.List.Elements.{All-nil, All-get_or, All-from_get_or}
@@ -13,7 +13,7 @@ use Rattle.cm_model.specs.Whole.{IsChip}
 use Rattle.cm_model.specs.Array.{each_chip, chip_at}
 use Rattle.cm_model.specs.Cycle.{log_at}
 use Rattle.cm_model.specs.Machine.{Machine, buffer_at}
-use Rattle.cm_model.specs.Keeping.{IsMessage, IsEventOf, IsMachine}
+use Rattle.cm_model.specs.Keeping.{IsMessage, IsEventOf}
 use Rattle.cm_model.proofs.Each.{length-each_from, get_or-each_below, is_each}
 use Rattle.cm_image_format.specs.declared.fault.ImageFault.TheVariants.{Count}
 use Rattle.cm_image_format.specs.Image.{ChipImage}
@@ -98,12 +98,12 @@ IsImage-image_of n cap machine is =
       clock = is.clock;
       count = length-each_from 0 (2 ^ n) (chip_image machine);
       each = AllFrom-All (IsChipImage n cap machine.clock) 0 chips
-      (All-from_get_or (IsChipImage n cap machine.clock) chips no_image
-      (λ c h. let below : c < 2 ^ n = omega (arith, length-each_from 0 (2 ^ n) (chip_image machine)) in
-      subst (λ (chip : ChipImage). IsChipImage n cap machine.clock chip) (sym (get_or-each_below (2 ^ n) (chip_image machine) c no_image below))
-      (IsChipImage-image_of_chip n cap machine.clock (chip_at machine.chips c) (buffer_at machine.buffers c) (whole.whole c below)
-      (AreMessages-buffer n cap machine.clock (buffer_at machine.buffers c) is.most_room (whole.room c below)
-      (stored_messages n machine.clock (buffer_at machine.buffers c) (whole.messages c below) (born_at n machine c whole.births below))))));
+          (All-from_get_or (IsChipImage n cap machine.clock) chips no_image
+          (λ c h. let below : c < 2 ^ n = omega (arith, length-each_from 0 (2 ^ n) (chip_image machine)) in
+          subst (λ (chip : ChipImage). IsChipImage n cap machine.clock chip) (sym (get_or-each_below (2 ^ n) (chip_image machine) c no_image below))
+          (IsChipImage-image_of_chip n cap machine.clock (chip_at machine.chips c) (buffer_at machine.buffers c) (whole.whole c below)
+          (AreMessages-buffer n cap machine.clock (buffer_at machine.buffers c) is.most_room (whole.room c below)
+          (stored_messages n machine.clock (buffer_at machine.buffers c) (whole.messages c below) (born_at n machine c whole.births below))))));
     }
 
 -- ---- what is made of an image is a machine
@@ -145,12 +145,12 @@ IsStored-machine_from n cap image is apart =
         log_count = long.2;
         whole = λ c h. subst (λ (chip : List Processor). IsChip chip) (sym (chip_made image c (omega (arith, is.count)))) (IsChip-chip_from (get_or image.chips c no_image) (each_is n cap image c is h).flags);
         room = λ c h.
-          let here : length (get_or image.chips c no_image).messages ≤ cap =
-          leb-true (length (get_or image.chips c no_image).messages) cap (must_hold Count (nat_le (length (get_or image.chips c no_image).messages) cap) (each_is n cap image c is h).messages.0.1) in
-          subst (λ (ms : List Message). length ms ≤ cap) (sym (buffer_made image c (omega (arith, is.count)))) here;
+            let here : length (get_or image.chips c no_image).messages ≤ cap =
+            leb-true (length (get_or image.chips c no_image).messages) cap (must_hold Count (nat_le (length (get_or image.chips c no_image).messages) cap) (each_is n cap image c is h).messages.0.1) in
+            subst (λ (ms : List Message). length ms ≤ cap) (sym (buffer_made image c (omega (arith, is.count)))) here;
         messages = λ c h. λ k d l. (stored_at n cap image c is h k d l).message;
         events = λ c h. subst (λ (log : List Event). All (IsEventOf n c) log)
-          (sym (ap (λ (logs : List (List Event)). log_at logs c) none ∙ get_or-each_below (2 ^ n) (λ b. []) c [] h)) (All-nil (IsEventOf n c));
+            (sym (ap (λ (logs : List (List Event)). log_at logs c) none ∙ get_or-each_below (2 ^ n) (λ b. []) c [] h)) (All-nil (IsEventOf n c));
         births = BornBefore-buffers n (machine_from image) none (λ c h. λ k d l. subst (λ (t : ℕ). (get_or (buffer_at (machine_from image).buffers c) k d).tag.birth < t) (sym clock) (stored_at n cap image c is h k d l).birth);
         tags = HasTagsOnce-standing n (machine_from image) none once;
         injected = none_injected n (machine_from image) none;

@@ -1,11 +1,10 @@
 -- Numbers as parts: their bytes, and what is read of bytes, at each width.
-use Rattle.std.proofs.Common.{◌≡◌, ℕ, ◌+◌, ◌<◌, ◌≤◌, ◌^◌, Bool, true, false, List, [], ◌∷◌, ◌++◌, length, get_or, take, drop, Result, Ok, Err, refl, sym, ap, ◌∙◌, subst, inl, inr, arith, lit<, mod-eq_of_lt, nat_lt, if◌then◌else◌}
-use Rattle.std.specs.Int.{Width, w8, w16, w32, w64, byte_len, to_be_bytes, from_be_bytes}
+use Rattle.std.proofs.Common.{◌≡◌, ℕ, ◌+◌, ◌<◌, ◌≤◌, ◌^◌, Bool, true, false, List, [], ◌∷◌, ◌++◌, length, get_or, take, drop, Ok, Err, refl, sym, ap, ◌∙◌, subst, inl, inr, arith, lit<, mod-eq_of_lt, nat_lt, if◌then◌else◌}
+use Rattle.std.specs.Int.{Width, w8, w16, w32, w64, byte_len, from_be_bytes}
 use Rattle.std.proofs.lemmas.Bool.{cases_lt, le-ltb, ltb-false}
 use Rattle.std.proofs.lemmas.List.{length-append, length-take-le, get_or-take, get_or_past, get_or-append-add, length-take, take-append-drop}
 use Rattle.std.proofs.lemmas.Nat.{from_be_bytes-to_be_bytes_2, from_be_bytes-to_be_bytes_4, from_be_bytes-to_be_bytes_8, be_bytes_2, be_bytes_4, be_bytes_8}
 use Rattle.cm_message.specs.Bytes.{number}
-use Rattle.cm_image_format.specs.declared.fault.ImageFault.{ImageFault}
 use Rattle.cm_image_format.specs.declared.fault.ImageFault.TheVariants.{Short}
 use Rattle.cm_image_format.specs.Reading.{Read, number_at}
 use Rattle.cm_image_format.specs.Laws.{AreBytes}
@@ -22,7 +21,7 @@ AreBytes-rest front rest are i = subst (λ (b : ℕ). b < 256) (get_or-append-ad
 
 AreBytes-front : (bytes : List ℕ) (n : ℕ) → AreBytes bytes → (i : ℕ) → get_or (take n bytes) i 0 < 256
 AreBytes-front bytes n are i = elim (cases_lt i n) [
-  inl inside ↦ rw (get_or-take n bytes i 0 inside) (are i)
+  | inl inside ↦ rw (get_or-take n bytes i 0 inside) (are i)
   | inr past ↦ rw (get_or_past (take n bytes) i 0 (omega (arith, length-take n bytes))) (lit< tt)
 ]
 
@@ -75,9 +74,9 @@ unfolding number
 number_8 = record {
   back = λ n rest fits. number_back w8 n rest refl (mod-eq_of_lt fits) refl;
   only = λ bytes rest n are read.
-    let r = number_only w8 bytes rest n read in
-    let told = one_byte bytes n r.long are r.is in
-    (joined 1 bytes rest (number w8 n) r.after told.0, told.1);
+      let r = number_only w8 bytes rest n read in
+      let told = one_byte bytes n r.long are r.is in
+      (joined 1 bytes rest (number w8 n) r.after told.0, told.1);
 }
 
 -- ---- two, four and eight
@@ -128,9 +127,9 @@ unfolding number
 number_16 = record {
   back = λ n rest fits. number_back w16 n rest refl (from_be_bytes-to_be_bytes_2 n fits) refl;
   only = λ bytes rest n are read.
-    let r = number_only w16 bytes rest n read in
-    let long : length (take 2 bytes) ≡ 2 = length-take-le 2 bytes r.long in
-    (joined 2 bytes rest (number w16 n) r.after (be_bytes_2 (take 2 bytes) n long (AreBytes-front bytes 2 are) (r.is ∙ front_2 bytes)), fits_2 bytes n are r.is);
+      let r = number_only w16 bytes rest n read in
+      let long : length (take 2 bytes) ≡ 2 = length-take-le 2 bytes r.long in
+      (joined 2 bytes rest (number w16 n) r.after (be_bytes_2 (take 2 bytes) n long (AreBytes-front bytes 2 are) (r.is ∙ front_2 bytes)), fits_2 bytes n are r.is);
 }
 
 pub number_32 : Reads Fits32 (number w32) (number_at w32)
@@ -138,9 +137,9 @@ unfolding number
 number_32 = record {
   back = λ n rest fits. number_back w32 n rest refl (from_be_bytes-to_be_bytes_4 n fits) refl;
   only = λ bytes rest n are read.
-    let r = number_only w32 bytes rest n read in
-    let long : length (take 4 bytes) ≡ 4 = length-take-le 4 bytes r.long in
-    (joined 4 bytes rest (number w32 n) r.after (be_bytes_4 (take 4 bytes) n long (AreBytes-front bytes 4 are) (r.is ∙ front_4 bytes)), fits_4 bytes n are r.is);
+      let r = number_only w32 bytes rest n read in
+      let long : length (take 4 bytes) ≡ 4 = length-take-le 4 bytes r.long in
+      (joined 4 bytes rest (number w32 n) r.after (be_bytes_4 (take 4 bytes) n long (AreBytes-front bytes 4 are) (r.is ∙ front_4 bytes)), fits_4 bytes n are r.is);
 }
 
 pub number_64 : Reads Fits64 (number w64) (number_at w64)
@@ -148,7 +147,7 @@ unfolding number
 number_64 = record {
   back = λ n rest fits. number_back w64 n rest refl (from_be_bytes-to_be_bytes_8 n fits) refl;
   only = λ bytes rest n are read.
-    let r = number_only w64 bytes rest n read in
-    let long : length (take 8 bytes) ≡ 8 = length-take-le 8 bytes r.long in
-    (joined 8 bytes rest (number w64 n) r.after (be_bytes_8 (take 8 bytes) n long (AreBytes-front bytes 8 are) (r.is ∙ front_8 bytes)), fits_8 bytes n are r.is);
+      let r = number_only w64 bytes rest n read in
+      let long : length (take 8 bytes) ≡ 8 = length-take-le 8 bytes r.long in
+      (joined 8 bytes rest (number w64 n) r.after (be_bytes_8 (take 8 bytes) n long (AreBytes-front bytes 8 are) (r.is ∙ front_8 bytes)), fits_8 bytes n are r.is);
 }

@@ -1,5 +1,5 @@
 -- The parts of a chip: a message, a listed plane, flags; and a chip as a whole.
-use Rattle.std.proofs.Common.{◌≡◌, ℕ, ◌+◌, ◌<◌, ◌≤◌, ◌^◌, ◌==◌, ◌&&◌, ◌||◌, not, Bool, true, false, List, ◌++◌, length, Option, Some, None, refl, sym, ap, ◌∙◌, arith, nat_lt, nat_le, if◌then◌else◌}
+use Rattle.std.proofs.Common.{◌≡◌, ℕ, ◌+◌, ◌<◌, ◌≤◌, ◌^◌, ◌==◌, ◌||◌, not, Bool, true, false, List, ◌++◌, length, Option, Some, None, refl, arith, nat_lt, nat_le, if◌then◌else◌}
 use Rattle.std.specs.Int.{w8, w16, w32, w64}
 use Rattle.std.specs.List.{flat_map}
 use Rattle.std.proofs.lemmas.Bool.{ltb-true, ltb-false, lt-ltb, le-ltb, not-true, not_from_false}
@@ -8,7 +8,7 @@ use Rattle.cm_model.specs.Keeping.{IsMessage}
 use Rattle.cm_message.specs.Bytes.{number, message_text}
 use Rattle.cm_image_format.specs.declared.fault.ImageFault.{ImageFault}
 use Rattle.cm_image_format.specs.declared.fault.ImageFault.TheVariants.{Order, Count, Value}
-use Rattle.cm_image_format.specs.Reading.{Read, must, part, number_at, followed, ◌⨾◌, made}
+use Rattle.cm_image_format.specs.Reading.{Read, must, part, number_at, ◌⨾◌}
 use Rattle.cm_image_format.specs.Image.{Listed, ChipImage, flag_part, address_fault, listed_text, listed_part, memory_part, chip_number_part, processor_part, message_part, chip_text, flags_part, messages_part, chip_part}
 use Rattle.cm_image_format.proofs.Numbers.{Reads, Fits8, Fits16, Fits32, Fits64, number_8, number_16, number_32, number_64}
 use Rattle.cm_image_format.proofs.Forms.{must_pass, must_hold, AllFrom, Reads-part, Reads-followed, Reads-made, Reads-many, Reads-counted}

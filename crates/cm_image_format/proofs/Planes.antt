@@ -1,10 +1,10 @@
 -- Planes and their bits, and the planes that are listed of many.
-use Rattle.std.proofs.Common.{◌≡◌, ℕ, zero, suc, ◌+◌, ◌*◌, ◌/◌, ◌%◌, ◌^◌, ◌<◌, ◌≤◌, ◌==◌, Bool, true, false, not, cond, List, [], ◌∷◌, length, get_or, map, fold, refl, sym, ap, ◌∙◌, subst, ⊎_elim, arith, pow-suc, mul_comm, if◌then◌else◌, ext_get_or}
+use Rattle.std.proofs.Common.{◌≡◌, ℕ, zero, suc, ◌+◌, ◌*◌, ◌/◌, ◌%◌, ◌^◌, ◌<◌, ◌≤◌, ◌==◌, Bool, true, false, not, List, [], ◌∷◌, length, get_or, map, fold, refl, sym, ap, ◌∙◌, subst, ⊎_elim, arith, pow-suc, mul_comm, ext_get_or}
 use Rattle.std.proofs.Math.Nat.{div-div-eq-div-mul}
 use Rattle.std.proofs.lemmas.Bool.{cond_both, cond-true, cond-false, cases_eq, eqb-true, eq-eqb, ne_eqb, not-true, not-false, not_from_true, not_from_false}
 use Rattle.std.proofs.lemmas.List.{length-map, get_or-map}
 use Rattle.std.specs.List.{filter, range_with_len}
-use Rattle.cm_bits.specs.Bit.{bit, bit_number}
+use Rattle.cm_bits.specs.Bit.{bit}
 use Rattle.cm_model.specs.Processor.{value}
 use Rattle.cm_model.specs.Each.{each_from}
 use Rattle.cm_model.specs.Chip.{plane_number}

@@ -1,12 +1,11 @@
 -- An image: its parts in reading order, each with its check. Ours.
-use Rattle.std.specs.Prelude.{ℕ, ◌+◌, ◌^◌, ◌==◌, ◌&&◌, ◌||◌, not, Bool, List, ◌++◌, Option, Some, None, length, nat_lt, nat_le, if◌then◌else◌}
+use Rattle.std.specs.Prelude.{ℕ, ◌+◌, ◌^◌, ◌==◌, ◌&&◌, ◌||◌, not, Bool, List, ◌++◌, Some, None, length, nat_lt, nat_le, if◌then◌else◌}
 use Rattle.std.specs.List.{flat_map}
 use Rattle.std.specs.Int.{w8, w16, w32, w64}
 use Rattle.cm_model.specs.declared.message.Message.{Message}
 use Rattle.cm_message.specs.Bytes.{number, message_text}
-use Rattle.cm_image_format.specs.declared.fault.ImageFault.{ImageFault}
 use Rattle.cm_image_format.specs.declared.fault.ImageFault.TheVariants.{Magic, Version, Shape, Order, Count, Value}
-use Rattle.cm_image_format.specs.Reading.{Read, Check, must, number_at, part, followed, ◌⨾◌, made, many, counted}
+use Rattle.cm_image_format.specs.Reading.{Read, Check, must, number_at, part, ◌⨾◌, made, many, counted}
 
 -- a memory plane that is listed: its address, and its bits
 pub record Listed : Type 0 where

@@ -1,0 +1,12 @@
+//! Images of machines: reading their bytes.
+#![tactic(auto)]
+
+mod chips;
+mod header;
+mod messages;
+mod numbers;
+
+pub use chips::{take_flags, take_listed, take_memory};
+pub use cm_image_format::ImageFault;
+pub use header::{shape, take_header};
+pub use messages::take_message;
