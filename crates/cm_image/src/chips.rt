@@ -1,8 +1,8 @@
 //! The planes of a chip of an image.
 
-ghost use Rattle.std.specs.Prelude.{◌≡◌, MatchResult, Ok, Err, fold, slice_set, length};
+ghost use Rattle.std.specs.Prelude.{◌≡◌, ◌<◌, MatchResult, IfOk, Ok, Err, fold};
 ghost use Rattle.cm_image_format.specs.Reading.{Gives, made};
-ghost use Rattle.cm_image_format.specs.Image.{Listed, listed_part, flags_part, memory_part};
+ghost use Rattle.cm_image_format.specs.Image.{flag_part, listed_part, flags_part, memory_part};
 ghost use Rattle.cm_image.specs.Planes.{put_plane};
 
 use cm_image_format::ImageFault;
@@ -16,19 +16,27 @@ pub fn take_flags(bytes: &[u8]) -> Result<([u16; 16], &[u8]), ImageFault>
     let mut flags = [0u16; 16];
     let mut rest = bytes;
     for f in 0..16 {
-        let (plane, after) = take_u16(rest)?;
-        if f == 8 && plane != 0 {
-            return Err(ImageFault::Value);
-        }
+        let (plane, after) = take_flag(f, rest)?;
         flags[f] = plane;
         rest = after;
     }
     Ok((flags, rest))
 }
 
+fn take_flag(f: usize, bytes: &[u8]) -> Result<(u16, &[u8]), ImageFault>
+    ensures value { Gives (λ x. (x.0, x.1.now)) result (flag_part f bytes.now) }
+{
+    let (plane, rest) = take_u16(bytes)?;
+    if f == 8 && plane != 0 {
+        return Err(ImageFault::Value);
+    }
+    Ok((plane, rest))
+}
+
 /// The address of a plane, which is this one or above it, and the plane.
 pub fn take_listed(least: u16, bytes: &[u8]) -> Result<(u16, u16, &[u8]), ImageFault>
     ensures value { Gives (λ x. (record { at = x.0; plane = x.1 }, x.2.now)) result (listed_part least bytes.now) }
+    ensures below { IfOk result (λ x. x.0 < 4096) }
 {
     let (at, rest) = take_u16(bytes)?;
     if at > 4095 {
@@ -55,7 +63,7 @@ pub fn take_memory<'a>(planes: &mut [u16; 4096], bytes: &'a [u8]) -> Result<&'a 
         return Err(ImageFault::Count);
     }
     let mut least = 0;
-    for _ in 0..count {
+    for i in 0..count {
         let (at, plane, after) = take_listed(least, rest)?;
         planes[usize::from(at)] = plane;
         least = at + 1;

@@ -42,6 +42,31 @@ plane_is_read : image_part 0 7 one_plane_bytes ≡ Ok (one_plane, [])
 unfolding image_part chip_part many number_at
 plane_is_read = refl
 
+-- ---- one message more: 73 bytes
+
+abbrev example : Image
+example = record {
+  clock = 1;
+  chips = record {
+    flags = set (replicate 16 0) 13 1;
+    memory = record { at = 5; plane = 0x8001 } ∷ [];
+    messages = record { rel = 0; proc = 5; payload = 0xdeadbeef; tag = record { chip = 0; proc = 0; birth = 0 } } ∷ [];
+  } ∷ [];
+}
+
+abbrev example_bytes : List ℕ
+example_bytes =
+    take 8 blank ++ (0 ∷ 0 ∷ 0 ∷ 0 ∷ 0 ∷ 0 ∷ 0 ∷ 1 ∷ replicate 26 0 ++ (0 ∷ 1 ∷ 0 ∷ 0 ∷ 0 ∷ 0 ∷ [])
+    ++ (0 ∷ 1 ∷ 0 ∷ 5 ∷ 0x80 ∷ 1 ∷ 1 ∷ 0 ∷ 0 ∷ 5 ∷ 0xde ∷ 0xad ∷ 0xbe ∷ 0xef ∷ replicate 11 0))
+
+example_is_written : image_text 0 7 example ≡ example_bytes
+unfolding image_text shape_text number
+example_is_written = refl
+
+example_is_read : image_part 0 7 example_bytes ≡ Ok (example, [])
+unfolding image_part chip_part many number_at
+example_is_read = refl
+
 -- ---- changes of the blank image, each with its fault
 
 -- the two bytes of the count of planes, and what follows it
