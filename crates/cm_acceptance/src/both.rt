@@ -8,7 +8,8 @@ use cm_array::{Machine, Plain, Runner};
 use cm_bits::{FlagNo, Plane, Proc};
 use cm_element::ZeroFlag;
 use cm_message::Message;
-use cm_model::{Act, PlainRouter};
+use cm_model::Act;
+use cm_plain::PlainRouter;
 use std::alloc::Global;
 use std::test::Fail;
 
@@ -64,7 +65,7 @@ impl<const N: usize, const CAP: usize> Both<N, CAP> {
 
     /// Runs the acts in both, and tells whether neither refused.
     pub(crate) fn go(&mut self, alloc: Global, acts: &[Act]) -> bool {
-        if self.plain.clock() >= 1_000 || acts.len() >= 1_000 {
+        if self.plain.clock() >= 1_000 || acts.len() > 4_096 {
             return false;
         }
         Plain.go(&mut self.machine, acts).is_ok() && self.plain.run(alloc, acts).is_ok()

@@ -175,35 +175,3 @@ impl Sink for Room {
         Ok(count)
     }
 }
-
-#[cfg(test)]
-mod tests {
-    use super::{Bytes, Room};
-    use crate::ends::{Failed, Sink, Source};
-
-    #[test]
-    fn bytes_come_in_steps_until_the_source_fails(rt: HostRuntime) {
-        let mut buf = [0; 8];
-        let mut whole = Bytes::new(b"abcd", 3);
-        assert_eq!(rt; whole.read(&mut buf), Ok(3));
-        assert_eq!(rt; whole.read(&mut buf), Ok(1));
-        assert_eq!(rt; whole.read(&mut buf), Ok(0));
-        let mut failing = Bytes::failing(b"abcd", 8, 3);
-        assert_eq!(rt; failing.read(&mut buf), Ok(3));
-        assert_eq!(rt; failing.read(&mut buf), Err(Failed));
-        assert_eq!(rt; failing.read(&mut buf), Err(Failed));
-    }
-
-    #[test]
-    fn a_full_room_fails_or_takes_nothing(rt: HostRuntime) -> Result<(), std::alloc::AllocError> {
-        let mut fails = Room::new(rt.alloc(), 3, 2)?;
-        assert_eq!(rt; fails.write(b"abcd"), Ok(2));
-        assert_eq!(rt; fails.write(b"cd"), Ok(1));
-        assert_eq!(rt; fails.write(b"d"), Err(Failed));
-        assert!(rt; fails.taken() == b"abc".as_slice());
-        let mut takes_none = Room::taking_nothing(rt.alloc(), 1, 0)?;
-        assert_eq!(rt; takes_none.write(b"ab"), Ok(1));
-        assert_eq!(rt; takes_none.write(b"b"), Ok(0));
-        Ok(())
-    }
-}

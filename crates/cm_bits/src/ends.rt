@@ -1,6 +1,6 @@
 //! The ends of bytes: where they come from and where they go.
 
-ghost use Rattle.std.specs.Prelude.{◌≡◌, ℕ, Bool, true, false, ◌||◌, ◌<◌, List, Option, length, take, OnOk, IfErr, MatchResult, is_err, ◌≤◌, IfOk};
+ghost use Rattle.std.specs.Prelude.{◌≡◌, ℕ, Bool, true, false, ◌||◌, ◌<◌, List, Option, length, take, OnOk, IfErr, MatchResult, is_err};
 ghost use Rattle.std.specs.Io.{ReadsAtMost, WritesAtMost};
 ghost use Rattle.std.specs.Io.KnownBytes.{Appends, ReadConsumes, WriteAppends};
 ghost use Rattle.cm_bits.specs.Ends.{is_refused, std_inner, std_has_failed};
@@ -121,92 +121,4 @@ pub fn write_all<O: Sink>(sink: &mut O, bytes: &[u8]) -> Result<(), WriteFault>
         }
     }
     Ok(())
-}
-
-#[cfg(test)]
-mod tests {
-    use super::{Failed, Sink, Source, Std, WriteFault, write_all};
-    use crate::doubles::Room;
-    use std::io;
-    use std::io::{ErrorKind, Read, Write};
-
-    /// Fails at its first call, then takes or gives what it is asked to, then nothing.
-    #[derive(Drop)]
-    struct Faltering {
-        calls: u32,
-    }
-
-    impl Faltering {
-        fn count(&mut self, asked: usize) -> io::Result<usize>
-            ensures within { IfOk result (λ count. count ≤ asked) }
-        {
-            self.calls = self.calls.saturating_add(1);
-            match self.calls {
-                1 => Err(ErrorKind::Interrupted.into()),
-                2 => Ok(asked),
-                _ => Ok(0),
-            }
-        }
-    }
-
-    impl Read for Faltering {
-        fn read(&mut self, buf: &mut [u8]) -> io::Result<usize> {
-            self.count(buf.len())
-        }
-    }
-
-    impl Write for Faltering {
-        fn write(&mut self, buf: &[u8]) -> io::Result<usize> {
-            self.count(buf.len())
-        }
-
-        fn flush(&mut self) -> io::Result<()> {
-            Ok(())
-        }
-    }
-
-    #[test]
-    fn std_hands_each_read_on_once(rt: HostRuntime) {
-        let mut buf = [0; 2];
-        let mut source = Std::new(b"abc".as_slice());
-        assert_eq!(rt; source.read(&mut buf), Ok(2));
-        assert_eq!(rt; source.read(&mut buf), Ok(1));
-        assert_eq!(rt; source.read(&mut buf), Ok(0));
-        let mut falters = Std::new(Faltering { calls: 0 });
-        assert_eq!(rt; falters.read(&mut buf), Err(Failed));
-        assert_eq!(rt; falters.inner.calls, 1);
-        assert_eq!(rt; falters.read(&mut buf), Ok(2));
-        assert_eq!(rt; falters.inner.calls, 2);
-        assert!(rt; falters.failed);
-    }
-
-    #[test]
-    fn std_hands_each_write_on_once_and_whole(rt: HostRuntime) {
-        let mut falters = Std::new(Faltering { calls: 0 });
-        assert_eq!(rt; falters.write(b"abc"), Err(Failed));
-        assert_eq!(rt; falters.inner.calls, 1);
-        let mut takes = Std::new(Faltering { calls: 1 });
-        assert_eq!(rt; takes.write(b"abc"), Ok(3));
-        assert_eq!(rt; takes.inner.calls, 2);
-        assert!(rt; !takes.failed);
-        assert_eq!(rt; takes.write(b"abc"), Ok(0));
-        assert_eq!(rt; takes.inner.calls, 3);
-        assert!(rt; takes.failed);
-    }
-
-    #[test]
-    fn a_full_sink_tells_how_far_a_write_came(
-        rt: HostRuntime,
-    ) -> Result<(), std::alloc::AllocError> {
-        let text = b"at 12\nend\n".as_slice();
-        let mut fails = Room::new(rt.alloc(), 7, 3)?;
-        assert_eq!(rt; write_all(&mut fails, text), Err(WriteFault(7)));
-        assert!(rt; fails.taken() == b"at 12\ne".as_slice());
-        let mut takes_none = Room::taking_nothing(rt.alloc(), 0, 3)?;
-        assert_eq!(rt; write_all(&mut takes_none, text), Err(WriteFault(0)));
-        let mut large = Room::new(rt.alloc(), 10, 1)?;
-        assert_eq!(rt; write_all(&mut large, text), Ok(()));
-        assert!(rt; large.taken() == text);
-        Ok(())
-    }
 }

@@ -94,37 +94,3 @@ pub enum Meets {
     /// They have bits in common and are not equal.
     Partly,
 }
-
-#[cfg(test)]
-mod tests {
-    use super::{Field, FieldFault, Meets};
-
-    #[test]
-    fn the_length_is_judged_before_the_end(rt: HostRuntime) {
-        let table = [
-            (0, 0, Some(FieldFault::Width)),
-            (0, 65, Some(FieldFault::Width)),
-            (65535, 65535, Some(FieldFault::Width)),
-            (4090, 8, Some(FieldFault::Range)),
-            (65535, 1, Some(FieldFault::Range)),
-            (4096, 1, Some(FieldFault::Range)),
-            (4095, 1, None),
-            (4032, 64, None),
-        ];
-        for (at, len, want) in table {
-            assert_eq!(rt; Field::new(at, len).err(), want, "at {at}, {len} bits");
-        }
-    }
-
-    #[test]
-    fn fields_are_the_same_apart_or_meet_partly(rt: HostRuntime) -> Result<(), FieldFault> {
-        let field = Field::new(0, 8)?;
-        assert_eq!(rt; field.meets(&Field::new(0, 8)?), Meets::Same);
-        assert_eq!(rt; field.meets(&Field::new(8, 8)?), Meets::Apart);
-        assert_eq!(rt; field.meets(&Field::new(0, 4)?), Meets::Partly);
-        assert_eq!(rt; field.meets(&Field::new(7, 8)?), Meets::Partly);
-        assert_eq!(rt; Field::new(8, 8)?.meets(&field), Meets::Apart);
-        assert_eq!(rt; (field.at(), field.len()), (0, 8));
-        Ok(())
-    }
-}

@@ -13,19 +13,3 @@ pub fn previous(plane: Plane) -> Plane
 {
     plane << 1
 }
-
-#[cfg(test)]
-mod tests {
-    use super::previous;
-
-    #[test]
-    fn bits_go_to_the_next_processor_and_the_last_one_is_lost(rt: HostRuntime) {
-        assert_eq!(rt; previous(0x8001), 0x0002);
-        assert_eq!(rt; previous(0x0002), 0x0004);
-    }
-
-    #[test]
-    fn the_first_processor_gets_0(rt: HostRuntime) {
-        assert_eq!(rt; previous(0xffff), 0xfffe);
-    }
-}

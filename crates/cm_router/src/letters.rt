@@ -149,22 +149,3 @@ fn payload_field() -> Field
 {
     Field::new(4032, 32).unwrap()
 }
-
-#[cfg(test)]
-mod tests {
-    use super::take_none;
-    use cm_bits::FlagNo;
-    use cm_element::Chip;
-    use std::test::Fail;
-
-    #[test]
-    fn senders_that_are_not_taken_go_on_asking(rt: HostRuntime) -> Result<(), Fail> {
-        let (send, ack) = (FlagNo::new(12).unwrap(), FlagNo::new(13).unwrap());
-        let mut chip = Chip::blank(rt.alloc())?;
-        chip.poke_flag_plane(send, 0x8005);
-        chip.poke_flag_plane(ack, 0x00ff);
-        take_none(&mut chip);
-        assert_eq!(rt; (chip.flag_plane(send), chip.flag_plane(ack)), (0x8005, 0));
-        Ok(())
-    }
-}

@@ -67,19 +67,3 @@ fn chosen(four: Four, b: Plane, f: Plane) -> Plane
     );
     changed(b, without, difference)
 }
-
-#[cfg(test)]
-mod tests {
-    use super::apply;
-
-    #[test]
-    fn tables_of_a_full_adder(rt: HostRuntime) {
-        let (a, b, f) = (0xff00, 0xf0f0, 0xaaaa);
-        assert_eq!(rt; apply(0x96, a, b, f), a ^ b ^ f);
-        assert_eq!(rt; apply(0xe8, a, b, f), a & b | a & f | b & f);
-        assert_eq!(rt; apply(0xf0, a, b, f), a);
-        assert_eq!(rt; apply(0xcc, a, b, f), b);
-        assert_eq!(rt; apply(0xaa, a, b, f), f);
-        assert_eq!(rt; apply(0x01, a, b, f), !(a | b | f));
-    }
-}

@@ -26,30 +26,3 @@ fn global_flag() -> FlagNo
 {
     FlagNo::new(9).unwrap()
 }
-
-#[cfg(test)]
-mod tests {
-    use super::{chip_or, wire};
-    use cm_bits::{FlagNo, Proc};
-    use cm_element::Chip;
-
-    #[test]
-    fn one_processor_of_the_second_chip_drives_the_wire(rt: HostRuntime) {
-        let mut chips = [
-            Chip::blank(rt.alloc()).expect(&rt, "memory"),
-            Chip::blank(rt.alloc()).expect(&rt, "memory"),
-        ];
-        assert!(rt; !wire(&chips));
-        let global = FlagNo::new(9).unwrap();
-        let poked = chips[1].poke_flag(Proc::new(15).unwrap(), global, true);
-        assert!(rt; poked.is_ok());
-        assert!(rt; !chip_or(&chips[0]));
-        assert!(rt; chip_or(&chips[1]));
-        assert!(rt; wire(&chips));
-    }
-
-    #[test]
-    fn no_chip_leaves_the_wire_at_0(rt: HostRuntime) {
-        assert!(rt; !wire(&[]));
-    }
-}
