@@ -1,2 +1,3 @@
 mod Filling
 mod Taking
+mod Dumping

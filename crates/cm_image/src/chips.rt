@@ -5,9 +5,8 @@ ghost use Rattle.cm_image_format.specs.Reading.{Gives, made};
 ghost use Rattle.cm_image_format.specs.Image.{flag_part, listed_part, flags_part, memory_part};
 ghost use Rattle.cm_image.specs.Planes.{put_plane};
 
-use cm_image_format::ImageFault;
-
 use crate::numbers::take_u16;
+use cm_image_format::ImageFault;
 
 /// The flag planes of a chip, by number.
 pub fn take_flags(bytes: &[u8]) -> Result<([u16; 16], &[u8]), ImageFault>

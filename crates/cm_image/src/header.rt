@@ -5,9 +5,8 @@ ghost use Rattle.cm_image_format.specs.Reading.{Gives, ◌⨾◌};
 ghost use Rattle.cm_image_format.specs.Image.{is_dimension, is_room, shape_part, clock_part};
 ghost use Rattle.cm_image_format.specs.Whole.{read_shape};
 
-use cm_image_format::ImageFault;
-
 use crate::numbers::{take_u8, take_u32, take_u64};
+use cm_image_format::ImageFault;
 
 /// The four bytes `CM1I`.
 const MAGIC: u32 = 0x434d_3149;

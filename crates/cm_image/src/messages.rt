@@ -4,11 +4,10 @@ ghost use Rattle.std.specs.Prelude.{◌≡◌, ◌≤◌, ◌^◌};
 ghost use Rattle.cm_image_format.specs.Reading.{Gives};
 ghost use Rattle.cm_image_format.specs.Image.{chip_number_part, processor_part, message_part};
 
+use crate::numbers::{take_u8, take_u16, take_u32, take_u64};
 use cm_bits::Proc;
 use cm_image_format::ImageFault;
 use cm_message::{Message, Tag};
-
-use crate::numbers::{take_u8, take_u16, take_u32, take_u64};
 
 /// The number of one of so many chips.
 fn take_chip_number(n: usize, chips: u16, bytes: &[u8]) -> Result<(u16, &[u8]), ImageFault>
@@ -33,7 +32,12 @@ fn take_processor(bytes: &[u8]) -> Result<(u8, &[u8]), ImageFault>
 }
 
 /// A message of a cube of so many chips, born before this count of petit cycles.
-pub fn take_message(n: usize, chips: u16, clock: u64, bytes: &[u8]) -> Result<(Message, &[u8]), ImageFault>
+pub fn take_message(
+    n: usize,
+    chips: u16,
+    clock: u64,
+    bytes: &[u8],
+) -> Result<(Message, &[u8]), ImageFault>
     requires cube { chips ≡ 2 ^ n }
     ensures value { Gives (λ x. (x.0, x.1.now)) result (message_part n clock bytes.now) }
 {
@@ -49,5 +53,17 @@ pub fn take_message(n: usize, chips: u16, clock: u64, bytes: &[u8]) -> Result<(M
     let (Some(proc), Some(origin)) = (Proc::new(proc), Proc::new(origin)) else {
         return Err(ImageFault::Value);
     };
-    Ok((Message { rel, proc, payload, tag: Tag { chip, proc: origin, birth } }, rest))
+    Ok((
+        Message {
+            rel,
+            proc,
+            payload,
+            tag: Tag {
+                chip,
+                proc: origin,
+                birth,
+            },
+        },
+        rest,
+    ))
 }

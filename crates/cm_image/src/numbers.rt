@@ -32,7 +32,10 @@ pub(crate) fn take_u32(bytes: &[u8]) -> Result<(u32, &[u8]), ImageFault>
     if bytes.len() < 4 {
         return Err(ImageFault::Short);
     }
-    Ok((u32::from_be_bytes([bytes[0], bytes[1], bytes[2], bytes[3]]), &bytes[4..]))
+    Ok((
+        u32::from_be_bytes([bytes[0], bytes[1], bytes[2], bytes[3]]),
+        &bytes[4..],
+    ))
 }
 
 #[tactic(auto, unfolding(cm_image_format::specs::Reading::number_at))]

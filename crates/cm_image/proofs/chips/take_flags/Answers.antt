@@ -1,8 +1,8 @@
-use Rattle.std.proofs.Common.{◌≡◌, Ok, refl, arith, length, ◌∙◌}
+use Rattle.std.proofs.Common.{◌≡◌, Ok, refl, arith, ◌∙◌}
 use Rattle.std.proofs.lemmas.List.{length-set}
 use Rattle.std.proofs.lemmas.Result.{err_from_is_err_and}
 use Rattle.cm_image_format.specs.Image.{flag_part}
-use Rattle.cm_image.proofs.Taking.{IsFilling, flags_on, flags_err, flags_all}
+use Rattle.cm_image.proofs.Taking.{flags_on, flags_err, flags_all}
 use Rattle.cm_image.proofs.chips.take_flags.Goals as goal
 
 pub returns-in_err-plane : goal.returns-in_err-plane

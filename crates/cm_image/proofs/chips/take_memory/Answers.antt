@@ -12,8 +12,8 @@ returns-in_err-at c =
     let counted : number_at w16 c.args.bytes.now ≡ Ok (c.in_ok-count.count, c.in_ok-count.rest.now) = cc (c.in_ok-count.ensures.value) in
     record {
       ok = rw (p.1, p.2)
-        (memory_err c.in_ok-count.count c.loop-i.i c.loop-i.least c.loop-i.planes c.loop-i.rest.now c.args.planes.now c.in_ok-count.rest.now c.args.bytes.now _ (omega arith) (omega arith) counted
-        c.loop-i.invariant c.in_err-at.ensures.value);
+          (memory_err c.in_ok-count.count c.loop-i.i c.loop-i.least c.loop-i.planes c.loop-i.rest.now c.args.planes.now c.in_ok-count.rest.now c.args.bytes.now _ (omega arith) (omega arith) counted
+          c.loop-i.invariant c.in_err-at.ensures.value);
     }
 
 pub loop-i-preserved : goal.loop-i-preserved
@@ -29,5 +29,5 @@ returns c =
     let counted : number_at w16 c.args.bytes.now ≡ Ok (c.in_ok-count.count, c.in_ok-count.rest.now) = cc (c.in_ok-count.ensures.value) in
     record {
       ok = memory_all c.in_ok-count.count c.loop-i.i c.loop-i.least c.loop-i.planes c.loop-i.rest.now c.args.planes.now c.in_ok-count.rest.now c.args.bytes.now (omega arith) (omega arith) counted
-        c.loop-i.invariant;
+          c.loop-i.invariant;
     }
