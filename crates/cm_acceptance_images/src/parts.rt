@@ -44,12 +44,19 @@ const ROWS: [Row; 18] = [
 
 fn left(row: &Row) -> Result<usize, ImageFault> {
     match row.part {
-        Part::Flags => take_flags(row.bytes).map(|x| x.1.len()),
+        Part::Flags => match take_flags(row.bytes) {
+            Ok((_, rest)) => Ok(rest.len()),
+            Err(fault) => Err(fault),
+        },
         Part::Memory => {
             let mut planes = [0u16; 4096];
-            take_memory(&mut planes, row.bytes).map(|rest| rest.len())
+            let rest = take_memory(&mut planes, row.bytes)?;
+            Ok(rest.len())
         }
-        Part::Message => take_message(1, 2, 1, row.bytes).map(|x| x.1.len()),
+        Part::Message => match take_message(1, 2, 1, row.bytes) {
+            Ok((_, rest)) => Ok(rest.len()),
+            Err(fault) => Err(fault),
+        },
     }
 }
 
@@ -73,8 +80,8 @@ fn parts_are_judged_one_after_another(rt: HostRuntime) -> Result<(), Fail> {
 fn planes_are_put_at_their_addresses(rt: HostRuntime) -> Result<(), Fail> {
     let mut planes = [3u16; 4096];
     let bytes = [0u8, 2, 0, 5, 0, 1, 0x0f, 0xff, 0x80, 0];
-    let rest = take_memory(&mut planes, &bytes).map(|rest| rest.len());
-    assert_eq!(rt; rest, Ok(0));
+    let rest = take_memory(&mut planes, &bytes)?;
+    assert_eq!(rt; rest.len(), 0);
     assert_eq!(rt; (planes[4], planes[5], planes[6], planes[4095]), (3, 1, 3, 0x8000));
     Ok(())
 }

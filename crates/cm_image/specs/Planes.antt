@@ -18,7 +18,8 @@ flags_text chip count = flat_map (number w16) (each_from 0 count (flag_plane_of 
 
 -- the memory planes of a chip below an address, without those that are 0
 unfoldable pub planes_below : List Processor → ℕ → List Listed
-planes_below chip count = without_zeros (each_from 0 count (λ address. record { at = address; plane = memory_plane_of chip address }))
+planes_below chip count =
+    without_zeros (each_from 0 count (λ address. record { at = address; plane = memory_plane_of chip address }))
 
 -- how they are listed, and how one is
 unfoldable pub listed_below : List Processor → ℕ → List ℕ

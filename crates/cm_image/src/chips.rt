@@ -1,6 +1,6 @@
 //! The planes of a chip of an image.
 
-ghost use Rattle.std.specs.Prelude.{◌≡◌, ◌<◌, MatchResult, IfOk, Ok, Err, fold};
+ghost use Rattle.std.specs.Prelude.{◌≡◌, ◌<◌, IfOk, IfErr, Ok, Err, fold};
 ghost use Rattle.cm_image_format.specs.Reading.{Gives, made};
 ghost use Rattle.cm_image_format.specs.Image.{flag_part, listed_part, flags_part, memory_part};
 ghost use Rattle.cm_image.specs.Planes.{put_plane};
@@ -34,7 +34,8 @@ fn take_flag(f: usize, bytes: &[u8]) -> Result<(u16, &[u8]), ImageFault>
 
 /// The address of a plane, which is this one or above it, and the plane.
 pub fn take_listed(least: u16, bytes: &[u8]) -> Result<(u16, u16, &[u8]), ImageFault>
-    ensures value { Gives (λ x. (record { at = x.0; plane = x.1 }, x.2.now)) result (listed_part least bytes.now) }
+    ensures value { Gives (λ x. (record { at = x.0; plane = x.1 }, x.2.now)) result
+        (listed_part least bytes.now) }
     ensures below { IfOk result (λ x. x.0 < 4096) }
 {
     let (at, rest) = take_u16(bytes)?;
@@ -54,8 +55,9 @@ pub fn take_listed(least: u16, bytes: &[u8]) -> Result<(u16, u16, &[u8]), ImageF
 /// Puts the memory planes that are listed into these, by address, and leaves the others as they are; gives the
 /// bytes after them.
 pub fn take_memory<'a>(planes: &mut [u16; 4096], bytes: &'a [u8]) -> Result<&'a [u8], ImageFault>
-    ensures ok { MatchResult result (λ rest. made (λ listed. fold put_plane planes.old listed) memory_part bytes.now ≡ Ok (planes.new, rest.now))
-        (λ fault. memory_part bytes.now ≡ Err fault) }
+    ensures ok { IfOk result (λ rest. made (λ listed. fold put_plane planes.old listed) memory_part bytes.now
+        ≡ Ok (planes.new, rest.now)) }
+    ensures refused { IfErr result (λ fault. memory_part bytes.now ≡ Err fault) }
 {
     let (count, mut rest) = take_u16(bytes)?;
     if count > 4096 {

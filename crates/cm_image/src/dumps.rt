@@ -44,7 +44,8 @@ fn push_chips<const N: usize, const CAP: usize>(
 ) -> Result<(), NoMemory>
     requires dimension { N ≤ 12 }
     requires room { CAP ≤ 15 }
-    ensures ok { OnOk result (text.new.items ≡ text.old.items ++ flat_map chip_text (image_of N machine.now.machine).chips) }
+    ensures ok { OnOk result (text.new.items
+        ≡ text.old.items ++ flat_map chip_text (image_of N machine.now.machine).chips) }
 {
     let count = chip_count::<N>();
     for c in 0..count {

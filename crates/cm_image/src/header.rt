@@ -11,7 +11,8 @@ use cm_image_format::ImageFault;
 /// The four bytes `CM1I`.
 const MAGIC: u32 = 0x434d_3149;
 
-/// The dimension of the machine whose image this is, and the room of its routers, as far as the first eight bytes tell.
+/// The dimension of the machine whose image this is, and the room of its routers, as far as the first eight
+/// bytes tell.
 #[tactic(auto, unfolding(cm_image_format::specs::Whole::read_shape))]
 pub fn shape(bytes: &[u8]) -> Result<(u8, u8), ImageFault>
     ensures value { Gives (λ x. x) result (read_shape bytes.now) }

@@ -24,16 +24,23 @@ AreBytes bytes = (i : ℕ) → slice_index bytes i < 256
 
 -- its text is read as that machine
 abbrev pub TextsAreRead : Type 0
-TextsAreRead = (n cap : ℕ) (machine : Machine) → IsStored n cap machine → read_image n cap (text_of n cap machine) ≡ Ok machine
+TextsAreRead =
+    (n cap : ℕ) (machine : Machine) → IsStored n cap machine → read_image n cap (text_of n cap machine) ≡ Ok machine
 
 -- bytes that are read as a machine are its text
 abbrev pub OnlyTextsAreRead : Type 0
-OnlyTextsAreRead = (n cap : ℕ) (bytes : List ℕ) (machine : Machine) → AreBytes bytes → read_image n cap bytes ≡ Ok machine → (bytes ≡ text_of n cap machine) × IsStored n cap machine
+OnlyTextsAreRead =
+    (n cap : ℕ) (bytes : List ℕ) (machine : Machine) → AreBytes bytes
+    → read_image n cap bytes ≡ Ok machine → (bytes ≡ text_of n cap machine) × IsStored n cap machine
 
 -- a machine has one text, and a text is that of one machine
 abbrev pub TextsAreApart : Type 0
-TextsAreApart = (n cap : ℕ) (left right : Machine) → IsStored n cap left → IsStored n cap right → text_of n cap left ≡ text_of n cap right → left ≡ right
+TextsAreApart =
+    (n cap : ℕ) (left right : Machine) → IsStored n cap left → IsStored n cap right
+    → text_of n cap left ≡ text_of n cap right → left ≡ right
 
 -- bytes have no fault where they are the text of a machine, and nowhere else
 abbrev pub TextsHaveNoFault : Type 0
-TextsHaveNoFault = (n cap : ℕ) (bytes : List ℕ) → AreBytes bytes → (image_fault n cap bytes ≡ None) ↔ ((machine : Machine) × (IsStored n cap machine × (bytes ≡ text_of n cap machine)))
+TextsHaveNoFault =
+    (n cap : ℕ) (bytes : List ℕ) → AreBytes bytes
+    → (image_fault n cap bytes ≡ None) ↔ ((machine : Machine) × (IsStored n cap machine × (bytes ≡ text_of n cap machine)))

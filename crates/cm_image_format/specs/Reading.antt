@@ -28,7 +28,8 @@ unless (Some fault) x = Err fault
 
 -- a number of this width, whose bytes have to be there
 unfoldable pub number_at : Width → List ℕ → Read ℕ
-number_at w bytes = if nat_lt (length bytes) (byte_len w) then Err Short else Ok (from_be_bytes w bytes, drop (byte_len w) bytes)
+number_at w bytes =
+    if nat_lt (length bytes) (byte_len w) then Err Short else Ok (from_be_bytes w bytes, drop (byte_len w) bytes)
 
 -- a part is a number; then its check is made
 abbrev pub part : Width → Check → List ℕ → Read ℕ

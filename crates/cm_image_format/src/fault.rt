@@ -2,7 +2,8 @@
 
 use thiserror::Error;
 
-/// The first fault of bytes that are no image, and want of memory while one is read. Its numbers are 21 to 29, and 33.
+/// The first fault of bytes that are no image, and want of memory while one is read. Its numbers are 21 to
+/// 29, and 33.
 #[derive(Clone, Copy, Debug, PartialEq, Eq, Error)]
 pub enum ImageFault {
     #[error("the bytes end inside a part")]

@@ -6,15 +6,13 @@ use Rattle.cm_image_format.specs.Image.{listed_part}
 use Rattle.cm_image.proofs.Taking.{IsListing, memory_on, memory_err, memory_all}
 use Rattle.cm_image.proofs.chips.take_memory.Goals as goal
 
-pub returns-in_err-at : goal.returns-in_err-at
-returns-in_err-at c =
+pub returns-in_err-at-clause-refused : goal.returns-in_err-at-clause-refused
+returns-in_err-at-clause-refused c =
     let p = err_from_is_err_and c.from_residual-in_err-at.result c.from_residual-in_err-at.ensures.1 in
     let counted : number_at w16 c.args.bytes.now ≡ Ok (c.in_ok-count.count, c.in_ok-count.rest.now) = cc (c.in_ok-count.ensures.value) in
-    record {
-      ok = rw (p.1, p.2)
-          (memory_err c.in_ok-count.count c.loop-i.i c.loop-i.least c.loop-i.planes c.loop-i.rest.now c.args.planes.now c.in_ok-count.rest.now c.args.bytes.now _ (omega arith) (omega arith) counted
-          c.loop-i.invariant c.in_err-at.ensures.value);
-    }
+    rw (p.1, p.2)
+    (memory_err c.in_ok-count.count c.loop-i.i c.loop-i.least c.loop-i.planes c.loop-i.rest.now c.args.planes.now c.in_ok-count.rest.now c.args.bytes.now _ (omega arith) (omega arith) counted
+    c.loop-i.invariant c.in_err-at.ensures.value)
 
 pub loop-i-preserved : goal.loop-i-preserved
 loop-i-preserved c =
@@ -24,10 +22,8 @@ loop-i-preserved c =
     (memory_on c.in_ok-count.count c.loop-i.i c.loop-i.least c.loop-i.planes c.loop-i.rest.now c.in_ok-at.after.now c.args.planes.now c.in_ok-count.rest.now c.in_ok-at.at c.in_ok-at.plane (omega arith)
     c.loop-i.invariant told)
 
-pub returns : goal.returns
-returns c =
+pub returns-clause-ok : goal.returns-clause-ok
+returns-clause-ok c =
     let counted : number_at w16 c.args.bytes.now ≡ Ok (c.in_ok-count.count, c.in_ok-count.rest.now) = cc (c.in_ok-count.ensures.value) in
-    record {
-      ok = memory_all c.in_ok-count.count c.loop-i.i c.loop-i.least c.loop-i.planes c.loop-i.rest.now c.args.planes.now c.in_ok-count.rest.now c.args.bytes.now (omega arith) (omega arith) counted
-          c.loop-i.invariant;
-    }
+    memory_all c.in_ok-count.count c.loop-i.i c.loop-i.least c.loop-i.planes c.loop-i.rest.now c.args.planes.now c.in_ok-count.rest.now c.args.bytes.now (omega arith) (omega arith) counted
+    c.loop-i.invariant
