@@ -46,6 +46,9 @@ fn a_bit_and_a_flag_stand_in_their_planes(rt: HostRuntime) -> Result<(), Fail> {
     let _ = machine.poke_flag(1, proc, FlagNo::new(15).ok_or("no flag")?, true);
     let text = dump(rt.alloc(), &machine)?;
     assert_eq!(rt; text.len(), 16 + 35 + 39);
-    assert_eq!(rt; text.get(81..90), Some([0x80, 0, 0, 1, 0x0f, 0xff, 0x80, 0, 0].as_slice()));
+    assert_eq!(rt;
+        text.get(81..90),
+        Some([0x80, 0, 0, 1, 0x0f, 0xff, 0x80, 0, 0].as_slice())
+    );
     Ok(())
 }

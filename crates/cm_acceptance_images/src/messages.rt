@@ -5,7 +5,9 @@ use cm_message::{Message, Tag, bytes, of_bytes};
 use std::test::Fail;
 
 /// For processor 5 of the same chip, from processor 0 of chip 0 in petit cycle 0.
-const WORKED: [u8; 18] = [0, 1, 5, 0xde, 0xad, 0xbe, 0xef, 0, 0, 0, 0, 0, 0, 0, 0, 0, 0, 0];
+const WORKED: [u8; 18] = [
+    0, 1, 5, 0xde, 0xad, 0xbe, 0xef, 0, 0, 0, 0, 0, 0, 0, 0, 0, 0, 0,
+];
 
 fn message() -> Result<Message, Fail> {
     Ok(Message {
@@ -24,11 +26,36 @@ struct Row {
 }
 
 const CHANGES: [Row; 5] = [
-    Row { name: "no change", at: 0, byte: 0, is_message: true },
-    Row { name: "processor 15", at: 2, byte: 15, is_message: true },
-    Row { name: "processor 16", at: 2, byte: 16, is_message: false },
-    Row { name: "from processor 16", at: 9, byte: 16, is_message: false },
-    Row { name: "the last birth", at: 10, byte: 255, is_message: true },
+    Row {
+        name: "no change",
+        at: 0,
+        byte: 0,
+        is_message: true,
+    },
+    Row {
+        name: "processor 15",
+        at: 2,
+        byte: 15,
+        is_message: true,
+    },
+    Row {
+        name: "processor 16",
+        at: 2,
+        byte: 16,
+        is_message: false,
+    },
+    Row {
+        name: "from processor 16",
+        at: 9,
+        byte: 16,
+        is_message: false,
+    },
+    Row {
+        name: "the last birth",
+        at: 10,
+        byte: 255,
+        is_message: true,
+    },
 ];
 
 /// What the first row shows that is not so.
