@@ -5,7 +5,8 @@ ghost use Rattle.std.specs.Prelude.{◌≡◌, ◌^◌};
 use cm_array::Machine;
 use cm_bits::Place;
 use cm_message::{Event, Message, Tag};
-use cm_model::{Found, PlainRouter};
+use cm_model::Found;
+use cm_plain::PlainRouter;
 use std::alloc::{AllocError, Global};
 
 /// Whether each message that was taken in is found where it is, and stands in the account of both

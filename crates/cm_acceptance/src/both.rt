@@ -8,7 +8,8 @@ use cm_array::{Machine, Plain, Runner};
 use cm_bits::{FlagNo, Plane, Proc};
 use cm_element::ZeroFlag;
 use cm_message::Message;
-use cm_model::{Act, PlainRouter};
+use cm_model::Act;
+use cm_plain::PlainRouter;
 use std::alloc::Global;
 use std::test::Fail;
 

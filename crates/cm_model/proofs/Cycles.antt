@@ -1,5 +1,5 @@
 -- The steps of a petit cycle, and the acts of a run, one after another, with the count of petit cycles.
-use Rattle.std.proofs.Common.{◌≡◌, ℕ, ◌+◌, ◌≤◌, List, [], ◌∷◌, ◌++◌, map, refl, ap, ◌∙◌, arith}
+use Rattle.std.proofs.Common.{◌≡◌, ℕ, zero, suc, ◌+◌, ◌≤◌, List, [], ◌∷◌, ◌++◌, map, refl, ap, ◌∙◌, arith}
 use Rattle.std.proofs.lemmas.List.{map-append}
 use Rattle.std.specs.List.{range_with_len}
 use Rattle.cm_model.specs.declared.act.Act.{Act}
@@ -8,7 +8,14 @@ use Rattle.cm_model.specs.Steps.{Cross, Deliver}
 use Rattle.cm_model.specs.Machine.{Machine}
 use Rattle.cm_model.specs.Buffers.{machine_after_injection, machine_after_dimension, machine_after_delivery, after_steps, after_act}
 use Rattle.cm_model.proofs.Runs.{after_steps-append}
-use Rattle.cm_model.proofs.Filtered.{range-more}
+
+-- one number more
+pub range-more : (first count : ℕ) → range_with_len first (count + 1) ≡ range_with_len first count ++ (first + count) ∷ []
+range-more first zero = ap (λ (j : ℕ). j ∷ []) (omega arith)
+range-more first (suc count) =
+    let more : suc count + 1 ≡ suc (count + 1) = omega arith in
+    let last : first + 1 + count ≡ first + suc count = omega arith in
+    ap (range_with_len first) more ∙ ap (λ z. first ∷ z) (range-more (first + 1) count ∙ ap (λ j. range_with_len (first + 1) count ++ j ∷ []) last)
 
 -- the machine after so many dimensions are crossed, from the lowest on
 abbrev pub after_crossings : ℕ → ℕ → Machine → ℕ → Machine

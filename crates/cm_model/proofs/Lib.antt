@@ -16,9 +16,6 @@ pub mod Rooms
 pub mod Torus
 pub mod Values
 pub mod Incoming
-mod Made
-mod Filtered
-mod Sorting
 pub mod Cycles
 pub mod Counting
 pub mod Conserving

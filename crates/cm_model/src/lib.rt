@@ -8,10 +8,6 @@ mod found;
 mod grid;
 mod laws;
 mod message;
-mod plain;
-mod plain_buffer;
-mod plain_letters;
-mod plain_router;
 
 pub use act::{Act, Nano};
 pub use found::Found;
@@ -25,5 +21,3 @@ pub use laws::{
     steps_are_told_by_buffers, tags_stay_apart, targets_are_kept,
 };
 pub use message::{Event, Message, Tag};
-pub use plain::PlainMachine;
-pub use plain_router::PlainRouter;

@@ -1,5 +1,0 @@
-use Rattle.std.proofs.Common.{length}
-use Rattle.cm_model.proofs.plain_letters.+value_of.Given as goal
-
-abbrev pub decreases-value_of : goal.decreases-value_of
-decreases-value_of l = length l.bits.now

@@ -1,5 +1,0 @@
-use Rattle.std.proofs.Common.{◌≡◌, take}
-use Rattle.cm_model.proofs.plain_router.PlainRouter.copied_logs.Given as goal
-
-abbrev pub invariant-loop-log : goal.invariant-loop-log
-invariant-loop-log g l = l.logs.items ≡ take l.log-index l.log-items

@@ -1,0 +1,30 @@
+use Rattle.std.proofs.Common.{ℕ, sym, ◌∙◌, ap, length, arith}
+use Rattle.cm_model.specs.Each.{each_from}
+use Rattle.cm_model.specs.Chip.{processor_at}
+use Rattle.cm_model.specs.Letters.{is_among, processor_after_injection, chip_after_injection}
+use Rattle.cm_model.proofs.Each.{length-each_from}
+use Rattle.cm_plain.proofs.Made.{each_from-zero, pushed}
+use Rattle.cm_plain.proofs.machine.PlainChip.after_injection.Goals as goal
+
+pub loop-number-init : goal.loop-number-init
+loop-number-init c = c.new-processors.ensures.items ∙ sym (each_from-zero _)
+
+pub loop-number-preserved : goal.loop-number-preserved
+loop-number-preserved c =
+    let chip = c.args.self.now in
+    let taken = c.args.taken.now in
+    let number_is = rw c.unwrap-proc.ensures at c.new.ensures.value in
+    pushed c.loop-number.number _ c.loop-number.processors.items c.push.new.self.items c.in_ok-after.after c.loop-number.invariant c.in-Ok.ensures.items
+    (c.in_ok-after.ensures.value
+    ∙ (λ i. processor_after_injection (c.is_among-was_taken.ensures.value i) (c.processor.ensures.value i))
+    ∙ ap (λ (p : ℕ). processor_after_injection (is_among p taken) (processor_at chip p)) number_is)
+
+pub invariant_of-result : goal.invariant_of-result
+invariant_of-result c = ap length c.loop-number.invariant ∙ length-each_from 0 c.loop-number.number _ ∙ omega arith
+
+pub returns : goal.returns
+unfolding chip_after_injection
+returns c = record {
+  value = c.loop-number.invariant
+      ∙ ap (λ (n : ℕ). each_from 0 n (λ p. processor_after_injection (is_among p c.args.taken.now) (processor_at c.args.self.now p))) (omega arith);
+}
