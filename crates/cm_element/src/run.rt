@@ -1,15 +1,17 @@
 //! A run of chips as rows: one row of planes for each address and for each flag.
 
-ghost use Rattle.std.specs.Prelude.{◌≡◌, ℕ, ◌<◌, ◌≤◌, Bool, false, length, IfOk};
+ghost use Rattle.std.specs.Prelude.{◌≡◌, ℕ, ◌<◌, ◌≤◌, Bool, false, true, length, slice_index, IfOk};
+ghost use Rattle.cm_bits.specs.Bit.{bit};
 ghost use Rattle.cm_model.specs.Each.{each_from};
 ghost use Rattle.cm_model.specs.Processor.{memory_bit, flag};
 ghost use Rattle.cm_model.specs.Instruction.{takes_incoming};
 ghost use Rattle.cm_model.specs.Chip.{IsPlane, processor_at, blank_chip, chip_after};
 ghost use Rattle.cm_model.specs.Array.{chip_at};
+ghost use Rattle.cm_element.specs.Steps.{AreSent};
 
 mod rows;
 
-use crate::run::rows::{row, step_rows};
+use crate::run::rows::{row, send_row, step_rows, take_rows};
 use cm_bits::{Addr, FlagNo, NoMemory, Plane};
 use cm_model::Nano;
 use std::alloc::Global;
@@ -120,6 +122,40 @@ impl Run {
             nano,
             self.stride,
             self.chips,
+        );
+    }
+
+    /// Writes down what every chip computes for the flag of an instruction, whatever its condition:
+    /// what it sends over NEWS or DAISY.
+    pub fn send(&self, nano: &Nano, sent: &mut [Plane])
+        requires sent { length sent.old ≡ length self.now }
+        ensures value { AreSent nano.now self.now sent.new }
+    {
+        send_row(
+            &self.memory,
+            &self.flags,
+            nano,
+            self.stride,
+            self.chips,
+            sent,
+        );
+    }
+
+    /// One instruction in all chips, when these planes come in over NEWS or DAISY, one at each chip.
+    /// They are used up.
+    pub fn take(&mut self, nano: &Nano, incoming: &mut [Plane])
+        requires taken { takes_incoming nano.now ≡ true }
+        requires incoming { length incoming.old ≡ length self.old }
+        ensures value { self.new ≡ each_from 0 (length self.old)
+            (λ c. chip_after nano.now (bit (slice_index incoming.old c)) (chip_at self.old c)) }
+    {
+        take_rows(
+            &mut self.memory,
+            &mut self.flags,
+            nano,
+            self.stride,
+            self.chips,
+            incoming,
         );
     }
 }

@@ -1,16 +1,19 @@
 //! One instruction over the rows of a run.
 
-ghost use Rattle.std.specs.Prelude.{◌≡◌, ℕ, ◌+◌, ◌*◌, ◌<◌, ◌≤◌, ◌^◌, Bool, false, true};
+ghost use Rattle.std.specs.Prelude.{◌≡◌, ℕ, ◌+◌, ◌*◌, ◌<◌, ◌≤◌, ◌^◌, Bool, false, true, length, slice_index};
+ghost use Rattle.cm_bits.specs.Bit.{bit};
 ghost use Rattle.cm_model.specs.Each.{each_from};
 ghost use Rattle.cm_model.specs.Instruction.{takes_incoming};
 ghost use Rattle.cm_model.specs.Chip.{chip_after};
 ghost use Rattle.cm_model.specs.Array.{chip_at};
 ghost use Rattle.cm_element.specs.Runs.{AreRows, chips_of};
-ghost use Rattle.cm_element.specs.Steps.{ArePlaces};
+ghost use Rattle.cm_element.specs.Steps.{ArePlaces, AreMerged, AreSent};
 
+use crate::chip::{chosen, holding};
 use cm_bits::Plane;
 use cm_model::Nano;
 use cm_rows::{Places, compute, compute_memory};
+use cm_truth::apply;
 
 const ADDRESSES: usize = 4096;
 
@@ -57,6 +60,87 @@ pub(crate) fn step_rows(
             at,
             chips,
         );
+    }
+}
+
+/// Writes down what every chip computes for the flag of an instruction, whatever its condition.
+pub(crate) fn send_row(
+    memory: &[Plane],
+    flags: &[Plane],
+    nano: &Nano,
+    stride: usize,
+    chips: usize,
+    sent: &mut [Plane],
+)
+    requires rows { AreRows memory.now flags.now stride chips }
+    requires sent { length sent.old ≡ chips }
+    ensures value { AreSent nano.now (chips_of memory.now flags.now stride chips) sent.new }
+{
+    let at = places(nano, stride);
+    let table = nano.flag_table;
+    for c in 0..chips {
+        sent[c] = apply(
+            table,
+            memory[at.a + c],
+            memory[at.b + c],
+            flags[at.read + c],
+        );
+    }
+}
+
+/// One instruction in all chips of the rows, when these planes come in over NEWS or DAISY. They are
+/// used up.
+pub(crate) fn take_rows(
+    memory: &mut [Plane],
+    flags: &mut [Plane],
+    nano: &Nano,
+    stride: usize,
+    chips: usize,
+    incoming: &mut [Plane],
+)
+    requires rows { AreRows memory.old flags.old stride chips }
+    requires taken { takes_incoming nano.now ≡ true }
+    requires incoming { length incoming.old ≡ chips }
+    ensures rows { AreRows memory.new flags.new stride chips }
+    ensures value { chips_of memory.new flags.new stride chips
+        ≡ each_from 0 chips (λ c. chip_after nano.now (bit (slice_index incoming.old c))
+        (chip_at (chips_of memory.old flags.old stride chips) c)) }
+{
+    let at = places(nano, stride);
+    compute_memory(
+        nano.mem_table,
+        is_always(nano),
+        nano.sense,
+        memory,
+        flags,
+        at,
+        chips,
+    );
+    merge(flags, nano.sense, at, incoming);
+    put_row(flags, at.write, incoming);
+}
+
+/// Keeps of the planes what comes in where the condition holds, and else has what the written flag has.
+fn merge(flags: &[Plane], sense: bool, at: Places, incoming: &mut [Plane])
+    requires write { at.write + length incoming.old ≤ length flags.now }
+    requires cond { at.cond + length incoming.old ≤ length flags.now }
+    ensures value { AreMerged sense at flags.now incoming.old incoming.new }
+{
+    for c in 0..incoming.len() {
+        let holds = holding(flags[at.cond + c], sense);
+        incoming[c] = chosen(holds, incoming[c], flags[at.write + c]);
+    }
+}
+
+/// Puts planes into a list from a place on.
+fn put_row(rows: &mut [Plane], at: usize, planes: &[Plane])
+    requires within { at + length planes.now ≤ length rows.old }
+    ensures value { (c : ℕ) → c < length planes.now → slice_index rows.new (at + c) ≡ slice_index planes.now c }
+    ensures below { (i : ℕ) → i < at → slice_index rows.new i ≡ slice_index rows.old i }
+    ensures above { (i : ℕ) → at + length planes.now ≤ i → slice_index rows.new i ≡ slice_index rows.old i }
+{
+    for c in 0..planes.len() {
+        rows[at + c] = planes[c];
     }
 }
 

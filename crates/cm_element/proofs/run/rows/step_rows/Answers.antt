@@ -1,6 +1,6 @@
 use Rattle.std.proofs.Common.{◌≡◌, ◌≢◌, true, false, sym, ◌∙◌, arith, eq-eqb, ne_eqb, ◌==◌}
 use Rattle.cm_element.proofs.Columns.{apart_at}
-use Rattle.cm_element.proofs.Stepping.{rows_stepped, chip_stepped, chip_stepped_alone, zero_kept}
+use Rattle.cm_element.proofs.Stepping.{rows_stepped, chip_stepped, chip_stepped_alone, row_changed, zero_kept}
 use Rattle.cm_element.proofs.run.rows.step_rows.Goals as goal
 
 pub compute_memory-requires-clause-b_apart : goal.compute_memory-requires-clause-b_apart
@@ -29,10 +29,9 @@ returns-then-get-eq-ZERO_FLAG-clause-value c = λ incoming.
       rows = c.requires.rows;
       places = c.places-at.ensures.value;
       here = h;
-      alone = c.requires.alone;
       everywhere = c.is_always-always.ensures.value;
       stored = c.compute_memory.ensures.memory;
-    }) zero_flag)
+    }) c.requires.alone zero_flag)
 
 pub returns-else-get-eq-ZERO_FLAG-clause-rows : goal.returns-else-get-eq-ZERO_FLAG-clause-rows
 returns-else-get-eq-ZERO_FLAG-clause-rows c =
@@ -43,8 +42,9 @@ returns-else-get-eq-ZERO_FLAG-clause-rows c =
       flag_words = omega (arith, c.compute.auto.flags, c.requires.rows.flag_words);
       within = c.requires.rows.within;
       few = c.requires.rows.few;
-      zero = zero_kept nano nano.flag_table c.is_always-always.result nano.sense c.places-at.result c.args.stride c.args.chips c.args.memory.now c.args.flags.now c.compute.new.flags
-          c.requires.rows c.places-at.ensures.value.write other c.compute.ensures.flags;
+      zero = zero_kept nano c.args.stride c.args.chips c.args.memory.now c.args.flags.now c.compute.new.flags c.requires.rows other
+          (row_changed nano.flag_table c.is_always-always.result nano.sense c.places-at.result c.places-at.result.write nano.write c.args.stride c.args.chips c.args.memory.now c.args.flags.now c.args.flags.now c.compute.new.flags
+          c.places-at.ensures.value.write c.compute.ensures.flags);
     }
 
 pub returns-else-get-eq-ZERO_FLAG-clause-value : goal.returns-else-get-eq-ZERO_FLAG-clause-value
@@ -57,7 +57,6 @@ returns-else-get-eq-ZERO_FLAG-clause-value c = λ incoming.
       rows = c.requires.rows;
       places = c.places-at.ensures.value;
       here = h;
-      alone = c.requires.alone;
       everywhere = c.is_always-always.ensures.value;
       stored = c.compute.ensures.memory;
-    }) other c.compute.ensures.flags)
+    }) c.requires.alone other c.compute.ensures.flags)
