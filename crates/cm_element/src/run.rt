@@ -21,6 +21,10 @@ const ADDRESSES: usize = 4096;
 
 const FLAGS: usize = 16;
 
+const NEWS_FLAG: u8 = 10;
+
+const DAISY_FLAG: u8 = 11;
+
 /// From so many chips on, rows lie some words further apart than they are long: a power of two would
 /// put all bits of a processor into the same few sets of the cache.
 const MANY: usize = 128;
@@ -158,6 +162,14 @@ impl Run {
             incoming,
         );
     }
+}
+
+/// Whether an instruction takes in what other processors send: it writes NEWS or DAISY.
+pub fn takes_incoming(nano: &Nano) -> bool
+    ensures value { result ≡ takes_incoming nano.now }
+{
+    let number = nano.write.get();
+    number == NEWS_FLAG || number == DAISY_FLAG
 }
 
 /// How far the rows of so many chips lie apart.
