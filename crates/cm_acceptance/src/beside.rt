@@ -111,6 +111,21 @@ fn has_full<const N: usize, const CAP: usize>(machine: &Machine<N, CAP>, chips: 
     false
 }
 
+/// Whether both go through the acts, and are the same afterwards.
+fn stays_plain_through<const N: usize, const CAP: usize>(
+    both: &mut Both<N, CAP>,
+    alloc: Global,
+    acts: &[Act],
+    chips: u16,
+) -> Result<bool, AllocError>
+    requires chips { chips ≡ 2 ^ N }
+{
+    if !both.go(alloc, acts) || !both.agree(chips) {
+        return Ok(false);
+    }
+    are_found(alloc, &both.machine, &both.plain, chips)
+}
+
 /// Whether a machine goes as a plain one does through rounds of petit cycles, and a buffer was full
 /// after one of them.
 fn stays_plain<const N: usize, const CAP: usize>(alloc: Global, chips: u16) -> Result<bool, Fail>
@@ -124,10 +139,7 @@ fn stays_plain<const N: usize, const CAP: usize>(alloc: Global, chips: u16) -> R
     for _round in 0..ROUNDS {
         poke_both(&mut both, &mut draws, chips);
         let acts = drawn_acts(alloc, &mut draws)?;
-        if !both.go(alloc, acts.as_slice()) || !both.agree(chips) {
-            return Ok(false);
-        }
-        if !are_found(alloc, &both.machine, &both.plain, chips)? {
+        if !stays_plain_through(&mut both, alloc, acts.as_slice(), chips)? {
             return Ok(false);
         }
         if has_full(&both.machine, chips) {
@@ -137,53 +149,47 @@ fn stays_plain<const N: usize, const CAP: usize>(alloc: Global, chips: u16) -> R
     Ok(was_full)
 }
 
+/// The same of routers with room for 1, 2, 7 and 15 messages.
+fn stay_plain<const N: usize>(alloc: Global, chips: u16) -> Result<[bool; 4], Fail>
+    requires dimension { N ≤ 12 }
+    requires chips { chips ≡ 2 ^ N }
+    requires some { 0 < chips }
+{
+    Ok([
+        stays_plain::<N, 1>(alloc, chips)?,
+        stays_plain::<N, 2>(alloc, chips)?,
+        stays_plain::<N, 7>(alloc, chips)?,
+        stays_plain::<N, 15>(alloc, chips)?,
+    ])
+}
+
 #[test]
 fn one_chip_goes_as_the_plain_router_does(rt: HostRuntime) -> Result<(), Fail> {
-    let alloc = rt.alloc();
-    assert!(rt; stays_plain::<0, 1>(alloc, 1)?);
-    assert!(rt; stays_plain::<0, 2>(alloc, 1)?);
-    assert!(rt; stays_plain::<0, 7>(alloc, 1)?);
-    assert!(rt; stays_plain::<0, 15>(alloc, 1)?);
+    assert_eq!(rt; stay_plain::<0>(rt.alloc(), 1)?, [true; 4]);
     Ok(())
 }
 
 #[test]
 fn two_chips_go_as_the_plain_router_does(rt: HostRuntime) -> Result<(), Fail> {
-    let alloc = rt.alloc();
-    assert!(rt; stays_plain::<1, 1>(alloc, 2)?);
-    assert!(rt; stays_plain::<1, 2>(alloc, 2)?);
-    assert!(rt; stays_plain::<1, 7>(alloc, 2)?);
-    assert!(rt; stays_plain::<1, 15>(alloc, 2)?);
+    assert_eq!(rt; stay_plain::<1>(rt.alloc(), 2)?, [true; 4]);
     Ok(())
 }
 
 #[test]
 fn four_chips_go_as_the_plain_router_does(rt: HostRuntime) -> Result<(), Fail> {
-    let alloc = rt.alloc();
-    assert!(rt; stays_plain::<2, 1>(alloc, 4)?);
-    assert!(rt; stays_plain::<2, 2>(alloc, 4)?);
-    assert!(rt; stays_plain::<2, 7>(alloc, 4)?);
-    assert!(rt; stays_plain::<2, 15>(alloc, 4)?);
+    assert_eq!(rt; stay_plain::<2>(rt.alloc(), 4)?, [true; 4]);
     Ok(())
 }
 
 #[test]
 fn eight_chips_go_as_the_plain_router_does(rt: HostRuntime) -> Result<(), Fail> {
-    let alloc = rt.alloc();
-    assert!(rt; stays_plain::<3, 1>(alloc, 8)?);
-    assert!(rt; stays_plain::<3, 2>(alloc, 8)?);
-    assert!(rt; stays_plain::<3, 7>(alloc, 8)?);
-    assert!(rt; stays_plain::<3, 15>(alloc, 8)?);
+    assert_eq!(rt; stay_plain::<3>(rt.alloc(), 8)?, [true; 4]);
     Ok(())
 }
 
 #[test]
 fn sixteen_chips_go_as_the_plain_router_does(rt: HostRuntime) -> Result<(), Fail> {
-    let alloc = rt.alloc();
-    assert!(rt; stays_plain::<4, 1>(alloc, 16)?);
-    assert!(rt; stays_plain::<4, 2>(alloc, 16)?);
-    assert!(rt; stays_plain::<4, 7>(alloc, 16)?);
-    assert!(rt; stays_plain::<4, 15>(alloc, 16)?);
+    assert_eq!(rt; stay_plain::<4>(rt.alloc(), 16)?, [true; 4]);
     Ok(())
 }
 
@@ -204,6 +210,26 @@ fn busy_acts(alloc: Global) -> Result<Vec<Act>, AllocError> {
     Ok(acts)
 }
 
+/// In each chip every processor asks to send to a random place.
+fn ask_everywhere<const N: usize, const CAP: usize>(
+    both: &mut Both<N, CAP>,
+    draws: &mut Draws,
+    chips: u16,
+)
+    requires chips { chips ≡ 2 ^ N }
+    requires some { 0 < chips }
+{
+    for chip in 0..chips {
+        for sender in 0u8..16 {
+            let sent = Message {
+                tag: tag(chip, sender),
+                ..drawn_message(draws, chips)
+            };
+            both.ask(&sent);
+        }
+    }
+}
+
 /// Whether a machine in which all processors send goes as a plain one does through one list of thirty
 /// petit cycles, in which more messages are taken in than there are places for at a time.
 fn stays_plain_in_one_list<const N: usize, const CAP: usize>(
@@ -216,27 +242,17 @@ fn stays_plain_in_one_list<const N: usize, const CAP: usize>(
 {
     let mut both = Both::<N, CAP>::blank(alloc)?;
     let mut draws = Draws::new();
-    for chip in 0..chips {
-        for sender in 0u8..16 {
-            let sent = Message {
-                tag: tag(chip, sender),
-                ..drawn_message(&mut draws, chips)
-            };
-            both.ask(&sent);
-        }
-    }
+    ask_everywhere(&mut both, &mut draws, chips);
     let acts = busy_acts(alloc)?;
-    Ok(
-        both.go(alloc, acts.as_slice())
-            && both.agree(chips)
-            && are_found(alloc, &both.machine, &both.plain, chips)?,
-    )
+    Ok(stays_plain_through(&mut both, alloc, acts.as_slice(), chips)?)
 }
 
 #[test]
 fn messages_get_new_places_within_a_list_of_acts(rt: HostRuntime) -> Result<(), Fail> {
-    let alloc = rt.alloc();
-    assert!(rt; stays_plain_in_one_list::<0, 15>(alloc, 1)?);
-    assert!(rt; stays_plain_in_one_list::<2, 7>(alloc, 4)?);
+    let sizes = [
+        stays_plain_in_one_list::<0, 15>(rt.alloc(), 1)?,
+        stays_plain_in_one_list::<2, 7>(rt.alloc(), 4)?,
+    ];
+    assert_eq!(rt; sizes, [true; 2]);
     Ok(())
 }

@@ -65,7 +65,7 @@ impl<const N: usize, const CAP: usize> Both<N, CAP> {
 
     /// Runs the acts in both, and tells whether neither refused.
     pub(crate) fn go(&mut self, alloc: Global, acts: &[Act]) -> bool {
-        if self.plain.clock() >= 1_000 || acts.len() >= 1_000 {
+        if self.plain.clock() >= 1_000 || acts.len() > 4_096 {
             return false;
         }
         Plain.go(&mut self.machine, acts).is_ok() && self.plain.run(alloc, acts).is_ok()

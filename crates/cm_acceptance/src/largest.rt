@@ -1,15 +1,15 @@
 //! How long the largest machine takes for 64 petit cycles: each test tells it, and none judges it.
 
-ghost use Rattle.std.specs.Prelude.{◌<◌};
+ghost use Rattle.std.specs.Prelude.{◌≡◌, ◌<◌};
 
 use crate::draws::Draws;
 use crate::machines::{RECV, SEND, address, ask, everywhere, flag, message, processor, tag};
 use cm_array::{Machine, Plain, Runner};
-use cm_message::Tag;
+use cm_message::{Message, Tag};
 use cm_model::Act;
 use std::alloc::{AllocError, Global};
 use std::test::Fail;
-use std::time::Instant;
+use std::time::{Duration, Instant};
 
 /// 64 times these acts.
 fn turns(alloc: Global, turn: &[Act]) -> Result<Vec<Act>, AllocError> {
@@ -33,19 +33,26 @@ fn put(acts: &mut Vec<Act>, act: Act) -> Result<(), AllocError> {
 fn fill(machine: &mut Machine<12, 7>) {
     let mut draws = Draws::new();
     for chip in 0u16..4096 {
-        for p in 0u8..16 {
-            let rel = draws.below(4096);
-            let receiver = draws.below(16) as u8;
-            let payload = draws.number();
-            let tag = Tag {
-                chip,
-                proc: processor(p),
-                birth: 0,
-            };
-            ask(machine, &message(rel, receiver, payload, tag));
-        }
+        fill_chip(machine, &mut draws, chip);
     }
     machine.poke(1234, processor(5), address(0), true);
+}
+
+fn fill_chip(machine: &mut Machine<12, 7>, draws: &mut Draws, chip: u16)
+    requires chip { chip < 4096 }
+{
+    for sender in 0u8..16 {
+        ask(machine, &drawn_message(draws, tag(chip, sender)));
+    }
+}
+
+fn drawn_message(draws: &mut Draws, tag: Tag) -> Message
+    ensures tag { result.tag ≡ tag }
+{
+    let rel = draws.below(4096);
+    let receiver = draws.below(16) as u8;
+    let payload = draws.number();
+    message(rel, receiver, payload, tag)
 }
 
 fn events_in(machine: &Machine<12, 7>) -> usize {
@@ -71,16 +78,22 @@ fn all_can_receive() -> Act {
     everywhere(flag(RECV), 0x00)
 }
 
+/// How long a machine takes for these acts.
+fn time_of(rt: &HostRuntime, machine: &mut Machine<12, 7>, acts: &[Act]) -> Result<Duration, Fail> {
+    let start = Instant::now(rt)?;
+    let ended = Plain.go(machine, acts);
+    let took = start.elapsed(rt)?;
+    ended?;
+    Ok(took)
+}
+
 /// Runs these acts 64 times, and that as often as is given, each time after what the last has left.
 fn time(rt: &HostRuntime, turn: &[Act], runs: usize) -> Result<(), Fail> {
     let mut machine = Machine::<12, 7>::blank(rt.alloc())?;
     fill(&mut machine);
     let acts = turns(rt.alloc(), turn)?;
     for _run in 0..runs {
-        let start = Instant::now(rt)?;
-        let ended = Plain.go(&mut machine, acts.as_slice());
-        let took = start.elapsed(rt)?;
-        ended?;
+        let took = time_of(rt, &mut machine, acts.as_slice())?;
         println!(rt;
             "{} microseconds a turn, {} events so far",
             took.as_micros() / 64,
@@ -114,11 +127,9 @@ fn the_largest_machine_has_two_instructions_for_each_cycle(rt: HostRuntime) -> R
 
 /// Runs 64 petit cycles and nothing else, three times.
 fn time_cycles(rt: &HostRuntime, machine: &mut Machine<12, 7>) -> Result<(), Fail> {
+    let cycles = turns(rt.alloc(), &[Act::Cycle])?;
     for _run in 0..3 {
-        let start = Instant::now(rt)?;
-        let ended = Plain.go(machine, &[Act::Cycle; 64]);
-        let took = start.elapsed(rt)?;
-        ended?;
+        let took = time_of(rt, machine, cycles.as_slice())?;
         println!(rt; "{} nanoseconds a petit cycle", took.as_nanos() / 64)?;
     }
     Ok(())

@@ -10,14 +10,20 @@ mod beside;
 #[cfg(test)]
 mod both;
 #[cfg(test)]
-mod chip;
-#[cfg(test)]
 mod draws;
-#[cfg(test)]
-mod ends;
 #[cfg(test)]
 mod largest;
 #[cfg(test)]
 mod machines;
 #[cfg(test)]
+mod nodes;
+#[cfg(test)]
+mod plain;
+#[cfg(test)]
 mod router;
+#[cfg(test)]
+mod scenario;
+#[cfg(test)]
+mod scenarios;
+#[cfg(test)]
+mod steps;

@@ -65,7 +65,7 @@ pub(crate) fn poke_plane<const N: usize, const CAP: usize>(
 }
 
 /// Puts a number into a field of one processor, the lowest bit first.
-fn poke_field<const N: usize, const CAP: usize>(
+pub(crate) fn poke_field<const N: usize, const CAP: usize>(
     machine: &mut Machine<N, CAP>,
     chip: u16,
     proc: Proc,

@@ -1,6 +1,6 @@
 -- How many events more each log takes, and how many petit cycles are among acts.
-use Rattle.std.proofs.Common.{◌≡◌, ◌≢◌, ℕ, ◌+◌, ◌*◌, ◌<◌, ◌≤◌, List, [], ◌∷◌, ◌++◌, length, map, get_or, set, take, cond, sym, ◌∙◌, ap, arith, below_more, get_or-set_same, get_or-set_other}
-use Rattle.std.proofs.lemmas.List.{map-set, length-map, take_more}
+use Rattle.std.proofs.Common.{◌≡◌, ◌≢◌, ℕ, ◌+◌, ◌*◌, ◌<◌, ◌≤◌, Result, Ok, Err, OnErr, List, [], ◌∷◌, ◌++◌, length, map, get_or, set, take, cond, sym, ◌∙◌, ap, arith, below_more, get_or-set_same, get_or-set_other}
+use Rattle.std.proofs.lemmas.List.{map-set, length-map, get_or-map, take_more}
 use Rattle.std.proofs.lemmas.List.Sums.{sum_by-append, sum_by-take-le}
 use Rattle.std.proofs.Math.Nat.{mul-le-mul_right}
 use Rattle.std.proofs.Math.Seq.{map-set_same}
@@ -8,6 +8,7 @@ use Rattle.std.specs.Prelude.{vec_len, vec_capacity}
 use Rattle.cm_model.specs.declared.act.Act.{Act}
 use Rattle.cm_petit.specs.Routers.{Log, events_of, free_places, free_at, HasLogRoom, LosesAtMost}
 use Rattle.cm_array.specs.Acts.{is_cycle, cycles_in}
+use Rattle.cm_array.specs.Parts.{log_rooms_of, LacksLogRoom}
 
 -- a log with the same events in its place
 pub events_of-set : (logs : List Log) (c : ℕ) (was now : Log) → now.items ≡ (get_or logs c was).items → events_of (set logs c now) ≡ events_of logs
@@ -24,6 +25,10 @@ free_at-set_other : (logs : List Log) (c k : ℕ) (log : Log) → k ≢ c → fr
 free_at-set_other logs c k log other =
     ap (λ (rooms : List ℕ). get_or rooms k 0) (map-set free_places logs c log) ∙ get_or-set_other (map free_places logs) c k (free_places log) 0 other
 
+-- the log that is read
+free_at-read : (logs : List Log) (c : ℕ) (none : Log) → c < length logs → free_at logs c ≡ free_places (get_or logs c none)
+free_at-read logs c none l = get_or-map free_places logs c none 0 l
+
 -- one log more has room
 pub room_made : (logs : List Log) (more c : ℕ) (log : Log) → c < length logs → vec_len log + more ≤ vec_capacity log → ((k : ℕ) → k < c → more ≤ free_at logs k)
     → (k : ℕ) → k < c + 1 → more ≤ free_at (set logs c log) k
@@ -32,6 +37,27 @@ room_made logs more c log l room before =
     below_more (λ k. more ≤ free_at (set logs c log) k) c
     (λ k h. let other : k ≢ c = omega arith in omega (arith, free_at-set_other logs c k log other, before k h))
     (omega (arith, free_at-set_same logs c log l, places))
+
+-- the logs after it are as they were
+pub room_kept : (logs was : List Log) (c : ℕ) (log : Log) → ((k : ℕ) → c ≤ k → free_at logs k ≡ free_at was k)
+    → (k : ℕ) → c + 1 ≤ k → free_at (set logs c log) k ≡ free_at was k
+room_kept logs was c log before = λ k h. let other : k ≢ c = omega arith in free_at-set_other logs c k log other ∙ before k (omega arith)
+
+-- a log that could not grow has too little room
+pub room_lacks : (logs was : List Log) (more c : ℕ) (none : Log) → c < length logs → length logs ≡ length was → more ≢ 0
+    → vec_capacity (get_or logs c none) < vec_len (get_or logs c none) + more → free_at logs c ≡ free_at was c → LacksLogRoom more (log_rooms_of was)
+room_lacks logs was more c none l same some full kept = record {
+  chip = c;
+  is_chip = omega (arith, length-map was free_places);
+  few =
+      let few : free_places (get_or logs c none) < more = omega arith in
+      omega (arith, free_at-read logs c none l, kept, few);
+}
+
+-- a fact that holds holds of every error
+pub on_err : {A E P : Type 0} (result : Result A E) → P → OnErr result P
+on_err (Ok x) p = tt
+on_err (Err e) p = p
 
 -- ---- room for a run of acts
 

@@ -1,15 +1,34 @@
 -- A machine as it is kept: chips, nodes and logs by number, a counter, and working room by number. Ours.
-use Rattle.std.specs.Prelude.{◌≡◌, ℕ, ◌<◌, ◌≤◌, ◌^◌, length}
+use Rattle.std.specs.Prelude.{◌≡◌, ℕ, ◌<◌, ◌≤◌, ◌^◌, List, length, map, slice_index}
 use Rattle.std.specs.List.{All}
 use Rattle.cm_model.specs.Machine.{Machine}
 use Rattle.cm_model.specs.Keeping.{IsMachine}
 use Rattle.cm_router.specs.Buffer.{buffers_of}
-use Rattle.cm_petit.specs.Routers.{machine_of as machine_from, AreNodes, AreEmpty}
+use Rattle.cm_petit.specs.Routers.{Log, machine_of as machine_from, free_places, AreNodes, AreEmpty}
 use Rattle.cm_array.specs.declared.parts.Parts.{Parts}
 
 -- the machine that the parts are
 abbrev pub machine_of : Parts → Machine
 machine_of parts = machine_from parts.chips.items (buffers_of parts.nodes.items) parts.logs.items parts.clock
+
+-- how many events more each log takes before it has to grow
+abbrev pub log_rooms_of : List Log → List ℕ
+log_rooms_of logs = map free_places logs
+
+-- a machine, and by chip how many events more its log takes before it has to grow
+pub record Kept : Type 0 where
+  pub machine : Machine
+  pub log_rooms : List ℕ
+
+-- what contracts see of the parts
+abbrev pub kept_of : Parts → Kept
+kept_of parts = record { machine = machine_of parts; log_rooms = log_rooms_of parts.logs.items }
+
+-- some chip's log has to grow to take so many events more
+pub record LacksLogRoom (count : ℕ) (log_rooms : List ℕ) : Type 0 where
+  pub chip : ℕ
+  pub is_chip : chip < length log_rooms
+  pub few : slice_index log_rooms chip < count
 
 -- the machine that they are while acts are run of which some are petit cycles
 abbrev pub under_way : Parts → Machine

@@ -1,6 +1,6 @@
 //! A machine of 2^N chips.
 
-ghost use Rattle.std.specs.Prelude.{◌≡◌, ◌+◌, ◌^◌, ◌<◌, ◌≤◌, ◌↔◌, IfOk, IfSome, IsErr, IsErrOf, IsOk, IsOkUnless, OnOk, OnErr, None};
+ghost use Rattle.std.specs.Prelude.{◌≡◌, ◌+◌, ◌*◌, ◌^◌, ◌<◌, ◌≤◌, ◌↔◌, IfOk, IfSome, IsErr, IsErrOf, IsOk, IsOkUnless, OnOk, OnErr, None};
 ghost use Rattle.cm_model.specs.Processor.{ZERO};
 ghost use Rattle.cm_model.specs.Array.{chip_at, wire};
 ghost use Rattle.cm_model.specs.Cycle.{log_at};
@@ -9,7 +9,7 @@ ghost use Rattle.cm_model.specs.Found.{found_in, IsWhereabouts};
 ghost use Rattle.cm_model.specs.Keeping.{IsMachine};
 ghost use Rattle.cm_array.specs.Acts.{cycles_in};
 ghost use Rattle.cm_array.specs.Faults.{size_fault};
-ghost use Rattle.cm_array.specs.Parts.{AreSizes};
+ghost use Rattle.cm_array.specs.Parts.{AreSizes, LacksLogRoom};
 ghost use Rattle.cm_array.specs.Pokes.{with_memory_bit, with_flag};
 
 use crate::finding::{delivered_to, router_of};
@@ -58,20 +58,19 @@ impl From<NoMemory> for MachineFault {
 /// A machine of 2^`N` chips, whose routers have room for `CAP` messages each.
 ///
 /// Contracts see its chips by number, the buffer and the log of each, and the count of its petit
-/// cycles. No tag stands twice in its account, and each message whose injection a log tells of stands
-/// there once.
+/// cycles; beside these, how many events more each log takes before it has to grow. No tag stands
+/// twice in its account, and each message whose injection a log tells of stands there once.
 #[derive(Debug, Drop)]
 pub struct Machine<const N: usize, const CAP: usize> {
     parts: Parts,
 }
 
 impl<const N: usize, const CAP: usize> Model for Machine<N, CAP> {
-    ghost use Rattle.cm_model.specs.Machine.{Machine as Whole};
-    ghost use Rattle.cm_array.specs.Parts.{machine_of, AreParts};
+    ghost use Rattle.cm_array.specs.Parts.{Kept, kept_of, AreParts};
 
-    ghost Value = { Whole };
+    ghost Value = { Kept };
 
-    ghost view = { λ machine. machine_of machine.parts };
+    ghost view = { λ machine. kept_of machine.parts };
 
     ghost invariant = { λ machine. AreParts N CAP machine.parts };
 }
@@ -79,17 +78,17 @@ impl<const N: usize, const CAP: usize> Model for Machine<N, CAP> {
 impl<const N: usize, const CAP: usize> Machine<N, CAP> {
     /// A machine with all bits and flags 0, no message and no event.
     pub fn blank(alloc: Global) -> Result<Self, MachineFault>
-        ensures value { IfOk result (λ machine. machine ≡ blank_machine N) }
+        ensures value { IfOk result (λ kept. kept.machine ≡ blank_machine N) }
         ensures refused { IfSome (size_fault N CAP) (λ fault. IsErrOf result fault) }
         ensures otherwise { size_fault N CAP ≡ None → IsOkUnless result MachineFault.Memory }
     {
         Self::blank_at(alloc, 0)
     }
 
-    /// The same, after so many petit cycles.
+    /// A machine with all bits and flags 0, no message and no event, whose count of petit cycles begins at `clock`.
     fn blank_at(alloc: Global, clock: u64) -> Result<Self, MachineFault>
         requires clock { clock < 2 ^ 63 }
-        ensures value { IfOk result (λ machine. machine ≡ record (blank_machine N) { clock = clock }) }
+        ensures value { IfOk result (λ kept. kept.machine ≡ record (blank_machine N) { clock = clock }) }
         ensures refused { IfSome (size_fault N CAP) (λ fault. IsErrOf result fault) }
         ensures otherwise { size_fault N CAP ≡ None → IsOkUnless result MachineFault.Memory }
     {
@@ -121,7 +120,7 @@ impl<const N: usize, const CAP: usize> Machine<N, CAP> {
 
     /// A second machine, the same as this one, its logs too.
     pub fn copy(&self, alloc: Global) -> Result<Self, NoMemory>
-        ensures value { IfOk result (λ machine. machine ≡ self.now) }
+        ensures value { IfOk result (λ kept. kept.machine ≡ self.now.machine) }
     {
         let count = self.parts.chips.len();
         let chips = copied_chips(alloc, &self.parts.chips)?;
@@ -146,8 +145,8 @@ impl<const N: usize, const CAP: usize> Machine<N, CAP> {
     /// The chip of that number, to be read.
     pub fn chip(&self, number: u16) -> &Chip
         requires number { number < 2 ^ N }
-        ensures value { result.now ≡ chip_at self.now.chips number }
-        ensures whole { IsMachine N CAP self.now }
+        ensures value { result.now ≡ chip_at self.now.machine.chips number }
+        ensures whole { IsMachine N CAP self.now.machine }
     {
         &self.parts.chips[usize::from(number)]
     }
@@ -155,8 +154,8 @@ impl<const N: usize, const CAP: usize> Machine<N, CAP> {
     /// The messages that stand in a chip's router, in order of arrival.
     pub fn buffer(&self, chip: u16) -> &[Message]
         requires chip { chip < 2 ^ N }
-        ensures value { result.now ≡ buffer_at self.now.buffers chip }
-        ensures whole { IsMachine N CAP self.now }
+        ensures value { result.now ≡ buffer_at self.now.machine.buffers chip }
+        ensures whole { IsMachine N CAP self.now.machine }
     {
         self.parts.nodes[usize::from(chip)].messages()
     }
@@ -164,27 +163,27 @@ impl<const N: usize, const CAP: usize> Machine<N, CAP> {
     /// A chip's events since the machine was made, the oldest first; a copy has those of its original.
     pub fn log(&self, chip: u16) -> &[Event]
         requires chip { chip < 2 ^ N }
-        ensures value { result.now ≡ log_at self.now.logs chip }
-        ensures whole { IsMachine N CAP self.now }
+        ensures value { result.now ≡ log_at self.now.machine.logs chip }
+        ensures whole { IsMachine N CAP self.now.machine }
     {
         &self.parts.logs[usize::from(chip)]
     }
 
     /// Petit cycles so far.
     pub fn clock(&self) -> u64
-        ensures value { result ≡ self.now.clock }
+        ensures value { result ≡ self.now.machine.clock }
         ensures within { result < 2 ^ 63 }
         ensures sizes { AreSizes N CAP }
-        ensures whole { IsMachine N CAP self.now }
+        ensures whole { IsMachine N CAP self.now.machine }
     {
         self.parts.clock
     }
 
     /// Where the message of a tag is: in a router, or else delivered, or else nowhere.
     pub fn find(&self, tag: Tag) -> Found
-        ensures value { result ≡ found_in N self.now tag }
-        ensures there { IsWhereabouts N self.now tag result }
-        ensures whole { IsMachine N CAP self.now }
+        ensures value { result ≡ found_in N self.now.machine tag }
+        ensures there { IsWhereabouts N self.now.machine tag result }
+        ensures whole { IsMachine N CAP self.now.machine }
     {
         if let Some(chip) = router_of(&self.parts.nodes, &tag) {
             return Found::Router(chip);
@@ -197,8 +196,8 @@ impl<const N: usize, const CAP: usize> Machine<N, CAP> {
 
     /// The global wire: whether flag GLOBAL is 1 in some processor (Hillis 1985).
     pub fn wire(&self) -> bool
-        ensures value { result ≡ wire self.now.chips }
-        ensures whole { IsMachine N CAP self.now }
+        ensures value { result ≡ wire self.now.machine.chips }
+        ensures whole { IsMachine N CAP self.now.machine }
     {
         cm_wire::wire(&self.parts.chips)
     }
@@ -206,7 +205,8 @@ impl<const N: usize, const CAP: usize> Machine<N, CAP> {
     /// Puts a bit into the memory of one processor.
     pub fn poke(&mut self, chip: u16, proc: Proc, at: Addr, bit: bool)
         requires chip { chip < 2 ^ N }
-        ensures value { self.new ≡ with_memory_bit self.old chip proc at bit }
+        ensures value { self.new
+            ≡ record self.old { machine = with_memory_bit self.old.machine chip proc at bit } }
     {
         let poked = &mut self.parts.chips[usize::from(chip)];
         poked.poke(proc, at, bit);
@@ -222,7 +222,8 @@ impl<const N: usize, const CAP: usize> Machine<N, CAP> {
     ) -> Result<(), ZeroFlag>
         requires chip { chip < 2 ^ N }
         ensures zero_flag { IsErr result ↔ (number ≡ ZERO) }
-        ensures ok { OnOk result (self.new ≡ with_flag self.old chip proc number bit) }
+        ensures ok { OnOk result (self.new
+            ≡ record self.old { machine = with_flag self.old.machine chip proc number bit }) }
         ensures err { OnErr result (self.new ≡ self.old) }
     {
         let chip = &mut self.parts.chips[usize::from(chip)];
@@ -240,10 +241,11 @@ impl<const N: usize, const CAP: usize> Machine<N, CAP> {
     pub(crate) fn run(&mut self, acts: &[Act], cycles: usize) -> Result<(), NoMemory>
         requires cycles { cycles ≡ cycles_in acts.now }
         requires few { cycles ≤ 64 }
-        requires clock { self.old.clock + cycles < 2 ^ 63 }
+        requires clock { self.old.machine.clock + cycles < 2 ^ 63 }
         ensures no_cycles { cycles ≡ 0 → IsOk result }
-        ensures ok { OnOk result (self.new ≡ run_of N CAP self.old acts.now) }
-        ensures err { OnErr result (self.new ≡ self.old) }
+        ensures memory { OnErr result (LacksLogRoom (cycles * (4 + CAP)) self.old.log_rooms) }
+        ensures ok { OnOk result (self.new.machine ≡ run_of N CAP self.old.machine acts.now) }
+        ensures err { OnErr result (self.new.machine ≡ self.old.machine) }
     {
         reserve(&mut self.parts.logs, cycles * (MOST_INJECTED + CAP))?;
         // Without petit cycles the messages need not be taken up.

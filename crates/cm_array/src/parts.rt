@@ -1,6 +1,6 @@
 //! What a machine is kept as, and what acts do to it.
 
-ghost use Rattle.std.specs.Prelude.{◌≡◌, ◌+◌, ◌*◌, ◌/◌, ◌^◌, ◌<◌, ◌≤◌, [], ◌∷◌, IfOk, IsOk, OnOk, length, vec_len, vec_capacity};
+ghost use Rattle.std.specs.Prelude.{◌≡◌, ◌+◌, ◌*◌, ◌/◌, ◌^◌, ◌<◌, ◌≤◌, [], ◌∷◌, IfOk, IsOk, OnErr, OnOk, length, vec_len, vec_capacity};
 ghost use Rattle.cm_model.specs.Chip.{blank_chip};
 ghost use Rattle.cm_model.specs.Each.{each_from};
 ghost use Rattle.cm_model.specs.Array.{after_nano};
@@ -8,7 +8,7 @@ ghost use Rattle.cm_model.specs.Machine.{run_of};
 ghost use Rattle.cm_model.specs.Buffers.{after_act};
 ghost use Rattle.cm_petit.specs.Routers.{events_of, HasLogRoom, LosesAtMost};
 ghost use Rattle.cm_array.specs.Acts.{cycles_in};
-ghost use Rattle.cm_array.specs.Parts.{machine_of, under_way, AreParts, AreUnderWay};
+ghost use Rattle.cm_array.specs.Parts.{machine_of, under_way, log_rooms_of, AreParts, AreUnderWay, LacksLogRoom};
 
 use crate::stepping::{compute, step_alone, store_all};
 use cm_bits::{NoMemory, Plane};
@@ -141,6 +141,7 @@ fn instruct<const N: usize>(parts: &mut Parts, nano: &Nano)
 pub(crate) fn reserve(logs: &mut [Vec<Event>], more: usize) -> Result<(), NoMemory>
     ensures events { events_of logs.new ≡ events_of logs.old }
     ensures ok { OnOk result (HasLogRoom more logs.new) }
+    ensures err { OnErr result (LacksLogRoom more (log_rooms_of logs.old)) }
     ensures no_more { more ≡ 0 → IsOk result }
 {
     if more == 0 {
@@ -160,6 +161,7 @@ fn make_room(log: &mut Vec<Event>, more: usize) -> Result<(), NoMemory>
     ensures len { vec_len log.new ≡ vec_len log.old }
     ensures ok { OnOk result (vec_len log.new + more ≤ vec_capacity log.new) }
     ensures succeeds { vec_len log.old + more ≤ vec_capacity log.old → IsOk result }
+    ensures full { OnErr result (vec_capacity log.old < vec_len log.old + more) }
     ensures grows { OnOk result (vec_capacity log.old < vec_capacity log.new
         → 2 * vec_capacity log.old ≤ vec_capacity log.new) }
     ensures ample { OnOk result (vec_capacity log.old < vec_capacity log.new
@@ -185,9 +187,7 @@ pub(crate) fn blank_chips(alloc: Global, count: usize) -> Result<Vec<Chip>, NoMe
     let mut chips = Vec::with_capacity(alloc, count)?;
     for _c in 0..count {
         let chip = Chip::blank(alloc)?;
-        let Ok(()) = chips.push(chip) else {
-            return Err(NoMemory);
-        };
+        chips.push_reserved(chip);
     }
     Ok(chips)
 }
@@ -199,9 +199,7 @@ pub(crate) fn blank_nodes(alloc: Global, count: usize, room: u8) -> Result<Vec<N
 {
     let mut nodes = Vec::with_capacity(alloc, count)?;
     for _c in 0..count {
-        let Ok(()) = nodes.push(Node::new(room)) else {
-            return Err(NoMemory);
-        };
+        nodes.push_reserved(Node::new(room));
     }
     Ok(nodes)
 }
@@ -211,9 +209,7 @@ pub(crate) fn blank_logs(alloc: Global, count: usize) -> Result<Vec<Vec<Event>>,
 {
     let mut logs = Vec::with_capacity(alloc, count)?;
     for _c in 0..count {
-        let Ok(()) = logs.push(Vec::new(alloc)) else {
-            return Err(NoMemory);
-        };
+        logs.push_reserved(Vec::new(alloc));
     }
     Ok(logs)
 }
@@ -241,9 +237,7 @@ pub(crate) fn copied_chips(alloc: Global, chips: &[Chip]) -> Result<Vec<Chip>, N
     let mut copies = Vec::with_capacity(alloc, chips.len())?;
     for chip in chips {
         let copy = chip.copy(alloc)?;
-        let Ok(()) = copies.push(copy) else {
-            return Err(NoMemory);
-        };
+        copies.push_reserved(copy);
     }
     Ok(copies)
 }
@@ -253,9 +247,7 @@ pub(crate) fn copied_nodes(alloc: Global, nodes: &[Node]) -> Result<Vec<Node>, N
 {
     let mut copies = Vec::with_capacity(alloc, nodes.len())?;
     for node in nodes {
-        let Ok(()) = copies.push(node.copy()) else {
-            return Err(NoMemory);
-        };
+        copies.push_reserved(node.copy());
     }
     Ok(copies)
 }
@@ -266,9 +258,7 @@ pub(crate) fn copied_logs(alloc: Global, logs: &[Vec<Event>]) -> Result<Vec<Vec<
     let mut copies = Vec::with_capacity(alloc, logs.len())?;
     for log in logs {
         let copy = log.to_vec(alloc)?;
-        let Ok(()) = copies.push(copy) else {
-            return Err(NoMemory);
-        };
+        copies.push_reserved(copy);
     }
     Ok(copies)
 }

@@ -1,9 +1,10 @@
 //! What makes a machine go through a list of acts, and the plain one, of one thread.
 
-ghost use Rattle.std.specs.Prelude.{◌≡◌, ◌↔◌, ◌++◌, IsFalse, IsOk, IsTrue, OnOk, OnErr, []};
+ghost use Rattle.std.specs.Prelude.{◌≡◌, ◌↔◌, ◌+◌, ◌*◌, ◌++◌, IsErrOf, IsFalse, IsOk, IsTrue, OnOk, OnErr, []};
 ghost use Rattle.cm_model.specs.Machine.{run_of};
 ghost use Rattle.cm_model.specs.Account.{account, newly_injected, SameLines};
 ghost use Rattle.cm_array.specs.Acts.{cycles_in, is_cycle, is_late, is_long};
+ghost use Rattle.cm_array.specs.Parts.{LacksLogRoom};
 
 use crate::machine::Machine;
 use cm_bits::NoMemory;
@@ -49,12 +50,12 @@ pub trait Runner<const N: usize, const CAP: usize> {
         requires runner { ready }
         ensures long { (result ≡ Err RunFault.Long) ↔ IsTrue (is_long acts.now) }
         ensures clock { (result ≡ Err RunFault.Clock)
-            ↔ (IsFalse (is_long acts.now) × IsTrue (is_late machine.old.clock acts.now)) }
+            ↔ (IsFalse (is_long acts.now) × IsTrue (is_late machine.old.machine.clock acts.now)) }
         ensures empty { acts.now ≡ [] → IsOk result }
-        ensures ok { OnOk result (machine.new ≡ run_of N CAP machine.old acts.now) }
-        ensures account { OnOk result (SameLines (account N machine.new)
-            (account N machine.old ++ newly_injected N machine.old machine.new)) }
-        ensures err { OnErr result (machine.new ≡ machine.old) };
+        ensures ok { OnOk result (machine.new.machine ≡ run_of N CAP machine.old.machine acts.now) }
+        ensures account { OnOk result (SameLines (account N machine.new.machine)
+            (account N machine.old.machine ++ newly_injected N machine.old.machine machine.new.machine)) }
+        ensures err { OnErr result (machine.new.machine ≡ machine.old.machine) };
 }
 
 /// The runner of one thread: one act after another, in the machine itself.
@@ -65,17 +66,19 @@ impl<const N: usize, const CAP: usize> Runner<N, CAP> for Plain {
     ghost ready = { Unit {0} };
 
     /// Takes memory for the logs of all petit cycles in the list, before the first act, and none where
-    /// there is no petit cycle among the acts.
+    /// each log has room for them: a petit cycle tells at most 4 + `CAP` events of a chip.
     fn go(&mut self, machine: &mut Machine<N, CAP>, acts: &[Act]) -> Result<(), RunFault>
         ensures long { (result ≡ Err RunFault.Long) ↔ IsTrue (is_long acts.now) }
         ensures clock { (result ≡ Err RunFault.Clock)
-            ↔ (IsFalse (is_long acts.now) × IsTrue (is_late machine.old.clock acts.now)) }
+            ↔ (IsFalse (is_long acts.now) × IsTrue (is_late machine.old.machine.clock acts.now)) }
         ensures empty { acts.now ≡ [] → IsOk result }
         ensures no_cycles { cycles_in acts.now ≡ 0 → IsFalse (is_long acts.now) → IsOk result }
-        ensures ok { OnOk result (machine.new ≡ run_of N CAP machine.old acts.now) }
-        ensures account { OnOk result (SameLines (account N machine.new)
-            (account N machine.old ++ newly_injected N machine.old machine.new)) }
-        ensures err { OnErr result (machine.new ≡ machine.old) }
+        ensures memory { IsErrOf result RunFault.Memory
+            → LacksLogRoom (cycles_in acts.now * (4 + CAP)) machine.old.log_rooms }
+        ensures ok { OnOk result (machine.new.machine ≡ run_of N CAP machine.old.machine acts.now) }
+        ensures account { OnOk result (SameLines (account N machine.new.machine)
+            (account N machine.old.machine ++ newly_injected N machine.old.machine machine.new.machine)) }
+        ensures err { OnErr result (machine.new.machine ≡ machine.old.machine) }
     {
         let cycles = cycles_in(acts);
         if acts.len() > LONGEST || cycles > MOST_CYCLES {

@@ -57,6 +57,27 @@ impl Model for FlagNo {
 }
 
 impl FlagNo {
+    /// Always 0: what is stored into it is dropped.
+    pub const ZERO: FlagNo = FlagNo { flag: 8 };
+
+    /// Its OR over all processors is the global wire.
+    pub const GLOBAL: FlagNo = FlagNo { flag: 9 };
+
+    /// What is stored into it goes over the grid.
+    pub const NEWS: FlagNo = FlagNo { flag: 10 };
+
+    /// What is stored into it goes along the chip's chain.
+    pub const DAISY: FlagNo = FlagNo { flag: 11 };
+
+    /// Asks the router to take a message.
+    pub const SEND: FlagNo = FlagNo { flag: 12 };
+
+    /// Tells that a message was taken.
+    pub const ACK: FlagNo = FlagNo { flag: 13 };
+
+    /// Tells that a message was delivered, and keeps out the next.
+    pub const RECV: FlagNo = FlagNo { flag: 14 };
+
     pub fn new(number: u8) -> Option<FlagNo>
         ensures in_range { IsSome result ↔ (number < 16) }
         ensures value { IfSome result (λ n. n ≡ number) }

@@ -5,10 +5,11 @@ use Rattle.std.proofs.lemmas.List.Splits.{length-slice_split}
 use Rattle.std.proofs.lemmas.List.Sums.{count_by-le-length}
 use Rattle.cm_bits.specs.Text.{lines_of, is_line_end, without_empty_last, words_of}
 use Rattle.cm_model.specs.declared.act.Nano.{Nano}
+use Rattle.cm_cli.specs.declared.fault.LineKind.{LineKind}
+use Rattle.cm_cli.specs.declared.fault.LineKind.TheVariants.{Word, Operands, Number}
 use Rattle.cm_cli.specs.declared.fault.AsmKind.{AsmKind}
-use Rattle.cm_cli.specs.declared.fault.AsmKind.TheVariants.{Memory, Word, Operands, Number}
 use Rattle.cm_cli.specs.declared.fault.AsmFault.{AsmFault}
-use Rattle.cm_cli.specs.Program.{nanos_of_lines, with_line, program_of, IsGrownFor, MatchKind, IsFaultOf}
+use Rattle.cm_cli.specs.Program.{nanos_of_lines, with_line, program_of, kind_of, IsAcceptedThrough, IsFaultOf}
 use Rattle.cm_cli.specs.NanoLine.{instruction_of}
 
 -- instructions before those that were read
@@ -34,7 +35,7 @@ few_lines text = omega (arith, few_parts (slice_split is_line_end text), length-
 -- a blank line adds nothing
 pub read_blank : (nanos : List Nano) (number : ℕ) (line : List ℕ) (lines : List (List ℕ)) → instruction_of (words_of line) ≡ Ok None
     → prepended nanos (nanos_of_lines number (line ∷ lines)) ≡ prepended nanos (nanos_of_lines (number + 1) lines)
-read_blank nanos number line lines is = ap (λ (r : Result (Option Nano) AsmKind). prepended nanos (with_line number r (nanos_of_lines (number + 1) lines))) is
+read_blank nanos number line lines is = ap (λ (r : Result (Option Nano) LineKind). prepended nanos (with_line number r (nanos_of_lines (number + 1) lines))) is
 
 nano_first : (nanos : List Nano) (number : ℕ) (nano : Nano) (after : Result (List Nano) AsmFault)
     → prepended nanos (with_line number (Ok (Some nano)) after) ≡ prepended (nanos ++ nano ∷ []) after
@@ -45,13 +46,13 @@ nano_first nanos number nano (Err fault) = refl
 pub read_instruction : (nanos : List Nano) (number : ℕ) (line : List ℕ) (lines : List (List ℕ)) (nano : Nano) → instruction_of (words_of line) ≡ Ok (Some nano)
     → prepended nanos (nanos_of_lines number (line ∷ lines)) ≡ prepended (nanos ++ nano ∷ []) (nanos_of_lines (number + 1) lines)
 read_instruction nanos number line lines nano is =
-    ap (λ (r : Result (Option Nano) AsmKind). prepended nanos (with_line number r (nanos_of_lines (number + 1) lines))) is
+    ap (λ (r : Result (Option Nano) LineKind). prepended nanos (with_line number r (nanos_of_lines (number + 1) lines))) is
     ∙ nano_first nanos number nano (nanos_of_lines (number + 1) lines)
 
 -- a faulty line is the fault of the text
-pub read_fault : (nanos : List Nano) (number : ℕ) (line : List ℕ) (lines : List (List ℕ)) (kind : AsmKind) → instruction_of (words_of line) ≡ Err kind
-    → prepended nanos (nanos_of_lines number (line ∷ lines)) ≡ Err (record { line = number; kind = kind })
-read_fault nanos number line lines kind is = ap (λ (r : Result (Option Nano) AsmKind). prepended nanos (with_line number r (nanos_of_lines (number + 1) lines))) is
+pub read_fault : (nanos : List Nano) (number : ℕ) (line : List ℕ) (lines : List (List ℕ)) (fault : LineKind) → instruction_of (words_of line) ≡ Err fault
+    → prepended nanos (nanos_of_lines number (line ∷ lines)) ≡ Err (record { line = number; kind = kind_of fault })
+read_fault nanos number line lines fault is = ap (λ (r : Result (Option Nano) LineKind). prepended nanos (with_line number r (nanos_of_lines (number + 1) lines))) is
 
 -- ---- the lines that were read, one more at a time
 
@@ -60,7 +61,7 @@ abbrev pub joined : Result (List Nano) AsmFault → Result (List Nano) AsmFault 
 joined (Ok nanos) after = prepended nanos after
 joined (Err fault) after = Err fault
 
-line_first : (number : ℕ) (first : Result (Option Nano) AsmKind) (before after : Result (List Nano) AsmFault)
+line_first : (number : ℕ) (first : Result (Option Nano) LineKind) (before after : Result (List Nano) AsmFault)
     → with_line number first (joined before after) ≡ joined (with_line number first before) after
 line_first number (Err kind) before after = refl
 line_first number (Ok None) before after = refl
@@ -97,7 +98,7 @@ pub read_on_blank : (lines : List (List ℕ)) (line : List ℕ) (nanos : List Na
 read_on_blank lines line nanos before is =
     nanos_of_lines-append 1 lines (line ∷ [])
     ∙ ap (λ (r : Result (List Nano) AsmFault). joined r (nanos_of_lines (1 + length lines) (line ∷ []))) before
-    ∙ ap (λ (r : Result (Option Nano) AsmKind). prepended nanos (with_line (1 + length lines) r (Ok []))) is
+    ∙ ap (λ (r : Result (Option Nano) LineKind). prepended nanos (with_line (1 + length lines) r (Ok []))) is
     ∙ ap (λ (xs : List Nano). Ok xs) (append-nil nanos)
 
 -- and of one that has an instruction
@@ -106,23 +107,21 @@ pub read_on_instruction : (lines : List (List ℕ)) (line : List ℕ) (nanos : L
 read_on_instruction lines line nanos nano before is =
     nanos_of_lines-append 1 lines (line ∷ [])
     ∙ ap (λ (r : Result (List Nano) AsmFault). joined r (nanos_of_lines (1 + length lines) (line ∷ []))) before
-    ∙ ap (λ (r : Result (Option Nano) AsmKind). prepended nanos (with_line (1 + length lines) r (Ok []))) is
+    ∙ ap (λ (r : Result (Option Nano) LineKind). prepended nanos (with_line (1 + length lines) r (Ok []))) is
 
--- where memory is wanting
-pub is_grown_for : (text : List ℕ) (i : ℕ) (nanos : List Nano) → nanos_of_lines 1 (take i (lines_of text)) ≡ Ok nanos → i + 1 ≤ length (lines_of text) → IsGrownFor text (i + 1)
-is_grown_for text i nanos before within = record {
-  first = omega arith;
-  within = within;
+-- a line whose instruction could not be kept
+pub accepted_through : (text : List ℕ) (i : ℕ) (nanos : List Nano) (nano : Nano) → nanos_of_lines 1 (take i (lines_of text)) ≡ Ok nanos
+    → nanos_of_lines 1 (take (i + 1) (lines_of text)) ≡ Ok (nanos ++ nano ∷ []) → IsAcceptedThrough text (i + 1)
+accepted_through text i nanos nano before here = record {
   nanos = nanos;
+  nano = nano;
   before = ap (λ (n : ℕ). nanos_of_lines 1 (take n (lines_of text))) (let e : i + 1 - 1 ≡ i = omega arith in e) ∙ before;
+  here = here;
 }
 
--- a line that is refused is told whatever its kind, since memory is not a kind of a line
-pub of_kind : (text : List ℕ) (fault : AsmFault) → IsGrownFor text fault.line → program_of text ≡ Err fault → IsFaultOf text fault
-of_kind text fault grown is = kinds fault.kind
-  where
-    kinds : (kind : AsmKind) → MatchKind kind (IsGrownFor text fault.line) (program_of text ≡ Err fault)
-    kinds Memory = grown
-    kinds Word = is
-    kinds Operands = is
-    kinds Number = is
+-- a line that is refused is told whatever its fault, since want of memory is none of a line
+pub refused_at : (text : List ℕ) (line : ℕ) (fault : LineKind) (kind : AsmKind) → kind ≡ kind_of fault
+    → program_of text ≡ Err (record { line = line; kind = kind_of fault }) → IsFaultOf text (record { line = line; kind = kind })
+refused_at text line Word kind is read = rw is read
+refused_at text line Operands kind is read = rw is read
+refused_at text line Number kind is read = rw is read

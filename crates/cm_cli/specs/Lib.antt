@@ -1,4 +1,5 @@
 pub mod NanoLine
+pub mod Take
 pub mod Report
 pub mod Program
 pub mod ChipText

@@ -1,15 +1,23 @@
 -- A program text of one chip, line by line. Ours.
-use Rattle.std.specs.Prelude.{◌≡◌, ℕ, ◌+◌, ◌-◌, ◌≤◌, length, take, Option, Some, None, Result, Ok, Err, List, [], ◌∷◌}
+use Rattle.std.specs.Prelude.{◌≡◌, ℕ, ◌+◌, ◌-◌, take, Option, Some, None, Result, Ok, Err, List, [], ◌∷◌, ◌++◌}
 use Rattle.cm_bits.specs.Text.{lines_of, words_of}
 use Rattle.cm_model.specs.declared.act.Nano.{Nano}
+use Rattle.cm_cli.specs.declared.fault.LineKind.{LineKind}
+use Rattle.cm_cli.specs.declared.fault.LineKind.TheVariants as line
 use Rattle.cm_cli.specs.declared.fault.AsmKind.{AsmKind}
 use Rattle.cm_cli.specs.declared.fault.AsmKind.TheVariants.{Memory, Word, Operands, Number}
 use Rattle.cm_cli.specs.declared.fault.AsmFault.{AsmFault}
 use Rattle.cm_cli.specs.NanoLine.{instruction_of}
 
+-- what is wrong with a line, as why its text is refused
+abbrev pub kind_of : LineKind → AsmKind
+kind_of line.Word = Word
+kind_of line.Operands = Operands
+kind_of line.Number = Number
+
 -- the instruction of a line before those of the lines after it
-abbrev pub with_line : ℕ → Result (Option Nano) AsmKind → Result (List Nano) AsmFault → Result (List Nano) AsmFault
-with_line number (Err kind) after = Err (record { line = number; kind = kind })
+abbrev pub with_line : ℕ → Result (Option Nano) LineKind → Result (List Nano) AsmFault → Result (List Nano) AsmFault
+with_line number (Err fault) after = Err (record { line = number; kind = kind_of fault })
 with_line number (Ok None) after = after
 with_line number (Ok (Some nano)) (Ok nanos) = Ok (nano ∷ nanos)
 with_line number (Ok (Some nano)) (Err fault) = Err fault
@@ -23,12 +31,12 @@ nanos_of_lines number (line ∷ lines) = with_line number (instruction_of (words
 unfoldable pub program_of : List ℕ → Result (List Nano) AsmFault
 program_of text = nanos_of_lines 1 (lines_of text)
 
--- memory ran out at this line: it is one of the text's, and the lines before it are accepted
-pub record IsGrownFor (text : List ℕ) (line : ℕ) : Type 0 where
-  pub first : 1 ≤ line
-  pub within : line ≤ length (lines_of text)
+-- the lines of a text up to this one are accepted, and this one has an instruction
+pub record IsAcceptedThrough (text : List ℕ) (line : ℕ) : Type 0 where
   pub nanos : List Nano
+  pub nano : Nano
   pub before : nanos_of_lines 1 (take (line - 1) (lines_of text)) ≡ Ok nanos
+  pub here : nanos_of_lines 1 (take line (lines_of text)) ≡ Ok (nanos ++ nano ∷ [])
 
 -- what a kind of fault says: want of memory the first, the others the second
 abbrev pub MatchKind : AsmKind → Type 0 → Type 0 → Type 0
@@ -37,6 +45,6 @@ MatchKind Word wanting faulty = faulty
 MatchKind Operands wanting faulty = faulty
 MatchKind Number wanting faulty = faulty
 
--- a fault that a text is refused with: its first faulty line, or where memory ran out
+-- a fault that a text is refused with: its first faulty line, or one whose instruction could not be kept
 abbrev pub IsFaultOf : List ℕ → AsmFault → Type 0
-IsFaultOf text fault = MatchKind fault.kind (IsGrownFor text fault.line) (program_of text ≡ Err fault)
+IsFaultOf text fault = MatchKind fault.kind (IsAcceptedThrough text fault.line) (program_of text ≡ Err fault)

@@ -2,7 +2,18 @@
 
 use thiserror::Error;
 
-/// What is wrong with a line of a program text.
+/// What is wrong with a line of a program text, looked at alone.
+#[derive(Clone, Copy, Debug, PartialEq, Eq, Error)]
+pub enum LineKind {
+    #[error("unknown first word")]
+    Word,
+    #[error("wrong number of operands, or a word that is none of those listed")]
+    Operands,
+    #[error("not a number, or out of its range")]
+    Number,
+}
+
+/// Why a program text is refused at a line: what is wrong with it, or no memory for its instruction.
 #[derive(Clone, Copy, Debug, PartialEq, Eq, Error)]
 pub enum AsmKind {
     #[error("a growth of memory was refused")]
@@ -15,7 +26,22 @@ pub enum AsmKind {
     Number,
 }
 
-/// The first faulty line of a program text, counted from 1, blank ones too.
+impl From<LineKind> for AsmKind {
+    ghost use Rattle.std.specs.Prelude.{◌≡◌};
+    ghost use Rattle.cm_cli.specs.Program.{kind_of};
+
+    ghost from_gives = { λ line kind. kind ≡ kind_of line };
+
+    fn from(line: LineKind) -> AsmKind {
+        match line {
+            LineKind::Word => AsmKind::Word,
+            LineKind::Operands => AsmKind::Operands,
+            LineKind::Number => AsmKind::Number,
+        }
+    }
+}
+
+/// The line at which a program text is refused, counted from 1, blank ones too.
 #[derive(Clone, Copy, Debug, PartialEq, Eq, Error)]
 #[error("line {line}: {kind}")]
 pub struct AsmFault {

@@ -28,7 +28,12 @@ pub fn read_program(alloc: Global, text: &[u8]) -> Result<Vec<Nano>, AsmFault>
                     });
                 }
             }
-            Err(kind) => return Err(AsmFault { line, kind }),
+            Err(fault) => {
+                return Err(AsmFault {
+                    line,
+                    kind: AsmKind::from(fault),
+                });
+            }
         }
     }
     Ok(nanos)

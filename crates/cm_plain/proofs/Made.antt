@@ -2,6 +2,7 @@
 use Rattle.std.proofs.Common.{◌≡◌, ℕ, ◌+◌, ◌<◌, ◌==◌, Bool, true, false, not, List, [], ◌∷◌, ◌++◌, length, get_or, set, refl, sym, ap, ◌∙◌, arith, if◌then◌else◌}
 use Rattle.std.specs.Bool.{beq}
 use Rattle.std.proofs.lemmas.List.FromFn.{map-range_with_len_more}
+use Rattle.std.proofs.lemmas.Bool.{not-true, not-false}
 use Rattle.std.proofs.lemmas.List.{get_or_read}
 use Rattle.cm_model.specs.declared.act.Nano.{Nano}
 use Rattle.cm_model.specs.Each.{each_from}
@@ -29,18 +30,10 @@ processor_read chip p index processor index_is inside read =
 
 -- ---- one processor
 
-of_not_true : (x : Bool) → not x ≡ true → x ≡ false
-of_not_true false _ = refl
-of_not_true true e = cc
-
-of_not_false : (x : Bool) → not x ≡ false → x ≡ true
-of_not_false true _ = refl
-of_not_false false e = cc
-
 -- where the condition fails nothing changes
 pub processor_after-kept : (nano : Nano) (incoming tested : Bool) (processor : Processor) → tested ≡ flag processor nano.cond → not (beq tested nano.sense) ≡ true → processor_after nano incoming processor ≡ processor
 unfolding processor_after
-processor_after-kept nano incoming tested processor is other = rw (ap (λ (v : Bool). beq v nano.sense) (sym is) ∙ of_not_true (beq tested nano.sense) other) refl
+processor_after-kept nano incoming tested processor is other = rw (ap (λ (v : Bool). beq v nano.sense) (sym is) ∙ not-true (beq tested nano.sense) other) refl
 
 -- where it holds both outputs are stored, but none into flag ZERO
 pub processor_after-stored : (nano : Nano) (incoming tested : Bool) (processor : Processor) → tested ≡ flag processor nano.cond → not (beq tested nano.sense) ≡ false → (nano.write == ZERO) ≡ false
@@ -49,9 +42,9 @@ pub processor_after-stored : (nano : Nano) (incoming tested : Bool) (processor :
       flags = set processor.flags nano.write (if takes_incoming nano then incoming else flag_output nano processor);
     }
 unfolding processor_after
-processor_after-stored nano incoming tested processor is same other = rw (ap (λ (v : Bool). beq v nano.sense) (sym is) ∙ of_not_false (beq tested nano.sense) same, other) refl
+processor_after-stored nano incoming tested processor is same other = rw (ap (λ (v : Bool). beq v nano.sense) (sym is) ∙ not-false (beq tested nano.sense) same, other) refl
 
 pub processor_after-dropped : (nano : Nano) (incoming tested : Bool) (processor : Processor) → tested ≡ flag processor nano.cond → not (beq tested nano.sense) ≡ false → (nano.write == ZERO) ≡ true
     → processor_after nano incoming processor ≡ record { memory = set processor.memory nano.a (memory_output nano processor); flags = processor.flags }
 unfolding processor_after
-processor_after-dropped nano incoming tested processor is same zero_flag = rw (ap (λ (v : Bool). beq v nano.sense) (sym is) ∙ of_not_false (beq tested nano.sense) same, zero_flag) refl
+processor_after-dropped nano incoming tested processor is same zero_flag = rw (ap (λ (v : Bool). beq v nano.sense) (sym is) ∙ not-false (beq tested nano.sense) same, zero_flag) refl

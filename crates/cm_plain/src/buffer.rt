@@ -8,9 +8,9 @@ ghost use Rattle.cm_model.specs.Letters.{can_receive, is_among};
 ghost use Rattle.cm_model.specs.Buffers.{referred_place, leaving_place, outgoing, buffer_after_dimension, without, arrived_for, is_accepted, delivered, kept};
 ghost use Rattle.cm_model.specs.declared.message.Event.TheVariants.{Injected, Delivered};
 
-use crate::letters::{RECV, is_among};
+use crate::letters::is_among;
 use crate::machine::PlainChip;
-use cm_bits::{NoMemory, Proc};
+use cm_bits::{FlagNo, NoMemory, Proc};
 use cm_model::{Event, Message};
 use std::alloc::Global;
 use std::marker::Model;
@@ -206,7 +206,7 @@ fn leave(messages: &mut Vec<Message>, room: usize, dim: usize)
     }
 }
 
-/// Who comes, if anyone does, stands last.
+/// Puts the message that comes over the dimension, if there is one, behind all others.
 fn come(messages: &mut Vec<Message>, coming: Option<Message>) -> Result<(), NoMemory>
     ensures ok { OnOk result (messages.new.items ≡ messages.old.items ++ option_to_list coming) }
 {
@@ -292,5 +292,7 @@ fn message_across(message: &Message, dim: usize) -> Message
 fn is_accepted(chip: &PlainChip, before: &[Proc], message: &Message) -> bool
     ensures value { result ≡ is_accepted (can_receive chip.now) before.now message.now }
 {
-    message.rel == 0 && !chip.has_flag(message.proc, RECV) && !is_among(message.proc, before)
+    message.rel == 0
+        && !chip.has_flag(message.proc, FlagNo::RECV)
+        && !is_among(message.proc, before)
 }

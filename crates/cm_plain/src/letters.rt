@@ -14,12 +14,6 @@ use cm_bits::{FlagNo, NoMemory, Proc};
 use cm_model::{Message, Tag};
 use std::alloc::Global;
 
-const SEND: u8 = 12;
-
-const ACK: u8 = 13;
-
-pub(crate) const RECV: u8 = 14;
-
 // Where the fields of a record that is sent stand, and that of a payload that is received.
 const REL: usize = 3968;
 
@@ -93,11 +87,10 @@ impl PlainChip {
     }
 
     /// Whether a flag of a processor is 1.
-    pub(crate) fn has_flag(&self, proc: Proc, number: u8) -> bool
-        requires number { number < 16 }
+    pub(crate) fn has_flag(&self, proc: Proc, number: FlagNo) -> bool
         ensures value { result ≡ flag (processor_at self.now proc) number }
     {
-        self.processor(proc).flag(flag_number(number))
+        self.processor(proc).flag(number)
     }
 
     /// The processors that ask to send, by number.
@@ -107,7 +100,7 @@ impl PlainChip {
         let mut senders = Vec::new(alloc);
         for number in 0..PROCESSORS {
             let proc = Proc::new(number).unwrap();
-            if self.has_flag(proc, SEND) {
+            if self.has_flag(proc, FlagNo::SEND) {
                 let Ok(()) = senders.push(proc) else {
                     return Err(NoMemory);
                 };
@@ -173,9 +166,9 @@ impl PlainProcessor {
     {
         let mut after = self.copy(alloc)?;
         if was_taken {
-            after.poke_flag(flag_number(SEND), false);
+            after.poke_flag(FlagNo::SEND, false);
         }
-        after.poke_flag(flag_number(ACK), was_taken);
+        after.poke_flag(FlagNo::ACK, was_taken);
         Ok(after)
     }
 
@@ -201,16 +194,9 @@ impl PlainProcessor {
     {
         let memory = with_field(alloc, &self.memory, RECEIVED, 32, payload)?;
         let mut flags = self.flags.to_vec(alloc)?;
-        put(&mut flags, usize::from(RECV), true);
+        put(&mut flags, usize::from(FlagNo::RECV.get()), true);
         Ok(PlainProcessor { memory, flags })
     }
-}
-
-pub(crate) fn flag_number(number: u8) -> FlagNo
-    requires { number < 16 }
-    ensures { result ≡ number }
-{
-    FlagNo::new(number).unwrap()
 }
 
 /// Whether a processor is one of these.

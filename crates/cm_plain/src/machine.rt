@@ -16,12 +16,6 @@ pub(crate) const PROCESSORS: u8 = 16;
 
 const FLAGS: usize = 16;
 
-const ZERO_FLAG: u8 = 8;
-
-const NEWS_FLAG: u8 = 10;
-
-const DAISY_FLAG: u8 = 11;
-
 /// A machine of `2 ^ N` chips, kept bit by bit.
 ///
 /// Contracts see the list of its chips, each the list of its processors.
@@ -109,7 +103,7 @@ impl<const N: usize> PlainMachine<N> {
         ensures value { self.new ≡ (if number == ZERO then self.old
             else slice_set self.old chip (with_flag (chip_at self.old chip) proc number bit)) }
     {
-        if number.get() != ZERO_FLAG {
+        if number != FlagNo::ZERO {
             self.chips[usize::from(chip)].poke_flag(proc, number, bit);
         }
     }
@@ -161,7 +155,7 @@ impl<const N: usize> PlainMachine<N> {
         requires chip { chip < 2 ^ N }
         ensures value { result ≡ incoming N nano.now self.now chip proc }
     {
-        if nano.write.get() == NEWS_FLAG {
+        if nano.write == FlagNo::NEWS {
             let source = PlainGrid::<N>::neighbour(Place { chip, proc }, opposite(nano.dir));
             return self.processor(source.chip, source.proc).flag_output(nano);
         }
@@ -290,7 +284,7 @@ impl PlainProcessor {
             return Ok(after);
         }
         after.poke(nano.a, self.memory_output(nano));
-        if nano.write.get() != ZERO_FLAG {
+        if nano.write != FlagNo::ZERO {
             after.poke_flag(nano.write, self.stored(nano, incoming));
         }
         Ok(after)
@@ -300,8 +294,7 @@ impl PlainProcessor {
     fn stored(&self, nano: &Nano, incoming: bool) -> bool
         ensures value { result ≡ (if takes_incoming nano.now then incoming else flag_output nano.now self.now) }
     {
-        let write = nano.write.get();
-        if write == NEWS_FLAG || write == DAISY_FLAG {
+        if nano.write == FlagNo::NEWS || nano.write == FlagNo::DAISY {
             incoming
         } else {
             self.flag_output(nano)

@@ -221,7 +221,7 @@ impl<const N: usize, const CAP: usize> PlainRouter<N, CAP> {
         Ok(())
     }
 
-    // ---- all chips
+    // ---- all chips: a body that looks at a field, as at the logs, knows the sizes that the model keeps
 
     fn no_buffers(alloc: Global) -> Result<Vec<PlainBuffer>, NoMemory>
         requires dimension { N ≤ 12 }

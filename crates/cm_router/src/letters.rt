@@ -2,7 +2,7 @@
 
 ghost use Rattle.std.specs.Prelude.{◌≡◌, ℕ, ◌+◌, ◌^◌, ◌<◌, ◌≤◌, Some, List, [], ◌∷◌, ◌++◌, length, not, IsFalse, slice_set, vec_len, vec_capacity};
 ghost use Rattle.cm_bits.specs.Bit.{bit};
-ghost use Rattle.cm_model.specs.Processor.{SEND, ACK, RECV, flag, field_value};
+ghost use Rattle.cm_model.specs.Processor.{SEND, RECV, flag, field_value};
 ghost use Rattle.cm_model.specs.Chip.{IsPlane, processor_at};
 ghost use Rattle.cm_model.specs.Whole.{IsChip};
 ghost use Rattle.cm_model.specs.Letters.{senders_taken, is_among, message_sent, chip_after_injection, processor_after_delivery};
@@ -15,7 +15,7 @@ use cm_message::{Event, Message, Tag};
 pub(crate) fn asking(chip: &Chip) -> Plane
     ensures value { IsPlane result (λ p. flag (processor_at chip.now p) SEND) }
 {
-    chip.flag_plane(send_flag())
+    chip.flag_plane(FlagNo::SEND)
 }
 
 /// The message that a processor's record asks to send.
@@ -50,7 +50,7 @@ pub fn may_ask(chip: &Chip) -> bool
 pub fn take_none(chip: &mut Chip)
     ensures value { chip.new ≡ chip_after_injection [] chip.old }
 {
-    let told = chip.flag_plane(ack_flag());
+    let told = chip.flag_plane(FlagNo::ACK);
     if told != 0 {
         let asking = asking(chip);
         acknowledge(chip, asking, 0);
@@ -63,8 +63,8 @@ pub(crate) fn acknowledge(chip: &mut Chip, asking: Plane, taken: Plane)
     ensures value { (ps : List ℕ) → IsPlane taken (λ p. is_among p ps)
         → chip.new ≡ chip_after_injection ps chip.old }
 {
-    chip.poke_flag_plane(send_flag(), asking & !taken);
-    chip.poke_flag_plane(ack_flag(), taken);
+    chip.poke_flag_plane(FlagNo::SEND, asking & !taken);
+    chip.poke_flag_plane(FlagNo::ACK, taken);
 }
 
 /// Flag RECV of all processors.
@@ -72,7 +72,7 @@ pub(crate) fn received(chip: &Chip) -> Plane
     ensures value { IsPlane result (λ p. flag (processor_at chip.now p) RECV) }
     ensures whole { IsChip chip.now }
 {
-    chip.flag_plane(recv_flag())
+    chip.flag_plane(FlagNo::RECV)
 }
 
 /// Whether the bit of a processor is 1 in a plane.
@@ -90,7 +90,7 @@ pub(crate) fn receive(chip: &mut Chip, message: &Message)
         (processor_after_delivery (Some message.now) (processor_at chip.old message.now.proc)) }
 {
     chip.poke_field(message.proc, payload_field(), u64::from(message.payload));
-    chip.poke_flag(message.proc, recv_flag(), true).unwrap();
+    chip.poke_flag(message.proc, FlagNo::RECV, true).unwrap();
 }
 
 pub(crate) fn tell_injected(log: &mut Vec<Event>, message: &Message)
@@ -125,46 +125,9 @@ fn field_value(chip: &Chip, proc: Proc, at: u16, len: u16) -> u64
     chip.field(proc, Field::new(at, len).unwrap())
 }
 
-fn send_flag() -> FlagNo
-    ensures value { result ≡ SEND }
-{
-    FlagNo::new(12).unwrap()
-}
-
-fn ack_flag() -> FlagNo
-    ensures value { result ≡ ACK }
-{
-    FlagNo::new(13).unwrap()
-}
-
-fn recv_flag() -> FlagNo
-    ensures value { result ≡ RECV }
-{
-    FlagNo::new(14).unwrap()
-}
-
 fn payload_field() -> Field
     ensures at { result.at ≡ 4032 }
     ensures len { result.len ≡ 32 }
 {
     Field::new(4032, 32).unwrap()
-}
-
-#[cfg(test)]
-mod tests {
-    use super::take_none;
-    use cm_bits::FlagNo;
-    use cm_element::Chip;
-    use std::test::Fail;
-
-    #[test]
-    fn senders_that_are_not_taken_go_on_asking(rt: HostRuntime) -> Result<(), Fail> {
-        let (send, ack) = (FlagNo::new(12).unwrap(), FlagNo::new(13).unwrap());
-        let mut chip = Chip::blank(rt.alloc())?;
-        chip.poke_flag_plane(send, 0x8005);
-        chip.poke_flag_plane(ack, 0x00ff);
-        take_none(&mut chip);
-        assert_eq!(rt; (chip.flag_plane(send), chip.flag_plane(ack)), (0x8005, 0));
-        Ok(())
-    }
 }

@@ -1,6 +1,5 @@
 ghost use Rattle.std.specs.Prelude.{◌≡◌};
 ghost use Rattle.cm_model.specs.Array.{wire};
-ghost use Rattle.cm_model.specs.Processor.{GLOBAL};
 ghost use Rattle.cm_wire.specs.Wire.{chip_or};
 
 use cm_bits::FlagNo;
@@ -10,7 +9,7 @@ use cm_element::Chip;
 pub fn chip_or(chip: &Chip) -> bool
     ensures value { result ≡ chip_or chip.now }
 {
-    chip.flag_plane(global_flag()) != 0
+    chip.flag_plane(FlagNo::GLOBAL) != 0
 }
 
 /// The global wire: whether flag GLOBAL is 1 in some processor of some chip.
@@ -19,10 +18,4 @@ pub fn wire(chips: &[Chip]) -> bool
     ensures value { result ≡ wire chips.now }
 {
     chips.iter().any(|chip| chip_or(chip))
-}
-
-fn global_flag() -> FlagNo
-    ensures value { result ≡ GLOBAL }
-{
-    FlagNo::new(9).unwrap()
 }

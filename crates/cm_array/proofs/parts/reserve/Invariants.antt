@@ -1,4 +1,4 @@
-use Rattle.std.proofs.Common.{◌≡◌, ℕ, ◌<◌, ◌≤◌}
+use Rattle.std.proofs.Common.{◌≡◌, ℕ, ◌<◌, ◌≤◌, length}
 use Rattle.cm_petit.specs.Routers.{events_of, free_at}
 use Rattle.cm_array.proofs.parts.reserve.Given as goal
 
@@ -6,4 +6,6 @@ abbrev pub invariant-loop-c : goal.invariant-loop-c
 invariant-loop-c l = record {
   events : events_of l.logs ≡ events_of l.fn.logs;
   room : (k : ℕ) → k < l.c → l.more ≤ free_at l.logs k;
+  rest : (k : ℕ) → l.c ≤ k → free_at l.logs k ≡ free_at l.fn.logs k;
+  count : length l.logs ≡ length l.fn.logs;
 }

@@ -2,7 +2,7 @@ use Rattle.std.proofs.Common.{◌≡◌, ◌+◌, Ok, List, [], ◌∷◌, ◌++
 use Rattle.cm_bits.specs.Text.{lines_left, lines_of}
 use Rattle.cm_model.specs.declared.act.Nano.{Nano}
 use Rattle.cm_cli.specs.Program.{program_of, nanos_of_lines}
-use Rattle.cm_cli.proofs.Reading.{none_before, few_lines, read_blank, read_instruction, read_fault, next_line, read_on_blank, read_on_instruction, is_grown_for, of_kind}
+use Rattle.cm_cli.proofs.Reading.{none_before, few_lines, read_blank, read_instruction, read_fault, next_line, read_on_blank, read_on_instruction, accepted_through, refused_at}
 use Rattle.cm_cli.proofs.program.read_program.Goals as goal
 
 pub loop-bytes-init : goal.loop-bytes-init
@@ -51,12 +51,10 @@ loop-bytes-preserved c =
 pub returns-in-Err : goal.returns-in-Err
 returns-in-Err c =
     let steps = c.in-Some.ensures.steps in
-    let here = next_line (lines_of c.args.text.now) c.loop-bytes.line c.in-Some.bytes.now (lines_left c.next.new.self) (sym steps ∙ c.loop-bytes.invariant.left) in
     record {
-      value = of_kind c.args.text.now (record { line = c.loop-bytes.line + 1; kind = c.in-Err.kind })
-          (is_grown_for c.args.text.now c.loop-bytes.line c.loop-bytes.nanos.items c.loop-bytes.invariant.before here.within)
+      value = refused_at c.args.text.now (c.loop-bytes.line + 1) c.in-Err.fault c.from.result c.from.ensures
           (sym (rw steps at c.loop-bytes.invariant.read)
-          ∙ read_fault c.loop-bytes.nanos.items (c.loop-bytes.line + 1) c.in-Some.bytes.now (lines_left c.next.new.self) c.in-Err.kind
+          ∙ read_fault c.loop-bytes.nanos.items (c.loop-bytes.line + 1) c.in-Some.bytes.now (lines_left c.next.new.self) c.in-Err.fault
           (sym c.read_line.ensures.value ∙ c.in-Err.is));
     }
 
@@ -69,4 +67,9 @@ pub returns-then-is_err : goal.returns-then-is_err
 returns-then-is_err c =
     let steps = c.in-Some.ensures.steps in
     let here = next_line (lines_of c.args.text.now) c.loop-bytes.line c.in-Some.bytes.now (lines_left c.next.new.self) (sym steps ∙ c.loop-bytes.invariant.left) in
-    record { value = is_grown_for c.args.text.now c.loop-bytes.line c.loop-bytes.nanos.items c.loop-bytes.invariant.before here.within }
+    let found = sym c.read_line.ensures.value ∙ c.in-Ok-Some.is ∙ ap (λ o. Ok o) c.in-Ok-Some.field-0-is in
+    record {
+      value = accepted_through c.args.text.now c.loop-bytes.line c.loop-bytes.nanos.items c.in-Ok-Some.nano c.loop-bytes.invariant.before
+          (ap (nanos_of_lines 1) here.before
+          ∙ read_on_instruction (take c.loop-bytes.line (lines_of c.args.text.now)) c.in-Some.bytes.now c.loop-bytes.nanos.items c.in-Ok-Some.nano c.loop-bytes.invariant.before found);
+    }

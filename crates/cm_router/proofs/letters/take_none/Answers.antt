@@ -8,5 +8,5 @@ pub returns-else-told-ne0 : goal.returns-else-told-ne0
 returns-else-told-ne0 c =
     record {
       value = nothing_taken c.args.chip.now c.flag_plane-told.ensures.whole.count
-          (λ p h. let read = rw c.ack_flag.ensures.value at c.flag_plane-told.ensures.value in sym (read p h) ∙ ap (λ (w : ℕ). bit w p) c.if-told-ne0.false ∙ bit-zero p);
+          (λ p h. sym (c.flag_plane-told.ensures.value p h) ∙ ap (λ (w : ℕ). bit w p) c.if-told-ne0.false ∙ bit-zero p);
     }

@@ -1,11 +1,9 @@
-use Rattle.std.proofs.Common.{ap, ◌∙◌, sym}
-use Rattle.cm_model.specs.Processor.{flag}
-use Rattle.cm_model.specs.Chip.{processor_at}
+use Rattle.std.proofs.Common.{sym}
 use Rattle.cm_wire.proofs.Flags.{chip_or-plane}
 use Rattle.cm_wire.proofs.global.chip_or.Goals as goal
 
 pub returns : goal.returns
 returns c = record {
   value = sym (chip_or-plane c.args.chip.now c.flag_plane.result c.flag_plane.type_inv c.flag_plane.ensures.whole.count
-      (λ p h. c.flag_plane.ensures.value p h ∙ ap (flag (processor_at c.args.chip.now p)) c.global_flag.ensures.value));
+      c.flag_plane.ensures.value);
 }

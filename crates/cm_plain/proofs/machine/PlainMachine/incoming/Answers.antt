@@ -7,12 +7,12 @@ use Rattle.cm_model.specs.Chip.{processor_at}
 use Rattle.cm_model.specs.Array.{chip_at, processor_of, incoming}
 use Rattle.cm_plain.proofs.machine.PlainMachine.incoming.Goals as goal
 
-pub returns-then-get-eq-NEWS_FLAG : goal.returns-then-get-eq-NEWS_FLAG
+pub returns-then-eq : goal.returns-then-eq
 unfolding incoming
-returns-then-get-eq-NEWS_FLAG g c =
+returns-then-eq g c =
     let nano = c.args.nano.now in
     let place : Place = record { chip = c.args.chip; proc = c.args.proc } in
-    let news = eq-eqb nano.write 10 (sym c.get.ensures.value ∙ c.if-get-eq-NEWS_FLAG.true) in
+    let news = sym c.eq.ensures ∙ c.if-eq.true in
     let source_is : c.neighbour-source.result ≡ source g.row.N nano.dir place =
     c.neighbour-source.ensures.value ∙ ap (λ (dir : Dir). neighbour g.row.N dir place) c.opposite.ensures.value in
     record { value = rw news (c.flag_output.ensures.value ∙ ap (flag_output nano) (c.processor.ensures.value ∙ ap (processor_of c.args.self.now) source_is)) }
@@ -20,7 +20,7 @@ returns-then-get-eq-NEWS_FLAG g c =
 pub returns-then-number-eq0 : goal.returns-then-number-eq0
 unfolding incoming
 returns-then-number-eq0 g c =
-    let other = ne_eqb c.args.nano.now.write 10 (λ (e : c.args.nano.now.write ≡ 10). c.if-get-eq-NEWS_FLAG.false (c.get.ensures.value ∙ e)) in
+    let other = sym c.eq.ensures ∙ c.if-eq.false in
     let first = eq-eqb c.args.proc 0 (sym c.get-number.ensures.value ∙ c.if-number-eq0.true) in
     record { value = rw (other, first) refl }
 
@@ -28,7 +28,7 @@ pub returns : goal.returns
 unfolding incoming
 returns g c =
     let nano = c.args.nano.now in
-    let other = ne_eqb nano.write 10 (λ (e : nano.write ≡ 10). c.if-get-eq-NEWS_FLAG.false (c.get.ensures.value ∙ e)) in
+    let other = sym c.eq.ensures ∙ c.if-eq.false in
     let later = ne_eqb c.args.proc 0 (λ (e : c.args.proc ≡ 0). c.if-number-eq0.false (c.get-number.ensures.value ∙ e)) in
     let made = rw c.unwrap-before.ensures at c.new.ensures.value in
     let before_is : c.unwrap-before.result ≡ c.args.proc - 1 = made ∙ ap (λ (n : ℕ). n - 1) c.get-number.ensures.value in

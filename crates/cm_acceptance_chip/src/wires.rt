@@ -1,0 +1,61 @@
+//! The global wire of two chips.
+
+use crate::cases::{Case, first_not_so};
+use crate::numbers::{flag, processor};
+use cm_element::Chip;
+use cm_wire::{chip_or, wire};
+use std::alloc::Global;
+use std::test::Fail;
+
+/// One flag of one processor of two chips, and what each of them gives to the wire.
+struct Driven(&'static str, usize, u8, u8, [bool; 2]);
+
+impl Case for Driven {
+    fn name(&self) -> &'static str {
+        self.0
+    }
+
+    fn is_so(&self, alloc: Global) -> Result<bool, Fail> {
+        let Driven(_, at, proc, number, ors) = *self;
+        let mut chips = [Chip::blank(alloc)?, Chip::blank(alloc)?];
+        if wire(&chips) {
+            return Ok(false);
+        }
+        let Some(chip) = chips.get_mut(at) else {
+            return Ok(false);
+        };
+        chip.poke_flag(processor(proc)?, flag(number)?, true)?;
+        let is_so = chip_or(&chips[0]) == ors[0] && chip_or(&chips[1]) == ors[1];
+        Ok(is_so && wire(&chips) == (ors[0] || ors[1]))
+    }
+}
+
+static DRIVEN: [Driven; 4] = [
+    Driven(
+        "one processor of the second chip drives it",
+        1,
+        15,
+        9,
+        [false, true],
+    ),
+    Driven(
+        "one processor of the first chip drives it",
+        0,
+        0,
+        9,
+        [true, false],
+    ),
+    Driven("flag 7 does not", 1, 15, 7, [false, false]),
+    Driven("flag 10 does not", 0, 3, 10, [false, false]),
+];
+
+#[test]
+fn one_processor_drives_the_wire(rt: HostRuntime) -> Result<(), Fail> {
+    assert_eq!(rt; first_not_so(rt.alloc(), &DRIVEN)?, None);
+    Ok(())
+}
+
+#[test]
+fn no_chip_leaves_the_wire_at_0(rt: HostRuntime) {
+    assert!(rt; !wire(&[]));
+}
