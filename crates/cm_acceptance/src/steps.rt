@@ -188,10 +188,10 @@ pub(crate) fn go_by<const N: usize, R: Runner<N, 7>>(
     requires runner { R.ready }
     ensures long { (result ≡ Err RunFault.Long) ↔ IsTrue (is_long acts.now) }
     ensures clock { (result ≡ Err RunFault.Clock)
-        ↔ (IsFalse (is_long acts.now) × IsTrue (is_late machine.old.clock acts.now)) }
+        ↔ (IsFalse (is_long acts.now) × IsTrue (is_late machine.old.machine.clock acts.now)) }
     ensures empty { acts.now ≡ [] → IsOk result }
-    ensures ok { OnOk result (machine.new ≡ run_of N 7 machine.old acts.now) }
-    ensures err { OnErr result (machine.new ≡ machine.old) }
+    ensures ok { OnOk result (machine.new.machine ≡ run_of N 7 machine.old.machine acts.now) }
+    ensures err { OnErr result (machine.new.machine ≡ machine.old.machine) }
 {
     runner.go(machine, acts)
 }

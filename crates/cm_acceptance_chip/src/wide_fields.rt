@@ -73,7 +73,9 @@ impl Length {
             return Ok(false);
         }
         // Numbers of 64 bits that look random, another for each field.
-        let value = (u64::from(at) + u64::from(len)).wrapping_mul(6_364_136_223_846_793_005);
+        let value = (u64::from(at) + u64::from(len))
+            .wrapping_mul(6_364_136_223_846_793_005)
+            .rotate_left(32);
         let mut at_once = chip.copy(alloc)?;
         at_once.poke_field(proc, field, value);
         let mut one_by_one = chip.copy(alloc)?;

@@ -27,7 +27,10 @@ pub fn chip_session<I: Source, O: Sink>(
     ensures ends { IfSome (I.left source.old) (λ text. Ends text (O.contents sink.old) (O.contents sink.new) result) }
     ensures end { IsTrue (has_read_all result) → IsAtEnd (I.left source.new) }
     ensures read { (I.has_failed source.new ≡ true) ↔ IsErrOf result ChipFault.Read }
-    ensures read_within { IsErrOf result ChipFault.Read → ConsumesAtMost LIMIT (I.left source.old) (I.left source.new) }
+    ensures read_within { IsErrOf result ChipFault.Read
+        → ConsumesAtMost LIMIT (I.left source.old) (I.left source.new) }
+    ensures memory_within { IsErrOf result ChipFault.Memory
+        → ConsumesAtMost LIMIT (I.left source.old) (I.left source.new) }
     ensures write { O.has_failed sink.new ≡ is_write result }
 {
     let text = match take(alloc, source, LIMIT) {

@@ -30,7 +30,10 @@ pub fn take<I: Source>(alloc: Global, source: &mut I, limit: u64) -> Result<Vec<
     ensures end { OnOk result (IsAtEnd (I.left source.new)) }
 
     ensures read { (I.has_failed source.new ≡ true) ↔ IsErrOf result TakeFault.Read }
-    ensures read_within { IsErrOf result TakeFault.Read → ConsumesAtMost limit (I.left source.old) (I.left source.new) }
+    ensures read_within { IsErrOf result TakeFault.Read
+        → ConsumesAtMost limit (I.left source.old) (I.left source.new) }
+    ensures memory_within { IsErrOf result TakeFault.Memory
+        → ConsumesAtMost limit (I.left source.old) (I.left source.new) }
     ensures too_much { IsErrOf result TakeFault.TooMuch → IfSome (I.left source.old) (λ bytes. limit < length bytes) }
 {
     let mut taken = Vec::new(alloc);
