@@ -9,6 +9,7 @@ use Rattle.std.proofs.lemmas.Nat.{pow_pos}
 use Rattle.std.specs.Prelude.{slice_get}
 use Rattle.std.specs.List.{All}
 use Rattle.std.specs.Option.{option_map, option_to_list}
+use Rattle.cm_model.specs.declared.letters.TheConstants.{SENT_PROC, SENT_PAYLOAD}
 use Rattle.cm_model.specs.declared.message.Message.{Message}
 use Rattle.cm_model.specs.declared.message.Event.TheVariants.{Injected, Delivered}
 use Rattle.cm_model.specs.Processor.{Processor, value, field_value}
@@ -43,8 +44,8 @@ IsMessage-sent n clock c chip p l k =
     let some : 0 < 2 ^ n = pow_pos n in
     record {
       rel = omega arith;
-      proc = field_value-lt (processor_at chip p) 3984 4;
-      payload = field_value-lt (processor_at chip p) 3988 32;
+      proc = field_value-lt (processor_at chip p) SENT_PROC 4;
+      payload = field_value-lt (processor_at chip p) SENT_PAYLOAD 32;
       origin = l;
       sender = k;
     }

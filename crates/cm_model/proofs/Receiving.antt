@@ -3,6 +3,7 @@ use Rattle.std.proofs.Common.{◌≡◌, ℕ, ◌+◌, ◌%◌, ◌<◌, ◌≤�
 use Rattle.std.proofs.lemmas.List.{length-take-le, drop_at, take_at, get_or-set_same}
 use Rattle.std.proofs.Math.Nat.{mod-eq_of_lt, div-one}
 use Rattle.std.specs.List.{find}
+use Rattle.cm_model.specs.declared.letters.TheConstants.{RECEIVED_PAYLOAD}
 use Rattle.cm_model.specs.declared.message.Message.{Message}
 use Rattle.cm_model.specs.Processor.{Processor, RECV, value, field_value}
 use Rattle.cm_model.specs.Chip.{processor_at, no_processor}
@@ -27,7 +28,7 @@ received m processor h small =
     let long : length processor.memory ≡ 4096 = h.memory in
     let flags : length processor.flags ≡ 16 = h.flags in
     record {
-      payload = value-with_field processor.memory 4032 32 m.payload (omega arith) ∙ mod-eq_of_lt small;
+      payload = value-with_field processor.memory RECEIVED_PAYLOAD 32 m.payload (omega arith) ∙ mod-eq_of_lt small;
       flag = get_or-set_same processor.flags RECV true false (omega arith);
     }
 

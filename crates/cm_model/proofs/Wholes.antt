@@ -6,6 +6,7 @@ use Rattle.std.proofs.lemmas.List.FromFn.{length-map-range_with_len}
 use Rattle.std.specs.Prelude.{slice_set, if◌then◌else◌}
 use Rattle.std.specs.List.{find}
 use Rattle.cm_bits.specs.Bit.{bit}
+use Rattle.cm_model.specs.declared.letters.TheConstants.{RECEIVED_PAYLOAD}
 use Rattle.cm_model.specs.declared.act.Nano.{Nano}
 use Rattle.cm_model.specs.declared.message.Message.{Message}
 use Rattle.cm_model.specs.Processor.{Processor, ZERO, SEND, ACK, RECV}
@@ -77,7 +78,7 @@ IsProcessor-after_delivery None processor h = h
 IsProcessor-after_delivery (Some m) processor h =
     let long : length processor.memory ≡ 4096 = h.memory in
     record {
-      memory = length-with_field processor.memory 4032 32 m.payload (omega arith) ∙ long;
+      memory = length-with_field processor.memory RECEIVED_PAYLOAD 32 m.payload (omega arith) ∙ long;
       flags = length-set processor.flags RECV true ∙ h.flags;
       zero = zero_stays processor.flags RECV true (λ e. omega (arith, e)) h.zero;
     }

@@ -5,6 +5,7 @@ use Rattle.std.proofs.lemmas.List.{set-set}
 use Rattle.std.proofs.lemmas.List.Folds.{find-append}
 use Rattle.std.specs.List.{find}
 use Rattle.std.specs.Option.{option_or}
+use Rattle.cm_model.specs.declared.letters.TheConstants.{RECEIVED_PAYLOAD}
 use Rattle.cm_model.specs.declared.message.Message.{Message}
 use Rattle.cm_model.specs.Processor.{Processor, RECV}
 use Rattle.cm_model.specs.Chip.{processor_at, no_processor, with_flag}
@@ -127,9 +128,9 @@ delivered_one_more ds m chip below none =
 
 -- a payload put into the field and a 1 into the flag, one after the other, are what delivery leaves
 pub received_is : (m : Message) (chip : List Processor) → m.proc < length chip
-    → with_flag (with_memory_field chip m.proc 4032 32 m.payload) m.proc RECV true ≡ after_one m chip
+    → with_flag (with_memory_field chip m.proc RECEIVED_PAYLOAD 32 m.payload) m.proc RECV true ≡ after_one m chip
 unfolding with_flag with_memory_field
 received_is m chip there =
-    let filled : Processor = record (processor_at chip m.proc) { memory = with_field (processor_at chip m.proc).memory 4032 32 m.payload } in
+    let filled : Processor = record (processor_at chip m.proc) { memory = with_field (processor_at chip m.proc).memory RECEIVED_PAYLOAD 32 m.payload } in
     ap (λ (v : Processor). set (set chip m.proc filled) m.proc (record v { flags = set v.flags RECV true })) (get_or-set_same chip m.proc filled no_processor there)
     ∙ set-set chip m.proc filled (record filled { flags = set filled.flags RECV true })
