@@ -2,11 +2,10 @@
 
 ghost use Rattle.std.specs.Prelude.{◌≡◌, [], ◌∷◌, IfOk, ◌==◌, true};
 ghost use Rattle.cm_bits.specs.Bit.{bit};
-ghost use Rattle.cm_model.specs.Chip.{IsPlane, chip_after};
+ghost use Rattle.cm_model.specs.Chip.{IsPlane, plane_bit, chip_after};
 ghost use Rattle.cm_model.specs.Place.{source, predecessor};
 ghost use Rattle.cm_model.specs.Processor.{NEWS, DAISY};
 ghost use Rattle.cm_model.specs.Array.{incoming};
-ghost use Rattle.cm_daisy.specs.Chain.{chain_bit};
 ghost use Rattle.cm_news.specs.Moves.{bit_of_place};
 ghost use Rattle.cm_cli.specs.Session.{chip_left};
 
@@ -41,7 +40,7 @@ fn step(chip: &mut Chip, nano: &Nano)
 fn incoming_plane(nano: &Nano, sent: Plane) -> Plane
     ensures news { (nano.now.write == NEWS) ≡ true →
         IsPlane result (λ p. bit_of_place (sent ∷ []) (source 0 nano.now.dir (record { chip = 0; proc = p }))) }
-    ensures daisy { (nano.now.write == DAISY) ≡ true → IsPlane result (λ p. chain_bit sent (predecessor p)) }
+    ensures daisy { (nano.now.write == DAISY) ≡ true → IsPlane result (λ p. plane_bit sent (predecessor p)) }
 {
     match nano.write {
         FlagNo::NEWS => Grid::<0>::incoming(&[sent], nano.dir, 0),

@@ -1,7 +1,8 @@
 use Rattle.std.proofs.Common.{ℕ, ◌||◌, Bool, get_or, ap, ◌∙◌}
 use Rattle.cm_bits.specs.Bit.{bit}
 use Rattle.cm_model.proofs.Bits.{bit-bit_or}
-use Rattle.cm_news.specs.Moves.{sender, bit_of, at_edge}
+use Rattle.cm_model.specs.Chip.{plane_bit}
+use Rattle.cm_news.specs.Moves.{sender, at_edge}
 use Rattle.cm_news.proofs.Joining.{joined}
 use Rattle.cm_news.proofs.grid.Grid.incoming.Goals as goal
 
@@ -12,8 +13,8 @@ returns g c =
     record {
       value = λ p h.
           bit-bit_or c.inside.result c.entering.result p
-          ∙ ap (λ (b : Bool). b || bit c.entering.result p) (c.inside.ensures.value p h ∙ ap (λ (i : ℕ). bit_of (get_or planes i 0) (sender dir p)) c.from.ensures)
-          ∙ ap (λ (b : Bool). bit_of (get_or planes c.args.chip 0) (sender dir p) || b) (c.entering.ensures.value p h)
+          ∙ ap (λ (b : Bool). b || bit c.entering.result p) (c.inside.ensures.value p h ∙ ap (λ (i : ℕ). plane_bit (get_or planes i 0) (sender dir p)) c.from.ensures)
+          ∙ ap (λ (b : Bool). plane_bit (get_or planes c.args.chip 0) (sender dir p) || b) (c.entering.ensures.value p h)
           ∙ joined g.row.N dir c.args.chip planes c.edge.result c.requires.chip
           (λ i below. c.edge.ensures.value i below
           ∙ ap (λ (k : ℕ). bit (get_or planes k 0) (at_edge dir i)) (c.from-2.ensures ∙ c.chip_before.ensures.value))
