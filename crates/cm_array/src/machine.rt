@@ -10,7 +10,7 @@ ghost use Rattle.cm_model.specs.Keeping.{IsMachine};
 ghost use Rattle.cm_array.specs.Acts.{cycles_in};
 ghost use Rattle.cm_array.specs.Faults.{size_fault};
 ghost use Rattle.cm_array.specs.Parts.{AreSizes, LacksLogRoom};
-ghost use Rattle.cm_array.specs.Pokes.{with_memory_bit, with_flag};
+ghost use Rattle.cm_array.specs.Pokes.{machine_with_memory_bit, machine_with_flag};
 
 use crate::finding::{delivered_to, router_of};
 use crate::parts::{
@@ -206,7 +206,7 @@ impl<const N: usize, const CAP: usize> Machine<N, CAP> {
     pub fn poke(&mut self, chip: u16, proc: Proc, at: Addr, bit: bool)
         requires chip { chip < 2 ^ N }
         ensures value { self.new
-            ≡ record self.old { machine = with_memory_bit self.old.machine chip proc at bit } }
+            ≡ record self.old { machine = machine_with_memory_bit self.old.machine chip proc at bit } }
     {
         let poked = &mut self.parts.chips[usize::from(chip)];
         poked.poke(proc, at, bit);
@@ -223,7 +223,7 @@ impl<const N: usize, const CAP: usize> Machine<N, CAP> {
         requires chip { chip < 2 ^ N }
         ensures zero_flag { IsErr result ↔ (number ≡ ZERO) }
         ensures ok { OnOk result (self.new
-            ≡ record self.old { machine = with_flag self.old.machine chip proc number bit }) }
+            ≡ record self.old { machine = machine_with_flag self.old.machine chip proc number bit }) }
         ensures err { OnErr result (self.new ≡ self.old) }
     {
         let chip = &mut self.parts.chips[usize::from(chip)];
