@@ -206,9 +206,7 @@ fn empty_queues(alloc: Global, chips: usize) -> Result<Vec<Queue>, NoMemory>
 {
     let mut queues = Vec::with_capacity(alloc, chips)?;
     for _c in 0..chips {
-        let Ok(()) = queues.push(Queue::new()) else {
-            return Err(NoMemory);
-        };
+        queues.push_reserved(Queue::new());
     }
     Ok(queues)
 }
