@@ -49,15 +49,19 @@ pub record AreCrossed (room d : ℕ) (before now : List (List Ticket)) (count : 
   pub done : (b : ℕ) → b < length before → first_of d b < count → queue_at now b ≡ crossed room d before b
   pub rest : (b : ℕ) → count ≤ first_of d b → queue_at now b ≡ queue_at before b
 
-pub crossed_begins : (room d : ℕ) (queues : List (List Ticket)) → All (λ ts. length ts ≤ room) queues → AreCrossed room d queues queues 0
-crossed_begins room d queues within = record { long = refl; within = within; done = λ b l h. absurd (omega arith); rest = λ b h. refl }
+pub crossed_begins : (room d : ℕ) (queues : List (List Ticket)) → All (λ ts. length ts ≤ room) queues
+    → AreCrossed room d queues queues 0
+crossed_begins room d queues within =
+    record { long = refl; within = within; done = λ b l h. absurd (omega arith); rest = λ b h. refl }
 
 -- where no pair begins
-pub crossed_skip : (room d : ℕ) (before now : List (List Ticket)) (c : ℕ) → bit_xor c (2 ^ d) ≤ c → AreCrossed room d before now c → AreCrossed room d before now (c + 1)
+pub crossed_skip : (room d : ℕ) (before now : List (List Ticket)) (c : ℕ) → bit_xor c (2 ^ d) ≤ c
+    → AreCrossed room d before now c → AreCrossed room d before now (c + 1)
 crossed_skip room d before now c higher was =
     let nobody : (b : ℕ) → first_of d b ≢ c = λ b is.
     ⊎_elim
-    (λ (e : b ≡ c). let above : c ≤ bit_xor c (2 ^ d) = subst (λ (k : ℕ). c ≤ bit_xor k (2 ^ d)) e (omega arith) in across_differs c d (omega arith))
+    (λ (e : b ≡ c). let above : c ≤ bit_xor c (2 ^ d) = subst (λ (k : ℕ). c ≤ bit_xor k (2 ^ d)) e (omega arith) in
+    across_differs c d (omega arith))
     (λ (e : b ≡ bit_xor c (2 ^ d)).
     let same : b ≡ c = omega arith in across_differs c d (sym e ∙ same))
     (begins_there d b c is) in
@@ -96,7 +100,8 @@ crossed_past room d before now c last ordered none inside was =
           let late_there : c ≤ first_of d other = omega (arith, back) in
           let empty : (queue_at now b ≡ []) × (queue_at now other ≡ []) =
           ⊎_elim (λ (low : b < other). none b (omega arith) (omega arith) l)
-          (λ (high : other ≤ b). let both = none other (omega arith) (omega arith) (inside b l) in (subst (λ (k : ℕ). queue_at now k ≡ []) back both.1, both.0))
+          (λ (high : other ≤ b). let both = none other (omega arith) (omega arith) (inside b l) in
+          (subst (λ (k : ℕ). queue_at now k ≡ []) back both.1, both.0))
           (cases_lt b other) in
           let here : queue_at before b ≡ [] = sym (was.rest b late) ∙ empty.0 in
           let there : queue_at before other ≡ [] = sym (was.rest other late_there) ∙ empty.1 in
@@ -106,7 +111,8 @@ crossed_past room d before now c last ordered none inside was =
     }
 
 -- where a pair has no ticket
-pub crossed_one : (room d : ℕ) (before now : List (List Ticket)) (c other : ℕ) → other ≡ bit_xor c (2 ^ d) → queue_at now c ≡ [] → queue_at now other ≡ []
+pub crossed_one : (room d : ℕ) (before now : List (List Ticket)) (c other : ℕ) → other ≡ bit_xor c (2 ^ d)
+    → queue_at now c ≡ [] → queue_at now other ≡ []
     → ((b : ℕ) → b < length before → bit_xor b (2 ^ d) < length before)
     → AreCrossed room d before now c → AreCrossed room d before now (c + 1)
 crossed_one room d before now c other across here there inside was =
@@ -119,10 +125,15 @@ crossed_one room d before now c other across here there inside was =
     inside was
 
 -- a pair more
-pub crossed_more : (room d : ℕ) (before now : List (List Ticket)) (c other : ℕ) → other ≡ bit_xor c (2 ^ d) → c < other → other < length before
-    → All (λ ts. length ts ≤ room) (set (set now c (exchanged room d (queue_at now c) (queue_at now other))) other (exchanged room d (queue_at now other) (queue_at now c)))
+pub crossed_more : (room d : ℕ) (before now : List (List Ticket)) (c other : ℕ) → other ≡ bit_xor c (2 ^ d)
+    → c < other → other < length before
+    → All (λ ts. length ts ≤ room)
+    (set (set now c (exchanged room d (queue_at now c) (queue_at now other))) other
+    (exchanged room d (queue_at now other) (queue_at now c)))
     → AreCrossed room d before now c
-    → AreCrossed room d before (set (set now c (exchanged room d (queue_at now c) (queue_at now other))) other (exchanged room d (queue_at now other) (queue_at now c))) (c + 1)
+    → AreCrossed room d before
+    (set (set now c (exchanged room d (queue_at now c) (queue_at now other))) other
+    (exchanged room d (queue_at now other) (queue_at now c))) (c + 1)
 crossed_more room d before now c other across lower inside within was =
     let back : bit_xor other (2 ^ d) ≡ c = ap (λ (k : ℕ). bit_xor k (2 ^ d)) across ∙ xor_twice c (2 ^ d) in
     let x : List Ticket = exchanged room d (queue_at now c) (queue_at now other) in
@@ -147,11 +158,14 @@ crossed_more room d before now c other across lower inside within was =
       long = length-set (set now c x) other y ∙ long_once ∙ was.long;
       within = within;
       done = λ b l h.
-          ⊎_elim (λ (e : b ≡ c). subst (λ (k : ℕ). queue_at (set (set now c x) other y) k ≡ crossed room d before k) (sym e) here)
+          ⊎_elim (λ (e : b ≡ c). subst (λ (k : ℕ). queue_at (set (set now c x) other y) k ≡ crossed room d before k)
+          (sym e) here)
           (λ (e : b ≢ c).
-          ⊎_elim (λ (f : b ≡ other). subst (λ (k : ℕ). queue_at (set (set now c x) other y) k ≡ crossed room d before k) (sym f) there)
+          ⊎_elim (λ (f : b ≡ other). subst
+          (λ (k : ℕ). queue_at (set (set now c x) other y) k ≡ crossed room d before k) (sym f) there)
           (λ (f : b ≢ other).
-          let elsewhere : first_of d b ≢ c = λ is. ⊎_elim e (λ (t : b ≡ bit_xor c (2 ^ d)). f (t ∙ sym across)) (begins_there d b c is) in
+          let elsewhere : first_of d b ≢ c =
+          λ is. ⊎_elim e (λ (t : b ≡ bit_xor c (2 ^ d)). f (t ∙ sym across)) (begins_there d b c is) in
           others b e f ∙ was.done b l (omega (arith, elsewhere)))
           (cases_eq b other))
           (cases_eq b c);
@@ -162,9 +176,11 @@ crossed_more room d before now c other across lower inside within was =
     }
 
 -- all pairs
-pub crossed_all : (n room d : ℕ) (before now : List (List Ticket)) (last : ℕ) → d < n → length before ≡ 2 ^ n → 2 ^ n ≤ last
+pub crossed_all : (n room d : ℕ) (before now : List (List Ticket)) (last : ℕ) → d < n → length before ≡ 2 ^ n
+    → 2 ^ n ≤ last
     → AreCrossed room d before now last
     → now ≡ each_chip n (λ c. exchanged room d (queue_at before c) (queue_at before (bit_xor c (2 ^ d))))
 crossed_all n room d before now last below long all is =
     is_each [] (2 ^ n) (crossed room d before) now (is.long ∙ long)
-    (λ c l. let there : bit_xor c (2 ^ d) < 2 ^ n = across_below n d c below l in is.done c (omega (arith, long)) (omega arith))
+    (λ c l. let there : bit_xor c (2 ^ d) < 2 ^ n = across_below n d c below l in
+    is.done c (omega (arith, long)) (omega arith))

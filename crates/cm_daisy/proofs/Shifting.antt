@@ -16,7 +16,8 @@ predecessor-suc p =
 
 pub bit-shifted : (x p : ℕ) → p < 16 → bit (x * 2 % 65536) p ≡ plane_bit x (predecessor p)
 bit-shifted x zero h =
-    ap (λ (n : ℕ). n == 1) (bit_at-cut (x * 2) 16 0 h ∙ ap (λ (n : ℕ). bit_at n 0) (omega arith) ∙ bit_at_cat_low x 1 0 0 (omega arith) ∙ bit_at-zero 0)
+    ap (λ (n : ℕ). n == 1) (bit_at-cut (x * 2) 16 0 h ∙ ap (λ (n : ℕ). bit_at n 0) (omega arith)
+    ∙ bit_at_cat_low x 1 0 0 (omega arith) ∙ bit_at-zero 0)
 bit-shifted x (suc p) h =
     ap (λ (n : ℕ). n == 1) (bit_at-cut (x * 2) 16 (suc p) h ∙ ap (λ (n : ℕ). bit_at n (suc p)) (omega arith)
     ∙ bit_at_cat_high x 1 0 (suc p) (pow_pos 1) (omega arith) ∙ ap (bit_at x) (omega arith))

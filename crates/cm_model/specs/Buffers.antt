@@ -61,7 +61,9 @@ buffer_after_dimension cap d here coming = without here (leaving_place cap d her
 -- all chips at once, from the old buffers
 unfoldable pub machine_after_dimension : ℕ → ℕ → ℕ → Machine → Machine
 machine_after_dimension n cap d machine = record machine {
-  buffers = each_chip n (λ c. buffer_after_dimension cap d (buffer_at machine.buffers c) (outgoing cap d (buffer_at machine.buffers (bit_xor c (2 ^ d)))));
+  buffers = each_chip n
+      (λ c. buffer_after_dimension cap d (buffer_at machine.buffers c)
+      (outgoing cap d (buffer_at machine.buffers (bit_xor c (2 ^ d)))));
 }
 
 -- ---- delivery
@@ -78,13 +80,15 @@ arrived_for before m = if has_arrived m then m.proc ∷ before else before
 abbrev pub delivered : (ℕ → Bool) → List ℕ → List Message → List Message
 delivered receives before [] = []
 delivered receives before (m ∷ ms) =
-    if is_accepted receives before m then m ∷ delivered receives (arrived_for before m) ms else delivered receives (arrived_for before m) ms
+    if is_accepted receives before m then m ∷ delivered receives (arrived_for before m) ms else delivered receives
+    (arrived_for before m) ms
 
 -- what it keeps
 abbrev pub kept : (ℕ → Bool) → List ℕ → List Message → List Message
 kept receives before [] = []
 kept receives before (m ∷ ms) =
-    if is_accepted receives before m then kept receives (arrived_for before m) ms else m ∷ kept receives (arrived_for before m) ms
+    if is_accepted receives before m then kept receives (arrived_for before m) ms else m ∷ kept receives
+    (arrived_for before m) ms
 
 -- what a chip delivers
 abbrev pub delivered_in : Machine → ℕ → List Message

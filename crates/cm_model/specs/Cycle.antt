@@ -50,14 +50,16 @@ unfoldable pub after_injection : ℕ → ℕ → State → State
 after_injection n cap state = record state {
   chips = each_chip n (λ c. chip_after_injection (taken_at cap state c) (chip_at state.chips c));
   standing = state.standing ++ flat_map (new_records n cap state) (range_with_len 0 (2 ^ n));
-  logs = each_chip n (λ c. log_at state.logs c ++ map Injected (messages_sent n state.clock c (chip_at state.chips c) (taken_at cap state c)));
+  logs = each_chip n (λ c. log_at state.logs c ++ map Injected
+      (messages_sent n state.clock c (chip_at state.chips c) (taken_at cap state c)));
 }
 
 -- ---- delivery
 
 -- another record at the same chip has arrived for the same processor, with a lesser since
 abbrev pub is_rival : Standing → Standing → Bool
-is_rival r q = is_at r.chip q && (has_arrived q.message && (is_for r.message.proc q.message && is_before q.since r.since))
+is_rival r q = is_at r.chip q
+    && (has_arrived q.message && (is_for r.message.proc q.message && is_before q.since r.since))
 
 -- it has arrived, its processor can receive, and no rival has come before it
 abbrev pub is_delivered : Chips → List Standing → Standing → Bool

@@ -81,7 +81,8 @@ processor_after_delivery (Some m) processor = record {
 
 -- the chip after these messages were delivered, at most one to each processor
 unfoldable pub chip_after_delivery : List Message → List Processor → List Processor
-chip_after_delivery delivered chip = each_processor (λ p. processor_after_delivery (find (is_for p) delivered) (processor_at chip p))
+chip_after_delivery delivered chip =
+    each_processor (λ p. processor_after_delivery (find (is_for p) delivered) (processor_at chip p))
 
 -- what was delivered to a processor stands in its field, and its RECV is 1
 pub record HasReceived (m : Message) (processor : Processor) : Type 0 where

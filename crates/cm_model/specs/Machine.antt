@@ -38,7 +38,8 @@ buffer_at buffers c = slice_index_or buffers c []
 -- the records of a chip that is handed over, from this place in its buffer on: since is the place
 abbrev pub records_from : ℕ → ℕ → List Message → List Standing
 records_from c i [] = []
-records_from c i (m ∷ ms) = record { message = m; chip = c; since = record { cycle = 0; turn = i } } ∷ records_from c (i + 1) ms
+records_from c i (m ∷ ms) =
+    record { message = m; chip = c; since = record { cycle = 0; turn = i } } ∷ records_from c (i + 1) ms
 
 -- a machine that is handed over, with the set of its standing messages
 unfoldable pub opened : ℕ → Machine → State
@@ -61,7 +62,8 @@ closed n state = record {
 
 -- the machine after so many steps of a run
 abbrev pub machine_at : ℕ → ℕ → Machine → List Act → ℕ → Machine
-machine_at n cap machine acts count = closed n (state_after_all n cap (opened n machine) (take count (all_steps n acts)))
+machine_at n cap machine acts count =
+    closed n (state_after_all n cap (opened n machine) (take count (all_steps n acts)))
 
 -- the machine after a list of acts, one after another, on a cube of n dimensions whose routers have room for cap messages each
 unfoldable pub run_of : ℕ → ℕ → Machine → List Act → Machine

@@ -183,7 +183,13 @@ impl PlainProcessor {
           flags = slice_set self.now.flags 14 true;
         }) }
     {
-        let memory = with_field(alloc, &self.memory, usize::from(RECEIVED_PAYLOAD), 32, payload)?;
+        let memory = with_field(
+            alloc,
+            &self.memory,
+            usize::from(RECEIVED_PAYLOAD),
+            32,
+            payload,
+        )?;
         let mut flags = self.flags.to_vec(alloc)?;
         put(&mut flags, usize::from(FlagNo::RECV.get()), true);
         Ok(PlainProcessor { memory, flags })

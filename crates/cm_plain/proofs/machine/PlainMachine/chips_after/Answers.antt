@@ -27,4 +27,4 @@ returns-clause-value g c =
     let chips = c.args.self.now in
     c.loop-chip.invariant.items
     ∙ ap (λ (n : ℕ). each_from 0 n (λ k. chip_after nano (incoming g.row.N nano chips k) (chip_at chips k)))
-        (omega arith ∙ c.chip_count-chip-end.ensures.value)
+    (omega arith ∙ c.chip_count-chip-end.ensures.value)
