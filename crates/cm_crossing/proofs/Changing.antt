@@ -5,7 +5,7 @@ use Rattle.std.proofs.lemmas.Bool.{cases_eq}
 use Rattle.std.proofs.lemmas.List.{length-append, map-set, get_or-map, get_or_read}
 use Rattle.std.proofs.lemmas.List.Elements.{All-set}
 use Rattle.cm_model.specs.declared.message.Message.{Message}
-use Rattle.cm_model.specs.Machine.{buffer_at}
+use Rattle.cm_model.specs.Array.{list_at}
 use Rattle.cm_crossing.specs.declared.queue.Ticket.{Ticket}
 use Rattle.cm_crossing.specs.Standing.{standing, all_standing, AreKept, AreQuiet}
 use Rattle.cm_crossing.proofs.Keeping.{standing_kept, kept_longer}
@@ -71,6 +71,6 @@ changed_within cap row queues i queue within few =
 
 -- the messages of a chip whose tickets were read
 pub standing_read : (row : List Message) (queues : List (List Ticket)) (i : ℕ) (queue : List Ticket)
-    → i < length queues → queue ≡ get_or queues i queue → standing row queue ≡ buffer_at (all_standing row queues) i
+    → i < length queues → queue ≡ get_or queues i queue → standing row queue ≡ list_at (all_standing row queues) i
 standing_read row queues i queue inside read = ap (standing row) (get_or_read queues i queue inside read [])
     ∙ sym (get_or-map (standing row) queues i [] [] inside)

@@ -10,7 +10,7 @@ use Rattle.cm_model.specs.declared.message.Message.{Message}
 use Rattle.cm_model.specs.Each.{each_from}
 use Rattle.cm_router.specs.Buffer.{Buffer, holding, buffers_of}
 use Rattle.cm_crossing.specs.declared.queue.Ticket.{Ticket}
-use Rattle.cm_crossing.specs.Tickets.{queue_at}
+use Rattle.cm_model.specs.Array.{list_at}
 use Rattle.cm_crossing.specs.Standing.{no_message, message_of, standing, all_standing, AreKept, AreQuiet}
 
 -- ---- a longer row
@@ -65,10 +65,10 @@ entered_kept row queue number m is kept =
 -- the first nodes' messages stand at their chips, nowhere more than there is room for, and these nodes are empty; the others are as before, and their queues empty
 pub record AreIssued (cap : ℕ) (row : List Message) (before now : List Buffer) (queues : List (List Ticket))
     (busy : List Bool) (count : ℕ) : Type 0 where
-  pub value : (c : ℕ) → c < count → standing row (queue_at queues c) ≡ get_or (buffers_of before) c []
-  pub kept : (c : ℕ) → c < count → AreKept (length row) (queue_at queues c)
-  pub within : (c : ℕ) → c < count → length (queue_at queues c) ≤ cap
-  pub waiting : (c : ℕ) → count ≤ c → queue_at queues c ≡ []
+  pub value : (c : ℕ) → c < count → standing row (list_at queues c) ≡ get_or (buffers_of before) c []
+  pub kept : (c : ℕ) → c < count → AreKept (length row) (list_at queues c)
+  pub within : (c : ℕ) → c < count → length (list_at queues c) ≤ cap
+  pub waiting : (c : ℕ) → count ≤ c → list_at queues c ≡ []
   pub quiet : AreQuiet busy queues
   pub rooms : All (λ node. node.room ≡ cap) now
   pub taken : (c : ℕ) (d : Buffer) → c < count → c < length now → (get_or now c d).messages ≡ []
@@ -78,7 +78,7 @@ pub record AreIssued (cap : ℕ) (row : List Message) (before now : List Buffer)
 pub issued_begins : (cap : ℕ) (nodes : List Buffer) (queues : List (List Ticket)) (busy : List Bool)
     → All (λ node. node.room ≡ cap) nodes → All (λ ts. ts ≡ []) queues → AreIssued cap [] nodes nodes queues busy 0
 issued_begins cap nodes queues busy rooms none =
-    let empty : (c : ℕ) → queue_at queues c ≡ [] =
+    let empty : (c : ℕ) → list_at queues c ≡ [] =
     λ c. ⊎_elim (λ (l : c < length queues). none c [] l) (λ (l : length queues ≤ c). get_or_past queues c [] l)
     (cases_lt c (length queues)) in
     record {
@@ -104,25 +104,25 @@ pub issued_more : (cap : ℕ) (row more : List Message) (before now : List Buffe
 issued_more cap row more before now queues busy busier i node after queue inside there long read is kept within
     emptied quiet was =
     let longer : length (row ++ more) ≡ length row + length more = length-append row more in
-    let here : queue_at (set queues i queue) i ≡ queue = get_or-set_same queues i queue [] inside in
-    let others : (c : ℕ) → c ≢ i → queue_at (set queues i queue) c ≡ queue_at queues c =
+    let here : list_at (set queues i queue) i ≡ queue = get_or-set_same queues i queue [] inside in
+    let others : (c : ℕ) → c ≢ i → list_at (set queues i queue) c ≡ list_at queues c =
     λ c other. get_or-set_other queues i c queue [] other in
     let old : node ≡ get_or before i node = read ∙ was.rest i node (omega arith) in
     record {
-      value = below_more (λ c. standing (row ++ more) (queue_at (set queues i queue) c) ≡ get_or (buffers_of before) c
+      value = below_more (λ c. standing (row ++ more) (list_at (set queues i queue) c) ≡ get_or (buffers_of before) c
           []) i
           (λ c h. let other : c ≢ i = omega arith in
-          ap (standing (row ++ more)) (others c other) ∙ standing_kept row more (queue_at queues c) (was.kept c h)
+          ap (standing (row ++ more)) (others c other) ∙ standing_kept row more (list_at queues c) (was.kept c h)
           ∙ was.value c h)
           (ap (standing (row ++ more)) here ∙ is ∙ ap (λ (b : Buffer). b.messages) old
           ∙ sym (get_or-map (λ (b : Buffer). b.messages) before i node [] there));
-      kept = below_more (λ c. AreKept (length (row ++ more)) (queue_at (set queues i queue) c)) i
+      kept = below_more (λ c. AreKept (length (row ++ more)) (list_at (set queues i queue) c)) i
           (λ c h. let other : c ≢ i = omega arith in
           subst (AreKept (length (row ++ more))) (sym (others c other))
-          (kept_longer (length row) (length (row ++ more)) (queue_at queues c) (omega (arith, longer))
+          (kept_longer (length row) (length (row ++ more)) (list_at queues c) (omega (arith, longer))
           (was.kept c h)))
           (subst (AreKept (length (row ++ more))) (sym here) kept);
-      within = below_more (λ c. length (queue_at (set queues i queue) c) ≤ cap) i
+      within = below_more (λ c. length (list_at (set queues i queue) c) ≤ cap) i
           (λ c h. let other : c ≢ i = omega arith in omega (arith, ap length (others c other), was.within c h))
           (omega (arith, ap length here));
       waiting = λ c h. let other : c ≢ i = omega arith in others c other ∙ was.waiting c (omega arith);
@@ -209,14 +209,14 @@ settled_all cap buffers before nodes last long all is =
 -- the first queues are empty, and the others as before
 pub record AreForgotten (before queues : List (List Ticket)) (count : ℕ) : Type 0 where
   pub long : length queues ≡ length before
-  pub done : (c : ℕ) → c < count → c < length before → queue_at queues c ≡ []
-  pub rest : (c : ℕ) → count ≤ c → queue_at queues c ≡ queue_at before c
+  pub done : (c : ℕ) → c < count → c < length before → list_at queues c ≡ []
+  pub rest : (c : ℕ) → count ≤ c → list_at queues c ≡ list_at before c
 
 pub forgotten_one : (before queues : List (List Ticket)) (i : ℕ) (queue : List Ticket) → i < length before
     → queue ≡ [] → AreForgotten before queues i → AreForgotten before (set queues i queue) (i + 1)
 forgotten_one before queues i queue inside is was = record {
   long = length-set queues i queue ∙ was.long;
-  done = below_more (λ c. c < length before → queue_at (set queues i queue) c ≡ []) i
+  done = below_more (λ c. c < length before → list_at (set queues i queue) c ≡ []) i
       (λ c h l. let other : c ≢ i = omega arith in get_or-set_other queues i c queue [] other ∙ was.done c h l)
       (λ l. get_or-set_same queues i queue [] (omega (arith, was.long)) ∙ is);
   rest = λ c h. let other : c ≢ i = omega arith in get_or-set_other queues i c queue [] other
@@ -224,7 +224,7 @@ forgotten_one before queues i queue inside is was = record {
 }
 
 pub forgotten_past : (before queues : List (List Ticket)) (i last : ℕ) → i ≤ last
-    → ((c : ℕ) → i ≤ c → c < last → c < length before → queue_at before c ≡ []) → AreForgotten before queues i
+    → ((c : ℕ) → i ≤ c → c < last → c < length before → list_at before c ≡ []) → AreForgotten before queues i
     → AreForgotten before queues last
 forgotten_past before queues i last ordered none was = record {
   long = was.long;

@@ -7,14 +7,13 @@ use Rattle.std.specs.Global.{Vec}
 use Rattle.std.proofs.lemmas.List.{length-map, get_or-map, with_items_is}
 use Rattle.std.proofs.lemmas.List.Elements.{All-from_get_or, All-nil}
 use Rattle.cm_model.specs.declared.message.Message.{Message}
-use Rattle.cm_model.specs.Array.{each_chip}
-use Rattle.cm_model.specs.Machine.{buffer_at}
+use Rattle.cm_model.specs.Array.{each_chip, list_at}
 use Rattle.cm_model.specs.Buffers.{outgoing, buffer_after_dimension}
 use Rattle.cm_model.specs.Each.{each_from}
 use Rattle.cm_model.proofs.Each.{is_each, length-each_from, get_or-each_below}
 use Rattle.cm_model.proofs.Flips.{across_below}
 use Rattle.cm_crossing.specs.declared.queue.Ticket.{Ticket}
-use Rattle.cm_crossing.specs.Tickets.{queue_at, exchanged}
+use Rattle.cm_crossing.specs.Tickets.{exchanged}
 use Rattle.cm_crossing.specs.Standing.{message_of, standing, all_standing, AreKept}
 use Rattle.cm_crossing.proofs.Carrying.{exchanged-standing, exchanged_kept}
 
@@ -54,39 +53,39 @@ messages_within cap row queues h k d l =
 -- ---- a dimension
 
 chip_standing : (row : List Message) (queues : List (List Ticket)) (c : ℕ) → c < length queues
-    → standing row (queue_at queues c) ≡ buffer_at (all_standing row queues) c
+    → standing row (list_at queues c) ≡ list_at (all_standing row queues) c
 chip_standing row queues c inside = sym (get_or-map (standing row) queues c [] [] inside)
 
 pub crossed_standing : (n cap d : ℕ) (row : List Message) (old : List (List Ticket)) → d < n → length old ≡ 2 ^ n
-    → all_standing row (each_chip n (λ c. exchanged cap d (queue_at old c) (queue_at old (bit_xor c (2 ^ d)))))
-    ≡ each_chip n (λ c. buffer_after_dimension cap d (buffer_at (all_standing row old) c)
-    (outgoing cap d (buffer_at (all_standing row old) (bit_xor c (2 ^ d)))))
+    → all_standing row (each_chip n (λ c. exchanged cap d (list_at old c) (list_at old (bit_xor c (2 ^ d)))))
+    ≡ each_chip n (λ c. buffer_after_dimension cap d (list_at (all_standing row old) c)
+    (outgoing cap d (list_at (all_standing row old) (bit_xor c (2 ^ d)))))
 crossed_standing n cap d row old below long =
-    let f : ℕ → List Ticket = λ c. exchanged cap d (queue_at old c) (queue_at old (bit_xor c (2 ^ d))) in
+    let f : ℕ → List Ticket = λ c. exchanged cap d (list_at old c) (list_at old (bit_xor c (2 ^ d))) in
     let counted : length (each_chip n f) ≡ 2 ^ n = length-each_from 0 (2 ^ n) f in
-    is_each [] (2 ^ n) (λ c. buffer_after_dimension cap d (buffer_at (all_standing row old) c)
-    (outgoing cap d (buffer_at (all_standing row old) (bit_xor c (2 ^ d)))))
+    is_each [] (2 ^ n) (λ c. buffer_after_dimension cap d (list_at (all_standing row old) c)
+    (outgoing cap d (list_at (all_standing row old) (bit_xor c (2 ^ d)))))
     (all_standing row (each_chip n f)) (length-map (each_chip n f) (standing row) ∙ counted)
     (λ c l.
-    let here : standing row (queue_at old c) ≡ buffer_at (all_standing row old) c =
+    let here : standing row (list_at old c) ≡ list_at (all_standing row old) c =
     chip_standing row old c (omega (arith, long)) in
-    let there : standing row (queue_at old (bit_xor c (2 ^ d))) ≡ buffer_at (all_standing row old) (bit_xor c (2 ^ d)) =
+    let there : standing row (list_at old (bit_xor c (2 ^ d))) ≡ list_at (all_standing row old) (bit_xor c (2 ^ d)) =
     chip_standing row old (bit_xor c (2 ^ d)) (omega (arith, long, across_below n d c below l)) in
     get_or-map (standing row) (each_chip n f) c [] [] (omega (arith, counted))
     ∙ ap (standing row) (get_or-each_below (2 ^ n) f c [] l)
-    ∙ exchanged-standing row cap d (queue_at old c) (queue_at old (bit_xor c (2 ^ d)))
+    ∙ exchanged-standing row cap d (list_at old c) (list_at old (bit_xor c (2 ^ d)))
     ∙ rw (here, there) refl)
 
 pub crossed_kept : (n cap d count : ℕ) (old : List (List Ticket)) → d < n → length old ≡ 2 ^ n → All (AreKept count) old
-    → All (AreKept count) (each_chip n (λ c. exchanged cap d (queue_at old c) (queue_at old (bit_xor c (2 ^ d)))))
+    → All (AreKept count) (each_chip n (λ c. exchanged cap d (list_at old c) (list_at old (bit_xor c (2 ^ d)))))
 crossed_kept n cap d count old below long kept =
-    let f : ℕ → List Ticket = λ c. exchanged cap d (queue_at old c) (queue_at old (bit_xor c (2 ^ d))) in
+    let f : ℕ → List Ticket = λ c. exchanged cap d (list_at old c) (list_at old (bit_xor c (2 ^ d))) in
     let counted : length (each_chip n f) ≡ 2 ^ n = length-each_from 0 (2 ^ n) f in
     All-from_get_or (AreKept count) (each_chip n f) []
     (λ c l.
     let inside : c < 2 ^ n = omega (arith, counted) in
     subst (AreKept count) (sym (get_or-each_below (2 ^ n) f c [] inside))
-    (exchanged_kept count cap d (queue_at old c) (queue_at old (bit_xor c (2 ^ d))) (kept c [] (omega (arith, long)))
+    (exchanged_kept count cap d (list_at old c) (list_at old (bit_xor c (2 ^ d))) (kept c [] (omega (arith, long)))
     (kept (bit_xor c (2 ^ d)) [] (omega (arith, long, across_below n d c below inside)))))
 
 -- ---- empty chips

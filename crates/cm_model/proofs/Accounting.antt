@@ -11,18 +11,18 @@ use Rattle.cm_model.specs.declared.act.Act.TheVariants as act
 use Rattle.cm_model.specs.declared.message.Message.{Message}
 use Rattle.cm_model.specs.declared.message.Event.{Event}
 use Rattle.cm_model.specs.declared.message.Event.TheVariants.{Injected, Delivered}
-use Rattle.cm_model.specs.Array.{chip_at}
+use Rattle.cm_model.specs.Array.{chip_at, list_at}
 use Rattle.cm_model.specs.Router.{Standing, leaves, after_dimension}
 use Rattle.cm_model.specs.Letters.{messages_sent}
 use Rattle.cm_model.specs.Steps.{Step, Instruct, Look, Inject, Cross, Deliver, IsStep, steps_of, all_steps}
-use Rattle.cm_model.specs.Cycle.{State, log_at, taken_at, new_record, new_records, after_injection, is_delivered, delivered_at, after_delivery, state_after, state_after_all}
-use Rattle.cm_model.specs.Machine.{Machine, buffer_at, records_from, opened, closed, run_of}
+use Rattle.cm_model.specs.Cycle.{State, taken_at, new_record, new_records, after_injection, is_delivered, delivered_at, after_delivery, state_after, state_after_all}
+use Rattle.cm_model.specs.Machine.{Machine, records_from, opened, closed, run_of}
 use Rattle.cm_model.specs.Buffers.{after_act}
 use Rattle.cm_model.specs.Account.{Triple, standing_triple, delivered_triple, injected_triple, account_at, account, new_events, newly_injected, all_injected, SameLines, HasLines}
 use Rattle.cm_model.proofs.Each.{get_or-each_below}
 use Rattle.cm_model.proofs.Flips.{across_below}
 use Rattle.cm_model.proofs.Crossing.{step_of_record}
-use Rattle.cm_model.proofs.Opening.{buffer-opened, buffer_at-closed}
+use Rattle.cm_model.proofs.Opening.{buffer-opened, list_at-closed}
 use Rattle.cm_model.proofs.Counting.{AllInCube, sum_by-plus, sum_by-flat_map, sum_by-range}
 use Rattle.cm_model.proofs.Conserving.{one, chips_of, injected_count, amount, account-closed, amount-after_injection, injected-after_injection, standing_count-after_dimension, AllInCube-filter, amount-after_delivery, injected-after_delivery}
 
@@ -50,8 +50,8 @@ AllInCube-records n c i (m ∷ ms) l = (l, AllInCube-records n c (i + 1) ms l)
 pub AllInCube-opened : (n : ℕ) (machine : Machine) → AllInCube n (opened n machine).standing
 unfolding opened
 AllInCube-opened n machine =
-    AllInCube-gathered n (λ c. records_from c 0 (buffer_at machine.buffers c)) 0 (2 ^ n)
-    (λ c l. AllInCube-records n c 0 (buffer_at machine.buffers c) (omega arith))
+    AllInCube-gathered n (λ c. records_from c 0 (list_at machine.buffers c)) 0 (2 ^ n)
+    (λ c l. AllInCube-records n c 0 (list_at machine.buffers c) (omega arith))
 
 AllInCube-crossed : (n d cycle : ℕ) (leaves : Standing → Bool) (set : List Standing) → d < n → AllInCube n set
     → AllInCube n (map (step_of_record leaves d cycle) set)
@@ -98,13 +98,13 @@ pub record Follows (n : ℕ) (a b : State) : Type 0 where
   pub cube : AllInCube n b.standing
   pub balance : (p : Triple → Bool)
       → amount p n b + injected_count p n a.logs ≡ amount p n a + injected_count p n b.logs
-  pub grows : (c : ℕ) → c < 2 ^ n → Extends (log_at a.logs c) (log_at b.logs c)
+  pub grows : (c : ℕ) → c < 2 ^ n → Extends (list_at a.logs c) (list_at b.logs c)
 
 same_log : (xs : List Event) → Extends xs xs
 same_log xs = ([], sym (append-nil xs))
 
 follows_itself : (n : ℕ) (a : State) → AllInCube n a.standing → Follows n a a
-follows_itself n a h = record { cube = h; balance = λ p. refl; grows = λ c l. same_log (log_at a.logs c) }
+follows_itself n a h = record { cube = h; balance = λ p. refl; grows = λ c l. same_log (list_at a.logs c) }
 
 follows_on : (n : ℕ) (a b c : State) → Follows n a b → Follows n b c → Follows n a c
 follows_on n a b c h k = record {
@@ -113,7 +113,7 @@ follows_on n a b c h k = record {
   grows = λ x l. (
     (h.grows x l).0 ++ (k.grows x l).0,
     (k.grows x l).1 ∙ (ap (λ z. z ++ (k.grows x l).0) (h.grows x l).1
-        ∙ append_assoc (log_at a.logs x) (h.grows x l).0 (k.grows x l).0),
+        ∙ append_assoc (list_at a.logs x) (h.grows x l).0 (k.grows x l).0),
   );
 }
 
@@ -128,7 +128,7 @@ after_injection_follows n cap state h = record {
   grows = λ c l. (
     map Injected (messages_sent n state.clock c (chip_at state.chips c) (taken_at cap state c)),
     get_or-each_below (2 ^ n)
-        (λ b. log_at state.logs b ++ map Injected
+        (λ b. list_at state.logs b ++ map Injected
         (messages_sent n state.clock b (chip_at state.chips b) (taken_at cap state b))) c [] l,
   );
 }
@@ -139,7 +139,7 @@ unfolding amount after_dimension
 after_dimension_follows n cap d state below h = record {
   cube = AllInCube-crossed n d state.cycle (leaves cap d state.standing) state.standing below h;
   balance = λ p. omega (arith, standing_count-after_dimension p cap d state.cycle state.standing);
-  grows = λ c l. same_log (log_at state.logs c);
+  grows = λ c l. same_log (list_at state.logs c);
 }
 
 after_delivery_follows : (n : ℕ) (state : State) → AllInCube n state.standing → Follows n state (after_delivery n state)
@@ -150,7 +150,7 @@ after_delivery_follows n state h = record {
   grows = λ c l. (
     map (λ m. Delivered m c) (delivered_at state.chips state.standing c),
     get_or-each_below (2 ^ n)
-        (λ b. log_at state.logs b ++ map (λ m. Delivered m b) (delivered_at state.chips state.standing b)) c [] l,
+        (λ b. list_at state.logs b ++ map (λ m. Delivered m b) (delivered_at state.chips state.standing b)) c [] l,
   );
 }
 
@@ -158,7 +158,7 @@ state_after_follows : (n cap : ℕ) (state : State) (step : Step) → IsStep n s
     → Follows n state (state_after n cap state step)
 unfolding amount
 state_after_follows n cap state (Instruct nano) s h =
-    record { cube = h; balance = λ p. refl; grows = λ c l. same_log (log_at state.logs c) }
+    record { cube = h; balance = λ p. refl; grows = λ c l. same_log (list_at state.logs c) }
 state_after_follows n cap state Look s h = follows_itself n state h
 state_after_follows n cap state Inject s h = after_injection_follows n cap state h
 state_after_follows n cap state (Cross d) s h = after_dimension_follows n cap d state s h
@@ -185,21 +185,21 @@ run_follows n cap machine acts =
     (AllInCube-opened n machine)
 
 grown_log : (n cap : ℕ) (machine : Machine) (acts : List Act) (c : ℕ) → c < 2 ^ n
-    → Extends (log_at machine.logs c) (log_at (state_left n cap machine acts).logs c)
+    → Extends (list_at machine.logs c) (list_at (state_left n cap machine acts).logs c)
 unfolding opened
 grown_log n cap machine acts c l = (run_follows n cap machine acts).grows c l
 
 -- the logs only grow
 pub logs_grow : (n cap : ℕ) (machine : Machine) (acts : List Act) (c : ℕ) → c < 2 ^ n →
-    log_at (run_of n cap machine acts).logs c ≡ log_at machine.logs c ++ new_events machine
+    list_at (run_of n cap machine acts).logs c ≡ list_at machine.logs c ++ new_events machine
     (run_of n cap machine acts) c
 unfolding run_of closed
 logs_grow n cap machine acts c l =
-    let grown : Extends (log_at machine.logs c) (log_at (state_left n cap machine acts).logs c) =
+    let grown : Extends (list_at machine.logs c) (list_at (state_left n cap machine acts).logs c) =
     grown_log n cap machine acts c l in
-    grown.1 ∙ ap (λ z. log_at machine.logs c ++ z)
-    (sym (ap (drop (length (log_at machine.logs c))) grown.1
-    ∙ drop_at (log_at machine.logs c) grown.0 (length (log_at machine.logs c)) refl))
+    grown.1 ∙ ap (λ z. list_at machine.logs c ++ z)
+    (sym (ap (drop (length (list_at machine.logs c))) grown.1
+    ∙ drop_at (list_at machine.logs c) grown.0 (length (list_at machine.logs c)) refl))
 
 -- what was injected before and what is new is all that was injected
 injected_grows : (p : Triple → Bool) (n cap : ℕ) (machine : Machine) (acts : List Act) →
@@ -208,14 +208,14 @@ injected_grows : (p : Triple → Bool) (n cap : ℕ) (machine : Machine) (acts :
 unfolding newly_injected
 injected_grows p n cap machine acts =
     let after : Machine = run_of n cap machine acts in
-    sum_by-range (λ c. count_by p (filter_map (injected_triple c) (log_at after.logs c)))
-    (λ c. count_by p (filter_map (injected_triple c) (log_at machine.logs c)) + count_by p
+    sum_by-range (λ c. count_by p (filter_map (injected_triple c) (list_at after.logs c)))
+    (λ c. count_by p (filter_map (injected_triple c) (list_at machine.logs c)) + count_by p
     (filter_map (injected_triple c) (new_events machine after c))) 0 (2 ^ n)
     (λ c k l. ap (λ z. count_by p (filter_map (injected_triple c) z)) (logs_grow n cap machine acts c (omega arith))
-    ∙ (ap (count_by p) (filter_map-append (injected_triple c) (log_at machine.logs c) (new_events machine after c))
-    ∙ sum_by-append (one p) (filter_map (injected_triple c) (log_at machine.logs c))
+    ∙ (ap (count_by p) (filter_map-append (injected_triple c) (list_at machine.logs c) (new_events machine after c))
+    ∙ sum_by-append (one p) (filter_map (injected_triple c) (list_at machine.logs c))
     (filter_map (injected_triple c) (new_events machine after c))))
-    ∙ (sum_by-plus (λ c. count_by p (filter_map (injected_triple c) (log_at machine.logs c)))
+    ∙ (sum_by-plus (λ c. count_by p (filter_map (injected_triple c) (list_at machine.logs c)))
     (λ c. count_by p (filter_map (injected_triple c) (new_events machine after c))) (chips_of n)
     ∙ ap (λ k. injected_count p n machine.logs + k)
     (sym (sum_by-flat_map (one p) (λ c. filter_map (injected_triple c) (new_events machine after c)) (chips_of n))))
@@ -224,8 +224,8 @@ account_at-same : (n : ℕ) (machine : Machine) (c : ℕ) → c < 2 ^ n
     → account_at machine c ≡ account_at (closed n (opened n machine)) c
 unfolding closed opened
 account_at-same n machine c l =
-    ap (λ ms. map (standing_triple c) ms ++ filter_map delivered_triple (log_at machine.logs c))
-    (sym (buffer_at-closed n (opened n machine) c l ∙ buffer-opened n machine c l))
+    ap (λ ms. map (standing_triple c) ms ++ filter_map delivered_triple (list_at machine.logs c))
+    (sym (list_at-closed n (opened n machine) c l ∙ buffer-opened n machine c l))
 
 account-same : (p : Triple → Bool) (n : ℕ) (machine : Machine)
     → count_by p (account n machine) ≡ count_by p (account n (closed n (opened n machine)))
@@ -284,7 +284,7 @@ all_injected-count : (p : Triple → Bool) (n : ℕ) (machine : Machine)
     → count_by p (all_injected n machine) ≡ injected_count p n machine.logs
 unfolding all_injected
 all_injected-count p n machine =
-    sum_by-flat_map (one p) (λ c. filter_map (injected_triple c) (log_at machine.logs c)) (chips_of n)
+    sum_by-flat_map (one p) (λ c. filter_map (injected_triple c) (list_at machine.logs c)) (chips_of n)
 
 -- what was injected goes on to stand in the account
 pub injected_stand_in_the_account : (n cap : ℕ) (machine : Machine) (acts : List Act) →

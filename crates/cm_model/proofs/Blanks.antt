@@ -8,8 +8,8 @@ use Rattle.cm_model.specs.declared.message.Event.{Event}
 use Rattle.cm_model.specs.Processor.{Processor, blank_processor}
 use Rattle.cm_model.specs.Chip.{no_processor, blank_chip}
 use Rattle.cm_model.specs.Whole.{IsProcessor, IsChip}
-use Rattle.cm_model.specs.Cycle.{log_at}
-use Rattle.cm_model.specs.Machine.{blank_machine, buffer_at}
+use Rattle.cm_model.specs.Array.{list_at}
+use Rattle.cm_model.specs.Machine.{blank_machine}
 use Rattle.cm_model.specs.Account.{Triple, injected_triple, account_at, account, all_injected}
 use Rattle.cm_model.specs.Found.{same_tag}
 use Rattle.cm_model.specs.Keeping.{IsMessage, IsEventOf, IsMachine}
@@ -38,11 +38,11 @@ nothing_gathered : {X : Type 0} (f : ℕ → List X) (a k : ℕ) → ((c : ℕ) 
 nothing_gathered f a zero h = refl
 nothing_gathered f a (suc k) h = rw (h a (omega arith), nothing_gathered f (a + 1) k (λ c l. h c (omega arith))) refl
 
-no_buffer : (n c : ℕ) → c < 2 ^ n → buffer_at (blank_machine n).buffers c ≡ []
+no_buffer : (n c : ℕ) → c < 2 ^ n → list_at (blank_machine n).buffers c ≡ []
 unfolding blank_machine
 no_buffer n c l = get_or-each_below {X = List Message} (2 ^ n) (λ b. []) c [] l
 
-no_log : (n c : ℕ) → c < 2 ^ n → log_at (blank_machine n).logs c ≡ []
+no_log : (n c : ℕ) → c < 2 ^ n → list_at (blank_machine n).logs c ≡ []
 unfolding blank_machine
 no_log n c l = get_or-each_below {X = List Event} (2 ^ n) (λ b. []) c [] l
 
@@ -53,7 +53,7 @@ no_account n = nothing_gathered (account_at (blank_machine n)) 0 (2 ^ n)
 
 none_injected : (n : ℕ) → all_injected n (blank_machine n) ≡ []
 unfolding all_injected
-none_injected n = nothing_gathered (λ c. filter_map (injected_triple c) (log_at (blank_machine n).logs c)) 0 (2 ^ n)
+none_injected n = nothing_gathered (λ c. filter_map (injected_triple c) (list_at (blank_machine n).logs c)) 0 (2 ^ n)
     (λ c l. rw (no_log n c (omega arith)) refl)
 
 -- at whatever count of petit cycles

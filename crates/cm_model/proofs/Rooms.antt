@@ -8,11 +8,11 @@ use Rattle.std.specs.List.{position_or_len}
 use Rattle.std.specs.Option.{option_or, option_map, option_to_list}
 use Rattle.cm_model.specs.declared.message.Message.{Message}
 use Rattle.cm_model.specs.Processor.{Processor}
-use Rattle.cm_model.specs.Array.{chip_at}
+use Rattle.cm_model.specs.Array.{chip_at, list_at}
 use Rattle.cm_model.specs.Router.{has_to_cross, message_across}
 use Rattle.cm_model.specs.Letters.{senders, senders_taken, message_sent, can_receive}
 use Rattle.cm_model.specs.Steps.{Step, Instruct, Look, Inject, Cross, Deliver, IsStep}
-use Rattle.cm_model.specs.Machine.{Machine, buffer_at}
+use Rattle.cm_model.specs.Machine.{Machine}
 use Rattle.cm_model.specs.Buffers.{taken_in, sent_in, machine_after_injection, leaving_place, referred_place, element_at, without, outgoing, buffer_after_dimension, machine_after_dimension, is_accepted, arrived_for, kept, machine_after_delivery, after_step}
 use Rattle.cm_model.specs.Keeping.{HasRoom}
 use Rattle.cm_model.proofs.Each.{get_or-each_below}
@@ -102,13 +102,13 @@ pub HasRoom-after_injection : (n cap : ℕ) (machine : Machine) → HasRoom n ca
     → HasRoom n cap (machine_after_injection n cap machine)
 unfolding machine_after_injection
 HasRoom-after_injection n cap machine h c l =
-    let here : length (buffer_at machine.buffers c) ≤ cap = h c l in
+    let here : length (list_at machine.buffers c) ≤ cap = h c l in
     subst (λ (xs : List Message). length xs ≤ cap)
-    (sym (get_or-each_below (2 ^ n) (λ b. buffer_at machine.buffers b ++ sent_in n cap machine b) c [] l))
+    (sym (get_or-each_below (2 ^ n) (λ b. list_at machine.buffers b ++ sent_in n cap machine b) c [] l))
     (omega (
       arith,
-      length-append (buffer_at machine.buffers c) (sent_in n cap machine c),
-      length-taken cap (length (buffer_at machine.buffers c)) (chip_at machine.chips c) here,
+      length-append (list_at machine.buffers c) (sent_in n cap machine c),
+      length-taken cap (length (list_at machine.buffers c)) (chip_at machine.chips c) here,
       length-map (taken_in cap machine c) (message_sent n machine.clock c (chip_at machine.chips c)),
     ))
 
@@ -118,20 +118,20 @@ unfolding machine_after_dimension
 HasRoom-after_dimension n cap d machine below h c l =
     subst (λ (xs : List Message). length xs ≤ cap)
     (sym (get_or-each_below (2 ^ n)
-    (λ b. buffer_after_dimension cap d (buffer_at machine.buffers b)
-    (outgoing cap d (buffer_at machine.buffers (bit_xor b (2 ^ d))))) c [] l))
-    (length-after_dimension cap d (buffer_at machine.buffers c) (buffer_at machine.buffers (bit_xor c (2 ^ d)))
+    (λ b. buffer_after_dimension cap d (list_at machine.buffers b)
+    (outgoing cap d (list_at machine.buffers (bit_xor b (2 ^ d))))) c [] l))
+    (length-after_dimension cap d (list_at machine.buffers c) (list_at machine.buffers (bit_xor c (2 ^ d)))
     (h c l) (h (bit_xor c (2 ^ d)) (across_below n d c below l)))
 
 pub HasRoom-after_delivery : (n cap : ℕ) (machine : Machine) → HasRoom n cap machine
     → HasRoom n cap (machine_after_delivery n machine)
 unfolding machine_after_delivery
 HasRoom-after_delivery n cap machine h c l =
-    let here : length (buffer_at machine.buffers c) ≤ cap = h c l in
+    let here : length (list_at machine.buffers c) ≤ cap = h c l in
     subst (λ (xs : List Message). length xs ≤ cap)
     (sym (get_or-each_below (2 ^ n)
-    (λ b. kept (can_receive (chip_at machine.chips b)) [] (buffer_at machine.buffers b)) c [] l))
-    (omega (arith, length-kept (can_receive (chip_at machine.chips c)) [] (buffer_at machine.buffers c)))
+    (λ b. kept (can_receive (chip_at machine.chips b)) [] (list_at machine.buffers b)) c [] l))
+    (omega (arith, length-kept (can_receive (chip_at machine.chips c)) [] (list_at machine.buffers c)))
 
 pub HasRoom-after_step : (n cap : ℕ) (machine : Machine) (step : Step) → IsStep n step → HasRoom n cap machine
     → HasRoom n cap (after_step n cap machine step)

@@ -8,13 +8,13 @@ use Rattle.std.specs.List.{range_with_len}
 use Rattle.cm_model.specs.declared.act.Act.{Act}
 use Rattle.cm_model.specs.declared.act.Act.TheVariants as act
 use Rattle.cm_model.specs.declared.message.Event.TheVariants.{Injected, Delivered}
-use Rattle.cm_model.specs.Array.{chip_at}
+use Rattle.cm_model.specs.Array.{chip_at, list_at}
 use Rattle.cm_model.specs.Router.{Since, Standing, standing_at, after_dimension}
 use Rattle.cm_model.specs.Order.{queue, buffer}
 use Rattle.cm_model.specs.Letters.{senders_taken, messages_sent, chip_after_injection, chip_after_delivery, can_receive}
 use Rattle.cm_model.specs.Steps.{Step, Instruct, Cross, Deliver, steps_of, all_steps}
-use Rattle.cm_model.specs.Cycle.{State, log_at, taken_at, after_injection, delivered_at, after_delivery, is_delivered, state_after, state_after_all}
-use Rattle.cm_model.specs.Machine.{Machine, buffer_at, opened, closed, run_of}
+use Rattle.cm_model.specs.Cycle.{State, taken_at, after_injection, delivered_at, after_delivery, is_delivered, state_after, state_after_all}
+use Rattle.cm_model.specs.Machine.{Machine, opened, closed, run_of}
 use Rattle.cm_model.specs.Buffers.{taken_in, sent_in, machine_after_injection, outgoing, buffer_after_dimension, machine_after_dimension, delivered, kept, delivered_in, machine_after_delivery, after_step, after_steps, after_act, after_acts}
 use Rattle.cm_model.proofs.Each.{length-each_from, same_each_below}
 use Rattle.cm_model.proofs.Flips.{across_below}
@@ -24,7 +24,7 @@ use Rattle.cm_model.proofs.Readiness.{IsReady}
 use Rattle.cm_model.proofs.Routing.{due_time, IsReady-after_dimension}
 use Rattle.cm_model.proofs.Injecting.{cycle_begins, with_new, buffer-with_new, IsReady-with_new}
 use Rattle.cm_model.proofs.Delivering.{undelivered, delivered_at_is, buffer-undelivered, IsReady-filter, later_ready}
-use Rattle.cm_model.proofs.Opening.{IsReady-opened, closed-opened, buffer_at-closed}
+use Rattle.cm_model.proofs.Opening.{IsReady-opened, closed-opened, list_at-closed}
 
 -- ---- injection
 
@@ -36,7 +36,7 @@ taken_in-closed : (n cap : ℕ) (state : State) (c : ℕ) → c < 2 ^ n
     → taken_in cap (closed n state) c ≡ taken_at cap state c
 unfolding closed
 taken_in-closed n cap state c l =
-    ap (λ k. senders_taken cap k (chip_at state.chips c)) (ap length (buffer_at-closed n state c l)
+    ap (λ k. senders_taken cap k (chip_at state.chips c)) (ap length (list_at-closed n state c l)
     ∙ length-buffer c state.standing)
 
 sent_in-closed : (n cap : ℕ) (state : State) (c : ℕ) → c < 2 ^ n
@@ -53,16 +53,16 @@ closed-after_injection n cap state h =
     (λ c. chip_after_injection (taken_in cap (closed n state) c) (chip_at state.chips c))
     (λ c l. ap (λ ps. chip_after_injection ps (chip_at state.chips c)) (sym (taken_in-closed n cap state c l))) in
     let buffers = same_each_below [] (2 ^ n) (λ c. buffer c (with_new n cap state))
-    (λ c. buffer_at (closed n state).buffers c ++ sent_in n cap (closed n state) c)
+    (λ c. list_at (closed n state).buffers c ++ sent_in n cap (closed n state) c)
     (λ c l. buffer-with_new n cap state c h l
     ∙ (ap (λ z. z ++ messages_sent n state.clock c (chip_at state.chips c) (taken_at cap state c))
-    (sym (buffer_at-closed n state c l))
-    ∙ ap (λ z. buffer_at (closed n state).buffers c ++ z) (sym (sent_in-closed n cap state c l)))) in
+    (sym (list_at-closed n state c l))
+    ∙ ap (λ z. list_at (closed n state).buffers c ++ z) (sym (sent_in-closed n cap state c l)))) in
     let logs = same_each_below [] (2 ^ n)
-    (λ c. log_at state.logs c ++ map Injected
+    (λ c. list_at state.logs c ++ map Injected
     (messages_sent n state.clock c (chip_at state.chips c) (taken_at cap state c)))
-    (λ c. log_at state.logs c ++ map Injected (sent_in n cap (closed n state) c))
-    (λ c l. ap (λ z. log_at state.logs c ++ map Injected z) (sym (sent_in-closed n cap state c l))) in
+    (λ c. list_at state.logs c ++ map Injected (sent_in n cap (closed n state) c))
+    (λ c l. ap (λ z. list_at state.logs c ++ map Injected z) (sym (sent_in-closed n cap state c l))) in
     λ i. record { chips = chips i; buffers = buffers i; logs = logs i; clock = state.clock }
 
 -- ---- a dimension
@@ -72,14 +72,14 @@ closed-after_dimension : (n cap d : ℕ) (state : State) → d < n → IsReady (
 unfolding closed machine_after_dimension
 closed-after_dimension n cap d state below h =
     let buffers = same_each_below [] (2 ^ n) (λ c. buffer c (after_dimension cap d state.cycle state.standing))
-    (λ c. buffer_after_dimension cap d (buffer_at (closed n state).buffers c)
-    (outgoing cap d (buffer_at (closed n state).buffers (bit_xor c (2 ^ d)))))
+    (λ c. buffer_after_dimension cap d (list_at (closed n state).buffers c)
+    (outgoing cap d (list_at (closed n state).buffers (bit_xor c (2 ^ d)))))
     (λ c l. buffer-after_dimension cap d state.cycle c state.standing h.before (h.rising c)
     (h.rising (bit_xor c (2 ^ d)))
     ∙ (ap (λ z. buffer_after_dimension cap d z (outgoing cap d (buffer (bit_xor c (2 ^ d)) state.standing)))
-    (sym (buffer_at-closed n state c l))
-    ∙ ap (λ z. buffer_after_dimension cap d (buffer_at (closed n state).buffers c) (outgoing cap d z))
-    (sym (buffer_at-closed n state (bit_xor c (2 ^ d)) (across_below n d c below l))))) in
+    (sym (list_at-closed n state c l))
+    ∙ ap (λ z. buffer_after_dimension cap d (list_at (closed n state).buffers c) (outgoing cap d z))
+    (sym (list_at-closed n state (bit_xor c (2 ^ d)) (across_below n d c below l))))) in
     λ i. record { chips = state.chips; buffers = buffers i; logs = state.logs; clock = state.clock }
 
 -- ---- delivery
@@ -88,7 +88,7 @@ delivered_in-closed : (n : ℕ) (state : State) (c : ℕ) → IsRising (queue c 
     → delivered_in (closed n state) c ≡ delivered_at state.chips state.standing c
 unfolding closed
 delivered_in-closed n state c h l =
-    ap (delivered (can_receive (chip_at state.chips c)) []) (buffer_at-closed n state c l)
+    ap (delivered (can_receive (chip_at state.chips c)) []) (list_at-closed n state c l)
     ∙ sym (delivered_at_is state.chips state.standing c h)
 
 closed-after_delivery : (n : ℕ) (top : Since) (state : State) → IsReady top state.standing
@@ -102,13 +102,13 @@ closed-after_delivery n top state h =
     (λ c. chip_after_delivery (delivered_in (closed n state) c) (chip_at state.chips c))
     (λ c l. ap (λ ms. chip_after_delivery ms (chip_at state.chips c)) (out c l)) in
     let buffers = same_each_below [] (2 ^ n) (λ c. buffer c (undelivered state.chips state.standing))
-    (λ c. kept (can_receive (chip_at state.chips c)) [] (buffer_at (closed n state).buffers c))
+    (λ c. kept (can_receive (chip_at state.chips c)) [] (list_at (closed n state).buffers c))
     (λ c l. buffer-undelivered state.chips state.standing c (h.rising c)
-    ∙ ap (kept (can_receive (chip_at state.chips c)) []) (sym (buffer_at-closed n state c l))) in
+    ∙ ap (kept (can_receive (chip_at state.chips c)) []) (sym (list_at-closed n state c l))) in
     let logs = same_each_below [] (2 ^ n)
-    (λ c. log_at state.logs c ++ map (λ m. Delivered m c) (delivered_at state.chips state.standing c))
-    (λ c. log_at state.logs c ++ map (λ m. Delivered m c) (delivered_in (closed n state) c))
-    (λ c l. ap (λ ms. log_at state.logs c ++ map (λ m. Delivered m c) ms) (out c l)) in
+    (λ c. list_at state.logs c ++ map (λ m. Delivered m c) (delivered_at state.chips state.standing c))
+    (λ c. list_at state.logs c ++ map (λ m. Delivered m c) (delivered_in (closed n state) c))
+    (λ c l. ap (λ ms. list_at state.logs c ++ map (λ m. Delivered m c) ms) (out c l)) in
     λ i. record { chips = chips i; buffers = buffers i; logs = logs i; clock = state.clock + 1 }
 
 -- ---- lists of steps

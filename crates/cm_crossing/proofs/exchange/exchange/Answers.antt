@@ -3,7 +3,8 @@ use Rattle.std.specs.List.{All}
 use Rattle.std.proofs.lemmas.List.{get_or_read}
 use Rattle.std.proofs.lemmas.List.Elements.{All-set}
 use Rattle.cm_crossing.specs.declared.queue.Ticket.{Ticket}
-use Rattle.cm_crossing.specs.Tickets.{queue_at, exchanged}
+use Rattle.cm_model.specs.Array.{list_at}
+use Rattle.cm_crossing.specs.Tickets.{exchanged}
 use Rattle.cm_crossing.proofs.Leaving.{has_room}
 use Rattle.cm_crossing.proofs.Pairing.{written_twice, exchanged_is}
 use Rattle.cm_crossing.proofs.exchange.exchange.Goals as goal
@@ -26,9 +27,9 @@ returns c =
     let long_once : length once ≡ length queues = length-set queues i left_here in
     let long_twice : length twice ≡ length queues = length-set once j left_there ∙ long_once in
     let long_thrice : length thrice ≡ length queues = length-set twice i after_here ∙ long_twice in
-    let here : c.index-queues-here.result ≡ queue_at queues i =
+    let here : c.index-queues-here.result ≡ list_at queues i =
     get_or_read queues i c.index-queues-here.result c.requires.here c.index-queues-here.is [] in
-    let there : c.index-queues-there.result ≡ queue_at queues j =
+    let there : c.index-queues-there.result ≡ list_at queues j =
     get_or_read once j c.index-queues-there.result (omega (arith, long_once, c.requires.there))
     c.index-queues-there.is []
     ∙ get_or-set_other queues i j left_here [] back in
@@ -59,11 +60,11 @@ returns c =
     record {
       value = written_twice queues i j left_here left_there after_here after_there c.requires.apart
           ∙ ap (λ (ts : List Ticket). set (set queues i ts) j after_there)
-          (exchanged_is room d (queue_at queues i) (queue_at queues j) left_here after_here c.leave-coming.result
+          (exchanged_is room d (list_at queues i) (list_at queues j) left_here after_here c.leave-coming.result
           stays_here coming came_here)
-          ∙ ap (λ (ts : List Ticket). set (set queues i (exchanged room d (queue_at queues i) (queue_at queues j))) j
+          ∙ ap (λ (ts : List Ticket). set (set queues i (exchanged room d (list_at queues i) (list_at queues j))) j
           ts)
-          (exchanged_is room d (queue_at queues j) (queue_at queues i) left_there after_there c.leave-going.result
+          (exchanged_is room d (list_at queues j) (list_at queues i) left_there after_there c.leave-going.result
           stays_there going came_there);
       within = All-set is_room thrice j after_there
           (has_room room left_there after_there c.leave-going.result came_there c.leave-coming.ensures.room)

@@ -4,11 +4,10 @@ use Rattle.std.specs.List.{All}
 use Rattle.std.specs.Vec.{with_items}
 use Rattle.std.proofs.lemmas.List.{length-map}
 use Rattle.cm_model.specs.declared.message.Message.{Message}
-use Rattle.cm_model.specs.Array.{each_chip}
-use Rattle.cm_model.specs.Machine.{buffer_at}
+use Rattle.cm_model.specs.Array.{each_chip, list_at}
 use Rattle.cm_model.specs.Buffers.{outgoing, buffer_after_dimension}
 use Rattle.cm_crossing.specs.declared.queue.Ticket.{Ticket}
-use Rattle.cm_crossing.specs.Tickets.{queue_at, exchanged}
+use Rattle.cm_crossing.specs.Tickets.{exchanged}
 use Rattle.cm_crossing.specs.Standing.{UnderWay, standing, all_standing, IsCrossing, AreKept}
 use Rattle.cm_crossing.proofs.Wholes.{items-lent, tickets_within, messages_within, crossed_standing, crossed_kept}
 use Rattle.cm_crossing.proofs.crossing.Crossing.cross.Goals as goal
@@ -30,7 +29,7 @@ invariant_of-self g c =
     let long : length old ≡ 2 ^ g.row.N = sym (length-map old (standing inside.row.items))
     ∙ ap (λ (u : UnderWay). length u.buffers) c.self.view_is ∙ c.requires.count in
     let is : new ≡ each_chip g.row.N
-    (λ k. exchanged g.row.CAP c.args.dim (queue_at old k) (queue_at old (bit_xor k (2 ^ c.args.dim)))) =
+    (λ k. exchanged g.row.CAP c.args.dim (list_at old k) (list_at old (bit_xor k (2 ^ c.args.dim)))) =
     rw c.deref_mut.ensures.value at c.cross_row.ensures.value in
     subst (λ (queues : List (List Ticket)). IsCrossing inside.row inside.places queues c.cross_row.new.busy)
     (sym (items-lent inside.queues new same))
@@ -57,13 +56,13 @@ returns-clause-value g c =
     let long : length old ≡ 2 ^ g.row.N = sym (length-map old (standing row))
     ∙ ap (λ (u : UnderWay). length u.buffers) c.self.view_is ∙ c.requires.count in
     let is : new ≡ each_chip g.row.N
-    (λ k. exchanged g.row.CAP c.args.dim (queue_at old k) (queue_at old (bit_xor k (2 ^ c.args.dim)))) =
+    (λ k. exchanged g.row.CAP c.args.dim (list_at old k) (list_at old (bit_xor k (2 ^ c.args.dim)))) =
     rw c.deref_mut.ensures.value at c.cross_row.ensures.value in
     ap (all_standing row) (items-lent inside.queues new same ∙ is)
     ∙ crossed_standing g.row.N g.row.CAP c.args.dim row old c.requires.dim long
     ∙ ap (λ (u : UnderWay). each_chip g.row.N
-    (λ k. buffer_after_dimension g.row.CAP c.args.dim (buffer_at u.buffers k)
-    (outgoing g.row.CAP c.args.dim (buffer_at u.buffers (bit_xor k (2 ^ c.args.dim)))))) c.self.view_is
+    (λ k. buffer_after_dimension g.row.CAP c.args.dim (list_at u.buffers k)
+    (outgoing g.row.CAP c.args.dim (list_at u.buffers (bit_xor k (2 ^ c.args.dim)))))) c.self.view_is
 
 pub returns-clause-within : goal.returns-clause-within
 returns-clause-within g c =

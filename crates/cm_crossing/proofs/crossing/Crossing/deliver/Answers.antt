@@ -5,7 +5,7 @@ use Rattle.std.proofs.lemmas.List.Elements.{All-set}
 use Rattle.cm_model.specs.declared.message.Message.{Message}
 use Rattle.cm_model.specs.declared.message.Event.TheVariants.{Delivered}
 use Rattle.cm_model.specs.Letters.{chip_after_delivery}
-use Rattle.cm_model.specs.Machine.{buffer_at}
+use Rattle.cm_model.specs.Array.{list_at}
 use Rattle.cm_crossing.specs.declared.queue.Ticket.{Ticket}
 use Rattle.cm_crossing.specs.Standing.{UnderWay, standing, all_standing, AreKept, delivered_of, kept_of}
 use Rattle.cm_crossing.proofs.Wholes.{tickets_within}
@@ -82,9 +82,9 @@ returns g c =
     rw (ap (λ (u : UnderWay). u.buffers) c.self.view_is) c.requires.within in
     let few : length (get_or queues i []) ≤ g.row.CAP = tickets_within g.row.CAP row queues messages i [] inside in
     let read : old ≡ get_or queues i [] = get_or_read queues i old inside c.index_mut.ensures.value [] in
-    let stood : standing row old ≡ buffer_at c.args.self.now.buffers i =
+    let stood : standing row old ≡ list_at c.args.self.now.buffers i =
     standing_read row queues i old inside c.index_mut.ensures.value
-    ∙ ap (λ (u : UnderWay). buffer_at u.buffers i) c.self.view_is in
+    ∙ ap (λ (u : UnderWay). list_at u.buffers i) c.self.view_is in
     let value = rw c.deref.ensures.value at c.give_out.ensures.value in
     let chip = rw c.deref.ensures.value at c.give_out.ensures.chip in
     let log = rw c.deref.ensures.value at c.give_out.ensures.log in

@@ -2,7 +2,7 @@ use Rattle.std.proofs.Common.{◌/◌, ◌<◌, ◌≤◌, ◌++◌, List, [], l
 use Rattle.std.specs.List.{All}
 use Rattle.std.proofs.lemmas.List.{length-map, get_or_read}
 use Rattle.cm_model.specs.declared.message.Message.{Message}
-use Rattle.cm_model.specs.Machine.{buffer_at}
+use Rattle.cm_model.specs.Array.{list_at}
 use Rattle.cm_crossing.specs.declared.queue.Ticket.{Ticket}
 use Rattle.cm_crossing.specs.Standing.{UnderWay, standing, all_standing, sent_with}
 use Rattle.cm_crossing.proofs.Blocks.{quiet_after_one}
@@ -90,7 +90,7 @@ returns-then-take_in-clause-value g c =
     (rw c.take_in.ensures.items at c.take_in.ensures.value))
     ∙ ap (λ (ms : List Message). set (all_standing row queues) i (ms ++ sent ms))
     (standing_read row queues i old inside c.index_mut-queue.ensures.value)
-    ∙ ap (λ (u : UnderWay). set u.buffers i (buffer_at u.buffers i ++ sent (buffer_at u.buffers i))) c.self.view_is
+    ∙ ap (λ (u : UnderWay). set u.buffers i (list_at u.buffers i ++ sent (list_at u.buffers i))) c.self.view_is
 
 pub returns-then-take_in-clause-within : goal.returns-then-take_in-clause-within
 returns-then-take_in-clause-within g c =
@@ -122,7 +122,7 @@ returns-else-take_in-clause-value g c =
     (rw c.take_in.ensures.items at c.take_in.ensures.value))
     ∙ ap (λ (ms : List Message). set (all_standing row queues) i (ms ++ sent ms))
     (standing_read row queues i old inside c.index_mut-queue.ensures.value)
-    ∙ ap (λ (u : UnderWay). set u.buffers i (buffer_at u.buffers i ++ sent (buffer_at u.buffers i))) c.self.view_is
+    ∙ ap (λ (u : UnderWay). set u.buffers i (list_at u.buffers i ++ sent (list_at u.buffers i))) c.self.view_is
 
 pub returns-else-take_in-clause-within : goal.returns-else-take_in-clause-within
 returns-else-take_in-clause-within g c =

@@ -1,8 +1,7 @@
 use Rattle.std.proofs.Common.{rules, ◌≡◌, ℕ, ◌^◌, [], sym, ap, ◌∙◌, arith}
 use Rattle.cm_model.specs.Each.{each_from}
-use Rattle.cm_model.specs.Array.{chip_at}
+use Rattle.cm_model.specs.Array.{chip_at, list_at}
 use Rattle.cm_model.specs.Letters.{can_receive}
-use Rattle.cm_model.specs.Machine.{buffer_at}
 use Rattle.cm_model.specs.Buffers.{kept}
 use Rattle.cm_plain.proofs.Made.{each_from-zero, pushed}
 use Rattle.cm_plain.proofs.router.PlainRouter.buffers_after_delivery.Goals as goal
@@ -21,5 +20,5 @@ returns g c =
     record {
       value = c.loop-chip.invariant
           ∙ ap (λ (n : ℕ). each_from 0 n
-          (λ k. kept (can_receive (chip_at c.args.self.now.chips k)) [] (buffer_at c.args.self.now.buffers k))) all;
+          (λ k. kept (can_receive (chip_at c.args.self.now.chips k)) [] (list_at c.args.self.now.buffers k))) all;
     }

@@ -1,6 +1,6 @@
 use Rattle.std.proofs.Common.{rules, ◌≡◌, ℕ, ◌^◌, ◌++◌, sym, ap, ◌∙◌, arith}
 use Rattle.cm_model.specs.Each.{each_from}
-use Rattle.cm_model.specs.Machine.{buffer_at}
+use Rattle.cm_model.specs.Array.{list_at}
 use Rattle.cm_model.specs.Buffers.{sent_in}
 use Rattle.cm_plain.proofs.Made.{each_from-zero, pushed}
 use Rattle.cm_plain.proofs.router.PlainRouter.buffers_after_injection.Goals as goal
@@ -19,5 +19,5 @@ returns g c =
     record {
       value = c.loop-chip.invariant
           ∙ ap (λ (n : ℕ). each_from 0 n
-          (λ k. buffer_at c.args.self.now.buffers k ++ sent_in g.row.N g.row.CAP c.args.self.now k)) all;
+          (λ k. list_at c.args.self.now.buffers k ++ sent_in g.row.N g.row.CAP c.args.self.now k)) all;
     }

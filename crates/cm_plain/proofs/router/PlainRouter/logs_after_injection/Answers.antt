@@ -1,7 +1,7 @@
 use Rattle.std.proofs.Common.{rules, ◌≡◌, ℕ, ◌^◌, ◌++◌, map, sym, ap, ◌∙◌, arith}
 use Rattle.cm_model.specs.Each.{each_from}
 use Rattle.cm_model.specs.declared.message.Event.TheVariants.{Injected}
-use Rattle.cm_model.specs.Cycle.{log_at}
+use Rattle.cm_model.specs.Array.{list_at}
 use Rattle.cm_model.specs.Buffers.{sent_in}
 use Rattle.cm_plain.proofs.Made.{each_from-zero, pushed}
 use Rattle.cm_plain.proofs.router.PlainRouter.logs_after_injection.Goals as goal
@@ -20,5 +20,5 @@ returns g c =
     record {
       value = c.loop-chip.invariant
           ∙ ap (λ (n : ℕ). each_from 0 n
-          (λ k. log_at c.args.self.now.logs k ++ map Injected (sent_in g.row.N g.row.CAP c.args.self.now k))) all;
+          (λ k. list_at c.args.self.now.logs k ++ map Injected (sent_in g.row.N g.row.CAP c.args.self.now k))) all;
     }
