@@ -21,7 +21,7 @@ row-set planes i word p stored true is = map-set (λ plane. bit plane p) planes 
 row-set planes i word p stored false is = map-set_same (λ plane. bit plane p) planes i word 0 is
 
 -- where the condition holds a processor has what was stored, else what it had
-both_rows : (nano : Nano) (incoming holds_here : Bool) (old : Processor) (memory flags : List Bool)
+pub both_rows : (nano : Nano) (incoming holds_here : Bool) (old : Processor) (memory flags : List Bool)
     → holds nano old ≡ holds_here
     → memory ≡ cond holds_here (set old.memory nano.a (memory_output nano old)) old.memory
     → flags ≡ cond holds_here (flags_after nano (if takes_incoming nano then incoming else flag_output nano old) old.flags) old.flags

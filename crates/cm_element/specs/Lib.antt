@@ -1,3 +1,5 @@
 pub mod Planes
 pub mod Outputs
 pub mod Wide
+pub mod Runs
+pub mod Steps

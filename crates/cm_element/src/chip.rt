@@ -173,14 +173,14 @@ fn with_bit(plane: Plane, proc: Proc, value: bool) -> Plane
 }
 
 /// Where a flag is what the condition asks for.
-fn holding(flag_plane: Plane, sense: bool) -> Plane
+pub(crate) fn holding(flag_plane: Plane, sense: bool) -> Plane
     ensures value { IsPlane result (λ p. beq (bit flag_plane p) sense) }
 {
     if sense { flag_plane } else { !flag_plane }
 }
 
 /// At each bit that of `set` where it is chosen, else that of `clear`.
-fn chosen(choice: Plane, set: Plane, clear: Plane) -> Plane
+pub(crate) fn chosen(choice: Plane, set: Plane, clear: Plane) -> Plane
     ensures value { (p : ℕ) → bit result p ≡ cond (bit choice p) (bit set p) (bit clear p) }
 {
     clear ^ (choice & (clear ^ set))

@@ -3,7 +3,9 @@
 
 mod chip;
 mod outputs;
+mod run;
 
 pub use chip::{Chip, ZeroFlag};
 pub use cm_bits::NoMemory;
 pub use outputs::Outputs;
+pub use run::{Run, takes_incoming};

@@ -1,4 +1,11 @@
-//! Messages of the router, their tags, and the events of a log.
+//! Messages of the router, their tags, their bytes, and the events of a log.
 #![tactic(auto)]
 
+mod form;
+mod laws;
+
 pub use cm_model::{Event, Message, Tag};
+pub use form::{
+    birth_in, bytes, of_bytes, origin_chip_in, origin_proc_in, payload_in, proc_in, rel_in,
+};
+pub use laws::{messages_are_read, only_their_bytes_are_read};

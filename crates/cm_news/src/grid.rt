@@ -1,6 +1,6 @@
 //! Steps on the grid: of one place, and of a plane at once.
 
-ghost use Rattle.std.specs.Prelude.{◌≡◌, ℕ, ◌*◌, ◌/◌, ◌%◌, ◌^◌, ◌<◌, ◌≤◌, ◌==◌, false, length, if◌then◌else◌};
+ghost use Rattle.std.specs.Prelude.{◌≡◌, ℕ, ◌*◌, ◌/◌, ◌%◌, ◌^◌, ◌<◌, ◌≤◌, ◌==◌, ◌||◌, false, length, slice_index, if◌then◌else◌};
 ghost use Rattle.cm_bits.specs.Bit.{bit};
 ghost use Rattle.cm_model.specs.Chip.{IsPlane, plane_bit};
 ghost use Rattle.cm_model.specs.Place.{neighbour, source};
@@ -63,7 +63,29 @@ impl<const N: usize> Grid<N> {
     {
         let own = planes[usize::from(chip)];
         let before = planes[usize::from(Self::chip_before(chip, dir))];
-        Self::inside(own, dir) | entering(Self::edge(before, dir), dir)
+        Self::over_edge(own, Self::edge(before, dir), dir)
+    }
+
+    /// What comes in at a chip from its own plane, and from the edge of the chip before it.
+    pub fn over_edge(own: Plane, edge: u8, dir: Dir) -> Plane
+        requires within { edge < 16 }
+        ensures value { IsPlane result
+            (λ p. plane_bit own (sender dir p) || (if is_entry dir p then bit edge (along dir p) else false)) }
+    {
+        Self::inside(own, dir) | entering(edge, dir)
+    }
+
+    /// What comes in at every chip of the machine, in order of their numbers.
+    pub fn incoming_row(planes: &[Plane], dir: Dir, out: &mut [Plane])
+        requires dimension { N ≤ 12 }
+        requires planes { length planes.now ≡ 2 ^ N }
+        requires out { length out.old ≡ 2 ^ N }
+        ensures value { (c : ℕ) → c < 2 ^ N → IsPlane (slice_index out.new c)
+            (λ p. bit_of_place planes.now (source N dir (record { chip = c; proc = p }))) }
+    {
+        for c in 0..out.len() {
+            out[c] = Self::incoming(planes, dir, c as u16);
+        }
     }
 
     /// The chip whose edge leads to this one's in a direction.

@@ -7,7 +7,12 @@ ghost use Rattle.cm_model.specs.Chip.{IsPlane};
 ghost use Rattle.cm_model.specs.Processor.{entry};
 ghost use Rattle.cm_truth.specs.Choice.{chosen_of_four};
 
+mod lanes;
+mod wide;
+
 use cm_bits::Plane;
+pub use lanes::apply_lanes;
+pub use wide::apply_wide;
 
 /// Four planes, of which two further planes choose one at each bit.
 #[derive(Clone, Copy)]
@@ -24,22 +29,45 @@ struct Four {
 pub fn apply(table: u8, a: Plane, b: Plane, f: Plane) -> Plane
     ensures value { IsPlane result (λ p. entry table (bit a p) (bit b p) (bit f p)) }
 {
-    let low = Four {
+    let low = chosen(low_entries(table), b, f);
+    let change = chosen(changes(table), b, f);
+    changed(a, low, change)
+}
+
+/// The entries where A is 0.
+#[inline(always)]
+fn low_entries(table: u8) -> Four
+    ensures neither { IsPlane result.neither (λ p. bit table 0) }
+    ensures by_f { IsPlane result.by_f (λ p. bit table 1) }
+    ensures by_b { IsPlane result.by_b (λ p. bit table 2) }
+    ensures by_both { IsPlane result.by_both (λ p. bit table 3) }
+{
+    Four {
         neither: entry_everywhere(table, 0),
         by_f: entry_everywhere(table, 1),
         by_b: entry_everywhere(table, 2),
         by_both: entry_everywhere(table, 3),
-    };
-    let change = Four {
-        neither: low.neither ^ entry_everywhere(table, 4),
-        by_f: low.by_f ^ entry_everywhere(table, 5),
-        by_b: low.by_b ^ entry_everywhere(table, 6),
-        by_both: low.by_both ^ entry_everywhere(table, 7),
-    };
-    changed(a, chosen(low, b, f), chosen(change, b, f))
+    }
+}
+
+/// Where the entries at which A is 1 differ from those.
+#[inline(always)]
+fn changes(table: u8) -> Four
+    ensures neither { IsPlane result.neither (λ p. differ (bit table 0) (bit table 4)) }
+    ensures by_f { IsPlane result.by_f (λ p. differ (bit table 1) (bit table 5)) }
+    ensures by_b { IsPlane result.by_b (λ p. differ (bit table 2) (bit table 6)) }
+    ensures by_both { IsPlane result.by_both (λ p. differ (bit table 3) (bit table 7)) }
+{
+    Four {
+        neither: entry_everywhere(table, 0) ^ entry_everywhere(table, 4),
+        by_f: entry_everywhere(table, 1) ^ entry_everywhere(table, 5),
+        by_b: entry_everywhere(table, 2) ^ entry_everywhere(table, 6),
+        by_both: entry_everywhere(table, 3) ^ entry_everywhere(table, 7),
+    }
 }
 
 /// One entry of a table in all sixteen processors.
+#[inline(always)]
 fn entry_everywhere(table: u8, place: u32) -> Plane
     requires { place < 8 }
     ensures value { IsPlane result (λ p. bit table place) }

@@ -1,8 +1,7 @@
-use Rattle.std.proofs.Common.{ℕ, ◌||◌, Bool, get_or, ap, ◌∙◌}
+use Rattle.std.proofs.Common.{ℕ, ◌||◌, false, get_or, ap, ◌∙◌, if◌then◌else◌}
 use Rattle.cm_bits.specs.Bit.{bit}
-use Rattle.cm_model.proofs.Bits.{bit-bit_or}
 use Rattle.cm_model.specs.Chip.{plane_bit}
-use Rattle.cm_news.specs.Moves.{sender, at_edge}
+use Rattle.cm_news.specs.Moves.{sender, at_edge, is_entry, along}
 use Rattle.cm_news.proofs.Joining.{joined}
 use Rattle.cm_news.proofs.grid.Grid.incoming.Goals as goal
 
@@ -12,9 +11,8 @@ returns g c =
     let dir = c.args.dir in
     record {
       value = λ p h.
-          bit-bit_or c.inside.result c.entering.result p
-          ∙ ap (λ (b : Bool). b || bit c.entering.result p) (c.inside.ensures.value p h ∙ ap (λ (i : ℕ). plane_bit (get_or planes i 0) (sender dir p)) c.from.ensures)
-          ∙ ap (λ (b : Bool). plane_bit (get_or planes c.args.chip 0) (sender dir p) || b) (c.entering.ensures.value p h)
+          c.over_edge.ensures.value p h
+          ∙ ap (λ (i : ℕ). plane_bit (get_or planes i 0) (sender dir p) || (if is_entry dir p then bit c.edge.result (along dir p) else false)) c.from.ensures
           ∙ joined g.row.N dir c.args.chip planes c.edge.result c.requires.chip
           (λ i below. c.edge.ensures.value i below
           ∙ ap (λ (k : ℕ). bit (get_or planes k 0) (at_edge dir i)) (c.from-2.ensures ∙ c.chip_before.ensures.value))

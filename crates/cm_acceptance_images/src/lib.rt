@@ -1,0 +1,11 @@
+//! Tests of images: worked bytes, and changes of them with their faults; it has no code of its own.
+#![tactic(auto)]
+
+#[cfg(test)]
+mod dumps;
+#[cfg(test)]
+mod messages;
+#[cfg(test)]
+mod parts;
+#[cfg(test)]
+mod shapes;

@@ -1,0 +1,262 @@
+//! Macros, run bit by bit on a plain machine, beside plain whole numbers.
+
+ghost use Rattle.std.specs.Prelude.{◌<◌};
+
+use crate::draws::Draws;
+use cm_bits::{Addr, Field, FlagNo, NoMemory, Proc};
+use cm_language::{Context, Macro};
+use cm_macros::expand;
+use cm_model::Act;
+use cm_plain::PlainMachine;
+use std::alloc::Global;
+use std::test::Fail;
+
+/// So many memory bits has each processor of a trial.
+const ADDRESSES: u16 = 200;
+
+fn processor(number: u8) -> Proc {
+    Proc::new(number % 16).unwrap()
+}
+
+fn flag(number: u16) -> FlagNo {
+    FlagNo::new((number % 16) as u8).unwrap()
+}
+
+fn address(number: u16) -> Addr {
+    Addr::new(number % 4096).unwrap()
+}
+
+/// A machine of one chip whose bits and flags are drawn: the same for one seed.
+fn drawn_machine(alloc: Global, seed: u32) -> Result<PlainMachine<0>, NoMemory> {
+    let mut machine = PlainMachine::<0>::blank(alloc, ADDRESSES)?;
+    let mut draws = Draws::new(seed);
+    for number in 0..16u8 {
+        for at in 0..ADDRESSES {
+            let bit = draws.below(2) == 1;
+            machine.poke(0, processor(number), address(at), bit);
+        }
+        for f in 0..16u16 {
+            let bit = draws.below(2) == 1;
+            machine.poke_flag(0, processor(number), flag(f), bit);
+        }
+    }
+    Ok(machine)
+}
+
+/// The number in a field.
+fn value(machine: &PlainMachine<0>, number: u8, field: Field) -> u64 {
+    let mut sum = 0u64;
+    for i in 0..field.len() {
+        let bit = machine.read(0, processor(number), address(field.at() + i));
+        if bit {
+            sum |= 1 << i;
+        }
+    }
+    sum
+}
+
+/// A number cut to the bits of a field.
+fn cut(field: Field, number: u64) -> u64 {
+    let unused = 64 - field.len();
+    number << unused >> unused
+}
+
+/// What a macro makes of one processor: a field's new number, and flags' new bits.
+#[derive(Clone, Copy)]
+struct Outcome {
+    stored: Option<(Field, u64)>,
+    carry: Option<bool>,
+    factor: Option<bool>,
+    named: Option<(FlagNo, bool)>,
+}
+
+/// Flag 7 is written, and perhaps a field.
+fn carried(stored: Option<(Field, u64)>, carry: bool) -> Outcome {
+    Outcome {
+        stored,
+        carry: Some(carry),
+        factor: None,
+        named: None,
+    }
+}
+
+/// A field alone is written.
+fn stored(field: Field, number: u64) -> Outcome {
+    Outcome {
+        stored: Some((field, number)),
+        carry: None,
+        factor: None,
+        named: None,
+    }
+}
+
+fn nothing() -> Outcome {
+    Outcome {
+        stored: None,
+        carry: None,
+        factor: None,
+        named: None,
+    }
+}
+
+fn sum(d: Field, a: u64, b: u64) -> Outcome {
+    let sum = u128::from(a) + u128::from(b);
+    let carry = sum >> d.len() != 0;
+    carried(Some((d, cut(d, a.wrapping_add(b)))), carry)
+}
+
+/// The outcome of a macro in whole numbers.
+fn wanted_outcome(wanted: &Macro, before: &PlainMachine<0>, number: u8) -> Outcome {
+    match *wanted {
+        Macro::Add(d, s) => sum(d, value(before, number, d), value(before, number, s)),
+        Macro::Sub(d, s) => {
+            let (a, b) = (value(before, number, d), value(before, number, s));
+            carried(Some((d, cut(d, a.wrapping_sub(b)))), a >= b)
+        }
+        Macro::Less(x, y) => carried(None, value(before, number, x) < value(before, number, y)),
+        Macro::Equal(x, y) => carried(None, value(before, number, x) == value(before, number, y)),
+        Macro::Move(d, s) => stored(d, value(before, number, s)),
+        Macro::Select(d, s, f) => {
+            if before.flag(0, processor(number), f) {
+                stored(d, value(before, number, s))
+            } else {
+                nothing()
+            }
+        }
+        Macro::Const(d, v) => stored(d, v),
+        Macro::Shift(d) => sum(d, value(before, number, d), value(before, number, d)),
+        Macro::Mul(d, x, y) => {
+            let product = value(before, number, x).wrapping_mul(value(before, number, y));
+            Outcome {
+                stored: Some((d, cut(d, product))),
+                carry: Some(false),
+                factor: Some(false),
+                named: None,
+            }
+        }
+        Macro::Set(f) => Outcome {
+            named: Some((f, true)),
+            ..nothing()
+        },
+        Macro::Clear(f) => Outcome {
+            named: Some((f, false)),
+            ..nothing()
+        },
+    }
+}
+
+impl Outcome {
+    /// The memory bit at an address, which was this before.
+    fn bit(&self, at: u16, before: bool) -> bool {
+        match self.stored {
+            Some((field, number)) if field.at() <= at && at < field.at() + field.len() => {
+                number >> (at - field.at()) & 1 == 1
+            }
+            _ => before,
+        }
+    }
+
+    /// A flag, which was this before.
+    fn flag(&self, f: u16, before: bool) -> bool {
+        match self.named {
+            Some((named, bit)) if u16::from(named.get()) == f => bit,
+            _ => match f {
+                7 => self.carry.unwrap_or(before),
+                6 => self.factor.unwrap_or(before),
+                _ => before,
+            },
+        }
+    }
+}
+
+fn is_selected(context: Context, machine: &PlainMachine<0>, number: u8) -> bool {
+    match context {
+        Context::Always => true,
+        Context::On(f) => machine.flag(0, processor(number), f),
+        Context::Off(f) => !machine.flag(0, processor(number), f),
+    }
+}
+
+/// All bits and flags of one processor are as they should be.
+fn is_right_in(
+    wanted: &Macro,
+    context: Context,
+    before: &PlainMachine<0>,
+    after: &PlainMachine<0>,
+    number: u8,
+) -> bool {
+    let outcome = if is_selected(context, before, number) {
+        wanted_outcome(wanted, before, number)
+    } else {
+        nothing()
+    };
+    let p = processor(number);
+    (0..ADDRESSES).all(|at| {
+        after.read(0, p, address(at)) == outcome.bit(at, before.read(0, p, address(at)))
+    }) && (0..16u16).all(|f| after.flag(0, p, flag(f))
+        == outcome.flag(f, before.flag(0, p, flag(f))))
+}
+
+fn run(alloc: Global, machine: &mut PlainMachine<0>, acts: &[Act]) -> Result<(), NoMemory> {
+    for act in acts {
+        if let Act::Nano(nano) = act {
+            machine.step(alloc, nano)?;
+        }
+    }
+    Ok(())
+}
+
+/// A macro over fields that are apart or the same, and of one length.
+fn drawn_macro(draws: &mut Draws, kind: u32) -> Result<Macro, Fail> {
+    let len = 1 + draws.below(64);
+    let d = Field::new(0, len)?;
+    let s = Field::new(64 * draws.below(2), len)?;
+    let y = Field::new(128, len)?;
+    let number = u64::from(draws.number()) << 32 | u64::from(draws.number());
+    Ok(match kind % 11 {
+        0 => Macro::Add(d, s),
+        1 => Macro::Sub(d, s),
+        2 => Macro::Less(d, s),
+        3 => Macro::Equal(d, s),
+        4 => Macro::Move(d, s),
+        5 => Macro::Select(d, s, flag(draws.below(16))),
+        6 => Macro::Const(d, cut(d, number)),
+        7 => Macro::Shift(d),
+        8 => Macro::Mul(d, y, y),
+        9 => Macro::Set(flag(12 + draws.below(4))),
+        _ => Macro::Clear(flag(12 + draws.below(4))),
+    })
+}
+
+fn drawn_context(draws: &mut Draws) -> Context {
+    let f = flag(draws.below(6));
+    match draws.below(3) {
+        0 => Context::Always,
+        1 => Context::On(f),
+        _ => Context::Off(f),
+    }
+}
+
+/// A drawn macro under a drawn context on a drawn machine does what it says in whole numbers.
+fn goes_right(alloc: Global, seed: u32) -> Result<bool, Fail> {
+    let mut draws = Draws::new(seed << 8);
+    let wanted = drawn_macro(&mut draws, seed)?;
+    let context = match wanted {
+        Macro::Mul(_, _, _) => Context::Always,
+        _ => drawn_context(&mut draws),
+    };
+    let before = drawn_machine(alloc, seed << 8)?;
+    let mut after = drawn_machine(alloc, seed << 8)?;
+    let mut list = Vec::new(alloc);
+    expand(&wanted, context, &mut list)?;
+    run(alloc, &mut after, list.as_slice())?;
+    Ok((0..16u8).all(|number| is_right_in(&wanted, context, &before, &after, number)))
+}
+
+#[test]
+fn macros_are_their_whole_numbers(rt: HostRuntime) -> Result<(), Fail> {
+    for seed in 0..132u32 {
+        assert!(rt; goes_right(rt.alloc(), seed)?, "seed {seed}");
+    }
+    Ok(())
+}

@@ -1,0 +1,161 @@
+//! A run of chips takes the steps of as many single chips.
+
+use cm_bits::{Addr, Dir, FlagNo, NoMemory, Plane};
+use cm_element::{Chip, Run, takes_incoming};
+use cm_model::Nano;
+use std::alloc::Global;
+use std::test::Fail;
+
+// Fewer than a block, whole blocks, and words after them; from 128 on rows lie further apart.
+const COUNTS: [u16; 6] = [0, 1, 31, 33, 64, 130];
+
+// The macros' pairs of tables, the tables that they use alone, and others.
+const TABLES: [(u8, u8); 14] = [
+    (0x96, 0xe8),
+    (0x69, 0xb2),
+    (0xf0, 0x8e),
+    (0xf0, 0x82),
+    (0xaa, 0xf0),
+    (0xf0, 0xff),
+    (0xf0, 0x00),
+    (0xf0, 0xf0),
+    (0xcc, 0x00),
+    (0xd8, 0x00),
+    (0xff, 0x00),
+    (0x00, 0x00),
+    (0x17, 0x2b),
+    (0x3c, 0x99),
+];
+
+#[derive(Drop)]
+struct Beside {
+    run: Run,
+    chips: Vec<Chip>,
+    row: Vec<Plane>,
+    drawn: u32,
+}
+
+impl Beside {
+    fn new(alloc: Global, count: u16) -> Result<Beside, NoMemory> {
+        let run = Run::blank(alloc, count)?;
+        let mut chips = Vec::new(alloc);
+        let mut row = Vec::new(alloc);
+        for _ in 0..count {
+            let Ok(()) = chips.push(Chip::blank(alloc)?) else {
+                return Err(NoMemory);
+            };
+            let Ok(()) = row.push(0) else {
+                return Err(NoMemory);
+            };
+        }
+        Ok(Beside {
+            run,
+            chips,
+            row,
+            drawn: 1985,
+        })
+    }
+
+    fn draw(&mut self) -> u32 {
+        self.drawn = self
+            .drawn
+            .wrapping_mul(1_664_525)
+            .wrapping_add(1_013_904_223);
+        self.drawn >> 8
+    }
+
+    // An instruction on few addresses, often under 'always', that writes ZERO, NEWS and DAISY often.
+    fn nano(&mut self) -> Nano {
+        let places = self.draw();
+        let tables = self.draw() as usize % TABLES.len();
+        let (mem_table, flag_table) = TABLES[tables];
+        Nano {
+            a: Addr::new((places & 3) as u16).unwrap(),
+            b: Addr::new((places >> 2 & 3) as u16).unwrap(),
+            read: FlagNo::new((places >> 4 & 15) as u8).unwrap(),
+            write: FlagNo::new((places >> 8 & 15) as u8).unwrap(),
+            cond: FlagNo::new(8 + (places >> 12 & 7) as u8).unwrap(),
+            sense: places >> 16 & 1 == 1,
+            mem_table,
+            flag_table,
+            dir: Dir::North,
+        }
+    }
+
+    // One instruction on both; what comes in is what each chip sends, turned by a drawn plane.
+    fn step(&mut self, nano: &Nano) -> bool {
+        let turned = (self.draw() & 0xffff) as u16;
+        if self.row.len() != self.run.chips() {
+            return false;
+        }
+        if !takes_incoming(nano) {
+            self.run.step(nano);
+            step_chips(&mut self.chips, nano, &self.row);
+            return true;
+        }
+        self.run.send(nano, &mut self.row);
+        for plane in self.row.iter_mut() {
+            *plane ^= turned;
+        }
+        step_chips(&mut self.chips, nano, &self.row);
+        self.run.take(nano, &mut self.row);
+        true
+    }
+
+    fn are_same(&self) -> bool {
+        for c in 0..self.chips.len() {
+            if c >= self.run.chips() || c > 4096 || !is_same(&self.run, c as u16, &self.chips[c]) {
+                return false;
+            }
+        }
+        self.chips.len() == self.run.chips()
+    }
+}
+
+fn step_chips(chips: &mut [Chip], nano: &Nano, incoming: &[Plane]) {
+    for c in 0..chips.len() {
+        if c < incoming.len() {
+            let outputs = chips[c].outputs(nano);
+            chips[c].store(nano, outputs, incoming[c]);
+        }
+    }
+}
+
+fn is_same(run: &Run, number: u16, chip: &Chip) -> bool {
+    if usize::from(number) >= run.chips() {
+        return false;
+    }
+    for flag in 0u8..16 {
+        let flag = FlagNo::new(flag).unwrap();
+        if run.flag_plane(number, flag) != chip.flag_plane(flag) {
+            return false;
+        }
+    }
+    for at in 0u16..5 {
+        let at = Addr::new(at).unwrap();
+        if run.plane(number, at) != chip.plane(at) {
+            return false;
+        }
+    }
+    true
+}
+
+// How many instructions both go the same way.
+fn same_steps(alloc: Global, count: u16, most: u32) -> Result<u32, Fail> {
+    let mut both = Beside::new(alloc, count)?;
+    for done in 0..most {
+        let nano = both.nano();
+        if !both.step(&nano) || !both.are_same() {
+            return Ok(done);
+        }
+    }
+    Ok(most)
+}
+
+#[test]
+fn a_run_takes_the_steps_of_its_chips(rt: HostRuntime) -> Result<(), Fail> {
+    for count in COUNTS {
+        assert_eq!(rt; same_steps(rt.alloc(), count, 400)?, 400, "{count}");
+    }
+    Ok(())
+}

@@ -1,0 +1,102 @@
+-- Reading a text line by line.
+use Rattle.std.proofs.Common.{◌≡◌, ℕ, ◌+◌, ◌-◌, ◌≤◌, ◌⊎◌, Bool, true, false, take, drop, drop-drop, take-add, length-drop, Result, Ok, Err, List, [], ◌∷◌, ◌++◌, length, refl, sym, ap, ◌∙◌, arith, inl, inr, ⊎_elim}
+use Rattle.std.specs.List.{slice_split, onto_first}
+use Rattle.std.proofs.lemmas.List.Splits.{slice_split-cons_yes, slice_split-cons_no}
+use Rattle.cm_bits.specs.Text.{lines_of, is_line_end, without_empty_last, words_of}
+use Rattle.cm_language.specs.declared.fault.AsmKind.{AsmKind}
+use Rattle.cm_language.specs.declared.fault.AsmKind.TheVariants as kind
+use Rattle.cm_language.specs.Program.{Reading, nothing_read, after_words, unless_faulty, after_lines, IsGrownFor, MatchKind}
+
+-- ---- a text has no more lines than bytes
+
+new_line : (parts : List (List ℕ)) → length (without_empty_last ([] ∷ parts)) ≤ length (without_empty_last parts) + 1
+new_line [] = omega arith
+new_line (part ∷ parts) = omega arith
+
+longer_line : (byte : ℕ) (parts : List (List ℕ)) → length (without_empty_last (onto_first byte parts)) ≤ length (without_empty_last parts) + 1
+longer_line byte [] = omega arith
+longer_line byte (part ∷ []) = omega arith
+longer_line byte (part ∷ next ∷ parts) = omega arith
+
+bool_cases : (b : Bool) → (b ≡ true) ⊎ (b ≡ false)
+bool_cases true = inl refl
+bool_cases false = inr refl
+
+pub few_lines : (text : List ℕ) → length (lines_of text) ≤ length text
+few_lines [] = omega arith
+few_lines (byte ∷ bytes) =
+    ⊎_elim
+    (λ (e : is_line_end byte ≡ true).
+    omega (arith, ap (λ parts. length (without_empty_last parts)) (slice_split-cons_yes is_line_end byte bytes e), new_line (slice_split is_line_end bytes), few_lines bytes))
+    (λ (e : is_line_end byte ≡ false).
+    omega (arith, ap (λ parts. length (without_empty_last parts)) (slice_split-cons_no is_line_end byte bytes e), longer_line byte (slice_split is_line_end bytes), few_lines bytes))
+    (bool_cases (is_line_end byte))
+
+-- ---- one line more
+
+-- the lines up to the next one, and those after it
+pub record IsNext (lines : List (List ℕ)) (i : ℕ) (line : List ℕ) (rest : List (List ℕ)) : Type 0 where
+  pub after : rest ≡ drop (i + 1) lines
+  pub before : take (i + 1) lines ≡ take i lines ++ line ∷ []
+  pub within : i + 1 ≤ length lines
+
+pub next_line : (lines : List (List ℕ)) (i : ℕ) (line : List ℕ) (rest : List (List ℕ)) → line ∷ rest ≡ drop i lines → IsNext lines i line rest
+next_line lines i line rest is = record {
+  after = ap (drop 1) is ∙ drop-drop 1 i lines;
+  before = take-add i 1 lines ∙ ap (λ (xs : List (List ℕ)). take i lines ++ take 1 xs) (sym is);
+  within = omega (arith, length-drop i lines, ap length is);
+}
+
+-- what was read of the lines before and of the next one
+pub one_more : (n : ℕ) (r read next : Reading) (lines : List (List ℕ)) (line : List ℕ) → after_lines r n lines ≡ Ok read → after_words read (words_of line) ≡ Ok next
+    → after_lines r n (lines ++ line ∷ []) ≡ Ok next
+one_more n r read next [] line h e =
+    let same : r ≡ read = cc in
+    ap (λ (s : Reading). unless_faulty n (after_words s (words_of line)) (λ r'. after_lines r' (n + 1) [])) same
+    ∙ ap (λ (q : Result Reading AsmKind). unless_faulty n q (λ r'. after_lines r' (n + 1) [])) e
+one_more n r read next (first ∷ lines) line h e =
+    (elim (after_words r (words_of first)) as (λ q. unless_faulty n q (λ r'. after_lines r' (n + 1) lines) ≡ Ok read → unless_faulty n q (λ r'. after_lines r' (n + 1) (lines ++ line ∷ [])) ≡ Ok next) [
+      | Ok s ↦ λ k. one_more (n + 1) s read next lines line k e
+      | Err f ↦ λ k. absurd cc
+    ]) h
+
+-- where memory is wanting
+pub is_grown_for : (text : List ℕ) (i : ℕ) (read : Reading) → after_lines nothing_read 1 (take i (lines_of text)) ≡ Ok read → i + 1 ≤ length (lines_of text) → IsGrownFor text (i + 1)
+is_grown_for text i read before within = record {
+  first = omega arith;
+  within = within;
+  read = read;
+  before = ap (λ (n : ℕ). after_lines nothing_read 1 (take n (lines_of text))) (let e : i + 1 - 1 ≡ i = omega arith in e) ∙ before;
+}
+
+-- a fault of a line is one of the text
+pub of_kind : (k : AsmKind) (W P Q : Type 0) → MatchKind k (Unit {0}) P → W → (P → Q) → MatchKind k W Q
+of_kind kind.Memory W P Q h w f = w
+of_kind kind.Width W P Q h w f = f h
+of_kind kind.Range W P Q h w f = f h
+of_kind kind.Overlap W P Q h w f = f h
+of_kind kind.Lengths W P Q h w f = f h
+of_kind kind.Scratch W P Q h w f = f h
+of_kind kind.Context W P Q h w f = f h
+of_kind kind.Word W P Q h w f = f h
+of_kind kind.Operands W P Q h w f = f h
+of_kind kind.Number W P Q h w f = f h
+of_kind kind.Name W P Q h w f = f h
+of_kind kind.Twice W P Q h w f = f h
+of_kind kind.TooLong W P Q h w f = f h
+
+-- a fault that is not want of memory, of whatever kind
+pub is_fault : (k : AsmKind) (P : Type 0) → P → MatchKind k (Unit {0}) P
+is_fault kind.Memory P h = tt
+is_fault kind.Width P h = h
+is_fault kind.Range P h = h
+is_fault kind.Overlap P h = h
+is_fault kind.Lengths P h = h
+is_fault kind.Scratch P h = h
+is_fault kind.Context P h = h
+is_fault kind.Word P h = h
+is_fault kind.Operands P h = h
+is_fault kind.Number P h = h
+is_fault kind.Name P h = h
+is_fault kind.Twice P h = h
+is_fault kind.TooLong P h = h

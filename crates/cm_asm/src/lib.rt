@@ -1,0 +1,14 @@
+//! The assembler: program texts to programs, and programs to their listings.
+#![tactic(auto)]
+
+mod assembler;
+mod fields;
+mod listings;
+mod operands;
+mod program;
+mod reader;
+mod statements;
+
+pub use assembler::assemble;
+pub use cm_language::{AsmFault, AsmKind};
+pub use program::Program;

@@ -1,0 +1,170 @@
+//! The operands of a line.
+
+ghost use Rattle.std.specs.Prelude.{◌≡◌, ◌<◌, IfOk};
+ghost use Rattle.cm_bits.specs.Text.{words_left};
+ghost use Rattle.cm_language.specs.Lines.{operand_of, number_operand, sense_of, direction_of, field_operand, no_operand, flag_operand, one_field, two_fields, nano_of};
+
+use crate::fields::Fields;
+use cm_bits::{Addr, Dir, Field, FlagNo, Words, read_number};
+use cm_language::AsmKind;
+use cm_model::Nano;
+
+/// No operand at all.
+pub fn no_operand(mut words: Words) -> Result<(), AsmKind>
+    ensures value { result ≡ no_operand (words_left words.entry) }
+{
+    match words.next() {
+        None => Ok(()),
+        Some(_) => Err(AsmKind::Operands),
+    }
+}
+
+/// A flag.
+pub fn flag_operand(mut words: Words) -> Result<FlagNo, AsmKind>
+    ensures value { result ≡ flag_operand (words_left words.entry) }
+{
+    let (Some(flag), None) = (words.next(), words.next()) else {
+        return Err(AsmKind::Operands);
+    };
+    read_flag(flag)
+}
+
+/// A field.
+pub fn one_field(fields: &Fields, mut words: Words) -> Result<Field, AsmKind>
+    ensures value { result ≡ one_field fields.now (words_left words.entry) }
+{
+    let (Some(d), None) = (words.next(), words.next()) else {
+        return Err(AsmKind::Operands);
+    };
+    read_field(fields, d)
+}
+
+/// Two fields.
+pub fn two_fields(fields: &Fields, mut words: Words) -> Result<(Field, Field), AsmKind>
+    ensures value { result ≡ two_fields fields.now (words_left words.entry) }
+{
+    let (Some(d), Some(s), None) = (words.next(), words.next(), words.next()) else {
+        return Err(AsmKind::Operands);
+    };
+    let d = read_field(fields, d)?;
+    let s = read_field(fields, s)?;
+    Ok((d, s))
+}
+
+/// The instruction of the words after `nano`.
+pub fn read_nano(mut words: Words) -> Result<Nano, AsmKind>
+    ensures value { result ≡ nano_of (words_left words.entry) }
+{
+    let (Some(a), Some(b), Some(read)) = (words.next(), words.next(), words.next()) else {
+        return Err(AsmKind::Operands);
+    };
+    let (Some(write), Some(cond), Some(sense)) = (words.next(), words.next(), words.next()) else {
+        return Err(AsmKind::Operands);
+    };
+    let (Some(mem_table), Some(flag_table), Some(dir)) = (words.next(), words.next(), words.next())
+    else {
+        return Err(AsmKind::Operands);
+    };
+    if words.next().is_some() {
+        return Err(AsmKind::Operands);
+    }
+    let a = read_address(a)?;
+    let b = read_address(b)?;
+    let read = read_flag(read)?;
+    let write = read_flag(write)?;
+    let cond = read_flag(cond)?;
+    let sense = read_sense(sense)?;
+    let mem_table = read_table(mem_table)?;
+    let flag_table = read_table(flag_table)?;
+    let dir = read_direction(dir)?;
+    Ok(Nano {
+        a,
+        b,
+        read,
+        write,
+        cond,
+        sense,
+        mem_table,
+        flag_table,
+        dir,
+    })
+}
+
+/// The field of a defined name.
+pub fn read_field(fields: &Fields, word: &[u8]) -> Result<Field, AsmKind>
+    ensures value { result ≡ field_operand fields.now word.now }
+{
+    fields.find(word).ok_or(AsmKind::Name)
+}
+
+/// Any number.
+pub fn read_any(word: &[u8]) -> Result<u64, AsmKind>
+    ensures value { result ≡ number_operand word.now }
+{
+    read_number(word).ok_or(AsmKind::Number)
+}
+
+pub fn read_flag(word: &[u8]) -> Result<FlagNo, AsmKind>
+    ensures value { result ≡ operand_of 16 word.now }
+{
+    let number = read_below(word, 16)?;
+    match FlagNo::new(number as u8) {
+        Some(operand) => Ok(operand),
+        None => Err(AsmKind::Number),
+    }
+}
+
+/// The number of a word, below 65,536.
+pub fn read_short(word: &[u8]) -> Result<u16, AsmKind>
+    ensures value { result ≡ operand_of 65536 word.now }
+{
+    let number = read_below(word, 65536)?;
+    Ok(number as u16)
+}
+
+fn read_address(word: &[u8]) -> Result<Addr, AsmKind>
+    ensures value { result ≡ operand_of 4096 word.now }
+{
+    let number = read_below(word, 4096)?;
+    match Addr::new(number as u16) {
+        Some(operand) => Ok(operand),
+        None => Err(AsmKind::Number),
+    }
+}
+
+fn read_table(word: &[u8]) -> Result<u8, AsmKind>
+    ensures value { result ≡ operand_of 256 word.now }
+{
+    let number = read_below(word, 256)?;
+    Ok(number as u8)
+}
+
+fn read_sense(word: &[u8]) -> Result<bool, AsmKind>
+    ensures value { result ≡ sense_of word.now }
+{
+    let number = read_below(word, 2)?;
+    Ok(number == 1)
+}
+
+/// The number of a word, below a limit.
+fn read_below(word: &[u8], limit: u64) -> Result<u64, AsmKind>
+    ensures value { result ≡ operand_of limit word.now }
+    ensures below { IfOk result (λ number. number < limit) }
+{
+    match read_number(word) {
+        Some(number) if number < limit => Ok(number),
+        _ => Err(AsmKind::Number),
+    }
+}
+
+fn read_direction(word: &[u8]) -> Result<Dir, AsmKind>
+    ensures value { result ≡ direction_of word.now }
+{
+    match word {
+        b"n" => Ok(Dir::North),
+        b"e" => Ok(Dir::East),
+        b"w" => Ok(Dir::West),
+        b"s" => Ok(Dir::South),
+        _ => Err(AsmKind::Operands),
+    }
+}

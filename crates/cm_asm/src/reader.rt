@@ -1,0 +1,176 @@
+//! What a text has said so far.
+
+ghost use Rattle.std.specs.Prelude.{◌≡◌, ◌∷◌, [], Ok, OnOk, Err, IfErr};
+ghost use Rattle.cm_bits.specs.Text.{words_left, words_of};
+ghost use Rattle.cm_language.specs.Program.{Reading, nothing_read, after_words, after_statement, after_definition, with_acts, with_macro, within_length, IsLineFault};
+ghost use Rattle.cm_language.specs.Names.{is_name, is_name_byte};
+ghost use Rattle.std.specs.List.{list_all};
+ghost use Rattle.cm_language.specs.Faults.{first_fault};
+
+use crate::fields::Fields;
+use crate::operands::read_short;
+use crate::program::Program;
+use crate::statements::{read_statement, verb_of};
+use cm_bits::{Field, FieldFault, Words};
+use cm_language::{AsmKind, Context, Macro, Statement};
+use cm_macros::expand;
+use cm_model::Act;
+use std::alloc::Global;
+use std::marker::Model;
+
+/// The most acts of a program.
+const MOST_ACTS: usize = 65535;
+
+/// The fields, the context and the acts of the lines that were read.
+#[derive(Drop)]
+pub struct Reader {
+    fields: Fields,
+    context: Context,
+    acts: Vec<Act>,
+}
+
+impl Model for Reader {
+    ghost use Rattle.cm_language.specs.Program.{Reading};
+
+    ghost Value = { Reading };
+
+    ghost view = { λ reader. record { fields = reader.fields; context = reader.context; acts = reader.acts.items } };
+}
+
+impl Reader {
+    pub fn new(alloc: Global) -> Reader
+        ensures { result ≡ nothing_read }
+    {
+        Reader {
+            fields: Fields::new(alloc),
+            context: Context::Always,
+            acts: Vec::new(alloc),
+        }
+    }
+
+    /// One line more. After a fault the reader is not used again.
+    pub fn read_line(&mut self, alloc: Global, line: &[u8]) -> Result<(), AsmKind>
+        ensures ok { OnOk result (after_words self.old (words_of line.now) ≡ Ok self.new) }
+        ensures fault { IfErr result (IsLineFault (after_words self.old (words_of line.now))) }
+    {
+        let mut words = Words::new(line);
+        let Some(word) = words.next() else {
+            return Ok(());
+        };
+        if word == b"field".as_slice() {
+            return self.define(alloc, words);
+        }
+        let Some(verb) = verb_of(word) else {
+            return Err(AsmKind::Word);
+        };
+        match read_statement(&self.fields, verb, words) {
+            Ok(statement) => self.add(statement),
+            Err(kind) => Err(kind),
+        }
+    }
+
+    /// A field by the words after `field`.
+    fn define(&mut self, alloc: Global, mut words: Words) -> Result<(), AsmKind>
+        ensures ok { OnOk result (after_definition self.old (words_left words.entry) ≡ Ok self.new) }
+        ensures fault { IfErr result (IsLineFault (after_definition self.old (words_left words.entry))) }
+    {
+        let (Some(name), Some(at), Some(len)) = (words.next(), words.next(), words.next()) else {
+            return Err(AsmKind::Operands);
+        };
+        if words.next().is_some() {
+            return Err(AsmKind::Operands);
+        }
+        if !is_name(name) {
+            return Err(AsmKind::Name);
+        }
+        if self.fields.find(name).is_some() {
+            return Err(AsmKind::Twice);
+        }
+        let at = match read_short(at) {
+            Ok(at) => at,
+            Err(kind) => return Err(kind),
+        };
+        let len = match read_short(len) {
+            Ok(len) => len,
+            Err(kind) => return Err(kind),
+        };
+        match Field::new(at, len) {
+            Ok(field) => match self.fields.define(alloc, name, field) {
+                Ok(()) => Ok(()),
+                Err(_) => Err(AsmKind::Memory),
+            },
+            Err(FieldFault::Width) => Err(AsmKind::Width),
+            Err(FieldFault::Range) => Err(AsmKind::Range),
+        }
+    }
+
+    /// What a line says.
+    fn add(&mut self, statement: Statement) -> Result<(), AsmKind>
+        ensures ok { OnOk result (after_statement self.old statement ≡ Ok self.new) }
+        ensures fault { IfErr result (IsLineFault (after_statement self.old statement)) }
+    {
+        match statement {
+            Statement::Context(context) => {
+                self.context = context;
+                Ok(())
+            }
+            Statement::Macro(wanted) => self.add_macro(&wanted),
+            Statement::Act(act) => self.add_act(act),
+        }
+    }
+
+    fn add_macro(&mut self, wanted: &Macro) -> Result<(), AsmKind>
+        ensures ok { OnOk result (with_macro self.old wanted.now (first_fault wanted.now self.old.context) ≡ Ok self.new) }
+        ensures fault { IfErr result (IsLineFault (with_macro self.old wanted.now (first_fault wanted.now self.old.context))) }
+    {
+        match expand(wanted, self.context, &mut self.acts) {
+            Ok(()) => self.check_length(),
+            Err(fault) => Err(fault.kind()),
+        }
+    }
+
+    fn add_act(&mut self, act: Act) -> Result<(), AsmKind>
+        ensures ok { OnOk result (with_acts self.old (act ∷ []) ≡ Ok self.new) }
+        ensures fault { IfErr result (IsLineFault (with_acts self.old (act ∷ []))) }
+    {
+        match self.acts.push(act) {
+            Ok(()) => self.check_length(),
+            Err(_) => Err(AsmKind::Memory),
+        }
+    }
+
+    fn check_length(&self) -> Result<(), AsmKind>
+        ensures ok { OnOk result (within_length self.now ≡ Ok self.now) }
+        ensures fault { IfErr result (λ kind. within_length self.now ≡ Err kind) }
+    {
+        if self.acts.len() > MOST_ACTS {
+            Err(AsmKind::TooLong)
+        } else {
+            Ok(())
+        }
+    }
+
+    pub fn into_program(self) -> Program
+        ensures { result ≡ record { fields = self.fields; acts = self.acts } }
+    {
+        Program::new(self.fields, self.acts)
+    }
+}
+
+/// A letter, and then letters, digits and `_`.
+fn is_name(word: &[u8]) -> bool
+    ensures { result ≡ is_name word.now }
+{
+    match word {
+        [first, rest @ ..] => first.is_ascii_alphabetic() && are_name_bytes(rest),
+        [] => false,
+    }
+}
+
+fn are_name_bytes(bytes: &[u8]) -> bool
+    ensures { result ≡ list_all is_name_byte bytes.now }
+{
+    bytes
+        .iter()
+        .all(|byte| byte.is_ascii_alphanumeric() || *byte == b'_')
+}

@@ -1,0 +1,24 @@
+use Rattle.std.proofs.Common.{ℕ, List, [], length, get_or, ap, ◌∙◌, arith}
+use Rattle.std.proofs.lemmas.List.{with_items_is}
+use Rattle.cm_model.specs.Each.{each_from}
+use Rattle.cm_model.specs.Chip.{chip_after}
+use Rattle.cm_element.specs.Runs.{chips_of}
+use Rattle.cm_element.proofs.Columns.{length-chips_of}
+use Rattle.cm_element.proofs.run.Run.step.Goals as goal
+
+pub returns : goal.returns
+returns c =
+    let run = c.self.inside in
+    let memory : List ℕ = c.step_rows.new.memory in
+    let flags : List ℕ = c.step_rows.new.flags in
+    let lent = c.deref_mut.ensures in
+    let lent_flags = c.deref_mut-2.ensures in
+    let kept = c.step_rows.ensures.rows in
+    let memory_is = with_items_is run.memory memory (omega (arith, kept.memory_words, c.self.invariant.memory_words, ap length lent.value, lent.len)) in
+    let flags_is = with_items_is run.flags flags (omega (arith, kept.flag_words, c.self.invariant.flag_words, ap length lent_flags.value, lent_flags.len)) in
+    record {
+      value = λ incoming. rw (← c.self.view_is, length-chips_of run.memory.items run.flags.items run.stride run.chips)
+          ((λ j. chips_of (memory_is j) (flags_is j) run.stride run.chips)
+          ∙ c.step_rows.ensures.value incoming
+          ∙ (λ j. each_from 0 run.chips (λ i. chip_after c.args.nano.now (incoming i) (get_or (chips_of (lent.value j) (lent_flags.value j) run.stride run.chips) i []))));
+    }

@@ -1,0 +1,62 @@
+use Rattle.std.proofs.Common.{◌≡◌, ◌≢◌, true, false, sym, ◌∙◌, arith, eq-eqb, ne_eqb, ◌==◌}
+use Rattle.cm_element.proofs.Columns.{apart_at}
+use Rattle.cm_element.proofs.Stepping.{rows_stepped, chip_stepped, chip_stepped_alone, row_changed, zero_kept}
+use Rattle.cm_element.proofs.run.rows.step_rows.Goals as goal
+
+pub compute_memory-requires-clause-b_apart : goal.compute_memory-requires-clause-b_apart
+compute_memory-requires-clause-b_apart c =
+    apart_at c.args.nano.now.a c.args.nano.now.b c.args.stride c.args.chips c.places-at.result.a c.places-at.result.b c.places-at.ensures.value.a c.places-at.ensures.value.b c.requires.rows.within
+
+pub compute-requires-clause-b_apart : goal.compute-requires-clause-b_apart
+compute-requires-clause-b_apart c =
+    apart_at c.args.nano.now.a c.args.nano.now.b c.args.stride c.args.chips c.places-at.result.a c.places-at.result.b c.places-at.ensures.value.a c.places-at.ensures.value.b c.requires.rows.within
+
+pub compute-requires-clause-read_apart : goal.compute-requires-clause-read_apart
+compute-requires-clause-read_apart c =
+    apart_at c.args.nano.now.write c.args.nano.now.read c.args.stride c.args.chips c.places-at.result.write c.places-at.result.read c.places-at.ensures.value.write c.places-at.ensures.value.read c.requires.rows.within
+
+pub compute-requires-clause-cond_apart : goal.compute-requires-clause-cond_apart
+compute-requires-clause-cond_apart c =
+    apart_at c.args.nano.now.write c.args.nano.now.cond c.args.stride c.args.chips c.places-at.result.write c.places-at.result.cond c.places-at.ensures.value.write c.places-at.ensures.value.cond c.requires.rows.within
+
+pub returns-then-get-eq-ZERO_FLAG-clause-value : goal.returns-then-get-eq-ZERO_FLAG-clause-value
+returns-then-get-eq-ZERO_FLAG-clause-value c = λ incoming.
+    let nano = c.args.nano.now in
+    let zero_flag : (nano.write == 8) ≡ true = eq-eqb nano.write 8 (sym c.get.ensures.value ∙ c.if-get-eq-ZERO_FLAG.true) in
+    rows_stepped nano c.args.memory.now c.args.flags.now c.compute_memory.new.memory c.args.flags.now c.args.stride c.args.chips incoming
+    (λ chip h. chip_stepped_alone nano c.is_always-always.result c.args.memory.now c.args.flags.now c.compute_memory.new.memory c.args.stride c.args.chips chip c.places-at.result (incoming chip)
+    (record {
+      rows = c.requires.rows;
+      places = c.places-at.ensures.value;
+      here = h;
+      everywhere = c.is_always-always.ensures.value;
+      stored = c.compute_memory.ensures.memory;
+    }) c.requires.alone zero_flag)
+
+pub returns-else-get-eq-ZERO_FLAG-clause-rows : goal.returns-else-get-eq-ZERO_FLAG-clause-rows
+returns-else-get-eq-ZERO_FLAG-clause-rows c =
+    let nano = c.args.nano.now in
+    let other : nano.write ≢ 8 = λ e. c.if-get-eq-ZERO_FLAG.false (c.get.ensures.value ∙ e) in
+    record {
+      memory_words = omega (arith, c.compute.auto.memory, c.requires.rows.memory_words);
+      flag_words = omega (arith, c.compute.auto.flags, c.requires.rows.flag_words);
+      within = c.requires.rows.within;
+      few = c.requires.rows.few;
+      zero = zero_kept nano c.args.stride c.args.chips c.args.memory.now c.args.flags.now c.compute.new.flags c.requires.rows other
+          (row_changed nano.flag_table c.is_always-always.result nano.sense c.places-at.result c.places-at.result.write nano.write c.args.stride c.args.chips c.args.memory.now c.args.flags.now c.args.flags.now c.compute.new.flags
+          c.places-at.ensures.value.write c.compute.ensures.flags);
+    }
+
+pub returns-else-get-eq-ZERO_FLAG-clause-value : goal.returns-else-get-eq-ZERO_FLAG-clause-value
+returns-else-get-eq-ZERO_FLAG-clause-value c = λ incoming.
+    let nano = c.args.nano.now in
+    let other : (nano.write == 8) ≡ false = ne_eqb nano.write 8 (λ e. c.if-get-eq-ZERO_FLAG.false (c.get.ensures.value ∙ e)) in
+    rows_stepped nano c.args.memory.now c.args.flags.now c.compute.new.memory c.compute.new.flags c.args.stride c.args.chips incoming
+    (λ chip h. chip_stepped nano c.is_always-always.result c.args.memory.now c.args.flags.now c.compute.new.memory c.compute.new.flags c.args.stride c.args.chips chip c.places-at.result (incoming chip)
+    (record {
+      rows = c.requires.rows;
+      places = c.places-at.ensures.value;
+      here = h;
+      everywhere = c.is_always-always.ensures.value;
+      stored = c.compute.ensures.memory;
+    }) c.requires.alone other c.compute.ensures.flags)

@@ -1,0 +1,182 @@
+//! A run of chips as rows: one row of planes for each address and for each flag.
+
+ghost use Rattle.std.specs.Prelude.{◌≡◌, ℕ, ◌<◌, ◌≤◌, Bool, false, true, length, slice_index, IfOk};
+ghost use Rattle.cm_bits.specs.Bit.{bit};
+ghost use Rattle.cm_model.specs.Each.{each_from};
+ghost use Rattle.cm_model.specs.Processor.{memory_bit, flag};
+ghost use Rattle.cm_model.specs.Instruction.{takes_incoming};
+ghost use Rattle.cm_model.specs.Chip.{IsPlane, processor_at, blank_chip, chip_after};
+ghost use Rattle.cm_model.specs.Array.{chip_at};
+ghost use Rattle.cm_element.specs.Steps.{AreSent};
+
+mod rows;
+
+use crate::run::rows::{row, send_row, step_rows, take_rows};
+use cm_bits::{Addr, FlagNo, NoMemory, Plane};
+use cm_model::Nano;
+use std::alloc::Global;
+use std::marker::Model;
+
+const ADDRESSES: usize = 4096;
+
+const FLAGS: usize = 16;
+
+const NEWS_FLAG: u8 = 10;
+
+const DAISY_FLAG: u8 = 11;
+
+/// From so many chips on, rows lie some words further apart than they are long: a power of two would
+/// put all bits of a processor into the same few sets of the cache.
+const MANY: usize = 128;
+
+const PADDING: usize = 32;
+
+/// Chips with consecutive numbers, kept as one row of planes for each address and for each flag.
+///
+/// Contracts see the list of the chips, each the list of its processors.
+#[derive(Debug, Drop)]
+pub struct Run {
+    memory: Vec<Plane>,
+    flags: Vec<Plane>,
+    stride: usize,
+    chips: usize,
+}
+
+impl Model for Run {
+    ghost use Rattle.std.specs.Prelude.{List};
+    ghost use Rattle.cm_model.specs.Processor.{Processor};
+    ghost use Rattle.cm_element.specs.Runs.{chips_of, AreRows};
+
+    ghost Value = { List (List Processor) };
+
+    ghost view = { λ run. chips_of run.memory.items run.flags.items run.stride run.chips };
+
+    ghost invariant = { λ run. AreRows run.memory.items run.flags.items run.stride run.chips };
+}
+
+impl Run {
+    /// So many chips with all bits and flags 0. Memory is taken twice, however many chips there are.
+    pub fn blank(alloc: Global, chips: u16) -> Result<Run, NoMemory>
+        ensures value { IfOk result (λ run. run ≡ each_from 0 chips (λ c. blank_chip)) }
+    {
+        let chips = usize::from(chips);
+        let stride = stride_of(chips);
+        let Ok(memory) = vec![in alloc; 0; ADDRESSES * stride] else {
+            return Err(NoMemory);
+        };
+        let Ok(flags) = vec![in alloc; 0; FLAGS * stride] else {
+            return Err(NoMemory);
+        };
+        Ok(Run {
+            memory,
+            flags,
+            stride,
+            chips,
+        })
+    }
+
+    /// A second run, with the bits and flags of this one.
+    pub fn copy(&self, alloc: Global) -> Result<Run, NoMemory>
+        ensures value { IfOk result (λ run. run ≡ self.now) }
+    {
+        let memory = self.memory.to_vec(alloc)?;
+        let flags = self.flags.to_vec(alloc)?;
+        Ok(Run {
+            memory,
+            flags,
+            stride: self.stride,
+            chips: self.chips,
+        })
+    }
+
+    /// How many chips there are.
+    pub fn chips(&self) -> usize
+        ensures value { result ≡ length self.now }
+    {
+        self.chips
+    }
+
+    /// The bits of all processors of a chip at an address: bit p is that of processor p.
+    pub fn plane(&self, chip: u16, at: Addr) -> Plane
+        requires chip { chip < length self.now }
+        ensures value { IsPlane result (λ p. memory_bit (processor_at (chip_at self.now chip) p) at) }
+    {
+        let first = row(usize::from(at.get()), ADDRESSES, self.stride);
+        self.memory[first + usize::from(chip)]
+    }
+
+    /// One flag of all processors of a chip: bit p is that of processor p.
+    pub fn flag_plane(&self, chip: u16, number: FlagNo) -> Plane
+        requires chip { chip < length self.now }
+        ensures value { IsPlane result (λ p. flag (processor_at (chip_at self.now chip) p) number) }
+    {
+        let first = row(usize::from(number.get()), FLAGS, self.stride);
+        self.flags[first + usize::from(chip)]
+    }
+
+    /// One instruction in all chips, when nothing comes in over NEWS or DAISY.
+    pub fn step(&mut self, nano: &Nano)
+        requires alone { takes_incoming nano.now ≡ false }
+        ensures value { (incoming : ℕ → ℕ → Bool)
+            → self.new ≡ each_from 0 (length self.old) (λ c. chip_after nano.now (incoming c) (chip_at self.old c)) }
+    {
+        step_rows(
+            &mut self.memory,
+            &mut self.flags,
+            nano,
+            self.stride,
+            self.chips,
+        );
+    }
+
+    /// Writes down what every chip computes for the flag of an instruction, whatever its condition:
+    /// what it sends over NEWS or DAISY.
+    pub fn send(&self, nano: &Nano, sent: &mut [Plane])
+        requires sent { length sent.old ≡ length self.now }
+        ensures value { AreSent nano.now self.now sent.new }
+    {
+        send_row(
+            &self.memory,
+            &self.flags,
+            nano,
+            self.stride,
+            self.chips,
+            sent,
+        );
+    }
+
+    /// One instruction in all chips, when these planes come in over NEWS or DAISY, one at each chip.
+    /// They are used up.
+    pub fn take(&mut self, nano: &Nano, incoming: &mut [Plane])
+        requires taken { takes_incoming nano.now ≡ true }
+        requires incoming { length incoming.old ≡ length self.old }
+        ensures value { self.new ≡ each_from 0 (length self.old)
+            (λ c. chip_after nano.now (bit (slice_index incoming.old c)) (chip_at self.old c)) }
+    {
+        take_rows(
+            &mut self.memory,
+            &mut self.flags,
+            nano,
+            self.stride,
+            self.chips,
+            incoming,
+        );
+    }
+}
+
+/// Whether an instruction takes in what other processors send: it writes NEWS or DAISY.
+pub fn takes_incoming(nano: &Nano) -> bool
+    ensures value { result ≡ takes_incoming nano.now }
+{
+    let number = nano.write.get();
+    number == NEWS_FLAG || number == DAISY_FLAG
+}
+
+/// How far the rows of so many chips lie apart.
+fn stride_of(chips: usize) -> usize
+    requires few { chips < 65536 }
+    ensures within { chips ≤ result }
+    ensures few { result < 65568 }
+{
+    if chips < MANY { chips } else { chips + PADDING }
+}

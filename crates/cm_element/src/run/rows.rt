@@ -1,0 +1,171 @@
+//! One instruction over the rows of a run.
+
+ghost use Rattle.std.specs.Prelude.{◌≡◌, ℕ, ◌+◌, ◌*◌, ◌<◌, ◌≤◌, ◌^◌, Bool, false, true, length, slice_index};
+ghost use Rattle.cm_bits.specs.Bit.{bit};
+ghost use Rattle.cm_model.specs.Each.{each_from};
+ghost use Rattle.cm_model.specs.Instruction.{takes_incoming};
+ghost use Rattle.cm_model.specs.Chip.{chip_after};
+ghost use Rattle.cm_model.specs.Array.{chip_at};
+ghost use Rattle.cm_element.specs.Runs.{AreRows, chips_of};
+ghost use Rattle.cm_element.specs.Steps.{ArePlaces, AreMerged, AreSent};
+
+use crate::chip::{chosen, holding};
+use cm_bits::Plane;
+use cm_model::Nano;
+use cm_rows::{Places, compute, compute_memory};
+use cm_truth::apply;
+
+const ADDRESSES: usize = 4096;
+
+const FLAGS: usize = 16;
+
+const ZERO_FLAG: u8 = 8;
+
+/// Where a row begins.
+pub(crate) fn row(number: usize, rows: usize, stride: usize) -> usize
+    requires number { number < rows }
+    requires rows { rows ≤ 4096 }
+    requires stride { stride < 2 ^ 20 }
+    ensures value { result ≡ number * stride }
+    ensures within { result + stride ≤ rows * stride }
+{
+    number * stride
+}
+
+/// One instruction in all chips of the rows, when nothing comes in over NEWS or DAISY.
+pub(crate) fn step_rows(
+    memory: &mut [Plane],
+    flags: &mut [Plane],
+    nano: &Nano,
+    stride: usize,
+    chips: usize,
+)
+    requires rows { AreRows memory.old flags.old stride chips }
+    requires alone { takes_incoming nano.now ≡ false }
+    ensures rows { AreRows memory.new flags.new stride chips }
+    ensures value { (incoming : ℕ → ℕ → Bool) → chips_of memory.new flags.new stride chips
+        ≡ each_from 0 chips (λ c. chip_after nano.now (incoming c) (chip_at (chips_of memory.old flags.old stride chips) c)) }
+{
+    let at = places(nano, stride);
+    let always = is_always(nano);
+    if nano.write.get() == ZERO_FLAG {
+        compute_memory(nano.mem_table, always, nano.sense, memory, flags, at, chips);
+    } else {
+        compute(
+            (nano.mem_table, nano.flag_table),
+            always,
+            nano.sense,
+            memory,
+            flags,
+            at,
+            chips,
+        );
+    }
+}
+
+/// Writes down what every chip computes for the flag of an instruction, whatever its condition.
+pub(crate) fn send_row(
+    memory: &[Plane],
+    flags: &[Plane],
+    nano: &Nano,
+    stride: usize,
+    chips: usize,
+    sent: &mut [Plane],
+)
+    requires rows { AreRows memory.now flags.now stride chips }
+    requires sent { length sent.old ≡ chips }
+    ensures value { AreSent nano.now (chips_of memory.now flags.now stride chips) sent.new }
+{
+    let at = places(nano, stride);
+    let table = nano.flag_table;
+    for c in 0..chips {
+        sent[c] = apply(
+            table,
+            memory[at.a + c],
+            memory[at.b + c],
+            flags[at.read + c],
+        );
+    }
+}
+
+/// One instruction in all chips of the rows, when these planes come in over NEWS or DAISY. They are
+/// used up.
+pub(crate) fn take_rows(
+    memory: &mut [Plane],
+    flags: &mut [Plane],
+    nano: &Nano,
+    stride: usize,
+    chips: usize,
+    incoming: &mut [Plane],
+)
+    requires rows { AreRows memory.old flags.old stride chips }
+    requires taken { takes_incoming nano.now ≡ true }
+    requires incoming { length incoming.old ≡ chips }
+    ensures rows { AreRows memory.new flags.new stride chips }
+    ensures value { chips_of memory.new flags.new stride chips
+        ≡ each_from 0 chips (λ c. chip_after nano.now (bit (slice_index incoming.old c))
+        (chip_at (chips_of memory.old flags.old stride chips) c)) }
+{
+    let at = places(nano, stride);
+    compute_memory(
+        nano.mem_table,
+        is_always(nano),
+        nano.sense,
+        memory,
+        flags,
+        at,
+        chips,
+    );
+    merge(flags, nano.sense, at, incoming);
+    put_row(flags, at.write, incoming);
+}
+
+/// Keeps of the planes what comes in where the condition holds, and else has what the written flag has.
+fn merge(flags: &[Plane], sense: bool, at: Places, incoming: &mut [Plane])
+    requires write { at.write + length incoming.old ≤ length flags.now }
+    requires cond { at.cond + length incoming.old ≤ length flags.now }
+    ensures value { AreMerged sense at flags.now incoming.old incoming.new }
+{
+    for c in 0..incoming.len() {
+        let holds = holding(flags[at.cond + c], sense);
+        incoming[c] = chosen(holds, incoming[c], flags[at.write + c]);
+    }
+}
+
+/// Puts planes into a list from a place on.
+fn put_row(rows: &mut [Plane], at: usize, planes: &[Plane])
+    requires within { at + length planes.now ≤ length rows.old }
+    ensures value { (c : ℕ) → c < length planes.now → slice_index rows.new (at + c) ≡ slice_index planes.now c }
+    ensures below { (i : ℕ) → i < at → slice_index rows.new i ≡ slice_index rows.old i }
+    ensures above { (i : ℕ) → at + length planes.now ≤ i → slice_index rows.new i ≡ slice_index rows.old i }
+{
+    for c in 0..planes.len() {
+        rows[at + c] = planes[c];
+    }
+}
+
+/// Whether the condition of an instruction holds everywhere: flag ZERO is to be 0.
+fn is_always(nano: &Nano) -> bool
+    ensures value { result ≡ true → (nano.now.cond ≡ 8) × (nano.now.sense ≡ false) }
+{
+    nano.cond.get() == ZERO_FLAG && !nano.sense
+}
+
+/// Where the rows of an instruction begin.
+fn places(nano: &Nano, stride: usize) -> Places
+    requires stride { stride < 2 ^ 20 }
+    ensures value { ArePlaces nano.now stride result }
+    ensures a { result.a + stride ≤ 4096 * stride }
+    ensures b { result.b + stride ≤ 4096 * stride }
+    ensures read { result.read + stride ≤ 16 * stride }
+    ensures write { result.write + stride ≤ 16 * stride }
+    ensures cond { result.cond + stride ≤ 16 * stride }
+{
+    Places {
+        a: row(usize::from(nano.a.get()), ADDRESSES, stride),
+        b: row(usize::from(nano.b.get()), ADDRESSES, stride),
+        read: row(usize::from(nano.read.get()), FLAGS, stride),
+        write: row(usize::from(nano.write.get()), FLAGS, stride),
+        cond: row(usize::from(nano.cond.get()), FLAGS, stride),
+    }
+}

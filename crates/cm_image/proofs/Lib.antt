@@ -1,0 +1,3 @@
+mod Filling
+mod Taking
+mod Dumping

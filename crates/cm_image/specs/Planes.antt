@@ -1,0 +1,29 @@
+-- Planes by address, and the part of an image that tells the planes below a number: ours.
+use Rattle.std.specs.Prelude.{ℕ, ◌==◌, List, [], slice_set, if◌then◌else◌}
+use Rattle.std.specs.List.{flat_map}
+use Rattle.std.specs.Int.{w16}
+use Rattle.cm_model.specs.Each.{each_from}
+use Rattle.cm_model.specs.Processor.{Processor}
+use Rattle.cm_message.specs.Bytes.{number}
+use Rattle.cm_image_format.specs.Image.{Listed, listed_text}
+use Rattle.cm_image_format.specs.Whole.{without_zeros, flag_plane_of, memory_plane_of}
+
+-- the planes with the one that is listed at its address
+abbrev pub put_plane : List ℕ → Listed → List ℕ
+put_plane planes x = slice_set planes x.at x.plane
+
+-- the flag planes of a chip below a number
+unfoldable pub flags_text : List Processor → ℕ → List ℕ
+flags_text chip count = flat_map (number w16) (each_from 0 count (flag_plane_of chip))
+
+-- the memory planes of a chip below an address, without those that are 0
+unfoldable pub planes_below : List Processor → ℕ → List Listed
+planes_below chip count =
+    without_zeros (each_from 0 count (λ address. record { at = address; plane = memory_plane_of chip address }))
+
+-- how they are listed, and how one is
+unfoldable pub listed_below : List Processor → ℕ → List ℕ
+listed_below chip count = flat_map listed_text (planes_below chip count)
+
+abbrev pub listing_of : ℕ → ℕ → List ℕ
+listing_of address plane = if plane == 0 then [] else listed_text (record { at = address; plane = plane })

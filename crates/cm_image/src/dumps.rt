@@ -1,0 +1,198 @@
+//! Writing the bytes of a machine.
+
+ghost use Rattle.std.specs.Prelude.{◌≡◌, ◌==◌, ◌++◌, ◌^◌, ◌<◌, ◌≤◌, length, IfOk, OnOk, if◌then◌else◌};
+ghost use Rattle.std.specs.List.{flat_map};
+ghost use Rattle.std.specs.Int.{w8, w16, w32, w64};
+ghost use Rattle.cm_message.specs.Bytes.{number, message_text};
+ghost use Rattle.cm_image_format.specs.Image.{chip_text, shape_text};
+ghost use Rattle.cm_image_format.specs.Whole.{flag_plane_of, memory_plane_of, image_of_chip, image_of, text_of};
+ghost use Rattle.cm_image.specs.Planes.{flags_text, listing_of, listed_below, planes_below};
+
+use cm_array::Machine;
+use cm_bits::{Addr, FlagNo, NoMemory, Plane};
+use cm_element::Chip;
+use cm_message::{Message, bytes};
+use std::alloc::Global;
+
+const MAGIC: u32 = 0x434d_3149;
+
+const VERSION: u8 = 1;
+
+const FLAGS: u8 = 16;
+
+const ADDRESSES: u16 = 4096;
+
+/// The image of a machine: its one text. Its logs are not in it.
+pub fn dump<const N: usize, const CAP: usize>(
+    alloc: Global,
+    machine: &Machine<N, CAP>,
+) -> Result<Vec<u8>, NoMemory>
+    ensures value { IfOk result (λ text. text.items ≡ text_of N CAP machine.now.machine) }
+{
+    let mut text = Vec::new(alloc);
+    let cycles = machine.clock();
+    push_shape(&mut text, N, CAP)?;
+    push_u64(&mut text, cycles)?;
+    push_chips(&mut text, machine)?;
+    Ok(text)
+}
+
+/// What an image has of each chip, by number.
+fn push_chips<const N: usize, const CAP: usize>(
+    text: &mut Vec<u8>,
+    machine: &Machine<N, CAP>,
+) -> Result<(), NoMemory>
+    requires dimension { N ≤ 12 }
+    requires room { CAP ≤ 15 }
+    ensures ok { OnOk result (text.new.items
+        ≡ text.old.items ++ flat_map chip_text (image_of N machine.now.machine).chips) }
+{
+    let count = chip_count::<N>();
+    for c in 0..count {
+        push_chip(text, machine.chip(c), machine.buffer(c))?;
+    }
+    Ok(())
+}
+
+fn chip_count<const N: usize>() -> u16
+    requires dimension { N ≤ 12 }
+    ensures value { result ≡ 2 ^ N }
+{
+    1 << N
+}
+
+fn push(text: &mut Vec<u8>, more: &[u8]) -> Result<(), NoMemory>
+    ensures ok { OnOk result (text.new.items ≡ text.old.items ++ more.now) }
+{
+    text.extend_from_slice(more)?;
+    Ok(())
+}
+
+#[tactic(auto, unfolding(cm_message::specs::Bytes::number))]
+fn push_u8(text: &mut Vec<u8>, n: u8) -> Result<(), NoMemory>
+    ensures ok { OnOk result (text.new.items ≡ text.old.items ++ number w8 n) }
+{
+    push(text, &[n])
+}
+
+#[tactic(auto, unfolding(cm_message::specs::Bytes::number))]
+fn push_u16(text: &mut Vec<u8>, n: u16) -> Result<(), NoMemory>
+    ensures ok { OnOk result (text.new.items ≡ text.old.items ++ number w16 n) }
+{
+    push(text, &n.to_be_bytes())
+}
+
+#[tactic(auto, unfolding(cm_message::specs::Bytes::number))]
+fn push_u32(text: &mut Vec<u8>, n: u32) -> Result<(), NoMemory>
+    ensures ok { OnOk result (text.new.items ≡ text.old.items ++ number w32 n) }
+{
+    push(text, &n.to_be_bytes())
+}
+
+#[tactic(auto, unfolding(cm_message::specs::Bytes::number))]
+fn push_u64(text: &mut Vec<u8>, n: u64) -> Result<(), NoMemory>
+    ensures ok { OnOk result (text.new.items ≡ text.old.items ++ number w64 n) }
+{
+    push(text, &n.to_be_bytes())
+}
+
+/// Magic, version, dimension, room, reserve.
+fn push_shape(text: &mut Vec<u8>, n: usize, cap: usize) -> Result<(), NoMemory>
+    requires dimension { n ≤ 12 }
+    requires room { cap ≤ 15 }
+    ensures ok { OnOk result (text.new.items ≡ text.old.items ++ shape_text n cap) }
+{
+    push_u32(text, MAGIC)?;
+    push_u8(text, VERSION)?;
+    push_u8(text, n as u8)?;
+    push_u8(text, cap as u8)?;
+    push_u8(text, 0)?;
+    Ok(())
+}
+
+/// What an image has of a chip with this buffer.
+fn push_chip(text: &mut Vec<u8>, chip: &Chip, buffer: &[Message]) -> Result<(), NoMemory>
+    requires few { length buffer.now < 256 }
+    ensures ok { OnOk result (text.new.items ≡ text.old.items ++ chip_text (image_of_chip chip.now buffer.now)) }
+{
+    push_flags(text, chip)?;
+    push_u16(text, count_planes(chip))?;
+    push_planes(text, chip)?;
+    push_u8(text, buffer.len() as u8)?;
+    push_messages(text, buffer)?;
+    Ok(())
+}
+
+fn push_flags(text: &mut Vec<u8>, chip: &Chip) -> Result<(), NoMemory>
+    ensures ok { OnOk result (text.new.items ≡ text.old.items ++ flags_text chip.now 16) }
+{
+    for f in 0..FLAGS {
+        push_u16(text, flag_plane(chip, f))?;
+    }
+    Ok(())
+}
+
+/// How many memory planes are not 0.
+fn count_planes(chip: &Chip) -> u16
+    ensures value { result ≡ length (planes_below chip.now 4096) }
+{
+    let mut count = 0;
+    for at in 0..ADDRESSES {
+        count += count_listings(memory_plane(chip, at));
+    }
+    count
+}
+
+/// Whether a plane is listed, as a number.
+fn count_listings(plane: Plane) -> u16
+    ensures value { result ≡ (if plane == 0 then 0 else 1) }
+    ensures within { result ≤ 1 }
+{
+    if plane == 0 { 0 } else { 1 }
+}
+
+fn push_planes(text: &mut Vec<u8>, chip: &Chip) -> Result<(), NoMemory>
+    ensures ok { OnOk result (text.new.items ≡ text.old.items ++ listed_below chip.now 4096) }
+{
+    for at in 0..ADDRESSES {
+        push_plane(text, at, memory_plane(chip, at))?;
+    }
+    Ok(())
+}
+
+/// The address and the plane, but nothing where it is 0.
+fn push_plane(text: &mut Vec<u8>, at: u16, plane: Plane) -> Result<(), NoMemory>
+    ensures ok { OnOk result (text.new.items ≡ text.old.items ++ listing_of at plane) }
+{
+    if plane == 0 {
+        return Ok(());
+    }
+    push_u16(text, at)?;
+    push_u16(text, plane)?;
+    Ok(())
+}
+
+fn push_messages(text: &mut Vec<u8>, messages: &[Message]) -> Result<(), NoMemory>
+    ensures ok { OnOk result (text.new.items ≡ text.old.items ++ flat_map message_text messages.now) }
+{
+    for message in messages {
+        push(text, &bytes(message))?;
+    }
+    Ok(())
+}
+
+fn flag_plane(chip: &Chip, f: u8) -> Plane
+    requires flag { f < 16 }
+    ensures value { result ≡ flag_plane_of chip.now f }
+{
+    let number = FlagNo::new(f).unwrap();
+    chip.flag_plane(number)
+}
+
+fn memory_plane(chip: &Chip, address: u16) -> Plane
+    requires address { address < 4096 }
+    ensures value { result ≡ memory_plane_of chip.now address }
+{
+    let at = Addr::new(address).unwrap();
+    chip.plane(at)
+}

@@ -1,0 +1,10 @@
+mod Numbers
+mod Forms
+mod Parts
+mod Images
+mod Planes
+mod Chips
+mod Accounts
+mod Machines
+mod Theorems
+mod StandardFacts

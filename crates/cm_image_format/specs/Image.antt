@@ -1,0 +1,91 @@
+-- An image: its parts in reading order, each with its check. Ours.
+use Rattle.std.specs.Prelude.{ℕ, ◌+◌, ◌^◌, ◌==◌, ◌&&◌, ◌||◌, not, Bool, List, ◌++◌, Some, None, length, nat_lt, nat_le, if◌then◌else◌}
+use Rattle.std.specs.List.{flat_map}
+use Rattle.std.specs.Int.{w8, w16, w32, w64}
+use Rattle.cm_model.specs.declared.message.Message.{Message}
+use Rattle.cm_message.specs.Bytes.{number, message_text}
+use Rattle.cm_image_format.specs.declared.fault.ImageFault.TheVariants.{Magic, Version, Shape, Order, Count, Value}
+use Rattle.cm_image_format.specs.Reading.{Read, Check, must, number_at, part, ◌⨾◌, made, many, counted}
+
+-- a memory plane that is listed: its address, and its bits
+pub record Listed : Type 0 where
+  pub at : ℕ
+  pub plane : ℕ
+
+-- what an image has of a chip: its flag planes by number, its memory planes that are not 0, and its messages from the front
+pub record ChipImage : Type 0 where
+  pub flags : List ℕ
+  pub memory : List Listed
+  pub messages : List Message
+
+-- ---- the header
+
+-- the four bytes `CM1I`
+abbrev pub MAGIC : ℕ
+MAGIC = 0x434d3149
+
+-- a dimension of a cube, and room of a router
+abbrev pub is_dimension : ℕ → Bool
+is_dimension n = nat_le n 12
+
+abbrev pub is_room : ℕ → Bool
+is_room cap = nat_le 1 cap && nat_le cap 15
+
+-- magic, version, dimension, room, reserve
+unfoldable pub shape_text : ℕ → ℕ → List ℕ
+shape_text n cap = number w32 MAGIC ++ (number w8 1 ++ (number w8 n ++ (number w8 cap ++ number w8 0)))
+
+-- the same, where the dimension and the room pass these tests
+abbrev pub shape_part : (ℕ → Bool) → (ℕ → Bool) → List ℕ → Read (ℕ × ℕ)
+shape_part dimension room =
+    made (λ x. (x.1.1.0, x.1.1.1.0))
+    (part w32 (must Magic (λ k. k == MAGIC)) ⨾ part w8 (must Version (λ k. k == 1))
+    ⨾ part w8 (must Shape dimension) ⨾ part w8 (must Shape room) ⨾ part w8 (must Shape (λ k. k == 0)))
+
+-- the counter
+abbrev pub clock_part : List ℕ → Read ℕ
+clock_part = part w64 (must Value (λ k. nat_lt k (2 ^ 63)))
+
+-- ---- a chip
+
+abbrev pub flag_part : ℕ → List ℕ → Read ℕ
+flag_part f = part w16 (must Value (λ plane. not (f == 8) || plane == 0))
+
+-- the address lies below 4096, and not below `least`, which is one more than the address before
+abbrev pub address_fault : ℕ → Check
+address_fault least at = if nat_lt 4095 at then Some Value else if nat_lt at least then Some Order else None
+
+abbrev pub listed_text : Listed → List ℕ
+listed_text x = number w16 x.at ++ number w16 x.plane
+
+abbrev pub listed_part : ℕ → List ℕ → Read Listed
+listed_part least = made (λ x. record { at = x.0; plane = x.1 }) (part w16 (address_fault least) ⨾ part w16 (must Order (λ plane. not (plane == 0))))
+
+abbrev pub memory_part : List ℕ → Read (List Listed)
+memory_part = counted w16 (must Count (λ k. nat_le k 4096)) (λ least x. x.at + 1) listed_part 0
+
+abbrev pub chip_number_part : ℕ → List ℕ → Read ℕ
+chip_number_part n = part w16 (must Value (λ k. nat_lt k (2 ^ n)))
+
+abbrev pub processor_part : List ℕ → Read ℕ
+processor_part = part w8 (must Value (λ k. nat_lt k 16))
+
+abbrev pub message_part : ℕ → ℕ → List ℕ → Read Message
+message_part n clock =
+    made (λ x. record { rel = x.0; proc = x.1.0; payload = x.1.1.0; tag = record { chip = x.1.1.1.0; proc = x.1.1.1.1.0; birth = x.1.1.1.1.1 } })
+    (chip_number_part n ⨾ processor_part ⨾ number_at w32 ⨾ chip_number_part n ⨾ processor_part ⨾ part w64 (must Value (λ k. nat_lt k clock)))
+
+abbrev pub chip_text : ChipImage → List ℕ
+chip_text chip =
+    flat_map (number w16) chip.flags ++ ((number w16 (length chip.memory) ++ flat_map listed_text chip.memory)
+    ++ (number w8 (length chip.messages) ++ flat_map message_text chip.messages))
+
+abbrev pub flags_part : List ℕ → Read (List ℕ)
+flags_part = many (λ f plane. f + 1) flag_part 16 0
+
+abbrev pub messages_part : ℕ → ℕ → ℕ → List ℕ → Read (List Message)
+messages_part n cap clock = counted w8 (must Count (λ k. nat_le k cap)) (λ i m. i) (λ i. message_part n clock) 0
+
+unfoldable pub chip_part : ℕ → ℕ → ℕ → List ℕ → Read ChipImage
+chip_part n cap clock =
+    made (λ x. record { flags = x.0; memory = x.1.0; messages = x.1.1 }) (flags_part ⨾ memory_part ⨾ messages_part n cap clock)

@@ -1,0 +1,4 @@
+pub mod Reading
+pub mod Image
+pub mod Whole
+pub mod Laws

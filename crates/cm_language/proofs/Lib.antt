@@ -1,0 +1,10 @@
+pub mod Bits
+pub mod Sums
+pub mod Steps
+pub mod Loops
+pub mod Numbers
+pub mod Selected
+pub mod Products
+pub mod Lifting
+pub mod AllMacros
+pub mod LeftAlone

@@ -1,0 +1,49 @@
+-- A message as eighteen bytes, the highest byte of a number first. Ours.
+use Rattle.std.specs.Prelude.{ℕ, List, ◌++◌, Option, Some, None, drop, slice_index, nat_lt, ◌&&◌, if◌then◌else◌}
+use Rattle.std.specs.Int.{Width, w8, w16, w32, w64, to_be_bytes, from_be_bytes}
+use Rattle.cm_model.specs.declared.message.Message.{Message}
+
+-- the bytes of a number of this width, the highest first
+unfoldable pub number : Width → ℕ → List ℕ
+number w n = to_be_bytes w n
+
+-- relative address, processor, payload; then origin chip, origin processor, birth
+abbrev pub message_text : Message → List ℕ
+message_text m =
+    number w16 m.rel ++ (number w8 m.proc ++ (number w32 m.payload
+    ++ (number w16 m.tag.chip ++ (number w8 m.tag.proc ++ number w64 m.tag.birth))))
+
+-- the number of this width that begins at this place
+unfoldable pub number_from : Width → ℕ → List ℕ → ℕ
+number_from w at bytes = from_be_bytes w (drop at bytes)
+
+-- each part of a message, at its place
+abbrev pub rel_in : List ℕ → ℕ
+rel_in bytes = number_from w16 0 bytes
+
+abbrev pub proc_in : List ℕ → ℕ
+proc_in bytes = slice_index bytes 2
+
+abbrev pub payload_in : List ℕ → ℕ
+payload_in bytes = number_from w32 3 bytes
+
+abbrev pub origin_chip_in : List ℕ → ℕ
+origin_chip_in bytes = number_from w16 7 bytes
+
+abbrev pub origin_proc_in : List ℕ → ℕ
+origin_proc_in bytes = slice_index bytes 9
+
+abbrev pub birth_in : List ℕ → ℕ
+birth_in bytes = number_from w64 10 bytes
+
+-- the message of eighteen bytes, where both processors are below 16
+unfoldable pub message_of : List ℕ → Option Message
+message_of bytes =
+    if nat_lt (proc_in bytes) 16 && nat_lt (origin_proc_in bytes) 16
+    then Some (record {
+      rel = rel_in bytes;
+      proc = proc_in bytes;
+      payload = payload_in bytes;
+      tag = record { chip = origin_chip_in bytes; proc = origin_proc_in bytes; birth = birth_in bytes };
+    })
+    else None

@@ -1,0 +1,8 @@
+use Rattle.cm_bits.specs.Bit.{bit}
+use Rattle.cm_model.proofs.Bits.{bit-bit_and, bit-bit_xor, differ_chosen}
+use Rattle.cm_rows.proofs.block.kept.Goals as goal
+
+pub returns : goal.returns
+returns c = record {
+  value = λ p h. rw (bit-bit_xor, bit-bit_and, bit-bit_xor, ← c.apply.ensures.value p h) (differ_chosen (bit c.args.choice p) (bit c.args.old p) (bit c.apply.result p));
+}

@@ -1,0 +1,250 @@
+//! Both outputs of an instruction in all words of its rows, in place.
+
+ghost use Rattle.std.specs.Prelude.{◌≡◌, ◌+◌, ◌*◌, ◌≤◌, length, true, false};
+ghost use Rattle.cm_rows.specs.Rows.{IsComputed, IsApart};
+
+use crate::block::{choice_lanes, choice_of, kept, kept_lanes, load, put};
+use crate::places::Places;
+use cm_bits::Plane;
+
+const LANES: usize = 32;
+
+// The pairs of tables of the macros that write a flag are known to the compiler, each in a loop of its own.
+macro_rules! by_tables {
+    ($always:literal, $tables:ident, $sense:ident, $memory:ident, $flags:ident, $at:ident, $whole:ident) => {
+        match $tables {
+            (0x96, 0xe8) => compute_blocks((0x96, 0xe8), $always, $sense, $memory, $flags, $at, $whole),
+            (0x69, 0xb2) => compute_blocks((0x69, 0xb2), $always, $sense, $memory, $flags, $at, $whole),
+            (0xf0, 0x8e) => compute_blocks((0xf0, 0x8e), $always, $sense, $memory, $flags, $at, $whole),
+            (0xf0, 0x82) => compute_blocks((0xf0, 0x82), $always, $sense, $memory, $flags, $at, $whole),
+            (0xaa, 0xf0) => compute_blocks((0xaa, 0xf0), $always, $sense, $memory, $flags, $at, $whole),
+            (0xf0, 0xff) => compute_blocks((0xf0, 0xff), $always, $sense, $memory, $flags, $at, $whole),
+            (0xf0, 0x00) => compute_blocks((0xf0, 0x00), $always, $sense, $memory, $flags, $at, $whole),
+            (0xf0, 0xf0) => compute_blocks((0xf0, 0xf0), $always, $sense, $memory, $flags, $at, $whole),
+            other => compute_blocks(other, $always, $sense, $memory, $flags, $at, $whole),
+        }
+    };
+}
+
+/// Puts both outputs of an instruction into the first `count` words of its rows, where the condition
+/// holds. Under `always` the condition flag is not read.
+pub fn compute(
+    tables: (u8, u8),
+    always: bool,
+    sense: bool,
+    memory: &mut [Plane],
+    flags: &mut [Plane],
+    at: Places,
+    count: usize,
+)
+    requires a { at.a + count ≤ length memory.old }
+    requires b { at.b + count ≤ length memory.old }
+    requires read { at.read + count ≤ length flags.old }
+    requires write { at.write + count ≤ length flags.old }
+    requires cond { at.cond + count ≤ length flags.old }
+    requires b_apart { IsApart at.a at.b count }
+    requires read_apart { IsApart at.write at.read count }
+    requires cond_apart { IsApart at.write at.cond count }
+    ensures memory { IsComputed tables.0 always sense at at.a 0 count memory.old flags.old memory.old memory.new }
+    ensures flags { IsComputed tables.1 always sense at at.write 0 count memory.old flags.old flags.old flags.new }
+{
+    let whole = count / LANES;
+    all_blocks(tables, always, sense, memory, flags, at, whole);
+    compute_words(
+        tables,
+        always,
+        sense,
+        memory,
+        flags,
+        at,
+        LANES * whole,
+        count,
+    );
+}
+
+/// The words of whole blocks.
+fn all_blocks(
+    tables: (u8, u8),
+    always: bool,
+    sense: bool,
+    memory: &mut [Plane],
+    flags: &mut [Plane],
+    at: Places,
+    whole: usize,
+)
+    requires a { at.a + 32 * whole ≤ length memory.old }
+    requires b { at.b + 32 * whole ≤ length memory.old }
+    requires read { at.read + 32 * whole ≤ length flags.old }
+    requires write { at.write + 32 * whole ≤ length flags.old }
+    requires cond { at.cond + 32 * whole ≤ length flags.old }
+    requires b_apart { IsApart at.a at.b (32 * whole) }
+    requires read_apart { IsApart at.write at.read (32 * whole) }
+    requires cond_apart { IsApart at.write at.cond (32 * whole) }
+    ensures memory { IsComputed tables.0 always sense at at.a 0 (32 * whole) memory.old flags.old memory.old memory.new }
+    ensures flags { IsComputed tables.1 always sense at at.write 0 (32 * whole) memory.old flags.old flags.old flags.new }
+{
+    if always {
+        blocks_always(tables, sense, memory, flags, at, whole);
+    } else {
+        blocks_under_condition(tables, sense, memory, flags, at, whole);
+    }
+}
+
+/// The words of whole blocks, in all processors.
+fn blocks_always(
+    tables: (u8, u8),
+    sense: bool,
+    memory: &mut [Plane],
+    flags: &mut [Plane],
+    at: Places,
+    whole: usize,
+)
+    requires a { at.a + 32 * whole ≤ length memory.old }
+    requires b { at.b + 32 * whole ≤ length memory.old }
+    requires read { at.read + 32 * whole ≤ length flags.old }
+    requires write { at.write + 32 * whole ≤ length flags.old }
+    requires cond { at.cond + 32 * whole ≤ length flags.old }
+    requires b_apart { IsApart at.a at.b (32 * whole) }
+    requires read_apart { IsApart at.write at.read (32 * whole) }
+    requires cond_apart { IsApart at.write at.cond (32 * whole) }
+    ensures memory { IsComputed tables.0 true sense at at.a 0 (32 * whole) memory.old flags.old memory.old memory.new }
+    ensures flags { IsComputed tables.1 true sense at at.write 0 (32 * whole) memory.old flags.old flags.old flags.new }
+{
+    by_tables!(true, tables, sense, memory, flags, at, whole)
+}
+
+/// The words of whole blocks, where the condition holds.
+fn blocks_under_condition(
+    tables: (u8, u8),
+    sense: bool,
+    memory: &mut [Plane],
+    flags: &mut [Plane],
+    at: Places,
+    whole: usize,
+)
+    requires a { at.a + 32 * whole ≤ length memory.old }
+    requires b { at.b + 32 * whole ≤ length memory.old }
+    requires read { at.read + 32 * whole ≤ length flags.old }
+    requires write { at.write + 32 * whole ≤ length flags.old }
+    requires cond { at.cond + 32 * whole ≤ length flags.old }
+    requires b_apart { IsApart at.a at.b (32 * whole) }
+    requires read_apart { IsApart at.write at.read (32 * whole) }
+    requires cond_apart { IsApart at.write at.cond (32 * whole) }
+    ensures memory { IsComputed tables.0 false sense at at.a 0 (32 * whole) memory.old flags.old memory.old memory.new }
+    ensures flags { IsComputed tables.1 false sense at at.write 0 (32 * whole) memory.old flags.old flags.old flags.new }
+{
+    by_tables!(false, tables, sense, memory, flags, at, whole)
+}
+
+/// The words of whole blocks, in a loop for these tables.
+#[inline(always)]
+fn compute_blocks(
+    tables: (u8, u8),
+    always: bool,
+    sense: bool,
+    memory: &mut [Plane],
+    flags: &mut [Plane],
+    at: Places,
+    whole: usize,
+)
+    requires a { at.a + 32 * whole ≤ length memory.old }
+    requires b { at.b + 32 * whole ≤ length memory.old }
+    requires read { at.read + 32 * whole ≤ length flags.old }
+    requires write { at.write + 32 * whole ≤ length flags.old }
+    requires cond { at.cond + 32 * whole ≤ length flags.old }
+    requires b_apart { IsApart at.a at.b (32 * whole) }
+    requires read_apart { IsApart at.write at.read (32 * whole) }
+    requires cond_apart { IsApart at.write at.cond (32 * whole) }
+    ensures memory { IsComputed tables.0 always sense at at.a 0 (32 * whole) memory.old flags.old memory.old memory.new }
+    ensures flags { IsComputed tables.1 always sense at at.write 0 (32 * whole) memory.old flags.old flags.old flags.new }
+{
+    for t in 0..whole {
+        block(tables, always, sense, memory, flags, at, LANES * t);
+    }
+}
+
+/// The words that follow, one by one.
+fn compute_words(
+    tables: (u8, u8),
+    always: bool,
+    sense: bool,
+    memory: &mut [Plane],
+    flags: &mut [Plane],
+    at: Places,
+    from: usize,
+    to: usize,
+)
+    requires order { from ≤ to }
+    requires a { at.a + to ≤ length memory.old }
+    requires b { at.b + to ≤ length memory.old }
+    requires read { at.read + to ≤ length flags.old }
+    requires write { at.write + to ≤ length flags.old }
+    requires cond { at.cond + to ≤ length flags.old }
+    requires b_apart { IsApart at.a at.b to }
+    requires read_apart { IsApart at.write at.read to }
+    requires cond_apart { IsApart at.write at.cond to }
+    ensures memory { IsComputed tables.0 always sense at at.a from to memory.old flags.old memory.old memory.new }
+    ensures flags { IsComputed tables.1 always sense at at.write from to memory.old flags.old flags.old flags.new }
+{
+    for k in from..to {
+        word(tables, always, sense, memory, flags, at, k);
+    }
+}
+
+/// Thirty-two words: all are read before any is written.
+#[inline(always)]
+fn block(
+    tables: (u8, u8),
+    always: bool,
+    sense: bool,
+    memory: &mut [Plane],
+    flags: &mut [Plane],
+    at: Places,
+    from: usize,
+)
+    requires a { at.a + from + 32 ≤ length memory.old }
+    requires b { at.b + from + 32 ≤ length memory.old }
+    requires read { at.read + from + 32 ≤ length flags.old }
+    requires write { at.write + from + 32 ≤ length flags.old }
+    requires cond { at.cond + from + 32 ≤ length flags.old }
+    ensures memory { IsComputed tables.0 always sense at at.a from (from + 32) memory.old flags.old memory.old memory.new }
+    ensures flags { IsComputed tables.1 always sense at at.write from (from + 32) memory.old flags.old flags.old flags.new }
+{
+    let a = load(memory, at.a + from);
+    let b = load(memory, at.b + from);
+    let f = load(flags, at.read + from);
+    let old = load(flags, at.write + from);
+    let condition = load(flags, at.cond + from);
+    let choice = choice_lanes(always, sense, condition);
+    let word = kept_lanes(tables.0, choice, a, b, f, a);
+    let flag = kept_lanes(tables.1, choice, a, b, f, old);
+    put(memory, at.a + from, word);
+    put(flags, at.write + from, flag);
+}
+
+/// One word.
+fn word(
+    tables: (u8, u8),
+    always: bool,
+    sense: bool,
+    memory: &mut [Plane],
+    flags: &mut [Plane],
+    at: Places,
+    from: usize,
+)
+    requires a { at.a + from + 1 ≤ length memory.old }
+    requires b { at.b + from + 1 ≤ length memory.old }
+    requires read { at.read + from + 1 ≤ length flags.old }
+    requires write { at.write + from + 1 ≤ length flags.old }
+    requires cond { at.cond + from + 1 ≤ length flags.old }
+    ensures memory { IsComputed tables.0 always sense at at.a from (from + 1) memory.old flags.old memory.old memory.new }
+    ensures flags { IsComputed tables.1 always sense at at.write from (from + 1) memory.old flags.old flags.old flags.new }
+{
+    let a = memory[at.a + from];
+    let b = memory[at.b + from];
+    let f = flags[at.read + from];
+    let old = flags[at.write + from];
+    let choice = choice_of(always, sense, flags[at.cond + from]);
+    memory[at.a + from] = kept(tables.0, choice, a, b, f, a);
+    flags[at.write + from] = kept(tables.1, choice, a, b, f, old);
+}

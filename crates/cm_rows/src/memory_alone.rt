@@ -1,0 +1,213 @@
+//! The memory output of an instruction that writes no flag, in all words of its rows, in place.
+
+ghost use Rattle.std.specs.Prelude.{◌≡◌, ◌+◌, ◌*◌, ◌≤◌, length, true, false};
+ghost use Rattle.cm_rows.specs.Rows.{IsComputed, IsApart};
+
+use crate::block::{choice_lanes, choice_of, kept, kept_lanes, load, put};
+use crate::places::Places;
+use cm_bits::Plane;
+
+const LANES: usize = 32;
+
+// The tables of the macros that write no flag are known to the compiler, each in a loop of its own.
+macro_rules! by_table {
+    ($always:literal, $table:ident, $sense:ident, $memory:ident, $flags:ident, $at:ident, $whole:ident) => {
+        match $table {
+            0xcc => compute_blocks(0xcc, $always, $sense, $memory, $flags, $at, $whole),
+            0xd8 => compute_blocks(0xd8, $always, $sense, $memory, $flags, $at, $whole),
+            0xff => compute_blocks(0xff, $always, $sense, $memory, $flags, $at, $whole),
+            0x00 => compute_blocks(0x00, $always, $sense, $memory, $flags, $at, $whole),
+            other => compute_blocks(other, $always, $sense, $memory, $flags, $at, $whole),
+        }
+    };
+}
+
+/// Puts the memory output of an instruction into the first `count` words of its row, where the
+/// condition holds. Under `always` the condition flag is not read.
+pub fn compute_memory(
+    table: u8,
+    always: bool,
+    sense: bool,
+    memory: &mut [Plane],
+    flags: &[Plane],
+    at: Places,
+    count: usize,
+)
+    requires a { at.a + count ≤ length memory.old }
+    requires b { at.b + count ≤ length memory.old }
+    requires read { at.read + count ≤ length flags.now }
+    requires cond { at.cond + count ≤ length flags.now }
+    requires b_apart { IsApart at.a at.b count }
+    ensures memory { IsComputed table always sense at at.a 0 count memory.old flags.now memory.old memory.new }
+{
+    let whole = count / LANES;
+    all_blocks(table, always, sense, memory, flags, at, whole);
+    compute_words(
+        table,
+        always,
+        sense,
+        memory,
+        flags,
+        at,
+        LANES * whole,
+        count,
+    );
+}
+
+/// The words of whole blocks.
+fn all_blocks(
+    table: u8,
+    always: bool,
+    sense: bool,
+    memory: &mut [Plane],
+    flags: &[Plane],
+    at: Places,
+    whole: usize,
+)
+    requires a { at.a + 32 * whole ≤ length memory.old }
+    requires b { at.b + 32 * whole ≤ length memory.old }
+    requires read { at.read + 32 * whole ≤ length flags.now }
+    requires cond { at.cond + 32 * whole ≤ length flags.now }
+    requires b_apart { IsApart at.a at.b (32 * whole) }
+    ensures memory { IsComputed table always sense at at.a 0 (32 * whole) memory.old flags.now memory.old memory.new }
+{
+    if always {
+        blocks_always(table, sense, memory, flags, at, whole);
+    } else {
+        blocks_under_condition(table, sense, memory, flags, at, whole);
+    }
+}
+
+/// The words of whole blocks, in all processors.
+fn blocks_always(
+    table: u8,
+    sense: bool,
+    memory: &mut [Plane],
+    flags: &[Plane],
+    at: Places,
+    whole: usize,
+)
+    requires a { at.a + 32 * whole ≤ length memory.old }
+    requires b { at.b + 32 * whole ≤ length memory.old }
+    requires read { at.read + 32 * whole ≤ length flags.now }
+    requires cond { at.cond + 32 * whole ≤ length flags.now }
+    requires b_apart { IsApart at.a at.b (32 * whole) }
+    ensures memory { IsComputed table true sense at at.a 0 (32 * whole) memory.old flags.now memory.old memory.new }
+{
+    by_table!(true, table, sense, memory, flags, at, whole)
+}
+
+/// The words of whole blocks, where the condition holds.
+fn blocks_under_condition(
+    table: u8,
+    sense: bool,
+    memory: &mut [Plane],
+    flags: &[Plane],
+    at: Places,
+    whole: usize,
+)
+    requires a { at.a + 32 * whole ≤ length memory.old }
+    requires b { at.b + 32 * whole ≤ length memory.old }
+    requires read { at.read + 32 * whole ≤ length flags.now }
+    requires cond { at.cond + 32 * whole ≤ length flags.now }
+    requires b_apart { IsApart at.a at.b (32 * whole) }
+    ensures memory { IsComputed table false sense at at.a 0 (32 * whole) memory.old flags.now memory.old memory.new }
+{
+    by_table!(false, table, sense, memory, flags, at, whole)
+}
+
+/// The words of whole blocks, in a loop for these tables.
+#[inline(always)]
+fn compute_blocks(
+    table: u8,
+    always: bool,
+    sense: bool,
+    memory: &mut [Plane],
+    flags: &[Plane],
+    at: Places,
+    whole: usize,
+)
+    requires a { at.a + 32 * whole ≤ length memory.old }
+    requires b { at.b + 32 * whole ≤ length memory.old }
+    requires read { at.read + 32 * whole ≤ length flags.now }
+    requires cond { at.cond + 32 * whole ≤ length flags.now }
+    requires b_apart { IsApart at.a at.b (32 * whole) }
+    ensures memory { IsComputed table always sense at at.a 0 (32 * whole) memory.old flags.now memory.old memory.new }
+{
+    for t in 0..whole {
+        block(table, always, sense, memory, flags, at, LANES * t);
+    }
+}
+
+/// The words that follow, one by one.
+fn compute_words(
+    table: u8,
+    always: bool,
+    sense: bool,
+    memory: &mut [Plane],
+    flags: &[Plane],
+    at: Places,
+    from: usize,
+    to: usize,
+)
+    requires order { from ≤ to }
+    requires a { at.a + to ≤ length memory.old }
+    requires b { at.b + to ≤ length memory.old }
+    requires read { at.read + to ≤ length flags.now }
+    requires cond { at.cond + to ≤ length flags.now }
+    requires b_apart { IsApart at.a at.b to }
+    ensures memory { IsComputed table always sense at at.a from to memory.old flags.now memory.old memory.new }
+{
+    for k in from..to {
+        word(table, always, sense, memory, flags, at, k);
+    }
+}
+
+/// Thirty-two words: all are read before any is written.
+#[inline(always)]
+fn block(
+    table: u8,
+    always: bool,
+    sense: bool,
+    memory: &mut [Plane],
+    flags: &[Plane],
+    at: Places,
+    from: usize,
+)
+    requires a { at.a + from + 32 ≤ length memory.old }
+    requires b { at.b + from + 32 ≤ length memory.old }
+    requires read { at.read + from + 32 ≤ length flags.now }
+    requires cond { at.cond + from + 32 ≤ length flags.now }
+    ensures memory { IsComputed table always sense at at.a from (from + 32) memory.old flags.now memory.old memory.new }
+{
+    let a = load(memory, at.a + from);
+    let b = load(memory, at.b + from);
+    let f = load(flags, at.read + from);
+    let condition = load(flags, at.cond + from);
+    let choice = choice_lanes(always, sense, condition);
+    let word = kept_lanes(table, choice, a, b, f, a);
+    put(memory, at.a + from, word);
+}
+
+/// One word.
+fn word(
+    table: u8,
+    always: bool,
+    sense: bool,
+    memory: &mut [Plane],
+    flags: &[Plane],
+    at: Places,
+    from: usize,
+)
+    requires a { at.a + from + 1 ≤ length memory.old }
+    requires b { at.b + from + 1 ≤ length memory.old }
+    requires read { at.read + from + 1 ≤ length flags.now }
+    requires cond { at.cond + from + 1 ≤ length flags.now }
+    ensures memory { IsComputed table always sense at at.a from (from + 1) memory.old flags.now memory.old memory.new }
+{
+    let a = memory[at.a + from];
+    let b = memory[at.b + from];
+    let f = flags[at.read + from];
+    let choice = choice_of(always, sense, flags[at.cond + from]);
+    memory[at.a + from] = kept(table, choice, a, b, f, a);
+}
