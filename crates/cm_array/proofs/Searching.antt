@@ -8,8 +8,8 @@ use Rattle.cm_model.specs.declared.message.Tag.{Tag}
 use Rattle.cm_model.specs.declared.found.Found.TheVariants as found
 use Rattle.cm_model.specs.declared.message.Message.{Message}
 use Rattle.cm_model.specs.declared.message.Event.{Event}
-use Rattle.cm_model.specs.Cycle.{log_at}
-use Rattle.cm_model.specs.Machine.{Machine, buffer_at}
+use Rattle.cm_model.specs.Array.{list_at}
+use Rattle.cm_model.specs.Machine.{Machine}
 use Rattle.cm_model.specs.Found.{same_tag, router_of, delivery_place, delivery_places, found_from, found_in}
 use Rattle.cm_router.specs.Buffer.{Buffer, buffers_of}
 use Rattle.cm_petit.specs.Routers.{Log, events_of}
@@ -45,22 +45,22 @@ first_next {Y} f c count l e =
 -- ---- what stands at a chip, and what its log tells
 
 -- the messages of a node that was read
-pub buffer_at-read : (nodes : List Buffer) (c : ℕ) (node : Buffer) → c < length nodes → node ≡ get_or nodes c node → buffer_at (buffers_of nodes) c ≡ node.messages
-buffer_at-read nodes c node l e = get_or-map (λ (n : Buffer). n.messages) nodes c node [] l ∙ ap (λ (n : Buffer). n.messages) (sym e)
+pub list_at-buffers_of : (nodes : List Buffer) (c : ℕ) (node : Buffer) → c < length nodes → node ≡ get_or nodes c node → list_at (buffers_of nodes) c ≡ node.messages
+list_at-buffers_of nodes c node l e = get_or-map (λ (n : Buffer). n.messages) nodes c node [] l ∙ ap (λ (n : Buffer). n.messages) (sym e)
 
 -- the events of a log that was read
-pub log_at-read : (logs : List Log) (c : ℕ) (log : Log) → c < length logs → log ≡ get_or logs c log → log_at (events_of logs) c ≡ log.items
-log_at-read logs c log l e = get_or-map (λ (v : Log). v.items) logs c log [] l ∙ ap (λ (v : Log). v.items) (sym e)
+pub list_at-events_of : (logs : List Log) (c : ℕ) (log : Log) → c < length logs → log ≡ get_or logs c log → list_at (events_of logs) c ≡ log.items
+list_at-events_of logs c log l e = get_or-map (λ (v : Log). v.items) logs c log [] l ∙ ap (λ (v : Log). v.items) (sym e)
 
 -- ---- where the message of a tag is
 
 -- the test whether a message of the tag stands at a chip
 abbrev stands : Tag → List Buffer → ℕ → Bool
-stands tag nodes c = list_any (λ m. same_tag m.tag tag) (buffer_at (buffers_of nodes) c)
+stands tag nodes c = list_any (λ m. same_tag m.tag tag) (list_at (buffers_of nodes) c)
 
 -- the places to which messages of the tag were delivered, of a chip
 abbrev places : Tag → List Log → ℕ → List Place
-places tag logs c = filter_map (delivery_place tag) (log_at (events_of logs) c)
+places tag logs c = filter_map (delivery_place tag) (list_at (events_of logs) c)
 
 -- these nodes and logs are those of a machine
 pub record AreOf (n : ℕ) (machine : Machine) (nodes : List Buffer) (logs : List Log) : Type 0 where
@@ -74,14 +74,14 @@ router_of-nodes : (n : ℕ) (machine : Machine) (tag : Tag) (nodes : List Buffer
     → find (stands tag nodes) (range_with_len 0 (length nodes)) ≡ router_of n machine tag
 router_of-nodes n machine tag nodes logs h =
     ap (λ (count : ℕ). find (stands tag nodes) (range_with_len 0 count)) h.node_count
-    ∙ ap (λ (buffers : List (List Message)). find (λ c. list_any (λ m. same_tag m.tag tag) (buffer_at buffers c)) (range_with_len 0 (2 ^ n))) h.buffers
+    ∙ ap (λ (buffers : List (List Message)). find (λ c. list_any (λ m. same_tag m.tag tag) (list_at buffers c)) (range_with_len 0 (2 ^ n))) h.buffers
 
 -- what the logs tell was delivered is what the machine's logs tell
 delivery_places-logs : (n : ℕ) (machine : Machine) (tag : Tag) (nodes : List Buffer) (logs : List Log) → AreOf n machine nodes logs
     → flat_map (places tag logs) (range_with_len 0 (length logs)) ≡ delivery_places n machine tag
 delivery_places-logs n machine tag nodes logs h =
     ap (λ (count : ℕ). flat_map (places tag logs) (range_with_len 0 count)) h.log_count
-    ∙ ap (λ (events : List (List Event)). flat_map (λ c. filter_map (delivery_place tag) (log_at events c)) (range_with_len 0 (2 ^ n))) h.events
+    ∙ ap (λ (events : List (List Event)). flat_map (λ c. filter_map (delivery_place tag) (list_at events c)) (range_with_len 0 (2 ^ n))) h.events
 
 -- delivered to the first of the places
 found_at_first : (ps : List Place) (p : Place) → Some p ≡ slice_get ps 0 → found_from None ps ≡ found.Delivered p.chip p.proc

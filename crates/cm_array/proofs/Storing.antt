@@ -7,11 +7,10 @@ use Rattle.cm_model.specs.declared.act.Nano.{Nano}
 use Rattle.cm_model.specs.Place.{source, predecessor}
 use Rattle.cm_model.specs.Processor.{Processor}
 use Rattle.cm_model.specs.Instruction.{flag_output}
-use Rattle.cm_model.specs.Chip.{IsPlane, processor_at, chip_after}
+use Rattle.cm_model.specs.Chip.{IsPlane, plane_bit, processor_at, chip_after}
 use Rattle.cm_model.specs.Array.{Chips, chip_at, incoming, after_nano}
 use Rattle.cm_model.proofs.Each.{is_each}
 use Rattle.cm_model.proofs.Incoming.{AreFlagOutputs, over_news, same_chip}
-use Rattle.cm_daisy.specs.Chain.{chain_bit}
 use Rattle.cm_news.specs.Moves.{bit_of_place}
 use Rattle.cm_array.specs.Rows.{AreAllSent}
 
@@ -56,7 +55,7 @@ over_grid n nano chips sent c plane long are inside news is =
 
 -- along the chain: the bit of the predecessor, from the chip's own plane
 own_chain : (n : ℕ) (nano : Nano) (chips : Chips) (c p sent : ℕ) → (nano.write == 10) ≡ false → p < 16 → IsPlane sent (λ q. flag_output nano (processor_at (chip_at chips c) q))
-    → chain_bit sent (predecessor p) ≡ incoming n nano chips c p
+    → plane_bit sent (predecessor p) ≡ incoming n nano chips c p
 unfolding incoming
 own_chain n nano chips c p sent other h is =
     rw other (⊎_elim
@@ -66,7 +65,7 @@ own_chain n nano chips c p sent other h is =
 
 -- where nothing comes in over NEWS, a chip needs no other
 pub stepped_alone : (n : ℕ) (nano : Nano) (chips : Chips) (c plane sent : ℕ) → nano.write ≢ 10
-    → IsPlane sent (λ p. flag_output nano (processor_at (chip_at chips c) p)) → IsPlane plane (λ p. chain_bit sent (predecessor p))
+    → IsPlane sent (λ p. flag_output nano (processor_at (chip_at chips c) p)) → IsPlane plane (λ p. plane_bit sent (predecessor p))
     → chip_after nano (bit plane) (chip_at chips c) ≡ chip_after nano (incoming n nano chips c) (chip_at chips c)
 stepped_alone n nano chips c plane sent alone is next =
     let test : (nano.write == 10) ≡ false = ne_eqb nano.write 10 alone in

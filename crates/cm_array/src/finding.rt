@@ -2,8 +2,7 @@
 
 ghost use Rattle.std.specs.Prelude.{◌≡◌, ◌≤◌, length, slice_get};
 ghost use Rattle.std.specs.List.{find, filter_map, flat_map, list_any, range_with_len};
-ghost use Rattle.cm_model.specs.Cycle.{log_at};
-ghost use Rattle.cm_model.specs.Machine.{buffer_at};
+ghost use Rattle.cm_model.specs.Array.{list_at};
 ghost use Rattle.cm_model.specs.Found.{same_tag, delivery_place};
 ghost use Rattle.cm_router.specs.Buffer.{buffers_of};
 ghost use Rattle.cm_petit.specs.Routers.{events_of};
@@ -16,7 +15,7 @@ use cm_router::Node;
 pub(crate) fn router_of(nodes: &[Node], tag: &Tag) -> Option<u16>
     requires few { length nodes.now ≤ 4096 }
     ensures value { result ≡ find
-        (λ c. list_any (λ m. same_tag m.tag tag.now) (buffer_at (buffers_of nodes.now) c))
+        (λ c. list_any (λ m. same_tag m.tag tag.now) (list_at (buffers_of nodes.now) c))
         (range_with_len 0 (length nodes.now)) }
 {
     for c in 0..nodes.len() {
@@ -38,7 +37,7 @@ fn has_tag(node: &Node, tag: &Tag) -> bool
 /// The first place to which a message of the tag was delivered.
 pub(crate) fn delivered_to(logs: &[Vec<Event>], tag: &Tag) -> Option<Place>
     ensures value { result ≡ slice_get
-        (flat_map (λ c. filter_map (delivery_place tag.now) (log_at (events_of logs.now) c))
+        (flat_map (λ c. filter_map (delivery_place tag.now) (list_at (events_of logs.now) c))
         (range_with_len 0 (length logs.now))) 0 }
 {
     for c in 0..logs.len() {

@@ -2,15 +2,14 @@
 
 ghost use Rattle.std.specs.Prelude.{◌≡◌, ◌+◌, ◌*◌, ◌^◌, ◌<◌, ◌≤◌, ◌↔◌, IfOk, IfSome, IsErr, IsErrOf, IsOk, IsOkUnless, OnOk, OnErr, None};
 ghost use Rattle.cm_model.specs.Processor.{ZERO};
-ghost use Rattle.cm_model.specs.Array.{chip_at, wire};
-ghost use Rattle.cm_model.specs.Cycle.{log_at};
-ghost use Rattle.cm_model.specs.Machine.{buffer_at, blank_machine, run_of};
+ghost use Rattle.cm_model.specs.Array.{chip_at, wire, list_at};
+ghost use Rattle.cm_model.specs.Machine.{blank_machine, run_of};
 ghost use Rattle.cm_model.specs.Found.{found_in, IsWhereabouts};
 ghost use Rattle.cm_model.specs.Keeping.{IsMachine};
 ghost use Rattle.cm_array.specs.Acts.{cycles_in};
 ghost use Rattle.cm_array.specs.Faults.{size_fault};
 ghost use Rattle.cm_array.specs.Parts.{AreSizes, LacksLogRoom};
-ghost use Rattle.cm_array.specs.Pokes.{with_memory_bit, with_flag};
+ghost use Rattle.cm_array.specs.Pokes.{machine_with_memory_bit, machine_with_flag};
 
 use crate::finding::{delivered_to, router_of};
 use crate::parts::{
@@ -154,7 +153,7 @@ impl<const N: usize, const CAP: usize> Machine<N, CAP> {
     /// The messages that stand in a chip's router, in order of arrival.
     pub fn buffer(&self, chip: u16) -> &[Message]
         requires chip { chip < 2 ^ N }
-        ensures value { result.now ≡ buffer_at self.now.machine.buffers chip }
+        ensures value { result.now ≡ list_at self.now.machine.buffers chip }
         ensures whole { IsMachine N CAP self.now.machine }
     {
         self.parts.nodes[usize::from(chip)].messages()
@@ -163,7 +162,7 @@ impl<const N: usize, const CAP: usize> Machine<N, CAP> {
     /// A chip's events since the machine was made, the oldest first; a copy has those of its original.
     pub fn log(&self, chip: u16) -> &[Event]
         requires chip { chip < 2 ^ N }
-        ensures value { result.now ≡ log_at self.now.machine.logs chip }
+        ensures value { result.now ≡ list_at self.now.machine.logs chip }
         ensures whole { IsMachine N CAP self.now.machine }
     {
         &self.parts.logs[usize::from(chip)]
@@ -206,7 +205,7 @@ impl<const N: usize, const CAP: usize> Machine<N, CAP> {
     pub fn poke(&mut self, chip: u16, proc: Proc, at: Addr, bit: bool)
         requires chip { chip < 2 ^ N }
         ensures value { self.new
-            ≡ record self.old { machine = with_memory_bit self.old.machine chip proc at bit } }
+            ≡ record self.old { machine = machine_with_memory_bit self.old.machine chip proc at bit } }
     {
         let poked = &mut self.parts.chips[usize::from(chip)];
         poked.poke(proc, at, bit);
@@ -223,7 +222,7 @@ impl<const N: usize, const CAP: usize> Machine<N, CAP> {
         requires chip { chip < 2 ^ N }
         ensures zero_flag { IsErr result ↔ (number ≡ ZERO) }
         ensures ok { OnOk result (self.new
-            ≡ record self.old { machine = with_flag self.old.machine chip proc number bit }) }
+            ≡ record self.old { machine = machine_with_flag self.old.machine chip proc number bit }) }
         ensures err { OnErr result (self.new ≡ self.old) }
     {
         let chip = &mut self.parts.chips[usize::from(chip)];

@@ -11,7 +11,7 @@ ghost use Rattle.cm_array.specs.Acts.{cycles_in};
 ghost use Rattle.cm_array.specs.Parts.{machine_of, under_way, log_rooms_of, AreParts, AreUnderWay, LacksLogRoom};
 
 use crate::stepping::{compute, step_alone, store_all};
-use cm_bits::{NoMemory, Plane};
+use cm_bits::{FlagNo, NoMemory, Plane};
 use cm_crossing::Crossing;
 use cm_element::{Chip, Outputs};
 use cm_message::Event;
@@ -19,8 +19,6 @@ use cm_model::{Act, Nano};
 use cm_petit::cycle;
 use cm_router::Node;
 use std::alloc::Global;
-
-const NEWS_FLAG: u8 = 10;
 
 /// What a machine keeps, and the working room of instructions and petit cycles, so that these take no
 /// memory.
@@ -129,7 +127,7 @@ fn instruct<const N: usize>(parts: &mut Parts, nano: &Nano)
     ensures sent_count { length parts.new.sent.items ≡ 2 ^ N }
     ensures crossing { parts.new.crossing ≡ parts.old.crossing }
 {
-    if nano.write.get() == NEWS_FLAG {
+    if nano.write == FlagNo::NEWS {
         compute(&parts.chips, nano, &mut parts.outputs, &mut parts.sent);
         store_all::<N>(&mut parts.chips, nano, &parts.outputs, &parts.sent);
     } else {

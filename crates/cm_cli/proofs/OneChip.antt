@@ -9,12 +9,11 @@ use Rattle.cm_model.specs.Each.{each_from}
 use Rattle.cm_model.specs.Place.{source, predecessor}
 use Rattle.cm_model.specs.Processor.{Processor}
 use Rattle.cm_model.specs.Instruction.{flag_output}
-use Rattle.cm_model.specs.Chip.{IsPlane, blank_chip, chip_after, processor_at}
+use Rattle.cm_model.specs.Chip.{IsPlane, plane_bit, blank_chip, chip_after, processor_at}
 use Rattle.cm_model.specs.Array.{incoming, after_nano}
 use Rattle.cm_model.specs.Machine.{Machine, blank_machine, run_of, opened, closed}
 use Rattle.cm_model.proofs.Incoming.{AreFlagOutputs, over_news, along_chain, same_chip}
 use Rattle.cm_model.proofs.Runs.{run_of_more}
-use Rattle.cm_daisy.specs.Chain.{chain_bit}
 use Rattle.cm_news.specs.Moves.{bit_of_place}
 use Rattle.cm_cli.specs.Session.{chip_left}
 
@@ -33,7 +32,7 @@ one_plane nano chip sent is = record { each = λ c p below h. first c p below h 
 -- the plane that comes in has the bits that the instruction step names
 pub comes_in : (nano : Instruction) (chip : List Processor) (sent plane : ℕ) → IsPlane sent (λ p. flag_output nano (processor_at chip p))
     → ((nano.write == 10) ≡ true → IsPlane plane (λ p. bit_of_place (sent ∷ []) (source 0 nano.dir (record { chip = 0; proc = p }))))
-    → ((nano.write == 11) ≡ true → IsPlane plane (λ p. chain_bit sent (predecessor p)))
+    → ((nano.write == 11) ≡ true → IsPlane plane (λ p. plane_bit sent (predecessor p)))
     → chip_after nano (bit plane) chip ≡ chip_after nano (incoming 0 nano (chip ∷ []) 0) chip
 comes_in nano chip sent plane is news daisy =
     let are : AreFlagOutputs 0 nano (chip ∷ []) (sent ∷ []) = one_plane nano chip sent is in
@@ -42,7 +41,7 @@ comes_in nano chip sent plane is news daisy =
     (λ (e : (nano.write == 10) ≡ true). news e p h ∙ over_news 0 nano (chip ∷ []) (sent ∷ []) 0 p are (lit< tt) h e)
     (λ (e : (nano.write == 10) ≡ false).
     let other : (nano.write == 11) ≡ true = rw e at takes in
-    daisy other p h ∙ along_chain 0 nano (chip ∷ []) (sent ∷ []) 0 p (chain_bit sent) are (lit< tt) h e refl (λ q. refl))
+    daisy other p h ∙ along_chain 0 nano (chip ∷ []) (sent ∷ []) 0 p (plane_bit sent) are (lit< tt) h e refl (λ q. refl))
     (cases_Bool (nano.write == 10)))
 
 -- the chips of the machine after the first so many instructions

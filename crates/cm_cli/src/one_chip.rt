@@ -2,24 +2,19 @@
 
 ghost use Rattle.std.specs.Prelude.{◌≡◌, [], ◌∷◌, IfOk, ◌==◌, true};
 ghost use Rattle.cm_bits.specs.Bit.{bit};
-ghost use Rattle.cm_model.specs.Chip.{IsPlane, chip_after};
+ghost use Rattle.cm_model.specs.Chip.{IsPlane, plane_bit, chip_after};
 ghost use Rattle.cm_model.specs.Place.{source, predecessor};
 ghost use Rattle.cm_model.specs.Processor.{NEWS, DAISY};
 ghost use Rattle.cm_model.specs.Array.{incoming};
-ghost use Rattle.cm_daisy.specs.Chain.{chain_bit};
 ghost use Rattle.cm_news.specs.Moves.{bit_of_place};
 ghost use Rattle.cm_cli.specs.Session.{chip_left};
 
-use cm_bits::{NoMemory, Plane};
+use cm_bits::{FlagNo, NoMemory, Plane};
 use cm_daisy::previous;
 use cm_element::Chip;
 use cm_model::Nano;
 use cm_news::Grid;
 use std::alloc::Global;
-
-const NEWS_FLAG: u8 = 10;
-
-const DAISY_FLAG: u8 = 11;
 
 /// A blank chip after a list of instructions.
 pub fn run_chip(alloc: Global, nanos: &[Nano]) -> Result<Chip, NoMemory>
@@ -45,11 +40,11 @@ fn step(chip: &mut Chip, nano: &Nano)
 fn incoming_plane(nano: &Nano, sent: Plane) -> Plane
     ensures news { (nano.now.write == NEWS) ≡ true →
         IsPlane result (λ p. bit_of_place (sent ∷ []) (source 0 nano.now.dir (record { chip = 0; proc = p }))) }
-    ensures daisy { (nano.now.write == DAISY) ≡ true → IsPlane result (λ p. chain_bit sent (predecessor p)) }
+    ensures daisy { (nano.now.write == DAISY) ≡ true → IsPlane result (λ p. plane_bit sent (predecessor p)) }
 {
-    match nano.write.get() {
-        NEWS_FLAG => Grid::<0>::incoming(&[sent], nano.dir, 0),
-        DAISY_FLAG => previous(sent),
+    match nano.write {
+        FlagNo::NEWS => Grid::<0>::incoming(&[sent], nano.dir, 0),
+        FlagNo::DAISY => previous(sent),
         _ => 0,
     }
 }

@@ -12,7 +12,8 @@ use Rattle.cm_crossing.specs.declared.queue.Ticket.{Ticket}
 use Rattle.cm_crossing.specs.Standing.{message_of, standing, AreKept, delivered_of, kept_of}
 
 -- how far it has come: the messages are those kept of the ones gone through, and then the rest
-pub record Giving (before : List Processor) (old : List Message) (told : List Event) (here : ℕ) (chip : List Processor) (now : List Message) (place : ℕ) (events : List Event) : Type 0 where
+pub record Giving (before : List Processor) (old : List Message) (told : List Event) (here : ℕ)
+    (chip : List Processor) (now : List Message) (place : ℕ) (events : List Event) : Type 0 where
   pub seen : List Message
   pub rest : List Message
   pub gone : HasGone before seen chip
@@ -21,7 +22,8 @@ pub record Giving (before : List Processor) (old : List Message) (told : List Ev
   pub at : length (kept_of seen before) ≡ place
   pub log_is : events ≡ told ++ map (λ m. Delivered m here) (delivered_of seen before)
 
-pub giving_begins : (chip : List Processor) (ms : List Message) (told : List Event) (here : ℕ) → HasGone chip [] chip → Giving chip ms told here chip ms 0 told
+pub giving_begins : (chip : List Processor) (ms : List Message) (told : List Event) (here : ℕ) → HasGone chip [] chip
+    → Giving chip ms told here chip ms 0 told
 giving_begins chip ms told here gone = record {
   seen = [];
   rest = ms;
@@ -41,71 +43,94 @@ next_removed : {X : Type 0} (xs : List X) (x : X) (ys : List X) → remove (xs +
 next_removed [] x ys = refl
 next_removed (z ∷ xs) x ys = ap (λ w. z ∷ w) (next_removed xs x ys)
 
-gives_at : (before : List Processor) (old : List Message) (told : List Event) (here : ℕ) (after : List Processor) (now : List Message) (place : ℕ) (events : List Event)
-    (m : Message) (seen rest : List Message) → HasHandedOver true before seen m after → seen ++ rest ≡ old → now ≡ kept_of seen before ++ rest → length (kept_of seen before) ≡ place
-    → events ≡ told ++ map (λ d. Delivered d here) (delivered_of seen before) → place < length now → get_or now place m ≡ m
+gives_at : (before : List Processor) (old : List Message) (told : List Event) (here : ℕ) (after : List Processor)
+    (now : List Message) (place : ℕ) (events : List Event)
+    (m : Message) (seen rest : List Message) → HasHandedOver true before seen m after → seen ++ rest ≡ old
+    → now ≡ kept_of seen before ++ rest → length (kept_of seen before) ≡ place
+    → events ≡ told ++ map (λ d. Delivered d here) (delivered_of seen before) → place < length now
+    → get_or now place m ≡ m
     → Giving before old told here after (remove now place) place (events ++ Delivered m here ∷ [])
 gives_at before old told here after now place events m seen [] step all stay at log_is inside is =
     absurd (omega (arith, ap length stay, length-append (kept_of seen before) []))
 gives_at before old told here after now place events m seen (x ∷ rest) step all stay at log_is inside is =
     let m_is : x ≡ m = sym (next_is (kept_of seen before) x m rest) ∙ rw (at, ← stay) is in
-    let same : kept_of (seen ++ m ∷ []) before ≡ kept_of seen before = step.kept_is ∙ append-nil (kept_of seen before) in
+    let same : kept_of (seen ++ m ∷ []) before ≡ kept_of seen before =
+    step.kept_is ∙ append-nil (kept_of seen before) in
     record {
       seen = seen ++ m ∷ [];
       rest = rest;
       gone = step.gone;
       all = append_assoc seen (m ∷ []) rest ∙ ap (λ (z : Message). seen ++ z ∷ rest) (sym m_is) ∙ all;
-      stay = ap (λ (ms : List Message). remove ms place) stay ∙ rw (← at) (next_removed (kept_of seen before) x rest) ∙ ap (λ (ms : List Message). ms ++ rest) (sym same);
+      stay = ap (λ (ms : List Message). remove ms place) stay ∙ rw (← at) (next_removed (kept_of seen before) x rest)
+          ∙ ap (λ (ms : List Message). ms ++ rest) (sym same);
       at = ap length same ∙ at;
-      log_is = rw (log_is, step.delivered_is, map-append (λ d. Delivered d here) (delivered_of seen before) (m ∷ [])) (append_assoc told (map (λ d. Delivered d here) (delivered_of seen before)) (Delivered m here ∷ []));
+      log_is = rw (log_is, step.delivered_is, map-append (λ d. Delivered d here) (delivered_of seen before) (m ∷ []))
+          (append_assoc told (map (λ d. Delivered d here) (delivered_of seen before)) (Delivered m here ∷ []));
     }
 
 -- what a step does, whatever was gone through before
 abbrev pub HandsOver : Bool → List Processor → Message → List Processor → List Processor → Type 0
-HandsOver was_delivered before m chip after = (seen : List Message) → HasGone before seen chip → HasHandedOver was_delivered before seen m after
+HandsOver was_delivered before m chip after = (seen : List Message) → HasGone before seen chip
+    → HasHandedOver was_delivered before seen m after
 
 -- the message at the place is delivered, and taken out
-pub gives : (before : List Processor) (old : List Message) (told : List Event) (here : ℕ) (chip after : List Processor) (now : List Message) (place : ℕ) (events : List Event)
-    (m : Message) → Giving before old told here chip now place events → place < length now → get_or now place m ≡ m → HandsOver true before m chip after
+pub gives : (before : List Processor) (old : List Message) (told : List Event) (here : ℕ)
+    (chip after : List Processor) (now : List Message) (place : ℕ) (events : List Event)
+    (m : Message) → Giving before old told here chip now place events → place < length now → get_or now place m ≡ m
+    → HandsOver true before m chip after
     → Giving before old told here after (remove now place) place (events ++ Delivered m here ∷ [])
 gives before old told here chip after now place events m was inside is step =
-    gives_at before old told here after now place events m was.seen was.rest (step was.seen was.gone) was.all was.stay was.at was.log_is inside is
+    gives_at before old told here after now place events m was.seen was.rest (step was.seen was.gone) was.all was.stay
+    was.at was.log_is inside is
 
-passes_at : (before : List Processor) (old : List Message) (told : List Event) (here : ℕ) (after : List Processor) (now : List Message) (place : ℕ) (events : List Event)
-    (m : Message) (seen rest : List Message) → HasHandedOver false before seen m after → seen ++ rest ≡ old → now ≡ kept_of seen before ++ rest → length (kept_of seen before) ≡ place
-    → events ≡ told ++ map (λ d. Delivered d here) (delivered_of seen before) → place < length now → get_or now place m ≡ m
+passes_at : (before : List Processor) (old : List Message) (told : List Event) (here : ℕ) (after : List Processor)
+    (now : List Message) (place : ℕ) (events : List Event)
+    (m : Message) (seen rest : List Message) → HasHandedOver false before seen m after → seen ++ rest ≡ old
+    → now ≡ kept_of seen before ++ rest → length (kept_of seen before) ≡ place
+    → events ≡ told ++ map (λ d. Delivered d here) (delivered_of seen before) → place < length now
+    → get_or now place m ≡ m
     → Giving before old told here after now (place + 1) events
 passes_at before old told here after now place events m seen [] step all stay at log_is inside is =
     absurd (omega (arith, ap length stay, length-append (kept_of seen before) []))
 passes_at before old told here after now place events m seen (x ∷ rest) step all stay at log_is inside is =
     let m_is : x ≡ m = sym (next_is (kept_of seen before) x m rest) ∙ rw (at, ← stay) is in
-    let same : delivered_of (seen ++ m ∷ []) before ≡ delivered_of seen before = step.delivered_is ∙ append-nil (delivered_of seen before) in
+    let same : delivered_of (seen ++ m ∷ []) before ≡ delivered_of seen before = step.delivered_is
+    ∙ append-nil (delivered_of seen before) in
     record {
       seen = seen ++ m ∷ [];
       rest = rest;
       gone = step.gone;
       all = append_assoc seen (m ∷ []) rest ∙ ap (λ (z : Message). seen ++ z ∷ rest) (sym m_is) ∙ all;
-      stay = stay ∙ ap (λ (z : Message). kept_of seen before ++ z ∷ rest) m_is ∙ sym (append_assoc (kept_of seen before) (m ∷ []) rest) ∙ ap (λ (ms : List Message). ms ++ rest) (sym step.kept_is);
+      stay = stay ∙ ap (λ (z : Message). kept_of seen before ++ z ∷ rest) m_is
+          ∙ sym (append_assoc (kept_of seen before) (m ∷ []) rest)
+          ∙ ap (λ (ms : List Message). ms ++ rest) (sym step.kept_is);
       at = ap length step.kept_is ∙ omega (arith, length-append (kept_of seen before) (m ∷ []), at);
       log_is = log_is ∙ ap (λ (ds : List Message). told ++ map (λ d. Delivered d here) ds) (sym same);
     }
 
 -- the message at the place is kept, and what follows is looked at
-pub passes : (before : List Processor) (old : List Message) (told : List Event) (here : ℕ) (chip after : List Processor) (now : List Message) (place : ℕ) (events : List Event)
-    (m : Message) → Giving before old told here chip now place events → place < length now → get_or now place m ≡ m → HandsOver false before m chip after
+pub passes : (before : List Processor) (old : List Message) (told : List Event) (here : ℕ)
+    (chip after : List Processor) (now : List Message) (place : ℕ) (events : List Event)
+    (m : Message) → Giving before old told here chip now place events → place < length now → get_or now place m ≡ m
+    → HandsOver false before m chip after
     → Giving before old told here after now (place + 1) events
 passes before old told here chip after now place events m was inside is step =
-    passes_at before old told here after now place events m was.seen was.rest (step was.seen was.gone) was.all was.stay was.at was.log_is inside is
+    passes_at before old told here after now place events m was.seen was.rest (step was.seen was.gone) was.all
+    was.stay was.at was.log_is inside is
 
 -- at the end: all were gone through
-pub record IsGiven (before : List Processor) (old : List Message) (told : List Event) (here : ℕ) (chip : List Processor) (now : List Message) (events : List Event) : Type 0 where
+pub record IsGiven (before : List Processor) (old : List Message) (told : List Event) (here : ℕ)
+    (chip : List Processor) (now : List Message) (events : List Event) : Type 0 where
   pub value : now ≡ kept_of old before
   pub chip_is : chip ≡ chip_after_delivery (delivered_of old before) before
   pub log_is : events ≡ told ++ map (λ m. Delivered m here) (delivered_of old before)
 
-given_at : (before : List Processor) (old : List Message) (told : List Event) (here : ℕ) (chip : List Processor) (now : List Message) (place : ℕ) (events : List Event) (seen rest : List Message)
-    → HasGone before seen chip → seen ++ rest ≡ old → now ≡ kept_of seen before ++ rest → length (kept_of seen before) ≡ place
-    → events ≡ told ++ map (λ d. Delivered d here) (delivered_of seen before) → length now ≤ place → IsGiven before old told here chip now events
+given_at : (before : List Processor) (old : List Message) (told : List Event) (here : ℕ) (chip : List Processor)
+    (now : List Message) (place : ℕ) (events : List Event) (seen rest : List Message)
+    → HasGone before seen chip → seen ++ rest ≡ old → now ≡ kept_of seen before ++ rest
+    → length (kept_of seen before) ≡ place
+    → events ≡ told ++ map (λ d. Delivered d here) (delivered_of seen before) → length now ≤ place
+    → IsGiven before old told here chip now events
 given_at before old told here chip now place events seen [] gone all stay at log_is past =
     let same : seen ≡ old = sym (append-nil seen) ∙ all in
     record {
@@ -113,15 +138,21 @@ given_at before old told here chip now place events seen [] gone all stay at log
       chip_is = gone.chip_is ∙ ap (λ (ms : List Message). chip_after_delivery (delivered_of ms before) before) same;
       log_is = log_is ∙ ap (λ (ms : List Message). told ++ map (λ d. Delivered d here) (delivered_of ms before)) same;
     }
-given_at before old told here chip now place events seen (x ∷ rest) gone all stay at log_is past = absurd (omega (arith, at, ap length stay, length-append (kept_of seen before) (x ∷ rest)))
+given_at before old told here chip now place events seen (x ∷ rest) gone all stay at log_is past =
+    absurd (omega (arith, at, ap length stay, length-append (kept_of seen before) (x ∷ rest)))
 
-pub given_all : (before : List Processor) (old : List Message) (told : List Event) (here : ℕ) (chip : List Processor) (now : List Message) (place : ℕ) (events : List Event)
-    → Giving before old told here chip now place events → length now ≤ place → IsGiven before old told here chip now events
-given_all before old told here chip now place events was past = given_at before old told here chip now place events was.seen was.rest was.gone was.all was.stay was.at was.log_is past
+pub given_all : (before : List Processor) (old : List Message) (told : List Event) (here : ℕ) (chip : List Processor)
+    (now : List Message) (place : ℕ) (events : List Event)
+    → Giving before old told here chip now place events → length now ≤ place
+    → IsGiven before old told here chip now events
+given_all before old told here chip now place events was past =
+    given_at before old told here chip now place events was.seen was.rest was.gone was.all was.stay was.at was.log_is
+    past
 
 -- ---- tickets
 
-pub remove-standing : (row : List Message) (ts : List Ticket) (i : ℕ) → standing row (remove ts i) ≡ remove (standing row ts) i
+pub remove-standing : (row : List Message) (ts : List Ticket) (i : ℕ)
+    → standing row (remove ts i) ≡ remove (standing row ts) i
 remove-standing row ts i =
     let f : Ticket → Message = message_of row in
     map-append f (take i ts) (drop (suc i) ts)
@@ -134,5 +165,7 @@ remove_kept count ts i h =
     All-append P (take i ts) (drop (suc i) ts) (All-take P i ts h) (All-drop P (suc i) ts h)
 
 -- the message of the ticket that was read
-pub read_standing : (row : List Message) (ts : List Ticket) (i : ℕ) (t : Ticket) → i < length ts → t ≡ get_or ts i t → get_or (standing row ts) i (message_of row t) ≡ message_of row t
-read_standing row ts i t inside read = get_or-map (message_of row) ts i t (message_of row t) inside ∙ ap (message_of row) (sym read)
+pub read_standing : (row : List Message) (ts : List Ticket) (i : ℕ) (t : Ticket) → i < length ts → t ≡ get_or ts i t
+    → get_or (standing row ts) i (message_of row t) ≡ message_of row t
+read_standing row ts i t inside read = get_or-map (message_of row) ts i t (message_of row t) inside
+    ∙ ap (message_of row) (sym read)

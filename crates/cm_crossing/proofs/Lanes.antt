@@ -29,34 +29,55 @@ keeps_bit : (d x : ℕ) → keeps (2 ^ d) x ≡ bit x d
 keeps_bit d x = ap (λ y. eqb y (2 ^ d)) (and_pow x d) ∙ bit_is (bit_at x d) (2 ^ d) (bit_at-lt x d) (pow_pos d)
 
 -- the lowest bit that is set is the first lane that passes; where none passes it is past the row
-counted : (p : ℕ → Bool) (width : ℕ) (row : List ℕ) (place : ℕ) → length row ≡ width → width ≤ 64 → place ≡ count_trailing_zeros 64 (mask_l (map p row)) → (place ≡ prefix_len (λ x. not (p x)) row) ⊎ ((prefix_len (λ x. not (p x)) row ≡ width) × (width ≤ place))
+counted : (p : ℕ → Bool) (width : ℕ) (row : List ℕ) (place : ℕ) → length row ≡ width → width ≤ 64
+    → place ≡ count_trailing_zeros 64 (mask_l (map p row))
+    → (place ≡ prefix_len (λ x. not (p x)) row) ⊎ ((prefix_len (λ x. not (p x)) row ≡ width) × (width ≤ place))
 counted p width row place long few found =
     ⊎_elim
-    (λ (none : mask_l (map p row) ≡ 0). inr (leading_from_mask_l p row none ∙ long, omega (arith, found ∙ ap (count_trailing_zeros 64) none ∙ trailing_of_zero 64)))
+    (λ (none : mask_l (map p row) ≡ 0). inr (
+      leading_from_mask_l p row none
+          ∙ long,
+      omega (arith, found ∙ ap (count_trailing_zeros 64) none ∙ trailing_of_zero 64),
+    ))
     (λ (some : mask_l (map p row) ≢ 0). inl (found ∙ trailing_mask_l p 64 row (omega arith) (omega arith)))
     (cases_eq (mask_l (map p row)) 0)
 
-first_lane : (width d place : ℕ) (row : List ℕ) → length row ≡ width → width ≤ 64 → place ≡ count_trailing_zeros 64 (mask_l (map (keeps (2 ^ d)) row)) → IsFirstWith width d row place
+first_lane : (width d place : ℕ) (row : List ℕ) → length row ≡ width → width ≤ 64
+    → place ≡ count_trailing_zeros 64 (mask_l (map (keeps (2 ^ d)) row)) → IsFirstWith width d row place
 first_lane width d place row long few found =
     let p : ℕ → Bool = keeps (2 ^ d) in
     let n : ℕ = prefix_len (λ x. not (p x)) row in
     let fails : (i : ℕ) → i < n → bit (get_or row i 0) d ≡ false =
-    λ i h. sym (keeps_bit d (get_or row i 0)) ∙ not-true (p (get_or row i 0)) (prefix_len_passes (λ x. not (p x)) row i 0 h) in
+    λ i h. sym (keeps_bit d (get_or row i 0))
+    ∙ not-true (p (get_or row i 0)) (prefix_len_passes (λ x. not (p x)) row i 0 h) in
     let stops : n < width → bit (get_or row n 0) d ≡ true =
-    λ h. sym (keeps_bit d (get_or row n 0)) ∙ not-false (p (get_or row n 0)) (prefix_len_stops (λ x. not (p x)) row 0 (omega (arith, long))) in
+    λ h. sym (keeps_bit d (get_or row n 0))
+    ∙ not-false (p (get_or row n 0)) (prefix_len_stops (λ x. not (p x)) row 0 (omega (arith, long))) in
     ⊎_elim
     (λ (is : place ≡ n). rw is (record { none_before = λ i _ h. fails i h; there = stops }))
-    (λ (no : (n ≡ width) × (width ≤ place)). record { none_before = λ i h _. fails i (omega (arith, no.0)); there = λ h. absurd (omega (arith, no.1)) })
+    (λ (no : (n ≡ width) × (width ≤ place)). record {
+      none_before = λ i h _. fails i (omega (arith, no.0));
+      there =
+          λ h. absurd (omega (arith, no.1));
+    })
     (counted p width row place long few found)
 
 pub finds : (width d b place : ℕ) (row : List ℕ) → length row ≡ width → width ≤ 64 → b ≡ 2 ^ d
-    → place ≡ count_trailing_zeros 64 (mask_l (map (top 15) (zip2 (λ x y. cond (eqb x y) 65535 0) (zip2 bit_and row (replicate width b)) (replicate width b))) % 2 ^ 64) → IsFirstWith width d row place
+    → place ≡ count_trailing_zeros 64
+    (mask_l (map (top 15)
+    (zip2 (λ x y. cond (eqb x y) 65535 0) (zip2 bit_and row (replicate width b)) (replicate width b))) % 2 ^ 64)
+    → IsFirstWith width d row place
 finds width d b place row long few is found =
-    let lanes : zip2 bit_and row (replicate width b) ≡ map (λ x. bit_and x b) row = zip2_splat bit_and row width b long in
-    let hits : mask_l (map (top 15) (zip2 (λ x y. cond (eqb x y) 65535 0) (zip2 bit_and row (replicate width b)) (replicate width b))) % 2 ^ 64 ≡ mask_l (map (keeps b) row) =
-    bitmask_splat w16 eqb (zip2 bit_and row (replicate width b)) width b (omega (arith, ap length lanes, length-map row (λ x. bit_and x b), long)) (omega arith)
+    let lanes : zip2 bit_and row (replicate width b) ≡ map (λ x. bit_and x b) row =
+    zip2_splat bit_and row width b long in
+    let hits : mask_l (map (top 15)
+    (zip2 (λ x y. cond (eqb x y) 65535 0) (zip2 bit_and row (replicate width b)) (replicate width b))) % 2 ^ 64
+    ≡ mask_l (map (keeps b) row) =
+    bitmask_splat w16 eqb (zip2 bit_and row (replicate width b)) width b
+    (omega (arith, ap length lanes, length-map row (λ x. bit_and x b), long)) (omega arith)
     ∙ ap (λ l. mask_l (map (λ x. eqb x b) l)) lanes ∙ ap mask_l (map-map (λ x. eqb x b) (λ x. bit_and x b) row) in
-    first_lane width d place row long few (found ∙ ap (count_trailing_zeros 64) hits ∙ ap (λ c. count_trailing_zeros 64 (mask_l (map (keeps c) row))) is)
+    first_lane width d place row long few (found ∙ ap (count_trailing_zeros 64) hits
+    ∙ ap (λ c. count_trailing_zeros 64 (mask_l (map (keeps c) row))) is)
 
 get_or-half : (row : List ℕ) (i : ℕ) → i < 8 → get_or (chunk 0 8 row) i 0 ≡ get_or row i 0
 get_or-half row i h = let same : 0 + i ≡ i = omega arith in get_or-chunk 0 8 row i 0 h ∙ ap (λ k. get_or row k 0) same
@@ -72,9 +93,12 @@ first_of_half d place row first = record {
 
 -- the lanes of one row at the places before this one, and of another from there on
 abbrev pub joined : ℕ → List ℕ → List ℕ → ℕ → List ℕ
-joined width here next place = sel_l (map (top 15) (zip2 (λ a b. cond (ltb a b) 65535 0) (range_with_len 0 width) (replicate width place))) here next
+joined width here next place =
+    sel_l (map (top 15) (zip2 (λ a b. cond (ltb a b) 65535 0) (range_with_len 0 width) (replicate width place))) here
+    next
 
-get_or-joined : (width place : ℕ) (here next : List ℕ) (i : ℕ) → length here ≡ width → length next ≡ width → i < width → get_or (joined width here next place) i 0 ≡ cond (ltb i place) (get_or here i 0) (get_or next i 0)
+get_or-joined : (width place : ℕ) (here next : List ℕ) (i : ℕ) → length here ≡ width → length next ≡ width → i < width
+    → get_or (joined width here next place) i 0 ≡ cond (ltb i place) (get_or here i 0) (get_or next i 0)
 get_or-joined width place here next i here_long next_long h =
     let places : List ℕ = range_with_len 0 width in
     let earlier : List Bool = zip2 ltb places (replicate width place) in
@@ -85,20 +109,25 @@ get_or-joined width place here next i here_long next_long h =
     ap (λ l. get_or (sel_l l here next) i 0) (tops_compared w16 ltb places (replicate width place))
     ∙ get_or-sel_l earlier here next i 0 (omega arith) (omega arith) (omega arith)
     ∙ ap (λ t. cond t (get_or here i 0) (get_or next i 0))
-    (get_or-zip2 ltb places (replicate width place) i 0 0 false (omega arith) (omega arith) ∙ ap (λ k. ltb k (get_or (replicate width place) i 0)) at ∙ ap (ltb i) (get_or-replicate width i place 0 h))
+    (get_or-zip2 ltb places (replicate width place) i 0 0 false (omega arith) (omega arith)
+    ∙ ap (λ k. ltb k (get_or (replicate width place) i 0)) at ∙ ap (ltb i) (get_or-replicate width i place 0 h))
 
 -- the places one further on, and last the first
 abbrev shifted : List ℕ
 shifted = range_with_len 1 15 ++ 0 ∷ []
 
-picked : (row ks : List ℕ) (i : ℕ) → i < length ks → get_or (pick_l 0 (row ++ row) ks) i 0 ≡ get_or (row ++ row) (get_or ks i 0) 0
+picked : (row ks : List ℕ) (i : ℕ) → i < length ks
+    → get_or (pick_l 0 (row ++ row) ks) i 0 ≡ get_or (row ++ row) (get_or ks i 0) 0
 picked row ks i h = get_or-map (λ k. get_or (row ++ row) k 0) ks i 0 0 h
 
-get_or-shifted : (row : List ℕ) (i : ℕ) → length row ≡ 16 → i < 15 → get_or (pick_l 0 (row ++ row) shifted) i 0 ≡ get_or row (i + 1) 0
+get_or-shifted : (row : List ℕ) (i : ℕ) → length row ≡ 16 → i < 15
+    → get_or (pick_l 0 (row ++ row) shifted) i 0 ≡ get_or row (i + 1) 0
 get_or-shifted row i long h =
-    let at : get_or shifted i 0 ≡ 1 + i = get_or_append_left (range_with_len 1 15) (0 ∷ []) 0 i h ∙ get_or-range_with_len 1 15 i 0 h in
+    let at : get_or shifted i 0 ≡ 1 + i = get_or_append_left (range_with_len 1 15) (0 ∷ []) 0 i h
+    ∙ get_or-range_with_len 1 15 i 0 h in
     let next : 1 + i ≡ i + 1 = omega arith in
-    picked row shifted i (omega arith) ∙ ap (λ k. get_or (row ++ row) k 0) (at ∙ next) ∙ get_or_append_left row row 0 (i + 1) (omega (arith, long))
+    picked row shifted i (omega arith) ∙ ap (λ k. get_or (row ++ row) k 0) (at ∙ next)
+    ∙ get_or_append_left row row 0 (i + 1) (omega (arith, long))
 
 abbrev pub closed : ℕ → List ℕ → List ℕ
 closed place row = joined 16 row (pick_l 0 (row ++ row) shifted) place
@@ -106,31 +135,42 @@ closed place row = joined 16 row (pick_l 0 (row ++ row) shifted) place
 pub closes : (place : ℕ) (row : List ℕ) → length row ≡ 16 → IsClosed 16 place row (closed place row)
 closes place row long =
     let rest : List ℕ = pick_l 0 (row ++ row) shifted in
-    let each : (i : ℕ) → i < 16 → get_or (closed place row) i 0 ≡ cond (ltb i place) (get_or row i 0) (get_or rest i 0) =
+    let each : (i : ℕ) → i < 16
+    → get_or (closed place row) i 0 ≡ cond (ltb i place) (get_or row i 0) (get_or rest i 0) =
     λ i h. get_or-joined 16 place row rest i long refl h in
     record {
-      earlier = λ i h l. let yes : ltb i place ≡ true = lt-ltb i place l in each i (omega arith) ∙ ap (λ t. cond t (get_or row i 0) (get_or rest i 0)) yes;
-      later = λ i h l. let no : ltb i place ≡ false = le-ltb i place l in each i (omega arith) ∙ ap (λ t. cond t (get_or row i 0) (get_or rest i 0)) no ∙ get_or-shifted row i long (omega arith);
+      earlier = λ i h l. let yes : ltb i place ≡ true = lt-ltb i place l in each i (omega arith)
+          ∙ ap (λ t. cond t (get_or row i 0) (get_or rest i 0)) yes;
+      later = λ i h l. let no : ltb i place ≡ false = le-ltb i place l in each i (omega arith)
+          ∙ ap (λ t. cond t (get_or row i 0) (get_or rest i 0)) no ∙ get_or-shifted row i long (omega arith);
     }
 
 -- half a row closed, and written back
-pub half_closes : (place : ℕ) (row : List ℕ) → length row ≡ 16 → IsClosed 8 place row (put_chunk 0 row (joined 8 (chunk 0 8 row) (chunk 0 8 (chunk 1 15 row)) place))
+pub half_closes : (place : ℕ) (row : List ℕ) → length row ≡ 16
+    → IsClosed 8 place row (put_chunk 0 row (joined 8 (chunk 0 8 row) (chunk 0 8 (chunk 1 15 row)) place))
 half_closes place row long =
     let here : List ℕ = chunk 0 8 row in
     let next : List ℕ = chunk 0 8 (chunk 1 15 row) in
     let half : List ℕ = joined 8 here next place in
     let here_long : length here ≡ 8 = length-chunk 0 8 row (omega (arith, long)) in
-    let next_long : length next ≡ 8 = length-chunk 0 8 (chunk 1 15 row) (omega (arith, length-chunk 1 15 row (omega (arith, long)))) in
+    let next_long : length next ≡ 8 =
+    length-chunk 0 8 (chunk 1 15 row) (omega (arith, length-chunk 1 15 row (omega (arith, long)))) in
     let half_long : length half ≡ 8 =
-    length-sel_l (map (top 15) (zip2 (λ a b. cond (ltb a b) 65535 0) (range_with_len 0 8) (replicate 8 place))) here next (sym here_long) (sym next_long) in
-    let each : (i : ℕ) → i < 8 → get_or (put_chunk 0 row half) i 0 ≡ cond (ltb i place) (get_or here i 0) (get_or next i 0) =
+    length-sel_l (map (top 15) (zip2 (λ a b. cond (ltb a b) 65535 0) (range_with_len 0 8) (replicate 8 place))) here
+    next (sym here_long) (sym next_long) in
+    let each : (i : ℕ) → i < 8
+    → get_or (put_chunk 0 row half) i 0 ≡ cond (ltb i place) (get_or here i 0) (get_or next i 0) =
     λ i h. let same : i ≡ 0 + i = omega arith in
-    ap (λ k. get_or (put_chunk 0 row half) k 0) same ∙ get_or-put_chunk_at 0 row half i 0 (omega (arith, half_long)) (omega (arith, half_long, long))
+    ap (λ k. get_or (put_chunk 0 row half) k 0) same
+    ∙ get_or-put_chunk_at 0 row half i 0 (omega (arith, half_long)) (omega (arith, half_long, long))
     ∙ get_or-joined 8 place here next i here_long next_long h in
     record {
       earlier = λ i h l. let yes : ltb i place ≡ true = lt-ltb i place l in
-          each i (omega arith) ∙ ap (λ t. cond t (get_or here i 0) (get_or next i 0)) yes ∙ get_or-half row i (omega arith);
+          each i (omega arith) ∙ ap (λ t. cond t (get_or here i 0) (get_or next i 0)) yes
+          ∙ get_or-half row i (omega arith);
       later = λ i h l. let no : ltb i place ≡ false = le-ltb i place l in
           let one : 1 + i ≡ i + 1 = omega arith in
-          each i (omega arith) ∙ ap (λ t. cond t (get_or here i 0) (get_or next i 0)) no ∙ get_or-half (chunk 1 15 row) i (omega arith) ∙ get_or-chunk 1 15 row i 0 (omega arith) ∙ ap (λ k. get_or row k 0) one;
+          each i (omega arith) ∙ ap (λ t. cond t (get_or here i 0) (get_or next i 0)) no
+          ∙ get_or-half (chunk 1 15 row) i (omega arith) ∙ get_or-chunk 1 15 row i 0 (omega arith)
+          ∙ ap (λ k. get_or row k 0) one;
     }

@@ -18,7 +18,8 @@ pub at_most_one : (b : Bool) → bool_byte b ≤ 1
 at_most_one true = omega arith
 at_most_one false = omega arith
 
-pub leaver_at : (room d place : ℕ) (ts : List Ticket) → position_or_len (has_to_go d) ts ≡ min place (length ts) → 0 < room
+pub leaver_at : (room d place : ℕ) (ts : List Ticket) → position_or_len (has_to_go d) ts ≡ min place (length ts)
+    → 0 < room
     → min place (length ts - bool_byte (eqb (length ts) room)) ≡ unwrap_or (place_left room d ts) (length ts)
 unfolding place_left
 leaver_at room d place ts first some =
@@ -26,9 +27,12 @@ leaver_at room d place ts first some =
     let one : full ≤ 1 = at_most_one (eqb (length ts) room) in
     cond_both (ltb (position_or_len (has_to_go d) ts) (length ts)) (Some (position_or_len (has_to_go d) ts)) None
     (λ o. min place (length ts - full) ≡ unwrap_or (option_or o (last_of_full room ts)) (length ts))
-    (λ e. let l : position_or_len (has_to_go d) ts < length ts = ltb-true (position_or_len (has_to_go d) ts) (length ts) e in omega arith)
-    (λ e. let l : length ts ≤ position_or_len (has_to_go d) ts = ltb-false (position_or_len (has_to_go d) ts) (length ts) e in
-    cond_both (eqb (length ts) room) (Some (length ts - 1)) None (λ o. min place (length ts - full) ≡ unwrap_or o (length ts))
+    (λ e. let l : position_or_len (has_to_go d) ts < length ts =
+    ltb-true (position_or_len (has_to_go d) ts) (length ts) e in omega arith)
+    (λ e. let l : length ts ≤ position_or_len (has_to_go d) ts =
+    ltb-false (position_or_len (has_to_go d) ts) (length ts) e in
+    cond_both (eqb (length ts) room) (Some (length ts - 1)) None
+    (λ o. min place (length ts - full) ≡ unwrap_or o (length ts))
     (λ t. let is : full ≡ 1 = ap bool_byte t in omega arith)
     (λ t. let is : full ≡ 0 = ap bool_byte t in omega arith))
 
@@ -45,25 +49,31 @@ remove-unwrap_or ts (Some i) = refl
 length-without : (xs : List Ticket) (o : Option ℕ) → length (without xs o) ≤ length xs
 length-without xs None = omega arith
 length-without xs (Some i) =
-    ⊎_elim (λ (l : i < length xs). omega (arith, length-remove xs i l)) (λ (l : length xs ≤ i). omega (arith, ap length (remove_past xs i l))) (cases_lt i (length xs))
+    ⊎_elim (λ (l : i < length xs). omega (arith, length-remove xs i l))
+    (λ (l : length xs ≤ i). omega (arith, ap length (remove_past xs i l))) (cases_lt i (length xs))
 
 -- at a full queue somebody leaves
-full_loses_one : (room d : ℕ) (ts : List Ticket) → length ts ≡ room → 0 < room → length (without ts (place_left room d ts)) < room
+full_loses_one : (room d : ℕ) (ts : List Ticket) → length ts ≡ room → 0 < room
+    → length (without ts (place_left room d ts)) < room
 unfolding place_left
 full_loses_one room d ts full some =
     cond_both (ltb (position_or_len (has_to_go d) ts) (length ts)) (Some (position_or_len (has_to_go d) ts)) None
     (λ o. length (without ts (option_or o (last_of_full room ts))) < room)
-    (λ e. let l : position_or_len (has_to_go d) ts < length ts = ltb-true (position_or_len (has_to_go d) ts) (length ts) e in
+    (λ e. let l : position_or_len (has_to_go d) ts < length ts =
+    ltb-true (position_or_len (has_to_go d) ts) (length ts) e in
     omega (arith, length-remove ts (position_or_len (has_to_go d) ts) l))
     (λ e. cond_both (eqb (length ts) room) (Some (length ts - 1)) None (λ o. length (without ts o) < room)
     (λ t. let l : length ts - 1 < length ts = omega arith in omega (arith, length-remove ts (length ts - 1) l))
     (λ t. absurd (eqb-false (length ts) room t full)))
 
-pub leaving_makes_room : (room d : ℕ) (ts : List Ticket) → length ts ≤ room → 0 < room → length (without ts (place_left room d ts)) < room
+pub leaving_makes_room : (room d : ℕ) (ts : List Ticket) → length ts ≤ room → 0 < room
+    → length (without ts (place_left room d ts)) < room
 leaving_makes_room room d ts within some =
     let fewer : length (without ts (place_left room d ts)) ≤ length ts = length-without ts (place_left room d ts) in
-    ⊎_elim (λ (l : length ts < room). omega arith) (λ (l : room ≤ length ts). full_loses_one room d ts (omega arith) some) (cases_lt (length ts) room)
+    ⊎_elim (λ (l : length ts < room). omega arith)
+    (λ (l : room ≤ length ts). full_loses_one room d ts (omega arith) some) (cases_lt (length ts) room)
 
-pub has_room : (room : ℕ) (left after : List Ticket) (coming : Option Ticket) → after ≡ left ++ option_to_list coming → length left < room → length after ≤ room
+pub has_room : (room : ℕ) (left after : List Ticket) (coming : Option Ticket) → after ≡ left ++ option_to_list coming
+    → length left < room → length after ≤ room
 has_room room left after None is roomy = omega (arith, ap length is, length-append left [])
 has_room room left after (Some t) is roomy = omega (arith, ap length is, length-append left (t ∷ []))

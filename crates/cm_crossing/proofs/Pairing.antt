@@ -7,7 +7,8 @@ use Rattle.cm_crossing.specs.declared.queue.Ticket.{Ticket}
 use Rattle.cm_crossing.specs.Tickets.{place_left, ticket_going, exchanged}
 
 -- of two writes at each of two places only the later ones count
-pub written_twice : {X : Type 0} (xs : List X) (i j : ℕ) (a b x y : X) → i ≢ j → set (set (set (set xs i a) j b) i x) j y ≡ set (set xs i x) j y
+pub written_twice : {X : Type 0} (xs : List X) (i j : ℕ) (a b x y : X) → i ≢ j
+    → set (set (set (set xs i a) j b) i x) j y ≡ set (set xs i x) j y
 written_twice xs i j a b x y apart =
     ap (λ ys. set ys j y) (sym (set_comm (set xs i a) i j x b apart))
     ∙ set-set (set (set xs i a) i x) j b y

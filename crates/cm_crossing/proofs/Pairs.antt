@@ -7,13 +7,13 @@ use Rattle.std.proofs.lemmas.Bool.{cases_eq, cases_lt}
 use Rattle.std.proofs.lemmas.List.{length-set}
 use Rattle.std.proofs.lemmas.Nat.{xor_comm, pow_pos}
 use Rattle.std.specs.Option.{option_map, option_to_list}
-use Rattle.cm_model.specs.Array.{each_chip}
+use Rattle.cm_model.specs.Array.{each_chip, list_at}
 use Rattle.cm_model.specs.Buffers.{element_at, without}
 use Rattle.cm_model.proofs.Leaving.{remove_past}
 use Rattle.cm_model.proofs.Each.{is_each}
 use Rattle.cm_model.proofs.Flips.{xor_twice, across_below}
 use Rattle.cm_crossing.specs.declared.queue.Ticket.{Ticket}
-use Rattle.cm_crossing.specs.Tickets.{place_left, ticket_across, queue_at, exchanged}
+use Rattle.cm_crossing.specs.Tickets.{place_left, ticket_across, exchanged}
 
 -- ---- pairs of numbers
 
@@ -40,24 +40,28 @@ begins_there d b c is =
 
 -- a queue after dimension d
 abbrev pub crossed : ℕ → ℕ → List (List Ticket) → ℕ → List Ticket
-crossed room d queues b = exchanged room d (queue_at queues b) (queue_at queues (bit_xor b (2 ^ d)))
+crossed room d queues b = exchanged room d (list_at queues b) (list_at queues (bit_xor b (2 ^ d)))
 
 -- the pairs that begin below a number have crossed, and the others are as before
 pub record AreCrossed (room d : ℕ) (before now : List (List Ticket)) (count : ℕ) : Type 0 where
   pub long : length now ≡ length before
   pub within : All (λ ts. length ts ≤ room) now
-  pub done : (b : ℕ) → b < length before → first_of d b < count → queue_at now b ≡ crossed room d before b
-  pub rest : (b : ℕ) → count ≤ first_of d b → queue_at now b ≡ queue_at before b
+  pub done : (b : ℕ) → b < length before → first_of d b < count → list_at now b ≡ crossed room d before b
+  pub rest : (b : ℕ) → count ≤ first_of d b → list_at now b ≡ list_at before b
 
-pub crossed_begins : (room d : ℕ) (queues : List (List Ticket)) → All (λ ts. length ts ≤ room) queues → AreCrossed room d queues queues 0
-crossed_begins room d queues within = record { long = refl; within = within; done = λ b l h. absurd (omega arith); rest = λ b h. refl }
+pub crossed_begins : (room d : ℕ) (queues : List (List Ticket)) → All (λ ts. length ts ≤ room) queues
+    → AreCrossed room d queues queues 0
+crossed_begins room d queues within =
+    record { long = refl; within = within; done = λ b l h. absurd (omega arith); rest = λ b h. refl }
 
 -- where no pair begins
-pub crossed_skip : (room d : ℕ) (before now : List (List Ticket)) (c : ℕ) → bit_xor c (2 ^ d) ≤ c → AreCrossed room d before now c → AreCrossed room d before now (c + 1)
+pub crossed_skip : (room d : ℕ) (before now : List (List Ticket)) (c : ℕ) → bit_xor c (2 ^ d) ≤ c
+    → AreCrossed room d before now c → AreCrossed room d before now (c + 1)
 crossed_skip room d before now c higher was =
     let nobody : (b : ℕ) → first_of d b ≢ c = λ b is.
     ⊎_elim
-    (λ (e : b ≡ c). let above : c ≤ bit_xor c (2 ^ d) = subst (λ (k : ℕ). c ≤ bit_xor k (2 ^ d)) e (omega arith) in across_differs c d (omega arith))
+    (λ (e : b ≡ c). let above : c ≤ bit_xor c (2 ^ d) = subst (λ (k : ℕ). c ≤ bit_xor k (2 ^ d)) e (omega arith) in
+    across_differs c d (omega arith))
     (λ (e : b ≡ bit_xor c (2 ^ d)).
     let same : b ≡ c = omega arith in across_differs c d (sym e ∙ same))
     (begins_there d b c is) in
@@ -81,7 +85,7 @@ nobody_crosses : (room d : ℕ) → exchanged room d [] [] ≡ []
 nobody_crosses room d = rw (nothing_without (place_left room d []), nobody_at d (place_left room d [])) refl
 
 pub crossed_past : (room d : ℕ) (before now : List (List Ticket)) (c last : ℕ) → c ≤ last
-    → ((b : ℕ) → c ≤ b → b < last → b < length before → (queue_at now b ≡ []) × (queue_at now (bit_xor b (2 ^ d)) ≡ []))
+    → ((b : ℕ) → c ≤ b → b < last → b < length before → (list_at now b ≡ []) × (list_at now (bit_xor b (2 ^ d)) ≡ []))
     → ((b : ℕ) → b < length before → bit_xor b (2 ^ d) < length before)
     → AreCrossed room d before now c → AreCrossed room d before now last
 crossed_past room d before now c last ordered none inside was =
@@ -94,64 +98,74 @@ crossed_past room d before now c last ordered none inside was =
           let other : ℕ = bit_xor b (2 ^ d) in
           let back : bit_xor other (2 ^ d) ≡ b = xor_twice b (2 ^ d) in
           let late_there : c ≤ first_of d other = omega (arith, back) in
-          let empty : (queue_at now b ≡ []) × (queue_at now other ≡ []) =
+          let empty : (list_at now b ≡ []) × (list_at now other ≡ []) =
           ⊎_elim (λ (low : b < other). none b (omega arith) (omega arith) l)
-          (λ (high : other ≤ b). let both = none other (omega arith) (omega arith) (inside b l) in (subst (λ (k : ℕ). queue_at now k ≡ []) back both.1, both.0))
+          (λ (high : other ≤ b). let both = none other (omega arith) (omega arith) (inside b l) in
+          (subst (λ (k : ℕ). list_at now k ≡ []) back both.1, both.0))
           (cases_lt b other) in
-          let here : queue_at before b ≡ [] = sym (was.rest b late) ∙ empty.0 in
-          let there : queue_at before other ≡ [] = sym (was.rest other late_there) ∙ empty.1 in
+          let here : list_at before b ≡ [] = sym (was.rest b late) ∙ empty.0 in
+          let there : list_at before other ≡ [] = sym (was.rest other late_there) ∙ empty.1 in
           empty.0 ∙ rw (here, there) (sym (nobody_crosses room d)))
           (cases_lt (first_of d b) c);
       rest = λ b h. was.rest b (omega arith);
     }
 
 -- where a pair has no ticket
-pub crossed_one : (room d : ℕ) (before now : List (List Ticket)) (c other : ℕ) → other ≡ bit_xor c (2 ^ d) → queue_at now c ≡ [] → queue_at now other ≡ []
+pub crossed_one : (room d : ℕ) (before now : List (List Ticket)) (c other : ℕ) → other ≡ bit_xor c (2 ^ d)
+    → list_at now c ≡ [] → list_at now other ≡ []
     → ((b : ℕ) → b < length before → bit_xor b (2 ^ d) < length before)
     → AreCrossed room d before now c → AreCrossed room d before now (c + 1)
 crossed_one room d before now c other across here there inside was =
     crossed_past room d before now c (c + 1) (omega arith)
     (λ b from to l.
     let same : b ≡ c = omega arith in (
-      ap (queue_at now) same ∙ here,
-      ap (λ (k : ℕ). queue_at now (bit_xor k (2 ^ d))) same ∙ ap (queue_at now) (sym across) ∙ there,
+      ap (list_at now) same ∙ here,
+      ap (λ (k : ℕ). list_at now (bit_xor k (2 ^ d))) same ∙ ap (list_at now) (sym across) ∙ there,
     ))
     inside was
 
 -- a pair more
-pub crossed_more : (room d : ℕ) (before now : List (List Ticket)) (c other : ℕ) → other ≡ bit_xor c (2 ^ d) → c < other → other < length before
-    → All (λ ts. length ts ≤ room) (set (set now c (exchanged room d (queue_at now c) (queue_at now other))) other (exchanged room d (queue_at now other) (queue_at now c)))
+pub crossed_more : (room d : ℕ) (before now : List (List Ticket)) (c other : ℕ) → other ≡ bit_xor c (2 ^ d)
+    → c < other → other < length before
+    → All (λ ts. length ts ≤ room)
+    (set (set now c (exchanged room d (list_at now c) (list_at now other))) other
+    (exchanged room d (list_at now other) (list_at now c)))
     → AreCrossed room d before now c
-    → AreCrossed room d before (set (set now c (exchanged room d (queue_at now c) (queue_at now other))) other (exchanged room d (queue_at now other) (queue_at now c))) (c + 1)
+    → AreCrossed room d before
+    (set (set now c (exchanged room d (list_at now c) (list_at now other))) other
+    (exchanged room d (list_at now other) (list_at now c))) (c + 1)
 crossed_more room d before now c other across lower inside within was =
     let back : bit_xor other (2 ^ d) ≡ c = ap (λ (k : ℕ). bit_xor k (2 ^ d)) across ∙ xor_twice c (2 ^ d) in
-    let x : List Ticket = exchanged room d (queue_at now c) (queue_at now other) in
-    let y : List Ticket = exchanged room d (queue_at now other) (queue_at now c) in
+    let x : List Ticket = exchanged room d (list_at now c) (list_at now other) in
+    let y : List Ticket = exchanged room d (list_at now other) (list_at now c) in
     let first_here : first_of d c ≡ c = omega (arith, across) in
     let first_there : first_of d other ≡ c = omega (arith, back) in
-    let old_here : queue_at now c ≡ queue_at before c = was.rest c (omega (arith, first_here)) in
-    let old_there : queue_at now other ≡ queue_at before other = was.rest other (omega (arith, first_there)) in
+    let old_here : list_at now c ≡ list_at before c = was.rest c (omega (arith, first_here)) in
+    let old_there : list_at now other ≡ list_at before other = was.rest other (omega (arith, first_there)) in
     let apart : c ≢ other = omega arith in
     let apart_too : other ≢ c = omega arith in
     let long_once : length (set now c x) ≡ length now = length-set now c x in
-    let here : queue_at (set (set now c x) other y) c ≡ crossed room d before c =
+    let here : list_at (set (set now c x) other y) c ≡ crossed room d before c =
     get_or-set_other (set now c x) other c y [] apart
     ∙ get_or-set_same now c x [] (omega (arith, was.long))
     ∙ rw (old_here, old_there, ← across) refl in
-    let there : queue_at (set (set now c x) other y) other ≡ crossed room d before other =
+    let there : list_at (set (set now c x) other y) other ≡ crossed room d before other =
     get_or-set_same (set now c x) other y [] (omega (arith, was.long, long_once))
     ∙ rw (old_here, old_there, back) refl in
-    let others : (b : ℕ) → b ≢ c → b ≢ other → queue_at (set (set now c x) other y) b ≡ queue_at now b =
+    let others : (b : ℕ) → b ≢ c → b ≢ other → list_at (set (set now c x) other y) b ≡ list_at now b =
     λ b e f. get_or-set_other (set now c x) other b y [] f ∙ get_or-set_other now c b x [] e in
     record {
       long = length-set (set now c x) other y ∙ long_once ∙ was.long;
       within = within;
       done = λ b l h.
-          ⊎_elim (λ (e : b ≡ c). subst (λ (k : ℕ). queue_at (set (set now c x) other y) k ≡ crossed room d before k) (sym e) here)
+          ⊎_elim (λ (e : b ≡ c). subst (λ (k : ℕ). list_at (set (set now c x) other y) k ≡ crossed room d before k)
+          (sym e) here)
           (λ (e : b ≢ c).
-          ⊎_elim (λ (f : b ≡ other). subst (λ (k : ℕ). queue_at (set (set now c x) other y) k ≡ crossed room d before k) (sym f) there)
+          ⊎_elim (λ (f : b ≡ other). subst
+          (λ (k : ℕ). list_at (set (set now c x) other y) k ≡ crossed room d before k) (sym f) there)
           (λ (f : b ≢ other).
-          let elsewhere : first_of d b ≢ c = λ is. ⊎_elim e (λ (t : b ≡ bit_xor c (2 ^ d)). f (t ∙ sym across)) (begins_there d b c is) in
+          let elsewhere : first_of d b ≢ c =
+          λ is. ⊎_elim e (λ (t : b ≡ bit_xor c (2 ^ d)). f (t ∙ sym across)) (begins_there d b c is) in
           others b e f ∙ was.done b l (omega (arith, elsewhere)))
           (cases_eq b other))
           (cases_eq b c);
@@ -162,9 +176,11 @@ crossed_more room d before now c other across lower inside within was =
     }
 
 -- all pairs
-pub crossed_all : (n room d : ℕ) (before now : List (List Ticket)) (last : ℕ) → d < n → length before ≡ 2 ^ n → 2 ^ n ≤ last
+pub crossed_all : (n room d : ℕ) (before now : List (List Ticket)) (last : ℕ) → d < n → length before ≡ 2 ^ n
+    → 2 ^ n ≤ last
     → AreCrossed room d before now last
-    → now ≡ each_chip n (λ c. exchanged room d (queue_at before c) (queue_at before (bit_xor c (2 ^ d))))
+    → now ≡ each_chip n (λ c. exchanged room d (list_at before c) (list_at before (bit_xor c (2 ^ d))))
 crossed_all n room d before now last below long all is =
     is_each [] (2 ^ n) (crossed room d before) now (is.long ∙ long)
-    (λ c l. let there : bit_xor c (2 ^ d) < 2 ^ n = across_below n d c below l in is.done c (omega (arith, long)) (omega arith))
+    (λ c l. let there : bit_xor c (2 ^ d) < 2 ^ n = across_below n d c below l in
+    is.done c (omega (arith, long)) (omega arith))

@@ -7,91 +7,116 @@ use Rattle.std.specs.Global.{Vec}
 use Rattle.std.proofs.lemmas.List.{length-map, get_or-map, with_items_is}
 use Rattle.std.proofs.lemmas.List.Elements.{All-from_get_or, All-nil}
 use Rattle.cm_model.specs.declared.message.Message.{Message}
-use Rattle.cm_model.specs.Array.{each_chip}
-use Rattle.cm_model.specs.Machine.{buffer_at}
+use Rattle.cm_model.specs.Array.{each_chip, list_at}
 use Rattle.cm_model.specs.Buffers.{outgoing, buffer_after_dimension}
 use Rattle.cm_model.specs.Each.{each_from}
 use Rattle.cm_model.proofs.Each.{is_each, length-each_from, get_or-each_below}
 use Rattle.cm_model.proofs.Flips.{across_below}
 use Rattle.cm_crossing.specs.declared.queue.Ticket.{Ticket}
-use Rattle.cm_crossing.specs.Tickets.{queue_at, exchanged}
+use Rattle.cm_crossing.specs.Tickets.{exchanged}
 use Rattle.cm_crossing.specs.Standing.{message_of, standing, all_standing, AreKept}
 use Rattle.cm_crossing.proofs.Carrying.{exchanged-standing, exchanged_kept}
 
 -- a row whose slice was lent whole has what was written to the slice
-pub items-lent : {X : Type 0} (row : Vec X) (now : List X) → length now ≡ length row.items → (with_items row now).items ≡ now
+pub items-lent : {X : Type 0} (row : Vec X) (now : List X) → length now ≡ length row.items
+    → (with_items row now).items ≡ now
 items-lent row now same = with_items_is row now (same ∙ sym row.ok.0)
 
 -- ---- as many tickets as messages
 
-pub tickets_within : (cap : ℕ) (row : List Message) (queues : List (List Ticket)) → All (λ ms. length ms ≤ cap) (all_standing row queues) → All (λ ts. length ts ≤ cap) queues
+pub tickets_within : (cap : ℕ) (row : List Message) (queues : List (List Ticket))
+    → All (λ ms. length ms ≤ cap) (all_standing row queues) → All (λ ts. length ts ≤ cap) queues
 tickets_within cap row queues h k d l =
     let there : k < length (all_standing row queues) = omega (arith, length-map queues (standing row)) in
     let ts : List Ticket = get_or queues k d in
-    omega (arith, h k [] there, ap length (get_or-map (standing row) queues k d [] l), length-map ts (λ (t : Ticket). message_of row t))
+    omega (
+      arith,
+      h k [] there,
+      ap length (get_or-map (standing row) queues k d [] l),
+      length-map ts
+          (λ (t : Ticket). message_of row t),
+    )
 
-pub messages_within : (cap : ℕ) (row : List Message) (queues : List (List Ticket)) → All (λ ts. length ts ≤ cap) queues → All (λ ms. length ms ≤ cap) (all_standing row queues)
+pub messages_within : (cap : ℕ) (row : List Message) (queues : List (List Ticket))
+    → All (λ ts. length ts ≤ cap) queues → All (λ ms. length ms ≤ cap) (all_standing row queues)
 messages_within cap row queues h k d l =
     let there : k < length queues = omega (arith, length-map queues (standing row)) in
     let ts : List Ticket = get_or queues k [] in
-    omega (arith, h k [] there, ap length (get_or-map (standing row) queues k [] d there), length-map ts (λ (t : Ticket). message_of row t))
+    omega (
+      arith,
+      h k [] there,
+      ap length (get_or-map (standing row) queues k [] d there),
+      length-map ts
+          (λ (t : Ticket). message_of row t),
+    )
 
 -- ---- a dimension
 
-chip_standing : (row : List Message) (queues : List (List Ticket)) (c : ℕ) → c < length queues → standing row (queue_at queues c) ≡ buffer_at (all_standing row queues) c
+chip_standing : (row : List Message) (queues : List (List Ticket)) (c : ℕ) → c < length queues
+    → standing row (list_at queues c) ≡ list_at (all_standing row queues) c
 chip_standing row queues c inside = sym (get_or-map (standing row) queues c [] [] inside)
 
 pub crossed_standing : (n cap d : ℕ) (row : List Message) (old : List (List Ticket)) → d < n → length old ≡ 2 ^ n
-    → all_standing row (each_chip n (λ c. exchanged cap d (queue_at old c) (queue_at old (bit_xor c (2 ^ d)))))
-    ≡ each_chip n (λ c. buffer_after_dimension cap d (buffer_at (all_standing row old) c) (outgoing cap d (buffer_at (all_standing row old) (bit_xor c (2 ^ d)))))
+    → all_standing row (each_chip n (λ c. exchanged cap d (list_at old c) (list_at old (bit_xor c (2 ^ d)))))
+    ≡ each_chip n (λ c. buffer_after_dimension cap d (list_at (all_standing row old) c)
+    (outgoing cap d (list_at (all_standing row old) (bit_xor c (2 ^ d)))))
 crossed_standing n cap d row old below long =
-    let f : ℕ → List Ticket = λ c. exchanged cap d (queue_at old c) (queue_at old (bit_xor c (2 ^ d))) in
+    let f : ℕ → List Ticket = λ c. exchanged cap d (list_at old c) (list_at old (bit_xor c (2 ^ d))) in
     let counted : length (each_chip n f) ≡ 2 ^ n = length-each_from 0 (2 ^ n) f in
-    is_each [] (2 ^ n) (λ c. buffer_after_dimension cap d (buffer_at (all_standing row old) c) (outgoing cap d (buffer_at (all_standing row old) (bit_xor c (2 ^ d)))))
+    is_each [] (2 ^ n) (λ c. buffer_after_dimension cap d (list_at (all_standing row old) c)
+    (outgoing cap d (list_at (all_standing row old) (bit_xor c (2 ^ d)))))
     (all_standing row (each_chip n f)) (length-map (each_chip n f) (standing row) ∙ counted)
     (λ c l.
-    let here : standing row (queue_at old c) ≡ buffer_at (all_standing row old) c = chip_standing row old c (omega (arith, long)) in
-    let there : standing row (queue_at old (bit_xor c (2 ^ d))) ≡ buffer_at (all_standing row old) (bit_xor c (2 ^ d)) =
+    let here : standing row (list_at old c) ≡ list_at (all_standing row old) c =
+    chip_standing row old c (omega (arith, long)) in
+    let there : standing row (list_at old (bit_xor c (2 ^ d))) ≡ list_at (all_standing row old) (bit_xor c (2 ^ d)) =
     chip_standing row old (bit_xor c (2 ^ d)) (omega (arith, long, across_below n d c below l)) in
     get_or-map (standing row) (each_chip n f) c [] [] (omega (arith, counted))
     ∙ ap (standing row) (get_or-each_below (2 ^ n) f c [] l)
-    ∙ exchanged-standing row cap d (queue_at old c) (queue_at old (bit_xor c (2 ^ d)))
+    ∙ exchanged-standing row cap d (list_at old c) (list_at old (bit_xor c (2 ^ d)))
     ∙ rw (here, there) refl)
 
 pub crossed_kept : (n cap d count : ℕ) (old : List (List Ticket)) → d < n → length old ≡ 2 ^ n → All (AreKept count) old
-    → All (AreKept count) (each_chip n (λ c. exchanged cap d (queue_at old c) (queue_at old (bit_xor c (2 ^ d)))))
+    → All (AreKept count) (each_chip n (λ c. exchanged cap d (list_at old c) (list_at old (bit_xor c (2 ^ d)))))
 crossed_kept n cap d count old below long kept =
-    let f : ℕ → List Ticket = λ c. exchanged cap d (queue_at old c) (queue_at old (bit_xor c (2 ^ d))) in
+    let f : ℕ → List Ticket = λ c. exchanged cap d (list_at old c) (list_at old (bit_xor c (2 ^ d))) in
     let counted : length (each_chip n f) ≡ 2 ^ n = length-each_from 0 (2 ^ n) f in
     All-from_get_or (AreKept count) (each_chip n f) []
     (λ c l.
     let inside : c < 2 ^ n = omega (arith, counted) in
     subst (AreKept count) (sym (get_or-each_below (2 ^ n) f c [] inside))
-    (exchanged_kept count cap d (queue_at old c) (queue_at old (bit_xor c (2 ^ d))) (kept c [] (omega (arith, long)))
+    (exchanged_kept count cap d (list_at old c) (list_at old (bit_xor c (2 ^ d))) (kept c [] (omega (arith, long)))
     (kept (bit_xor c (2 ^ d)) [] (omega (arith, long, across_below n d c below inside)))))
 
 -- ---- empty chips
 
-pub none_standing : (row : List Message) (count : ℕ) → all_standing row (each_from 0 count (λ c. [])) ≡ each_from 0 count (λ c. [])
+pub none_standing : (row : List Message) (count : ℕ)
+    → all_standing row (each_from 0 count (λ c. [])) ≡ each_from 0 count (λ c. [])
 none_standing row count =
     let none : ℕ → List Ticket = λ c. [] in
     let counted : length (each_from 0 count none) ≡ count = length-each_from 0 count none in
-    is_each [] count (λ c. []) (all_standing row (each_from 0 count none)) (length-map (each_from 0 count none) (standing row) ∙ counted)
-    (λ c l. get_or-map (standing row) (each_from 0 count none) c [] [] (omega (arith, counted)) ∙ ap (standing row) (get_or-each_below count none c [] l))
+    is_each [] count (λ c. []) (all_standing row (each_from 0 count none))
+    (length-map (each_from 0 count none) (standing row) ∙ counted)
+    (λ c l. get_or-map (standing row) (each_from 0 count none) c [] [] (omega (arith, counted))
+    ∙ ap (standing row) (get_or-each_below count none c [] l))
 
 pub none_kept : (count bound : ℕ) → All (AreKept bound) (each_from 0 count (λ c. []))
 none_kept count bound =
     let none : ℕ → List Ticket = λ c. [] in
     let counted : length (each_from 0 count none) ≡ count = length-each_from 0 count none in
     All-from_get_or (AreKept bound) (each_from 0 count none) []
-    (λ c l. subst (AreKept bound) (sym (get_or-each_below count none c [] (omega (arith, counted)))) (All-nil (λ (t : Ticket). t.number < bound)))
+    (λ c l. subst (AreKept bound) (sym (get_or-each_below count none c [] (omega (arith, counted))))
+    (All-nil (λ (t : Ticket). t.number < bound)))
 
 -- no message is kept, so none stands anywhere
-none_kept_here : (row : List Message) (ts : List Ticket) → length row ≡ 0 → AreKept (length row) ts → standing row ts ≡ []
+none_kept_here : (row : List Message) (ts : List Ticket) → length row ≡ 0 → AreKept (length row) ts
+    → standing row ts ≡ []
 none_kept_here row [] none kept = refl
-none_kept_here row (t ∷ ts) none kept = let below : t.number < length row = kept 0 t (omega arith) in absurd (omega arith)
+none_kept_here row (t ∷ ts) none kept = let below : t.number < length row = kept 0 t (omega arith) in
+    absurd (omega arith)
 
-pub none_kept_none : (row : List Message) (queues : List (List Ticket)) → length row ≡ 0 → All (AreKept (length row)) queues → All (λ ms. ms ≡ []) (all_standing row queues)
+pub none_kept_none : (row : List Message) (queues : List (List Ticket)) → length row ≡ 0
+    → All (AreKept (length row)) queues → All (λ ms. ms ≡ []) (all_standing row queues)
 none_kept_none row queues none kept k d l =
     let inside : k < length queues = omega (arith, length-map queues (standing row)) in
     get_or-map (standing row) queues k [] d inside ∙ none_kept_here row (get_or queues k []) none (kept k [] inside)

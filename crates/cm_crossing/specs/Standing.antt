@@ -54,10 +54,12 @@ AreKept count ts = All (λ t. t.number < count) ts
 
 -- the chips are looked at in blocks of 64: of a block that is not busy, no chip has a ticket
 abbrev pub AreQuiet : List Bool → List (List Ticket) → Type 0
-AreQuiet busy queues = (c : ℕ) → c < length queues → slice_index_or busy (c / 64) false ≡ false → slice_index_or queues c [] ≡ []
+AreQuiet busy queues = (c : ℕ) → c < length queues → slice_index_or busy (c / 64) false ≡ false
+    → slice_index_or queues c [] ≡ []
 
 -- at most 4,096 chips in 64 blocks, and 15 places of the row for each; each ticket stands for a message, and there are none in a block that is not busy
-pub record IsCrossing (row : Vec Message Global) (places : ℕ) (queues : List (List Ticket)) (busy : List Bool) : Type 0 where
+pub record IsCrossing (row : Vec Message Global) (places : ℕ) (queues : List (List Ticket)) (busy : List Bool) : Type
+    0 where
   pub few : length queues ≤ 4096
   pub blocks : length busy ≡ 64
   pub enough : 15 * length queues ≤ places

@@ -1,5 +1,5 @@
 -- Tickets of one chip, in order of arrival, and which of them leaves in a dimension: the rule is cm_model's, told for tickets. Ours.
-use Rattle.std.specs.Prelude.{ℕ, ◌-◌, ◌^◌, ◌==◌, ◌++◌, Bool, List, [], length, slice_index_or, Option, Some, None, bit_xor, if◌then◌else◌}
+use Rattle.std.specs.Prelude.{ℕ, ◌-◌, ◌^◌, ◌==◌, ◌++◌, Bool, List, [], length, Option, Some, None, bit_xor, if◌then◌else◌}
 use Rattle.std.specs.List.{position}
 use Rattle.std.specs.Option.{option_or, option_map, option_to_list}
 use Rattle.cm_bits.specs.Bit.{bit}
@@ -29,10 +29,6 @@ ticket_going room d ts = option_map (ticket_across d) (element_at ts (place_left
 -- a queue after dimension d: who leaves is gone, and what comes stands last
 abbrev pub queue_after_dimension : ℕ → ℕ → List Ticket → Option Ticket → List Ticket
 queue_after_dimension room d ts coming = without ts (place_left room d ts) ++ option_to_list coming
-
--- the queue of a chip
-abbrev pub queue_at : List (List Ticket) → ℕ → List Ticket
-queue_at queues c = slice_index_or queues c []
 
 -- a queue after dimension d, where this other one stands across it
 abbrev pub exchanged : ℕ → ℕ → List Ticket → List Ticket → List Ticket

@@ -5,8 +5,7 @@ ghost use Rattle.std.specs.List.{All};
 ghost use Rattle.cm_model.specs.declared.message.Event.TheVariants as event;
 ghost use Rattle.cm_model.specs.Letters.{chip_after_injection, chip_after_delivery};
 ghost use Rattle.cm_model.specs.Each.{each_from};
-ghost use Rattle.cm_model.specs.Array.{each_chip};
-ghost use Rattle.cm_model.specs.Machine.{buffer_at};
+ghost use Rattle.cm_model.specs.Array.{each_chip, list_at};
 ghost use Rattle.cm_model.specs.Buffers.{outgoing, buffer_after_dimension};
 ghost use Rattle.cm_router.specs.Buffer.{buffers_of};
 ghost use Rattle.cm_crossing.specs.Standing.{taken_with, sent_with, delivered_of, kept_of};
@@ -120,11 +119,11 @@ impl Crossing {
         requires within { All (λ ms. length ms ≤ CAP) self.old.buffers }
         requires free { 4 ≤ self.old.free }
         requires room { vec_len log.old + 4 ≤ vec_capacity log.old }
-        ensures value { self.new.buffers ≡ slice_set self.old.buffers here (buffer_at self.old.buffers here
-            ++ sent_with N CAP clock here (buffer_at self.old.buffers here) chip.old) }
-        ensures chip { chip.new ≡ chip_after_injection (taken_with CAP (buffer_at self.old.buffers here) chip.old) chip.old }
+        ensures value { self.new.buffers ≡ slice_set self.old.buffers here (list_at self.old.buffers here
+            ++ sent_with N CAP clock here (list_at self.old.buffers here) chip.old) }
+        ensures chip { chip.new ≡ chip_after_injection (taken_with CAP (list_at self.old.buffers here) chip.old) chip.old }
         ensures log { log.new.items ≡ log.old.items
-            ++ map event.Injected (sent_with N CAP clock here (buffer_at self.old.buffers here) chip.old) }
+            ++ map event.Injected (sent_with N CAP clock here (list_at self.old.buffers here) chip.old) }
         ensures told { vec_len log.new ≤ vec_len log.old + 4 }
         ensures log_room { vec_capacity log.old ≤ vec_capacity log.new }
         ensures free { self.old.free ≤ self.new.free + 4 }
@@ -145,7 +144,7 @@ impl Crossing {
         requires count { length self.old.buffers ≡ 2 ^ N }
         requires within { All (λ ms. length ms ≤ CAP) self.old.buffers }
         ensures value { self.new.buffers ≡ each_chip N (λ c. buffer_after_dimension CAP dim
-            (buffer_at self.old.buffers c) (outgoing CAP dim (buffer_at self.old.buffers (bit_xor c (2 ^ dim))))) }
+            (list_at self.old.buffers c) (outgoing CAP dim (list_at self.old.buffers (bit_xor c (2 ^ dim))))) }
         ensures count { length self.new.buffers ≡ 2 ^ N }
         ensures within { All (λ ms. length ms ≤ CAP) self.new.buffers }
         ensures free { self.new.free ≡ self.old.free }
@@ -161,10 +160,10 @@ impl Crossing {
         requires within { All (λ ms. length ms ≤ CAP) self.old.buffers }
         requires room { vec_len log.old + CAP ≤ vec_capacity log.old }
         ensures value { self.new.buffers ≡ slice_set self.old.buffers here
-            (kept_of (buffer_at self.old.buffers here) chip.old) }
-        ensures chip { chip.new ≡ chip_after_delivery (delivered_of (buffer_at self.old.buffers here) chip.old) chip.old }
+            (kept_of (list_at self.old.buffers here) chip.old) }
+        ensures chip { chip.new ≡ chip_after_delivery (delivered_of (list_at self.old.buffers here) chip.old) chip.old }
         ensures log { log.new.items ≡ log.old.items
-            ++ map (λ m. event.Delivered m here) (delivered_of (buffer_at self.old.buffers here) chip.old) }
+            ++ map (λ m. event.Delivered m here) (delivered_of (list_at self.old.buffers here) chip.old) }
         ensures told { vec_len log.new ≤ vec_len log.old + CAP }
         ensures log_room { vec_capacity log.old ≤ vec_capacity log.new }
         ensures within { All (λ ms. length ms ≤ CAP) self.new.buffers }
@@ -206,9 +205,7 @@ fn empty_queues(alloc: Global, chips: usize) -> Result<Vec<Queue>, NoMemory>
 {
     let mut queues = Vec::with_capacity(alloc, chips)?;
     for _c in 0..chips {
-        let Ok(()) = queues.push(Queue::new()) else {
-            return Err(NoMemory);
-        };
+        queues.push_reserved(Queue::new());
     }
     Ok(queues)
 }

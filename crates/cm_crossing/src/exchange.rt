@@ -2,8 +2,8 @@
 
 ghost use Rattle.std.specs.Prelude.{◌≡◌, ◌≢◌, ◌^◌, ◌<◌, ◌≤◌, [], IsTrue, length, slice_set, bit_xor};
 ghost use Rattle.std.specs.List.{All};
-ghost use Rattle.cm_model.specs.Array.{each_chip};
-ghost use Rattle.cm_crossing.specs.Tickets.{queue_at, exchanged};
+ghost use Rattle.cm_model.specs.Array.{each_chip, list_at};
+ghost use Rattle.cm_crossing.specs.Tickets.{exchanged};
 ghost use Rattle.cm_crossing.specs.Standing.{AreQuiet};
 
 use crate::marks::BLOCK;
@@ -21,7 +21,7 @@ pub(crate) fn cross_row<const N: usize>(queues: &mut [Queue], busy: &mut [bool],
     requires blocks { length busy.old ≡ 64 }
     requires quiet { AreQuiet busy.old queues.old }
     ensures value { queues.new ≡ each_chip N (λ c. exchanged room dim
-        (queue_at queues.old c) (queue_at queues.old (bit_xor c (2 ^ dim)))) }
+        (list_at queues.old c) (list_at queues.old (bit_xor c (2 ^ dim)))) }
     ensures within { All (λ ts. length ts ≤ room) queues.new }
     ensures quiet { AreQuiet busy.new queues.new }
 {
@@ -53,7 +53,7 @@ fn across(chip: usize, dim: u8) -> usize
 fn are_empty(queues: &[Queue], here: usize, there: usize) -> bool
     requires here { here < length queues.now }
     requires there { there < length queues.now }
-    ensures none { IsTrue result → (queue_at queues.now here ≡ []) × (queue_at queues.now there ≡ []) }
+    ensures none { IsTrue result → (list_at queues.now here ≡ []) × (list_at queues.now there ≡ []) }
 {
     queues[here].len() == 0 && queues[there].len() == 0
 }
@@ -68,8 +68,8 @@ fn exchange(queues: &mut [Queue], here: usize, there: usize, room: u8, dim: u8)
     requires apart { here ≢ there }
     requires within { All (λ ts. length ts ≤ room) queues.old }
     ensures value { queues.new ≡ slice_set
-        (slice_set queues.old here (exchanged room dim (queue_at queues.old here) (queue_at queues.old there)))
-        there (exchanged room dim (queue_at queues.old there) (queue_at queues.old here)) }
+        (slice_set queues.old here (exchanged room dim (list_at queues.old here) (list_at queues.old there)))
+        there (exchanged room dim (list_at queues.old there) (list_at queues.old here)) }
     ensures within { All (λ ts. length ts ≤ room) queues.new }
 {
     let going = queues[here].leave(room, dim);

@@ -8,8 +8,8 @@ use Rattle.std.proofs.lemmas.List.FromFn.{map-range_with_len_more, filter_of_map
 use Rattle.cm_model.specs.declared.message.Message.{Message}
 use Rattle.cm_model.specs.Each.{each_from}
 use Rattle.cm_model.specs.Processor.{Processor}
-use Rattle.cm_model.specs.Array.{chip_at}
-use Rattle.cm_model.specs.Machine.{Machine, buffer_at}
+use Rattle.cm_model.specs.Array.{chip_at, list_at}
+use Rattle.cm_model.specs.Machine.{Machine}
 use Rattle.cm_message.specs.Bytes.{number, message_text}
 use Rattle.cm_image_format.specs.Image.{MAGIC, Listed, listed_text, chip_text, shape_text}
 use Rattle.cm_image_format.specs.Whole.{flag_plane_of, memory_plane_of, image_of_chip, image_text, text_of}
@@ -138,16 +138,16 @@ chip_written chip buffer text a b c d e count first second is third fourth fifth
 -- ---- all chips
 
 abbrev pub chips_text : Machine → ℕ → List ℕ
-chips_text machine count = flat_map chip_text (each_from 0 count (λ c. image_of_chip (chip_at machine.chips c) (buffer_at machine.buffers c)))
+chips_text machine count = flat_map chip_text (each_from 0 count (λ c. image_of_chip (chip_at machine.chips c) (list_at machine.buffers c)))
 
 pub chips_none : (machine : Machine) (text : List ℕ) → text ≡ text ++ chips_text machine 0
-chips_none machine text = made_zero chip_text (λ c. image_of_chip (chip_at machine.chips c) (buffer_at machine.buffers c)) text
+chips_none machine text = made_zero chip_text (λ c. image_of_chip (chip_at machine.chips c) (list_at machine.buffers c)) text
 
 pub chips_more : (machine : Machine) (text before after : List ℕ) (c : ℕ) → before ≡ text ++ chips_text machine c
-    → after ≡ before ++ chip_text (image_of_chip (chip_at machine.chips c) (buffer_at machine.buffers c)) → after ≡ text ++ chips_text machine (c + 1)
+    → after ≡ before ++ chip_text (image_of_chip (chip_at machine.chips c) (list_at machine.buffers c)) → after ≡ text ++ chips_text machine (c + 1)
 chips_more machine text before after c is more =
-    grown text (chips_text machine c) (chip_text (image_of_chip (chip_at machine.chips c) (buffer_at machine.buffers c))) before after is more
-    ∙ ap (λ (xs : List ℕ). text ++ xs) (sym (made_more chip_text (λ b. image_of_chip (chip_at machine.chips b) (buffer_at machine.buffers b)) c))
+    grown text (chips_text machine c) (chip_text (image_of_chip (chip_at machine.chips c) (list_at machine.buffers c))) before after is more
+    ∙ ap (λ (xs : List ℕ). text ++ xs) (sym (made_more chip_text (λ b. image_of_chip (chip_at machine.chips b) (list_at machine.buffers b)) c))
 
 -- header, counter and chips, one behind another
 pub all_written : (n cap clock : ℕ) (machine : Machine) (none first header text : List ℕ) → none ≡ [] → first ≡ none ++ shape_text n cap → header ≡ first ++ number w64 clock → clock ≡ machine.clock

@@ -10,9 +10,8 @@ use Rattle.cm_model.specs.declared.message.Message.{Message}
 use Rattle.cm_model.specs.declared.message.Tag.{Tag}
 use Rattle.cm_model.specs.declared.message.Event.{Event}
 use Rattle.cm_model.specs.Each.{each_from}
-use Rattle.cm_model.specs.Array.{chip_at}
-use Rattle.cm_model.specs.Cycle.{log_at}
-use Rattle.cm_model.specs.Machine.{Machine, buffer_at}
+use Rattle.cm_model.specs.Array.{chip_at, list_at}
+use Rattle.cm_model.specs.Machine.{Machine}
 use Rattle.cm_model.specs.Found.{same_tag}
 use Rattle.cm_model.specs.Account.{Triple, standing_triple, delivered_triple, injected_triple, account_at, account, all_injected, HasLines}
 use Rattle.cm_model.specs.Keeping.{BornBefore, HasTagsOnce}
@@ -91,9 +90,9 @@ counted_twice (m ∷ ms) e =
 -- ---- the messages of a machine
 
 abbrev pub standing : ℕ → Machine → List Message
-standing n machine = flat_map (λ c. buffer_at machine.buffers c) (range_with_len 0 (2 ^ n))
+standing n machine = flat_map (λ c. list_at machine.buffers c) (range_with_len 0 (2 ^ n))
 
-messages-image_of_chip : (machine : Machine) (c : ℕ) → (image_of_chip (chip_at machine.chips c) (buffer_at machine.buffers c)).messages ≡ buffer_at machine.buffers c
+messages-image_of_chip : (machine : Machine) (c : ℕ) → (image_of_chip (chip_at machine.chips c) (list_at machine.buffers c)).messages ≡ list_at machine.buffers c
 unfolding image_of_chip
 messages-image_of_chip machine c = refl
 
@@ -104,18 +103,18 @@ gathered_same f g first (suc count) same = λ i. same first i ++ gathered_same f
 pub messages_in-image_of : (n : ℕ) (machine : Machine) → messages_in (image_of n machine).chips ≡ standing n machine
 unfolding each_from
 messages_in-image_of n machine =
-    flat_map-map (λ (chip : ChipImage). chip.messages) (λ c. image_of_chip (chip_at machine.chips c) (buffer_at machine.buffers c)) (range_with_len 0 (2 ^ n))
-    ∙ gathered_same (λ c. (image_of_chip (chip_at machine.chips c) (buffer_at machine.buffers c)).messages) (λ c. buffer_at machine.buffers c) 0 (2 ^ n) (messages-image_of_chip machine)
+    flat_map-map (λ (chip : ChipImage). chip.messages) (λ c. image_of_chip (chip_at machine.chips c) (list_at machine.buffers c)) (range_with_len 0 (2 ^ n))
+    ∙ gathered_same (λ c. (image_of_chip (chip_at machine.chips c) (list_at machine.buffers c)).messages) (λ c. list_at machine.buffers c) 0 (2 ^ n) (messages-image_of_chip machine)
 
 -- ---- no log
 
-no_log : (n : ℕ) (machine : Machine) (c : ℕ) → IsUnlogged n machine → c < 2 ^ n → log_at machine.logs c ≡ []
-no_log n machine c none h = ap (λ (logs : List (List Event)). log_at logs c) none ∙ get_or-each_below (2 ^ n) (λ b. []) c [] h
+no_log : (n : ℕ) (machine : Machine) (c : ℕ) → IsUnlogged n machine → c < 2 ^ n → list_at machine.logs c ≡ []
+no_log n machine c none h = ap (λ (logs : List (List Event)). list_at logs c) none ∙ get_or-each_below (2 ^ n) (λ b. []) c [] h
 
-no_delivery : (n : ℕ) (machine : Machine) (c : ℕ) → IsUnlogged n machine → c < 2 ^ n → account_at machine c ≡ map (standing_triple c) (buffer_at machine.buffers c)
+no_delivery : (n : ℕ) (machine : Machine) (c : ℕ) → IsUnlogged n machine → c < 2 ^ n → account_at machine c ≡ map (standing_triple c) (list_at machine.buffers c)
 no_delivery n machine c none h =
-    ap (λ (log : List Event). map (standing_triple c) (buffer_at machine.buffers c) ++ filter_map delivered_triple log) (no_log n machine c none h)
-    ∙ append-nil (map (standing_triple c) (buffer_at machine.buffers c))
+    ap (λ (log : List Event). map (standing_triple c) (list_at machine.buffers c) ++ filter_map delivered_triple log) (no_log n machine c none h)
+    ∙ append-nil (map (standing_triple c) (list_at machine.buffers c))
 
 nothing_gathered : {X : Type 0} (f : ℕ → List X) (first count : ℕ) → ((c : ℕ) → c < first + count → f c ≡ []) → flat_map f (range_with_len first count) ≡ []
 nothing_gathered f first zero none = refl
@@ -124,9 +123,9 @@ nothing_gathered f first (suc count) none = λ i. none first (omega arith) i ++ 
 pub none_injected : (n : ℕ) (machine : Machine) → IsUnlogged n machine → HasLines (all_injected n machine) (account n machine)
 unfolding all_injected
 none_injected n machine none kind =
-    let empty : flat_map (λ c. filter_map (injected_triple c) (log_at machine.logs c)) (range_with_len 0 (2 ^ n)) ≡ [] =
-    nothing_gathered (λ c. filter_map (injected_triple c) (log_at machine.logs c)) 0 (2 ^ n) (λ c h. ap (filter_map (injected_triple c)) (no_log n machine c none (omega arith))) in
-    let count : count_by kind (flat_map (λ c. filter_map (injected_triple c) (log_at machine.logs c)) (range_with_len 0 (2 ^ n))) ≡ 0 = ap (count_by kind) empty in
+    let empty : flat_map (λ c. filter_map (injected_triple c) (list_at machine.logs c)) (range_with_len 0 (2 ^ n)) ≡ [] =
+    nothing_gathered (λ c. filter_map (injected_triple c) (list_at machine.logs c)) 0 (2 ^ n) (λ c h. ap (filter_map (injected_triple c)) (no_log n machine c none (omega arith))) in
+    let count : count_by kind (flat_map (λ c. filter_map (injected_triple c) (list_at machine.logs c)) (range_with_len 0 (2 ^ n))) ≡ 0 = ap (count_by kind) empty in
     omega (arith, count)
 
 -- ---- tags
@@ -135,10 +134,10 @@ pub tags_counted : (n : ℕ) (machine : Machine) (tag : Tag) → IsUnlogged n ma
 unfolding account
 tags_counted n machine tag none =
     sum_by-flat_map (λ (triple : Triple). cond (same_tag triple.tag tag) 1 0) (account_at machine) (range_with_len 0 (2 ^ n))
-    ∙ (sum_by-range (λ c. sum_by (λ (triple : Triple). cond (same_tag triple.tag tag) 1 0) (account_at machine c)) (λ c. sum_by (λ (m : Message). cond (same_tag m.tag tag) 1 0) (buffer_at machine.buffers c)) 0 (2 ^ n)
+    ∙ (sum_by-range (λ c. sum_by (λ (triple : Triple). cond (same_tag triple.tag tag) 1 0) (account_at machine c)) (λ c. sum_by (λ (m : Message). cond (same_tag m.tag tag) 1 0) (list_at machine.buffers c)) 0 (2 ^ n)
     (λ c l h. ap (sum_by (λ (triple : Triple). cond (same_tag triple.tag tag) 1 0)) (no_delivery n machine c none (omega arith))
-    ∙ sum_by-map (λ (triple : Triple). cond (same_tag triple.tag tag) 1 0) (standing_triple c) (buffer_at machine.buffers c))
-    ∙ sym (sum_by-flat_map (λ (m : Message). cond (same_tag m.tag tag) 1 0) (λ c. buffer_at machine.buffers c) (range_with_len 0 (2 ^ n))))
+    ∙ sum_by-map (λ (triple : Triple). cond (same_tag triple.tag tag) 1 0) (standing_triple c) (list_at machine.buffers c))
+    ∙ sym (sum_by-flat_map (λ (m : Message). cond (same_tag m.tag tag) 1 0) (λ c. list_at machine.buffers c) (range_with_len 0 (2 ^ n))))
 
 -- a machine whose tags stand once has none twice in its buffers
 pub tags_stand_once : (n : ℕ) (machine : Machine) → IsUnlogged n machine → HasTagsOnce n machine → has_tag_twice (standing n machine) ≡ false
@@ -195,18 +194,18 @@ born_messages clock c (m ∷ ms) all =
     All-cons (IsBorn clock) m ms (All-head (IsBornLine clock) (standing_triple c m) (map (standing_triple c) ms) all)
     (born_messages clock c ms (All-tail (IsBornLine clock) (standing_triple c m) (map (standing_triple c) ms) all))
 
-pub BornBefore-buffers : (n : ℕ) (machine : Machine) → IsUnlogged n machine → ((c : ℕ) → c < 2 ^ n → All (IsBorn machine.clock) (buffer_at machine.buffers c)) → BornBefore n machine
+pub BornBefore-buffers : (n : ℕ) (machine : Machine) → IsUnlogged n machine → ((c : ℕ) → c < 2 ^ n → All (IsBorn machine.clock) (list_at machine.buffers c)) → BornBefore n machine
 unfolding account
 BornBefore-buffers n machine none all =
     all_gathered (IsBornLine machine.clock) (account_at machine) 0 (2 ^ n)
     (λ c h. subst (λ (lines : List Triple). All (IsBornLine machine.clock) lines) (sym (no_delivery n machine c none (omega arith)))
-    (born_lines machine.clock c (buffer_at machine.buffers c) (all c (omega arith))))
+    (born_lines machine.clock c (list_at machine.buffers c) (all c (omega arith))))
 
-pub born_at : (n : ℕ) (machine : Machine) (c : ℕ) → BornBefore n machine → c < 2 ^ n → All (IsBorn machine.clock) (buffer_at machine.buffers c)
+pub born_at : (n : ℕ) (machine : Machine) (c : ℕ) → BornBefore n machine → c < 2 ^ n → All (IsBorn machine.clock) (list_at machine.buffers c)
 unfolding account
 born_at n machine c born h =
     let lines : All (IsBornLine machine.clock) (account_at machine (0 + c)) = each_gathered (IsBornLine machine.clock) (account_at machine) 0 (2 ^ n) c born h in
     let same : 0 + c ≡ c = omega arith in
-    born_messages machine.clock c (buffer_at machine.buffers c)
-    (All-front (IsBornLine machine.clock) (map (standing_triple c) (buffer_at machine.buffers c)) (filter_map delivered_triple (log_at machine.logs c))
+    born_messages machine.clock c (list_at machine.buffers c)
+    (All-front (IsBornLine machine.clock) (map (standing_triple c) (list_at machine.buffers c)) (filter_map delivered_triple (list_at machine.logs c))
     (subst (λ (b : ℕ). All (IsBornLine machine.clock) (account_at machine b)) same lines))

@@ -10,9 +10,8 @@ use Rattle.cm_model.specs.declared.message.Event.{Event}
 use Rattle.cm_model.specs.Each.{each_from}
 use Rattle.cm_model.specs.Processor.{Processor}
 use Rattle.cm_model.specs.Whole.{IsChip}
-use Rattle.cm_model.specs.Array.{each_chip, chip_at}
-use Rattle.cm_model.specs.Cycle.{log_at}
-use Rattle.cm_model.specs.Machine.{Machine, buffer_at}
+use Rattle.cm_model.specs.Array.{each_chip, chip_at, list_at}
+use Rattle.cm_model.specs.Machine.{Machine}
 use Rattle.cm_model.specs.Keeping.{IsMessage, IsEventOf}
 use Rattle.cm_model.proofs.Each.{length-each_from, get_or-each_below, is_each}
 use Rattle.cm_image_format.specs.declared.fault.ImageFault.TheVariants.{Count}
@@ -30,9 +29,9 @@ unfolding each_from
 map-each_from h first count f = map-map h f (range_with_len first count)
 
 abbrev chip_image : Machine → ℕ → ChipImage
-chip_image machine c = image_of_chip (chip_at machine.chips c) (buffer_at machine.buffers c)
+chip_image machine c = image_of_chip (chip_at machine.chips c) (list_at machine.buffers c)
 
-buffer_again : (machine : Machine) (c : ℕ) → (chip_image machine c).messages ≡ buffer_at machine.buffers c
+buffer_again : (machine : Machine) (c : ℕ) → (chip_image machine c).messages ≡ list_at machine.buffers c
 unfolding image_of_chip
 buffer_again machine c = refl
 
@@ -45,7 +44,7 @@ machine_from-image_of n cap machine is =
     let chips : map chip_from (each_chip n (chip_image machine)) ≡ machine.chips =
     map-each_from chip_from 0 (2 ^ n) (chip_image machine)
     ∙ sym (is_each [] (2 ^ n) (λ c. chip_from (chip_image machine c)) machine.chips whole.chip_count
-    (λ c h. sym (chip_from-image_of_chip (chip_at machine.chips c) (buffer_at machine.buffers c) (whole.whole c h)))) in
+    (λ c h. sym (chip_from-image_of_chip (chip_at machine.chips c) (list_at machine.buffers c) (whole.whole c h)))) in
     let buffers : map (λ (chip : ChipImage). chip.messages) (each_chip n (chip_image machine)) ≡ machine.buffers =
     map-each_from (λ (chip : ChipImage). chip.messages) 0 (2 ^ n) (chip_image machine)
     ∙ sym (is_each [] (2 ^ n) (λ c. (chip_image machine c).messages) machine.buffers whole.buffer_count (λ c h. sym (buffer_again machine c))) in
@@ -62,7 +61,7 @@ chip_made : (image : Image) (c : ℕ) → c < length image.chips → chip_at (ma
 unfolding machine_from
 chip_made image c h = get_or-map chip_from image.chips c no_image [] h
 
-buffer_made : (image : Image) (c : ℕ) → c < length image.chips → buffer_at (machine_from image).buffers c ≡ (get_or image.chips c no_image).messages
+buffer_made : (image : Image) (c : ℕ) → c < length image.chips → list_at (machine_from image).buffers c ≡ (get_or image.chips c no_image).messages
 unfolding machine_from
 buffer_made image c h = get_or-map (λ (chip : ChipImage). chip.messages) image.chips c no_image [] h
 
@@ -101,9 +100,9 @@ IsImage-image_of n cap machine is =
           (All-from_get_or (IsChipImage n cap machine.clock) chips no_image
           (λ c h. let below : c < 2 ^ n = omega (arith, length-each_from 0 (2 ^ n) (chip_image machine)) in
           subst (λ (chip : ChipImage). IsChipImage n cap machine.clock chip) (sym (get_or-each_below (2 ^ n) (chip_image machine) c no_image below))
-          (IsChipImage-image_of_chip n cap machine.clock (chip_at machine.chips c) (buffer_at machine.buffers c) (whole.whole c below)
-          (AreMessages-buffer n cap machine.clock (buffer_at machine.buffers c) is.most_room (whole.room c below)
-          (stored_messages n machine.clock (buffer_at machine.buffers c) (whole.messages c below) (born_at n machine c whole.births below))))));
+          (IsChipImage-image_of_chip n cap machine.clock (chip_at machine.chips c) (list_at machine.buffers c) (whole.whole c below)
+          (AreMessages-buffer n cap machine.clock (list_at machine.buffers c) is.most_room (whole.room c below)
+          (stored_messages n machine.clock (list_at machine.buffers c) (whole.messages c below) (born_at n machine c whole.births below))))));
     }
 
 -- ---- what is made of an image is a machine
@@ -119,7 +118,7 @@ unfolding machine_from
 counts n cap image is =
     (length-map image.chips chip_from ∙ is.count, length-map image.chips (λ (chip : ChipImage). chip.messages) ∙ is.count, length-map image.chips (λ (chip : ChipImage). []) ∙ is.count)
 
-stored_at : (n cap : ℕ) (image : Image) (c : ℕ) → IsImage n cap image → c < 2 ^ n → All (IsStoredMessage n image.clock) (buffer_at (machine_from image).buffers c)
+stored_at : (n cap : ℕ) (image : Image) (c : ℕ) → IsImage n cap image → c < 2 ^ n → All (IsStoredMessage n image.clock) (list_at (machine_from image).buffers c)
 stored_at n cap image c is h =
     subst (λ (ms : List Message). All (IsStoredMessage n image.clock) ms) (sym (buffer_made image c (omega (arith, is.count))))
     (All-AllFrom (IsStoredMessage n image.clock) 0 (get_or image.chips c no_image).messages (each_is n cap image c is h).messages.1)
@@ -150,8 +149,8 @@ IsStored-machine_from n cap image is apart =
             subst (λ (ms : List Message). length ms ≤ cap) (sym (buffer_made image c (omega (arith, is.count)))) here;
         messages = λ c h. λ k d l. (stored_at n cap image c is h k d l).message;
         events = λ c h. subst (λ (log : List Event). All (IsEventOf n c) log)
-            (sym (ap (λ (logs : List (List Event)). log_at logs c) none ∙ get_or-each_below (2 ^ n) (λ b. []) c [] h)) (All-nil (IsEventOf n c));
-        births = BornBefore-buffers n (machine_from image) none (λ c h. λ k d l. subst (λ (t : ℕ). (get_or (buffer_at (machine_from image).buffers c) k d).tag.birth < t) (sym clock) (stored_at n cap image c is h k d l).birth);
+            (sym (ap (λ (logs : List (List Event)). list_at logs c) none ∙ get_or-each_below (2 ^ n) (λ b. []) c [] h)) (All-nil (IsEventOf n c));
+        births = BornBefore-buffers n (machine_from image) none (λ c h. λ k d l. subst (λ (t : ℕ). (get_or (list_at (machine_from image).buffers c) k d).tag.birth < t) (sym clock) (stored_at n cap image c is h k d l).birth);
         tags = HasTagsOnce-standing n (machine_from image) none once;
         injected = none_injected n (machine_from image) none;
       };

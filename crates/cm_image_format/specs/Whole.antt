@@ -7,8 +7,8 @@ use Rattle.cm_model.specs.declared.message.Message.{Message}
 use Rattle.cm_model.specs.Each.{each_from}
 use Rattle.cm_model.specs.Processor.{Processor, memory_bit, flag}
 use Rattle.cm_model.specs.Chip.{each_processor, processor_at, plane_number}
-use Rattle.cm_model.specs.Array.{each_chip, chip_at}
-use Rattle.cm_model.specs.Machine.{Machine, buffer_at}
+use Rattle.cm_model.specs.Array.{each_chip, chip_at, list_at}
+use Rattle.cm_model.specs.Machine.{Machine}
 use Rattle.cm_model.specs.Found.{same_tag}
 use Rattle.cm_message.specs.Bytes.{number}
 use Rattle.cm_image_format.specs.declared.fault.ImageFault.{ImageFault}
@@ -64,7 +64,7 @@ pub record Image : Type 0 where
   pub chips : List ChipImage
 
 abbrev pub image_of : ℕ → Machine → Image
-image_of n machine = record { clock = machine.clock; chips = each_chip n (λ c. image_of_chip (chip_at machine.chips c) (buffer_at machine.buffers c)) }
+image_of n machine = record { clock = machine.clock; chips = each_chip n (λ c. image_of_chip (chip_at machine.chips c) (list_at machine.buffers c)) }
 
 unfoldable pub image_text : ℕ → ℕ → Image → List ℕ
 image_text n cap image = shape_text n cap ++ (number w64 image.clock ++ flat_map chip_text image.chips)

@@ -11,18 +11,18 @@ use Rattle.cm_model.specs.declared.act.Act.TheVariants as act
 use Rattle.cm_model.specs.declared.message.Message.{Message}
 use Rattle.cm_model.specs.declared.message.Event.{Event}
 use Rattle.cm_model.specs.declared.message.Event.TheVariants.{Injected, Delivered}
-use Rattle.cm_model.specs.Array.{chip_at}
+use Rattle.cm_model.specs.Array.{chip_at, list_at}
 use Rattle.cm_model.specs.Router.{Standing, leaves, after_dimension}
 use Rattle.cm_model.specs.Letters.{messages_sent}
 use Rattle.cm_model.specs.Steps.{Step, Instruct, Look, Inject, Cross, Deliver, IsStep, steps_of, all_steps}
-use Rattle.cm_model.specs.Cycle.{State, log_at, taken_at, new_record, new_records, after_injection, is_delivered, delivered_at, after_delivery, state_after, state_after_all}
-use Rattle.cm_model.specs.Machine.{Machine, buffer_at, records_from, opened, closed, run_of}
+use Rattle.cm_model.specs.Cycle.{State, taken_at, new_record, new_records, after_injection, is_delivered, delivered_at, after_delivery, state_after, state_after_all}
+use Rattle.cm_model.specs.Machine.{Machine, records_from, opened, closed, run_of}
 use Rattle.cm_model.specs.Buffers.{after_act}
 use Rattle.cm_model.specs.Account.{Triple, standing_triple, delivered_triple, injected_triple, account_at, account, new_events, newly_injected, all_injected, SameLines, HasLines}
 use Rattle.cm_model.proofs.Each.{get_or-each_below}
 use Rattle.cm_model.proofs.Flips.{across_below}
 use Rattle.cm_model.proofs.Crossing.{step_of_record}
-use Rattle.cm_model.proofs.Opening.{buffer-opened, buffer_at-closed}
+use Rattle.cm_model.proofs.Opening.{buffer-opened, list_at-closed}
 use Rattle.cm_model.proofs.Counting.{AllInCube, sum_by-plus, sum_by-flat_map, sum_by-range}
 use Rattle.cm_model.proofs.Conserving.{one, chips_of, injected_count, amount, account-closed, amount-after_injection, injected-after_injection, standing_count-after_dimension, AllInCube-filter, amount-after_delivery, injected-after_delivery}
 
@@ -32,9 +32,12 @@ pub AllInCube-append : (n : ℕ) (xs ys : List Standing) → AllInCube n xs → 
 AllInCube-append n [] ys h k = k
 AllInCube-append n (x ∷ xs) ys h k = (h.0, AllInCube-append n xs ys h.1 k)
 
-AllInCube-gathered : (n : ℕ) (f : ℕ → List Standing) (a k : ℕ) → ((c : ℕ) → c < a + k → AllInCube n (f c)) → AllInCube n (flat_map f (range_with_len a k))
+AllInCube-gathered : (n : ℕ) (f : ℕ → List Standing) (a k : ℕ) → ((c : ℕ) → c < a + k → AllInCube n (f c))
+    → AllInCube n (flat_map f (range_with_len a k))
 AllInCube-gathered n f a zero h = tt
-AllInCube-gathered n f a (suc k) h = AllInCube-append n (f a) (flat_map f (range_with_len (a + 1) k)) (h a (omega arith)) (AllInCube-gathered n f (a + 1) k (λ c l. h c (omega arith)))
+AllInCube-gathered n f a (suc k) h =
+    AllInCube-append n (f a) (flat_map f (range_with_len (a + 1) k)) (h a (omega arith))
+    (AllInCube-gathered n f (a + 1) k (λ c l. h c (omega arith)))
 
 AllInCube-new : (n : ℕ) (state : State) (c : ℕ) (ps : List ℕ) → c < 2 ^ n → AllInCube n (map (new_record n state c) ps)
 AllInCube-new n state c [] l = tt
@@ -46,12 +49,16 @@ AllInCube-records n c i (m ∷ ms) l = (l, AllInCube-records n c (i + 1) ms l)
 
 pub AllInCube-opened : (n : ℕ) (machine : Machine) → AllInCube n (opened n machine).standing
 unfolding opened
-AllInCube-opened n machine = AllInCube-gathered n (λ c. records_from c 0 (buffer_at machine.buffers c)) 0 (2 ^ n) (λ c l. AllInCube-records n c 0 (buffer_at machine.buffers c) (omega arith))
+AllInCube-opened n machine =
+    AllInCube-gathered n (λ c. records_from c 0 (list_at machine.buffers c)) 0 (2 ^ n)
+    (λ c l. AllInCube-records n c 0 (list_at machine.buffers c) (omega arith))
 
-AllInCube-crossed : (n d cycle : ℕ) (leaves : Standing → Bool) (set : List Standing) → d < n → AllInCube n set → AllInCube n (map (step_of_record leaves d cycle) set)
+AllInCube-crossed : (n d cycle : ℕ) (leaves : Standing → Bool) (set : List Standing) → d < n → AllInCube n set
+    → AllInCube n (map (step_of_record leaves d cycle) set)
 AllInCube-crossed n d cycle leaves [] below h = tt
 AllInCube-crossed n d cycle leaves (r ∷ set) below h =
-    ⊎_elim (λ (e : leaves r ≡ true). rw e (across_below n d r.chip below h.0, AllInCube-crossed n d cycle leaves set below h.1))
+    ⊎_elim (λ (e : leaves r ≡ true). rw e
+    (across_below n d r.chip below h.0, AllInCube-crossed n d cycle leaves set below h.1))
     (λ (e : leaves r ≡ false). rw e (h.0, AllInCube-crossed n d cycle leaves set below h.1)) (cases_Bool (leaves r))
 
 -- ---- steps of a cube
@@ -71,7 +78,11 @@ AreSteps-crossings n a (suc k) h = (omega arith, AreSteps-crossings n (a + 1) k 
 pub AreSteps-act : (n : ℕ) (a : Act) → AreSteps n (steps_of n a)
 AreSteps-act n (act.Nano nano) = (tt, tt)
 AreSteps-act n act.Sense = (tt, tt)
-AreSteps-act n act.Cycle = (tt, AreSteps-append n (map Cross (range_with_len 0 n)) (Deliver ∷ []) (AreSteps-crossings n 0 n (omega arith)) (tt, tt))
+AreSteps-act n act.Cycle = (
+  tt,
+  AreSteps-append n (map Cross (range_with_len 0 n)) (Deliver ∷ []) (AreSteps-crossings n 0 n (omega arith))
+      (tt, tt),
+)
 
 pub AreSteps-all : (n : ℕ) (acts : List Act) → AreSteps n (all_steps n acts)
 AreSteps-all n [] = tt
@@ -85,14 +96,15 @@ Extends before after = (more : List Event) × (after ≡ before ++ more)
 
 pub record Follows (n : ℕ) (a b : State) : Type 0 where
   pub cube : AllInCube n b.standing
-  pub balance : (p : Triple → Bool) → amount p n b + injected_count p n a.logs ≡ amount p n a + injected_count p n b.logs
-  pub grows : (c : ℕ) → c < 2 ^ n → Extends (log_at a.logs c) (log_at b.logs c)
+  pub balance : (p : Triple → Bool)
+      → amount p n b + injected_count p n a.logs ≡ amount p n a + injected_count p n b.logs
+  pub grows : (c : ℕ) → c < 2 ^ n → Extends (list_at a.logs c) (list_at b.logs c)
 
 same_log : (xs : List Event) → Extends xs xs
 same_log xs = ([], sym (append-nil xs))
 
 follows_itself : (n : ℕ) (a : State) → AllInCube n a.standing → Follows n a a
-follows_itself n a h = record { cube = h; balance = λ p. refl; grows = λ c l. same_log (log_at a.logs c) }
+follows_itself n a h = record { cube = h; balance = λ p. refl; grows = λ c l. same_log (list_at a.logs c) }
 
 follows_on : (n : ℕ) (a b c : State) → Follows n a b → Follows n b c → Follows n a c
 follows_on n a b c h k = record {
@@ -100,28 +112,34 @@ follows_on n a b c h k = record {
   balance = λ p. omega (arith, h.balance p, k.balance p);
   grows = λ x l. (
     (h.grows x l).0 ++ (k.grows x l).0,
-    (k.grows x l).1 ∙ (ap (λ z. z ++ (k.grows x l).0) (h.grows x l).1 ∙ append_assoc (log_at a.logs x) (h.grows x l).0 (k.grows x l).0),
+    (k.grows x l).1 ∙ (ap (λ z. z ++ (k.grows x l).0) (h.grows x l).1
+        ∙ append_assoc (list_at a.logs x) (h.grows x l).0 (k.grows x l).0),
   );
 }
 
-after_injection_follows : (n cap : ℕ) (state : State) → AllInCube n state.standing → Follows n state (after_injection n cap state)
+after_injection_follows : (n cap : ℕ) (state : State) → AllInCube n state.standing
+    → Follows n state (after_injection n cap state)
 unfolding after_injection
 after_injection_follows n cap state h = record {
   cube = AllInCube-append n state.standing (flat_map (new_records n cap state) (chips_of n)) h
-      (AllInCube-gathered n (new_records n cap state) 0 (2 ^ n) (λ c l. AllInCube-new n state c (taken_at cap state c) (omega arith)));
+      (AllInCube-gathered n (new_records n cap state) 0 (2 ^ n)
+      (λ c l. AllInCube-new n state c (taken_at cap state c) (omega arith)));
   balance = λ p. omega (arith, amount-after_injection p n cap state, injected-after_injection p n cap state);
   grows = λ c l. (
     map Injected (messages_sent n state.clock c (chip_at state.chips c) (taken_at cap state c)),
-    get_or-each_below (2 ^ n) (λ b. log_at state.logs b ++ map Injected (messages_sent n state.clock b (chip_at state.chips b) (taken_at cap state b))) c [] l,
+    get_or-each_below (2 ^ n)
+        (λ b. list_at state.logs b ++ map Injected
+        (messages_sent n state.clock b (chip_at state.chips b) (taken_at cap state b))) c [] l,
   );
 }
 
-after_dimension_follows : (n cap d : ℕ) (state : State) → d < n → AllInCube n state.standing → Follows n state (state_after n cap state (Cross d))
+after_dimension_follows : (n cap d : ℕ) (state : State) → d < n → AllInCube n state.standing
+    → Follows n state (state_after n cap state (Cross d))
 unfolding amount after_dimension
 after_dimension_follows n cap d state below h = record {
   cube = AllInCube-crossed n d state.cycle (leaves cap d state.standing) state.standing below h;
   balance = λ p. omega (arith, standing_count-after_dimension p cap d state.cycle state.standing);
-  grows = λ c l. same_log (log_at state.logs c);
+  grows = λ c l. same_log (list_at state.logs c);
 }
 
 after_delivery_follows : (n : ℕ) (state : State) → AllInCube n state.standing → Follows n state (after_delivery n state)
@@ -131,19 +149,23 @@ after_delivery_follows n state h = record {
   balance = λ p. omega (arith, amount-after_delivery p n state h, injected-after_delivery p n state);
   grows = λ c l. (
     map (λ m. Delivered m c) (delivered_at state.chips state.standing c),
-    get_or-each_below (2 ^ n) (λ b. log_at state.logs b ++ map (λ m. Delivered m b) (delivered_at state.chips state.standing b)) c [] l,
+    get_or-each_below (2 ^ n)
+        (λ b. list_at state.logs b ++ map (λ m. Delivered m b) (delivered_at state.chips state.standing b)) c [] l,
   );
 }
 
-state_after_follows : (n cap : ℕ) (state : State) (step : Step) → IsStep n step → AllInCube n state.standing → Follows n state (state_after n cap state step)
+state_after_follows : (n cap : ℕ) (state : State) (step : Step) → IsStep n step → AllInCube n state.standing
+    → Follows n state (state_after n cap state step)
 unfolding amount
-state_after_follows n cap state (Instruct nano) s h = record { cube = h; balance = λ p. refl; grows = λ c l. same_log (log_at state.logs c) }
+state_after_follows n cap state (Instruct nano) s h =
+    record { cube = h; balance = λ p. refl; grows = λ c l. same_log (list_at state.logs c) }
 state_after_follows n cap state Look s h = follows_itself n state h
 state_after_follows n cap state Inject s h = after_injection_follows n cap state h
 state_after_follows n cap state (Cross d) s h = after_dimension_follows n cap d state s h
 state_after_follows n cap state Deliver s h = after_delivery_follows n state h
 
-pub state_after_all_follows : (n cap : ℕ) (state : State) (steps : List Step) → AreSteps n steps → AllInCube n state.standing → Follows n state (state_after_all n cap state steps)
+pub state_after_all_follows : (n cap : ℕ) (state : State) (steps : List Step) → AreSteps n steps
+    → AllInCube n state.standing → Follows n state (state_after_all n cap state steps)
 state_after_all_follows n cap state [] s h = follows_itself n state h
 state_after_all_follows n cap state (step ∷ steps) s h =
     let next : Follows n state (state_after n cap state step) = state_after_follows n cap state step s.0 h in
@@ -156,67 +178,91 @@ state_after_all_follows n cap state (step ∷ steps) s h =
 abbrev pub state_left : ℕ → ℕ → Machine → List Act → State
 state_left n cap machine acts = state_after_all n cap (opened n machine) (all_steps n acts)
 
-pub run_follows : (n cap : ℕ) (machine : Machine) (acts : List Act) → Follows n (opened n machine) (state_left n cap machine acts)
-run_follows n cap machine acts = state_after_all_follows n cap (opened n machine) (all_steps n acts) (AreSteps-all n acts) (AllInCube-opened n machine)
+pub run_follows : (n cap : ℕ) (machine : Machine) (acts : List Act)
+    → Follows n (opened n machine) (state_left n cap machine acts)
+run_follows n cap machine acts =
+    state_after_all_follows n cap (opened n machine) (all_steps n acts) (AreSteps-all n acts)
+    (AllInCube-opened n machine)
 
-grown_log : (n cap : ℕ) (machine : Machine) (acts : List Act) (c : ℕ) → c < 2 ^ n → Extends (log_at machine.logs c) (log_at (state_left n cap machine acts).logs c)
+grown_log : (n cap : ℕ) (machine : Machine) (acts : List Act) (c : ℕ) → c < 2 ^ n
+    → Extends (list_at machine.logs c) (list_at (state_left n cap machine acts).logs c)
 unfolding opened
 grown_log n cap machine acts c l = (run_follows n cap machine acts).grows c l
 
 -- the logs only grow
 pub logs_grow : (n cap : ℕ) (machine : Machine) (acts : List Act) (c : ℕ) → c < 2 ^ n →
-    log_at (run_of n cap machine acts).logs c ≡ log_at machine.logs c ++ new_events machine (run_of n cap machine acts) c
+    list_at (run_of n cap machine acts).logs c ≡ list_at machine.logs c ++ new_events machine
+    (run_of n cap machine acts) c
 unfolding run_of closed
 logs_grow n cap machine acts c l =
-    let grown : Extends (log_at machine.logs c) (log_at (state_left n cap machine acts).logs c) = grown_log n cap machine acts c l in
-    grown.1 ∙ ap (λ z. log_at machine.logs c ++ z) (sym (ap (drop (length (log_at machine.logs c))) grown.1 ∙ drop_at (log_at machine.logs c) grown.0 (length (log_at machine.logs c)) refl))
+    let grown : Extends (list_at machine.logs c) (list_at (state_left n cap machine acts).logs c) =
+    grown_log n cap machine acts c l in
+    grown.1 ∙ ap (λ z. list_at machine.logs c ++ z)
+    (sym (ap (drop (length (list_at machine.logs c))) grown.1
+    ∙ drop_at (list_at machine.logs c) grown.0 (length (list_at machine.logs c)) refl))
 
 -- what was injected before and what is new is all that was injected
 injected_grows : (p : Triple → Bool) (n cap : ℕ) (machine : Machine) (acts : List Act) →
-    injected_count p n (run_of n cap machine acts).logs ≡ injected_count p n machine.logs + count_by p (newly_injected n machine (run_of n cap machine acts))
+    injected_count p n (run_of n cap machine acts).logs ≡ injected_count p n machine.logs + count_by p
+    (newly_injected n machine (run_of n cap machine acts))
 unfolding newly_injected
 injected_grows p n cap machine acts =
     let after : Machine = run_of n cap machine acts in
-    sum_by-range (λ c. count_by p (filter_map (injected_triple c) (log_at after.logs c)))
-    (λ c. count_by p (filter_map (injected_triple c) (log_at machine.logs c)) + count_by p (filter_map (injected_triple c) (new_events machine after c))) 0 (2 ^ n)
+    sum_by-range (λ c. count_by p (filter_map (injected_triple c) (list_at after.logs c)))
+    (λ c. count_by p (filter_map (injected_triple c) (list_at machine.logs c)) + count_by p
+    (filter_map (injected_triple c) (new_events machine after c))) 0 (2 ^ n)
     (λ c k l. ap (λ z. count_by p (filter_map (injected_triple c) z)) (logs_grow n cap machine acts c (omega arith))
-    ∙ (ap (count_by p) (filter_map-append (injected_triple c) (log_at machine.logs c) (new_events machine after c))
-    ∙ sum_by-append (one p) (filter_map (injected_triple c) (log_at machine.logs c)) (filter_map (injected_triple c) (new_events machine after c))))
-    ∙ (sum_by-plus (λ c. count_by p (filter_map (injected_triple c) (log_at machine.logs c))) (λ c. count_by p (filter_map (injected_triple c) (new_events machine after c))) (chips_of n)
-    ∙ ap (λ k. injected_count p n machine.logs + k) (sym (sum_by-flat_map (one p) (λ c. filter_map (injected_triple c) (new_events machine after c)) (chips_of n))))
+    ∙ (ap (count_by p) (filter_map-append (injected_triple c) (list_at machine.logs c) (new_events machine after c))
+    ∙ sum_by-append (one p) (filter_map (injected_triple c) (list_at machine.logs c))
+    (filter_map (injected_triple c) (new_events machine after c))))
+    ∙ (sum_by-plus (λ c. count_by p (filter_map (injected_triple c) (list_at machine.logs c)))
+    (λ c. count_by p (filter_map (injected_triple c) (new_events machine after c))) (chips_of n)
+    ∙ ap (λ k. injected_count p n machine.logs + k)
+    (sym (sum_by-flat_map (one p) (λ c. filter_map (injected_triple c) (new_events machine after c)) (chips_of n))))
 
-account_at-same : (n : ℕ) (machine : Machine) (c : ℕ) → c < 2 ^ n → account_at machine c ≡ account_at (closed n (opened n machine)) c
+account_at-same : (n : ℕ) (machine : Machine) (c : ℕ) → c < 2 ^ n
+    → account_at machine c ≡ account_at (closed n (opened n machine)) c
 unfolding closed opened
 account_at-same n machine c l =
-    ap (λ ms. map (standing_triple c) ms ++ filter_map delivered_triple (log_at machine.logs c))
-    (sym (buffer_at-closed n (opened n machine) c l ∙ buffer-opened n machine c l))
+    ap (λ ms. map (standing_triple c) ms ++ filter_map delivered_triple (list_at machine.logs c))
+    (sym (list_at-closed n (opened n machine) c l ∙ buffer-opened n machine c l))
 
-account-same : (p : Triple → Bool) (n : ℕ) (machine : Machine) → count_by p (account n machine) ≡ count_by p (account n (closed n (opened n machine)))
+account-same : (p : Triple → Bool) (n : ℕ) (machine : Machine)
+    → count_by p (account n machine) ≡ count_by p (account n (closed n (opened n machine)))
 unfolding account
 account-same p n machine =
     sum_by-flat_map (one p) (account_at machine) (chips_of n)
-    ∙ (sum_by-range (λ c. count_by p (account_at machine c)) (λ c. count_by p (account_at (closed n (opened n machine)) c)) 0 (2 ^ n)
+    ∙ (sum_by-range (λ c. count_by p (account_at machine c))
+    (λ c. count_by p (account_at (closed n (opened n machine)) c)) 0 (2 ^ n)
     (λ c h l. ap (count_by p) (account_at-same n machine c (omega arith)))
     ∙ sym (sum_by-flat_map (one p) (account_at (closed n (opened n machine))) (chips_of n)))
 
 -- how many lines of a machine's account pass
-pub account-opened : (p : Triple → Bool) (n : ℕ) (machine : Machine) → count_by p (account n machine) ≡ amount p n (opened n machine)
-account-opened p n machine = account-same p n machine ∙ account-closed p n (opened n machine) (AllInCube-opened n machine)
+pub account-opened : (p : Triple → Bool) (n : ℕ) (machine : Machine)
+    → count_by p (account n machine) ≡ amount p n (opened n machine)
+account-opened p n machine = account-same p n machine
+    ∙ account-closed p n (opened n machine) (AllInCube-opened n machine)
 
-pub account-run_of : (p : Triple → Bool) (n cap : ℕ) (machine : Machine) (acts : List Act) → count_by p (account n (run_of n cap machine acts)) ≡ amount p n (state_left n cap machine acts)
+pub account-run_of : (p : Triple → Bool) (n cap : ℕ) (machine : Machine) (acts : List Act)
+    → count_by p (account n (run_of n cap machine acts)) ≡ amount p n (state_left n cap machine acts)
 unfolding run_of
-account-run_of p n cap machine acts = account-closed p n (state_left n cap machine acts) (run_follows n cap machine acts).cube
+account-run_of p n cap machine acts =
+    account-closed p n (state_left n cap machine acts) (run_follows n cap machine acts).cube
 
-injected-opened : (p : Triple → Bool) (n : ℕ) (machine : Machine) → injected_count p n (opened n machine).logs ≡ injected_count p n machine.logs
+injected-opened : (p : Triple → Bool) (n : ℕ) (machine : Machine)
+    → injected_count p n (opened n machine).logs ≡ injected_count p n machine.logs
 unfolding opened
 injected-opened p n machine = refl
 
-injected-run_of : (p : Triple → Bool) (n cap : ℕ) (machine : Machine) (acts : List Act) → injected_count p n (state_left n cap machine acts).logs ≡ injected_count p n (run_of n cap machine acts).logs
+injected-run_of : (p : Triple → Bool) (n cap : ℕ) (machine : Machine) (acts : List Act)
+    → injected_count p n (state_left n cap machine acts).logs ≡ injected_count p n (run_of n cap machine acts).logs
 unfolding run_of closed
 injected-run_of p n cap machine acts = refl
 
 -- the account after a run is that before it, and the lines of what was injected
-pub account_is_conserved : (n cap : ℕ) (machine : Machine) (acts : List Act) → SameLines (account n (run_of n cap machine acts)) (account n machine ++ newly_injected n machine (run_of n cap machine acts))
+pub account_is_conserved : (n cap : ℕ) (machine : Machine) (acts : List Act)
+    → SameLines (account n (run_of n cap machine acts))
+    (account n machine ++ newly_injected n machine (run_of n cap machine acts))
 account_is_conserved n cap machine acts p =
     omega (
       arith,
@@ -229,17 +275,21 @@ account_is_conserved n cap machine acts p =
       sum_by-append (one p) (account n machine) (newly_injected n machine (run_of n cap machine acts)),
     )
 
-pub account-nano : (n cap : ℕ) (machine : Machine) (nano : Nano) → account n (after_act n cap machine (act.Nano nano)) ≡ account n machine
+pub account-nano : (n cap : ℕ) (machine : Machine) (nano : Nano)
+    → account n (after_act n cap machine (act.Nano nano)) ≡ account n machine
 unfolding account
 account-nano n cap machine nano = refl
 
-all_injected-count : (p : Triple → Bool) (n : ℕ) (machine : Machine) → count_by p (all_injected n machine) ≡ injected_count p n machine.logs
+all_injected-count : (p : Triple → Bool) (n : ℕ) (machine : Machine)
+    → count_by p (all_injected n machine) ≡ injected_count p n machine.logs
 unfolding all_injected
-all_injected-count p n machine = sum_by-flat_map (one p) (λ c. filter_map (injected_triple c) (log_at machine.logs c)) (chips_of n)
+all_injected-count p n machine =
+    sum_by-flat_map (one p) (λ c. filter_map (injected_triple c) (list_at machine.logs c)) (chips_of n)
 
 -- what was injected goes on to stand in the account
 pub injected_stand_in_the_account : (n cap : ℕ) (machine : Machine) (acts : List Act) →
-    HasLines (all_injected n machine) (account n machine) → HasLines (all_injected n (run_of n cap machine acts)) (account n (run_of n cap machine acts))
+    HasLines (all_injected n machine) (account n machine)
+    → HasLines (all_injected n (run_of n cap machine acts)) (account n (run_of n cap machine acts))
 injected_stand_in_the_account n cap machine acts h p =
     omega (
       arith,

@@ -43,13 +43,16 @@ not_of (suc (suc u)) h = absurd (omega arith)
 -- ---- the bits of a word
 
 pub bit-bit_and : (x y i : ℕ) → bit (bit_and x y) i ≡ bit x i && bit y i
-bit-bit_and x y i = ap (λ (n : ℕ). n == 1) (bit_at_and x y i) ∙ and_of (bit_at x i) (bit_at y i) (bit_at-lt x i) (bit_at-lt y i)
+bit-bit_and x y i = ap (λ (n : ℕ). n == 1) (bit_at_and x y i)
+    ∙ and_of (bit_at x i) (bit_at y i) (bit_at-lt x i) (bit_at-lt y i)
 
 pub bit-bit_or : (x y i : ℕ) → bit (bit_or x y) i ≡ bit x i || bit y i
-bit-bit_or x y i = ap (λ (n : ℕ). n == 1) (bit_at_or x y i) ∙ or_of (bit_at x i) (bit_at y i) (bit_at-lt x i) (bit_at-lt y i)
+bit-bit_or x y i = ap (λ (n : ℕ). n == 1) (bit_at_or x y i)
+    ∙ or_of (bit_at x i) (bit_at y i) (bit_at-lt x i) (bit_at-lt y i)
 
 pub bit-bit_xor : (x y i : ℕ) → bit (bit_xor x y) i ≡ differ (bit x i) (bit y i)
-bit-bit_xor x y i = ap (λ (n : ℕ). n == 1) (bit_at_xor x y i) ∙ xor_of (bit_at x i) (bit_at y i) (bit_at-lt x i) (bit_at-lt y i)
+bit-bit_xor x y i = ap (λ (n : ℕ). n == 1) (bit_at_xor x y i)
+    ∙ xor_of (bit_at x i) (bit_at y i) (bit_at-lt x i) (bit_at-lt y i)
 
 pub bit-bit_not : (x i : ℕ) → x < 2 ^ 16 → i < 16 → bit (bit_not w16 x) i ≡ not (bit x i)
 bit-bit_not x i fits h = ap (λ (n : ℕ). n == 1) (bit_at_not w16 x i fits h) ∙ not_of (bit_at x i) (bit_at-lt x i)
@@ -76,7 +79,8 @@ differ_chosen true false true = refl
 differ_chosen true false false = refl
 
 -- the difference of two differences
-pub differ_crossed : (c w x y z : Bool) → differ (differ w y) (c && differ (differ w x) (differ y z)) ≡ cond c (differ x z) (differ w y)
+pub differ_crossed : (c w x y z : Bool)
+    → differ (differ w y) (c && differ (differ w x) (differ y z)) ≡ cond c (differ x z) (differ w y)
 differ_crossed false w x y z = differ-false (differ w y)
 differ_crossed true true true true true = refl
 differ_crossed true true true true false = refl

@@ -8,8 +8,8 @@ use Rattle.cm_model.specs.declared.message.Event.{Event}
 use Rattle.cm_model.specs.Processor.{Processor, blank_processor}
 use Rattle.cm_model.specs.Chip.{no_processor, blank_chip}
 use Rattle.cm_model.specs.Whole.{IsProcessor, IsChip}
-use Rattle.cm_model.specs.Cycle.{log_at}
-use Rattle.cm_model.specs.Machine.{blank_machine, buffer_at}
+use Rattle.cm_model.specs.Array.{list_at}
+use Rattle.cm_model.specs.Machine.{blank_machine}
 use Rattle.cm_model.specs.Account.{Triple, injected_triple, account_at, account, all_injected}
 use Rattle.cm_model.specs.Found.{same_tag}
 use Rattle.cm_model.specs.Keeping.{IsMessage, IsEventOf, IsMachine}
@@ -17,35 +17,44 @@ use Rattle.cm_model.proofs.Each.{length-each_from, get_or-each_below}
 
 IsProcessor-blank : IsProcessor blank_processor
 unfolding blank_processor
-IsProcessor-blank = record { memory = length-replicate 4096 false; flags = length-replicate 16 false; zero = get_or-replicate 16 8 false false (omega arith) }
+IsProcessor-blank = record {
+  memory = length-replicate 4096 false;
+  flags = length-replicate 16 false;
+  zero =
+      get_or-replicate 16 8 false false (omega arith);
+}
 
 IsChip-blank : IsChip blank_chip
 unfolding blank_chip
 IsChip-blank = record {
   count = length-each_from 0 16 (λ p. blank_processor);
-  each = λ p l. subst (λ (q : Processor). IsProcessor q) (sym (get_or-each_below 16 (λ k. blank_processor) p no_processor l)) IsProcessor-blank;
+  each = λ p l. subst (λ (q : Processor). IsProcessor q)
+      (sym (get_or-each_below 16 (λ k. blank_processor) p no_processor l)) IsProcessor-blank;
 }
 
 -- nothing on any chip is nothing at all
-nothing_gathered : {X : Type 0} (f : ℕ → List X) (a k : ℕ) → ((c : ℕ) → c < a + k → f c ≡ []) → flat_map f (range_with_len a k) ≡ []
+nothing_gathered : {X : Type 0} (f : ℕ → List X) (a k : ℕ) → ((c : ℕ) → c < a + k → f c ≡ [])
+    → flat_map f (range_with_len a k) ≡ []
 nothing_gathered f a zero h = refl
 nothing_gathered f a (suc k) h = rw (h a (omega arith), nothing_gathered f (a + 1) k (λ c l. h c (omega arith))) refl
 
-no_buffer : (n c : ℕ) → c < 2 ^ n → buffer_at (blank_machine n).buffers c ≡ []
+no_buffer : (n c : ℕ) → c < 2 ^ n → list_at (blank_machine n).buffers c ≡ []
 unfolding blank_machine
 no_buffer n c l = get_or-each_below {X = List Message} (2 ^ n) (λ b. []) c [] l
 
-no_log : (n c : ℕ) → c < 2 ^ n → log_at (blank_machine n).logs c ≡ []
+no_log : (n c : ℕ) → c < 2 ^ n → list_at (blank_machine n).logs c ≡ []
 unfolding blank_machine
 no_log n c l = get_or-each_below {X = List Event} (2 ^ n) (λ b. []) c [] l
 
 no_account : (n : ℕ) → account n (blank_machine n) ≡ []
 unfolding account
-no_account n = nothing_gathered (account_at (blank_machine n)) 0 (2 ^ n) (λ c l. rw (no_buffer n c (omega arith), no_log n c (omega arith)) refl)
+no_account n = nothing_gathered (account_at (blank_machine n)) 0 (2 ^ n)
+    (λ c l. rw (no_buffer n c (omega arith), no_log n c (omega arith)) refl)
 
 none_injected : (n : ℕ) → all_injected n (blank_machine n) ≡ []
 unfolding all_injected
-none_injected n = nothing_gathered (λ c. filter_map (injected_triple c) (log_at (blank_machine n).logs c)) 0 (2 ^ n) (λ c l. rw (no_log n c (omega arith)) refl)
+none_injected n = nothing_gathered (λ c. filter_map (injected_triple c) (list_at (blank_machine n).logs c)) 0 (2 ^ n)
+    (λ c l. rw (no_log n c (omega arith)) refl)
 
 -- at whatever count of petit cycles
 pub IsMachine-blank_at : (n cap clock : ℕ) → IsMachine n cap (record (blank_machine n) { clock = clock })
@@ -54,13 +63,18 @@ IsMachine-blank_at n cap clock = record {
   chip_count = length-each_from 0 (2 ^ n) (λ c. blank_chip);
   buffer_count = length-each_from {X = List Message} 0 (2 ^ n) (λ c. []);
   log_count = length-each_from {X = List Event} 0 (2 ^ n) (λ c. []);
-  whole = λ c l. subst (λ (chip : List Processor). IsChip chip) (sym (get_or-each_below (2 ^ n) (λ b. blank_chip) c [] l)) IsChip-blank;
+  whole = λ c l. subst (λ (chip : List Processor). IsChip chip)
+      (sym (get_or-each_below (2 ^ n) (λ b. blank_chip) c [] l)) IsChip-blank;
   room = λ c l. subst (λ (ms : List Message). length ms ≤ cap) (sym (no_buffer n c l)) (omega arith);
   messages = λ c l. subst (λ (ms : List Message). All (IsMessage n) ms) (sym (no_buffer n c l)) (All-nil (IsMessage n));
   events = λ c l. subst (λ (es : List Event). All (IsEventOf n c) es) (sym (no_log n c l)) (All-nil (IsEventOf n c));
-  births = subst (λ (lines : List Triple). All (λ triple. triple.tag.birth < clock) lines) (sym (no_account n)) (All-nil (λ (triple : Triple). triple.tag.birth < clock));
-  tags = λ tag. subst (λ (lines : List Triple). count_by (λ triple. same_tag triple.tag tag) lines ≤ 1) (sym (no_account n)) (omega arith);
-  injected = λ kind. subst (λ (lines : List Triple). count_by kind lines ≤ count_by kind (account n (blank_machine n))) (sym (none_injected n)) (omega arith);
+  births = subst (λ (lines : List Triple). All (λ triple. triple.tag.birth < clock) lines) (sym (no_account n))
+      (All-nil (λ (triple : Triple). triple.tag.birth < clock));
+  tags = λ tag. subst (λ (lines : List Triple). count_by (λ triple. same_tag triple.tag tag) lines ≤ 1)
+      (sym (no_account n)) (omega arith);
+  injected = λ kind. subst
+      (λ (lines : List Triple). count_by kind lines ≤ count_by kind (account n (blank_machine n)))
+      (sym (none_injected n)) (omega arith);
 }
 
 pub IsMachine-blank : (n cap : ℕ) → IsMachine n cap (blank_machine n)

@@ -16,7 +16,8 @@ use Rattle.cm_model.proofs.Readiness.{IsReady, IsRising-filter, AllBefore-later}
 
 -- ---- a test of some record, in any order
 
-list_any-put : (p : Standing → Bool) (r : Standing) (xs : List Standing) → list_any p (put r xs) ≡ (p r || list_any p xs)
+list_any-put : (p : Standing → Bool) (r : Standing) (xs : List Standing)
+    → list_any p (put r xs) ≡ (p r || list_any p xs)
 list_any-put p r [] = refl
 list_any-put p r (x ∷ xs) =
     ⊎_elim (λ (e : is_before x.since r.since ≡ true). rw (e, list_any-put p r xs) (swapped (p x) (p r) (list_any p xs)))
@@ -32,7 +33,8 @@ list_any-in_order p [] = refl
 list_any-in_order p (x ∷ xs) = list_any-put p x (in_order xs) ∙ ap (λ z. p x || z) (list_any-in_order p xs)
 
 -- a test that holds only at a chip
-list_any-at : (c : ℕ) (p : Standing → Bool) (xs : List Standing) → list_any (λ q. is_at c q && p q) xs ≡ list_any p (standing_at c xs)
+list_any-at : (c : ℕ) (p : Standing → Bool) (xs : List Standing)
+    → list_any (λ q. is_at c q && p q) xs ≡ list_any p (standing_at c xs)
 list_any-at c p [] = refl
 list_any-at c p (x ∷ xs) =
     ⊎_elim (λ (e : is_at c x ≡ true). rw e (ap (λ z. p x || z) (list_any-at c p xs)))
@@ -48,11 +50,14 @@ has_arrived_for p q = has_arrived q.message && is_for p q.message
 abbrev pub comes_before : Standing → Standing → Bool
 comes_before r q = has_arrived q.message && (is_for r.message.proc q.message && is_before q.since r.since)
 
-all_count : (r : Standing) (xs : List Standing) → AllBefore r.since xs → list_any (comes_before r) xs ≡ list_any (has_arrived_for r.message.proc) xs
+all_count : (r : Standing) (xs : List Standing) → AllBefore r.since xs
+    → list_any (comes_before r) xs ≡ list_any (has_arrived_for r.message.proc) xs
 all_count r [] h = refl
 all_count r (x ∷ xs) h =
     let e : is_before x.since r.since ≡ true = h.0 in
-    let same : comes_before r x ≡ has_arrived_for r.message.proc x = ap (λ t. has_arrived x.message && (is_for r.message.proc x.message && t)) e ∙ last_true (has_arrived x.message) (is_for r.message.proc x.message) in
+    let same : comes_before r x ≡ has_arrived_for r.message.proc x =
+    ap (λ t. has_arrived x.message && (is_for r.message.proc x.message && t)) e
+    ∙ last_true (has_arrived x.message) (is_for r.message.proc x.message) in
     rw (same, all_count r xs h.1) refl
   where
     last_true : (a b : Bool) → (a && (b && true)) ≡ (a && b)
@@ -64,7 +69,8 @@ none_counts : (r : Standing) (xs : List Standing) → AllAfter r.since xs → li
 none_counts r [] h = refl
 none_counts r (x ∷ xs) h =
     let e : is_before x.since r.since ≡ false = not_both_before r.since x.since h.0 in
-    let same : comes_before r x ≡ false = ap (λ t. has_arrived x.message && (is_for r.message.proc x.message && t)) e ∙ last_false (has_arrived x.message) (is_for r.message.proc x.message) in
+    let same : comes_before r x ≡ false = ap (λ t. has_arrived x.message && (is_for r.message.proc x.message && t)) e
+    ∙ last_false (has_arrived x.message) (is_for r.message.proc x.message) in
     rw (same, none_counts r xs h.1) refl
   where
     last_false : (a b : Bool) → (a && (b && false)) ≡ false
@@ -74,17 +80,21 @@ none_counts r (x ∷ xs) h =
 
 -- the test of delivery, told by the queue
 abbrev pub is_delivered_from : (ℕ → Bool) → List Standing → Standing → Bool
-is_delivered_from receives records r = has_arrived r.message && (receives r.message.proc && not (list_any (comes_before r) records))
+is_delivered_from receives records r =
+    has_arrived r.message && (receives r.message.proc && not (list_any (comes_before r) records))
 
-all_before_next : (xs : List Standing) (r : Standing) (ys : List Standing) → IsRising (xs ++ r ∷ ys) → AllBefore r.since xs
+all_before_next : (xs : List Standing) (r : Standing) (ys : List Standing) → IsRising (xs ++ r ∷ ys)
+    → AllBefore r.since xs
 all_before_next [] r ys h = tt
 all_before_next (x ∷ xs) r ys h = (after_in x.since xs r ys h.0, all_before_next xs r ys h.1)
   where
-    after_in : (s : Since) (zs : List Standing) (q : Standing) (ws : List Standing) → AllAfter s (zs ++ q ∷ ws) → is_before s q.since ≡ true
+    after_in : (s : Since) (zs : List Standing) (q : Standing) (ws : List Standing) → AllAfter s (zs ++ q ∷ ws)
+        → is_before s q.since ≡ true
     after_in s [] q ws k = k.0
     after_in s (z ∷ zs) q ws k = after_in s zs q ws k.1
 
-all_after_this : (xs : List Standing) (r : Standing) (ys : List Standing) → IsRising (xs ++ r ∷ ys) → AllAfter r.since ys
+all_after_this : (xs : List Standing) (r : Standing) (ys : List Standing) → IsRising (xs ++ r ∷ ys)
+    → AllAfter r.since ys
 all_after_this [] r ys h = h.0
 all_after_this (x ∷ xs) r ys h = all_after_this xs r ys h.1
 
@@ -102,19 +112,25 @@ or_turned true false = refl
 or_turned false true = refl
 or_turned false false = refl
 
-one_more_arrival : (before : List ℕ) (xs : List Standing) (r : Standing) → AreArrivals before xs → AreArrivals (arrived_for before r.message) (xs ++ r ∷ [])
+one_more_arrival : (before : List ℕ) (xs : List Standing) (r : Standing) → AreArrivals before xs
+    → AreArrivals (arrived_for before r.message) (xs ++ r ∷ [])
 one_more_arrival before xs r h p =
     ⊎_elim
-    (λ (e : has_arrived r.message ≡ true). rw (e, list_any-append (has_arrived_for p) xs (r ∷ []), e, h p) (or_turned (is_for p r.message) (list_any (has_arrived_for p) xs)))
-    (λ (e : has_arrived r.message ≡ false). rw (e, list_any-append (has_arrived_for p) xs (r ∷ []), e, h p) (sym (or_false (list_any (has_arrived_for p) xs))))
+    (λ (e : has_arrived r.message ≡ true). rw (e, list_any-append (has_arrived_for p) xs (r ∷ []), e, h p)
+    (or_turned (is_for p r.message) (list_any (has_arrived_for p) xs)))
+    (λ (e : has_arrived r.message ≡ false). rw (e, list_any-append (has_arrived_for p) xs (r ∷ []), e, h p)
+    (sym (or_false (list_any (has_arrived_for p) xs))))
     (cases_Bool (has_arrived r.message))
 
-delivered_here : (receives : ℕ → Bool) (before : List ℕ) (xs : List Standing) (r : Standing) (ys : List Standing) → AreArrivals before xs → IsRising (xs ++ r ∷ ys) →
+delivered_here : (receives : ℕ → Bool) (before : List ℕ) (xs : List Standing) (r : Standing) (ys : List Standing)
+    → AreArrivals before xs → IsRising (xs ++ r ∷ ys) →
     is_delivered_from receives (xs ++ r ∷ ys) r ≡ is_accepted receives before r.message
 delivered_here receives before xs r ys h k =
     let itself : comes_before r r ≡ false =
-    ap (λ t. has_arrived r.message && (is_for r.message.proc r.message && t)) (before_itself r.since) ∙ last_no (has_arrived r.message) (is_for r.message.proc r.message) in
-    let rest : list_any (comes_before r) (r ∷ ys) ≡ false = rw (itself, none_counts r ys (all_after_this xs r ys k)) refl in
+    ap (λ t. has_arrived r.message && (is_for r.message.proc r.message && t)) (before_itself r.since)
+    ∙ last_no (has_arrived r.message) (is_for r.message.proc r.message) in
+    let rest : list_any (comes_before r) (r ∷ ys) ≡ false =
+    rw (itself, none_counts r ys (all_after_this xs r ys k)) refl in
     ap (λ t. has_arrived r.message && (receives r.message.proc && not t))
     (list_any-append (comes_before r) xs (r ∷ ys)
     ∙ (ap (λ t. list_any (comes_before r) xs || t) rest
@@ -126,47 +142,58 @@ delivered_here receives before xs r ys h k =
     last_no true false = refl
     last_no false b = refl
 
-delivered_rest : (receives : ℕ → Bool) (before : List ℕ) (all xs ys : List Standing) → all ≡ xs ++ ys → AreArrivals before xs → IsRising all →
+delivered_rest : (receives : ℕ → Bool) (before : List ℕ) (all xs ys : List Standing) → all ≡ xs ++ ys
+    → AreArrivals before xs → IsRising all →
     messages_of (filter (is_delivered_from receives all) ys) ≡ delivered receives before (messages_of ys)
 delivered_rest receives before all xs [] e h k = refl
 delivered_rest receives before all xs (r ∷ ys) e h k =
     let here : is_delivered_from receives all r ≡ is_accepted receives before r.message =
     subst (λ (z : List Standing). is_delivered_from receives z r ≡ is_accepted receives before r.message) (sym e)
     (delivered_here receives before xs r ys h (subst (λ (z : List Standing). IsRising z) e k)) in
-    let ih : messages_of (filter (is_delivered_from receives all) ys) ≡ delivered receives (arrived_for before r.message) (messages_of ys) =
-    delivered_rest receives (arrived_for before r.message) all (xs ++ r ∷ []) ys (e ∙ sym (append_assoc xs (r ∷ []) ys)) (one_more_arrival before xs r h) k in
+    let ih : messages_of (filter (is_delivered_from receives all) ys) ≡ delivered receives
+    (arrived_for before r.message) (messages_of ys) =
+    delivered_rest receives (arrived_for before r.message) all (xs ++ r ∷ []) ys
+    (e ∙ sym (append_assoc xs (r ∷ []) ys)) (one_more_arrival before xs r h) k in
     ⊎_elim (λ (a : is_accepted receives before r.message ≡ true). rw (here, a) (ap (λ z. r.message ∷ z) ih))
     (λ (a : is_accepted receives before r.message ≡ false). rw (here, a) ih)
     (cases_Bool (is_accepted receives before r.message))
 
-kept_rest : (receives : ℕ → Bool) (before : List ℕ) (all xs ys : List Standing) → all ≡ xs ++ ys → AreArrivals before xs → IsRising all →
+kept_rest : (receives : ℕ → Bool) (before : List ℕ) (all xs ys : List Standing) → all ≡ xs ++ ys
+    → AreArrivals before xs → IsRising all →
     messages_of (filter (λ r. not (is_delivered_from receives all r)) ys) ≡ kept receives before (messages_of ys)
 kept_rest receives before all xs [] e h k = refl
 kept_rest receives before all xs (r ∷ ys) e h k =
     let here : is_delivered_from receives all r ≡ is_accepted receives before r.message =
     subst (λ (z : List Standing). is_delivered_from receives z r ≡ is_accepted receives before r.message) (sym e)
     (delivered_here receives before xs r ys h (subst (λ (z : List Standing). IsRising z) e k)) in
-    let ih : messages_of (filter (λ q. not (is_delivered_from receives all q)) ys) ≡ kept receives (arrived_for before r.message) (messages_of ys) =
-    kept_rest receives (arrived_for before r.message) all (xs ++ r ∷ []) ys (e ∙ sym (append_assoc xs (r ∷ []) ys)) (one_more_arrival before xs r h) k in
+    let ih : messages_of (filter (λ q. not (is_delivered_from receives all q)) ys) ≡ kept receives
+    (arrived_for before r.message) (messages_of ys) =
+    kept_rest receives (arrived_for before r.message) all (xs ++ r ∷ []) ys (e ∙ sym (append_assoc xs (r ∷ []) ys))
+    (one_more_arrival before xs r h) k in
     ⊎_elim (λ (a : is_accepted receives before r.message ≡ true). rw (here, a) ih)
     (λ (a : is_accepted receives before r.message ≡ false). rw (here, a) (ap (λ z. r.message ∷ z) ih))
     (cases_Bool (is_accepted receives before r.message))
 
 -- ---- delivery at a chip
 
-is_delivered_at : (chips : Chips) (set : List Standing) (c : ℕ) (r : Standing) → r.chip ≡ c → is_delivered chips set r ≡ is_delivered_from (can_receive (chip_at chips c)) (queue c set) r
+is_delivered_at : (chips : Chips) (set : List Standing) (c : ℕ) (r : Standing) → r.chip ≡ c
+    → is_delivered chips set r ≡ is_delivered_from (can_receive (chip_at chips c)) (queue c set) r
 unfolding queue
 is_delivered_at chips set c r e =
     ap (λ t. has_arrived r.message && (can_receive (chip_at chips r.chip) r.message.proc && not t))
     (list_any-at r.chip (comes_before r) set ∙ sym (list_any-in_order (comes_before r) (standing_at r.chip set)))
-    ∙ ap (λ k. has_arrived r.message && (can_receive (chip_at chips k) r.message.proc && not (list_any (comes_before r) (in_order (standing_at k set))))) e
+    ∙ ap (λ k. has_arrived r.message
+    && (can_receive (chip_at chips k) r.message.proc && not
+    (list_any (comes_before r) (in_order (standing_at k set))))) e
 
 -- what is delivered, told by the buffer
-pub delivered_at_is : (chips : Chips) (set : List Standing) (c : ℕ) → IsRising (queue c set) → delivered_at chips set c ≡ delivered (can_receive (chip_at chips c)) [] (buffer c set)
+pub delivered_at_is : (chips : Chips) (set : List Standing) (c : ℕ) → IsRising (queue c set)
+    → delivered_at chips set c ≡ delivered (can_receive (chip_at chips c)) [] (buffer c set)
 unfolding delivered_at
 delivered_at_is chips set c h =
     ap messages_of (sym (filter-queue (is_delivered chips set) c set)
-    ∙ filter-queue_same (is_delivered chips set) (is_delivered_from (can_receive (chip_at chips c)) (queue c set)) c set (is_delivered_at chips set c))
+    ∙ filter-queue_same (is_delivered chips set) (is_delivered_from (can_receive (chip_at chips c)) (queue c set)) c
+    set (is_delivered_at chips set c))
     ∙ delivered_rest (can_receive (chip_at chips c)) [] (queue c set) [] (queue c set) refl (λ p. refl) h
 
 -- the set after delivery
@@ -189,17 +216,22 @@ unfolding queue
 queue-filter p c set = ap in_order (filter_twice (is_at c) p set) ∙ sym (filter-in_order p (standing_at c set))
 
 -- what is kept, told by the buffer
-pub buffer-undelivered : (chips : Chips) (set : List Standing) (c : ℕ) → IsRising (queue c set) → buffer c (undelivered chips set) ≡ kept (can_receive (chip_at chips c)) [] (buffer c set)
+pub buffer-undelivered : (chips : Chips) (set : List Standing) (c : ℕ) → IsRising (queue c set)
+    → buffer c (undelivered chips set) ≡ kept (can_receive (chip_at chips c)) [] (buffer c set)
 buffer-undelivered chips set c h =
     ap messages_of (queue-filter (λ r. not (is_delivered chips set r)) c set
-    ∙ filter-queue_same (λ r. not (is_delivered chips set r)) (λ r. not (is_delivered_from (can_receive (chip_at chips c)) (queue c set) r)) c set (λ r e. ap not (is_delivered_at chips set c r e)))
+    ∙ filter-queue_same (λ r. not (is_delivered chips set r))
+    (λ r. not (is_delivered_from (can_receive (chip_at chips c)) (queue c set) r)) c set
+    (λ r e. ap not (is_delivered_at chips set c r e)))
     ∙ kept_rest (can_receive (chip_at chips c)) [] (queue c set) [] (queue c set) refl (λ p. refl) h
 
 -- a part of what was ready is ready
-pub IsReady-filter : (p : Standing → Bool) (top : Since) (set : List Standing) → IsReady top set → IsReady top (filter p set)
+pub IsReady-filter : (p : Standing → Bool) (top : Since) (set : List Standing) → IsReady top set
+    → IsReady top (filter p set)
 IsReady-filter p top set h = record {
   before = AllBefore-filter p top set h.before;
-  rising = λ c. subst (λ (xs : List Standing). IsRising xs) (sym (queue-filter p c set)) (IsRising-filter p (queue c set) (h.rising c));
+  rising = λ c. subst (λ (xs : List Standing). IsRising xs) (sym (queue-filter p c set))
+      (IsRising-filter p (queue c set) (h.rising c));
 }
 
 pub later_ready : (set : List Standing) (s t : Since) → is_before s t ≡ true → IsReady s set → IsReady t set

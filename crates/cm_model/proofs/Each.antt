@@ -9,17 +9,20 @@ unfolding each_from
 length-each_from first count f = length-map-range_with_len f first count
 
 -- the element at an index is what the function gives for that number
-pub get_or-each_from : {X : Type 0} (first count : ℕ) (f : ℕ → X) (i : ℕ) (d : X) → i < count → get_or (each_from first count f) i d ≡ f (first + i)
+pub get_or-each_from : {X : Type 0} (first count : ℕ) (f : ℕ → X) (i : ℕ) (d : X) → i < count
+    → get_or (each_from first count f) i d ≡ f (first + i)
 unfolding each_from
 get_or-each_from first count f i d h = get_or-map-range_with_len f first count i (first + i) d h refl
 
 -- the same, where the numbers begin at 0
-pub get_or-each_below : {X : Type 0} (count : ℕ) (f : ℕ → X) (i : ℕ) (d : X) → i < count → get_or (each_from 0 count f) i d ≡ f i
+pub get_or-each_below : {X : Type 0} (count : ℕ) (f : ℕ → X) (i : ℕ) (d : X) → i < count
+    → get_or (each_from 0 count f) i d ≡ f i
 unfolding each_from
 get_or-each_below count f i d h = get_or-map-range_with_len f 0 count i i d h (omega arith)
 
 -- two functions that agree on the numbers make one list
-pub same_each : {X : Type 0} (d : X) (first count : ℕ) (f g : ℕ → X) → ((i : ℕ) → i < count → f (first + i) ≡ g (first + i)) → each_from first count f ≡ each_from first count g
+pub same_each : {X : Type 0} (d : X) (first count : ℕ) (f g : ℕ → X)
+    → ((i : ℕ) → i < count → f (first + i) ≡ g (first + i)) → each_from first count f ≡ each_from first count g
 same_each d first count f g same =
     ext_get_or d (each_from first count f) (each_from first count g)
     (length-each_from first count f ∙ sym (length-each_from first count g))
@@ -27,7 +30,8 @@ same_each d first count f g same =
     get_or-each_from first count f i d below ∙ same i below ∙ sym (get_or-each_from first count g i d below))
 
 -- the same, where the numbers begin at 0
-pub same_each_below : {X : Type 0} (d : X) (count : ℕ) (f g : ℕ → X) → ((i : ℕ) → i < count → f i ≡ g i) → each_from 0 count f ≡ each_from 0 count g
+pub same_each_below : {X : Type 0} (d : X) (count : ℕ) (f g : ℕ → X) → ((i : ℕ) → i < count → f i ≡ g i)
+    → each_from 0 count f ≡ each_from 0 count g
 same_each_below d count f g same =
     ext_get_or d (each_from 0 count f) (each_from 0 count g)
     (length-each_from 0 count f ∙ sym (length-each_from 0 count g))
@@ -35,7 +39,8 @@ same_each_below d count f g same =
     get_or-each_below count f i d below ∙ same i below ∙ sym (get_or-each_below count g i d below))
 
 -- a list that reads as the function at each index is the list that it makes
-pub is_each : {X : Type 0} (d : X) (count : ℕ) (f : ℕ → X) (xs : List X) → length xs ≡ count → ((i : ℕ) → i < count → get_or xs i d ≡ f i) → xs ≡ each_from 0 count f
+pub is_each : {X : Type 0} (d : X) (count : ℕ) (f : ℕ → X) (xs : List X) → length xs ≡ count
+    → ((i : ℕ) → i < count → get_or xs i d ≡ f i) → xs ≡ each_from 0 count f
 is_each d count f xs long reads =
     ext_get_or d xs (each_from 0 count f) (long ∙ sym (length-each_from 0 count f))
     (λ i h. let below : i < count = omega (arith, long) in

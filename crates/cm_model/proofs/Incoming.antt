@@ -13,7 +13,8 @@ use Rattle.cm_model.specs.Array.{Chips, chip_at, incoming}
 use Rattle.cm_model.proofs.Each.{same_each_below}
 use Rattle.cm_model.proofs.Torus.{neighbours_lead_back}
 
-same_processor : (nano : Nano) (x y : Bool) (processor : Processor) → (takes_incoming nano ≡ true → x ≡ y) → processor_after nano x processor ≡ processor_after nano y processor
+same_processor : (nano : Nano) (x y : Bool) (processor : Processor) → (takes_incoming nano ≡ true → x ≡ y)
+    → processor_after nano x processor ≡ processor_after nano y processor
 unfolding processor_after
 same_processor nano x y processor same =
     ⊎_elim (λ (e : takes_incoming nano ≡ true). ap (λ (v : Bool). processor_after nano v processor) (same e))
@@ -21,28 +22,36 @@ same_processor nano x y processor same =
     (cases_Bool (takes_incoming nano))
 
 -- what comes in counts only where the instruction writes NEWS or DAISY
-pub same_chip : (nano : Nano) (x y : ℕ → Bool) (chip : List Processor) → ((p : ℕ) → p < 16 → takes_incoming nano ≡ true → x p ≡ y p) → chip_after nano x chip ≡ chip_after nano y chip
+pub same_chip : (nano : Nano) (x y : ℕ → Bool) (chip : List Processor)
+    → ((p : ℕ) → p < 16 → takes_incoming nano ≡ true → x p ≡ y p) → chip_after nano x chip ≡ chip_after nano y chip
 unfolding chip_after
 same_chip nano x y chip same =
-    same_each_below no_processor 16 (λ p. processor_after nano (x p) (processor_at chip p)) (λ p. processor_after nano (y p) (processor_at chip p))
+    same_each_below no_processor 16 (λ p. processor_after nano (x p) (processor_at chip p))
+    (λ p. processor_after nano (y p) (processor_at chip p))
     (λ p h. same_processor nano (x p) (y p) (processor_at chip p) (same p h))
 
 -- the planes have the flag output of every place
 pub record AreFlagOutputs (n : ℕ) (nano : Nano) (chips : Chips) (planes : List ℕ) : Type 0 where
-  pub each : (c p : ℕ) → c < 2 ^ n → p < 16 → bit (slice_index planes c) p ≡ flag_output nano (processor_at (chip_at chips c) p)
+  pub each : (c p : ℕ) → c < 2 ^ n → p < 16
+      → bit (slice_index planes c) p ≡ flag_output nano (processor_at (chip_at chips c) p)
 
 -- over NEWS the bit of the place whose neighbour this is
-pub over_news : (n : ℕ) (nano : Nano) (chips : Chips) (planes : List ℕ) (c p : ℕ) → AreFlagOutputs n nano chips planes → c < 2 ^ n → p < 16 → (nano.write == 10) ≡ true
-    → bit (slice_index planes (source n nano.dir (record { chip = c; proc = p })).chip) (source n nano.dir (record { chip = c; proc = p })).proc ≡ incoming n nano chips c p
+pub over_news : (n : ℕ) (nano : Nano) (chips : Chips) (planes : List ℕ) (c p : ℕ) → AreFlagOutputs n nano chips planes
+    → c < 2 ^ n → p < 16 → (nano.write == 10) ≡ true
+    → bit (slice_index planes (source n nano.dir (record { chip = c; proc = p })).chip)
+    (source n nano.dir (record { chip = c; proc = p })).proc ≡ incoming n nano chips c p
 unfolding incoming
 over_news n nano chips planes c p are inside h news =
     let place : Place = record { chip = c; proc = p } in
-    let within : IsPlace n (source n nano.dir place) = (neighbours_lead_back n (opposite nano.dir) place (record { chip = inside; proc = h })).within in
+    let within : IsPlace n (source n nano.dir place) =
+    (neighbours_lead_back n (opposite nano.dir) place (record { chip = inside; proc = h })).within in
     rw news (are.each (source n nano.dir place).chip (source n nano.dir place).proc within.chip within.proc)
 
 -- along the chain the bit of the predecessor, where `sent` reads the chip's own plane
-pub along_chain : (n : ℕ) (nano : Nano) (chips : Chips) (planes : List ℕ) (c p : ℕ) (sent : Option ℕ → Bool) → AreFlagOutputs n nano chips planes → c < 2 ^ n → p < 16 → (nano.write == 10) ≡ false
-    → sent None ≡ false → ((q : ℕ) → sent (Some q) ≡ bit (slice_index planes c) q) → sent (predecessor p) ≡ incoming n nano chips c p
+pub along_chain : (n : ℕ) (nano : Nano) (chips : Chips) (planes : List ℕ) (c p : ℕ) (sent : Option ℕ → Bool)
+    → AreFlagOutputs n nano chips planes → c < 2 ^ n → p < 16 → (nano.write == 10) ≡ false
+    → sent None ≡ false → ((q : ℕ) → sent (Some q) ≡ bit (slice_index planes c) q)
+    → sent (predecessor p) ≡ incoming n nano chips c p
 unfolding incoming
 along_chain n nano chips planes c p sent are inside h other none some =
     rw other (⊎_elim

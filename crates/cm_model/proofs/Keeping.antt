@@ -11,11 +11,10 @@ use Rattle.cm_model.specs.declared.message.Event.TheVariants.{Injected, Delivere
 use Rattle.cm_model.specs.Processor.{Processor}
 use Rattle.cm_model.specs.Chip.{chip_after}
 use Rattle.cm_model.specs.Whole.{IsChip}
-use Rattle.cm_model.specs.Array.{each_chip, chip_at, incoming, after_nano}
+use Rattle.cm_model.specs.Array.{each_chip, chip_at, incoming, after_nano, list_at}
 use Rattle.cm_model.specs.Letters.{chip_after_injection, chip_after_delivery, can_receive}
 use Rattle.cm_model.specs.Steps.{Step, Instruct, Look, Inject, Cross, Deliver, IsStep, steps_of}
-use Rattle.cm_model.specs.Cycle.{log_at}
-use Rattle.cm_model.specs.Machine.{Machine, buffer_at, run_of}
+use Rattle.cm_model.specs.Machine.{Machine, run_of}
 use Rattle.cm_model.specs.Buffers.{taken_in, sent_in, machine_after_injection, outgoing, buffer_after_dimension, machine_after_dimension, kept, delivered_in, machine_after_delivery, after_step, after_steps, after_act, after_acts}
 use Rattle.cm_model.specs.Account.{account, all_injected, HasLines}
 use Rattle.cm_model.specs.Keeping.{IsMessage, IsEventOf, HasRoom, HasMessages, HasEvents, BornBefore, HasTagsOnce, IsMachine}
@@ -40,16 +39,22 @@ record IsSound (n cap : ℕ) (machine : Machine) : Type 0 where
   events : HasEvents n machine
 
 -- chips that are made one by one
-made_whole : (n : ℕ) (f : ℕ → List Processor) → ((c : ℕ) → c < 2 ^ n → IsChip (f c)) → (c : ℕ) → c < 2 ^ n → IsChip (chip_at (each_chip n f) c)
+made_whole : (n : ℕ) (f : ℕ → List Processor) → ((c : ℕ) → c < 2 ^ n → IsChip (f c)) → (c : ℕ) → c < 2 ^ n
+    → IsChip (chip_at (each_chip n f) c)
 made_whole n f h c l = subst (λ (chip : List Processor). IsChip chip) (sym (get_or-each_below (2 ^ n) f c [] l)) (h c l)
 
-made_messages : (n : ℕ) (f : ℕ → List Message) → ((c : ℕ) → c < 2 ^ n → All (IsMessage n) (f c)) → (c : ℕ) → c < 2 ^ n → All (IsMessage n) (buffer_at (each_chip n f) c)
-made_messages n f h c l = subst (λ (ms : List Message). All (IsMessage n) ms) (sym (get_or-each_below (2 ^ n) f c [] l)) (h c l)
+made_messages : (n : ℕ) (f : ℕ → List Message) → ((c : ℕ) → c < 2 ^ n → All (IsMessage n) (f c)) → (c : ℕ) → c < 2 ^ n
+    → All (IsMessage n) (list_at (each_chip n f) c)
+made_messages n f h c l =
+    subst (λ (ms : List Message). All (IsMessage n) ms) (sym (get_or-each_below (2 ^ n) f c [] l)) (h c l)
 
-made_events : (n : ℕ) (f : ℕ → List Event) → ((c : ℕ) → c < 2 ^ n → All (IsEventOf n c) (f c)) → (c : ℕ) → c < 2 ^ n → All (IsEventOf n c) (log_at (each_chip n f) c)
-made_events n f h c l = subst (λ (es : List Event). All (IsEventOf n c) es) (sym (get_or-each_below (2 ^ n) f c [] l)) (h c l)
+made_events : (n : ℕ) (f : ℕ → List Event) → ((c : ℕ) → c < 2 ^ n → All (IsEventOf n c) (f c)) → (c : ℕ) → c < 2 ^ n
+    → All (IsEventOf n c) (list_at (each_chip n f) c)
+made_events n f h c l = subst (λ (es : List Event). All (IsEventOf n c) es) (sym (get_or-each_below (2 ^ n) f c [] l))
+    (h c l)
 
-sound-nano : (n cap : ℕ) (machine : Machine) (nano : Nano) → IsSound n cap machine → IsSound n cap (record machine { chips = after_nano n nano machine.chips })
+sound-nano : (n cap : ℕ) (machine : Machine) (nano : Nano) → IsSound n cap machine
+    → IsSound n cap (record machine { chips = after_nano n nano machine.chips })
 unfolding after_nano
 sound-nano n cap machine nano h =
     let f : ℕ → List Processor = λ c. chip_after nano (incoming n nano machine.chips c) (chip_at machine.chips c) in
@@ -57,78 +62,112 @@ sound-nano n cap machine nano h =
       chip_count = length-each_from 0 (2 ^ n) f;
       buffer_count = h.buffer_count;
       log_count = h.log_count;
-      whole = made_whole n f (λ c l. IsChip-after nano (incoming n nano machine.chips c) (chip_at machine.chips c) (h.whole c l));
+      whole = made_whole n f
+          (λ c l. IsChip-after nano (incoming n nano machine.chips c) (chip_at machine.chips c) (h.whole c l));
       room = h.room;
       messages = h.messages;
       events = h.events;
     }
 
-sound-injection : (n cap : ℕ) (machine : Machine) → IsSound n cap machine → IsSound n cap (machine_after_injection n cap machine)
+sound-injection : (n cap : ℕ) (machine : Machine) → IsSound n cap machine
+    → IsSound n cap (machine_after_injection n cap machine)
 unfolding machine_after_injection
 sound-injection n cap machine h =
     let chips : ℕ → List Processor = λ c. chip_after_injection (taken_in cap machine c) (chip_at machine.chips c) in
-    let buffers : ℕ → List Message = λ c. buffer_at machine.buffers c ++ sent_in n cap machine c in
-    let logs : ℕ → List Event = λ c. log_at machine.logs c ++ map Injected (sent_in n cap machine c) in
+    let buffers : ℕ → List Message = λ c. list_at machine.buffers c ++ sent_in n cap machine c in
+    let logs : ℕ → List Event = λ c. list_at machine.logs c ++ map Injected (sent_in n cap machine c) in
     record {
       chip_count = length-each_from 0 (2 ^ n) chips;
       buffer_count = length-each_from 0 (2 ^ n) buffers;
       log_count = length-each_from 0 (2 ^ n) logs;
-      whole = made_whole n chips (λ c l. IsChip-after_injection (taken_in cap machine c) (chip_at machine.chips c) (h.whole c l));
+      whole = made_whole n chips
+          (λ c l. IsChip-after_injection (taken_in cap machine c) (chip_at machine.chips c) (h.whole c l));
       room = HasRoom-after_injection n cap machine h.room;
-      messages = made_messages n buffers (λ c l. All-append (IsMessage n) (buffer_at machine.buffers c) (sent_in n cap machine c) (h.messages c l)
-          (AllMessages-sent n machine.clock c (chip_at machine.chips c) (taken_in cap machine c) l (AllBelow-taken cap (length (buffer_at machine.buffers c)) (chip_at machine.chips c))));
-      events = made_events n logs (λ c l. All-append (IsEventOf n c) (log_at machine.logs c) (map Injected (sent_in n cap machine c)) (h.events c l)
-          (AllEvents-sent n machine.clock c (chip_at machine.chips c) (taken_in cap machine c) l (AllBelow-taken cap (length (buffer_at machine.buffers c)) (chip_at machine.chips c))));
+      messages = made_messages n buffers
+          (λ c l. All-append (IsMessage n) (list_at machine.buffers c) (sent_in n cap machine c) (h.messages c l)
+          (AllMessages-sent n machine.clock c (chip_at machine.chips c) (taken_in cap machine c) l
+          (AllBelow-taken cap (length (list_at machine.buffers c)) (chip_at machine.chips c))));
+      events = made_events n logs
+          (λ c l. All-append (IsEventOf n c) (list_at machine.logs c) (map Injected (sent_in n cap machine c))
+          (h.events c l)
+          (AllEvents-sent n machine.clock c (chip_at machine.chips c) (taken_in cap machine c) l
+          (AllBelow-taken cap (length (list_at machine.buffers c)) (chip_at machine.chips c))));
     }
 
-sound-dimension : (n cap d : ℕ) (machine : Machine) → d < n → IsSound n cap machine → IsSound n cap (machine_after_dimension n cap d machine)
+sound-dimension : (n cap d : ℕ) (machine : Machine) → d < n → IsSound n cap machine
+    → IsSound n cap (machine_after_dimension n cap d machine)
 unfolding machine_after_dimension
 sound-dimension n cap d machine below h =
-    let buffers : ℕ → List Message = λ c. buffer_after_dimension cap d (buffer_at machine.buffers c) (outgoing cap d (buffer_at machine.buffers (bit_xor c (2 ^ d)))) in
+    let buffers : ℕ → List Message =
+    λ c. buffer_after_dimension cap d (list_at machine.buffers c)
+    (outgoing cap d (list_at machine.buffers (bit_xor c (2 ^ d)))) in
     record {
       chip_count = h.chip_count;
       buffer_count = length-each_from 0 (2 ^ n) buffers;
       log_count = h.log_count;
       whole = h.whole;
       room = HasRoom-after_dimension n cap d machine below h.room;
-      messages = made_messages n buffers (λ c l. AllMessages-after_dimension n cap d (buffer_at machine.buffers c) (buffer_at machine.buffers (bit_xor c (2 ^ d))) below
+      messages = made_messages n buffers
+          (λ c l. AllMessages-after_dimension n cap d (list_at machine.buffers c)
+          (list_at machine.buffers (bit_xor c (2 ^ d))) below
           (h.messages c l) (h.messages (bit_xor c (2 ^ d)) (across_below n d c below l)));
       events = h.events;
     }
 
-sound-delivery : (n cap : ℕ) (machine : Machine) → IsSound n cap machine → IsSound n cap (machine_after_delivery n machine)
+sound-delivery : (n cap : ℕ) (machine : Machine) → IsSound n cap machine
+    → IsSound n cap (machine_after_delivery n machine)
 unfolding machine_after_delivery
 sound-delivery n cap machine h =
     let chips : ℕ → List Processor = λ c. chip_after_delivery (delivered_in machine c) (chip_at machine.chips c) in
-    let buffers : ℕ → List Message = λ c. kept (can_receive (chip_at machine.chips c)) [] (buffer_at machine.buffers c) in
-    let logs : ℕ → List Event = λ c. log_at machine.logs c ++ map (λ m. Delivered m c) (delivered_in machine c) in
+    let buffers : ℕ → List Message =
+    λ c. kept (can_receive (chip_at machine.chips c)) [] (list_at machine.buffers c) in
+    let logs : ℕ → List Event = λ c. list_at machine.logs c ++ map (λ m. Delivered m c) (delivered_in machine c) in
     record {
       chip_count = length-each_from 0 (2 ^ n) chips;
       buffer_count = length-each_from 0 (2 ^ n) buffers;
       log_count = length-each_from 0 (2 ^ n) logs;
-      whole = made_whole n chips (λ c l. IsChip-after_delivery (delivered_in machine c) (chip_at machine.chips c) (h.whole c l));
+      whole = made_whole n chips
+          (λ c l. IsChip-after_delivery (delivered_in machine c) (chip_at machine.chips c) (h.whole c l));
       room = HasRoom-after_delivery n cap machine h.room;
-      messages = made_messages n buffers (λ c l. AllMessages-kept n (can_receive (chip_at machine.chips c)) [] (buffer_at machine.buffers c) (h.messages c l));
-      events = made_events n logs (λ c l. All-append (IsEventOf n c) (log_at machine.logs c) (map (λ m. Delivered m c) (delivered_in machine c)) (h.events c l)
-          (AllEvents-delivered n c (can_receive (chip_at machine.chips c)) [] (buffer_at machine.buffers c) (h.messages c l)));
+      messages = made_messages n buffers
+          (λ c l. AllMessages-kept n (can_receive (chip_at machine.chips c)) [] (list_at machine.buffers c)
+          (h.messages c l));
+      events = made_events n logs
+          (λ c l. All-append (IsEventOf n c) (list_at machine.logs c)
+          (map (λ m. Delivered m c) (delivered_in machine c)) (h.events c l)
+          (AllEvents-delivered n c (can_receive (chip_at machine.chips c)) [] (list_at machine.buffers c)
+          (h.messages c l)));
     }
 
-sound-step : (n cap : ℕ) (machine : Machine) (step : Step) → IsStep n step → IsSound n cap machine → IsSound n cap (after_step n cap machine step)
+sound-step : (n cap : ℕ) (machine : Machine) (step : Step) → IsStep n step → IsSound n cap machine
+    → IsSound n cap (after_step n cap machine step)
 sound-step n cap machine (Instruct nano) s h = sound-nano n cap machine nano h
 sound-step n cap machine Look s h = h
 sound-step n cap machine Inject s h = sound-injection n cap machine h
 sound-step n cap machine (Cross d) s h = sound-dimension n cap d machine s h
 sound-step n cap machine Deliver s h = sound-delivery n cap machine h
 
-sound-steps : (n cap : ℕ) (machine : Machine) (steps : List Step) → AreSteps n steps → IsSound n cap machine → IsSound n cap (after_steps n cap machine steps)
+sound-steps : (n cap : ℕ) (machine : Machine) (steps : List Step) → AreSteps n steps → IsSound n cap machine
+    → IsSound n cap (after_steps n cap machine steps)
 sound-steps n cap machine [] s h = h
-sound-steps n cap machine (step ∷ steps) s h = sound-steps n cap (after_step n cap machine step) steps s.1 (sound-step n cap machine step s.0 h)
+sound-steps n cap machine (step ∷ steps) s h =
+    sound-steps n cap (after_step n cap machine step) steps s.1 (sound-step n cap machine step s.0 h)
 
 -- an act keeps a machine what it is
-pub IsMachine-after_act : (n cap : ℕ) (machine : Machine) (a : Act) → IsMachine n cap machine → IsMachine n cap (after_act n cap machine a)
+pub IsMachine-after_act : (n cap : ℕ) (machine : Machine) (a : Act) → IsMachine n cap machine
+    → IsMachine n cap (after_act n cap machine a)
 IsMachine-after_act n cap machine a h =
     let sound : IsSound n cap (after_act n cap machine a) = sound-steps n cap machine (steps_of n a) (AreSteps-act n a)
-    (record { chip_count = h.chip_count; buffer_count = h.buffer_count; log_count = h.log_count; whole = h.whole; room = h.room; messages = h.messages; events = h.events }) in
+    (record {
+      chip_count = h.chip_count;
+      buffer_count = h.buffer_count;
+      log_count = h.log_count;
+      whole =
+          h.whole;
+      room = h.room;
+      messages = h.messages;
+      events = h.events;
+    }) in
     let same : run_of n cap machine (a ∷ []) ≡ after_act n cap machine a = run_of-one n cap machine a h.buffer_count in
     record {
       chip_count = sound.chip_count;
@@ -140,14 +179,19 @@ IsMachine-after_act n cap machine a h =
       events = sound.events;
       births = subst (λ (m : Machine). BornBefore n m) same (births_stay_before n cap machine (a ∷ []) h.tags h.births);
       tags = subst (λ (m : Machine). HasTagsOnce n m) same (tags_stay_once n cap machine (a ∷ []) h.tags h.births);
-      injected = subst (λ (m : Machine). HasLines (all_injected n m) (account n m)) same (injected_stand_in_the_account n cap machine (a ∷ []) h.injected);
+      injected = subst (λ (m : Machine). HasLines (all_injected n m) (account n m)) same
+          (injected_stand_in_the_account n cap machine (a ∷ []) h.injected);
     }
 
-IsMachine-after_acts : (n cap : ℕ) (machine : Machine) (acts : List Act) → IsMachine n cap machine → IsMachine n cap (after_acts n cap machine acts)
+IsMachine-after_acts : (n cap : ℕ) (machine : Machine) (acts : List Act) → IsMachine n cap machine
+    → IsMachine n cap (after_acts n cap machine acts)
 IsMachine-after_acts n cap machine [] h = h
-IsMachine-after_acts n cap machine (a ∷ acts) h = IsMachine-after_acts n cap (after_act n cap machine a) acts (IsMachine-after_act n cap machine a h)
+IsMachine-after_acts n cap machine (a ∷ acts) h =
+    IsMachine-after_acts n cap (after_act n cap machine a) acts (IsMachine-after_act n cap machine a h)
 
 -- so does a run
-pub IsMachine-run_of : (n cap : ℕ) (machine : Machine) (acts : List Act) → IsMachine n cap machine → IsMachine n cap (run_of n cap machine acts)
+pub IsMachine-run_of : (n cap : ℕ) (machine : Machine) (acts : List Act) → IsMachine n cap machine
+    → IsMachine n cap (run_of n cap machine acts)
 IsMachine-run_of n cap machine acts h =
-    subst (λ (m : Machine). IsMachine n cap m) (sym (run_of-acted n cap machine acts h.buffer_count)) (IsMachine-after_acts n cap machine acts h)
+    subst (λ (m : Machine). IsMachine n cap m) (sym (run_of-acted n cap machine acts h.buffer_count))
+    (IsMachine-after_acts n cap machine acts h)

@@ -22,16 +22,21 @@ first_is_find p (x ∷ xs) =
 
 pub element_at-position : {X : Type 0} (p : X → Bool) (xs : List X) → element_at xs (position p xs) ≡ find p xs
 element_at-position p xs =
-    cond_both (ltb (position_or_len p xs) (length xs)) (Some (position_or_len p xs)) None (λ o. element_at xs o ≡ find p xs)
+    cond_both (ltb (position_or_len p xs) (length xs)) (Some (position_or_len p xs)) None
+    (λ o. element_at xs o ≡ find p xs)
     (λ e. sym (find_at p xs))
-    (λ e. sym (find_at p xs ∙ slice_get_past xs (position_or_len p xs) (ltb-false (position_or_len p xs) (length xs) e)))
+    (λ e. sym (find_at p xs
+    ∙ slice_get_past xs (position_or_len p xs) (ltb-false (position_or_len p xs) (length xs) e)))
 
-position_or_len-map : {X Y : Type 0} (f : X → Y) (p : Y → Bool) (xs : List X) → position_or_len p (map f xs) ≡ position_or_len (λ x. p (f x)) xs
+position_or_len-map : {X Y : Type 0} (f : X → Y) (p : Y → Bool) (xs : List X)
+    → position_or_len p (map f xs) ≡ position_or_len (λ x. p (f x)) xs
 position_or_len-map f p [] = refl
 position_or_len-map f p (x ∷ xs) =
-    ⊎_elim (λ (e : p (f x) ≡ true). rw e refl) (λ (e : p (f x) ≡ false). rw e (ap (λ k. 1 + k) (position_or_len-map f p xs))) (cases_Bool (p (f x)))
+    ⊎_elim (λ (e : p (f x) ≡ true). rw e refl)
+    (λ (e : p (f x) ≡ false). rw e (ap (λ k. 1 + k) (position_or_len-map f p xs))) (cases_Bool (p (f x)))
 
-pub position-map : {X Y : Type 0} (f : X → Y) (p : Y → Bool) (xs : List X) → position p (map f xs) ≡ position (λ x. p (f x)) xs
+pub position-map : {X Y : Type 0} (f : X → Y) (p : Y → Bool) (xs : List X)
+    → position p (map f xs) ≡ position (λ x. p (f x)) xs
 position-map f p xs = rw (length-map xs f, position_or_len-map f p xs) refl
 
 last_is : (xs : List Standing) → last_of_list xs ≡ slice_get xs (length xs - 1)
@@ -46,9 +51,11 @@ remove_past xs i h = rw (take_all i xs h, drop_all (suc i) xs (omega arith)) (ap
 
 pub map-without : {X Y : Type 0} (f : X → Y) (xs : List X) (o : Option ℕ) → map f (without xs o) ≡ without (map f xs) o
 map-without f xs None = refl
-map-without f xs (Some i) = map-append f (take i xs) (drop (suc i) xs) ∙ rw (take-map f i xs, drop-map f (suc i) xs) refl
+map-without f xs (Some i) = map-append f (take i xs) (drop (suc i) xs)
+    ∙ rw (take-map f i xs, drop-map f (suc i) xs) refl
 
-pub element_at-map : {X Y : Type 0} (f : X → Y) (xs : List X) (o : Option ℕ) → element_at (map f xs) o ≡ option_map f (element_at xs o)
+pub element_at-map : {X Y : Type 0} (f : X → Y) (xs : List X) (o : Option ℕ)
+    → element_at (map f xs) o ≡ option_map f (element_at xs o)
 element_at-map f xs None = refl
 element_at-map f xs (Some i) = slice_get-map f xs i
 
@@ -68,38 +75,49 @@ or_some : {X : Type 0} (z o : Option X) → (z ≡ None → ⊥) → option_or z
 or_some None o h = absurd (h refl)
 or_some (Some x) o h = refl
 
-element_at-or : {X : Type 0} (xs : List X) (p : X → Bool) (o : Option ℕ) → element_at xs (option_or (position p xs) o) ≡ option_or (find p xs) (element_at xs o)
+element_at-or : {X : Type 0} (xs : List X) (p : X → Bool) (o : Option ℕ)
+    → element_at xs (option_or (position p xs) o) ≡ option_or (find p xs) (element_at xs o)
 element_at-or xs p o =
-    cond_both (ltb (position_or_len p xs) (length xs)) (Some (position_or_len p xs)) None (λ q. element_at xs q ≡ find p xs → element_at xs (option_or q o) ≡ option_or (find p xs) (element_at xs o))
-    (λ e w. w ∙ sym (or_some (find p xs) (element_at xs o) (λ none. some_within xs (position_or_len p xs) (ltb-true (position_or_len p xs) (length xs) e) (w ∙ none))))
+    cond_both (ltb (position_or_len p xs) (length xs)) (Some (position_or_len p xs)) None
+    (λ q. element_at xs q ≡ find p xs → element_at xs (option_or q o) ≡ option_or (find p xs) (element_at xs o))
+    (λ e w. w ∙ sym (or_some (find p xs) (element_at xs o)
+    (λ none. some_within xs (position_or_len p xs) (ltb-true (position_or_len p xs) (length xs) e) (w ∙ none))))
     (λ e w. ap (λ z. option_or z (element_at xs o)) w)
     (element_at-position p xs)
 
-element_at-referred : (cap c : ℕ) (set : List Standing) → referred cap (standing_at c set) ≡ element_at (queue c set) (referred_place cap (buffer c set))
+element_at-referred : (cap c : ℕ) (set : List Standing)
+    → referred cap (standing_at c set) ≡ element_at (queue c set) (referred_place cap (buffer c set))
 unfolding queue
 element_at-referred cap c set =
-    let long : length (buffer c set) ≡ length (in_order (standing_at c set)) = length-map (in_order (standing_at c set)) (λ r. r.message) in
-    let same : length (in_order (standing_at c set)) ≡ length (standing_at c set) = length-in_order (standing_at c set) in
+    let long : length (buffer c set) ≡ length (in_order (standing_at c set)) =
+    length-map (in_order (standing_at c set)) (λ r. r.message) in
+    let same : length (in_order (standing_at c set)) ≡ length (standing_at c set) =
+    length-in_order (standing_at c set) in
     rw (long, same)
     (⊎_elim
     (λ (e : eqb (length (standing_at c set)) cap ≡ true).
-    rw e (latest_is (standing_at c set) ∙ (last_is (in_order (standing_at c set)) ∙ ap (λ k. slice_get (in_order (standing_at c set)) (k - 1)) same)))
+    rw e (latest_is (standing_at c set)
+    ∙ (last_is (in_order (standing_at c set)) ∙ ap (λ k. slice_get (in_order (standing_at c set)) (k - 1)) same)))
     (λ (e : eqb (length (standing_at c set)) cap ≡ false). rw e refl)
     (cases_Bool (eqb (length (standing_at c set)) cap)))
 
 -- a filter of the queue is the queue of the filter
-pub filter-queue : (p : Standing → Bool) (c : ℕ) (set : List Standing) → filter p (queue c set) ≡ in_order (filter p (standing_at c set))
+pub filter-queue : (p : Standing → Bool) (c : ℕ) (set : List Standing)
+    → filter p (queue c set) ≡ in_order (filter p (standing_at c set))
 unfolding queue
 filter-queue p c set = filter-in_order p (standing_at c set)
 
 -- the leaver, told by since, is the record at the leaving place of the buffer
-pub leaver_is : (cap d c : ℕ) (set : List Standing) → leaver cap d c set ≡ element_at (queue c set) (leaving_place cap d (buffer c set))
+pub leaver_is : (cap d c : ℕ) (set : List Standing)
+    → leaver cap d c set ≡ element_at (queue c set) (leaving_place cap d (buffer c set))
 unfolding leaver leaving_place
 leaver_is cap d c set =
     let p : Standing → Bool = λ r. has_to_cross d r.message in
     let first : earliest (crossing d (standing_at c set)) ≡ find p (queue c set) =
-    earliest_is (crossing d (standing_at c set)) ∙ (ap first_of_list (sym (filter-queue p c set)) ∙ first_is_find p (queue c set)) in
-    let place : position (has_to_cross d) (buffer c set) ≡ position p (queue c set) = position-map (λ r. r.message) (has_to_cross d) (queue c set) in
+    earliest_is (crossing d (standing_at c set))
+    ∙ (ap first_of_list (sym (filter-queue p c set)) ∙ first_is_find p (queue c set)) in
+    let place : position (has_to_cross d) (buffer c set) ≡ position p (queue c set) =
+    position-map (λ r. r.message) (has_to_cross d) (queue c set) in
     ap (λ z. option_or z (referred cap (standing_at c set))) first
     ∙ (ap (λ z. option_or (find p (queue c set)) z) (element_at-referred cap c set)
     ∙ (sym (element_at-or (queue c set) p (referred_place cap (buffer c set)))
@@ -107,7 +125,8 @@ leaver_is cap d c set =
 
 -- ---- at a chip, who leaves is told by the chip's own leaver
 
-pub filter-standing_at : (p q : Standing → Bool) (c : ℕ) (set : List Standing) → ((r : Standing) → r.chip ≡ c → p r ≡ q r) → filter p (standing_at c set) ≡ filter q (standing_at c set)
+pub filter-standing_at : (p q : Standing → Bool) (c : ℕ) (set : List Standing)
+    → ((r : Standing) → r.chip ≡ c → p r ≡ q r) → filter p (standing_at c set) ≡ filter q (standing_at c set)
 filter-standing_at p q c [] same = refl
 filter-standing_at p q c (r ∷ set) same =
     ⊎_elim
@@ -118,19 +137,23 @@ filter-standing_at p q c (r ∷ set) same =
     (λ (a : is_at c r ≡ false). rw a (filter-standing_at p q c set same))
     (cases_Bool (is_at c r))
 
-pub filter-queue_same : (p q : Standing → Bool) (c : ℕ) (set : List Standing) → ((r : Standing) → r.chip ≡ c → p r ≡ q r) → filter p (queue c set) ≡ filter q (queue c set)
-filter-queue_same p q c set same = filter-queue p c set ∙ (ap in_order (filter-standing_at p q c set same) ∙ sym (filter-queue q c set))
+pub filter-queue_same : (p q : Standing → Bool) (c : ℕ) (set : List Standing)
+    → ((r : Standing) → r.chip ≡ c → p r ≡ q r) → filter p (queue c set) ≡ filter q (queue c set)
+filter-queue_same p q c set same = filter-queue p c set
+    ∙ (ap in_order (filter-standing_at p q c set same) ∙ sym (filter-queue q c set))
 
 -- the record has the leaver's since
 abbrev pub has_since_of : Option Standing → Standing → Bool
 has_since_of o r = is_since r.since o
 
-leaves_here : (cap d c : ℕ) (set : List Standing) (r : Standing) → r.chip ≡ c → leaves cap d set r ≡ has_since_of (leaver cap d c set) r
+leaves_here : (cap d c : ℕ) (set : List Standing) (r : Standing) → r.chip ≡ c
+    → leaves cap d set r ≡ has_since_of (leaver cap d c set) r
 leaves_here cap d c set r e = ap (λ k. is_since r.since (leaver cap d k set)) e
 
 -- ---- in a rising list one record has a since
 
-after_at : (s : Since) (xs : List Standing) (i : ℕ) (x : Standing) → AllAfter s xs → slice_get xs i ≡ Some x → is_before s x.since ≡ true
+after_at : (s : Since) (xs : List Standing) (i : ℕ) (x : Standing) → AllAfter s xs → slice_get xs i ≡ Some x
+    → is_before s x.since ≡ true
 after_at s [] i x h e = absurd cc
 after_at s (y ∷ ys) zero x h e = subst (λ (z : Standing). is_before s z.since ≡ true) (same_Some y x e) h.0
 after_at s (y ∷ ys) (suc i) x h e = after_at s ys i x h.1 e
@@ -138,27 +161,34 @@ after_at s (y ∷ ys) (suc i) x h e = after_at s ys i x h.1 e
 -- none that comes later has this since
 none_with : (s : Since) (xs : List Standing) → AllAfter s xs → filter (λ r. same_since s r.since) xs ≡ []
 none_with s [] h = refl
-none_with s (x ∷ xs) h = let e : same_since s x.since ≡ false = same_not_before s x.since h.0 in rw e (none_with s xs h.1)
+none_with s (x ∷ xs) h = let e : same_since s x.since ≡ false = same_not_before s x.since h.0 in
+    rw e (none_with s xs h.1)
 
 all_without : (s : Since) (xs : List Standing) → AllAfter s xs → filter (λ r. not (same_since s r.since)) xs ≡ xs
 all_without s [] h = refl
-all_without s (x ∷ xs) h = let e : same_since s x.since ≡ false = same_not_before s x.since h.0 in rw e (ap (λ z. x ∷ z) (all_without s xs h.1))
+all_without s (x ∷ xs) h = let e : same_since s x.since ≡ false = same_not_before s x.since h.0 in
+    rw e (ap (λ z. x ∷ z) (all_without s xs h.1))
 
-only_one : (xs : List Standing) (i : ℕ) (x : Standing) → IsRising xs → slice_get xs i ≡ Some x → filter (λ r. same_since x.since r.since) xs ≡ x ∷ []
+only_one : (xs : List Standing) (i : ℕ) (x : Standing) → IsRising xs → slice_get xs i ≡ Some x
+    → filter (λ r. same_since x.since r.since) xs ≡ x ∷ []
 only_one [] i x h e = absurd cc
 only_one (y ∷ ys) zero x h e =
     subst (λ (z : Standing). filter (λ r. same_since z.since r.since) (y ∷ ys) ≡ z ∷ []) (same_Some y x e)
-    (let t : same_since y.since y.since ≡ true = same_itself y.since in rw t (ap (λ z. y ∷ z) (none_with y.since ys h.0)))
+    (let t : same_since y.since y.since ≡ true = same_itself y.since in
+    rw t (ap (λ z. y ∷ z) (none_with y.since ys h.0)))
 only_one (y ∷ ys) (suc i) x h e =
-    let t : same_since x.since y.since ≡ false = same_not_after y.since x.since (after_at y.since ys i x h.0 e) in rw t (only_one ys i x h.1 e)
+    let t : same_since x.since y.since ≡ false = same_not_after y.since x.since (after_at y.since ys i x h.0 e) in
+    rw t (only_one ys i x h.1 e)
 
-all_others : (xs : List Standing) (i : ℕ) (x : Standing) → IsRising xs → slice_get xs i ≡ Some x → filter (λ r. not (same_since x.since r.since)) xs ≡ remove xs i
+all_others : (xs : List Standing) (i : ℕ) (x : Standing) → IsRising xs → slice_get xs i ≡ Some x
+    → filter (λ r. not (same_since x.since r.since)) xs ≡ remove xs i
 all_others [] i x h e = absurd cc
 all_others (y ∷ ys) zero x h e =
     subst (λ (z : Standing). filter (λ r. not (same_since z.since r.since)) (y ∷ ys) ≡ ys) (same_Some y x e)
     (let t : same_since y.since y.since ≡ true = same_itself y.since in rw t (all_without y.since ys h.0))
 all_others (y ∷ ys) (suc i) x h e =
-    let t : same_since x.since y.since ≡ false = same_not_after y.since x.since (after_at y.since ys i x h.0 e) in rw t (ap (λ z. y ∷ z) (all_others ys i x h.1 e))
+    let t : same_since x.since y.since ≡ false = same_not_after y.since x.since (after_at y.since ys i x h.0 e) in
+    rw t (ap (λ z. y ∷ z) (all_others ys i x h.1 e))
 
 -- ---- what a queue loses, and what comes
 
@@ -174,13 +204,15 @@ filter_all : (xs : List Standing) → filter (λ r. true) xs ≡ xs
 filter_all [] = refl
 filter_all (x ∷ xs) = ap (λ z. x ∷ z) (filter_all xs)
 
-stayers_of : (xs : List Standing) (o : Option ℕ) (l : Option Standing) → IsRising xs → l ≡ element_at xs o → filter (stays_from l) xs ≡ without xs o
+stayers_of : (xs : List Standing) (o : Option ℕ) (l : Option Standing) → IsRising xs → l ≡ element_at xs o
+    → filter (stays_from l) xs ≡ without xs o
 stayers_of xs None None h e = filter_all xs
 stayers_of xs None (Some x) h e = absurd cc
 stayers_of xs (Some i) None h e = filter_all xs ∙ sym (remove_past xs i (past_none xs i (sym e)))
 stayers_of xs (Some i) (Some x) h e = all_others xs i x h (sym e)
 
-leavers_of : (xs : List Standing) (o : Option ℕ) (l : Option Standing) → IsRising xs → l ≡ element_at xs o → filter (has_since_of l) xs ≡ option_to_list l
+leavers_of : (xs : List Standing) (o : Option ℕ) (l : Option Standing) → IsRising xs → l ≡ element_at xs o
+    → filter (has_since_of l) xs ≡ option_to_list l
 leavers_of xs o None h e = filter_none xs
 leavers_of xs None (Some x) h e = absurd cc
 leavers_of xs (Some i) (Some x) h e = only_one xs i x h (sym e)
@@ -201,47 +233,61 @@ list_in_order (Some x) ys e = one_in_order x ys e
 
 -- who comes from a chip is its leaver
 pub comers_from : (cap d cycle c : ℕ) (set : List Standing) → IsRising (queue c set) →
-    comers (leaves cap d set) d cycle (standing_at c set) ≡ map (record_across d cycle) (option_to_list (element_at (queue c set) (leaving_place cap d (buffer c set))))
+    comers (leaves cap d set) d cycle (standing_at c set) ≡ map (record_across d cycle)
+    (option_to_list (element_at (queue c set) (leaving_place cap d (buffer c set))))
 comers_from cap d cycle c set h =
     ap (map (record_across d cycle))
     (filter-standing_at (leaves cap d set) (has_since_of (leaver cap d c set)) c set (leaves_here cap d c set)
     ∙ (list_in_order (leaver cap d c set) (filter (has_since_of (leaver cap d c set)) (standing_at c set))
-    (sym (filter-queue (has_since_of (leaver cap d c set)) c set) ∙ leavers_of (queue c set) (leaving_place cap d (buffer c set)) (leaver cap d c set) h (leaver_is cap d c set))
+    (sym (filter-queue (has_since_of (leaver cap d c set)) c set)
+    ∙ leavers_of (queue c set) (leaving_place cap d (buffer c set)) (leaver cap d c set) h (leaver_is cap d c set))
     ∙ ap option_to_list (leaver_is cap d c set)))
 
 -- who stays at a chip
 stayers_at : (cap d c : ℕ) (set : List Standing) → IsRising (queue c set) →
     filter (λ r. not (leaves cap d set r)) (queue c set) ≡ without (queue c set) (leaving_place cap d (buffer c set))
 stayers_at cap d c set h =
-    filter-queue_same (λ r. not (leaves cap d set r)) (stays_from (leaver cap d c set)) c set (λ r e. ap not (leaves_here cap d c set r e))
+    filter-queue_same (λ r. not (leaves cap d set r)) (stays_from (leaver cap d c set)) c set
+    (λ r e. ap not (leaves_here cap d c set r e))
     ∙ stayers_of (queue c set) (leaving_place cap d (buffer c set)) (leaver cap d c set) h (leaver_is cap d c set)
 
 -- the queue after a dimension step: who leaves is gone, and who comes stands last
-pub queue-after_dimension : (cap d cycle c : ℕ) (set : List Standing) → AllBefore (time_across d cycle) set → IsRising (queue c set) → IsRising (queue (bit_xor c (2 ^ d)) set) →
+pub queue-after_dimension : (cap d cycle c : ℕ) (set : List Standing) → AllBefore (time_across d cycle) set
+    → IsRising (queue c set) → IsRising (queue (bit_xor c (2 ^ d)) set) →
     queue c (after_dimension cap d cycle set)
     ≡ without (queue c set) (leaving_place cap d (buffer c set))
-    ++ map (record_across d cycle) (option_to_list (element_at (queue (bit_xor c (2 ^ d)) set) (leaving_place cap d (buffer (bit_xor c (2 ^ d)) set))))
+    ++ map (record_across d cycle)
+    (option_to_list (element_at (queue (bit_xor c (2 ^ d)) set)
+    (leaving_place cap d (buffer (bit_xor c (2 ^ d)) set))))
 unfolding after_dimension
 queue-after_dimension cap d cycle c set b h k =
     queue-crossed (leaves cap d set) d cycle c set b
     ∙ (ap (λ z. z ++ comers (leaves cap d set) d cycle (standing_at (bit_xor c (2 ^ d)) set)) (stayers_at cap d c set h)
-    ∙ ap (λ z. without (queue c set) (leaving_place cap d (buffer c set)) ++ z) (comers_from cap d cycle (bit_xor c (2 ^ d)) set k))
+    ∙ ap (λ z. without (queue c set) (leaving_place cap d (buffer c set)) ++ z)
+    (comers_from cap d cycle (bit_xor c (2 ^ d)) set k))
 
-message_of_comer : (d cycle : ℕ) (o : Option Standing) → messages_of (map (record_across d cycle) (option_to_list o)) ≡ option_to_list (option_map (message_across d) (option_map (λ r. r.message) o))
+message_of_comer : (d cycle : ℕ) (o : Option Standing)
+    → messages_of (map (record_across d cycle) (option_to_list o)) ≡ option_to_list
+    (option_map (message_across d) (option_map (λ r. r.message) o))
 message_of_comer d cycle None = refl
 message_of_comer d cycle (Some r) = refl
 
 -- the same, told by the buffers alone
-pub buffer-after_dimension : (cap d cycle c : ℕ) (set : List Standing) → AllBefore (time_across d cycle) set → IsRising (queue c set) → IsRising (queue (bit_xor c (2 ^ d)) set) →
-    buffer c (after_dimension cap d cycle set) ≡ buffer_after_dimension cap d (buffer c set) (outgoing cap d (buffer (bit_xor c (2 ^ d)) set))
+pub buffer-after_dimension : (cap d cycle c : ℕ) (set : List Standing) → AllBefore (time_across d cycle) set
+    → IsRising (queue c set) → IsRising (queue (bit_xor c (2 ^ d)) set) →
+    buffer c (after_dimension cap d cycle set) ≡ buffer_after_dimension cap d (buffer c set)
+    (outgoing cap d (buffer (bit_xor c (2 ^ d)) set))
 unfolding buffer_after_dimension
 buffer-after_dimension cap d cycle c set b h k =
     let across : ℕ = bit_xor c (2 ^ d) in
     let place : Option ℕ = leaving_place cap d (buffer c set) in
     let there : Option ℕ = leaving_place cap d (buffer across set) in
     ap messages_of (queue-after_dimension cap d cycle c set b h k)
-    ∙ (map-append (λ r. r.message) (without (queue c set) place) (map (record_across d cycle) (option_to_list (element_at (queue across set) there)))
-    ∙ (ap (λ z. z ++ messages_of (map (record_across d cycle) (option_to_list (element_at (queue across set) there)))) (map-without (λ r. r.message) (queue c set) place)
+    ∙ (map-append (λ r. r.message) (without (queue c set) place)
+    (map (record_across d cycle) (option_to_list (element_at (queue across set) there)))
+    ∙ (ap (λ z. z ++ messages_of (map (record_across d cycle) (option_to_list (element_at (queue across set) there))))
+    (map-without (λ r. r.message) (queue c set) place)
     ∙ ap (λ z. without (buffer c set) place ++ z)
     (message_of_comer d cycle (element_at (queue across set) there)
-    ∙ ap (λ z. option_to_list (option_map (message_across d) z)) (sym (element_at-map (λ r. r.message) (queue across set) there)))))
+    ∙ ap (λ z. option_to_list (option_map (message_across d) z))
+    (sym (element_at-map (λ r. r.message) (queue across set) there)))))

@@ -61,7 +61,8 @@ pub none_before_later : (s t : Since) (xs : List Standing) → is_before t s ≡
 none_before_later s t [] h k = tt
 none_before_later s t (x ∷ xs) h k = (not_before_transitive s t x.since h k.0, none_before_later s t xs h k.1)
 
-pub NoneBefore-put : (s : Since) (r : Standing) (xs : List Standing) → is_before r.since s ≡ false → NoneBefore s xs → NoneBefore s (put r xs)
+pub NoneBefore-put : (s : Since) (r : Standing) (xs : List Standing) → is_before r.since s ≡ false → NoneBefore s xs
+    → NoneBefore s (put r xs)
 NoneBefore-put s r [] h k = (h, tt)
 NoneBefore-put s r (x ∷ xs) h k =
     ⊎_elim (λ (e : is_before x.since r.since ≡ true). rw e (k.0, NoneBefore-put s r xs h k.1))
@@ -70,8 +71,10 @@ NoneBefore-put s r (x ∷ xs) h k =
 pub IsSorted-put : (r : Standing) (xs : List Standing) → IsSorted xs → IsSorted (put r xs)
 IsSorted-put r [] k = (tt, tt)
 IsSorted-put r (x ∷ xs) k =
-    ⊎_elim (λ (e : is_before x.since r.since ≡ true). rw e (NoneBefore-put x.since r xs (not_both_before x.since r.since e) k.0, IsSorted-put r xs k.1))
-    (λ (e : is_before x.since r.since ≡ false). rw e ((e, none_before_later r.since x.since xs e k.0), k)) (cases_Bool (is_before x.since r.since))
+    ⊎_elim (λ (e : is_before x.since r.since ≡ true). rw e
+    (NoneBefore-put x.since r xs (not_both_before x.since r.since e) k.0, IsSorted-put r xs k.1))
+    (λ (e : is_before x.since r.since ≡ false). rw e ((e, none_before_later r.since x.since xs e k.0), k))
+    (cases_Bool (is_before x.since r.since))
 
 pub IsSorted-in_order : (xs : List Standing) → IsSorted (in_order xs)
 IsSorted-in_order [] = tt
@@ -81,7 +84,8 @@ pub put_front : (r : Standing) (xs : List Standing) → NoneBefore r.since xs �
 put_front r [] h = refl
 put_front r (x ∷ xs) h = let e = h.0 in rw e refl
 
-pub NoneBefore-filter : (p : Standing → Bool) (s : Since) (xs : List Standing) → NoneBefore s xs → NoneBefore s (filter p xs)
+pub NoneBefore-filter : (p : Standing → Bool) (s : Since) (xs : List Standing) → NoneBefore s xs
+    → NoneBefore s (filter p xs)
 NoneBefore-filter p s [] h = tt
 NoneBefore-filter p s (x ∷ xs) h =
     ⊎_elim (λ (e : p x ≡ true). rw e (h.0, NoneBefore-filter p s xs h.1))
@@ -89,7 +93,8 @@ NoneBefore-filter p s (x ∷ xs) h =
 
 -- ---- a filter of a sorted list
 
-pub filter-put_yes : (p : Standing → Bool) (r : Standing) (xs : List Standing) → IsSorted xs → p r ≡ true → filter p (put r xs) ≡ put r (filter p xs)
+pub filter-put_yes : (p : Standing → Bool) (r : Standing) (xs : List Standing) → IsSorted xs → p r ≡ true
+    → filter p (put r xs) ≡ put r (filter p xs)
 filter-put_yes p r [] s e = rw e refl
 filter-put_yes p r (x ∷ xs) s e =
     ⊎_elim
@@ -101,7 +106,8 @@ filter-put_yes p r (x ∷ xs) s e =
     rw (b, e) (sym (put_front r (filter p (x ∷ xs)) (NoneBefore-filter p r.since (x ∷ xs) front))))
     (cases_Bool (is_before x.since r.since))
 
-pub filter-put_no : (p : Standing → Bool) (r : Standing) (xs : List Standing) → p r ≡ false → filter p (put r xs) ≡ filter p xs
+pub filter-put_no : (p : Standing → Bool) (r : Standing) (xs : List Standing) → p r ≡ false
+    → filter p (put r xs) ≡ filter p xs
 filter-put_no p r [] e = rw e refl
 filter-put_no p r (x ∷ xs) e =
     ⊎_elim
@@ -115,7 +121,8 @@ filter-put_no p r (x ∷ xs) e =
 pub filter-in_order : (p : Standing → Bool) (xs : List Standing) → filter p (in_order xs) ≡ in_order (filter p xs)
 filter-in_order p [] = refl
 filter-in_order p (x ∷ xs) =
-    ⊎_elim (λ (e : p x ≡ true). filter-put_yes p x (in_order xs) (IsSorted-in_order xs) e ∙ rw e (ap (put x) (filter-in_order p xs)))
+    ⊎_elim (λ (e : p x ≡ true). filter-put_yes p x (in_order xs) (IsSorted-in_order xs) e
+    ∙ rw e (ap (put x) (filter-in_order p xs)))
     (λ (e : p x ≡ false). filter-put_no p x (in_order xs) e ∙ rw e (filter-in_order p xs)) (cases_Bool (p x))
 
 -- ---- sorting what is appended
@@ -136,7 +143,8 @@ none_before_from_all_after s (x ∷ xs) h = (not_both_before s x.since h.0, none
 
 pub in_order-rising : (xs : List Standing) → IsRising xs → in_order xs ≡ xs
 in_order-rising [] h = refl
-in_order-rising (x ∷ xs) h = ap (put x) (in_order-rising xs h.1) ∙ put_front x xs (none_before_from_all_after x.since xs h.0)
+in_order-rising (x ∷ xs) h = ap (put x) (in_order-rising xs h.1)
+    ∙ put_front x xs (none_before_from_all_after x.since xs h.0)
 
 -- each of the first list is before each of the second
 abbrev pub Precedes : List Standing → List Standing → Type 0
@@ -180,18 +188,22 @@ last-cons_put x r (y ∷ ys) =
     (λ (e : is_before y.since r.since ≡ false). rw e refl) (cases_Bool (is_before y.since r.since))
 
 -- where none is before r, the last is not either
-later_than_none : (r x : Standing) (xs : List Standing) → NoneBefore r.since (x ∷ xs) → last_of_list (x ∷ xs) ≡ Some (later r (last_of_list (x ∷ xs)))
+later_than_none : (r x : Standing) (xs : List Standing) → NoneBefore r.since (x ∷ xs)
+    → last_of_list (x ∷ xs) ≡ Some (later r (last_of_list (x ∷ xs)))
 later_than_none r x [] h = let e = h.0 in rw e refl
 later_than_none r x (y ∷ ys) h = later_than_none r y ys h.1
 
-last-put : (r : Standing) (xs : List Standing) → IsSorted xs → last_of_list (put r xs) ≡ Some (later r (last_of_list xs))
+last-put : (r : Standing) (xs : List Standing) → IsSorted xs
+    → last_of_list (put r xs) ≡ Some (later r (last_of_list xs))
 last-put r [] s = refl
 last-put r (x ∷ []) s =
     ⊎_elim (λ (e : is_before x.since r.since ≡ true). rw e refl)
     (λ (e : is_before x.since r.since ≡ false). rw e refl) (cases_Bool (is_before x.since r.since))
 last-put r (x ∷ (y ∷ ys)) s =
     ⊎_elim (λ (e : is_before x.since r.since ≡ true). rw e (last-cons_put x r (y ∷ ys) ∙ last-put r (y ∷ ys) s.1))
-    (λ (e : is_before x.since r.since ≡ false). rw e (later_than_none r x (y ∷ ys) (e, none_before_later r.since x.since (y ∷ ys) e s.0))) (cases_Bool (is_before x.since r.since))
+    (λ (e : is_before x.since r.since ≡ false). rw e
+    (later_than_none r x (y ∷ ys) (e, none_before_later r.since x.since (y ∷ ys) e s.0)))
+    (cases_Bool (is_before x.since r.since))
 
 -- the latest record is the last in order
 pub latest_is : (xs : List Standing) → latest xs ≡ last_of_list (in_order xs)
@@ -210,14 +222,17 @@ pub length-in_order : (xs : List Standing) → length (in_order xs) ≡ length x
 length-in_order [] = refl
 length-in_order (x ∷ xs) = length-put x (in_order xs) ∙ (let ih = length-in_order xs in omega arith)
 
-pub count_by-put : (p : Standing → Bool) (r : Standing) (xs : List Standing) → count_by p (put r xs) ≡ cond (p r) 1 0 + count_by p xs
+pub count_by-put : (p : Standing → Bool) (r : Standing) (xs : List Standing)
+    → count_by p (put r xs) ≡ cond (p r) 1 0 + count_by p xs
 count_by-put p r [] = sum_by-cons (λ x. cond (p x) 1 0) r []
 count_by-put p r (x ∷ xs) =
     let one = sum_by-cons (λ x. cond (p x) 1 0) in
-    ⊎_elim (λ (e : is_before x.since r.since ≡ true). rw e (omega (arith, one x (put r xs), one x xs, count_by-put p r xs)))
+    ⊎_elim (λ (e : is_before x.since r.since ≡ true). rw e
+    (omega (arith, one x (put r xs), one x xs, count_by-put p r xs)))
     (λ (e : is_before x.since r.since ≡ false). rw e (one r (x ∷ xs))) (cases_Bool (is_before x.since r.since))
 
 pub count_by-in_order : (p : Standing → Bool) (xs : List Standing) → count_by p (in_order xs) ≡ count_by p xs
 count_by-in_order p [] = refl
 count_by-in_order p (x ∷ xs) =
-    count_by-put p x (in_order xs) ∙ (ap (λ k. cond (p x) 1 0 + k) (count_by-in_order p xs) ∙ sym (sum_by-cons (λ x. cond (p x) 1 0) x xs))
+    count_by-put p x (in_order xs)
+    ∙ (ap (λ k. cond (p x) 1 0 + k) (count_by-in_order p xs) ∙ sym (sum_by-cons (λ x. cond (p x) 1 0) x xs))

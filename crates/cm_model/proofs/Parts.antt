@@ -28,43 +28,54 @@ take_past (x ∷ xs) ys (suc k) h =
 abbrev AreOne : ℕ → ℕ → State → Machine → List Step → Type 0
 AreOne n cap state machine steps = closed n (state_after_all n cap state steps) ≡ after_steps n cap machine steps
 
-part_of_crossings : (n cap a len k : ℕ) (state : State) (machine : Machine) → a + len ≤ n → IsDue n a state machine → AreOne n cap state machine (take k (crossings a len ++ Deliver ∷ []))
+part_of_crossings : (n cap a len k : ℕ) (state : State) (machine : Machine) → a + len ≤ n → IsDue n a state machine
+    → AreOne n cap state machine (take k (crossings a len ++ Deliver ∷ []))
 part_of_crossings n cap a len zero state machine h due = due.same
 part_of_crossings n cap a zero (suc zero) state machine h due = (after_delivery_rested n a state machine due).same
 part_of_crossings n cap a zero (suc (suc k)) state machine h due = (after_delivery_rested n a state machine due).same
 part_of_crossings n cap a (suc len) (suc k) state machine h due =
-    part_of_crossings n cap (a + 1) len k (state_after n cap state (Cross a)) (after_step n cap machine (Cross a)) (omega arith) (one_crossing n cap a state machine (omega arith) due)
+    part_of_crossings n cap (a + 1) len k (state_after n cap state (Cross a)) (after_step n cap machine (Cross a))
+    (omega arith) (one_crossing n cap a state machine (omega arith) due)
 
-part_of_act : (n cap k : ℕ) (state : State) (machine : Machine) (a : Act) → IsRested n state machine → AreOne n cap state machine (take k (steps_of n a))
+part_of_act : (n cap k : ℕ) (state : State) (machine : Machine) (a : Act) → IsRested n state machine
+    → AreOne n cap state machine (take k (steps_of n a))
 part_of_act n cap zero state machine a h = h.same
-part_of_act n cap (suc zero) state machine (act.Nano nano) h = (after_act_rested n cap state machine (act.Nano nano) h).same
-part_of_act n cap (suc (suc k)) state machine (act.Nano nano) h = (after_act_rested n cap state machine (act.Nano nano) h).same
+part_of_act n cap (suc zero) state machine (act.Nano nano) h =
+    (after_act_rested n cap state machine (act.Nano nano) h).same
+part_of_act n cap (suc (suc k)) state machine (act.Nano nano) h =
+    (after_act_rested n cap state machine (act.Nano nano) h).same
 part_of_act n cap (suc zero) state machine act.Sense h = h.same
 part_of_act n cap (suc (suc k)) state machine act.Sense h = h.same
 part_of_act n cap (suc k) state machine act.Cycle h =
-    part_of_crossings n cap 0 n k (after_injection n cap state) (machine_after_injection n cap machine) (omega arith) (after_injection_due n cap state machine h)
+    part_of_crossings n cap 0 n k (after_injection n cap state) (machine_after_injection n cap machine) (omega arith)
+    (after_injection_due n cap state machine h)
 
 -- ---- the beginning of a run
 
-part_of_acts : (n cap k : ℕ) (state : State) (machine : Machine) (acts : List Act) → IsRested n state machine → AreOne n cap state machine (take k (all_steps n acts))
+part_of_acts : (n cap k : ℕ) (state : State) (machine : Machine) (acts : List Act) → IsRested n state machine
+    → AreOne n cap state machine (take k (all_steps n acts))
 part_of_acts n cap zero state machine acts h = h.same
 part_of_acts n cap (suc k) state machine [] h = h.same
 part_of_acts n cap (suc k) state machine (a ∷ acts) h =
     let steps : List Step = steps_of n a in
     let more : List Step = all_steps n acts in
     ⊎_elim
-    (λ (l : suc k < length steps). subst (λ (s : List Step). AreOne n cap state machine s) (sym (take-append-le (suc k) steps more (omega arith))) (part_of_act n cap (suc k) state machine a h))
+    (λ (l : suc k < length steps). subst (λ (s : List Step). AreOne n cap state machine s)
+    (sym (take-append-le (suc k) steps more (omega arith))) (part_of_act n cap (suc k) state machine a h))
     (λ (l : length steps ≤ suc k).
     subst (λ (s : List Step). AreOne n cap state machine s) (sym (take_past steps more (suc k) l))
     (ap (closed n) (state_after_all-append n cap state steps (take (suc k - length steps) more))
-    ∙ (part_of_acts n cap (suc k - length steps) (state_after_all n cap state steps) (after_act n cap machine a) acts (after_act_rested n cap state machine a h)
+    ∙ (part_of_acts n cap (suc k - length steps) (state_after_all n cap state steps) (after_act n cap machine a) acts
+    (after_act_rested n cap state machine a h)
     ∙ sym (after_steps-append n cap machine steps (take (suc k - length steps) more)))))
     (cases_lt (suc k) (length steps))
 
 -- after any number of steps of a run
 pub steps_are_told : (n cap : ℕ) (machine : Machine) (acts : List Act) (count : ℕ) → length machine.buffers ≡ 2 ^ n →
-    closed n (state_after_all n cap (opened n machine) (take count (all_steps n acts))) ≡ after_steps n cap machine (take count (all_steps n acts))
-steps_are_told n cap machine acts count long = part_of_acts n cap count (opened n machine) machine acts (opened_rested n machine long)
+    closed n (state_after_all n cap (opened n machine) (take count (all_steps n acts))) ≡ after_steps n cap machine
+    (take count (all_steps n acts))
+steps_are_told n cap machine acts count long =
+    part_of_acts n cap count (opened n machine) machine acts (opened_rested n machine long)
 
 -- ---- room at each step
 
@@ -73,19 +84,24 @@ AreSteps-take n zero steps h = tt
 AreSteps-take n (suc k) [] h = tt
 AreSteps-take n (suc k) (step ∷ steps) h = (h.0, AreSteps-take n k steps h.1)
 
-HasRoom-after_steps : (n cap : ℕ) (machine : Machine) (steps : List Step) → AreSteps n steps → HasRoom n cap machine → HasRoom n cap (after_steps n cap machine steps)
+HasRoom-after_steps : (n cap : ℕ) (machine : Machine) (steps : List Step) → AreSteps n steps → HasRoom n cap machine
+    → HasRoom n cap (after_steps n cap machine steps)
 HasRoom-after_steps n cap machine [] s h = h
-HasRoom-after_steps n cap machine (step ∷ steps) s h = HasRoom-after_steps n cap (after_step n cap machine step) steps s.1 (HasRoom-after_step n cap machine step s.0 h)
+HasRoom-after_steps n cap machine (step ∷ steps) s h =
+    HasRoom-after_steps n cap (after_step n cap machine step) steps s.1 (HasRoom-after_step n cap machine step s.0 h)
 
-pub HasRoom-at_each_step : (n cap : ℕ) (machine : Machine) (acts : List Act) (count : ℕ) → length machine.buffers ≡ 2 ^ n → HasRoom n cap machine →
+pub HasRoom-at_each_step : (n cap : ℕ) (machine : Machine) (acts : List Act) (count : ℕ)
+    → length machine.buffers ≡ 2 ^ n → HasRoom n cap machine →
     HasRoom n cap (closed n (state_after_all n cap (opened n machine) (take count (all_steps n acts))))
 HasRoom-at_each_step n cap machine acts count long h =
     subst (λ (m : Machine). HasRoom n cap m) (sym (steps_are_told n cap machine acts count long))
-    (HasRoom-after_steps n cap machine (take count (all_steps n acts)) (AreSteps-take n count (all_steps n acts) (AreSteps-all n acts)) h)
+    (HasRoom-after_steps n cap machine (take count (all_steps n acts))
+    (AreSteps-take n count (all_steps n acts) (AreSteps-all n acts)) h)
 
 -- ---- phases
 
-steps_in-phases_of : (n at : ℕ) (one : Act) (steps : List Step) → steps_in (map (λ step. record { at = at; act = one; step = step }) steps) ≡ steps
+steps_in-phases_of : (n at : ℕ) (one : Act) (steps : List Step)
+    → steps_in (map (λ step. record { at = at; act = one; step = step }) steps) ≡ steps
 steps_in-phases_of n at one [] = refl
 steps_in-phases_of n at one (step ∷ steps) = ap (λ z. step ∷ z) (steps_in-phases_of n at one steps)
 
@@ -97,11 +113,15 @@ steps_in-phases_from n at (a ∷ acts) =
     ∙ (ap (λ z. z ++ steps_in (phases_from n (at + 1) acts)) (steps_in-phases_of n at a (steps_of n a))
     ∙ ap (λ z. steps_of n a ++ z) (steps_in-phases_from n (at + 1) acts))
 
-after_acts-steps : (n cap : ℕ) (machine : Machine) (acts : List Act) → after_acts n cap machine acts ≡ after_steps n cap machine (all_steps n acts)
+after_acts-steps : (n cap : ℕ) (machine : Machine) (acts : List Act)
+    → after_acts n cap machine acts ≡ after_steps n cap machine (all_steps n acts)
 after_acts-steps n cap machine [] = refl
-after_acts-steps n cap machine (a ∷ acts) = after_acts-steps n cap (after_act n cap machine a) acts ∙ sym (after_steps-append n cap machine (steps_of n a) (all_steps n acts))
+after_acts-steps n cap machine (a ∷ acts) = after_acts-steps n cap (after_act n cap machine a) acts
+    ∙ sym (after_steps-append n cap machine (steps_of n a) (all_steps n acts))
 
 -- a run is the fold of its phases
-pub run_of-phases : (n cap : ℕ) (machine : Machine) (acts : List Act) → length machine.buffers ≡ 2 ^ n → run_of n cap machine acts ≡ after_steps n cap machine (steps_in (phases n acts))
+pub run_of-phases : (n cap : ℕ) (machine : Machine) (acts : List Act) → length machine.buffers ≡ 2 ^ n
+    → run_of n cap machine acts ≡ after_steps n cap machine (steps_in (phases n acts))
 run_of-phases n cap machine acts long =
-    run_of-acted n cap machine acts long ∙ (after_acts-steps n cap machine acts ∙ ap (after_steps n cap machine) (sym (steps_in-phases_from n 0 acts)))
+    run_of-acted n cap machine acts long
+    ∙ (after_acts-steps n cap machine acts ∙ ap (after_steps n cap machine) (sym (steps_in-phases_from n 0 acts)))

@@ -24,7 +24,8 @@ pub AllBefore-append : (s : Since) (xs ys : List Standing) → AllBefore s xs �
 AllBefore-append s [] ys h k = k
 AllBefore-append s (x ∷ xs) ys h k = (h.0, AllBefore-append s xs ys h.1 k)
 
-pub AllBefore-flat_map : (s : Since) (f : ℕ → List Standing) (cs : List ℕ) → ((c : ℕ) → AllBefore s (f c)) → AllBefore s (flat_map f cs)
+pub AllBefore-flat_map : (s : Since) (f : ℕ → List Standing) (cs : List ℕ) → ((c : ℕ) → AllBefore s (f c))
+    → AllBefore s (flat_map f cs)
 AllBefore-flat_map s f [] h = tt
 AllBefore-flat_map s f (c ∷ cs) h = AllBefore-append s (f c) (flat_map f cs) (h c) (AllBefore-flat_map s f cs h)
 
@@ -51,11 +52,13 @@ IsRising-append [] ys h k p = k
 IsRising-append (x ∷ xs) ys h k p = (AllAfter-append x.since xs ys h.0 p.0, IsRising-append xs ys h.1 k p.1)
 
 -- all before a time precede those that come at it
-AllAfter-option : (s : Since) (d cycle : ℕ) (o : Option Standing) → is_before s (time_across d cycle) ≡ true → AllAfter s (map (record_across d cycle) (option_to_list o))
+AllAfter-option : (s : Since) (d cycle : ℕ) (o : Option Standing) → is_before s (time_across d cycle) ≡ true
+    → AllAfter s (map (record_across d cycle) (option_to_list o))
 AllAfter-option s d cycle None h = tt
 AllAfter-option s d cycle (Some r) h = (h, tt)
 
-pub Precedes-comers : (d cycle : ℕ) (o : Option Standing) (xs : List Standing) → AllBefore (time_across d cycle) xs → Precedes xs (map (record_across d cycle) (option_to_list o))
+pub Precedes-comers : (d cycle : ℕ) (o : Option Standing) (xs : List Standing) → AllBefore (time_across d cycle) xs
+    → Precedes xs (map (record_across d cycle) (option_to_list o))
 Precedes-comers d cycle o [] h = tt
 Precedes-comers d cycle o (x ∷ xs) h = (AllAfter-option x.since d cycle o h.0, Precedes-comers d cycle o xs h.1)
 
@@ -80,25 +83,32 @@ standing_at-elsewhere c b (x ∷ xs) ne h =
     let e : is_at c x ≡ false = ne_eqb x.chip c (λ same. ne (sym (eqb-true x.chip b h.0) ∙ same)) in
     rw e (standing_at-elsewhere c b xs ne h.1)
 
-pub gathered_out : (f : ℕ → List Standing) → ((b : ℕ) → AllAt b (f b)) → (c a k : ℕ) → c < a → standing_at c (flat_map f (range_with_len a k)) ≡ []
+pub gathered_out : (f : ℕ → List Standing) → ((b : ℕ) → AllAt b (f b)) → (c a k : ℕ) → c < a
+    → standing_at c (flat_map f (range_with_len a k)) ≡ []
 gathered_out f at_own c a zero h = refl
 gathered_out f at_own c a (suc k) h =
     filter-append (is_at c) (f a) (flat_map f (range_with_len (a + 1) k))
-    ∙ rw (standing_at-elsewhere c a (f a) (λ e. omega (arith, e)) (at_own a)) (gathered_out f at_own c (a + 1) k (omega arith))
+    ∙ rw (standing_at-elsewhere c a (f a) (λ e. omega (arith, e)) (at_own a))
+    (gathered_out f at_own c (a + 1) k (omega arith))
 
-pub gathered_past : (f : ℕ → List Standing) → ((b : ℕ) → AllAt b (f b)) → (c a k : ℕ) → a + k ≤ c → standing_at c (flat_map f (range_with_len a k)) ≡ []
+pub gathered_past : (f : ℕ → List Standing) → ((b : ℕ) → AllAt b (f b)) → (c a k : ℕ) → a + k ≤ c
+    → standing_at c (flat_map f (range_with_len a k)) ≡ []
 gathered_past f at_own c a zero h = refl
 gathered_past f at_own c a (suc k) h =
     filter-append (is_at c) (f a) (flat_map f (range_with_len (a + 1) k))
-    ∙ rw (standing_at-elsewhere c a (f a) (λ e. omega (arith, e)) (at_own a)) (gathered_past f at_own c (a + 1) k (omega arith))
+    ∙ rw (standing_at-elsewhere c a (f a) (λ e. omega (arith, e)) (at_own a))
+    (gathered_past f at_own c (a + 1) k (omega arith))
 
 -- of what each chip adds, a chip has what it adds itself
-pub gathered : (f : ℕ → List Standing) → ((b : ℕ) → AllAt b (f b)) → (c a k : ℕ) → a ≤ c → c < a + k → standing_at c (flat_map f (range_with_len a k)) ≡ f c
+pub gathered : (f : ℕ → List Standing) → ((b : ℕ) → AllAt b (f b)) → (c a k : ℕ) → a ≤ c → c < a + k
+    → standing_at c (flat_map f (range_with_len a k)) ≡ f c
 gathered f at_own c a zero h l = absurd (omega arith)
 gathered f at_own c a (suc k) h l =
     filter-append (is_at c) (f a) (flat_map f (range_with_len (a + 1) k))
     ∙ ⊎_elim
-    (λ (e : a ≡ c). subst (λ (z : ℕ). standing_at c (f z) ++ standing_at c (flat_map f (range_with_len (z + 1) k)) ≡ f c) (sym e)
+    (λ (e : a ≡ c). subst (λ (z : ℕ). standing_at c (f z) ++ standing_at c (flat_map f (range_with_len (z + 1) k))
+    ≡ f c) (sym e)
     (rw (standing_at-here c (f c) (at_own c), gathered_out f at_own c (c + 1) k (omega arith)) (append-nil (f c))))
-    (λ (e : a ≡ c → ⊥). rw (standing_at-elsewhere c a (f a) e (at_own a)) (gathered f at_own c (a + 1) k (omega arith) (omega arith)))
+    (λ (e : a ≡ c → ⊥). rw (standing_at-elsewhere c a (f a) e (at_own a))
+    (gathered f at_own c (a + 1) k (omega arith) (omega arith)))
     (cases_eq a c)

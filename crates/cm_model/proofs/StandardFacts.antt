@@ -84,7 +84,18 @@ predecessor_of_five = refl
 
 -- 'memory bit 0 := 1, flag WRITE := flag 0' where flag 1 is 0
 instruction : ℕ → Nano
-instruction write = record { a = 0; b = 1; read = 0; write = write; cond = 1; sense = false; mem_table = 0xFF; flag_table = 0xAA; dir = South }
+instruction write = record {
+  a = 0;
+  b = 1;
+  read = 0;
+  write = write;
+  cond = 1;
+  sense = false;
+  mem_table =
+      0xFF;
+  flag_table = 0xAA;
+  dir = South;
+}
 
 -- memory bits 0 and 0, and these flags 0 and 1
 processor : Bool → Bool → Processor
@@ -102,7 +113,11 @@ unfolding processor_after instruction processor
 holding_condition = refl
 
 -- a store into flag ZERO is dropped, but memory is stored
-dropped_store : processor_after (instruction 8) true (processor true false) ≡ record { memory = true ∷ false ∷ []; flags = true ∷ replicate 15 false }
+dropped_store : processor_after (instruction 8) true (processor true false) ≡ record {
+  memory =
+      true ∷ false ∷ [];
+  flags = true ∷ replicate 15 false;
+}
 unfolding processor_after instruction processor
 dropped_store = refl
 
@@ -122,7 +137,8 @@ sender_keeps = refl
 
 -- ---- the wire
 
-one_drives_the_wire : wire ((processor false false ∷ []) ∷ (record { memory = []; flags = set (replicate 16 false) 9 true } ∷ []) ∷ []) ≡ true
+one_drives_the_wire : wire
+    ((processor false false ∷ []) ∷ (record { memory = []; flags = set (replicate 16 false) 9 true } ∷ []) ∷ []) ≡ true
 unfolding wire processor
 one_drives_the_wire = refl
 

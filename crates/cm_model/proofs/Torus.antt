@@ -18,7 +18,8 @@ back-first w some = ap (λ (n : ℕ). (n - 1) % w) (omega arith) ∙ mod-eq_of_l
 -- one step back from another leads to the one before
 pub back-other : (x w : ℕ) → 0 < x → x < w → (x + w - 1) % w ≡ x - 1
 back-other x w some h =
-    ap (λ (n : ℕ). n % w) (let e : x + w - 1 ≡ x - 1 + w = omega arith in e) ∙ add-mod_right (x - 1) w ∙ mod-eq_of_lt (omega arith)
+    ap (λ (n : ℕ). n % w) (let e : x + w - 1 ≡ x - 1 + w = omega arith in e) ∙ add-mod_right (x - 1) w
+    ∙ mod-eq_of_lt (omega arith)
 
 -- one step on from the last leads to the first
 pub on-last : (w : ℕ) → 0 < w → (w - 1 + 1) % w ≡ 0
@@ -32,16 +33,19 @@ on-other x w h = mod-eq_of_lt h
 pub back_and_on : (x w : ℕ) → x < w → ((x + w - 1) % w + 1) % w ≡ x
 back_and_on zero w h = ap (λ (n : ℕ). (n + 1) % w) (back-first w h) ∙ on-last w h
 back_and_on (suc x) w h =
-    ap (λ (n : ℕ). (n + 1) % w) (back-other (suc x) w (omega arith) h) ∙ on-other (suc x - 1) w (omega arith) ∙ omega arith
+    ap (λ (n : ℕ). (n + 1) % w) (back-other (suc x) w (omega arith) h) ∙ on-other (suc x - 1) w (omega arith)
+    ∙ omega arith
 
 -- a step on and one back
 pub on_and_back : (x w : ℕ) → x < w → ((x + 1) % w + w - 1) % w ≡ x
 on_and_back x w h = by_last (cases_lt (x + 1) w) where
   by_last : (x + 1 < w) ⊎ (w ≤ x + 1) → ((x + 1) % w + w - 1) % w ≡ x
-  by_last (inl inside) = ap (λ (n : ℕ). (n + w - 1) % w) (on-other x w inside) ∙ back-other (x + 1) w (omega arith) inside ∙ omega arith
+  by_last (inl inside) = ap (λ (n : ℕ). (n + w - 1) % w) (on-other x w inside)
+      ∙ back-other (x + 1) w (omega arith) inside ∙ omega arith
   by_last (inr last) =
       let here : x ≡ w - 1 = omega arith in
-      ap (λ (n : ℕ). (n + w - 1) % w) (ap (λ (n : ℕ). (n + 1) % w) here ∙ on-last w (omega arith)) ∙ back-first w (omega arith) ∙ sym here
+      ap (λ (n : ℕ). (n + w - 1) % w) (ap (λ (n : ℕ). (n + 1) % w) here ∙ on-last w (omega arith))
+      ∙ back-first w (omega arith) ∙ sym here
 
 -- ---- a ring of so many fours
 
@@ -60,7 +64,8 @@ on_over a w h = by_last (cases_lt (a + 1) w) where
   by_last (inr last) =
       let whole : w ≡ a + 1 = omega arith in
       let next : (a + 1) % w ≡ 0 = ap (λ (n : ℕ). n % w) (sym whole) ∙ mod_self w in
-      let here : (4 * a + 3 + 1) % (4 * w) ≡ 0 = ap (λ (n : ℕ). n % (4 * w)) (let e : 4 * a + 3 + 1 ≡ 4 * w = omega arith in e) ∙ mod_self (4 * w) in
+      let here : (4 * a + 3 + 1) % (4 * w) ≡ 0 =
+      ap (λ (n : ℕ). n % (4 * w)) (let e : 4 * a + 3 + 1 ≡ 4 * w = omega arith in e) ∙ mod_self (4 * w) in
       omega arith
 
 -- one step back within four
@@ -74,7 +79,8 @@ pub back_over : (a w : ℕ) → a < w → (4 * a + 0 + 4 * w - 1) % (4 * w) ≡ 
 back_over zero w h =
     let before : (0 + w - 1) % w ≡ w - 1 = back-first w h in
     let here : (4 * zero + 0 + 4 * w - 1) % (4 * w) ≡ 4 * w - 1 =
-    ap (λ (n : ℕ). n % (4 * w)) (let e : 4 * zero + 0 + 4 * w - 1 ≡ 4 * w - 1 = omega arith in e) ∙ mod-eq_of_lt (omega arith) in
+    ap (λ (n : ℕ). n % (4 * w)) (let e : 4 * zero + 0 + 4 * w - 1 ≡ 4 * w - 1 = omega arith in e)
+    ∙ mod-eq_of_lt (omega arith) in
     omega arith
 back_over (suc a) w h =
     let before : (suc a + w - 1) % w ≡ suc a - 1 = back-other (suc a) w (omega arith) h in
@@ -95,7 +101,8 @@ chips_in_rows n = ap (λ (k : ℕ). 2 ^ k) (omega arith) ∙ pow-add 2 (n / 2) (
 -- the row of chips in which a chip stands
 pub chip_row-lt : (n chip : ℕ) → chip < 2 ^ n → chip / chip_columns n < 2 ^ (n - n / 2)
 chip_row-lt n chip h =
-    div_below chip (chip_columns n) (2 ^ (n - n / 2)) (columns_some n) (subst (λ (k : ℕ). chip < k) (chips_in_rows n ∙ omega arith) h)
+    div_below chip (chip_columns n) (2 ^ (n - n / 2)) (columns_some n)
+    (subst (λ (k : ℕ). chip < k) (chips_in_rows n ∙ omega arith) h)
 
 pub chip_column-lt : (n chip : ℕ) → chip % chip_columns n < chip_columns n
 chip_column-lt n chip = mod-lt chip (columns_some n)
@@ -118,22 +125,26 @@ column_of-lt n place below =
 -- the place in a row and a column stands there
 pub row_of-place_at : (n row column : ℕ) → column < columns n → row_of n (place_at n row column) ≡ row
 row_of-place_at n row column h =
-    ap (λ (k : ℕ). 4 * k + (4 * (row % 4) + column % 4) / 4) (div-mul-add (row / 4) (chip_columns n) (column / 4) (omega arith)) ∙ omega arith
+    ap (λ (k : ℕ). 4 * k + (4 * (row % 4) + column % 4) / 4)
+    (div-mul-add (row / 4) (chip_columns n) (column / 4) (omega arith)) ∙ omega arith
 
 pub column_of-place_at : (n row column : ℕ) → column < columns n → column_of n (place_at n row column) ≡ column
 column_of-place_at n row column h =
-    ap (λ (k : ℕ). 4 * k + (4 * (row % 4) + column % 4) % 4) (mod-mul-add (row / 4) (chip_columns n) (column / 4) (omega arith)) ∙ omega arith
+    ap (λ (k : ℕ). 4 * k + (4 * (row % 4) + column % 4) % 4)
+    (mod-mul-add (row / 4) (chip_columns n) (column / 4) (omega arith)) ∙ omega arith
 
 -- a place is the one in its row and column
 pub place_at-own : (n : ℕ) (place : Place) → place.proc < 16 → place_at n (row_of n place) (column_of n place) ≡ place
 place_at-own n place below = λ i. record { chip = chip i; proc = proc i } where
-  chip : (4 * (place.chip / chip_columns n) + place.proc / 4) / 4 * chip_columns n + (4 * (place.chip % chip_columns n) + place.proc % 4) / 4 ≡ place.chip
+  chip : (4 * (place.chip / chip_columns n) + place.proc / 4) / 4 * chip_columns n
+      + (4 * (place.chip % chip_columns n) + place.proc % 4) / 4 ≡ place.chip
   chip =
       ap (λ (k : ℕ). k * chip_columns n + (4 * (place.chip % chip_columns n) + place.proc % 4) / 4) (omega arith)
       ∙ ap (λ (k : ℕ). place.chip / chip_columns n * chip_columns n + k) (omega arith)
       ∙ chip-own n place.chip
 
-  proc : 4 * ((4 * (place.chip / chip_columns n) + place.proc / 4) % 4) + (4 * (place.chip % chip_columns n) + place.proc % 4) % 4 ≡ place.proc
+  proc : 4 * ((4 * (place.chip / chip_columns n) + place.proc / 4) % 4)
+      + (4 * (place.chip % chip_columns n) + place.proc % 4) % 4 ≡ place.proc
   proc = omega arith
 
 -- what stands in a row and a column of the machine is a place of it
@@ -145,7 +156,8 @@ place_at_is_place n row column h k = record {
 }
 
 -- the place in a row and a column of a chip that stands in a row and a column of chips
-pub place_at-split : (n a r b s : ℕ) → r < 4 → s < 4 → place_at n (4 * a + r) (4 * b + s) ≡ record { chip = a * chip_columns n + b; proc = 4 * r + s }
+pub place_at-split : (n a r b s : ℕ) → r < 4 → s < 4
+    → place_at n (4 * a + r) (4 * b + s) ≡ record { chip = a * chip_columns n + b; proc = 4 * r + s }
 place_at-split n a r b s h k = λ i. record { chip = chip i; proc = proc i } where
   chip : (4 * a + r) / 4 * chip_columns n + (4 * b + s) / 4 ≡ a * chip_columns n + b
   chip =
@@ -172,23 +184,27 @@ neighbour_is_place n East place there =
     let below = column_of-lt n place there.proc in
     place_at_is_place n _ _ (row_of-lt n place there) (mod-lt (column_of n place + 1) (omega arith))
 
-there_and_back : (n : ℕ) (dir : Dir) (place : Place) → IsPlace n place → neighbour n (opposite dir) (neighbour n dir place) ≡ place
+there_and_back : (n : ℕ) (dir : Dir) (place : Place) → IsPlace n place
+    → neighbour n (opposite dir) (neighbour n dir place) ≡ place
 unfolding neighbour
 there_and_back n North place there =
     let column_below = column_of-lt n place there.proc in
-    (λ i. place_at n ((row_of-place_at n ((row_of n place + rows n - 1) % rows n) (column_of n place) column_below i + 1) % rows n)
+    (λ i. place_at n ((row_of-place_at n ((row_of n place + rows n - 1) % rows n) (column_of n place) column_below i
+    + 1) % rows n)
     (column_of-place_at n ((row_of n place + rows n - 1) % rows n) (column_of n place) column_below i))
     ∙ ap (λ (k : ℕ). place_at n k (column_of n place)) (back_and_on (row_of n place) (rows n) (row_of-lt n place there))
     ∙ place_at-own n place there.proc
 there_and_back n South place there =
     let column_below = column_of-lt n place there.proc in
-    (λ i. place_at n ((row_of-place_at n ((row_of n place + 1) % rows n) (column_of n place) column_below i + rows n - 1) % rows n)
+    (λ i. place_at n ((row_of-place_at n ((row_of n place + 1) % rows n) (column_of n place) column_below i + rows n
+    - 1) % rows n)
     (column_of-place_at n ((row_of n place + 1) % rows n) (column_of n place) column_below i))
     ∙ ap (λ (k : ℕ). place_at n k (column_of n place)) (on_and_back (row_of n place) (rows n) (row_of-lt n place there))
     ∙ place_at-own n place there.proc
 there_and_back n West place there =
     let below = column_of-lt n place there.proc in
-    let moved : (column_of n place + columns n - 1) % columns n < columns n = mod-lt (column_of n place + columns n - 1) (omega arith) in
+    let moved : (column_of n place + columns n - 1) % columns n < columns n =
+    mod-lt (column_of n place + columns n - 1) (omega arith) in
     (λ i. place_at n (row_of-place_at n (row_of n place) ((column_of n place + columns n - 1) % columns n) moved i)
     ((column_of-place_at n (row_of n place) ((column_of n place + columns n - 1) % columns n) moved i + 1) % columns n))
     ∙ ap (λ (k : ℕ). place_at n (row_of n place) k) (back_and_on (column_of n place) (columns n) below)

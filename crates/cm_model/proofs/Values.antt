@@ -20,10 +20,12 @@ halved : (word first : ℕ) → word / 2 ^ (first + 1) ≡ word / 2 ^ first / 2
 halved word first = rw (add-one, pow-suc) (sym (div-div-eq-div-mul word (2 ^ first) 2))
 
 -- the bits of a word from one on, as many as are asked for
-pub value-bits : (count first word : ℕ) → value (map (bit word) (range_with_len first count)) ≡ word / 2 ^ first % 2 ^ count
+pub value-bits : (count first word : ℕ)
+    → value (map (bit word) (range_with_len first count)) ≡ word / 2 ^ first % 2 ^ count
 value-bits zero first word = sym (mod-one (word / 2 ^ first))
 value-bits (suc count) first word =
-    let low : bit_number (bit word first) ≡ word / 2 ^ first % 2 = number_of_bit (bit_at word first) (bit_at-lt word first) in
+    let low : bit_number (bit word first) ≡ word / 2 ^ first % 2 =
+    number_of_bit (bit_at word first) (bit_at-lt word first) in
     let high : value (map (bit word) (range_with_len (first + 1) count)) ≡ word / 2 ^ first / 2 % 2 ^ count =
     value-bits count (first + 1) word ∙ ap (λ (q : ℕ). q % 2 ^ count) (halved word first) in
     let split : word / 2 ^ first % (2 ^ count * 2) ≡ (word / 2 ^ first / 2 % 2 ^ count) * 2 + word / 2 ^ first % 2 =
@@ -31,10 +33,12 @@ value-bits (suc count) first word =
     rw (low, high, pow-suc, split) (omega arith)
 
 -- a list of bits is worth the word that has them
-pub value-each : (count word : ℕ) (f : ℕ → Bool) → ((p : ℕ) → p < count → bit word p ≡ f p) → value (each_from 0 count f) ≡ word % 2 ^ count
+pub value-each : (count word : ℕ) (f : ℕ → Bool) → ((p : ℕ) → p < count → bit word p ≡ f p)
+    → value (each_from 0 count f) ≡ word % 2 ^ count
 unfolding each_from
 value-each count word f is =
-    ap value (sym (same_each_below false count (bit word) f is)) ∙ value-bits count 0 word ∙ ap (λ (q : ℕ). q % 2 ^ count) (div-one word)
+    ap value (sym (same_each_below false count (bit word) f is)) ∙ value-bits count 0 word
+    ∙ ap (λ (q : ℕ). q % 2 ^ count) (div-one word)
 
 -- a word below 2 ^ 16 is the number of the plane whose bits it has
 pub plane_number-is : (word : ℕ) (f : ℕ → Bool) → word < 2 ^ 16 → IsPlane word f → word ≡ plane_number f

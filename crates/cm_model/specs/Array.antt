@@ -17,6 +17,10 @@ Chips = List (List Processor)
 abbrev pub each_chip : {X : Type 0} → ℕ → (ℕ → X) → List X
 each_chip n f = each_from 0 (2 ^ n) f
 
+-- of lists, one for each chip by number, that of a chip: its buffer, its log
+abbrev pub list_at : {X : Type 0} → List (List X) → ℕ → List X
+list_at lists c = slice_index_or lists c []
+
 -- the chip of a number
 abbrev pub chip_at : Chips → ℕ → List Processor
 chip_at chips c = slice_index_or chips c []

@@ -5,18 +5,17 @@ use Rattle.std.specs.Option.{option_or, option_map, option_to_list}
 use Rattle.cm_model.specs.declared.act.Act.{Act}
 use Rattle.cm_model.specs.declared.message.Message.{Message}
 use Rattle.cm_model.specs.declared.message.Event.TheVariants.{Injected, Delivered}
-use Rattle.cm_model.specs.Array.{each_chip, chip_at, after_nano}
+use Rattle.cm_model.specs.Array.{each_chip, chip_at, after_nano, list_at}
 use Rattle.cm_model.specs.Router.{has_to_cross, message_across}
 use Rattle.cm_model.specs.Letters.{senders_taken, messages_sent, is_among, chip_after_injection, can_receive, has_arrived, chip_after_delivery}
 use Rattle.cm_model.specs.Steps.{Step, Instruct, Look, Inject, Cross, Deliver, steps_of}
-use Rattle.cm_model.specs.Cycle.{log_at}
-use Rattle.cm_model.specs.Machine.{Machine, buffer_at}
+use Rattle.cm_model.specs.Machine.{Machine}
 
 -- ---- injection
 
 -- the processors of a chip whose messages are taken
 abbrev pub taken_in : ℕ → Machine → ℕ → List ℕ
-taken_in cap machine c = senders_taken cap (length (buffer_at machine.buffers c)) (chip_at machine.chips c)
+taken_in cap machine c = senders_taken cap (length (list_at machine.buffers c)) (chip_at machine.chips c)
 
 -- the messages that are taken there
 abbrev pub sent_in : ℕ → ℕ → Machine → ℕ → List Message
@@ -26,8 +25,8 @@ sent_in n cap machine c = messages_sent n machine.clock c (chip_at machine.chips
 unfoldable pub machine_after_injection : ℕ → ℕ → Machine → Machine
 machine_after_injection n cap machine = record machine {
   chips = each_chip n (λ c. chip_after_injection (taken_in cap machine c) (chip_at machine.chips c));
-  buffers = each_chip n (λ c. buffer_at machine.buffers c ++ sent_in n cap machine c);
-  logs = each_chip n (λ c. log_at machine.logs c ++ map Injected (sent_in n cap machine c));
+  buffers = each_chip n (λ c. list_at machine.buffers c ++ sent_in n cap machine c);
+  logs = each_chip n (λ c. list_at machine.logs c ++ map Injected (sent_in n cap machine c));
 }
 
 -- ---- a dimension
@@ -61,7 +60,9 @@ buffer_after_dimension cap d here coming = without here (leaving_place cap d her
 -- all chips at once, from the old buffers
 unfoldable pub machine_after_dimension : ℕ → ℕ → ℕ → Machine → Machine
 machine_after_dimension n cap d machine = record machine {
-  buffers = each_chip n (λ c. buffer_after_dimension cap d (buffer_at machine.buffers c) (outgoing cap d (buffer_at machine.buffers (bit_xor c (2 ^ d)))));
+  buffers = each_chip n
+      (λ c. buffer_after_dimension cap d (list_at machine.buffers c)
+      (outgoing cap d (list_at machine.buffers (bit_xor c (2 ^ d)))));
 }
 
 -- ---- delivery
@@ -78,24 +79,26 @@ arrived_for before m = if has_arrived m then m.proc ∷ before else before
 abbrev pub delivered : (ℕ → Bool) → List ℕ → List Message → List Message
 delivered receives before [] = []
 delivered receives before (m ∷ ms) =
-    if is_accepted receives before m then m ∷ delivered receives (arrived_for before m) ms else delivered receives (arrived_for before m) ms
+    if is_accepted receives before m then m ∷ delivered receives (arrived_for before m) ms else delivered receives
+    (arrived_for before m) ms
 
 -- what it keeps
 abbrev pub kept : (ℕ → Bool) → List ℕ → List Message → List Message
 kept receives before [] = []
 kept receives before (m ∷ ms) =
-    if is_accepted receives before m then kept receives (arrived_for before m) ms else m ∷ kept receives (arrived_for before m) ms
+    if is_accepted receives before m then kept receives (arrived_for before m) ms else m ∷ kept receives
+    (arrived_for before m) ms
 
 -- what a chip delivers
 abbrev pub delivered_in : Machine → ℕ → List Message
-delivered_in machine c = delivered (can_receive (chip_at machine.chips c)) [] (buffer_at machine.buffers c)
+delivered_in machine c = delivered (can_receive (chip_at machine.chips c)) [] (list_at machine.buffers c)
 
 -- all chips at once: what is delivered is gone, and the counter is one more
 unfoldable pub machine_after_delivery : ℕ → Machine → Machine
 machine_after_delivery n machine = record {
   chips = each_chip n (λ c. chip_after_delivery (delivered_in machine c) (chip_at machine.chips c));
-  buffers = each_chip n (λ c. kept (can_receive (chip_at machine.chips c)) [] (buffer_at machine.buffers c));
-  logs = each_chip n (λ c. log_at machine.logs c ++ map (λ m. Delivered m c) (delivered_in machine c));
+  buffers = each_chip n (λ c. kept (can_receive (chip_at machine.chips c)) [] (list_at machine.buffers c));
+  logs = each_chip n (λ c. list_at machine.logs c ++ map (λ m. Delivered m c) (delivered_in machine c));
   clock = machine.clock + 1;
 }
 

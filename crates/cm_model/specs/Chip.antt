@@ -1,5 +1,5 @@
 -- A chip: sixteen processors, which all step at once. Hillis 1985.
-use Rattle.std.specs.Prelude.{◌≡◌, ℕ, ◌<◌, Bool, List, [], slice_index_or, slice_set}
+use Rattle.std.specs.Prelude.{◌≡◌, ℕ, ◌<◌, Bool, false, Option, Some, None, List, [], slice_index_or, slice_set}
 use Rattle.cm_bits.specs.Bit.{bit}
 use Rattle.cm_model.specs.declared.act.Nano.{Nano}
 use Rattle.cm_model.specs.Each.{each_from}
@@ -29,6 +29,11 @@ chip_after nano incoming chip = each_processor (λ p. processor_after nano (inco
 -- bit p of the plane is what the function gives for processor p
 abbrev pub IsPlane : ℕ → (ℕ → Bool) → Type 0
 IsPlane plane f = (p : ℕ) → p < 16 → bit plane p ≡ f p
+
+-- the bit that a plane has of a processor: 0 where there is none
+abbrev pub plane_bit : ℕ → Option ℕ → Bool
+plane_bit plane None = false
+plane_bit plane (Some p) = bit plane p
 
 -- the chip with another bit at an address of a processor
 unfoldable pub with_memory_bit : List Processor → ℕ → ℕ → Bool → List Processor

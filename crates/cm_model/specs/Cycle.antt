@@ -1,10 +1,10 @@
 -- A machine while it runs, with the set of its standing messages, and the steps of a petit cycle: Hillis 1985; their limits are ours.
-use Rattle.std.specs.Prelude.{ℕ, ◌+◌, ◌^◌, ◌&&◌, Bool, not, List, [], ◌∷◌, ◌++◌, length, map, slice_index_or}
+use Rattle.std.specs.Prelude.{ℕ, ◌+◌, ◌^◌, ◌&&◌, Bool, not, List, [], ◌∷◌, ◌++◌, length, map}
 use Rattle.std.specs.List.{filter, flat_map, list_any, range_with_len}
 use Rattle.cm_model.specs.declared.message.Message.{Message}
 use Rattle.cm_model.specs.declared.message.Event.{Event}
 use Rattle.cm_model.specs.declared.message.Event.TheVariants.{Injected, Delivered}
-use Rattle.cm_model.specs.Array.{Chips, each_chip, chip_at, after_nano}
+use Rattle.cm_model.specs.Array.{Chips, each_chip, list_at, chip_at, after_nano}
 use Rattle.cm_model.specs.Router.{Standing, is_at, is_before, standing_at, after_dimension}
 use Rattle.cm_model.specs.Order.{in_order, messages_of}
 use Rattle.cm_model.specs.Letters.{senders_taken, message_sent, messages_sent, chip_after_injection, can_receive, has_arrived, is_for, chip_after_delivery}
@@ -22,10 +22,6 @@ pub record State : Type 0 where
   pub clock : ℕ
   -- the petit cycle since it was handed over, from 1 on
   pub cycle : ℕ
-
--- the log of a chip
-abbrev pub log_at : List (List Event) → ℕ → List Event
-log_at logs c = slice_index_or logs c []
 
 -- ---- injection
 
@@ -50,14 +46,16 @@ unfoldable pub after_injection : ℕ → ℕ → State → State
 after_injection n cap state = record state {
   chips = each_chip n (λ c. chip_after_injection (taken_at cap state c) (chip_at state.chips c));
   standing = state.standing ++ flat_map (new_records n cap state) (range_with_len 0 (2 ^ n));
-  logs = each_chip n (λ c. log_at state.logs c ++ map Injected (messages_sent n state.clock c (chip_at state.chips c) (taken_at cap state c)));
+  logs = each_chip n (λ c. list_at state.logs c ++ map Injected
+      (messages_sent n state.clock c (chip_at state.chips c) (taken_at cap state c)));
 }
 
 -- ---- delivery
 
 -- another record at the same chip has arrived for the same processor, with a lesser since
 abbrev pub is_rival : Standing → Standing → Bool
-is_rival r q = is_at r.chip q && (has_arrived q.message && (is_for r.message.proc q.message && is_before q.since r.since))
+is_rival r q = is_at r.chip q
+    && (has_arrived q.message && (is_for r.message.proc q.message && is_before q.since r.since))
 
 -- it has arrived, its processor can receive, and no rival has come before it
 abbrev pub is_delivered : Chips → List Standing → Standing → Bool
@@ -73,7 +71,7 @@ unfoldable pub after_delivery : ℕ → State → State
 after_delivery n state = record {
   chips = each_chip n (λ c. chip_after_delivery (delivered_at state.chips state.standing c) (chip_at state.chips c));
   standing = filter (λ r. not (is_delivered state.chips state.standing r)) state.standing;
-  logs = each_chip n (λ c. log_at state.logs c ++ map (λ m. Delivered m c) (delivered_at state.chips state.standing c));
+  logs = each_chip n (λ c. list_at state.logs c ++ map (λ m. Delivered m c) (delivered_at state.chips state.standing c));
   clock = state.clock + 1;
   cycle = state.cycle + 1;
 }

@@ -6,7 +6,7 @@ use Rattle.cm_model.specs.declared.act.Act.{Act}
 use Rattle.cm_model.specs.Place.{neighbour, opposite}
 use Rattle.cm_model.specs.declared.message.Tag.{Tag}
 use Rattle.cm_model.specs.Steps.{all_steps}
-use Rattle.cm_model.specs.Cycle.{log_at}
+use Rattle.cm_model.specs.Array.{list_at}
 use Rattle.cm_model.specs.Machine.{Machine, blank_machine, machine_at, run_of}
 use Rattle.cm_model.specs.Buffers.{after_steps, after_act, after_acts}
 use Rattle.cm_model.specs.Account.{account, new_events, newly_injected, all_injected, SameLines, HasLines}
@@ -44,23 +44,27 @@ StepsAreToldByBuffers = (n cap : ℕ) (machine : Machine) (acts : List Act) (cou
 
 -- where no buffer has more than cap messages, no chip has more at any step of a run, told on the set of messages
 abbrev pub RunsKeepRoom : Type 0
-RunsKeepRoom = (n cap : ℕ) (machine : Machine) (acts : List Act) (count : ℕ) → length machine.buffers ≡ 2 ^ n → HasRoom n cap machine →
+RunsKeepRoom = (n cap : ℕ) (machine : Machine) (acts : List Act) (count : ℕ) → length machine.buffers ≡ 2 ^ n
+    → HasRoom n cap machine →
     HasRoom n cap (machine_at n cap machine acts count)
 
 -- each chip's log after a run is its log before it, and the new events
 abbrev pub LogsOnlyGrow : Type 0
 LogsOnlyGrow = (n cap : ℕ) (machine : Machine) (acts : List Act) (c : ℕ) → c < 2 ^ n →
-    log_at (run_of n cap machine acts).logs c ≡ log_at machine.logs c ++ new_events machine (run_of n cap machine acts) c
+    list_at (run_of n cap machine acts).logs c ≡ list_at machine.logs c ++ new_events machine
+    (run_of n cap machine acts) c
 
 -- the account after a run is the account before it, and the lines of what was injected
 abbrev pub AccountIsConserved : Type 0
 AccountIsConserved = (n cap : ℕ) (machine : Machine) (acts : List Act) →
-    SameLines (account n (run_of n cap machine acts)) (account n machine ++ newly_injected n machine (run_of n cap machine acts))
+    SameLines (account n (run_of n cap machine acts))
+    (account n machine ++ newly_injected n machine (run_of n cap machine acts))
 
 -- where the account has the line of each message that was injected, it has it after a run too
 abbrev pub InjectedStandInTheAccount : Type 0
 InjectedStandInTheAccount = (n cap : ℕ) (machine : Machine) (acts : List Act) →
-    HasLines (all_injected n machine) (account n machine) → HasLines (all_injected n (run_of n cap machine acts)) (account n (run_of n cap machine acts))
+    HasLines (all_injected n machine) (account n machine)
+    → HasLines (all_injected n (run_of n cap machine acts)) (account n (run_of n cap machine acts))
 
 -- where the message of a tag is found, there it is
 abbrev pub MessagesAreFound : Type 0
@@ -68,15 +72,18 @@ MessagesAreFound = (n : ℕ) (machine : Machine) (tag : Tag) → IsWhereabouts n
 
 -- where no tag stands twice in the account and all births are below the counter, both hold after a run
 abbrev pub TagsStayApart : Type 0
-TagsStayApart = (n cap : ℕ) (machine : Machine) (acts : List Act) → HasGoodTags n machine → HasGoodTags n (run_of n cap machine acts)
+TagsStayApart = (n cap : ℕ) (machine : Machine) (acts : List Act) → HasGoodTags n machine
+    → HasGoodTags n (run_of n cap machine acts)
 
 -- each act keeps what every machine keeps
 abbrev pub MachinesAreKept : Type 0
-MachinesAreKept = (n cap : ℕ) (machine : Machine) (act : Act) → IsMachine n cap machine → IsMachine n cap (after_act n cap machine act)
+MachinesAreKept = (n cap : ℕ) (machine : Machine) (act : Act) → IsMachine n cap machine
+    → IsMachine n cap (after_act n cap machine act)
 
 -- and so does a run
 abbrev pub RunsKeepMachines : Type 0
-RunsKeepMachines = (n cap : ℕ) (machine : Machine) (acts : List Act) → IsMachine n cap machine → IsMachine n cap (run_of n cap machine acts)
+RunsKeepMachines = (n cap : ℕ) (machine : Machine) (acts : List Act) → IsMachine n cap machine
+    → IsMachine n cap (run_of n cap machine acts)
 
 -- the blank machine is one
 abbrev pub BlankIsMachine : Type 0

@@ -35,4 +35,5 @@ IsLeaver cap d c set leaving = Leaves cap (crossing d (standing_at c set)) (stan
 
 -- of these records no two have one since
 abbrev pub SincesDiffer : List Standing → Type 0
-SincesDiffer records = (r q : Standing) → Contains records r → Contains records q → same_since r.since q.since ≡ true → r ≡ q
+SincesDiffer records = (r q : Standing) → Contains records r → Contains records q → same_since r.since q.since ≡ true
+    → r ≡ q

@@ -2,6 +2,7 @@
 use Rattle.std.specs.Prelude.{◌≡◌, ℕ, ◌≤◌, ◌+◌, ◌-◌, ◌^◌, ◌%◌, ◌==◌, ◌&&◌, Bool, true, false, not, List, ◌++◌, Option, Some, None, min, map, take, drop, slice_set, if◌then◌else◌}
 use Rattle.std.specs.List.{All, count_by, filter, find, list_any, range_with_len}
 use Rattle.cm_bits.specs.Bit.{bit}
+use Rattle.cm_model.specs.declared.letters.TheConstants.{SENT_REL, SENT_PROC, SENT_PAYLOAD, RECEIVED_PAYLOAD}
 use Rattle.cm_model.specs.declared.message.Message.{Message}
 use Rattle.cm_model.specs.Processor.{Processor, SEND, ACK, RECV, flag, field_value}
 use Rattle.cm_model.specs.Chip.{each_processor, processor_at}
@@ -19,9 +20,9 @@ senders_taken cap standing chip = take (min 4 (cap - standing)) (senders chip)
 -- the message that a processor of chip c sends, in a cube of n dimensions, at this count of petit cycles
 abbrev pub message_sent : ℕ → ℕ → ℕ → List Processor → ℕ → Message
 message_sent n clock c chip p = record {
-  rel = field_value (processor_at chip p) 3968 16 % 2 ^ n;
-  proc = field_value (processor_at chip p) 3984 4;
-  payload = field_value (processor_at chip p) 3988 32;
+  rel = field_value (processor_at chip p) SENT_REL 16 % 2 ^ n;
+  proc = field_value (processor_at chip p) SENT_PROC 4;
+  payload = field_value (processor_at chip p) SENT_PAYLOAD 32;
   tag = record { chip = c; proc = p; birth = clock };
 }
 
@@ -74,17 +75,18 @@ with_field memory at len number = take at memory ++ (bits_of len number ++ drop 
 abbrev pub processor_after_delivery : Option Message → Processor → Processor
 processor_after_delivery None processor = processor
 processor_after_delivery (Some m) processor = record {
-  memory = with_field processor.memory 4032 32 m.payload;
+  memory = with_field processor.memory RECEIVED_PAYLOAD 32 m.payload;
   flags = slice_set processor.flags RECV true;
 }
 
 -- the chip after these messages were delivered, at most one to each processor
 unfoldable pub chip_after_delivery : List Message → List Processor → List Processor
-chip_after_delivery delivered chip = each_processor (λ p. processor_after_delivery (find (is_for p) delivered) (processor_at chip p))
+chip_after_delivery delivered chip =
+    each_processor (λ p. processor_after_delivery (find (is_for p) delivered) (processor_at chip p))
 
 -- what was delivered to a processor stands in its field, and its RECV is 1
 pub record HasReceived (m : Message) (processor : Processor) : Type 0 where
-  pub payload : field_value processor 4032 32 ≡ m.payload
+  pub payload : field_value processor RECEIVED_PAYLOAD 32 ≡ m.payload
   pub flag : flag processor RECV ≡ true
 
 -- these messages can be delivered in one petit cycle

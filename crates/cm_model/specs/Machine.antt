@@ -1,11 +1,11 @@
 -- A machine as contracts see it, and a run of acts: the order of a run is ours.
-use Rattle.std.specs.Prelude.{ℕ, ◌+◌, ◌^◌, List, [], ◌∷◌, take, slice_index_or}
+use Rattle.std.specs.Prelude.{ℕ, ◌+◌, ◌^◌, List, [], ◌∷◌, take}
 use Rattle.std.specs.List.{flat_map, range_with_len}
 use Rattle.cm_model.specs.declared.act.Act.{Act}
 use Rattle.cm_model.specs.declared.message.Message.{Message}
 use Rattle.cm_model.specs.declared.message.Event.{Event}
 use Rattle.cm_model.specs.Chip.{blank_chip}
-use Rattle.cm_model.specs.Array.{Chips, each_chip}
+use Rattle.cm_model.specs.Array.{Chips, each_chip, list_at}
 use Rattle.cm_model.specs.Router.{Standing}
 use Rattle.cm_model.specs.Order.{buffer}
 use Rattle.cm_model.specs.Steps.{all_steps}
@@ -31,20 +31,17 @@ blank_machine n = record {
   clock = 0;
 }
 
--- the buffer of a chip
-abbrev pub buffer_at : List (List Message) → ℕ → List Message
-buffer_at buffers c = slice_index_or buffers c []
-
 -- the records of a chip that is handed over, from this place in its buffer on: since is the place
 abbrev pub records_from : ℕ → ℕ → List Message → List Standing
 records_from c i [] = []
-records_from c i (m ∷ ms) = record { message = m; chip = c; since = record { cycle = 0; turn = i } } ∷ records_from c (i + 1) ms
+records_from c i (m ∷ ms) =
+    record { message = m; chip = c; since = record { cycle = 0; turn = i } } ∷ records_from c (i + 1) ms
 
 -- a machine that is handed over, with the set of its standing messages
 unfoldable pub opened : ℕ → Machine → State
 opened n machine = record {
   chips = machine.chips;
-  standing = flat_map (λ c. records_from c 0 (buffer_at machine.buffers c)) (range_with_len 0 (2 ^ n));
+  standing = flat_map (λ c. records_from c 0 (list_at machine.buffers c)) (range_with_len 0 (2 ^ n));
   logs = machine.logs;
   clock = machine.clock;
   cycle = 1;
@@ -61,7 +58,8 @@ closed n state = record {
 
 -- the machine after so many steps of a run
 abbrev pub machine_at : ℕ → ℕ → Machine → List Act → ℕ → Machine
-machine_at n cap machine acts count = closed n (state_after_all n cap (opened n machine) (take count (all_steps n acts)))
+machine_at n cap machine acts count =
+    closed n (state_after_all n cap (opened n machine) (take count (all_steps n acts)))
 
 -- the machine after a list of acts, one after another, on a cube of n dimensions whose routers have room for cap messages each
 unfoldable pub run_of : ℕ → ℕ → Machine → List Act → Machine

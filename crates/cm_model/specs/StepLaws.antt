@@ -28,11 +28,13 @@ LeaversHaveTheirSince = (cap d c : ℕ) (set : List Standing) → IsLeaver cap d
 
 -- and nobody else is, where no two records at the chip have one since
 abbrev pub LeaversAreUnique : Type 0
-LeaversAreUnique = (cap d c : ℕ) (set : List Standing) (leaving : Option Standing) → SincesDiffer (standing_at c set) → IsLeaver cap d c set leaving → leaving ≡ leaver cap d c set
+LeaversAreUnique = (cap d c : ℕ) (set : List Standing) (leaving : Option Standing) → SincesDiffer (standing_at c set)
+    → IsLeaver cap d c set leaving → leaving ≡ leaver cap d c set
 
 -- who leaves stands in the buffer at the place of the first that has to cross, or else, if it is full, last
 abbrev pub LeaversStandAtTheirPlace : Type 0
-LeaversStandAtTheirPlace = (cap d c : ℕ) (set : List Standing) → leaver cap d c set ≡ element_at (queue c set) (leaving_place cap d (buffer c set))
+LeaversStandAtTheirPlace = (cap d c : ℕ) (set : List Standing)
+    → leaver cap d c set ≡ element_at (queue c set) (leaving_place cap d (buffer c set))
 
 -- a dimension step keeps the target of each record
 abbrev pub TargetsAreKept : Type 0
@@ -44,13 +46,16 @@ DeliveriesAreApart = (receives : ℕ → Bool) (here : List Message) → AreDeli
 
 -- each message that is delivered is received, unaltered, by the processor that it is for
 abbrev pub PayloadsAreReceived : Type 0
-PayloadsAreReceived = (chip : List Processor) (delivered : List Message) (p : ℕ) (m : Message) → IsChip chip → p < 16 → m.payload < 2 ^ 32 →
+PayloadsAreReceived = (chip : List Processor) (delivered : List Message) (p : ℕ) (m : Message) → IsChip chip → p < 16
+    → m.payload < 2 ^ 32 →
     find (is_for p) delivered ≡ Some m → HasReceived m (processor_at (chip_after_delivery delivered chip) p)
 
 -- where no buffer has more than cap messages, none has more after injection, after a dimension step or after delivery
 abbrev pub RoomIsKept : Type 0
-RoomIsKept = (n cap : ℕ) (machine : Machine) (step : Step) → IsStep n step → HasRoom n cap machine → HasRoom n cap (after_step n cap machine step)
+RoomIsKept = (n cap : ℕ) (machine : Machine) (step : Step) → IsStep n step → HasRoom n cap machine
+    → HasRoom n cap (after_step n cap machine step)
 
 -- an instruction leaves the account as it is
 abbrev pub InstructionsKeepTheAccount : Type 0
-InstructionsKeepTheAccount = (n cap : ℕ) (machine : Machine) (nano : Nano) → account n (after_act n cap machine (act.Nano nano)) ≡ account n machine
+InstructionsKeepTheAccount = (n cap : ℕ) (machine : Machine) (nano : Nano)
+    → account n (after_act n cap machine (act.Nano nano)) ≡ account n machine

@@ -7,6 +7,7 @@ mod act;
 mod found;
 mod grid;
 mod laws;
+mod letters;
 mod message;
 
 pub use act::{Act, Nano};
@@ -20,4 +21,5 @@ pub use laws::{
     runs_can_be_cut, runs_keep_machines, runs_keep_room, senders_are_acknowledged,
     steps_are_told_by_buffers, tags_stay_apart, targets_are_kept,
 };
+pub use letters::{RECEIVED_PAYLOAD, SENT_PAYLOAD, SENT_PROC, SENT_REL};
 pub use message::{Event, Message, Tag};

@@ -5,7 +5,8 @@ use Rattle.cm_bits.specs.Bit.{bit}
 use Rattle.cm_bits.specs.declared.plane.Dir.{Dir}
 use Rattle.cm_bits.specs.declared.plane.Dir.TheVariants.{North, East, West, South}
 use Rattle.cm_model.specs.Place.{source}
-use Rattle.cm_news.specs.Moves.{is_entry, one_back, sender, bit_of, at_edge, along, corner, bit_of_place}
+use Rattle.cm_model.specs.Chip.{plane_bit}
+use Rattle.cm_news.specs.Moves.{is_entry, one_back, sender, at_edge, along, corner, bit_of_place}
 use Rattle.cm_news.proofs.Sources.{steps_are_the_torus}
 
 along-lt : (dir : Dir) (p : ℕ) → p < 16 → along dir p < 4
@@ -18,11 +19,11 @@ along-lt East p h = omega arith
 pub joined : (n : ℕ) (dir : Dir) (chip : ℕ) (planes : List ℕ) (edge : ℕ) → chip < 2 ^ n
     → ((i : ℕ) → i < 4 → bit edge i ≡ bit (get_or planes (source n dir (record { chip = chip; proc = corner dir })).chip 0) (at_edge dir i))
     → (p : ℕ) → p < 16
-    → bit_of (get_or planes chip 0) (sender dir p) || (if is_entry dir p then bit edge (along dir p) else false)
+    → plane_bit (get_or planes chip 0) (sender dir p) || (if is_entry dir p then bit edge (along dir p) else false)
     ≡ bit_of_place planes (source n dir (record { chip = chip; proc = p }))
 joined n dir chip planes edge there edges p h = by (is_entry dir p) refl where
   by : (entry : Bool) → is_entry dir p ≡ entry
-      → bit_of (get_or planes chip 0) (if entry then None else Some (one_back dir p)) || (if entry then bit edge (along dir p) else false)
+      → plane_bit (get_or planes chip 0) (if entry then None else Some (one_back dir p)) || (if entry then bit edge (along dir p) else false)
       ≡ bit_of_place planes (source n dir (record { chip = chip; proc = p }))
   by true entry = edges (along dir p) (along-lt dir p h) ∙ sym (ap (bit_of_place planes) ((steps_are_the_torus n dir chip p there h).edge entry))
   by false entry = or-false (bit (get_or planes chip 0) (one_back dir p)) ∙ sym (ap (bit_of_place planes) ((steps_are_the_torus n dir chip p there h).inside entry))

@@ -4,13 +4,13 @@ use Rattle.std.proofs.Math.Bool.{and-false}
 use Rattle.std.proofs.lemmas.Bool.{eqb-true, eqb-false, cases_lt, lt-ltb}
 use Rattle.cm_bits.specs.Bit.{bit}
 use Rattle.cm_bits.specs.declared.plane.Dir.TheVariants.{North, East, West, South}
-use Rattle.cm_model.specs.Chip.{IsPlane}
+use Rattle.cm_model.specs.Chip.{IsPlane, plane_bit}
 use Rattle.cm_model.proofs.Bits.{bit-bit_and}
-use Rattle.cm_news.specs.Moves.{is_entry, one_back, sender, bit_of, at_edge, along}
+use Rattle.cm_news.specs.Moves.{is_entry, one_back, sender, at_edge, along}
 use Rattle.cm_news.proofs.Shifting.{and-true, bits_by_test, bit-down, bit-up_below, bit-up_above, bit-past}
 
 -- a bit that is 0 where steps come in from another chip, and else the one before's, is the sender's
-by_sender : (entry : Bool) (x q : ℕ) (v : Bool) → (entry ≡ true → v ≡ false) → (entry ≡ false → v ≡ bit x q) → v ≡ bit_of x (if entry then None else Some q)
+by_sender : (entry : Bool) (x q : ℕ) (v : Bool) → (entry ≡ true → v ≡ false) → (entry ≡ false → v ≡ bit x q) → v ≡ plane_bit x (if entry then None else Some q)
 by_sender true x q v first others = first refl
 by_sender false x q v first others = others refl
 
@@ -21,25 +21,25 @@ by_entry false x q v first others = others refl
 
 -- ---- inside the chip
 
-pub inside_north : (x : ℕ) → x < 2 ^ 16 → (p : ℕ) → p < 16 → bit (x / 16) p ≡ bit_of x (sender North p)
+pub inside_north : (x : ℕ) → x < 2 ^ 16 → (p : ℕ) → p < 16 → bit (x / 16) p ≡ plane_bit x (sender North p)
 inside_north x fits p h = bit-down x 4 p ∙ by_sender (is_entry North p) x (one_back North p) (bit x (4 + p))
     (λ entry. let last : p / 4 ≡ 3 = eqb-true (p / 4) 3 entry in bit-past x 16 (4 + p) fits (omega arith))
     (λ entry. ap (bit x) (omega arith))
 
-pub inside_south : (x p : ℕ) → p < 16 → bit (x * 16 % 65536) p ≡ bit_of x (sender South p)
+pub inside_south : (x p : ℕ) → p < 16 → bit (x * 16 % 65536) p ≡ plane_bit x (sender South p)
 inside_south x p h = by_sender (is_entry South p) x (one_back South p) (bit (x * 16 % 65536) p)
     (λ entry. let first : p / 4 ≡ 0 = eqb-true (p / 4) 0 entry in bit-up_below x 4 p h (omega arith))
     (λ entry. let others : ¬ (p / 4 ≡ 0) = eqb-false (p / 4) 0 entry in
     bit-up_above x 4 p h (omega arith) ∙ ap (bit x) (omega arith))
 
-pub inside_west : (x p : ℕ) → p < 16 → bit (bit_and (x / 2) 30583) p ≡ bit_of x (sender West p)
+pub inside_west : (x p : ℕ) → p < 16 → bit (bit_and (x / 2) 30583) p ≡ plane_bit x (sender West p)
 inside_west x p h =
     bit-bit_and (x / 2) 30583 p ∙ ap (λ (b : Bool). bit (x / 2) p && b) (bits_by_test 30583 (λ k. not (k % 4 == 3)) refl p h)
     ∙ by_sender (is_entry West p) x (one_back West p) (bit (x / 2) p && not (p % 4 == 3))
     (λ entry. ap (λ (b : Bool). bit (x / 2) p && not b) entry ∙ and-false (bit (x / 2) p))
     (λ entry. ap (λ (b : Bool). bit (x / 2) p && not b) entry ∙ and-true (bit (x / 2) p) ∙ bit-down x 1 p ∙ ap (bit x) (omega arith))
 
-pub inside_east : (x p : ℕ) → p < 16 → bit (bit_and (x * 2 % 65536) 61166) p ≡ bit_of x (sender East p)
+pub inside_east : (x p : ℕ) → p < 16 → bit (bit_and (x * 2 % 65536) 61166) p ≡ plane_bit x (sender East p)
 inside_east x p h =
     bit-bit_and (x * 2 % 65536) 61166 p ∙ ap (λ (b : Bool). bit (x * 2 % 65536) p && b) (bits_by_test 61166 (λ k. not (k % 4 == 0)) refl p h)
     ∙ by_sender (is_entry East p) x (one_back East p) (bit (x * 2 % 65536) p && not (p % 4 == 0))

@@ -13,9 +13,9 @@ row p = p / 4
 abbrev pub column : ℕ → ℕ
 column p = p % 4
 
--- the processor in a row and a column of its chip
-abbrev pub processor_in : ℕ → ℕ → ℕ
-processor_in row column = 4 * row + column
+-- the number of the processor in a row and a column of its chip
+abbrev pub number_in : ℕ → ℕ → ℕ
+number_in row column = 4 * row + column
 
 -- a step in this direction that leads to the processor comes from another chip
 abbrev pub is_entry : Dir → ℕ → Bool
@@ -26,26 +26,21 @@ is_entry East p = column p == 0
 
 -- where a step in this direction that leads to the processor comes from, on the same chip
 abbrev pub one_back : Dir → ℕ → ℕ
-one_back North p = processor_in (row p + 1) (column p)
-one_back South p = processor_in (row p - 1) (column p)
-one_back West p = processor_in (row p) (column p + 1)
-one_back East p = processor_in (row p) (column p - 1)
+one_back North p = number_in (row p + 1) (column p)
+one_back South p = number_in (row p - 1) (column p)
+one_back West p = number_in (row p) (column p + 1)
+one_back East p = number_in (row p) (column p - 1)
 
 -- the processor of the same chip from which a step in this direction leads here: none where it comes from another chip
 abbrev pub sender : Dir → ℕ → Option ℕ
 sender dir p = if is_entry dir p then None else Some (one_back dir p)
 
--- the bit of a processor: 0 where there is none
-abbrev pub bit_of : ℕ → Option ℕ → Bool
-bit_of plane None = false
-bit_of plane (Some p) = bit plane p
-
 -- the processor from which bit i of the edge in this direction is: the edge goes from west to east, or from north to south
 abbrev pub at_edge : Dir → ℕ → ℕ
-at_edge North i = processor_in 0 i
-at_edge South i = processor_in 3 i
-at_edge West i = processor_in i 0
-at_edge East i = processor_in i 3
+at_edge North i = number_in 0 i
+at_edge South i = number_in 3 i
+at_edge West i = number_in i 0
+at_edge East i = number_in i 3
 
 -- which bit of that edge comes in at the processor, from the next chip
 abbrev pub along : Dir → ℕ → ℕ

@@ -2,9 +2,9 @@
 
 ghost use Rattle.std.specs.Prelude.{◌≡◌, ℕ, ◌*◌, ◌/◌, ◌%◌, ◌^◌, ◌<◌, ◌≤◌, ◌==◌, ◌||◌, false, length, slice_index, if◌then◌else◌};
 ghost use Rattle.cm_bits.specs.Bit.{bit};
-ghost use Rattle.cm_model.specs.Chip.{IsPlane};
+ghost use Rattle.cm_model.specs.Chip.{IsPlane, plane_bit};
 ghost use Rattle.cm_model.specs.Place.{neighbour, source};
-ghost use Rattle.cm_news.specs.Moves.{is_entry, sender, bit_of, at_edge, along, corner, bit_of_place};
+ghost use Rattle.cm_news.specs.Moves.{is_entry, sender, at_edge, along, corner, bit_of_place};
 
 use cm_bits::{Dir, Place, Plane, Proc};
 use cm_model::{PlainGrid, opposite};
@@ -27,7 +27,7 @@ impl<const N: usize> Grid<N> {
     /// Where the bits of a chip's processors go that stay on the chip: a processor to which none
     /// comes from the same chip gets 0.
     pub fn inside(plane: Plane, dir: Dir) -> Plane
-        ensures value { IsPlane result (λ p. bit_of plane (sender dir p)) }
+        ensures value { IsPlane result (λ p. plane_bit plane (sender dir p)) }
     {
         match dir {
             Dir::North => plane >> 4,
@@ -70,7 +70,7 @@ impl<const N: usize> Grid<N> {
     pub fn over_edge(own: Plane, edge: u8, dir: Dir) -> Plane
         requires within { edge < 16 }
         ensures value { IsPlane result
-            (λ p. bit_of own (sender dir p) || (if is_entry dir p then bit edge (along dir p) else false)) }
+            (λ p. plane_bit own (sender dir p) || (if is_entry dir p then bit edge (along dir p) else false)) }
     {
         Self::inside(own, dir) | entering(edge, dir)
     }

@@ -5,9 +5,8 @@ use Rattle.cm_model.specs.declared.message.Message.{Message}
 use Rattle.cm_model.specs.declared.message.Event.{Event}
 use Rattle.cm_model.specs.declared.message.Event.TheVariants.{Delivered}
 use Rattle.cm_model.specs.Processor.{Processor}
-use Rattle.cm_model.specs.Array.{Chips, chip_at}
-use Rattle.cm_model.specs.Cycle.{log_at}
-use Rattle.cm_model.specs.Machine.{Machine, buffer_at}
+use Rattle.cm_model.specs.Array.{Chips, chip_at, list_at}
+use Rattle.cm_model.specs.Machine.{Machine}
 use Rattle.cm_model.specs.Letters.{can_receive, chip_after_delivery}
 use Rattle.cm_model.specs.Buffers.{delivered_in, kept, machine_after_delivery}
 use Rattle.cm_crossing.specs.Standing.{delivered_of, kept_of}
@@ -19,10 +18,10 @@ abbrev pub delivered_chip : Machine → ℕ → List Processor
 delivered_chip m c = chip_after_delivery (delivered_in m c) (chip_at m.chips c)
 
 abbrev pub delivered_buffer : Machine → ℕ → List Message
-delivered_buffer m c = kept (can_receive (chip_at m.chips c)) [] (buffer_at m.buffers c)
+delivered_buffer m c = kept (can_receive (chip_at m.chips c)) [] (list_at m.buffers c)
 
 abbrev pub delivered_log : Machine → ℕ → List Event
-delivered_log m c = log_at m.logs c ++ map (λ d. Delivered d c) (delivered_in m c)
+delivered_log m c = list_at m.logs c ++ map (λ d. Delivered d c) (delivered_in m c)
 
 -- so many chips have delivered
 pub record IsDelivered (n cap : ℕ) (chips_before : Chips) (buffers_before : List (List Message)) (logs_before : List Log) (chips : Chips) (buffers : List (List Message)) (logs : List Log) (count : ℕ) : Type 0 where
@@ -56,7 +55,7 @@ room_to_deliver n cap chips_before buffers_before logs_before chips buffers logs
 pub delivered_more : (n cap : ℕ) (chips_before : Chips) (buffers_before : List (List Message)) (logs_before : List Log) (chips : Chips) (buffers : List (List Message)) (logs : List Log) (i : ℕ)
     (chip next_chip : List Processor) (ms next_ms : List Message) (log next_log : Log)
     → AreRouters n cap chips_before buffers_before logs_before → i < 2 ^ n → i < length logs
-    → chip ≡ get_or chips i chip → ms ≡ buffer_at buffers i → log ≡ get_or logs i log
+    → chip ≡ get_or chips i chip → ms ≡ list_at buffers i → log ≡ get_or logs i log
     → next_chip ≡ chip_after_delivery (delivered_of ms chip) chip
     → next_ms ≡ kept_of ms chip
     → next_log.items ≡ log.items ++ map (λ d. Delivered d i) (delivered_of ms chip)
@@ -67,8 +66,8 @@ delivered_more n cap chips_before buffers_before logs_before chips buffers logs 
     are below in_logs chip_read ms_read log_read chip_is ms_is log_is longer kept_room was =
     let m : Machine = machine_of chips_before buffers_before logs_before 0 in
     let old_chip : chip ≡ chip_at chips_before i = not_yet_made [] (delivered_chip m) chips_before chips i chip (omega (arith, are.chip_count)) chip_read was.chips_made in
-    let old_messages : ms ≡ buffer_at buffers_before i = ms_read ∙ was.buffers_made.rest i (omega arith) in
-    let old_events : log.items ≡ log_at (events_of logs_before) i =
+    let old_messages : ms ≡ list_at buffers_before i = ms_read ∙ was.buffers_made.rest i (omega arith) in
+    let old_events : log.items ≡ list_at (events_of logs_before) i =
     not_yet_made_of (λ (l : Log). l.items) [] (delivered_log m) (events_of logs_before) logs i log in_logs log_read was.logs_made in
     record {
       chips_made = made_more [] (delivered_chip m) chips_before chips i next_chip (omega (arith, are.chip_count)) (chip_is ∙ rw (old_messages, old_chip) refl) was.chips_made;

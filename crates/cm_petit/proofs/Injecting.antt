@@ -6,10 +6,9 @@ use Rattle.cm_model.specs.declared.message.Event.{Event}
 use Rattle.cm_model.specs.declared.message.Event.TheVariants.{Injected}
 use Rattle.cm_model.specs.Processor.{Processor}
 use Rattle.cm_model.specs.Chip.{processor_at}
-use Rattle.cm_model.specs.Array.{Chips, chip_at}
+use Rattle.cm_model.specs.Array.{Chips, chip_at, list_at}
 use Rattle.cm_model.proofs.Each.{length-each_from, get_or-each_below}
-use Rattle.cm_model.specs.Cycle.{log_at}
-use Rattle.cm_model.specs.Machine.{Machine, buffer_at}
+use Rattle.cm_model.specs.Machine.{Machine}
 use Rattle.cm_model.specs.Letters.{senders_taken, messages_sent, is_among, processor_after_injection, chip_after_injection}
 use Rattle.cm_model.specs.Buffers.{taken_in, sent_in, machine_after_injection}
 use Rattle.cm_petit.specs.Routers.{Log, events_of, machine_of, AreRouters}
@@ -20,10 +19,10 @@ abbrev pub injected_chip : ℕ → Machine → ℕ → List Processor
 injected_chip cap m c = chip_after_injection (taken_in cap m c) (chip_at m.chips c)
 
 abbrev pub injected_buffer : ℕ → ℕ → Machine → ℕ → List Message
-injected_buffer n cap m c = buffer_at m.buffers c ++ sent_in n cap m c
+injected_buffer n cap m c = list_at m.buffers c ++ sent_in n cap m c
 
 abbrev pub injected_log : ℕ → ℕ → Machine → ℕ → List Event
-injected_log n cap m c = log_at m.logs c ++ map Injected (sent_in n cap m c)
+injected_log n cap m c = list_at m.logs c ++ map Injected (sent_in n cap m c)
 
 -- so many chips have taken messages in
 pub record IsInjected (n cap clock : ℕ) (chips_before : Chips) (buffers_before : List (List Message)) (logs_before : List Log) (chips : Chips) (buffers : List (List Message)) (logs : List Log) (count : ℕ) : Type 0 where
@@ -47,7 +46,7 @@ injected_begins n cap clock chips buffers logs =
 pub injected_more : (n cap clock : ℕ) (chips_before : Chips) (buffers_before : List (List Message)) (logs_before : List Log) (chips : Chips) (buffers : List (List Message)) (logs : List Log) (i : ℕ)
     (chip next_chip : List Processor) (ms next_ms : List Message) (log next_log : Log)
     → AreRouters n cap chips_before buffers_before logs_before → i < 2 ^ n → i < length logs
-    → chip ≡ get_or chips i chip → ms ≡ buffer_at buffers i → log ≡ get_or logs i log
+    → chip ≡ get_or chips i chip → ms ≡ list_at buffers i → log ≡ get_or logs i log
     → next_chip ≡ chip_after_injection (senders_taken cap (length ms) chip) chip
     → next_ms ≡ ms ++ messages_sent n clock i chip (senders_taken cap (length ms) chip)
     → next_log.items ≡ log.items ++ map Injected (messages_sent n clock i chip (senders_taken cap (length ms) chip))
@@ -58,8 +57,8 @@ injected_more n cap clock chips_before buffers_before logs_before chips buffers 
     are below in_logs chip_read ms_read log_read chip_is ms_is log_is longer kept was =
     let m : Machine = machine_of chips_before buffers_before logs_before clock in
     let old_chip : chip ≡ chip_at chips_before i = not_yet_made [] (injected_chip cap m) chips_before chips i chip (omega (arith, are.chip_count)) chip_read was.chips_made in
-    let old_messages : ms ≡ buffer_at buffers_before i = ms_read ∙ was.buffers_made.rest i (omega arith) in
-    let old_events : log.items ≡ log_at (events_of logs_before) i =
+    let old_messages : ms ≡ list_at buffers_before i = ms_read ∙ was.buffers_made.rest i (omega arith) in
+    let old_events : log.items ≡ list_at (events_of logs_before) i =
     not_yet_made_of (λ (l : Log). l.items) [] (injected_log n cap m) (events_of logs_before) logs i log in_logs log_read was.logs_made in
     record {
       chips_made = made_more [] (injected_chip cap m) chips_before chips i next_chip (omega (arith, are.chip_count)) (chip_is ∙ rw (old_messages, old_chip) refl) was.chips_made;

@@ -7,11 +7,10 @@ use Rattle.cm_model.specs.declared.message.Message.{Message}
 use Rattle.cm_model.specs.declared.message.Event.TheVariants.{Delivered}
 use Rattle.cm_model.specs.Processor.{Processor}
 use Rattle.cm_model.specs.Chip.{processor_at, no_processor}
-use Rattle.cm_model.specs.Array.{chip_at}
+use Rattle.cm_model.specs.Array.{chip_at, list_at}
 use Rattle.cm_model.specs.Router.{message_across}
 use Rattle.cm_model.specs.Letters.{can_receive, chip_after_delivery}
-use Rattle.cm_model.specs.Cycle.{log_at}
-use Rattle.cm_model.specs.Machine.{Machine, buffer_at}
+use Rattle.cm_model.specs.Machine.{Machine}
 use Rattle.cm_model.specs.Buffers.{leaving_place, element_at, without, outgoing, buffer_after_dimension, machine_after_dimension, delivered_in, kept, machine_after_delivery}
 use Rattle.cm_model.proofs.Each.{is_each}
 use Rattle.cm_model.proofs.Flips.{across_below}
@@ -24,7 +23,7 @@ pub record IsQuiet (n : ℕ) (machine : Machine) : Type 0 where
   pub buffer_count : length machine.buffers ≡ 2 ^ n
   pub log_count : length machine.logs ≡ 2 ^ n
   pub sixteen : (c : ℕ) → c < 2 ^ n → length (chip_at machine.chips c) ≡ 16
-  pub empty : (c : ℕ) → c < 2 ^ n → buffer_at machine.buffers c ≡ []
+  pub empty : (c : ℕ) → c < 2 ^ n → list_at machine.buffers c ≡ []
 
 -- nobody leaves an empty buffer
 nobody_at : (o : Option ℕ) (d : ℕ) → option_map (message_across d) (element_at [] o) ≡ None
@@ -43,7 +42,7 @@ crossing_nothing : (n cap d : ℕ) (machine : Machine) → d < n → IsQuiet n m
 unfolding machine_after_dimension
 crossing_nothing n cap d machine below h =
     let same = is_each [] (2 ^ n)
-    (λ c. buffer_after_dimension cap d (buffer_at machine.buffers c) (outgoing cap d (buffer_at machine.buffers (bit_xor c (2 ^ d)))))
+    (λ c. buffer_after_dimension cap d (list_at machine.buffers c) (outgoing cap d (list_at machine.buffers (bit_xor c (2 ^ d)))))
     machine.buffers h.buffer_count
     (λ c l. rw (h.empty c l, h.empty (bit_xor c (2 ^ d)) (across_below n d c below l)) (sym (stays_empty cap d))) in
     λ i. record { chips = machine.chips; buffers = sym same i; logs = machine.logs; clock = machine.clock }
@@ -66,10 +65,10 @@ unfolding machine_after_delivery
 delivery_of_nothing n machine h =
     let chips = is_each [] (2 ^ n) (λ c. chip_after_delivery (delivered_in machine c) (chip_at machine.chips c)) machine.chips h.chip_count
     (λ c l. rw (h.empty c l) (chip_undelivered (chip_at machine.chips c) (h.sixteen c l))) in
-    let buffers = is_each [] (2 ^ n) (λ c. kept (can_receive (chip_at machine.chips c)) [] (buffer_at machine.buffers c)) machine.buffers h.buffer_count
+    let buffers = is_each [] (2 ^ n) (λ c. kept (can_receive (chip_at machine.chips c)) [] (list_at machine.buffers c)) machine.buffers h.buffer_count
     (λ c l. rw (h.empty c l) refl) in
-    let logs = is_each [] (2 ^ n) (λ c. log_at machine.logs c ++ map (λ m. Delivered m c) (delivered_in machine c)) machine.logs h.log_count
-    (λ c l. rw (h.empty c l) (sym (append-nil (log_at machine.logs c)))) in
+    let logs = is_each [] (2 ^ n) (λ c. list_at machine.logs c ++ map (λ m. Delivered m c) (delivered_in machine c)) machine.logs h.log_count
+    (λ c l. rw (h.empty c l) (sym (append-nil (list_at machine.logs c)))) in
     λ i. record { chips = sym chips i; buffers = sym buffers i; logs = sym logs i; clock = machine.clock + 1 }
 
 -- all that is left of the petit cycle changes nothing but the counter

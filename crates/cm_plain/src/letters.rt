@@ -11,17 +11,8 @@ ghost use Rattle.cm_model.specs.Letters.{senders, message_sent, is_among, proces
 
 use crate::machine::{PROCESSORS, PlainChip, PlainMachine, PlainProcessor, put};
 use cm_bits::{FlagNo, NoMemory, Proc};
-use cm_model::{Message, Tag};
+use cm_model::{Message, RECEIVED_PAYLOAD, SENT_PAYLOAD, SENT_PROC, SENT_REL, Tag};
 use std::alloc::Global;
-
-// Where the fields of a record that is sent stand, and that of a payload that is received.
-const REL: usize = 3968;
-
-const PROC: usize = 3984;
-
-const PAYLOAD: usize = 3988;
-
-const RECEIVED: usize = 4032;
 
 impl<const N: usize> PlainMachine<N> {
     pub(crate) fn chip(&self, chip: u16) -> &PlainChip
@@ -51,12 +42,12 @@ impl<const N: usize> PlainMachine<N> {
         ensures value { result ≡ message_sent N clock chip (chip_at self.now chip) proc }
     {
         let sender = self.chip(chip).processor(proc);
-        let rel = sender.field_value(REL, 16) as u16 % Self::chip_count();
-        let receiver = sender.field_value(PROC, 4) as u8;
+        let rel = sender.field_value(usize::from(SENT_REL), 16) as u16 % Self::chip_count();
+        let receiver = sender.field_value(usize::from(SENT_PROC), 4) as u8;
         Message {
             rel,
             proc: Proc::new(receiver).unwrap(),
-            payload: sender.field_value(PAYLOAD, 32),
+            payload: sender.field_value(usize::from(SENT_PAYLOAD), 32),
             tag: Tag {
                 chip,
                 proc,
@@ -188,11 +179,17 @@ impl PlainProcessor {
 
     fn after_receipt(&self, alloc: Global, payload: u32) -> Result<PlainProcessor, NoMemory>
         ensures value { IfOk result (λ after. after ≡ record {
-          memory = with_field self.now.memory 4032 32 payload;
+          memory = with_field self.now.memory RECEIVED_PAYLOAD 32 payload;
           flags = slice_set self.now.flags 14 true;
         }) }
     {
-        let memory = with_field(alloc, &self.memory, RECEIVED, 32, payload)?;
+        let memory = with_field(
+            alloc,
+            &self.memory,
+            usize::from(RECEIVED_PAYLOAD),
+            32,
+            payload,
+        )?;
         let mut flags = self.flags.to_vec(alloc)?;
         put(&mut flags, usize::from(FlagNo::RECV.get()), true);
         Ok(PlainProcessor { memory, flags })

@@ -125,9 +125,7 @@ impl<const N: usize> PlainMachine<N> {
         let mut chips = Vec::with_capacity(alloc, self.chips.len())?;
         for chip in 0..Self::chip_count() {
             let after = self.chip_after(alloc, nano, chip)?;
-            let Ok(()) = chips.push(after) else {
-                return Err(NoMemory);
-            };
+            chips.push_reserved(after);
         }
         Ok(chips)
     }

@@ -8,10 +8,9 @@ ghost use Rattle.cm_model.specs.declared.message.Event.TheVariants.{Injected, De
 ghost use Rattle.cm_model.specs.declared.act.Act.TheVariants as act;
 ghost use Rattle.cm_model.specs.Processor.{ZERO, memory_bit, flag};
 ghost use Rattle.cm_model.specs.Chip.{each_processor, processor_at, with_memory_bit, with_flag};
-ghost use Rattle.cm_model.specs.Array.{each_chip, chip_at, after_nano};
+ghost use Rattle.cm_model.specs.Array.{each_chip, chip_at, after_nano, list_at};
 ghost use Rattle.cm_model.specs.Letters.{can_receive, chip_after_injection, chip_after_delivery};
-ghost use Rattle.cm_model.specs.Cycle.{log_at};
-ghost use Rattle.cm_model.specs.Machine.{Machine, buffer_at, blank_machine, run_of};
+ghost use Rattle.cm_model.specs.Machine.{Machine, blank_machine, run_of};
 ghost use Rattle.cm_model.specs.Buffers.{taken_in, sent_in, machine_after_injection, outgoing, buffer_after_dimension, machine_after_dimension, delivered_in, kept, machine_after_delivery, after_act};
 
 use crate::buffer::{PlainBuffer, PlainLog, Sorted};
@@ -83,7 +82,7 @@ impl<const N: usize, const CAP: usize> PlainRouter<N, CAP> {
     /// The messages that stand at a chip, from the front.
     pub fn buffer(&self, chip: u16) -> &[Message]
         requires chip { chip < 2 ^ N }
-        ensures value { result.now ≡ buffer_at self.now.buffers chip }
+        ensures value { result.now ≡ list_at self.now.buffers chip }
     {
         self.buffer_of(chip).messages()
     }
@@ -91,7 +90,7 @@ impl<const N: usize, const CAP: usize> PlainRouter<N, CAP> {
     /// The events of a chip, the oldest first.
     pub fn log(&self, chip: u16) -> &[Event]
         requires chip { chip < 2 ^ N }
-        ensures value { result.now ≡ log_at self.now.logs chip }
+        ensures value { result.now ≡ list_at self.now.logs chip }
     {
         self.log_of(chip).events()
     }
@@ -295,7 +294,7 @@ impl<const N: usize, const CAP: usize> PlainRouter<N, CAP> {
 
     fn buffers_after_injection(&self, alloc: Global) -> Result<Vec<PlainBuffer>, NoMemory>
         ensures value { IfOk result (λ buffers. buffers.items ≡
-            each_chip N (λ c. buffer_at self.now.buffers c ++ sent_in N CAP self.now c)) }
+            each_chip N (λ c. list_at self.now.buffers c ++ sent_in N CAP self.now c)) }
     {
         let _ = &self.logs;
         let mut buffers = Vec::new(alloc);
@@ -311,7 +310,7 @@ impl<const N: usize, const CAP: usize> PlainRouter<N, CAP> {
 
     fn logs_after_injection(&self, alloc: Global) -> Result<Vec<PlainLog>, NoMemory>
         ensures value { IfOk result (λ logs. logs.items ≡
-            each_chip N (λ c. log_at self.now.logs c ++ map Injected (sent_in N CAP self.now c))) }
+            each_chip N (λ c. list_at self.now.logs c ++ map Injected (sent_in N CAP self.now c))) }
     {
         let _ = &self.logs;
         let mut logs = Vec::new(alloc);
@@ -332,7 +331,7 @@ impl<const N: usize, const CAP: usize> PlainRouter<N, CAP> {
     ) -> Result<Vec<PlainBuffer>, NoMemory>
         requires dim { dim < N }
         ensures value { IfOk result (λ buffers. buffers.items ≡ each_chip N (λ c. buffer_after_dimension CAP dim
-            (buffer_at self.now.buffers c) (outgoing CAP dim (buffer_at self.now.buffers (bit_xor c (2 ^ dim)))))) }
+            (list_at self.now.buffers c) (outgoing CAP dim (list_at self.now.buffers (bit_xor c (2 ^ dim)))))) }
     {
         let _ = &self.logs;
         let mut buffers = Vec::new(alloc);
@@ -369,7 +368,7 @@ impl<const N: usize, const CAP: usize> PlainRouter<N, CAP> {
 
     fn buffers_after_delivery(&self, alloc: Global) -> Result<Vec<PlainBuffer>, NoMemory>
         ensures value { IfOk result (λ buffers. buffers.items ≡
-            each_chip N (λ c. kept (can_receive (chip_at self.now.chips c)) [] (buffer_at self.now.buffers c))) }
+            each_chip N (λ c. kept (can_receive (chip_at self.now.chips c)) [] (list_at self.now.buffers c))) }
     {
         let _ = &self.logs;
         let mut buffers = Vec::new(alloc);
@@ -387,7 +386,7 @@ impl<const N: usize, const CAP: usize> PlainRouter<N, CAP> {
 
     fn logs_after_delivery(&self, alloc: Global) -> Result<Vec<PlainLog>, NoMemory>
         ensures value { IfOk result (λ logs. logs.items ≡
-            each_chip N (λ c. log_at self.now.logs c ++ map (λ m. Delivered m c) (delivered_in self.now c))) }
+            each_chip N (λ c. list_at self.now.logs c ++ map (λ m. Delivered m c) (delivered_in self.now c))) }
     {
         let _ = &self.logs;
         let mut logs = Vec::new(alloc);
@@ -407,14 +406,14 @@ impl<const N: usize, const CAP: usize> PlainRouter<N, CAP> {
 
     fn buffer_of(&self, chip: u16) -> &PlainBuffer
         requires chip { chip < 2 ^ N }
-        ensures value { result.now ≡ buffer_at self.now.buffers chip }
+        ensures value { result.now ≡ list_at self.now.buffers chip }
     {
         &self.buffers[usize::from(chip)]
     }
 
     fn log_of(&self, chip: u16) -> &PlainLog
         requires chip { chip < 2 ^ N }
-        ensures value { result.now ≡ log_at self.now.logs chip }
+        ensures value { result.now ≡ list_at self.now.logs chip }
     {
         &self.logs[usize::from(chip)]
     }
@@ -452,7 +451,7 @@ impl<const N: usize, const CAP: usize> PlainRouter<N, CAP> {
         requires dimension { N ≤ 12 }
         requires chip { chip < 2 ^ N }
         requires dim { dim < N }
-        ensures value { result ≡ outgoing CAP dim (buffer_at self.now.buffers (bit_xor chip (2 ^ dim))) }
+        ensures value { result ≡ outgoing CAP dim (list_at self.now.buffers (bit_xor chip (2 ^ dim))) }
     {
         let other = Self::across(chip, dim);
         self.buffer_of(other).outgoing(CAP, dim)
@@ -474,7 +473,7 @@ impl<const N: usize, const CAP: usize> PlainRouter<N, CAP> {
         requires chip { chip < 2 ^ N }
         ensures delivered { IfOk result (λ sorted. sorted.delivered.items ≡ delivered_in self.now chip) }
         ensures kept { IfOk result (λ sorted. sorted.kept.items ≡
-            kept (can_receive (chip_at self.now.chips chip)) [] (buffer_at self.now.buffers chip)) }
+            kept (can_receive (chip_at self.now.chips chip)) [] (list_at self.now.buffers chip)) }
     {
         self.buffer_of(chip).sorted(alloc, self.chips.chip(chip))
     }

@@ -24,26 +24,33 @@ staying_of before ms = kept (can_receive before) [] ms
 
 -- each processor can receive if it could before, and none has arrived for it among the messages seen
 abbrev pub StillOpen : List Processor → List Message → List Processor → Type 0
-StillOpen before seen chip = (p : ℕ) → p < 16 → can_receive chip p ≡ (can_receive before p && not (is_among p (arrived_in [] seen)))
+StillOpen before seen chip = (p : ℕ) → p < 16
+    → can_receive chip p ≡ (can_receive before p && not (is_among p (arrived_in [] seen)))
 
 -- the test of the code is that of the definition
-is_accepted-now : (before : List Processor) (seen : List Message) (chip : List Processor) (m : Message) → StillOpen before seen chip → m.proc < 16
+is_accepted-now : (before : List Processor) (seen : List Message) (chip : List Processor) (m : Message)
+    → StillOpen before seen chip → m.proc < 16
     → is_accepted (can_receive before) (arrived_in [] seen) m ≡ (has_arrived m && can_receive chip m.proc)
 is_accepted-now before seen chip m still below = sym (ap (λ b. has_arrived m && b) (still m.proc below))
 
 -- ---- a message that is delivered
 
-receives_no_more : (chip : List Processor) (m : Message) → length chip ≡ 16 → m.proc < 16 → length (processor_at chip m.proc).flags ≡ 16
+receives_no_more : (chip : List Processor) (m : Message) → length chip ≡ 16 → m.proc < 16
+    → length (processor_at chip m.proc).flags ≡ 16
     → can_receive (after_one m chip) m.proc ≡ false
 receives_no_more chip m long below flags =
     let inside : m.proc < length chip = omega arith in
     let wide : RECV < length (processor_at chip m.proc).flags = omega arith in
-    ap (λ (v : Processor). not (flag v RECV)) (get_or-set_same chip m.proc (processor_after_delivery (Some m) (processor_at chip m.proc)) no_processor inside)
+    ap (λ (v : Processor). not (flag v RECV))
+    (get_or-set_same chip m.proc (processor_after_delivery (Some m) (processor_at chip m.proc)) no_processor inside)
     ∙ ap not (get_or-set_same (processor_at chip m.proc).flags RECV true false wide)
 
-receives_as_before : (chip : List Processor) (m : Message) (p : ℕ) → p ≢ m.proc → can_receive (after_one m chip) p ≡ can_receive chip p
+receives_as_before : (chip : List Processor) (m : Message) (p : ℕ) → p ≢ m.proc
+    → can_receive (after_one m chip) p ≡ can_receive chip p
 receives_as_before chip m p other =
-    ap (λ (v : Processor). not (flag v RECV)) (get_or-set_other chip m.proc p (processor_after_delivery (Some m) (processor_at chip m.proc)) no_processor other)
+    ap (λ (v : Processor). not (flag v RECV))
+    (get_or-set_other chip m.proc p (processor_after_delivery (Some m) (processor_at chip m.proc)) no_processor
+    other)
 
 not_among_accepted : (a b : Bool) → (a && not b) ≡ true → b ≡ false
 not_among_accepted true true h = absurd cc
@@ -54,8 +61,10 @@ and_not_true : (b : Bool) → (b && not true) ≡ false
 and_not_true true = refl
 and_not_true false = refl
 
-still_open_delivered : (before : List Processor) (seen : List Message) (chip : List Processor) (m : Message) → StillOpen before seen chip → has_arrived m ≡ true
-    → length chip ≡ 16 → m.proc < 16 → length (processor_at chip m.proc).flags ≡ 16 → StillOpen before (seen ++ m ∷ []) (after_one m chip)
+still_open_delivered : (before : List Processor) (seen : List Message) (chip : List Processor) (m : Message)
+    → StillOpen before seen chip → has_arrived m ≡ true
+    → length chip ≡ 16 → m.proc < 16 → length (processor_at chip m.proc).flags ≡ 16
+    → StillOpen before (seen ++ m ∷ []) (after_one m chip)
 still_open_delivered before seen chip m still arrived long below flags p h =
     rw (arrived_in-more [] seen m, arrived) (⊎_elim
     (λ (e : (m.proc == p) ≡ true).
@@ -67,21 +76,31 @@ still_open_delivered before seen chip m still arrived long below flags p h =
     (cases_Bool (m.proc == p)))
 
 -- a message that has arrived, for a processor that can receive, is delivered
-pub hands_over : (before : List Processor) (seen : List Message) (chip : List Processor) (m : Message) → HasGone before seen chip
-    → m.proc < 16 → has_arrived m ≡ true → can_receive chip m.proc ≡ true → HasHandedOver true before seen m (after_one m chip)
+pub hands_over : (before : List Processor) (seen : List Message) (chip : List Processor) (m : Message)
+    → HasGone before seen chip
+    → m.proc < 16 → has_arrived m ≡ true → can_receive chip m.proc ≡ true
+    → HasHandedOver true before seen m (after_one m chip)
 hands_over before seen chip m gone below arrived receives =
-    let accepted : is_accepted (can_receive before) (arrived_in [] seen) m ≡ true = is_accepted-now before seen chip m gone.open below ∙ rw (arrived, receives) refl in
-    let open_there : is_among m.proc (arrived_in [] seen) ≡ false = not_among_accepted (can_receive before m.proc) (is_among m.proc (arrived_in [] seen)) (sym (gone.open m.proc below) ∙ receives) in
-    let none : find (is_for m.proc) (out_of before seen) ≡ None = none_delivered (can_receive before) m.proc [] seen open_there in
-    let more : out_of before (seen ++ m ∷ []) ≡ out_of before seen ++ m ∷ [] = delivered-more (can_receive before) [] seen m ∙ rw accepted refl in
+    let accepted : is_accepted (can_receive before) (arrived_in [] seen) m ≡ true =
+    is_accepted-now before seen chip m gone.open below ∙ rw (arrived, receives) refl in
+    let open_there : is_among m.proc (arrived_in [] seen) ≡ false =
+    not_among_accepted (can_receive before m.proc) (is_among m.proc (arrived_in [] seen))
+    (sym (gone.open m.proc below) ∙ receives) in
+    let none : find (is_for m.proc) (out_of before seen) ≡ None =
+    none_delivered (can_receive before) m.proc [] seen open_there in
+    let more : out_of before (seen ++ m ∷ []) ≡ out_of before seen ++ m ∷ [] =
+    delivered-more (can_receive before) [] seen m ∙ rw accepted refl in
     let unchanged : processor_at chip m.proc ≡ processor_at before m.proc =
-    ap (λ (ps : List Processor). processor_at ps m.proc) gone.chip_is ∙ processor_at-delivered (out_of before seen) before m.proc below
+    ap (λ (ps : List Processor). processor_at ps m.proc) gone.chip_is
+    ∙ processor_at-delivered (out_of before seen) before m.proc below
     ∙ ap (λ (o : Option Message). processor_after_delivery o (processor_at before m.proc)) none in
     record {
       gone = record {
         whole = gone.whole;
-        chip_is = ap (after_one m) gone.chip_is ∙ delivered_one_more (out_of before seen) m before below none ∙ ap (λ (ds : List Message). chip_after_delivery ds before) (sym more);
-        «open» = still_open_delivered before seen chip m gone.open arrived (ap length gone.chip_is ∙ length-delivered (out_of before seen) before) below
+        chip_is = ap (after_one m) gone.chip_is ∙ delivered_one_more (out_of before seen) m before below none
+            ∙ ap (λ (ds : List Message). chip_after_delivery ds before) (sym more);
+        «open» = still_open_delivered before seen chip m gone.open arrived (ap length gone.chip_is
+            ∙ length-delivered (out_of before seen) before) below
             (ap (λ (v : Processor). length v.flags) unchanged ∙ (gone.whole.each m.proc below).flags);
       };
       delivered_is = more;
@@ -94,14 +113,17 @@ hands_over before seen chip m gone below arrived receives =
 abbrev pub IsRefused : List Processor → Message → Type 0
 IsRefused chip m = has_arrived m ≡ true → (m.proc < 16) × (can_receive chip m.proc ≡ false)
 
-is_accepted-refused : (before : List Processor) (seen : List Message) (chip : List Processor) (m : Message) → StillOpen before seen chip → IsRefused chip m
+is_accepted-refused : (before : List Processor) (seen : List Message) (chip : List Processor) (m : Message)
+    → StillOpen before seen chip → IsRefused chip m
     → is_accepted (can_receive before) (arrived_in [] seen) m ≡ false
 is_accepted-refused before seen chip m still refused =
-    ⊎_elim (λ (a : has_arrived m ≡ true). is_accepted-now before seen chip m still (refused a).0 ∙ rw (a, (refused a).1) refl)
+    ⊎_elim (λ (a : has_arrived m ≡ true). is_accepted-now before seen chip m still (refused a).0
+    ∙ rw (a, (refused a).1) refl)
     (λ (a : has_arrived m ≡ false). rw a refl)
     (cases_Bool (has_arrived m))
 
-still_open_kept : (before : List Processor) (seen : List Message) (chip : List Processor) (m : Message) → StillOpen before seen chip → IsRefused chip m
+still_open_kept : (before : List Processor) (seen : List Message) (chip : List Processor) (m : Message)
+    → StillOpen before seen chip → IsRefused chip m
     → StillOpen before (seen ++ m ∷ []) chip
 still_open_kept before seen chip m still refused p h =
     rw (arrived_in-more [] seen m) (⊎_elim
@@ -115,15 +137,19 @@ still_open_kept before seen chip m still refused p h =
     (cases_Bool (has_arrived m)))
 
 -- any other is kept
-pub keeps : (before : List Processor) (seen : List Message) (chip : List Processor) (m : Message) → HasGone before seen chip → IsRefused chip m
+pub keeps : (before : List Processor) (seen : List Message) (chip : List Processor) (m : Message)
+    → HasGone before seen chip → IsRefused chip m
     → HasHandedOver false before seen m chip
 keeps before seen chip m gone refused =
-    let not_accepted : is_accepted (can_receive before) (arrived_in [] seen) m ≡ false = is_accepted-refused before seen chip m gone.open refused in
-    let same : out_of before (seen ++ m ∷ []) ≡ out_of before seen ++ [] = delivered-more (can_receive before) [] seen m ∙ rw not_accepted refl in
+    let not_accepted : is_accepted (can_receive before) (arrived_in [] seen) m ≡ false =
+    is_accepted-refused before seen chip m gone.open refused in
+    let same : out_of before (seen ++ m ∷ []) ≡ out_of before seen ++ [] =
+    delivered-more (can_receive before) [] seen m ∙ rw not_accepted refl in
     record {
       gone = record {
         whole = gone.whole;
-        chip_is = gone.chip_is ∙ ap (λ (ds : List Message). chip_after_delivery ds before) (sym (same ∙ append-nil (out_of before seen)));
+        chip_is = gone.chip_is
+            ∙ ap (λ (ds : List Message). chip_after_delivery ds before) (sym (same ∙ append-nil (out_of before seen)));
         «open» = still_open_kept before seen chip m gone.open refused;
       };
       delivered_is = same;
@@ -155,7 +181,8 @@ abbrev pub delivery_events : ℕ → List Message → List Event
 delivery_events here ds = map (λ m. Delivered m here) ds
 
 -- how far a scan has come: the messages are those kept of the ones seen, and then the rest
-pub record Scan (before : List Processor) (old : List Message) (told : List Event) (here : ℕ) (chip : List Processor) (now : List Message) (place : ℕ) (events : List Event) : Type 0 where
+pub record Scan (before : List Processor) (old : List Message) (told : List Event) (here : ℕ) (chip : List Processor)
+    (now : List Message) (place : ℕ) (events : List Event) : Type 0 where
   pub seen : List Message
   pub rest : List Message
   pub gone : HasGone before seen chip
@@ -164,7 +191,8 @@ pub record Scan (before : List Processor) (old : List Message) (told : List Even
   pub at : length (staying_of before seen) ≡ place
   pub log_is : events ≡ told ++ delivery_events here (out_of before seen)
 
-pub scan_begins : (chip : List Processor) (ms : List Message) (told : List Event) (here : ℕ) → HasGone chip [] chip → Scan chip ms told here chip ms 0 told
+pub scan_begins : (chip : List Processor) (ms : List Message) (told : List Event) (here : ℕ) → HasGone chip [] chip
+    → Scan chip ms told here chip ms 0 told
 scan_begins chip ms told here gone = record {
   seen = [];
   rest = ms;
@@ -186,56 +214,74 @@ next_removed (z ∷ xs) x ys = ap (λ w. z ∷ w) (next_removed xs x ys)
 
 -- what the step does, whatever was seen before
 abbrev pub HandsOver : Bool → List Processor → Message → List Processor → List Processor → Type 0
-HandsOver was_delivered before m chip after = (seen : List Message) → HasGone before seen chip → HasHandedOver was_delivered before seen m after
+HandsOver was_delivered before m chip after = (seen : List Message) → HasGone before seen chip
+    → HasHandedOver was_delivered before seen m after
 
-accepted_at : (before : List Processor) (old : List Message) (told : List Event) (here : ℕ) (after : List Processor) (now : List Message) (place : ℕ) (events : List Event)
-    (m : Message) (seen rest : List Message) → HasHandedOver true before seen m after → seen ++ rest ≡ old → now ≡ staying_of before seen ++ rest → length (staying_of before seen) ≡ place
+accepted_at : (before : List Processor) (old : List Message) (told : List Event) (here : ℕ) (after : List Processor)
+    (now : List Message) (place : ℕ) (events : List Event)
+    (m : Message) (seen rest : List Message) → HasHandedOver true before seen m after → seen ++ rest ≡ old
+    → now ≡ staying_of before seen ++ rest → length (staying_of before seen) ≡ place
     → events ≡ told ++ delivery_events here (out_of before seen) → place < length now → get_or now place m ≡ m
     → Scan before old told here after (remove now place) place (events ++ Delivered m here ∷ [])
 accepted_at before old told here after now place events m seen [] step all stay at log_is inside is =
     absurd (omega (arith, ap length stay, length-append (staying_of before seen) []))
 accepted_at before old told here after now place events m seen (x ∷ rest) step all stay at log_is inside is =
     let m_is : x ≡ m = sym (next_is (staying_of before seen) x m rest) ∙ rw (at, ← stay) is in
-    let same : staying_of before (seen ++ m ∷ []) ≡ staying_of before seen = step.kept_is ∙ append-nil (staying_of before seen) in
+    let same : staying_of before (seen ++ m ∷ []) ≡ staying_of before seen =
+    step.kept_is ∙ append-nil (staying_of before seen) in
     record {
       seen = seen ++ m ∷ [];
       rest = rest;
       gone = step.gone;
       all = append_assoc seen (m ∷ []) rest ∙ ap (λ (z : Message). seen ++ z ∷ rest) (sym m_is) ∙ all;
-      stay = ap (λ (ms : List Message). remove ms place) stay ∙ rw (← at) (next_removed (staying_of before seen) x rest) ∙ ap (λ (ms : List Message). ms ++ rest) (sym same);
+      stay = ap (λ (ms : List Message). remove ms place) stay
+          ∙ rw (← at) (next_removed (staying_of before seen) x rest)
+          ∙ ap (λ (ms : List Message). ms ++ rest) (sym same);
       at = ap length same ∙ at;
-      log_is = rw (log_is, step.delivered_is, map-append (λ d. Delivered d here) (out_of before seen) (m ∷ [])) (append_assoc told (delivery_events here (out_of before seen)) (Delivered m here ∷ []));
+      log_is = rw (log_is, step.delivered_is, map-append (λ d. Delivered d here) (out_of before seen) (m ∷ []))
+          (append_assoc told (delivery_events here (out_of before seen)) (Delivered m here ∷ []));
     }
 
 -- the message at the place is delivered, and taken out
-pub scan_accepts : (before : List Processor) (old : List Message) (told : List Event) (here : ℕ) (chip after : List Processor) (now : List Message) (place : ℕ) (events : List Event)
-    (m : Message) → Scan before old told here chip now place events → place < length now → get_or now place m ≡ m → HandsOver true before m chip after
+pub scan_accepts : (before : List Processor) (old : List Message) (told : List Event) (here : ℕ)
+    (chip after : List Processor) (now : List Message) (place : ℕ) (events : List Event)
+    (m : Message) → Scan before old told here chip now place events → place < length now → get_or now place m ≡ m
+    → HandsOver true before m chip after
     → Scan before old told here after (remove now place) place (events ++ Delivered m here ∷ [])
 scan_accepts before old told here chip after now place events m scan inside is step =
-    accepted_at before old told here after now place events m scan.seen scan.rest (step scan.seen scan.gone) scan.all scan.stay scan.at scan.log_is inside is
+    accepted_at before old told here after now place events m scan.seen scan.rest (step scan.seen scan.gone) scan.all
+    scan.stay scan.at scan.log_is inside is
 
-kept_at : (before : List Processor) (old : List Message) (told : List Event) (here : ℕ) (after : List Processor) (now : List Message) (place : ℕ) (events : List Event)
-    (m : Message) (seen rest : List Message) → HasHandedOver false before seen m after → seen ++ rest ≡ old → now ≡ staying_of before seen ++ rest → length (staying_of before seen) ≡ place
+kept_at : (before : List Processor) (old : List Message) (told : List Event) (here : ℕ) (after : List Processor)
+    (now : List Message) (place : ℕ) (events : List Event)
+    (m : Message) (seen rest : List Message) → HasHandedOver false before seen m after → seen ++ rest ≡ old
+    → now ≡ staying_of before seen ++ rest → length (staying_of before seen) ≡ place
     → events ≡ told ++ delivery_events here (out_of before seen) → place < length now → get_or now place m ≡ m
     → Scan before old told here after now (place + 1) events
 kept_at before old told here after now place events m seen [] step all stay at log_is inside is =
     absurd (omega (arith, ap length stay, length-append (staying_of before seen) []))
 kept_at before old told here after now place events m seen (x ∷ rest) step all stay at log_is inside is =
     let m_is : x ≡ m = sym (next_is (staying_of before seen) x m rest) ∙ rw (at, ← stay) is in
-    let same : out_of before (seen ++ m ∷ []) ≡ out_of before seen = step.delivered_is ∙ append-nil (out_of before seen) in
+    let same : out_of before (seen ++ m ∷ []) ≡ out_of before seen = step.delivered_is
+    ∙ append-nil (out_of before seen) in
     record {
       seen = seen ++ m ∷ [];
       rest = rest;
       gone = step.gone;
       all = append_assoc seen (m ∷ []) rest ∙ ap (λ (z : Message). seen ++ z ∷ rest) (sym m_is) ∙ all;
-      stay = stay ∙ ap (λ (z : Message). staying_of before seen ++ z ∷ rest) m_is ∙ sym (append_assoc (staying_of before seen) (m ∷ []) rest) ∙ ap (λ (ms : List Message). ms ++ rest) (sym step.kept_is);
+      stay = stay ∙ ap (λ (z : Message). staying_of before seen ++ z ∷ rest) m_is
+          ∙ sym (append_assoc (staying_of before seen) (m ∷ []) rest)
+          ∙ ap (λ (ms : List Message). ms ++ rest) (sym step.kept_is);
       at = ap length step.kept_is ∙ omega (arith, length-append (staying_of before seen) (m ∷ []), at);
       log_is = log_is ∙ ap (λ (ds : List Message). told ++ delivery_events here ds) (sym same);
     }
 
 -- the message at the place is kept, and the scan goes on behind it
-pub scan_keeps : (before : List Processor) (old : List Message) (told : List Event) (here : ℕ) (chip after : List Processor) (now : List Message) (place : ℕ) (events : List Event)
-    (m : Message) → Scan before old told here chip now place events → place < length now → get_or now place m ≡ m → HandsOver false before m chip after
+pub scan_keeps : (before : List Processor) (old : List Message) (told : List Event) (here : ℕ)
+    (chip after : List Processor) (now : List Message) (place : ℕ) (events : List Event)
+    (m : Message) → Scan before old told here chip now place events → place < length now → get_or now place m ≡ m
+    → HandsOver false before m chip after
     → Scan before old told here after now (place + 1) events
 scan_keeps before old told here chip after now place events m scan inside is step =
-    kept_at before old told here after now place events m scan.seen scan.rest (step scan.seen scan.gone) scan.all scan.stay scan.at scan.log_is inside is
+    kept_at before old told here after now place events m scan.seen scan.rest (step scan.seen scan.gone) scan.all
+    scan.stay scan.at scan.log_is inside is

@@ -18,7 +18,10 @@ pub record HasGone (before : List Processor) (seen : List Message) (chip : List 
   pub «open» : (p : ℕ) → p < 16 → can_receive chip p ≡ (can_receive before p && not (is_among p (arrived_in [] seen)))
 
 -- such a chip after one message more, which was delivered or kept
-pub record HasHandedOver (was_delivered : Bool) (before : List Processor) (seen : List Message) (m : Message) (chip : List Processor) : Type 0 where
+pub record HasHandedOver (was_delivered : Bool) (before : List Processor) (seen : List Message) (m : Message)
+    (chip : List Processor) : Type 0 where
   pub gone : HasGone before (seen ++ m ∷ []) chip
-  pub delivered_is : delivered (can_receive before) [] (seen ++ m ∷ []) ≡ delivered (can_receive before) [] seen ++ (if was_delivered then m ∷ [] else [])
-  pub kept_is : kept (can_receive before) [] (seen ++ m ∷ []) ≡ kept (can_receive before) [] seen ++ (if was_delivered then [] else m ∷ [])
+  pub delivered_is : delivered (can_receive before) [] (seen ++ m ∷ []) ≡ delivered (can_receive before) [] seen
+      ++ (if was_delivered then m ∷ [] else [])
+  pub kept_is : kept (can_receive before) [] (seen ++ m ∷ []) ≡ kept (can_receive before) [] seen
+      ++ (if was_delivered then [] else m ∷ [])

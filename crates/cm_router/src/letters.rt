@@ -10,6 +10,7 @@ ghost use Rattle.cm_model.specs.Letters.{senders_taken, is_among, message_sent, 
 use cm_bits::{Field, FlagNo, Plane, Proc};
 use cm_element::Chip;
 use cm_message::{Event, Message, Tag};
+use cm_model::{RECEIVED_PAYLOAD, SENT_PAYLOAD, SENT_PROC, SENT_REL};
 
 /// Flag SEND of all processors.
 pub(crate) fn asking(chip: &Chip) -> Plane
@@ -23,9 +24,9 @@ pub(crate) fn message_sent(chip: &Chip, proc: Proc, here: u16, dims: u8, clock: 
     requires dims { dims ≤ 12 }
     ensures value { result ≡ message_sent dims clock here chip.now proc }
 {
-    let relative = field_value(chip, proc, 3968, 16);
-    let target = field_value(chip, proc, 3984, 4);
-    let payload = field_value(chip, proc, 3988, 32);
+    let relative = field_value(chip, proc, SENT_REL, 16);
+    let target = field_value(chip, proc, SENT_PROC, 4);
+    let payload = field_value(chip, proc, SENT_PAYLOAD, 32);
     Message {
         rel: (relative % (1 << dims)) as u16,
         proc: Proc::new(target as u8).unwrap(),
@@ -126,8 +127,8 @@ fn field_value(chip: &Chip, proc: Proc, at: u16, len: u16) -> u64
 }
 
 fn payload_field() -> Field
-    ensures at { result.at ≡ 4032 }
+    ensures at { result.at ≡ RECEIVED_PAYLOAD }
     ensures len { result.len ≡ 32 }
 {
-    Field::new(4032, 32).unwrap()
+    Field::new(RECEIVED_PAYLOAD, 32).unwrap()
 }

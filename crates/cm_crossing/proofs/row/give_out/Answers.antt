@@ -10,7 +10,8 @@ use Rattle.cm_crossing.proofs.row.give_out.Goals as goal
 
 pub loop-place-init : goal.loop-place-init
 loop-place-init c = record {
-  giving = giving_begins c.args.chip.now (standing c.args.row.now c.args.queue.now) c.args.log.now.items c.args.here c.begin.ensures.gone;
+  giving = giving_begins c.args.chip.now (standing c.args.row.now c.args.queue.now) c.args.log.now.items c.args.here
+      c.begin.ensures.gone;
   kept = c.requires.kept;
   fewer = omega arith;
   log_room = omega (arith, c.requires.room);
@@ -27,13 +28,18 @@ loop-place-preserved-then-hand_over c =
     let now : List Message = standing row queue in
     let inside : was.place < length queue = omega (arith, c.len.ensures.value, c.loop-place-test.true) in
     let there : was.place < length now = omega (arith, length-map queue (message_of row)) in
-    let next : get_or now was.place m ≡ m = rw c.message_of-message.ensures.value (read_standing row queue was.place c.ticket.result inside c.ticket.ensures.value) in
-    let told = c.hand_over.ensures.log ∙ ap (λ (b : Bool). was.log.items ++ (if b then Delivered m c.args.here ∷ [] else [])) c.if-hand_over.true in
+    let next : get_or now was.place m ≡ m =
+    rw c.message_of-message.ensures.value
+    (read_standing row queue was.place c.ticket.result inside c.ticket.ensures.value) in
+    let told = c.hand_over.ensures.log
+    ∙ ap (λ (b : Bool). was.log.items ++ (if b then Delivered m c.args.here ∷ [] else [])) c.if-hand_over.true in
     let step = rw c.if-hand_over.true at (c.hand_over.ensures.step c.args.chip.now) in
-    let shorter : length c.remove.new.self + 1 ≡ length queue = ap (λ (ts : List Ticket). length ts + 1) c.remove.ensures.stays ∙ length-remove queue was.place inside in
+    let shorter : length c.remove.new.self + 1 ≡ length queue =
+    ap (λ (ts : List Ticket). length ts + 1) c.remove.ensures.stays ∙ length-remove queue was.place inside in
     record {
       giving = rw (c.remove.ensures.stays, told, remove-standing row queue was.place)
-          (gives c.args.chip.now (standing row c.args.queue.now) c.args.log.now.items c.args.here was.chip c.hand_over.new.chip now was.place was.log.items m was.invariant.giving there next step);
+          (gives c.args.chip.now (standing row c.args.queue.now) c.args.log.now.items c.args.here was.chip
+          c.hand_over.new.chip now was.place was.log.items m was.invariant.giving there next step);
       kept = rw c.remove.ensures.stays (remove_kept (length row) queue was.place was.invariant.kept);
       fewer = omega (arith, shorter, was.invariant.fewer);
       log_room = omega (arith, shorter, was.invariant.log_room, c.hand_over.ensures.len, c.hand_over.ensures.capacity);
@@ -50,13 +56,18 @@ loop-place-preserved c =
     let now : List Message = standing row queue in
     let inside : was.place < length queue = omega (arith, c.len.ensures.value, c.loop-place-test.true) in
     let there : was.place < length now = omega (arith, length-map queue (message_of row)) in
-    let next : get_or now was.place m ≡ m = rw c.message_of-message.ensures.value (read_standing row queue was.place c.ticket.result inside c.ticket.ensures.value) in
-    let told = c.hand_over.ensures.log ∙ ap (λ (b : Bool). was.log.items ++ (if b then Delivered m c.args.here ∷ [] else [])) c.if-hand_over.false ∙ append-nil was.log.items in
+    let next : get_or now was.place m ≡ m =
+    rw c.message_of-message.ensures.value
+    (read_standing row queue was.place c.ticket.result inside c.ticket.ensures.value) in
+    let told = c.hand_over.ensures.log
+    ∙ ap (λ (b : Bool). was.log.items ++ (if b then Delivered m c.args.here ∷ [] else [])) c.if-hand_over.false
+    ∙ append-nil was.log.items in
     let step = rw c.if-hand_over.false at (c.hand_over.ensures.step c.args.chip.now) in
     let len = c.hand_over.ensures.quiet c.if-hand_over.false in
     record {
       giving = rw told
-          (passes c.args.chip.now (standing row c.args.queue.now) c.args.log.now.items c.args.here was.chip c.hand_over.new.chip now was.place was.log.items m was.invariant.giving there next step);
+          (passes c.args.chip.now (standing row c.args.queue.now) c.args.log.now.items c.args.here was.chip
+          c.hand_over.new.chip now was.place was.log.items m was.invariant.giving there next step);
       kept = was.invariant.kept;
       fewer = was.invariant.fewer;
       log_room = omega (arith, was.invariant.log_room, len, c.hand_over.ensures.capacity);
@@ -68,8 +79,10 @@ pub returns : goal.returns
 returns c =
     let was = c.loop-place in
     let row : List Message = c.args.row.now in
-    let past : length (standing row was.queue) ≤ was.place = omega (arith, length-map was.queue (message_of row), c.len.ensures.value, c.loop-place-test.false) in
-    let all = given_all c.args.chip.now (standing row c.args.queue.now) c.args.log.now.items c.args.here was.chip (standing row was.queue) was.place was.log.items was.invariant.giving past in
+    let past : length (standing row was.queue) ≤ was.place =
+    omega (arith, length-map was.queue (message_of row), c.len.ensures.value, c.loop-place-test.false) in
+    let all = given_all c.args.chip.now (standing row c.args.queue.now) c.args.log.now.items c.args.here was.chip
+    (standing row was.queue) was.place was.log.items was.invariant.giving past in
     record {
       value = all.value;
       kept = was.invariant.kept;

@@ -8,7 +8,8 @@ decreases-loop-place l = length l.queue - l.place
 
 abbrev pub invariant-loop-place : goal.invariant-loop-place
 invariant-loop-place l = record {
-  giving : Giving l.fn.chip (standing l.row l.fn.queue) l.fn.log.items l.here l.chip (standing l.row l.queue) l.place l.log.items;
+  giving : Giving l.fn.chip (standing l.row l.fn.queue) l.fn.log.items l.here l.chip (standing l.row l.queue) l.place
+      l.log.items;
   kept : AreKept (length l.row) l.queue;
   fewer : length l.queue ≤ length l.fn.queue;
   log_room : vec_len l.log + (length l.queue - l.place) ≤ vec_capacity l.log;

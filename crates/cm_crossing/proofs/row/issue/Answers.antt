@@ -11,7 +11,8 @@ use Rattle.cm_crossing.proofs.row.issue.Goals.{then-enter, else-enter}
 
 pub loop-c-init : goal.loop-c-init
 loop-c-init g c = record {
-  issued = subst (λ (row : List Message). AreIssued g.row.CAP row c.args.nodes.now c.args.nodes.now c.args.queues.now c.args.busy.now 0) (sym c.clear.ensures.items)
+  issued = subst (λ (row : List Message). AreIssued g.row.CAP row c.args.nodes.now c.args.nodes.now c.args.queues.now
+      c.args.busy.now 0) (sym c.clear.ensures.items)
       (issued_begins g.row.CAP c.args.nodes.now c.args.queues.now c.args.busy.now c.requires.rooms c.requires.none);
   long = refl;
   blocks = c.requires.blocks;
@@ -35,16 +36,23 @@ loop-c-preserved g c =
     let within = rw (← c.index-nodes-c.is) at c.enter.ensures.within in
     let whole = rw (← c.index-nodes-c.is) at c.enter.ensures.whole in
     let taken = rw (← c.index-nodes-c.is) at c.enter.ensures.taken in
-    let here : node.room ≡ g.row.CAP = ap (λ (b : Buffer). b.room) c.index-nodes-c.is ∙ was.invariant.issued.rooms i node in_nodes in
+    let here : node.room ≡ g.row.CAP = ap (λ (b : Buffer). b.room) c.index-nodes-c.is
+    ∙ was.invariant.issued.rooms i node in_nodes in
     let quiet : AreQuiet c.if-enter.busy (set was.queues i queue) =
     elim c.if-enter.branch [
-      | then-enter w ↦ subst (λ (busy : List Bool). AreQuiet busy (set was.queues i queue)) (sym w.busy-is) (quiet_after_one was.busy was.queues i queue was.invariant.blocks few was.invariant.issued.quiet)
-      | else-enter w ↦ subst (λ (busy : List Bool). AreQuiet busy (set was.queues i queue)) (sym w.busy-is) (quiet_still was.busy was.queues i queue inside (c.enter.ensures.told w.if-enter.false) was.invariant.issued.quiet)
+      | then-enter w ↦ subst (λ (busy : List Bool). AreQuiet busy (set was.queues i queue)) (sym w.busy-is)
+          (quiet_after_one was.busy was.queues i queue was.invariant.blocks few was.invariant.issued.quiet)
+      | else-enter w ↦ subst (λ (busy : List Bool). AreQuiet busy (set was.queues i queue)) (sym w.busy-is)
+          (quiet_still was.busy was.queues i queue inside (c.enter.ensures.told w.if-enter.false)
+          was.invariant.issued.quiet)
     ] in
     record {
-      issued = subst (λ (row : List Message). AreIssued g.row.CAP row c.args.nodes.now (set was.nodes i c.enter.new.node) (set was.queues i queue) c.if-enter.busy (i + 1)) (sym items)
-          (issued_more g.row.CAP was.row.items node.messages c.args.nodes.now was.nodes was.queues was.busy c.if-enter.busy i node c.enter.new.node queue inside c.loop-c-test.true long c.index-nodes-c.is
-          (rw items at value) (rw items at c.enter.ensures.kept) (omega (arith, within, here)) taken quiet was.invariant.issued);
+      issued = subst (λ (row : List Message). AreIssued g.row.CAP row c.args.nodes.now
+          (set was.nodes i c.enter.new.node) (set was.queues i queue) c.if-enter.busy (i + 1)) (sym items)
+          (issued_more g.row.CAP was.row.items node.messages c.args.nodes.now was.nodes was.queues was.busy
+          c.if-enter.busy i node c.enter.new.node queue inside c.loop-c-test.true long c.index-nodes-c.is
+          (rw items at value) (rw items at c.enter.ensures.kept) (omega (arith, within, here)) taken quiet
+          was.invariant.issued);
       long = length-set was.queues i queue ∙ was.invariant.long;
       blocks = c.if-enter.auto.busy ∙ was.invariant.blocks;
       len = omega (arith, c.enter.ensures.len, was.invariant.len);
@@ -54,14 +62,17 @@ loop-c-preserved g c =
 
 pub returns-clause-value : goal.returns-clause-value
 returns-clause-value g c =
-    issued_all g.row.CAP c.loop-c.row.items c.args.nodes.now c.loop-c.nodes c.loop-c.queues c.loop-c.busy c.loop-c.c (c.requires.count ∙ sym c.loop-c.invariant.long) c.loop-c-test.false c.loop-c.invariant.issued
+    issued_all g.row.CAP c.loop-c.row.items c.args.nodes.now c.loop-c.nodes c.loop-c.queues c.loop-c.busy c.loop-c.c
+    (c.requires.count ∙ sym c.loop-c.invariant.long) c.loop-c-test.false c.loop-c.invariant.issued
 
 pub returns-clause-kept : goal.returns-clause-kept
 returns-clause-kept g c =
     All-from_get_or (AreKept (length c.loop-c.row.items)) c.loop-c.queues []
-    (λ k l. c.loop-c.invariant.issued.kept k (omega (arith, c.loop-c.invariant.long, c.requires.count, c.loop-c-test.false)))
+    (λ k l. c.loop-c.invariant.issued.kept k
+    (omega (arith, c.loop-c.invariant.long, c.requires.count, c.loop-c-test.false)))
 
 pub returns-clause-within : goal.returns-clause-within
 returns-clause-within g c =
     All-from_get_or (λ (ts : List Ticket). length ts ≤ g.row.CAP) c.loop-c.queues []
-    (λ k l. c.loop-c.invariant.issued.within k (omega (arith, c.loop-c.invariant.long, c.requires.count, c.loop-c-test.false)))
+    (λ k l. c.loop-c.invariant.issued.within k
+    (omega (arith, c.loop-c.invariant.long, c.requires.count, c.loop-c-test.false)))

@@ -1,7 +1,7 @@
 use Rattle.std.proofs.Common.{◌≡◌, ◌<◌, ◌≤◌, ◌++◌, ◌^◌, ℕ, length, ap, ◌∙◌, arith}
 use Rattle.cm_image_format.specs.Image.{chip_text}
 use Rattle.cm_image_format.specs.Whole.{image_of_chip}
-use Rattle.cm_model.specs.Machine.{buffer_at}
+use Rattle.cm_model.specs.Array.{list_at}
 use Rattle.cm_image.proofs.Dumping.{chips_none, chips_more, chips_text}
 use Rattle.cm_image.proofs.dumps.push_chips.Goals as goal
 
@@ -11,7 +11,7 @@ loop-c-init g c = chips_none c.args.machine.now.machine c.args.text.now.items
 pub push_chip-requires : goal.push_chip-requires
 push_chip-requires g c =
     let below : c.loop-c.c < 2 ^ g.row.N = omega (arith, c.chip_count-count.ensures.value) in
-    let room : length (buffer_at c.args.machine.now.machine.buffers c.loop-c.c) ≤ g.row.CAP = c.buffer.ensures.whole.room c.loop-c.c below in
+    let room : length (list_at c.args.machine.now.machine.buffers c.loop-c.c) ≤ g.row.CAP = c.buffer.ensures.whole.room c.loop-c.c below in
     record { few = rw c.buffer.ensures.value (omega (arith, room)) }
 
 pub loop-c-preserved : goal.loop-c-preserved

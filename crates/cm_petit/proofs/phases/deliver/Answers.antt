@@ -1,6 +1,6 @@
 use Rattle.std.proofs.Common.{◌<◌, ◌^◌, List, refl, arith}
 use Rattle.cm_model.specs.declared.message.Message.{Message}
-use Rattle.cm_model.specs.Machine.{buffer_at}
+use Rattle.cm_model.specs.Array.{list_at}
 use Rattle.cm_crossing.specs.Standing.{kept_of}
 use Rattle.cm_petit.proofs.Delivering.{room_to_deliver, delivered_more, delivered_all}
 use Rattle.cm_petit.proofs.phases.deliver.Goals as goal
@@ -17,7 +17,7 @@ loop-c-preserved g c =
     let here = c.loop-c in
     let i = here.c in
     let below : i < 2 ^ g.row.N = omega (arith, c.requires.routers.chip_count) in
-    let ms : List Message = buffer_at here.crossing.buffers i in
+    let ms : List Message = list_at here.crossing.buffers i in
     let chip_is = rw (← c.index-chips-c.is) at c.deliver.ensures.chip in
     let log_is = rw (← c.index-chips-c.is, ← c.index-logs-c.is) at c.deliver.ensures.log in
     let value = rw (← c.index-chips-c.is) at c.deliver.ensures.value in

@@ -1,7 +1,7 @@
 use Rattle.std.proofs.Common.{◌≡◌, ◌<◌, ◌^◌, ◌++◌, [], length, sym, ap, ◌∙◌, arith}
 use Rattle.std.proofs.lemmas.List.{map-set, get_or-map}
 use Rattle.std.proofs.lemmas.List.Elements.{All-set}
-use Rattle.cm_model.specs.Machine.{buffer_at}
+use Rattle.cm_model.specs.Array.{list_at}
 use Rattle.cm_router.specs.Buffer.{Buffer, buffers_of, sent_to}
 use Rattle.cm_petit.proofs.Injecting.{injected_more, injected_all}
 use Rattle.cm_petit.proofs.phases.inject_at_nodes.Goals as goal
@@ -19,7 +19,7 @@ loop-c-preserved g c =
     let longer = rw (← c.index-logs-c.is) at c.inject.ensures.within in
     let kept = rw (← c.index-logs-c.is) at c.inject.ensures.log_room in
     let room : node.room ≡ g.row.CAP = ap (λ (b : Buffer). b.room) c.index-nodes-c.is ∙ here.invariant.rooms i node in_nodes in
-    let stood : node.messages ≡ buffer_at (buffers_of here.nodes) i = sym (get_or-map (λ (b : Buffer). b.messages) here.nodes i node [] in_nodes ∙ ap (λ (b : Buffer). b.messages) (sym c.index-nodes-c.is)) in
+    let stood : node.messages ≡ list_at (buffers_of here.nodes) i = sym (get_or-map (λ (b : Buffer). b.messages) here.nodes i node [] in_nodes ∙ ap (λ (b : Buffer). b.messages) (sym c.index-nodes-c.is)) in
     let messages_is : c.inject.new.self.messages ≡ node.messages ++ sent_to node g.row.N c.args.clock i c.index-chips-c.result = ap (λ (b : Buffer). b.messages) node_is in
     record {
       injected = rw (map-set (λ (b : Buffer). b.messages) here.nodes i c.inject.new.self)

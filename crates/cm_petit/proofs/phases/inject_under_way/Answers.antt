@@ -1,7 +1,7 @@
 use Rattle.std.proofs.Common.{◌<◌, ◌^◌, ◌++◌, List, length, refl, arith}
 use Rattle.cm_model.specs.Letters.{senders_taken, messages_sent}
 use Rattle.cm_model.specs.declared.message.Message.{Message}
-use Rattle.cm_model.specs.Machine.{buffer_at}
+use Rattle.cm_model.specs.Array.{list_at}
 use Rattle.cm_petit.proofs.Injecting.{injected_more, injected_all}
 use Rattle.cm_petit.proofs.phases.inject_under_way.Goals as goal
 
@@ -10,7 +10,7 @@ loop-c-preserved g c =
     let here = c.loop-c in
     let i = here.c in
     let below : i < 2 ^ g.row.N = omega (arith, c.requires.routers.chip_count) in
-    let ms : List Message = buffer_at here.crossing.buffers i in
+    let ms : List Message = list_at here.crossing.buffers i in
     let sent : List Message = messages_sent g.row.N c.args.clock i c.index-chips-c.result (senders_taken g.row.CAP (length ms) c.index-chips-c.result) in
     let chip_is = rw (← c.index-chips-c.is) at c.inject.ensures.chip in
     let log_is = rw (← c.index-chips-c.is, ← c.index-logs-c.is) at c.inject.ensures.log in

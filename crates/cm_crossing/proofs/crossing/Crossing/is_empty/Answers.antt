@@ -15,5 +15,6 @@ returns c = record {
       rw (← ap (λ (u : UnderWay). u.buffers) c.self.view_is)
       (λ k d l.
       let inside : k < length queues = omega (arith, length-map queues (standing row)) in
-      get_or-map (standing row) queues k [] d inside ∙ ap (standing row) (c.self.invariant.quiet k inside (quiet (k / 64))));
+      get_or-map (standing row) queues k [] d inside
+      ∙ ap (standing row) (c.self.invariant.quiet k inside (quiet (k / 64))));
 }

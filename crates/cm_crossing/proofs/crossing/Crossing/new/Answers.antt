@@ -10,20 +10,24 @@ use Rattle.cm_crossing.proofs.crossing.Crossing.new.Goals as goal
 pub invariant_of-result : goal.invariant_of-result
 invariant_of-result c =
     let none : ℕ → List Ticket = λ k. [] in
-    let long : length c.in_ok-queues.queues.items ≡ c.args.chips = ap length c.in_ok-queues.ensures.value ∙ length-each_from 0 c.args.chips none in
+    let long : length c.in_ok-queues.queues.items ≡ c.args.chips = ap length c.in_ok-queues.ensures.value
+    ∙ length-each_from 0 c.args.chips none in
     record {
       few = omega (arith, long, c.requires.few);
       enough = omega (arith, long, c.requires.few, c.min-places.ensures);
       most = omega (arith, c.min-places.ensures);
       capacity = omega (arith, c.in_ok-row.ensures.capacity);
       filled = omega (arith, c.in_ok-row.ensures.len);
-      kept = subst (λ (queues : List (List Ticket)). All (AreKept (length c.in_ok-row.row.items)) queues) (sym c.in_ok-queues.ensures.value) (none_kept c.args.chips (length c.in_ok-row.row.items));
+      kept = subst (λ (queues : List (List Ticket)). All (AreKept (length c.in_ok-row.row.items)) queues)
+          (sym c.in_ok-queues.ensures.value) (none_kept c.args.chips (length c.in_ok-row.row.items));
       blocks = refl;
-      quiet = λ k l calm. ap (λ (queues : List (List Ticket)). get_or queues k []) c.in_ok-queues.ensures.value ∙ get_or-each_below c.args.chips none k [] (omega (arith, long));
+      quiet = λ k l calm. ap (λ (queues : List (List Ticket)). get_or queues k []) c.in_ok-queues.ensures.value
+          ∙ get_or-each_below c.args.chips none k [] (omega (arith, long));
     }
 
 pub returns : goal.returns
 returns c =
     let none : ℕ → List Message = λ k. [] in
-    let same = ap (all_standing c.in_ok-row.row.items) c.in_ok-queues.ensures.value ∙ none_standing c.in_ok-row.row.items c.args.chips in
+    let same = ap (all_standing c.in_ok-row.row.items) c.in_ok-queues.ensures.value
+    ∙ none_standing c.in_ok-row.row.items c.args.chips in
     record { value = same; count = ap length same ∙ length-each_from 0 c.args.chips none }

@@ -13,4 +13,5 @@ returns-clause-within g c =
     let forgotten : Vec (List Ticket) = with_items inside.queues c.forget.new.queues in
     let same : length new ≡ length forgotten.items = c.issue.auto.queues ∙ ap length c.deref_mut-2.ensures.value in
     messages_within g.row.CAP c.issue.new.row.items (with_items forgotten new).items
-    (subst (λ (queues : List (List Ticket)). All (λ (ts : List Ticket). length ts ≤ g.row.CAP) queues) (sym (items-lent forgotten new same)) c.issue.ensures.within)
+    (subst (λ (queues : List (List Ticket)). All (λ (ts : List Ticket). length ts ≤ g.row.CAP) queues)
+    (sym (items-lent forgotten new same)) c.issue.ensures.within)

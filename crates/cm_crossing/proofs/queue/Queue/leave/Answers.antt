@@ -15,7 +15,9 @@ returns c =
     c.remove.ensures.stays ∙ ap (remove ts) c.place_left-place.ensures.value ∙ remove-unwrap_or ts leaver in
     record {
       value = c.across.ensures.value
-          ∙ ap (option_map (ticket_across c.args.dim)) (c.remove.ensures.value ∙ ap (slice_get ts) c.place_left-place.ensures.value ∙ slice_get-unwrap_or ts leaver);
+          ∙ ap (option_map (ticket_across c.args.dim)) (c.remove.ensures.value
+          ∙ ap (slice_get ts) c.place_left-place.ensures.value ∙ slice_get-unwrap_or ts leaver);
       stays = stays;
-      room = subst (λ (left : List Ticket). length left < c.args.room) (sym stays) (leaving_makes_room c.args.room c.args.dim ts c.requires.within c.requires.some);
+      room = subst (λ (left : List Ticket). length left < c.args.room) (sym stays)
+          (leaving_makes_room c.args.room c.args.dim ts c.requires.within c.requires.some);
     }

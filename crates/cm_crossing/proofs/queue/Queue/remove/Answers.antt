@@ -5,24 +5,28 @@ use Rattle.cm_crossing.proofs.queue.Queue.remove.Goals as goal
 
 pub offset_bounds-self-inside-place : goal.offset_bounds-self-inside-place
 offset_bounds-self-inside-place c =
-    let long : c.self.inside.len ≡ length c.args.self.now = long_as c.self.inside.rels c.self.inside.numbers c.self.inside.len c.args.self.now c.self.view_is in
+    let long : c.self.inside.len ≡ length c.args.self.now =
+    long_as c.self.inside.rels c.self.inside.numbers c.self.inside.len c.args.self.now c.self.view_is in
     let few : c.args.place < 16 = omega (arith, long, c.requires.place, c.self.invariant) in
     record { fits = omega arith }
 
 pub bounds-self-inside-place : goal.bounds-self-inside-place
 bounds-self-inside-place c =
-    let long : c.self.inside.len ≡ length c.args.self.now = long_as c.self.inside.rels c.self.inside.numbers c.self.inside.len c.args.self.now c.self.view_is in
+    let long : c.self.inside.len ≡ length c.args.self.now =
+    long_as c.self.inside.rels c.self.inside.numbers c.self.inside.len c.args.self.now c.self.view_is in
     omega (arith, long, c.requires.place, c.self.invariant)
 
 pub offset_bounds-self-inside-place-2 : goal.offset_bounds-self-inside-place-2
 offset_bounds-self-inside-place-2 c =
-    let long : c.self.inside.len ≡ length c.args.self.now = long_as c.self.inside.rels c.self.inside.numbers c.self.inside.len c.args.self.now c.self.view_is in
+    let long : c.self.inside.len ≡ length c.args.self.now =
+    long_as c.self.inside.rels c.self.inside.numbers c.self.inside.len c.args.self.now c.self.view_is in
     let few : c.args.place < 16 = omega (arith, long, c.requires.place, c.self.invariant) in
     record { fits = omega arith }
 
 pub bounds-self-inside-place-2 : goal.bounds-self-inside-place-2
 bounds-self-inside-place-2 c =
-    let long : c.self.inside.len ≡ length c.args.self.now = long_as c.self.inside.rels c.self.inside.numbers c.self.inside.len c.args.self.now c.self.view_is in
+    let long : c.self.inside.len ≡ length c.args.self.now =
+    long_as c.self.inside.rels c.self.inside.numbers c.self.inside.len c.args.self.now c.self.view_is in
     omega (arith, long, c.requires.place, c.self.invariant)
 
 pub returns-clause-value : goal.returns-clause-value
@@ -33,7 +37,10 @@ returns-clause-value c =
 
 pub returns-clause-stays : goal.returns-clause-stays
 returns-clause-stays c =
-    let long : c.self.inside.len ≡ length c.args.self.now = long_as c.self.inside.rels c.self.inside.numbers c.self.inside.len c.args.self.now c.self.view_is in
+    let long : c.self.inside.len ≡ length c.args.self.now =
+    long_as c.self.inside.rels c.self.inside.numbers c.self.inside.len c.args.self.now c.self.view_is in
     rw (c.from-2.ensures, c.from.ensures)
-    (taken_out_at c.args.room c.self.inside.rels c.self.inside.numbers c.close.new.row c.close-2.new.row c.self.inside.len c.args.place c.close.ensures.value c.close-2.ensures.value (omega (arith, long, c.requires.within)) (omega (arith, long, c.requires.place))
+    (taken_out_at c.args.room c.self.inside.rels c.self.inside.numbers c.close.new.row c.close-2.new.row
+    c.self.inside.len c.args.place c.close.ensures.value c.close-2.ensures.value
+    (omega (arith, long, c.requires.within)) (omega (arith, long, c.requires.place))
     ∙ ap (λ ts. remove ts c.args.place) c.self.view_is)

@@ -9,4 +9,8 @@ unfolding buffer_after_dimension
 returns c =
     let here = c.args.self.now in
     let copy_is : c.in_ok-messages.messages.items ≡ here = search rules in
-    record { value = c.in_ok-come.ensures.ok ∙ ap (λ (ms : List Message). ms ++ option_to_list c.args.coming) (c.leave.ensures.value ∙ ap (λ (ms : List Message). without ms (leaving_place c.args.room c.args.dim ms)) copy_is) }
+    record {
+      value = c.in_ok-come.ensures.ok
+          ∙ ap (λ (ms : List Message). ms ++ option_to_list c.args.coming) (c.leave.ensures.value
+          ∙ ap (λ (ms : List Message). without ms (leaving_place c.args.room c.args.dim ms)) copy_is);
+    }

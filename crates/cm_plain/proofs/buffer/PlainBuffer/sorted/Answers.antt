@@ -17,16 +17,26 @@ loop-message-preserved c =
       inside = omega arith;
       is = c.message-item.is;
       before = c.loop-message.invariant.arrived;
-      test = c.is_accepted-accepted.ensures.value ∙ ap (λ (before : List ℕ). is_accepted receives before message) c.deref.ensures.value;
+      test = c.is_accepted-accepted.ensures.value
+          ∙ ap (λ (before : List ℕ). is_accepted receives before message) c.deref.ensures.value;
     } in
     record {
       delivered = elim c.if-accepted.branch [
-        | then-accepted+in_ok-put w ↦ ap (λ v. v.items) w.delivered-is ∙ delivered_in_turn receives messages index message arrived accepted c.loop-message.delivered.items _ next w.if-accepted.true c.loop-message.invariant.delivered w.in_ok-put.ensures.ok
-        | else-accepted+in_ok-put-2 w ↦ ap (λ v. v.items) w.delivered-is ∙ none_delivered_in_turn receives messages index message arrived accepted c.loop-message.delivered.items next w.if-accepted.false c.loop-message.invariant.delivered
+        | then-accepted+in_ok-put w ↦ ap (λ v. v.items) w.delivered-is
+            ∙ delivered_in_turn receives messages index message arrived accepted c.loop-message.delivered.items _ next
+            w.if-accepted.true c.loop-message.invariant.delivered w.in_ok-put.ensures.ok
+        | else-accepted+in_ok-put-2 w ↦ ap (λ v. v.items) w.delivered-is
+            ∙ none_delivered_in_turn receives messages index message arrived accepted c.loop-message.delivered.items
+            next w.if-accepted.false c.loop-message.invariant.delivered
       ];
       kept = elim c.if-accepted.branch [
-        | then-accepted+in_ok-put w ↦ ap (λ v. v.items) w.kept-is ∙ none_kept_in_turn receives messages index message arrived accepted c.loop-message.kept.items next w.if-accepted.true c.loop-message.invariant.kept
-        | else-accepted+in_ok-put-2 w ↦ ap (λ v. v.items) w.kept-is ∙ kept_in_turn receives messages index message arrived accepted c.loop-message.kept.items _ next w.if-accepted.false c.loop-message.invariant.kept w.in_ok-put-2.ensures.ok
+        | then-accepted+in_ok-put w ↦ ap (λ v. v.items) w.kept-is
+            ∙ none_kept_in_turn receives messages index message arrived accepted c.loop-message.kept.items next
+            w.if-accepted.true c.loop-message.invariant.kept
+        | else-accepted+in_ok-put-2 w ↦ ap (λ v. v.items) w.kept-is
+            ∙ kept_in_turn receives messages index message arrived accepted c.loop-message.kept.items _ next
+            w.if-accepted.false c.loop-message.invariant.kept w.in_ok-put-2.ensures.ok
       ];
-      arrived = arrived_in_turn receives messages index message arrived c.arrive.new.procs.items accepted next c.in_ok-arrive.ensures.ok;
+      arrived = arrived_in_turn receives messages index message arrived c.arrive.new.procs.items accepted next
+          c.in_ok-arrive.ensures.ok;
     }

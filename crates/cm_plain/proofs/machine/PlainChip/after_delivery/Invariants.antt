@@ -6,4 +6,6 @@ use Rattle.cm_model.specs.Letters.{is_for, processor_after_delivery}
 use Rattle.cm_plain.proofs.machine.PlainChip.after_delivery.Given as goal
 
 abbrev pub invariant-loop-number : goal.invariant-loop-number
-invariant-loop-number l = l.processors.items ≡ each_from 0 l.number (λ p. processor_after_delivery (find (is_for p) l.messages) (processor_at l.self p))
+invariant-loop-number l =
+    l.processors.items ≡ each_from 0 l.number
+    (λ p. processor_after_delivery (find (is_for p) l.messages) (processor_at l.self p))

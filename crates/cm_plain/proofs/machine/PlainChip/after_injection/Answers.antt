@@ -14,7 +14,8 @@ loop-number-preserved c =
     let chip = c.args.self.now in
     let taken = c.args.taken.now in
     let number_is = rw c.unwrap-proc.ensures at c.new.ensures.value in
-    pushed c.loop-number.number _ c.loop-number.processors.items c.push.new.self.items c.in_ok-after.after c.loop-number.invariant c.in-Ok.ensures.items
+    pushed c.loop-number.number _ c.loop-number.processors.items c.push.new.self.items c.in_ok-after.after
+    c.loop-number.invariant c.in-Ok.ensures.items
     (c.in_ok-after.ensures.value
     ∙ (λ i. processor_after_injection (c.is_among-was_taken.ensures.value i) (c.processor.ensures.value i))
     ∙ ap (λ (p : ℕ). processor_after_injection (is_among p taken) (processor_at chip p)) number_is)
@@ -26,5 +27,7 @@ pub returns : goal.returns
 unfolding chip_after_injection
 returns c = record {
   value = c.loop-number.invariant
-      ∙ ap (λ (n : ℕ). each_from 0 n (λ p. processor_after_injection (is_among p c.args.taken.now) (processor_at c.args.self.now p))) (omega arith);
+      ∙ ap (λ (n : ℕ). each_from 0 n
+      (λ p. processor_after_injection (is_among p c.args.taken.now) (processor_at c.args.self.now p)))
+      (omega arith);
 }

@@ -7,7 +7,9 @@ pub loop-proc-init : goal.loop-proc-init
 loop-proc-init c = c.new-processors.ensures.items ∙ sym (each_from-zero _)
 
 pub loop-proc-preserved : goal.loop-proc-preserved
-loop-proc-preserved c = pushed c.loop-proc._proc _ c.loop-proc.processors.items c.push.new.self.items c.in_ok-processor.processor c.loop-proc.invariant c.in-Ok.ensures.items c.in_ok-processor.ensures.value
+loop-proc-preserved c =
+    pushed c.loop-proc._proc _ c.loop-proc.processors.items c.push.new.self.items c.in_ok-processor.processor
+    c.loop-proc.invariant c.in-Ok.ensures.items c.in_ok-processor.ensures.value
 
 pub invariant_of-result : goal.invariant_of-result
 invariant_of-result c = ap length c.loop-proc.invariant ∙ length-each_from 0 c.loop-proc._proc _ ∙ omega arith

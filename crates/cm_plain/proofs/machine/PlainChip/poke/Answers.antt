@@ -9,8 +9,11 @@ unfolding with_memory_bit
 returns c =
     let chip = c.self.inside.processors.items in
     let index_is : c.from.result ≡ c.args.proc = c.from.ensures ∙ c.get.ensures.value in
-    let read = processor_read chip c.args.proc c.from.result c.index_mut.result.now index_is (omega arith) c.index_mut.ensures.value in
+    let read = processor_read chip c.args.proc c.from.result c.index_mut.result.now index_is (omega arith)
+    c.index_mut.ensures.value in
     record {
       value = rw (← c.self.view_is)
-          (λ i. set chip (index_is i) ((c.poke.ensures.value ∙ ap (λ (v : Processor). record v { memory = set v.memory c.args.at c.args.bit }) read) i));
+          (λ i. set chip (index_is i)
+          ((c.poke.ensures.value ∙ ap (λ (v : Processor). record v { memory = set v.memory c.args.at c.args.bit })
+          read) i));
     }

@@ -9,8 +9,11 @@ unfolding with_flag
 returns c =
     let chip = c.self.inside.processors.items in
     let index_is : c.from.result ≡ c.args.proc = c.from.ensures ∙ c.get.ensures.value in
-    let read = processor_read chip c.args.proc c.from.result c.index_mut.result.now index_is (omega arith) c.index_mut.ensures.value in
+    let read = processor_read chip c.args.proc c.from.result c.index_mut.result.now index_is (omega arith)
+    c.index_mut.ensures.value in
     record {
       value = rw (← c.self.view_is)
-          (λ i. set chip (index_is i) ((c.poke_flag.ensures.value ∙ ap (λ (v : Processor). record v { flags = set v.flags c.args.number c.args.bit }) read) i));
+          (λ i. set chip (index_is i)
+          ((c.poke_flag.ensures.value
+          ∙ ap (λ (v : Processor). record v { flags = set v.flags c.args.number c.args.bit }) read) i));
     }

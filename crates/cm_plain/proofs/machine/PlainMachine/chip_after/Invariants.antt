@@ -6,4 +6,6 @@ use Rattle.cm_model.specs.Array.{chip_at, incoming}
 use Rattle.cm_plain.proofs.machine.PlainMachine.chip_after.Given as goal
 
 abbrev pub invariant-loop-number : goal.invariant-loop-number
-invariant-loop-number g l = l.processors.items ≡ each_from 0 l.number (λ p. processor_after l.nano (incoming g.row.N l.nano l.self l.chip p) (processor_at (chip_at l.self l.chip) p))
+invariant-loop-number g l =
+    l.processors.items ≡ each_from 0 l.number
+    (λ p. processor_after l.nano (incoming g.row.N l.nano l.self l.chip p) (processor_at (chip_at l.self l.chip) p))

@@ -15,7 +15,10 @@ returns-then-eq g c =
     let news = sym c.eq.ensures ∙ c.if-eq.true in
     let source_is : c.neighbour-source.result ≡ source g.row.N nano.dir place =
     c.neighbour-source.ensures.value ∙ ap (λ (dir : Dir). neighbour g.row.N dir place) c.opposite.ensures.value in
-    record { value = rw news (c.flag_output.ensures.value ∙ ap (flag_output nano) (c.processor.ensures.value ∙ ap (processor_of c.args.self.now) source_is)) }
+    record {
+      value = rw news (c.flag_output.ensures.value
+          ∙ ap (flag_output nano) (c.processor.ensures.value ∙ ap (processor_of c.args.self.now) source_is));
+    }
 
 pub returns-then-number-eq0 : goal.returns-then-number-eq0
 unfolding incoming
@@ -29,10 +32,14 @@ unfolding incoming
 returns g c =
     let nano = c.args.nano.now in
     let other = sym c.eq.ensures ∙ c.if-eq.false in
-    let later = ne_eqb c.args.proc 0 (λ (e : c.args.proc ≡ 0). c.if-number-eq0.false (c.get-number.ensures.value ∙ e)) in
+    let later = ne_eqb c.args.proc 0 (λ (e : c.args.proc ≡ 0). c.if-number-eq0.false (c.get-number.ensures.value ∙ e))
+    in
     let made = rw c.unwrap-before.ensures at c.new.ensures.value in
-    let before_is : c.unwrap-before.result ≡ c.args.proc - 1 = made ∙ ap (λ (n : ℕ). n - 1) c.get-number.ensures.value in
+    let before_is : c.unwrap-before.result ≡ c.args.proc - 1 =
+    made ∙ ap (λ (n : ℕ). n - 1) c.get-number.ensures.value in
     record {
       value = rw (other, later)
-          (c.flag_output-2.ensures.value ∙ ap (flag_output nano) (c.processor-2.ensures.value ∙ ap (processor_at (chip_at c.args.self.now c.args.chip)) before_is));
+          (c.flag_output-2.ensures.value
+          ∙ ap (flag_output nano) (c.processor-2.ensures.value
+          ∙ ap (processor_at (chip_at c.args.self.now c.args.chip)) before_is));
     }

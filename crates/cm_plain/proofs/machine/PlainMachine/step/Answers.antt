@@ -5,4 +5,5 @@ use Rattle.cm_plain.proofs.machine.PlainMachine.step.Goals as goal
 
 pub invariant_of-self : goal.invariant_of-self
 unfolding after_nano
-invariant_of-self g c = (c.chips_after.ensures.dimension, ap length c.in_ok-chips.ensures.value ∙ length-each_from 0 (2 ^ g.row.N) _)
+invariant_of-self g c =
+    (c.chips_after.ensures.dimension, ap length c.in_ok-chips.ensures.value ∙ length-each_from 0 (2 ^ g.row.N) _)

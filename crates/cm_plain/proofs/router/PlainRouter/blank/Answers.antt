@@ -9,7 +9,8 @@ use Rattle.cm_plain.proofs.router.PlainRouter.blank.Goals as goal
 -- a machine with nothing in it, and so many memory bits in each processor
 abbrev bare : ℕ → ℕ → Machine
 bare n addresses = record {
-  chips = each_chip n (λ c. each_processor (λ p. record { memory = replicate addresses false; flags = replicate 16 false }));
+  chips = each_chip n (λ c. each_processor
+      (λ p. record { memory = replicate addresses false; flags = replicate 16 false }));
   buffers = each_chip n (λ c. []);
   logs = each_chip n (λ c. []);
   clock = 0;

@@ -1,8 +1,7 @@
 use Rattle.std.proofs.Common.{rules, ◌≡◌, ℕ, ◌^◌, [], sym, ap, ◌∙◌, arith}
 use Rattle.cm_model.specs.Each.{each_from}
-use Rattle.cm_model.specs.Array.{chip_at}
+use Rattle.cm_model.specs.Array.{chip_at, list_at}
 use Rattle.cm_model.specs.Letters.{can_receive}
-use Rattle.cm_model.specs.Machine.{buffer_at}
 use Rattle.cm_model.specs.Buffers.{kept}
 use Rattle.cm_plain.proofs.Made.{each_from-zero, pushed}
 use Rattle.cm_plain.proofs.router.PlainRouter.buffers_after_delivery.Goals as goal
@@ -11,9 +10,15 @@ pub loop-chip-init : goal.loop-chip-init
 loop-chip-init g c = c.new-buffers.ensures.items ∙ sym (each_from-zero _)
 
 pub loop-chip-preserved : goal.loop-chip-preserved
-loop-chip-preserved g c = pushed c.loop-chip.chip _ c.loop-chip.buffers.items c.push.new.self.items _ c.loop-chip.invariant c.in-Ok.ensures.items (search rules)
+loop-chip-preserved g c =
+    pushed c.loop-chip.chip _ c.loop-chip.buffers.items c.push.new.self.items _ c.loop-chip.invariant
+    c.in-Ok.ensures.items (search rules)
 
 pub returns : goal.returns
 returns g c =
     let all : c.loop-chip.chip ≡ 2 ^ g.row.N = omega arith ∙ c.chip_count-chip-end.ensures.value in
-    record { value = c.loop-chip.invariant ∙ ap (λ (n : ℕ). each_from 0 n (λ k. kept (can_receive (chip_at c.args.self.now.chips k)) [] (buffer_at c.args.self.now.buffers k))) all }
+    record {
+      value = c.loop-chip.invariant
+          ∙ ap (λ (n : ℕ). each_from 0 n
+          (λ k. kept (can_receive (chip_at c.args.self.now.chips k)) [] (list_at c.args.self.now.buffers k))) all;
+    }

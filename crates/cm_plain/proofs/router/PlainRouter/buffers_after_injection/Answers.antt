@@ -1,6 +1,6 @@
 use Rattle.std.proofs.Common.{rules, ◌≡◌, ℕ, ◌^◌, ◌++◌, sym, ap, ◌∙◌, arith}
 use Rattle.cm_model.specs.Each.{each_from}
-use Rattle.cm_model.specs.Machine.{buffer_at}
+use Rattle.cm_model.specs.Array.{list_at}
 use Rattle.cm_model.specs.Buffers.{sent_in}
 use Rattle.cm_plain.proofs.Made.{each_from-zero, pushed}
 use Rattle.cm_plain.proofs.router.PlainRouter.buffers_after_injection.Goals as goal
@@ -9,9 +9,15 @@ pub loop-chip-init : goal.loop-chip-init
 loop-chip-init g c = c.new-buffers.ensures.items ∙ sym (each_from-zero _)
 
 pub loop-chip-preserved : goal.loop-chip-preserved
-loop-chip-preserved g c = pushed c.loop-chip.chip _ c.loop-chip.buffers.items c.push.new.self.items c.in_ok-after.after c.loop-chip.invariant c.in-Ok.ensures.items (search rules)
+loop-chip-preserved g c =
+    pushed c.loop-chip.chip _ c.loop-chip.buffers.items c.push.new.self.items c.in_ok-after.after
+    c.loop-chip.invariant c.in-Ok.ensures.items (search rules)
 
 pub returns : goal.returns
 returns g c =
     let all : c.loop-chip.chip ≡ 2 ^ g.row.N = omega arith ∙ c.chip_count-chip-end.ensures.value in
-    record { value = c.loop-chip.invariant ∙ ap (λ (n : ℕ). each_from 0 n (λ k. buffer_at c.args.self.now.buffers k ++ sent_in g.row.N g.row.CAP c.args.self.now k)) all }
+    record {
+      value = c.loop-chip.invariant
+          ∙ ap (λ (n : ℕ). each_from 0 n
+          (λ k. list_at c.args.self.now.buffers k ++ sent_in g.row.N g.row.CAP c.args.self.now k)) all;
+    }

@@ -6,4 +6,5 @@ use Rattle.cm_model.specs.Buffers.{delivered_in}
 use Rattle.cm_plain.proofs.router.PlainRouter.chips_after_delivery.Given as goal
 
 abbrev pub invariant-loop-chip : goal.invariant-loop-chip
-invariant-loop-chip g l = l.chips.items ≡ each_from 0 l.chip (λ c. chip_after_delivery (delivered_in l.self c) (chip_at l.self.chips c))
+invariant-loop-chip g l =
+    l.chips.items ≡ each_from 0 l.chip (λ c. chip_after_delivery (delivered_in l.self c) (chip_at l.self.chips c))

@@ -11,7 +11,9 @@ pub loop-chip-init : goal.loop-chip-init
 loop-chip-init g c = c.new-chips.ensures.items ∙ sym (each_from-zero _)
 
 pub loop-chip-preserved : goal.loop-chip-preserved
-loop-chip-preserved g c = pushed c.loop-chip.chip _ c.loop-chip.chips.items c.push.new.self.items c.in_ok-after.after c.loop-chip.invariant c.in-Ok.ensures.items (search rules)
+loop-chip-preserved g c =
+    pushed c.loop-chip.chip _ c.loop-chip.chips.items c.push.new.self.items c.in_ok-after.after c.loop-chip.invariant
+    c.in-Ok.ensures.items (search rules)
 
 pub invariant_of-result : goal.invariant_of-result
 invariant_of-result g c =
@@ -21,4 +23,8 @@ invariant_of-result g c =
 pub returns : goal.returns
 returns g c =
     let all : c.loop-chip.chip ≡ 2 ^ g.row.N = omega arith ∙ c.chip_count-chip-end.ensures.value in
-    record { value = c.loop-chip.invariant ∙ ap (λ (n : ℕ). each_from 0 n (λ k. chip_after_injection (taken_in g.row.CAP c.args.self.now k) (chip_at c.args.self.now.chips k))) all }
+    record {
+      value = c.loop-chip.invariant
+          ∙ ap (λ (n : ℕ). each_from 0 n
+          (λ k. chip_after_injection (taken_in g.row.CAP c.args.self.now k) (chip_at c.args.self.now.chips k))) all;
+    }

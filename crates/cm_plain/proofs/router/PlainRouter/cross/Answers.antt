@@ -4,7 +4,12 @@ use Rattle.cm_model.proofs.Each.{length-each_from}
 use Rattle.cm_plain.proofs.router.PlainRouter.cross.Goals as goal
 
 pub invariant_of-self : goal.invariant_of-self
-invariant_of-self g c = (c.self.invariant.0, ap length c.in_ok-buffers.ensures.value ∙ length-each_from 0 (2 ^ g.row.N) _, c.self.invariant.2)
+invariant_of-self g c = (
+  c.self.invariant.0,
+  ap length c.in_ok-buffers.ensures.value
+      ∙ length-each_from 0 (2 ^ g.row.N) _,
+  c.self.invariant.2,
+)
 
 pub returns : goal.returns
 unfolding machine_after_dimension

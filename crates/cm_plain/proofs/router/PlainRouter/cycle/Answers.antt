@@ -9,11 +9,13 @@ pub loop-dim-preserved : goal.loop-dim-preserved
 loop-dim-preserved g c =
     c.in_ok-cross.ensures.ok
     ∙ ap (machine_after_dimension g.row.N g.row.CAP c.loop-dim.dim) c.loop-dim.invariant
-    ∙ sym (after_crossings-more g.row.N g.row.CAP (machine_after_injection g.row.N g.row.CAP c.args.self.now) c.loop-dim.dim)
+    ∙ sym (after_crossings-more g.row.N g.row.CAP (machine_after_injection g.row.N g.row.CAP c.args.self.now)
+    c.loop-dim.dim)
 
 pub deliver-requires : goal.deliver-requires
 deliver-requires g c =
-    let counted : c.loop-dim.self.clock ≡ c.args.self.now.clock = ap (λ (m : Machine). m.clock) c.loop-dim.invariant ∙ clock_in_cycle g.row.N g.row.CAP c.args.self.now c.loop-dim.dim in
+    let counted : c.loop-dim.self.clock ≡ c.args.self.now.clock = ap (λ (m : Machine). m.clock) c.loop-dim.invariant
+    ∙ clock_in_cycle g.row.N g.row.CAP c.args.self.now c.loop-dim.dim in
     (lit< tt, omega arith)
 
 pub returns : goal.returns
@@ -23,7 +25,8 @@ returns g c =
     record {
       ok = on_ok_weaker c.deliver.result
           (λ is. is
-          ∙ ap (machine_after_delivery g.row.N) (c.loop-dim.invariant ∙ ap (after_crossings g.row.N g.row.CAP begun) all)
+          ∙ ap (machine_after_delivery g.row.N) (c.loop-dim.invariant
+          ∙ ap (after_crossings g.row.N g.row.CAP begun) all)
           ∙ sym (after_cycle-is g.row.N g.row.CAP c.args.self.now))
           c.deliver.ensures.ok;
     }

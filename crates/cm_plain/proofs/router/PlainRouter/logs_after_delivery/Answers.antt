@@ -1,7 +1,7 @@
 use Rattle.std.proofs.Common.{rules, ◌≡◌, ℕ, ◌^◌, ◌++◌, map, sym, ap, ◌∙◌, arith}
 use Rattle.cm_model.specs.Each.{each_from}
 use Rattle.cm_model.specs.declared.message.Event.TheVariants.{Delivered}
-use Rattle.cm_model.specs.Cycle.{log_at}
+use Rattle.cm_model.specs.Array.{list_at}
 use Rattle.cm_model.specs.Buffers.{delivered_in}
 use Rattle.cm_plain.proofs.Made.{each_from-zero, pushed}
 use Rattle.cm_plain.proofs.router.PlainRouter.logs_after_delivery.Goals as goal
@@ -10,9 +10,15 @@ pub loop-chip-init : goal.loop-chip-init
 loop-chip-init g c = c.new-logs.ensures.items ∙ sym (each_from-zero _)
 
 pub loop-chip-preserved : goal.loop-chip-preserved
-loop-chip-preserved g c = pushed c.loop-chip.chip _ c.loop-chip.logs.items c.push.new.self.items c.in_ok-after.after c.loop-chip.invariant c.in-Ok.ensures.items (search rules)
+loop-chip-preserved g c =
+    pushed c.loop-chip.chip _ c.loop-chip.logs.items c.push.new.self.items c.in_ok-after.after c.loop-chip.invariant
+    c.in-Ok.ensures.items (search rules)
 
 pub returns : goal.returns
 returns g c =
     let all : c.loop-chip.chip ≡ 2 ^ g.row.N = omega arith ∙ c.chip_count-chip-end.ensures.value in
-    record { value = c.loop-chip.invariant ∙ ap (λ (n : ℕ). each_from 0 n (λ k. log_at c.args.self.now.logs k ++ map (λ m. Delivered m k) (delivered_in c.args.self.now k))) all }
+    record {
+      value = c.loop-chip.invariant
+          ∙ ap (λ (n : ℕ). each_from 0 n
+          (λ k. list_at c.args.self.now.logs k ++ map (λ m. Delivered m k) (delivered_in c.args.self.now k))) all;
+    }

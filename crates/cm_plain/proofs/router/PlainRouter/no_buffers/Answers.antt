@@ -8,7 +8,9 @@ pub loop-chip-init : goal.loop-chip-init
 loop-chip-init g c = c.new-buffers.ensures.items ∙ sym (each_from-zero _)
 
 pub loop-chip-preserved : goal.loop-chip-preserved
-loop-chip-preserved g c = pushed c.loop-chip._chip _ c.loop-chip.buffers.items c.push.new.self.items c.empty-buffer.result c.loop-chip.invariant c.in-Ok.ensures.items c.empty-buffer.ensures.value
+loop-chip-preserved g c =
+    pushed c.loop-chip._chip _ c.loop-chip.buffers.items c.push.new.self.items c.empty-buffer.result
+    c.loop-chip.invariant c.in-Ok.ensures.items c.empty-buffer.ensures.value
 
 pub returns : goal.returns
 returns g c =

@@ -8,8 +8,10 @@ pub loop-place-init : goal.loop-place-init
 loop-place-init c = record {
   scan = rw (ap (λ node. node.messages) c.self.view_is)
       (scan_begins c.args.chip.now c.args.self.now.messages c.args.log.now.items c.args.here c.begin.ensures.gone);
-  log_room = let room_is : c.self.inside.room ≡ c.args.self.now.room = ap (λ node. node.room) c.self.view_is in omega (arith, c.requires.room, c.self.invariant.within);
-  log_len = let room_is : c.self.inside.room ≡ c.args.self.now.room = ap (λ node. node.room) c.self.view_is in omega (arith, c.self.invariant.within);
+  log_room = let room_is : c.self.inside.room ≡ c.args.self.now.room = ap (λ node. node.room) c.self.view_is in
+      omega (arith, c.requires.room, c.self.invariant.within);
+  log_len = let room_is : c.self.inside.room ≡ c.args.self.now.room = ap (λ node. node.room) c.self.view_is in
+      omega (arith, c.self.invariant.within);
   capacity = omega arith;
   room = ap (λ node. node.room) c.self.view_is;
   within = c.self.invariant.within;
@@ -23,13 +25,22 @@ loop-place-preserved-then-hand_over c =
     let m = c.index-deref-place.result in
     let now = here.self-inside.messages.items in
     let inside : here.place < length now = omega arith in
-    let next : get_or now here.place m ≡ m = sym (c.index-deref-place.is ∙ ap (λ ms. get_or ms here.place m) c.deref.ensures.0) in
-    let told = c.hand_over.ensures.log ∙ ap (λ (b : Bool). here.log.items ++ (if b then Delivered m c.args.here ∷ [] else [])) c.if-hand_over.true in
+    let next : get_or now here.place m ≡ m =
+    sym (c.index-deref-place.is ∙ ap (λ ms. get_or ms here.place m) c.deref.ensures.0) in
+    let told = c.hand_over.ensures.log
+    ∙ ap (λ (b : Bool). here.log.items ++ (if b then Delivered m c.args.here ∷ [] else [])) c.if-hand_over.true in
     let step = rw c.if-hand_over.true at (c.hand_over.ensures.step c.args.chip.now) in
     record {
       scan = rw (c.remove.ensures.items, told)
-          (scan_accepts c.args.chip.now c.args.self.now.messages c.args.log.now.items c.args.here here.chip c.hand_over.new.chip now here.place here.log.items m here.invariant.scan inside next step);
-      log_room = omega (arith, here.invariant.log_room, c.hand_over.ensures.len, c.hand_over.ensures.capacity, c.remove.ensures.len);
+          (scan_accepts c.args.chip.now c.args.self.now.messages c.args.log.now.items c.args.here here.chip
+          c.hand_over.new.chip now here.place here.log.items m here.invariant.scan inside next step);
+      log_room = omega (
+        arith,
+        here.invariant.log_room,
+        c.hand_over.ensures.len,
+        c.hand_over.ensures.capacity,
+        c.remove.ensures.len,
+      );
       log_len = omega (arith, here.invariant.log_len, c.hand_over.ensures.len, c.remove.ensures.len);
       capacity = omega (arith, here.invariant.capacity, c.hand_over.ensures.capacity);
       room = here.invariant.room;
@@ -44,13 +55,17 @@ loop-place-preserved c =
     let m = c.index-deref-place.result in
     let now = here.self-inside.messages.items in
     let inside : here.place < length now = omega arith in
-    let next : get_or now here.place m ≡ m = sym (c.index-deref-place.is ∙ ap (λ ms. get_or ms here.place m) c.deref.ensures.0) in
-    let told = c.hand_over.ensures.log ∙ ap (λ (b : Bool). here.log.items ++ (if b then Delivered m c.args.here ∷ [] else [])) c.if-hand_over.false ∙ append-nil here.log.items in
+    let next : get_or now here.place m ≡ m =
+    sym (c.index-deref-place.is ∙ ap (λ ms. get_or ms here.place m) c.deref.ensures.0) in
+    let told = c.hand_over.ensures.log
+    ∙ ap (λ (b : Bool). here.log.items ++ (if b then Delivered m c.args.here ∷ [] else [])) c.if-hand_over.false
+    ∙ append-nil here.log.items in
     let step = rw c.if-hand_over.false at (c.hand_over.ensures.step c.args.chip.now) in
     let len = c.hand_over.ensures.quiet c.if-hand_over.false in
     record {
       scan = rw told
-          (scan_keeps c.args.chip.now c.args.self.now.messages c.args.log.now.items c.args.here here.chip c.hand_over.new.chip now here.place here.log.items m here.invariant.scan inside next step);
+          (scan_keeps c.args.chip.now c.args.self.now.messages c.args.log.now.items c.args.here here.chip
+          c.hand_over.new.chip now here.place here.log.items m here.invariant.scan inside next step);
       log_room = omega (arith, here.invariant.log_room, len, c.hand_over.ensures.capacity);
       log_len = omega (arith, here.invariant.log_len, len);
       capacity = omega (arith, here.invariant.capacity, c.hand_over.ensures.capacity);

@@ -4,7 +4,8 @@ use Rattle.cm_router.proofs.node.Node.deliver.Given as goal
 
 abbrev pub invariant-loop-place : goal.invariant-loop-place
 invariant-loop-place l = record {
-  scan : Scan l.fn.chip l.fn.self.messages l.fn.log.items l.here l.chip l.self-inside.messages.items l.place l.log.items;
+  scan : Scan l.fn.chip l.fn.self.messages l.fn.log.items l.here l.chip l.self-inside.messages.items l.place
+      l.log.items;
   log_room : vec_len l.log + (length l.self-inside.messages.items - l.place) ≤ vec_capacity l.log;
   log_len : vec_len l.log + (length l.self-inside.messages.items - l.place) ≤ vec_len l.fn.log + l.fn.self.room;
   capacity : vec_capacity l.fn.log ≤ vec_capacity l.log;

@@ -12,11 +12,15 @@ returns-then-asking-eq0 c =
     let old = c.args.self.now in
     let chip = c.args.chip.now in
     let nobody : taken_by old chip ≡ [] =
-    nobody_taken old chip (λ p h. ap (λ (w : ℕ). bit w p) (sym c.if-asking-eq0.true) ∙ c.asking-asking.ensures.value p h) in
+    nobody_taken old chip (λ p h. ap (λ (w : ℕ). bit w p) (sym c.if-asking-eq0.true)
+    ∙ c.asking-asking.ensures.value p h) in
     record {
-      messages = ap (holding old) (sym (append-nil old.messages) ∙ ap (λ ps. old.messages ++ messages_sent c.args.dims c.args.clock c.args.here chip ps) (sym nobody));
+      messages = ap (holding old) (sym (append-nil old.messages)
+          ∙ ap (λ ps. old.messages ++ messages_sent c.args.dims c.args.clock c.args.here chip ps) (sym nobody));
       chip = c.take_none.ensures.value ∙ ap (λ ps. chip_after_injection ps chip) (sym nobody);
-      log = sym (append-nil c.args.log.now.items) ∙ ap (λ ps. c.args.log.now.items ++ map Injected (messages_sent c.args.dims c.args.clock c.args.here chip ps)) (sym nobody);
+      log = sym (append-nil c.args.log.now.items)
+          ∙ ap (λ ps. c.args.log.now.items ++ map Injected
+          (messages_sent c.args.dims c.args.clock c.args.here chip ps)) (sym nobody);
       within = omega arith;
       log_room = omega arith;
     }

@@ -10,6 +10,8 @@ returns-in_err-place-clause-room c =
     let messages_are : c.self.inside.messages.items ≡ old.messages = ap (λ node. node.messages) c.self.view_is in
     let within : length old.messages ≤ old.room = rw (← room_is, ← messages_are) c.self.invariant.within in
     let some : 0 < old.room = rw (← room_is) c.self.invariant.some in
-    let less : length (without old.messages (leaving_place old.room c.args.dim old.messages)) < old.room = leaving_makes_room old.room c.args.dim old.messages within some in
-    let nobody : leaving_place old.room c.args.dim old.messages ≡ None = sym c.leaving_place.ensures.value ∙ c.in_err-place.was in
+    let less : length (without old.messages (leaving_place old.room c.args.dim old.messages)) < old.room =
+    leaving_makes_room old.room c.args.dim old.messages within some in
+    let nobody : leaving_place old.room c.args.dim old.messages ≡ None = sym c.leaving_place.ensures.value
+    ∙ c.in_err-place.was in
     rw nobody at less
