@@ -10,3 +10,5 @@ mod listings;
 mod macros;
 #[cfg(test)]
 mod texts;
+#[cfg(test)]
+mod written;
