@@ -96,6 +96,11 @@ fn first_odd_piece(alloc: Global) -> Result<Option<usize>, Fail> {
     Ok(None)
 }
 
+/// Whether the listing lists as itself.
+fn is_listed_again(alloc: Global) -> Result<bool, Fail> {
+    Ok(Ends::whole(SUM_LISTED).end_so(alloc, Ok(()), SUM_LISTED)?)
+}
+
 /// The first room, below the listing's length, that does not hold the front of the listing.
 fn first_odd_room(alloc: Global) -> Result<Option<usize>, Fail> {
     for room in 0..SUM_LISTED.len() {
@@ -127,6 +132,7 @@ fn first_odd_failure(alloc: Global) -> Result<Option<usize>, Fail> {
 
 #[test]
 fn pieces_full_sinks_and_failed_reads_are_told_as_they_are(rt: HostRuntime) -> Result<(), Fail> {
+    assert!(rt; is_listed_again(rt.alloc())?);
     assert_eq!(rt; first_odd_piece(rt.alloc())?, None);
     assert_eq!(rt; first_odd_room(rt.alloc())?, None);
     assert_eq!(rt; first_odd_failure(rt.alloc())?, None);
