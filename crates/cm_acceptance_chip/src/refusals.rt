@@ -5,7 +5,7 @@ ghost use Rattle.cm_cli.specs.Report.{HasLine};
 
 use crate::cases::{Case, first_not_so};
 use cm_bits::doubles::Room;
-use cm_cli::{AsmFault, AsmKind, ChipFault, LineFault, ProgramFault, report};
+use cm_cli::{AsmFault, AsmKind, ChipFault, LineFault, ProgramFault, TakeFault, report};
 use std::alloc::Global;
 use std::test::Fail;
 
@@ -118,12 +118,84 @@ impl Case for Told {
     }
 }
 
-static TOLD: [Told; 10] = [
+static TOLD: [Told; 19] = [
     Told("cm1: bad command line\n", 2, ProgramFault::BadLine),
     Told("cm1: 30 Read\n", 4, ProgramFault::Read),
     Told("cm1: 31 Write\n", 4, ProgramFault::Write),
     Told("cm1: 32 TooMuch\n", 1, ProgramFault::TooMuch),
     Told("cm1: 33 Memory\n", 3, ProgramFault::Memory),
+    Told(
+        "cm1: line 3: 1 Width\n",
+        1,
+        ProgramFault::Text(AsmFault {
+            line: 3,
+            kind: AsmKind::Width,
+        }),
+    ),
+    Told(
+        "cm1: line 4: 2 Range\n",
+        1,
+        ProgramFault::Text(AsmFault {
+            line: 4,
+            kind: AsmKind::Range,
+        }),
+    ),
+    Told(
+        "cm1: line 5: 10 Overlap\n",
+        1,
+        ProgramFault::Text(AsmFault {
+            line: 5,
+            kind: AsmKind::Overlap,
+        }),
+    ),
+    Told(
+        "cm1: line 6: 11 Lengths\n",
+        1,
+        ProgramFault::Text(AsmFault {
+            line: 6,
+            kind: AsmKind::Lengths,
+        }),
+    ),
+    Told(
+        "cm1: line 7: 12 Scratch\n",
+        1,
+        ProgramFault::Text(AsmFault {
+            line: 7,
+            kind: AsmKind::Scratch,
+        }),
+    ),
+    Told(
+        "cm1: line 8: 13 Context\n",
+        1,
+        ProgramFault::Text(AsmFault {
+            line: 8,
+            kind: AsmKind::Context,
+        }),
+    ),
+    Told(
+        "cm1: line 9: 18 Name\n",
+        1,
+        ProgramFault::Text(AsmFault {
+            line: 9,
+            kind: AsmKind::Name,
+        }),
+    ),
+    Told(
+        "cm1: line 10: 19 Twice\n",
+        1,
+        ProgramFault::Text(AsmFault {
+            line: 10,
+            kind: AsmKind::Twice,
+        }),
+    ),
+    Told(
+        "cm1: line 11: 20 TooLong\n",
+        1,
+        ProgramFault::Text(AsmFault {
+            line: 11,
+            kind: AsmKind::TooLong,
+        }),
+    ),
     Told(
         "cm1: line 1: 14 Memory\n",
         3,
@@ -169,19 +241,23 @@ static TOLD: [Told; 10] = [
 /// A fault of a session or of a command line, and that of the program which it becomes.
 enum Becomes {
     OfSession(&'static str, ChipFault, ProgramFault),
+    OfTake(&'static str, TakeFault, ProgramFault),
     OfLine(&'static str, LineFault, ProgramFault),
 }
 
 impl Case for Becomes {
     fn name(&self) -> &'static str {
         match *self {
-            Becomes::OfSession(name, _, _) | Becomes::OfLine(name, _, _) => name,
+            Becomes::OfSession(name, _, _)
+            | Becomes::OfTake(name, _, _)
+            | Becomes::OfLine(name, _, _) => name,
         }
     }
 
     fn is_so(&self, _alloc: Global) -> Result<bool, Fail> {
         Ok(match *self {
             Becomes::OfSession(_, fault, becomes) => ProgramFault::from(fault) == becomes,
+            Becomes::OfTake(_, fault, becomes) => ProgramFault::from(fault) == becomes,
             Becomes::OfLine(_, fault, becomes) => ProgramFault::from(fault) == becomes,
         })
     }
@@ -192,12 +268,15 @@ const NINTH: AsmFault = AsmFault {
     kind: AsmKind::Operands,
 };
 
-static BECOMES: [Becomes; 7] = [
+static BECOMES: [Becomes; 10] = [
     Becomes::OfSession("a text", ChipFault::Text(NINTH), ProgramFault::Text(NINTH)),
     Becomes::OfSession("a read", ChipFault::Read, ProgramFault::Read),
     Becomes::OfSession("a write", ChipFault::Write(5), ProgramFault::Write),
     Becomes::OfSession("too much", ChipFault::TooMuch, ProgramFault::TooMuch),
     Becomes::OfSession("memory", ChipFault::Memory, ProgramFault::Memory),
+    Becomes::OfTake("a read of a file", TakeFault::Read, ProgramFault::Read),
+    Becomes::OfTake("too long a file", TakeFault::TooMuch, ProgramFault::TooMuch),
+    Becomes::OfTake("memory of a file", TakeFault::Memory, ProgramFault::Memory),
     Becomes::OfLine("a bad line", LineFault::BadLine, ProgramFault::BadLine),
     Becomes::OfLine("memory of a line", LineFault::Memory, ProgramFault::Memory),
 ];

@@ -9,4 +9,8 @@ mod listings;
 #[cfg(test)]
 mod macros;
 #[cfg(test)]
+mod programs;
+#[cfg(test)]
 mod texts;
+#[cfg(test)]
+mod written;

@@ -14,11 +14,11 @@ use std::test::Fail;
 /// So many memory bits has each processor of a trial.
 const ADDRESSES: u16 = 200;
 
-fn processor(number: u8) -> Proc {
+pub(crate) fn processor(number: u8) -> Proc {
     Proc::new(number % 16).unwrap()
 }
 
-fn flag(number: u16) -> FlagNo {
+pub(crate) fn flag(number: u16) -> FlagNo {
     FlagNo::new((number % 16) as u8).unwrap()
 }
 

@@ -7,8 +7,8 @@ use Rattle.cm_bits.specs.Text.{lines_of, is_line_end, without_empty_last, words_
 use Rattle.cm_model.specs.declared.act.Nano.{Nano}
 use Rattle.cm_cli.specs.declared.fault.LineKind.{LineKind}
 use Rattle.cm_cli.specs.declared.fault.LineKind.TheVariants.{Word, Operands, Number}
-use Rattle.cm_cli.specs.declared.fault.AsmKind.{AsmKind}
-use Rattle.cm_cli.specs.declared.fault.AsmFault.{AsmFault}
+use Rattle.cm_language.specs.declared.fault.AsmKind.{AsmKind}
+use Rattle.cm_language.specs.declared.fault.AsmFault.{AsmFault}
 use Rattle.cm_cli.specs.Program.{nanos_of_lines, with_line, program_of, kind_of, IsAcceptedThrough, IsFaultOf}
 use Rattle.cm_cli.specs.NanoLine.{instruction_of}
 

@@ -4,9 +4,10 @@ use Rattle.cm_bits.specs.Text.{lines_of, words_of}
 use Rattle.cm_model.specs.declared.act.Nano.{Nano}
 use Rattle.cm_cli.specs.declared.fault.LineKind.{LineKind}
 use Rattle.cm_cli.specs.declared.fault.LineKind.TheVariants as line
-use Rattle.cm_cli.specs.declared.fault.AsmKind.{AsmKind}
-use Rattle.cm_cli.specs.declared.fault.AsmKind.TheVariants.{Memory, Word, Operands, Number}
-use Rattle.cm_cli.specs.declared.fault.AsmFault.{AsmFault}
+use Rattle.cm_language.specs.declared.fault.AsmKind.{AsmKind}
+use Rattle.cm_language.specs.declared.fault.AsmKind.TheVariants.{Word, Operands, Number}
+use Rattle.cm_language.specs.declared.fault.AsmFault.{AsmFault}
+use Rattle.cm_language.specs.Program.{MatchKind}
 use Rattle.cm_cli.specs.NanoLine.{instruction_of}
 
 -- what is wrong with a line, as why its text is refused
@@ -37,13 +38,6 @@ pub record IsAcceptedThrough (text : List ℕ) (line : ℕ) : Type 0 where
   pub nano : Nano
   pub before : nanos_of_lines 1 (take (line - 1) (lines_of text)) ≡ Ok nanos
   pub here : nanos_of_lines 1 (take line (lines_of text)) ≡ Ok (nanos ++ nano ∷ [])
-
--- what a kind of fault says: want of memory the first, the others the second
-abbrev pub MatchKind : AsmKind → Type 0 → Type 0 → Type 0
-MatchKind Memory wanting faulty = wanting
-MatchKind Word wanting faulty = faulty
-MatchKind Operands wanting faulty = faulty
-MatchKind Number wanting faulty = faulty
 
 -- a fault that a text is refused with: its first faulty line, or one whose instruction could not be kept
 abbrev pub IsFaultOf : List ℕ → AsmFault → Type 0

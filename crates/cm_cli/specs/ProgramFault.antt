@@ -2,19 +2,30 @@
 use Rattle.std.specs.Prelude.{ℕ, Option, Some, None}
 use Rattle.cm_line.specs.declared.fault.LineFault.{LineFault}
 use Rattle.cm_line.specs.declared.fault.LineFault.TheVariants as line
-use Rattle.cm_cli.specs.declared.fault.AsmKind.{AsmKind}
-use Rattle.cm_cli.specs.declared.fault.AsmKind.TheVariants as kind
+use Rattle.cm_language.specs.declared.fault.AsmKind.{AsmKind}
+use Rattle.cm_language.specs.declared.fault.AsmKind.TheVariants as kind
 use Rattle.cm_cli.specs.declared.fault.ChipFault.{ChipFault}
 use Rattle.cm_cli.specs.declared.fault.ChipFault.TheVariants as chip
+use Rattle.cm_cli.specs.declared.takes.TakeFault.{TakeFault}
+use Rattle.cm_cli.specs.declared.takes.TakeFault.TheVariants as take
 use Rattle.cm_cli.specs.declared.program_fault.ProgramFault.{ProgramFault}
 use Rattle.cm_cli.specs.declared.program_fault.ProgramFault.TheVariants.{BadLine, Text, Read, Write, TooMuch, Memory}
 
 -- the number of what is wrong with a line
 abbrev pub number_of_kind : AsmKind → ℕ
+number_of_kind kind.Width = 1
+number_of_kind kind.Range = 2
+number_of_kind kind.Overlap = 10
+number_of_kind kind.Lengths = 11
+number_of_kind kind.Scratch = 12
+number_of_kind kind.Context = 13
 number_of_kind kind.Memory = 14
 number_of_kind kind.Word = 15
 number_of_kind kind.Operands = 16
 number_of_kind kind.Number = 17
+number_of_kind kind.Name = 18
+number_of_kind kind.Twice = 19
+number_of_kind kind.TooLong = 20
 
 -- the number of a fault
 abbrev pub number_of : ProgramFault → ℕ
@@ -41,6 +52,12 @@ of_chip chip.Read = Read
 of_chip (chip.Write count) = Write
 of_chip chip.TooMuch = TooMuch
 of_chip chip.Memory = Memory
+
+-- a source that was not read to its end, as a fault of the program
+abbrev pub of_take : TakeFault → ProgramFault
+of_take take.Read = Read
+of_take take.TooMuch = TooMuch
+of_take take.Memory = Memory
 
 -- a fault of the command line as one of the program
 abbrev pub of_line : LineFault → ProgramFault

@@ -6,7 +6,7 @@ use Rattle.cm_model.specs.declared.act.Act.TheVariants.{Nano}
 use Rattle.cm_model.specs.Processor.{Processor}
 use Rattle.cm_model.specs.Array.{chip_at}
 use Rattle.cm_model.specs.Machine.{blank_machine, run_of}
-use Rattle.cm_cli.specs.declared.fault.AsmFault.{AsmFault}
+use Rattle.cm_language.specs.declared.fault.AsmFault.{AsmFault}
 use Rattle.cm_cli.specs.declared.fault.ChipFault.{ChipFault}
 use Rattle.cm_cli.specs.declared.fault.ChipFault.TheVariants.{Text, Read, Write, TooMuch, Memory}
 use Rattle.cm_cli.specs.Program.{program_of, IsFaultOf}

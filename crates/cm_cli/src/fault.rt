@@ -1,23 +1,11 @@
-//! Why a program text is refused.
+//! Why a text of one chip is refused.
 
+use cm_language::{AsmFault, AsmKind};
 use thiserror::Error;
 
-/// What is wrong with a line of a program text, looked at alone.
+/// What is wrong with a line of a chip's text, looked at alone.
 #[derive(Clone, Copy, Debug, PartialEq, Eq, Error)]
 pub enum LineKind {
-    #[error("unknown first word")]
-    Word,
-    #[error("wrong number of operands, or a word that is none of those listed")]
-    Operands,
-    #[error("not a number, or out of its range")]
-    Number,
-}
-
-/// Why a program text is refused at a line: what is wrong with it, or no memory for its instruction.
-#[derive(Clone, Copy, Debug, PartialEq, Eq, Error)]
-pub enum AsmKind {
-    #[error("a growth of memory was refused")]
-    Memory,
     #[error("unknown first word")]
     Word,
     #[error("wrong number of operands, or a word that is none of those listed")]
@@ -39,14 +27,6 @@ impl From<LineKind> for AsmKind {
             LineKind::Number => AsmKind::Number,
         }
     }
-}
-
-/// The line at which a program text is refused, counted from 1, blank ones too.
-#[derive(Clone, Copy, Debug, PartialEq, Eq, Error)]
-#[error("line {line}: {kind}")]
-pub struct AsmFault {
-    pub line: u64,
-    pub kind: AsmKind,
 }
 
 /// Why a session of one chip ended early. Its numbers are 14 to 17 for a text, and 30 to 33.

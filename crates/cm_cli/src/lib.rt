@@ -3,6 +3,7 @@
 #![tactic(auto)]
 
 mod fault;
+mod listed;
 mod nano_line;
 mod one_chip;
 mod program;
@@ -12,8 +13,10 @@ mod session;
 mod takes;
 mod texts;
 
+pub use cm_language::{AsmFault, AsmKind};
 pub use cm_line::{Line, LineFault, command};
-pub use fault::{AsmFault, AsmKind, ChipFault};
+pub use fault::ChipFault;
+pub use listed::list;
 pub use program_fault::ProgramFault;
 pub use reports::report;
 pub use session::chip_session;

@@ -3,9 +3,9 @@
 ghost use Rattle.std.specs.Prelude.{◌≡◌, ◌<◌, ◌^◌, length, Ok, MatchResult};
 ghost use Rattle.cm_cli.specs.Program.{program_of, IsFaultOf};
 
-use crate::fault::{AsmFault, AsmKind};
 use crate::nano_line::read_line;
 use cm_bits::Lines;
+use cm_language::{AsmFault, AsmKind};
 use cm_model::Nano;
 use std::alloc::Global;
 

@@ -4,7 +4,9 @@ ghost use Rattle.std.specs.Prelude.{◌≡◌, ◌≤◌, IfSome};
 ghost use Rattle.cm_cli.specs.Report.{HasLine};
 ghost use Rattle.cm_cli.specs.ProgramFault.{number_of, number_of_kind, line_of};
 
-use crate::fault::{AsmFault, AsmKind, ChipFault};
+use crate::fault::ChipFault;
+use crate::takes::TakeFault;
+use cm_language::{AsmFault, AsmKind};
 use cm_line::LineFault;
 
 /// A fault of the whole program, by the numbers of the one list of refusals.
@@ -51,10 +53,19 @@ fn asm_number(kind: AsmKind) -> u8
     ensures value { result ≡ number_of_kind kind }
 {
     match kind {
+        AsmKind::Width => 1,
+        AsmKind::Range => 2,
+        AsmKind::Overlap => 10,
+        AsmKind::Lengths => 11,
+        AsmKind::Scratch => 12,
+        AsmKind::Context => 13,
         AsmKind::Memory => 14,
         AsmKind::Word => 15,
         AsmKind::Operands => 16,
         AsmKind::Number => 17,
+        AsmKind::Name => 18,
+        AsmKind::Twice => 19,
+        AsmKind::TooLong => 20,
     }
 }
 
@@ -71,6 +82,21 @@ impl From<ChipFault> for ProgramFault {
             ChipFault::Write(_) => ProgramFault::Write,
             ChipFault::TooMuch => ProgramFault::TooMuch,
             ChipFault::Memory => ProgramFault::Memory,
+        }
+    }
+}
+
+impl From<TakeFault> for ProgramFault {
+    ghost use Rattle.std.specs.Prelude.{◌≡◌};
+    ghost use Rattle.cm_cli.specs.ProgramFault.{of_take};
+
+    ghost from_gives = { λ fault whole. whole ≡ of_take fault };
+
+    fn from(fault: TakeFault) -> ProgramFault {
+        match fault {
+            TakeFault::Read => ProgramFault::Read,
+            TakeFault::TooMuch => ProgramFault::TooMuch,
+            TakeFault::Memory => ProgramFault::Memory,
         }
     }
 }

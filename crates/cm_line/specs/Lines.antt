@@ -1,10 +1,10 @@
 -- The command line, as clap reads it: the program's name, a subcommand, its arguments; ours.
-use Rattle.std.specs.Prelude.{◌≡◌, List, [], IsSomeAnd, codes, true}
-use Rattle.clap.specs.Walk.{Row, Text}
-use Rattle.clap.specs.Simple.{App, Shape, new_app, on_top, subcommand_of, with_subcommand}
+use Rattle.std.specs.Prelude.{◌≡◌, List, [], Some, IsSomeAnd, codes, string_bytes, true}
+use Rattle.clap.specs.Walk.{Row, Rule, Text, first_of}
+use Rattle.clap.specs.Simple.{App, Shape, new_app, new_rule, on_top, subcommand_of, with_rule, with_subcommand}
 use Rattle.clap.specs.Faults.{fault_of}
 use Rattle.cm_line.specs.declared.line.Line.{Line}
-use Rattle.cm_line.specs.declared.line.Line.TheVariants.{Chip}
+use Rattle.cm_line.specs.declared.line.Line.TheVariants as line
 
 -- the command with no flag for help
 abbrev pub without_help_flag : App → App
@@ -21,10 +21,18 @@ asking_for_subcommand = on_top (λ (s : Shape). record s {
 abbrev pub chip_app : App
 chip_app = without_help_flag (new_app (codes "chip"))
 
+-- an operand that must stand there
+abbrev pub required_operand : Text → Rule
+required_operand name = record (new_rule name) { required = true }
+
+-- the subcommand `list`, whose one operand is a program's file
+abbrev pub list_app : App
+list_app = with_rule (without_help_flag (new_app (codes "list"))) (required_operand (codes "program"))
+
 -- the program, with each of its subcommands
 abbrev pub program_app : App
 program_app =
-    with_subcommand (asking_for_subcommand (without_help_flag (new_app (codes "cm1")))) chip_app.top
+    with_subcommand (with_subcommand (asking_for_subcommand (without_help_flag (new_app (codes "cm1")))) chip_app.top) list_app.top
 
 -- clap finds no fault in the words, of which the first is the program's name
 abbrev pub IsTaken : List Text → Type 0
@@ -32,7 +40,8 @@ IsTaken words = fault_of program_app words ≡ []
 
 -- the line is the subcommand of this name, with what was found for its arguments
 abbrev pub IsLine : Line → Text × List Row → Type 0
-IsLine Chip found = found.0 ≡ codes "chip"
+IsLine line.Chip found = found.0 ≡ codes "chip"
+IsLine (line.List program) found = (found.0 ≡ codes "list") × (first_of (codes "program") found.1 ≡ Some (string_bytes program))
 
 -- the words are taken, and the line is the subcommand that clap reads in them
 pub record AsksFor (words : List Text) (line : Line) : Type 0 where

@@ -5,4 +5,4 @@ mod fault;
 mod line;
 
 pub use fault::LineFault;
-pub use line::{Line, chip_alone_is_a_line, command};
+pub use line::{Line, command, lines_and_bad_lines};

@@ -1,13 +1,17 @@
-ghost use Rattle.std.specs.Prelude.{◌≡◌, [], ◌∷◌, IfOk, IsErrOf, codes, false};
-ghost use Rattle.clap.specs.Walk.{texts};
+ghost use Rattle.std.specs.Prelude.{◌≡◌, [], ◌∷◌, None, IfOk, IsErrOf, String, codes, string_bytes, false};
+ghost use Rattle.clap.specs.Walk.{first_of, rows_of, texts};
+ghost use Rattle.clap.specs.Matches.{found_of};
 ghost use Rattle.clap.specs.Simple.{app_of};
 ghost use Rattle.clap.specs.declared.builder.command.Command.TheViews.{out-Command as fields_of};
-ghost use Rattle.cm_line.specs.Lines.{AsksFor, IsBadLine, chip_app, program_app};
+ghost use Rattle.cm_line.specs.Lines.{AsksFor, IsBadLine, IsLine, chip_app, list_app, program_app};
 
 use crate::fault::LineFault;
-use clap::Command;
 use clap::error::ErrorKind;
+use clap::{Arg, ArgMatches, Command};
 use std::alloc::{AllocError, Global};
+
+/// The name of the operand that is a program's file.
+const PROGRAM: &str = "program";
 
 /// What the program is asked to do.
 #[derive(Debug, PartialEq, Eq, Drop)]
@@ -15,6 +19,8 @@ pub enum Line {
     /// `chip`: reads the text of one chip from standard input, and writes its answers to standard
     /// output.
     Chip,
+    /// `list PROGRAM`: writes the listing of the program text in this file to standard output.
+    List { program: String },
 }
 
 /// Reads the words of a command line. The first is the program's name, and may be any.
@@ -32,16 +38,32 @@ pub fn command<'a>(alloc: Global, words: &'a [&'a str]) -> Result<Line, LineFaul
     };
     match matches.subcommand() {
         Some(("chip", _)) => Ok(Line::Chip),
+        Some(("list", operands)) => list_line(alloc, operands),
         _ => Err(LineFault::BadLine),
     }
 }
 
-/// A law: of the words below, `chip` alone asks for a line. A call for help or for the version, no
-/// subcommand, no word at all, an unknown subcommand, and an operand or an option of `chip` do not.
+/// The line of `list`, by what was found for its operand.
+fn list_line(alloc: Global, operands: &ArgMatches) -> Result<Line, LineFault>
+    ensures value { IfOk result (λ line. IsLine line (codes "list", rows_of (found_of operands.now))) }
+    ensures none { IsErrOf result LineFault.BadLine → first_of (codes "program") (rows_of (found_of operands.now)) ≡ None }
+{
+    match operands.get_str(PROGRAM) {
+        Some(program) => Ok(Line::List {
+            program: String::from_str(alloc, program)?,
+        }),
+        None => Err(LineFault::BadLine),
+    }
+}
+
+/// A law: of the words below, `chip` alone and `list` with one operand ask for a line. A call for help or
+/// for the version, no subcommand, no word at all, an unknown subcommand, an operand or an option of
+/// `chip`, and `list` with no operand, with two or with an option do not.
 #[tactic(auto, unfolding(clap::proofs::OnLiterals::clap_on_literals))]
-pub fn chip_alone_is_a_line()
+pub fn lines_and_bad_lines()
     ensures chip { AsksFor (codes "cm1" ∷ codes "chip" ∷ []) Line.Chip }
     ensures lone_dashes { AsksFor (codes "cm1" ∷ codes "chip" ∷ codes "--" ∷ []) Line.Chip }
+    ensures list { (program : String Global) → string_bytes program ≡ codes "sums.txt" → AsksFor (codes "cm1" ∷ codes "list" ∷ codes "sums.txt" ∷ []) (Line.List program) }
     ensures help { IsBadLine (codes "cm1" ∷ codes "help" ∷ []) }
     ensures help_flag { IsBadLine (codes "cm1" ∷ codes "--help" ∷ []) }
     ensures short_help_flag { IsBadLine (codes "cm1" ∷ codes "-h" ∷ []) }
@@ -53,6 +75,9 @@ pub fn chip_alone_is_a_line()
     ensures unknown { IsBadLine (codes "cm1" ∷ codes "ship" ∷ []) }
     ensures operand { IsBadLine (codes "cm1" ∷ codes "chip" ∷ codes "3" ∷ []) }
     ensures option { IsBadLine (codes "cm1" ∷ codes "chip" ∷ codes "--out" ∷ []) }
+    ensures no_program { IsBadLine (codes "cm1" ∷ codes "list" ∷ []) }
+    ensures two_programs { IsBadLine (codes "cm1" ∷ codes "list" ∷ codes "sums.txt" ∷ codes "more.txt" ∷ []) }
+    ensures option_of_list { IsBadLine (codes "cm1" ∷ codes "list" ∷ codes "sums.txt" ∷ codes "--out" ∷ []) }
 {}
 
 fn program<'a>(alloc: Global) -> Result<Command<'a>, AllocError>
@@ -63,7 +88,8 @@ fn program<'a>(alloc: Global) -> Result<Command<'a>, AllocError>
         .disable_help_flag(true)
         .disable_help_subcommand(true)
         .subcommand_required(true)
-        .subcommand(chip(alloc))
+        .subcommand(chip(alloc))?
+        .subcommand(list(alloc)?)
 }
 
 fn chip<'a>(alloc: Global) -> Command<'a>
@@ -71,4 +97,13 @@ fn chip<'a>(alloc: Global) -> Command<'a>
     ensures local { (fields_of result).has_globals ≡ false }
 {
     Command::new(alloc, "chip").disable_help_flag(true)
+}
+
+fn list<'a>(alloc: Global) -> Result<Command<'a>, AllocError>
+    ensures app { IfOk result (λ made. app_of made ≡ list_app) }
+    ensures local { IfOk result (λ made. (fields_of made).has_globals ≡ false) }
+{
+    Command::new(alloc, "list")
+        .disable_help_flag(true)
+        .arg(Arg::new(alloc, PROGRAM).required(true))
 }

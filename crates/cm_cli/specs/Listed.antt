@@ -1,0 +1,88 @@
+-- What `cm1 list` writes, or why it refuses. Ours.
+use Rattle.std.specs.Prelude.{◌≡◌, ℕ, ◌<◌, ◌≤◌, Bool, true, false, Option, Result, Ok, Err, List, length}
+use Rattle.std.specs.Io.KnownBytes.{Appends, Keeps}
+use Rattle.cm_language.specs.declared.fault.AsmFault.{AsmFault}
+use Rattle.cm_language.specs.Program.{ProgramText, program_of, IsFaultOf}
+use Rattle.cm_language.specs.Listing.{listing}
+use Rattle.cm_cli.specs.Report.{HasFront}
+use Rattle.cm_cli.specs.declared.program_fault.ProgramFault.{ProgramFault}
+use Rattle.cm_cli.specs.declared.program_fault.ProgramFault.TheVariants.{BadLine, Text, Read, Write, TooMuch, Memory}
+
+-- the most bytes of a program text
+abbrev pub LIMIT : ℕ
+LIMIT = 16777216
+
+-- a text is a program, whose listing this is
+pub record IsListingOf (text bytes : List ℕ) : Type 0 where
+  pub program : ProgramText
+  pub is : program_of text ≡ Ok program
+  pub listed : bytes ≡ listing program
+
+-- every line of a text is accepted
+pub record IsProgram (text : List ℕ) : Type 0 where
+  pub program : ProgramText
+  pub is : program_of text ≡ Ok program
+
+-- why there is no listing of a text: want of memory is told so only of a program
+abbrev pub HasNoListing : List ℕ → ProgramFault → Type 0
+HasNoListing text (Text fault) = IsFaultOf text fault
+HasNoListing text Memory = IsProgram text
+HasNoListing text BadLine = ⊥
+HasNoListing text Read = ⊥
+HasNoListing text Write = ⊥
+HasNoListing text TooMuch = ⊥
+
+-- the whole listing was written
+pub record IsListed (text : List ℕ) (held holds : Option (List ℕ)) : Type 0 where
+  pub within : length text ≤ LIMIT
+  pub bytes : List ℕ
+  pub is : IsListingOf text bytes
+  pub written : Appends held holds bytes
+
+-- only the first bytes of the listing were written
+pub record IsListedInPart (text : List ℕ) (held holds : Option (List ℕ)) : Type 0 where
+  pub within : length text ≤ LIMIT
+  pub bytes : List ℕ
+  pub is : IsListingOf text bytes
+  pub front : HasFront held holds bytes
+
+-- the text is refused, and nothing was written
+pub record IsNotListed (text : List ℕ) (held holds : Option (List ℕ)) (fault : AsmFault) : Type 0 where
+  pub within : length text ≤ LIMIT
+  pub is : IsFaultOf text fault
+  pub nothing : Keeps held holds
+
+-- the text is too long, and nothing was written
+pub record IsTooLongToList (text : List ℕ) (held holds : Option (List ℕ)) : Type 0 where
+  pub beyond : LIMIT < length text
+  pub nothing : Keeps held holds
+
+-- how the listing of a source that has this text ends
+abbrev pub EndsListing : List ℕ → Option (List ℕ) → Option (List ℕ) → Result (Unit {0}) ProgramFault → Type 0
+EndsListing text held holds (Ok done) = IsListed text held holds
+EndsListing text held holds (Err (Text fault)) = IsNotListed text held holds fault
+EndsListing text held holds (Err Read) = Keeps held holds
+EndsListing text held holds (Err Write) = IsListedInPart text held holds
+EndsListing text held holds (Err TooMuch) = IsTooLongToList text held holds
+EndsListing text held holds (Err Memory) = Keeps held holds
+EndsListing text held holds (Err BadLine) = ⊥
+
+-- it ended by a write
+abbrev pub is_write : Result (Unit {0}) ProgramFault → Bool
+is_write (Ok done) = false
+is_write (Err BadLine) = false
+is_write (Err (Text fault)) = false
+is_write (Err Read) = false
+is_write (Err Write) = true
+is_write (Err TooMuch) = false
+is_write (Err Memory) = false
+
+-- it came to the end of the text: the text was listed, or refused for what stands in it
+abbrev pub has_read_all : Result (Unit {0}) ProgramFault → Bool
+has_read_all (Ok done) = true
+has_read_all (Err BadLine) = false
+has_read_all (Err (Text fault)) = true
+has_read_all (Err Read) = false
+has_read_all (Err Write) = true
+has_read_all (Err TooMuch) = false
+has_read_all (Err Memory) = false
