@@ -1,8 +1,8 @@
 -- Lists that are made or written element by element, and rows that are lent.
-use Rattle.std.proofs.Common.{◌≡◌, ◌≢◌, ℕ, ◌<◌, ◌==◌, true, false, List, [], ◌∷◌, ◌++◌, length, get_or, set, ◌+◌, refl, sym, ◌∙◌, subst, arith, ⊎_elim, get_or-set_same, get_or-set_other}
+use Rattle.std.proofs.Common.{◌≡◌, ◌≢◌, ℕ, suc, ◌<◌, ◌==◌, true, false, List, [], ◌∷◌, map, length, get_or, set, ◌+◌, refl, sym, ap, ◌∙◌, subst, arith, ⊎_elim, get_or-set_same, get_or-set_other}
 use Rattle.std.proofs.lemmas.Bool.{cases_Bool, eqb-true, eqb-false}
 use Rattle.std.proofs.lemmas.List.{with_items_is}
-use Rattle.std.proofs.lemmas.List.FromFn.{map-range_with_len_more}
+use Rattle.std.specs.List.{range_with_len}
 use Rattle.std.specs.Vec.{with_items}
 use Rattle.std.specs.Global.{Vec}
 use Rattle.cm_model.specs.Each.{each_from}
@@ -21,15 +21,27 @@ each_after_set P xs d i x count long each new k below =
     subst P (sym (get_or-set_other xs i k x d other)) (each k below))
     (cases_Bool (k == i))
 
--- no numbers make the empty list
-pub each_from-zero : {X : Type 0} (f : ℕ → X) → each_from 0 0 f ≡ []
-unfolding each_from
-each_from-zero f = refl
+-- where a reading of each element is alike, the readings are one for each number, from any number on
+alike-after : {X Y : Type 0} (read : X → Y) (y : Y) (xs : List X) (first : ℕ)
+    → ((k : ℕ) (d : X) → k < length xs → read (get_or xs k d) ≡ y) → map read xs ≡ map (λ (c : ℕ). y) (range_with_len first (length xs))
+alike-after read y [] first each = refl
+alike-after read y (x ∷ xs) first each =
+    λ i. each 0 x (omega arith) i ∷ alike-after read y xs (first + 1) (λ k d below. each (suc k) d (omega (arith, below))) i
 
--- one number more stands last
-pub each_from-more : {X : Type 0} (f : ℕ → X) (count : ℕ) → each_from 0 (count + 1) f ≡ each_from 0 count f ++ f count ∷ []
+-- the same, from 0 on
+pub readings-alike : {X Y : Type 0} (read : X → Y) (y : Y) (xs : List X) (count : ℕ) → length xs ≡ count
+    → ((k : ℕ) (d : X) → k < length xs → read (get_or xs k d) ≡ y) → map read xs ≡ each_from 0 count (λ c. y)
 unfolding each_from
-each_from-more f count = map-range_with_len_more f 0 count count (omega arith)
+readings-alike read y xs count long each = alike-after read y xs 0 each ∙ ap (λ (n : ℕ). map (λ (c : ℕ). y) (range_with_len 0 n)) long
+
+-- where a reading of each element is the same, so are the readings
+pub same_readings : {X Y : Type 0} (read : X → Y) (xs ys : List X) → length xs ≡ length ys
+    → ((k : ℕ) (d : X) → k < length xs → read (get_or xs k d) ≡ read (get_or ys k d)) → map read xs ≡ map read ys
+same_readings read [] [] long each = refl
+same_readings read [] (y ∷ ys) long each = absurd (omega (arith, long))
+same_readings read (x ∷ xs) [] long each = absurd (omega (arith, long))
+same_readings read (x ∷ xs) (y ∷ ys) long each =
+    λ i. each 0 x (omega arith) i ∷ same_readings read xs ys (omega (arith, long)) (λ k d below. each (suc k) d (omega (arith, below))) i
 
 -- a row whose slice was lent whole has what was written to the slice
 pub items-lent : {X : Type 0} (row : Vec X) (now : List X) → length now ≡ length row.items → (with_items row now).items ≡ now

@@ -182,34 +182,22 @@ fn make_room(log: &mut Vec<Event>, more: usize) -> Result<(), NoMemory>
 pub(crate) fn blank_chips(alloc: Global, count: usize) -> Result<Vec<Chip>, NoMemory>
     ensures value { IfOk result (λ chips. chips.items ≡ each_from 0 count (λ c. blank_chip)) }
 {
-    let mut chips = Vec::with_capacity(alloc, count)?;
-    for _c in 0..count {
-        let chip = Chip::blank(alloc)?;
-        chips.push_reserved(chip);
-    }
-    Ok(chips)
+    Ok((0..count).map(|_| Chip::blank(alloc)).try_collect(alloc)?)
 }
 
+#[tactic(auto, unfolding(cm_model::specs::Each::each_from))]
 pub(crate) fn blank_nodes(alloc: Global, count: usize, room: u8) -> Result<Vec<Node>, NoMemory>
     requires some { 0 < room }
     requires most { room ≤ 15 }
     ensures value { IfOk result (λ nodes. nodes.items ≡ each_from 0 count (λ c. record { room = room; messages = [] })) }
 {
-    let mut nodes = Vec::with_capacity(alloc, count)?;
-    for _c in 0..count {
-        nodes.push_reserved(Node::new(room));
-    }
-    Ok(nodes)
+    Ok((0..count).map(|_| Node::new(room)).collect(alloc)?)
 }
 
 pub(crate) fn blank_logs(alloc: Global, count: usize) -> Result<Vec<Vec<Event>>, NoMemory>
     ensures value { IfOk result (λ logs. events_of logs.items ≡ each_from 0 count (λ c. [])) }
 {
-    let mut logs = Vec::with_capacity(alloc, count)?;
-    for _c in 0..count {
-        logs.push_reserved(Vec::new(alloc));
-    }
-    Ok(logs)
+    Ok((0..count).map(|_| Vec::new(alloc)).collect(alloc)?)
 }
 
 pub(crate) fn blank_outputs(alloc: Global, count: usize) -> Result<Vec<Outputs>, NoMemory>
@@ -229,34 +217,21 @@ pub(crate) fn blank_planes(alloc: Global, count: usize) -> Result<Vec<Plane>, No
     Ok(vec![in alloc; 0; count]?)
 }
 
+#[tactic(auto, using(std::proofs::lemmas::List::same_lists))]
 pub(crate) fn copied_chips(alloc: Global, chips: &[Chip]) -> Result<Vec<Chip>, NoMemory>
     ensures value { IfOk result (λ copies. copies.items ≡ chips.now) }
 {
-    let mut copies = Vec::with_capacity(alloc, chips.len())?;
-    for chip in chips {
-        let copy = chip.copy(alloc)?;
-        copies.push_reserved(copy);
-    }
-    Ok(copies)
+    chips.iter().map(|chip| chip.copy(alloc)).try_collect(alloc)
 }
 
 pub(crate) fn copied_nodes(alloc: Global, nodes: &[Node]) -> Result<Vec<Node>, NoMemory>
     ensures value { IfOk result (λ copies. copies.items ≡ nodes.now) }
 {
-    let mut copies = Vec::with_capacity(alloc, nodes.len())?;
-    for node in nodes {
-        copies.push_reserved(node.copy());
-    }
-    Ok(copies)
+    Ok(nodes.iter().map(|node| node.copy()).collect(alloc)?)
 }
 
 pub(crate) fn copied_logs(alloc: Global, logs: &[Vec<Event>]) -> Result<Vec<Vec<Event>>, NoMemory>
     ensures value { IfOk result (λ copies. events_of copies.items ≡ events_of logs.now) }
 {
-    let mut copies = Vec::with_capacity(alloc, logs.len())?;
-    for log in logs {
-        let copy = log.to_vec(alloc)?;
-        copies.push_reserved(copy);
-    }
-    Ok(copies)
+    Ok(logs.iter().map(|log| log.to_vec(alloc)).try_collect(alloc)?)
 }
