@@ -32,7 +32,8 @@ list_app = with_rule (without_help_flag (new_app (codes "list"))) (required_oper
 -- the program, with each of its subcommands
 abbrev pub program_app : App
 program_app =
-    with_subcommand (with_subcommand (asking_for_subcommand (without_help_flag (new_app (codes "cm1")))) chip_app.top) list_app.top
+    with_subcommand
+    (with_subcommand (asking_for_subcommand (without_help_flag (new_app (codes "cm1")))) chip_app.top) list_app.top
 
 -- clap finds no fault in the words, of which the first is the program's name
 abbrev pub IsTaken : List Text → Type 0
@@ -41,7 +42,8 @@ IsTaken words = fault_of program_app words ≡ []
 -- the line is the subcommand of this name, with what was found for its arguments
 abbrev pub IsLine : Line → Text × List Row → Type 0
 IsLine line.Chip found = found.0 ≡ codes "chip"
-IsLine (line.List program) found = (found.0 ≡ codes "list") × (first_of (codes "program") found.1 ≡ Some (string_bytes program))
+IsLine (line.List program) found =
+    (found.0 ≡ codes "list") × (first_of (codes "program") found.1 ≡ Some (string_bytes program))
 
 -- the words are taken, and the line is the subcommand that clap reads in them
 pub record AsksFor (words : List Text) (line : Line) : Type 0 where

@@ -46,7 +46,8 @@ pub fn command<'a>(alloc: Global, words: &'a [&'a str]) -> Result<Line, LineFaul
 /// The line of `list`, by what was found for its operand.
 fn list_line(alloc: Global, operands: &ArgMatches) -> Result<Line, LineFault>
     ensures value { IfOk result (λ line. IsLine line (codes "list", rows_of (found_of operands.now))) }
-    ensures none { IsErrOf result LineFault.BadLine → first_of (codes "program") (rows_of (found_of operands.now)) ≡ None }
+    ensures none { IsErrOf result LineFault.BadLine
+        → first_of (codes "program") (rows_of (found_of operands.now)) ≡ None }
 {
     match operands.get_str(PROGRAM) {
         Some(program) => Ok(Line::List {
@@ -63,7 +64,8 @@ fn list_line(alloc: Global, operands: &ArgMatches) -> Result<Line, LineFault>
 pub fn lines_and_bad_lines()
     ensures chip { AsksFor (codes "cm1" ∷ codes "chip" ∷ []) Line.Chip }
     ensures lone_dashes { AsksFor (codes "cm1" ∷ codes "chip" ∷ codes "--" ∷ []) Line.Chip }
-    ensures list { (program : String Global) → string_bytes program ≡ codes "sums.txt" → AsksFor (codes "cm1" ∷ codes "list" ∷ codes "sums.txt" ∷ []) (Line.List program) }
+    ensures list { (program : String Global) → string_bytes program ≡ codes "sums.txt"
+        → AsksFor (codes "cm1" ∷ codes "list" ∷ codes "sums.txt" ∷ []) (Line.List program) }
     ensures help { IsBadLine (codes "cm1" ∷ codes "help" ∷ []) }
     ensures help_flag { IsBadLine (codes "cm1" ∷ codes "--help" ∷ []) }
     ensures short_help_flag { IsBadLine (codes "cm1" ∷ codes "-h" ∷ []) }
