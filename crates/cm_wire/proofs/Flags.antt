@@ -1,5 +1,6 @@
 -- A plane of flags is 0 just where no processor of the chip has the flag.
-use Rattle.std.proofs.Common.{◌≡◌, ℕ, ◌^◌, ◌<◌, ◌==◌, suc, Bool, true, false, not, ◌||◌, List, [], ◌∷◌, length, get_or, refl, ap, ◌∙◌, sym, arith, eq-eqb, w16}
+use Rattle.std.proofs.Common.{◌≡◌, ℕ, ◌^◌, ◌<◌, ◌==◌, suc, Bool, true, false, not, ◌||◌, List, [], ◌∷◌, length, get_or}
+use Rattle.std.proofs.Common.{refl, ap, ◌∙◌, sym, arith, eq-eqb, w16}
 use Rattle.std.specs.Int.{bit_at, trailing_zeros}
 use Rattle.std.specs.List.{list_any}
 use Rattle.std.proofs.lemmas.Bool.{eqb-true, eqb-false}
@@ -12,10 +13,12 @@ use Rattle.cm_model.proofs.Bits.{bit-zero}
 use Rattle.cm_wire.specs.Wire.{chip_or}
 
 -- where the test fails at each index, nothing passes it
-none_passes : {X : Type 0} (test : X → Bool) (d : X) (xs : List X) → ((i : ℕ) → i < length xs → test (get_or xs i d) ≡ false) → list_any test xs ≡ false
+none_passes : {X : Type 0} (test : X → Bool) (d : X) (xs : List X)
+    → ((i : ℕ) → i < length xs → test (get_or xs i d) ≡ false) → list_any test xs ≡ false
 none_passes test d [] fails = refl
 none_passes test d (x ∷ xs) fails =
-    ap (λ (b : Bool). b || list_any test xs) (fails 0 (omega arith)) ∙ none_passes test d xs (λ i h. fails (suc i) (omega arith))
+    ap (λ (b : Bool). b || list_any test xs) (fails 0 (omega arith))
+    ∙ none_passes test d xs (λ i h. fails (suc i) (omega arith))
 
 pub chip_or-plane : (chip : List Processor) (plane : ℕ) → plane < 2 ^ 16 → length chip ≡ 16
     → IsPlane plane (λ p. flag (processor_at chip p) GLOBAL) → chip_or chip ≡ not (plane == 0)
