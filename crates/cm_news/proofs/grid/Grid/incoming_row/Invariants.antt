@@ -6,4 +6,5 @@ use Rattle.cm_news.proofs.grid.Grid.incoming_row.Given as goal
 
 -- what comes in at the chips so far
 abbrev pub invariant-loop-c : goal.invariant-loop-c
-invariant-loop-c g l = (k : ℕ) → k < l.c → IsPlane (get_or l.out k 0) (λ p. bit_of_place l.planes (source g.row.N l.dir (record { chip = k; proc = p })))
+invariant-loop-c g l = (k : ℕ) → k < l.c
+    → IsPlane (get_or l.out k 0) (λ p. bit_of_place l.planes (source g.row.N l.dir (record { chip = k; proc = p })))
