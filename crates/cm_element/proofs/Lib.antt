@@ -4,5 +4,6 @@ mod Lanes
 mod Planes
 mod Poking
 mod Stepping
+mod Replacing
 mod Storing
 mod Widening

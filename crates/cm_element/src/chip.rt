@@ -9,7 +9,7 @@ ghost use Rattle.cm_model.specs.Chip.{IsPlane, processor_at, blank_chip, chip_af
 ghost use Rattle.cm_model.specs.Whole.{IsChip};
 ghost use Rattle.cm_element.specs.Outputs.{AreOutputs};
 
-mod wide;
+pub(crate) mod wide;
 
 use crate::outputs::Outputs;
 use cm_bits::{Addr, FlagNo, NoMemory, Plane, Proc};
@@ -156,7 +156,7 @@ impl Chip {
 }
 
 /// Whether the bit of a processor is 1 in a plane.
-fn is_one(plane: Plane, proc: Proc) -> bool
+pub(crate) fn is_one(plane: Plane, proc: Proc) -> bool
     ensures value { result ≡ bit plane proc }
     ensures in_range { proc < 16 }
 {
@@ -164,7 +164,7 @@ fn is_one(plane: Plane, proc: Proc) -> bool
 }
 
 /// The plane with this bit for one processor.
-fn with_bit(plane: Plane, proc: Proc, value: bool) -> Plane
+pub(crate) fn with_bit(plane: Plane, proc: Proc, value: bool) -> Plane
     ensures value { IsPlane result (λ p. if p == proc then value else bit plane p) }
     ensures in_range { proc < 16 }
 {
