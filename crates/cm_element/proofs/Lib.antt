@@ -1,6 +1,7 @@
 mod Columns
 mod Fields
 mod Lanes
+mod Laying
 mod Planes
 mod Poking
 mod Stepping

@@ -3,3 +3,4 @@ pub mod Outputs
 pub mod Wide
 pub mod Runs
 pub mod Steps
+pub mod Laid

@@ -11,13 +11,16 @@ ghost use Rattle.cm_model.specs.Whole.{IsChip};
 ghost use Rattle.cm_element.specs.Steps.{AreSent};
 
 mod bits;
+mod lay;
 mod rows;
+mod view;
 
 use crate::run::rows::{send_row, step_rows, take_rows, word_at};
 use cm_bits::{Addr, FlagNo, NoMemory, Plane};
 use cm_model::Nano;
 use std::alloc::Global;
 use std::marker::Model;
+pub use view::ChipView;
 
 const ADDRESSES: usize = 4096;
 

@@ -143,7 +143,7 @@ fn merge(flags: &[Plane], sense: bool, at: Places, incoming: &mut [Plane])
 }
 
 /// Puts planes into a list from a place on.
-fn put_row(rows: &mut [Plane], at: usize, planes: &[Plane])
+pub(crate) fn put_row(rows: &mut [Plane], at: usize, planes: &[Plane])
     requires within { at + length planes.now ≤ length rows.old }
     ensures value { (c : ℕ) → c < length planes.now → slice_index rows.new (at + c) ≡ slice_index planes.now c }
     ensures below { (i : ℕ) → i < at → slice_index rows.new i ≡ slice_index rows.old i }
