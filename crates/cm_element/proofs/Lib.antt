@@ -1,5 +1,6 @@
 mod Columns
 mod Fields
+mod Flagged
 mod Lanes
 mod Laying
 mod Planes

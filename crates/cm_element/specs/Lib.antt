@@ -4,3 +4,4 @@ pub mod Wide
 pub mod Runs
 pub mod Steps
 pub mod Laid
+pub mod Flags

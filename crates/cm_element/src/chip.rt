@@ -7,6 +7,7 @@ ghost use Rattle.cm_model.specs.Processor.{ZERO, NEWS, DAISY, memory_bit, flag};
 ghost use Rattle.cm_model.specs.Instruction.{takes_incoming};
 ghost use Rattle.cm_model.specs.Chip.{IsPlane, processor_at, blank_chip, chip_after, with_memory_bit, with_flag};
 ghost use Rattle.cm_model.specs.Whole.{IsChip};
+ghost use Rattle.cm_element.specs.Flags.{has_flag};
 ghost use Rattle.cm_element.specs.Outputs.{AreOutputs};
 
 pub(crate) mod wide;
@@ -100,6 +101,13 @@ impl Chip {
         ensures whole { IsChip self.now }
     {
         self.flags[usize::from(number.get())]
+    }
+
+    /// Whether a flag is 1 in some processor.
+    pub fn has_flag(&self, number: FlagNo) -> bool
+        ensures value { result ≡ has_flag number self.now }
+    {
+        self.flag_plane(number) != 0
     }
 
     /// Puts a bit into the memory of one processor.

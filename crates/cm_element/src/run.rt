@@ -11,6 +11,7 @@ ghost use Rattle.cm_model.specs.Whole.{IsChip};
 ghost use Rattle.cm_element.specs.Steps.{AreSent};
 
 mod bits;
+mod flags;
 mod lay;
 mod rows;
 mod view;
