@@ -1,8 +1,11 @@
 mod Columns
 mod Fields
+mod Flagged
 mod Lanes
+mod Laying
 mod Planes
 mod Poking
 mod Stepping
+mod Replacing
 mod Storing
 mod Widening

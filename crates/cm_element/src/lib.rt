@@ -8,4 +8,4 @@ mod run;
 pub use chip::{Chip, ZeroFlag};
 pub use cm_bits::NoMemory;
 pub use outputs::Outputs;
-pub use run::{Run, takes_incoming};
+pub use run::{ChipView, Run, takes_incoming};
