@@ -9,6 +9,7 @@ ghost use Rattle.cm_model.specs.Chip.{IsPlane, processor_at, blank_chip, chip_af
 ghost use Rattle.cm_model.specs.Whole.{IsChip};
 ghost use Rattle.cm_element.specs.Outputs.{AreOutputs};
 
+mod planes;
 mod wide;
 
 use crate::outputs::Outputs;
