@@ -6,3 +6,4 @@ mod Searching
 mod Rooms
 mod Machines
 mod Accounts
+mod Building

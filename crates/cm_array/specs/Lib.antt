@@ -3,3 +3,4 @@ pub mod Parts
 pub mod Faults
 pub mod Acts
 pub mod Pokes
+pub mod Building

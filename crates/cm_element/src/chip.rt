@@ -10,6 +10,7 @@ ghost use Rattle.cm_model.specs.Whole.{IsChip};
 ghost use Rattle.cm_element.specs.Flags.{has_flag};
 ghost use Rattle.cm_element.specs.Outputs.{AreOutputs};
 
+mod planes;
 pub(crate) mod wide;
 
 use crate::outputs::Outputs;
