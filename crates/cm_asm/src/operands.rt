@@ -51,7 +51,7 @@ pub fn two_fields(fields: &Fields, mut words: Words) -> Result<(Field, Field), A
     Ok((d, s))
 }
 
-/// The instruction of the words after `nano`.
+/// The instruction of the words after `nano`: nine operands, the first faulty one from left to right is told.
 pub fn read_nano(mut words: Words) -> Result<Nano, AsmKind>
     ensures value { result ≡ nano_of (words_left words.entry) }
 {

@@ -1,4 +1,3 @@
-pub mod NanoLine
 pub mod Take
 pub mod Report
 pub mod Program

@@ -4,7 +4,6 @@
 
 mod fault;
 mod listed;
-mod nano_line;
 mod one_chip;
 mod program;
 mod program_fault;
