@@ -1,0 +1,6 @@
+pub mod Operands
+pub mod Commands
+pub mod Bounds
+pub mod Answer
+pub mod Session
+pub mod Ends
