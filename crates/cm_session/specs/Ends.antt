@@ -1,5 +1,5 @@
 -- How a session ends: what it wrote and the machine that it left, after each of its faults too. Ours.
-use Rattle.std.specs.Prelude.{◌≡◌, ℕ, ◌-◌, ◌<◌, ◌≤◌, ◌⊎◌, Bool, true, false, Option, Some, Result, Ok, Err, List, [], ◌∷◌, ◌++◌, length, take, drop}
+use Rattle.std.specs.Prelude.{◌≡◌, ℕ, ◌+◌, ◌<◌, ◌≤◌, ◌⊎◌, Bool, true, false, Option, Some, Result, Ok, Err, List, [], ◌∷◌, ◌++◌, length, take, drop}
 use Rattle.std.specs.List.{slice_split}
 use Rattle.std.specs.Io.KnownBytes.{Appends, Consumes}
 use Rattle.cm_bits.specs.Text.{is_line_end, lines_of}
@@ -43,16 +43,20 @@ pub record IsAnswered (n cap : ℕ) (acts : List Act) (start : Machine) (held : 
   pub written : Appends held holds (answers n cap start acts lines)
   pub machine_is : machine ≡ left n cap start acts lines
 
--- some of the acts that a line runs are run
-pub record IsAmid (n cap : ℕ) (acts : List Act) (before : Session) (line : List ℕ) (machine : Machine) : Type 0 where
+-- some of the acts are run that stand between two places of a session
+pub record IsAmid (n cap : ℕ) (acts : List Act) (before after : Session) (machine : Machine) : Type 0 where
   pub count : ℕ
-  pub within : count ≤ (after_line n cap acts before line).session.position - before.position
+  pub within : before.position + count ≤ after.position
   pub machine_is : machine ≡ run_of n cap before.machine (take count (drop before.position acts))
+
+-- what was to lead from one to the other has changed nothing, or has come so far
+abbrev pub IsOnTheWay : ℕ → ℕ → List Act → Session → Session → Machine → Type 0
+IsOnTheWay n cap acts before after machine = (machine ≡ before.machine) ⊎ IsAmid n cap acts before after machine
 
 -- the machine before the first of these lines, or in the midst of it
 abbrev pub IsBeforeOrAmid : ℕ → ℕ → List Act → Session → List (List ℕ) → Machine → Type 0
 IsBeforeOrAmid n cap acts before [] machine = machine ≡ before.machine
-IsBeforeOrAmid n cap acts before (line ∷ lines) machine = (machine ≡ before.machine) ⊎ IsAmid n cap acts before line machine
+IsBeforeOrAmid n cap acts before (line ∷ lines) machine = IsOnTheWay n cap acts before (after_line n cap acts before line).session machine
 
 -- so many bytes of the answers to these lines are written; some lines are done, and perhaps some acts of the next
 pub record IsStopped (n cap : ℕ) (acts : List Act) (start : Machine) (held : Option (List ℕ)) (lines : List (List ℕ)) (machine : Machine)

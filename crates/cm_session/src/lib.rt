@@ -5,6 +5,10 @@
 
 mod command;
 mod fault;
+mod laws;
 
 pub use command::{Command, Refusal};
 pub use fault::SessionFault;
+pub use laws::{
+    lines_can_be_parted, sessions_never_go_back, stretches_are_answered_alike, texts_can_be_parted,
+};
