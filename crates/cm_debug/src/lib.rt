@@ -1,0 +1,4 @@
+//! Debugger sessions over any runner, any source of commands and any sink of answers.
+#![tactic(auto)]
+
+mod reader;

@@ -1,0 +1,4 @@
+mod Clocks
+pub mod Stretching
+pub mod Lines
+mod StandardFacts

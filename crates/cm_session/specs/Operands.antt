@@ -1,0 +1,49 @@
+-- The operands of a session's commands, and the order in which they are judged: ours.
+use Rattle.std.specs.Prelude.{ℕ, ◌^◌, ◌==◌, Bool, nat_lt, if◌then◌else◌, Option, Some, None, Result, Ok, Err, List}
+use Rattle.std.specs.Option.{ok_or}
+use Rattle.cm_bits.specs.Span.{Span}
+use Rattle.cm_bits.specs.Text.{number_of}
+use Rattle.cm_bits.specs.declared.field.FieldFault.{FieldFault}
+use Rattle.cm_bits.specs.declared.field.FieldFault.TheVariants as field
+use Rattle.cm_bits.specs.declared.place.Place.{Place}
+use Rattle.cm_model.specs.Processor.{ZERO}
+use Rattle.cm_session.specs.declared.command.Refusal.{Refusal}
+use Rattle.cm_session.specs.declared.command.Refusal.TheVariants.{Width, Range, ZeroFlag, Number}
+
+-- what comes after, unless a fault came before
+infixl 10 ◌>>=◌
+abbrev pub ◌>>=◌ : {A B : Type 0} → Result A Refusal → (A → Result B Refusal) → Result B Refusal
+(Ok x) >>= f = f x
+(Err refusal) >>= f = Err refusal
+
+-- ---- one operand
+
+-- the number that a word writes
+abbrev pub number : List ℕ → Result ℕ Refusal
+number word = ok_or (number_of word) Number
+
+-- a number below a limit
+abbrev pub below : ℕ → ℕ → Result ℕ Refusal
+below limit x = if nat_lt x limit then Ok x else Err Range
+
+-- a bit
+abbrev pub one_bit : ℕ → Result Bool Refusal
+one_bit b = below 2 b >>= λ b'. Ok (b' == 1)
+
+-- a place of a cube of n dimensions: its chip is judged first
+abbrev pub place : ℕ → ℕ → ℕ → Result Place Refusal
+place n c p = below (2 ^ n) c >>= λ c'. below 16 p >>= λ p'. Ok (record { chip = c'; proc = p' })
+
+-- a field's fault as that of a line
+abbrev pub refusal_of_field : FieldFault → Refusal
+refusal_of_field field.Width = Width
+refusal_of_field field.Range = Range
+
+-- the field of an address and a length, unless it has a fault
+abbrev pub field_unless : ℕ → ℕ → Option FieldFault → Result Span Refusal
+field_unless at len (Some fault) = Err (refusal_of_field fault)
+field_unless at len None = Ok (record { at = at; len = len })
+
+-- a flag that a bit can be put into
+abbrev pub pokeable : ℕ → Result ℕ Refusal
+pokeable f = if f == ZERO then Err ZeroFlag else Ok f

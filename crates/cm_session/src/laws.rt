@@ -1,0 +1,24 @@
+//! Laws over the definitions: what each function is named for holds, for every session.
+
+ghost use Rattle.cm_session.specs.Stretches.{StretchesAreAnsweredAlike};
+ghost use Rattle.cm_session.specs.Laws.{LinesCanBeParted, TextsCanBeParted, SessionsNeverGoBack};
+
+/// Acts that are run at once are answered as they are one after another.
+pub fn stretches_are_answered_alike()
+    ensures { StretchesAreAnsweredAlike }
+{}
+
+/// Lines in two parts are answered as they are in one.
+pub fn lines_can_be_parted()
+    ensures { LinesCanBeParted }
+{}
+
+/// The lines of a text are those whose end stands in its front, and others after them.
+pub fn texts_can_be_parted()
+    ensures { TextsCanBeParted }
+{}
+
+/// Acts only bring the position forward.
+pub fn sessions_never_go_back()
+    ensures { SessionsNeverGoBack }
+{}

@@ -1,0 +1,14 @@
+//! Debugger sessions: what each command does and what is answered to it, one act after another, as
+//! definitions with laws over them. It is definitions, the small types that they speak of, and proofs;
+//! what reads commands and answers them stands in another crate.
+#![tactic(auto)]
+
+mod command;
+mod fault;
+mod laws;
+
+pub use command::{Command, Refusal};
+pub use fault::SessionFault;
+pub use laws::{
+    lines_can_be_parted, sessions_never_go_back, stretches_are_answered_alike, texts_can_be_parted,
+};
