@@ -1,5 +1,6 @@
 -- The image of a machine: its text, and what bytes are read as. Ours.
-use Rattle.std.specs.Prelude.{ℕ, ◌^◌, ◌==◌, ◌&&◌, ◌||◌, not, Bool, false, List, [], ◌∷◌, ◌++◌, map, fold, Option, Result, Ok, Err, if◌then◌else◌}
+use Rattle.std.specs.Prelude.{ℕ, ◌^◌, ◌==◌, ◌&&◌, ◌||◌, not, Bool, false, List, [], ◌∷◌, ◌++◌, map, fold, Option}
+use Rattle.std.specs.Prelude.{Result, Ok, Err, if◌then◌else◌}
 use Rattle.std.specs.List.{flat_map, filter, list_any}
 use Rattle.std.specs.Int.{w64}
 use Rattle.cm_bits.specs.Bit.{bit}
@@ -14,7 +15,8 @@ use Rattle.cm_message.specs.Bytes.{number}
 use Rattle.cm_image_format.specs.declared.fault.ImageFault.{ImageFault}
 use Rattle.cm_image_format.specs.declared.fault.ImageFault.TheVariants.{TagTwice, Extra}
 use Rattle.cm_image_format.specs.Reading.{Read, ◌>>=◌, followed, ◌⨾◌, made, many, fault_in}
-use Rattle.cm_image_format.specs.Image.{Listed, ChipImage, is_dimension, is_room, shape_text, shape_part, clock_part, chip_text, chip_part}
+use Rattle.cm_image_format.specs.Image.{Listed, ChipImage, is_dimension, is_room, shape_text, shape_part, clock_part}
+use Rattle.cm_image_format.specs.Image.{chip_text, chip_part}
 
 -- ---- a chip
 
@@ -64,7 +66,10 @@ pub record Image : Type 0 where
   pub chips : List ChipImage
 
 abbrev pub image_of : ℕ → Machine → Image
-image_of n machine = record { clock = machine.clock; chips = each_chip n (λ c. image_of_chip (chip_at machine.chips c) (list_at machine.buffers c)) }
+image_of n machine = record {
+  clock = machine.clock;
+  chips = each_chip n (λ c. image_of_chip (chip_at machine.chips c) (list_at machine.buffers c));
+}
 
 unfoldable pub image_text : ℕ → ℕ → Image → List ℕ
 image_text n cap image = shape_text n cap ++ (number w64 image.clock ++ flat_map chip_text image.chips)
