@@ -135,8 +135,7 @@ counts : (n cap : ℕ) (image : Image) → IsImage n cap image → (length (mach
 unfolding machine_from
 counts n cap image is = (
   length-map image.chips chip_from ∙ is.count,
-  length-map image.chips (λ (chip : ChipImage). chip.messages)
-      ∙ is.count,
+  length-map image.chips (λ (chip : ChipImage). chip.messages) ∙ is.count,
   length-map image.chips (λ (chip : ChipImage). []) ∙ is.count,
 )
 
