@@ -148,7 +148,8 @@ too_big_before base value i ds low inside same big =
 pub words_in-after_blanks : (text : List ℕ) (b n : ℕ) → b ≡ prefix_len is_blank text → b ≤ length text
     → n ≡ position_or_len is_blank (take (length text - b) (drop b text))
     → n ≤ length (take (length text - b) (drop b text)) → 0 < n
-    → words_in text ≡ take n (take (length text - b) (drop b text)) ∷ words_in
+    → words_in text ≡ take n (take (length text - b) (drop b text))
+    ∷ words_in
     (take (length (take (length text - b) (drop b text)) - n) (drop n (take (length text - b) (drop b text))))
 words_in-after_blanks text b n e within f inside some =
     let whole : take (length text - b) (drop b text) ≡ drop b text = grind (arith, common_steps) in
@@ -167,8 +168,9 @@ words_in-after_blanks text b n e within f inside some =
 
 -- and where there is no word
 pub words_in-all_blank : (text : List ℕ) (b n : ℕ) → b ≡ prefix_len is_blank text → b ≤ length text
-    → n ≡ position_or_len is_blank (take (length text - b) (drop b text))
-    → n ≤ 0 → (words_in text ≡ []) × (words_in
+    → n ≡ position_or_len is_blank (take (length text - b) (drop b text)) → n ≤ 0
+    → (words_in text ≡ [])
+    × (words_in
     (take (length (take (length text - b) (drop b text)) - n) (drop n (take (length text - b) (drop b text)))) ≡ [])
 words_in-all_blank text b n e within f none =
     let whole : take (length text - b) (drop b text) ≡ drop b text = grind (arith, common_steps) in

@@ -39,4 +39,5 @@ TextsAreApart =
 abbrev pub TextsHaveNoFault : Type 0
 TextsHaveNoFault =
     (n cap : ℕ) (bytes : List ℕ) → AreBytes bytes
-    → (image_fault n cap bytes ≡ None) ↔ ((machine : Machine) × (IsStored n cap machine × (bytes ≡ text_of n cap machine)))
+    → (image_fault n cap bytes ≡ None)
+    ↔ ((machine : Machine) × (IsStored n cap machine × (bytes ≡ text_of n cap machine)))

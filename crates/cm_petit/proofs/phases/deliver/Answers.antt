@@ -9,8 +9,8 @@ pub deliver-requires-clause-room : goal.deliver-requires-clause-room
 deliver-requires-clause-room g c =
     let here = c.loop-c in
     let below : here.c < 2 ^ g.row.N = omega (arith, c.requires.routers.chip_count) in
-    room_to_deliver g.row.N g.row.CAP c.args.chips.now c.args.crossing.now.buffers c.args.logs.now here.chips
-    here.crossing.buffers here.logs here.c c.index-logs-c.result
+    room_to_deliver g.row.N g.row.CAP c.args.chips.now c.args.crossing.now.buffers c.args.logs.now
+    here.chips here.crossing.buffers here.logs here.c c.index-logs-c.result
     c.requires.routers c.requires.log_room below (omega (arith, here.auto.logs, c.requires.routers.log_count))
     c.index-logs-c.is (c.index-logs-c.result.ok.1) here.invariant.delivered
 
@@ -26,12 +26,12 @@ loop-c-preserved g c =
     let longer = rw (← c.index-logs-c.is) at c.deliver.ensures.told in
     let kept = rw (← c.index-logs-c.is) at c.deliver.ensures.log_room in
     record {
-      delivered = rw value (delivered_more g.row.N g.row.CAP c.args.chips.now c.args.crossing.now.buffers
-          c.args.logs.now here.chips here.crossing.buffers here.logs i
-          c.index-chips-c.result c.deliver.new.chip ms
-          (kept_of ms c.index-chips-c.result) c.index-logs-c.result c.deliver.new.log
-          c.requires.routers below
-          (omega (arith, here.auto.logs, c.requires.routers.log_count)) c.index-chips-c.is refl c.index-logs-c.is
+      delivered = rw value (delivered_more g.row.N g.row.CAP
+          c.args.chips.now c.args.crossing.now.buffers c.args.logs.now here.chips here.crossing.buffers here.logs i
+          c.index-chips-c.result c.deliver.new.chip ms (kept_of ms c.index-chips-c.result)
+          c.index-logs-c.result c.deliver.new.log
+          c.requires.routers below (omega (arith, here.auto.logs, c.requires.routers.log_count))
+          c.index-chips-c.is refl c.index-logs-c.is
           chip_is refl log_is longer kept here.invariant.delivered);
       within = c.deliver.ensures.within;
     }
