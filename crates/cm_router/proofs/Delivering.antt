@@ -162,7 +162,7 @@ keeps before seen chip m gone refused =
 
 -- ---- the beginning
 
-nobody_yet : (chip : List Processor) → IsChip chip → chip ≡ chip_after_delivery [] chip
+pub nobody_yet : (chip : List Processor) → IsChip chip → chip ≡ chip_after_delivery [] chip
 unfolding chip_after_delivery
 nobody_yet chip whole = is_each no_processor 16 (λ p. processor_at chip p) chip whole.count (λ p h. refl)
 

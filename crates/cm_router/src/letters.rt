@@ -128,7 +128,7 @@ fn field_value(chip: &Chip, proc: Proc, at: u16, len: u16) -> u64
     chip.field(proc, Field::new(at, len).unwrap())
 }
 
-fn payload_field() -> Field
+pub(crate) fn payload_field() -> Field
     ensures at { result.at ≡ RECEIVED_PAYLOAD }
     ensures len { result.len ≡ 32 }
 {
