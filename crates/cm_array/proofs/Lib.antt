@@ -7,3 +7,4 @@ mod Rooms
 mod Machines
 mod Accounts
 mod Building
+mod Tagging

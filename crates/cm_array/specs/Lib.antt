@@ -4,3 +4,4 @@ pub mod Faults
 pub mod Acts
 pub mod Pokes
 pub mod Building
+pub mod Tags

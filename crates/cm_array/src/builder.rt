@@ -1,6 +1,6 @@
 //! A machine that is built of planes and messages.
 
-ghost use Rattle.std.specs.Prelude.{◌≡◌, ◌≢◌, ◌^◌, ◌<◌, IfOk, IfErr, IfSome, IsErrOf, IsOk, IsOkUnless, None, Some, length};
+ghost use Rattle.std.specs.Prelude.{◌≡◌, ◌≢◌, ◌^◌, ◌<◌, ◌≤◌, ◌↔◌, IfOk, IfErr, IfSome, IsErrOf, IsOk, IsOkUnless, IsTrue, None, Some, length};
 ghost use Rattle.cm_model.specs.Processor.{ZERO};
 ghost use Rattle.cm_model.specs.Array.{list_at};
 ghost use Rattle.cm_model.specs.Machine.{blank_machine};
@@ -11,7 +11,8 @@ ghost use Rattle.cm_array.specs.Pokes.{machine_with_plane, machine_with_flag_pla
 
 use crate::machine::{Machine, MachineFault};
 use crate::parts::Parts;
-use cm_bits::{Addr, FlagNo, Plane};
+use crate::tags::has_tag_twice;
+use cm_bits::{Addr, FlagNo, NoMemory, Plane};
 use cm_message::Message;
 use std::alloc::Global;
 use std::marker::Model;
@@ -47,6 +48,17 @@ impl<const N: usize, const CAP: usize> Model for Builder<N, CAP> {
     ghost invariant = { λ builder. AreUnfinished N CAP builder.parts };
 }
 
+impl From<NoMemory> for BuildFault {
+    ghost use Rattle.std.specs.Prelude.{◌≡◌};
+    ghost use Rattle.cm_array.specs.declared.builder.BuildFault.TheVariants.{Memory};
+
+    ghost from_gives = { λ _ fault. fault ≡ Memory };
+
+    fn from(_: NoMemory) -> BuildFault {
+        BuildFault::Memory
+    }
+}
+
 impl<const N: usize, const CAP: usize> Builder<N, CAP> {
     /// Begins with all bits and flags 0 and no message, at this count of petit cycles.
     pub fn start(alloc: Global, clock: u64) -> Result<Self, MachineFault>
@@ -59,6 +71,22 @@ impl<const N: usize, const CAP: usize> Builder<N, CAP> {
         let machine = Machine::<N, CAP>::blank_at(alloc, clock)?;
         let parts = machine.into_parts();
         Ok(Builder { parts })
+    }
+
+    /// Petit cycles so far, before which each message has to be born.
+    pub fn clock(&self) -> u64
+        ensures value { result ≡ self.now.clock }
+        ensures within { result < 2 ^ 63 }
+    {
+        self.parts.clock
+    }
+
+    /// Whether a chip's router has no room for another message.
+    pub fn is_full(&self, chip: u16) -> bool
+        requires chip { chip < 2 ^ N }
+        ensures value { IsTrue result ↔ (CAP ≤ length (list_at self.now.buffers chip)) }
+    {
+        self.parts.nodes[usize::from(chip)].is_full()
     }
 
     /// Puts a plane at an address of a chip: bit p is that of processor p.
@@ -89,15 +117,28 @@ impl<const N: usize, const CAP: usize> Builder<N, CAP> {
         requires born { message.tag.birth < self.old.clock }
         ensures value { self.new ≡ machine_with_message self.old chip message }
     {
-        read::<N>(&message);
+        look_at::<N>(&message);
         let node = &mut self.parts.nodes[usize::from(chip)];
         node.arrive(message);
+    }
+
+    /// The machine that was built, if no two of its messages have one tag.
+    pub fn done(self) -> Result<Machine<N, CAP>, BuildFault>
+        ensures value { IfOk result (λ kept. kept.machine ≡ self.entry) }
+        ensures ok { IsOk result → build_fault self.entry ≡ None }
+        ensures refused { IfErr result (λ fault. fault ≢ BuildFault.Memory → build_fault self.entry ≡ Some fault) }
+    {
+        let alloc = *self.parts.nodes.allocator();
+        if has_tag_twice(alloc, &self.parts.nodes)? {
+            return Err(BuildFault::TagTwice);
+        }
+        Ok(Machine::of_parts(self.parts))
     }
 }
 
 /// Nothing is done: a message between chips of the cube is one of the cube, since its other numbers cannot be
 /// out of range.
-fn read<const N: usize>(message: &Message)
+fn look_at<const N: usize>(message: &Message)
     requires rel { message.now.rel < 2 ^ N }
     requires origin { message.now.tag.chip < 2 ^ N }
     ensures message { IsMessage N message.now }

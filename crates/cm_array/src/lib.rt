@@ -7,6 +7,7 @@ mod machine;
 mod parts;
 mod runner;
 mod stepping;
+mod tags;
 
 pub use builder::{BuildFault, Builder};
 pub use machine::{Machine, MachineFault};

@@ -9,6 +9,8 @@ invariant_of-self g c =
     let parts = c.self.inside.parts in
     let below : c.from.result < 2 ^ g.row.N = omega arith in
     let was : IsChip c.index_mut-changed.result.now =
-    unfinished_chip_is_whole g.row.N g.row.CAP parts c.from.result c.index_mut-changed.result.now c.self.invariant below c.index_mut-changed.ensures.value in
+    unfinished_chip_is_whole g.row.N g.row.CAP parts c.from.result c.index_mut-changed.result.now c.self.invariant
+    below c.index_mut-changed.ensures.value in
     AreUnfinished-with_chip g.row.N g.row.CAP parts c.from.result c.poke_flag_plane.new.self
-    (IsChip-put_flag_plane c.index_mut-changed.result.now c.poke_flag_plane.new.self _ _ c.poke_flag_plane.ensures.value c.requires.other was) c.self.invariant
+    (IsChip-put_flag_plane c.index_mut-changed.result.now c.poke_flag_plane.new.self _ _
+    c.poke_flag_plane.ensures.value c.requires.other was) c.self.invariant

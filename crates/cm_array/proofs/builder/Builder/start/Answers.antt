@@ -1,4 +1,4 @@
-use Rattle.std.proofs.Common.{sym, ap, ◌∙◌}
+use Rattle.std.proofs.Common.{ap, ◌∙◌}
 use Rattle.cm_array.specs.Parts.{Kept}
 use Rattle.cm_array.proofs.Building.{AreUnfinished-blank}
 use Rattle.cm_array.proofs.builder.Builder.start.Goals as goal
