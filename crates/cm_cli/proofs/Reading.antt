@@ -1,15 +1,14 @@
 -- Reading a program line by line.
-use Rattle.std.proofs.Common.{◌≡◌, ℕ, Bool, true, false, ◌==◌, if◌then◌else◌, nat_lt, bytes_eq, codes, ◌+◌, ◌-◌, ◌≤◌, suc, take, drop, drop-drop, take-add, length-drop, append-nil, Option, Some, None, Result, Ok, Err, List, [], ◌∷◌, ◌++◌, length, refl, sym, ap, subst, ◌∙◌, arith, append_assoc}
+use Rattle.std.proofs.Common.{◌≡◌, ℕ, ◌+◌, ◌-◌, ◌≤◌, suc, take, drop, drop-drop, take-add, length-drop, append-nil, Option, Some, None, Result, Ok, Err, List, [], ◌∷◌, ◌++◌, length, refl, sym, ap, ◌∙◌, arith, append_assoc}
 use Rattle.std.specs.List.{slice_split}
 use Rattle.std.proofs.lemmas.List.Splits.{length-slice_split}
 use Rattle.std.proofs.lemmas.List.Sums.{count_by-le-length}
-use Rattle.cm_bits.specs.Text.{lines_of, is_line_end, without_empty_last, words_of, number_of}
+use Rattle.cm_bits.specs.Text.{lines_of, is_line_end, without_empty_last, words_of}
 use Rattle.cm_model.specs.declared.act.Nano.{Nano}
 use Rattle.cm_language.specs.declared.fault.AsmKind.{AsmKind}
 use Rattle.cm_language.specs.declared.fault.AsmKind.TheVariants as kind
 use Rattle.cm_language.specs.declared.fault.AsmFault.{AsmFault}
-use Rattle.cm_language.specs.Lines.{◌>>=◌, number_below, operand_of, sense_of, direction_of, nano_of_nine, nano_of}
-use Rattle.cm_language.specs.Program.{MatchKind}
+use Rattle.cm_language.specs.Program.{MatchKind, IsOwnFault}
 use Rattle.cm_cli.specs.Program.{nanos_of_lines, instruction_of, with_line, program_of, IsAcceptedThrough, IsFaultOf}
 
 -- instructions before those that were read
@@ -119,69 +118,24 @@ accepted_through text i nanos nano before here = record {
   here = here;
 }
 
--- ---- a line's own faults, of which want of memory is none
-
--- what was read is told with no fault but its own
-abbrev IsOwn : {A : Type 0} → Result A AsmKind → Type 0
-IsOwn (Ok x) = Unit {0}
-IsOwn (Err kind) = MatchKind kind ⊥ (Unit {0})
-
-own_if : {A : Type 0} (b : Bool) (x y : Result A AsmKind) → IsOwn x → IsOwn y → IsOwn (if b then x else y)
-own_if true x y p q = p
-own_if false x y p q = q
-
-own_then : {A B : Type 0} (read : Result A AsmKind) (next : A → Result B AsmKind) → IsOwn read → ((x : A) → IsOwn (next x)) → IsOwn (read >>= next)
-own_then (Ok x) next own after = after x
-own_then (Err kind) next own after = own
-
-own_below : (limit : ℕ) (number : Option ℕ) → IsOwn (number_below limit number)
-own_below limit None = tt
-own_below limit (Some n) = own_if (nat_lt n limit) (Ok n) (Err kind.Number) tt tt
-
-own_operand : (limit : ℕ) (word : List ℕ) → IsOwn (operand_of limit word)
-own_operand limit word = own_below limit (number_of word)
-
-own_sense : (word : List ℕ) → IsOwn (sense_of word)
-own_sense word = own_then (operand_of 2 word) (λ n. Ok (n == 1)) (own_operand 2 word) (λ n. tt)
-
-own_direction : (word : List ℕ) → IsOwn (direction_of word)
-own_direction word =
-    own_if (bytes_eq word (codes "n")) _ _ tt (own_if (bytes_eq word (codes "e")) _ _ tt
-    (own_if (bytes_eq word (codes "w")) _ _ tt (own_if (bytes_eq word (codes "s")) _ _ tt tt)))
-
-own_nine : (a b read write cond sense mem_table flag_table dir : List ℕ) → IsOwn (nano_of_nine a b read write cond sense mem_table flag_table dir)
-own_nine a b read write cond sense mem_table flag_table dir =
-    own_then _ _ (own_operand 4096 a) (λ a'. own_then _ _ (own_operand 4096 b) (λ b'.
-    own_then _ _ (own_operand 16 read) (λ read'. own_then _ _ (own_operand 16 write) (λ write'.
-    own_then _ _ (own_operand 16 cond) (λ cond'. own_then _ _ (own_sense sense) (λ sense'.
-    own_then _ _ (own_operand 256 mem_table) (λ mem'. own_then _ _ (own_operand 256 flag_table) (λ flag'.
-    own_then _ _ (own_direction dir) (λ dir'. tt)))))))))
-
-own_nano : (operands : List (List ℕ)) → IsOwn (nano_of operands)
-own_nano (a ∷ b ∷ read ∷ write ∷ cond ∷ sense ∷ mem_table ∷ flag_table ∷ dir ∷ []) = own_nine a b read write cond sense mem_table flag_table dir
-own_nano _ = tt
-
-own_instruction : (words : List (List ℕ)) → IsOwn (instruction_of words)
-own_instruction [] = tt
-own_instruction (word ∷ operands) = own_if (bytes_eq word (codes "nano")) _ _ (own_then (nano_of operands) (λ nano. Ok (Some nano)) (own_nano operands) (λ nano. tt)) tt
-
-own_kind : (k : AsmKind) (W P : Type 0) → MatchKind k ⊥ (Unit {0}) → P → MatchKind k W P
-own_kind kind.Memory W P own p = absurd own
-own_kind kind.Width W P own p = p
-own_kind kind.Range W P own p = p
-own_kind kind.Overlap W P own p = p
-own_kind kind.Lengths W P own p = p
-own_kind kind.Scratch W P own p = p
-own_kind kind.Context W P own p = p
-own_kind kind.Word W P own p = p
-own_kind kind.Operands W P own p = p
-own_kind kind.Number W P own p = p
-own_kind kind.Name W P own p = p
-own_kind kind.Twice W P own p = p
-own_kind kind.TooLong W P own p = p
+-- a line's own fault is told as it is
+told_as_it_is : (k : AsmKind) (W P : Type 0) → IsOwnFault k → P → MatchKind k W P
+told_as_it_is kind.Memory W P own p = absurd own
+told_as_it_is kind.Width W P own p = p
+told_as_it_is kind.Range W P own p = p
+told_as_it_is kind.Overlap W P own p = p
+told_as_it_is kind.Lengths W P own p = p
+told_as_it_is kind.Scratch W P own p = p
+told_as_it_is kind.Context W P own p = p
+told_as_it_is kind.Word W P own p = p
+told_as_it_is kind.Operands W P own p = p
+told_as_it_is kind.Number W P own p = p
+told_as_it_is kind.Name W P own p = p
+told_as_it_is kind.Twice W P own p = p
+told_as_it_is kind.TooLong W P own p = p
 
 -- a line that is refused is told whatever its fault
-pub refused_at : (text : List ℕ) (line : ℕ) (words : List (List ℕ)) (kind : AsmKind) → instruction_of words ≡ Err kind
+pub refused_at : (text : List ℕ) (line : ℕ) (kind : AsmKind) → IsOwnFault kind
     → program_of text ≡ Err (record { line = line; kind = kind }) → IsFaultOf text (record { line = line; kind = kind })
-refused_at text line words kind is read =
-    own_kind kind (IsAcceptedThrough text line) (program_of text ≡ Err (record { line = line; kind = kind })) (subst (λ (read : Result (Option Nano) AsmKind). IsOwn read) is (own_instruction words)) read
+refused_at text line kind own read =
+    told_as_it_is kind (IsAcceptedThrough text line) (program_of text ≡ Err (record { line = line; kind = kind })) own read

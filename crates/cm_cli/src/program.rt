@@ -1,7 +1,8 @@
 //! Program texts for one chip.
 
-ghost use Rattle.std.specs.Prelude.{◌≡◌, ◌<◌, ◌^◌, length, Ok, MatchResult};
+ghost use Rattle.std.specs.Prelude.{◌≡◌, ◌<◌, ◌^◌, length, Ok, IfErr, MatchResult};
 ghost use Rattle.cm_bits.specs.Text.{words_of};
+ghost use Rattle.cm_language.specs.Program.{IsOwnFault};
 ghost use Rattle.cm_cli.specs.Program.{instruction_of, program_of, IsFaultOf};
 
 use cm_asm::read_nano;
@@ -38,6 +39,7 @@ pub fn read_program(alloc: Global, text: &[u8]) -> Result<Vec<Nano>, AsmFault>
 /// The instruction of a line, none where the line is blank.
 fn read_line(line: &[u8]) -> Result<Option<Nano>, AsmKind>
     ensures value { result ≡ instruction_of (words_of line.now) }
+    ensures own { IfErr result IsOwnFault }
 {
     let mut words = Words::new(line);
     let Some(name) = words.next() else {

@@ -1,5 +1,5 @@
 use Rattle.std.proofs.Common.{◌≡◌, ◌+◌, Ok, List, [], ◌∷◌, ◌++◌, length, take, sym, ap, ◌∙◌, arith, append-nil, rules}
-use Rattle.cm_bits.specs.Text.{lines_left, lines_of, words_of}
+use Rattle.cm_bits.specs.Text.{lines_left, lines_of}
 use Rattle.cm_model.specs.declared.act.Nano.{Nano}
 use Rattle.cm_cli.specs.Program.{program_of, nanos_of_lines}
 use Rattle.cm_cli.proofs.Reading.{none_before, few_lines, read_blank, read_instruction, read_fault, next_line, read_on_blank, read_on_instruction, accepted_through, refused_at}
@@ -52,8 +52,7 @@ pub returns-in-Err : goal.returns-in-Err
 returns-in-Err c =
     let steps = c.in-Some.ensures.steps in
     record {
-      value = refused_at c.args.text.now (c.loop-bytes.line + 1) (words_of c.in-Some.bytes.now) c.in-Err.kind
-          (sym c.read_line.ensures.value ∙ c.in-Err.is)
+      value = refused_at c.args.text.now (c.loop-bytes.line + 1) c.in-Err.kind c.in-Err.ensures.own
           (sym (rw steps at c.loop-bytes.invariant.read)
           ∙ read_fault c.loop-bytes.nanos.items (c.loop-bytes.line + 1) c.in-Some.bytes.now (lines_left c.next.new.self) c.in-Err.kind
           (sym c.read_line.ensures.value ∙ c.in-Err.is));
