@@ -11,7 +11,8 @@ use Rattle.cm_model.specs.Each.{each_from}
 use Rattle.cm_language.specs.declared.macros.Context.{Context}
 use Rattle.cm_language.specs.declared.macros.Context.TheVariants.{Always, On, Off}
 use Rattle.cm_language.specs.Acts.{nano, cond_of, set_flag, clear_flag, each_bit, number_bits, product_round, above, lowest}
-use Rattle.cm_language.proofs.ProgramParts.{IsInstruction, AreProgramActs, HasFlag}
+use Rattle.cm_language.specs.Whole.{IsInstruction, AreProgramActs}
+use Rattle.cm_language.proofs.ProgramParts.{HasFlag}
 
 -- ---- lists of instructions
 

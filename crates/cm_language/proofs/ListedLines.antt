@@ -18,7 +18,7 @@ use Rattle.cm_language.specs.Names.{NamedField, is_name, field_named}
 use Rattle.cm_language.specs.Lines.{◌>>=◌, number_below, operand_of, sense_of, direction_of, nano_of, new_name, field_unless, definition_of}
 use Rattle.cm_language.specs.Listing.{table_word, direction_word, act_words, field_words}
 use Rattle.cm_language.specs.Program.{Reading, after_statement, after_words, with_acts}
-use Rattle.cm_language.proofs.ProgramParts.{IsInstruction, IsProgramAct, IsNext}
+use Rattle.cm_language.specs.Whole.{IsInstruction, IsProgramAct, IsNext}
 use Rattle.cm_language.proofs.Numerals.{number_of-decimal, number_of-table_word}
 
 -- ---- operands

@@ -9,9 +9,10 @@ use Rattle.cm_language.specs.declared.macros.Context.{Context}
 use Rattle.cm_language.specs.declared.fault.AsmKind.{AsmKind}
 use Rattle.cm_language.specs.declared.fault.AsmKind.TheVariants as kind
 use Rattle.cm_language.specs.Names.{NamedField}
+use Rattle.cm_language.specs.Laws.{ProgramsAreListed}
 use Rattle.cm_language.specs.Listing.{spaced, act_words, field_words, field_line, act_line, act_lines, listing}
-use Rattle.cm_language.specs.Program.{MOST_ACTS, Reading, ProgramText, nothing_read, within_length, after_words, unless_faulty, after_lines, program_read, program_of}
-use Rattle.cm_language.proofs.ProgramParts.{IsProgramAct, AreProgramActs, AreNext}
+use Rattle.cm_language.specs.Program.{MOST_ACTS, Reading, nothing_read, within_length, after_words, unless_faulty, after_lines, program_read, program_of}
+use Rattle.cm_language.specs.Whole.{IsProgramAct, AreProgramActs, AreNext}
 use Rattle.cm_language.proofs.Numerals.{word-decimal}
 use Rattle.cm_language.proofs.Spaced.{NonePass, plain_spared, spaced_spared, spares_line_end, words_of-spaced, words_of-commented, lines_of-first}
 use Rattle.cm_language.proofs.ListedLines.{after_words-act, after_words-field}
@@ -103,10 +104,8 @@ all_read fields context (defined ∷ later) acts n next are few =
     ∙ all_read (fields ++ defined ∷ []) context later acts (n + 1) next.1 are few
     ∙ ap (λ (all : List NamedField). Ok (reading all context acts)) (append_assoc fields (defined ∷ []) later)
 
--- a program whose fields and acts are such is what its listing tells
-pub program_of-listing : (program : ProgramText) → AreNext [] program.fields → AreProgramActs program.acts
-    → length program.acts ≤ MOST_ACTS
-    → program_of (listing program) ≡ Ok program
+-- a program that is made so is what its listing tells
+pub programs_are_listed : ProgramsAreListed
 unfolding program_of listing
-program_of-listing program next are few =
-    ap program_read (all_read [] nothing_read.context program.fields program.acts 1 next are few)
+programs_are_listed program is =
+    ap program_read (all_read [] nothing_read.context program.fields program.acts 1 is.fields is.acts is.few)

@@ -12,7 +12,7 @@ use Rattle.cm_model.specs.declared.act.Act.{Act}
 use Rattle.cm_model.specs.declared.act.Act.TheVariants as act
 use Rattle.cm_language.specs.Names.{NamedField, is_name_byte, is_name}
 use Rattle.cm_language.specs.Listing.{hex_digit, table_word, direction_word, act_words, field_words}
-use Rattle.cm_language.proofs.ProgramParts.{IsProgramAct, IsNext}
+use Rattle.cm_language.specs.Whole.{IsProgramAct, IsNext}
 use Rattle.cm_language.proofs.Numerals.{IsPlain, ArePlain, IsWord, word-decimal}
 use Rattle.cm_language.proofs.Spaced.{AreWords}
 

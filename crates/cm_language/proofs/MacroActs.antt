@@ -8,7 +8,8 @@ use Rattle.cm_language.specs.declared.macros.Context.{Context}
 use Rattle.cm_language.specs.Acts.{nanos, acts_of, clear_flag, each_bit, number_bits, product, product_round}
 use Rattle.cm_language.specs.Faults.{misfits, lengths_differ, first_fault}
 use Rattle.cm_language.specs.Laws.{HasFields}
-use Rattle.cm_language.proofs.ProgramParts.{AreProgramActs, HasFlag, NamesFlags}
+use Rattle.cm_language.specs.Whole.{AreProgramActs}
+use Rattle.cm_language.proofs.ProgramParts.{HasFlag, NamesFlags}
 use Rattle.cm_language.proofs.AllMacros.{accepted}
 use Rattle.cm_language.proofs.Instructions.{AreInstructions, as_acts, are-append, are-flat_map, is_set, is_clear, are_bits, are_number_bits, are_round, AreSmall, small_by_test}
 

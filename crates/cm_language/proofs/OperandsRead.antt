@@ -13,7 +13,8 @@ use Rattle.cm_language.specs.declared.fault.AsmKind.TheVariants.{Number, Name}
 use Rattle.cm_language.specs.Laws.{HasFields}
 use Rattle.cm_language.specs.Names.{NamedField, field_named}
 use Rattle.cm_language.specs.Lines.{◌>>=◌, number_below, operand_of, number_operand, sense_of, direction_of, field_operand, flag_operand, one_field, two_fields, choice_of, constant_of, product_of, nano_of}
-use Rattle.cm_language.proofs.ProgramParts.{IsInstruction, IsProgramAct, AreFields, HasFlag, NamesFlags}
+use Rattle.cm_language.specs.Whole.{IsInstruction, IsProgramAct}
+use Rattle.cm_language.proofs.ProgramParts.{AreFields, HasFlag, NamesFlags}
 
 -- what a line may say
 abbrev pub IsSaid : Statement → Type 0

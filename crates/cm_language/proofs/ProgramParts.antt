@@ -1,50 +1,15 @@
--- What the fields and acts of a program are, whatever text it was read from.
-use Rattle.std.proofs.Common.{◌≡◌, ◌<◌, true, None, List, [], ◌∷◌, ◌++◌, sym, subst, append_assoc, append-nil}
+-- More on what programs are made of, for the proofs.
+use Rattle.std.proofs.Common.{◌<◌, List, [], ◌∷◌, ◌++◌, sym, subst, append_assoc, append-nil}
 use Rattle.cm_bits.specs.Span.{IsField}
-use Rattle.cm_model.specs.declared.act.Nano.{Nano}
 use Rattle.cm_model.specs.declared.act.Act.{Act}
-use Rattle.cm_model.specs.declared.act.Act.TheVariants as act
 use Rattle.cm_language.specs.declared.macros.Macro.{Macro}
 use Rattle.cm_language.specs.declared.macros.Macro.TheVariants.{Add, Sub, Less, Equal, Move, Select, Const, Shift, Mul, Set, Clear}
 use Rattle.cm_language.specs.declared.macros.Context.{Context}
 use Rattle.cm_language.specs.declared.macros.Context.TheVariants.{Always, On, Off}
-use Rattle.cm_language.specs.Names.{NamedField, is_name, field_named}
-
--- ---- acts
-
--- the numbers of an instruction are in their ranges
-pub record IsInstruction (nano : Nano) : Type 0 where
-  pub a : nano.a < 4096
-  pub b : nano.b < 4096
-  pub read : nano.read < 16
-  pub write : nano.write < 16
-  pub cond : nano.cond < 16
-  pub mem_table : nano.mem_table < 256
-  pub flag_table : nano.flag_table < 256
-
--- an act that a program can have
-abbrev pub IsProgramAct : Act → Type 0
-IsProgramAct (act.Nano nano) = IsInstruction nano
-IsProgramAct act.Cycle = Unit {0}
-IsProgramAct act.Sense = Unit {0}
-
--- acts that a program can have
-abbrev pub AreProgramActs : List Act → Type 0
-AreProgramActs [] = Unit {0}
-AreProgramActs (a ∷ acts) = IsProgramAct a × AreProgramActs acts
+use Rattle.cm_language.specs.Names.{NamedField}
+use Rattle.cm_language.specs.Whole.{AreProgramActs, IsNext, AreNext}
 
 -- ---- fields
-
--- a definition that may follow these fields
-pub record IsNext (fields : List NamedField) (defined : NamedField) : Type 0 where
-  pub name : is_name defined.name ≡ true
-  pub new : field_named fields defined.name ≡ None
-  pub field : IsField defined.field
-
--- definitions that may follow these fields, one after another
-abbrev pub AreNext : List NamedField → List NamedField → Type 0
-AreNext fields [] = Unit {0}
-AreNext fields (defined ∷ later) = IsNext fields defined × AreNext (fields ++ defined ∷ []) later
 
 -- all of them are fields
 abbrev pub AreFields : List NamedField → Type 0

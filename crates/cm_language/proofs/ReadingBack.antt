@@ -1,30 +1,34 @@
--- The listing of a text's program reads back.
+-- The program of a text is made as programs are, and so its listing reads back.
 use Rattle.std.proofs.Common.{◌≡◌, ℕ, Result, Ok, Err, List, refl, ap, subst, arith}
 use Rattle.std.specs.Result.{IfOk}
 use Rattle.cm_bits.specs.Text.{lines_of}
 use Rattle.cm_language.specs.declared.fault.AsmFault.{AsmFault}
-use Rattle.cm_language.specs.Laws.{ListingsReadBack, ListingsAreTheirOwn}
+use Rattle.cm_language.specs.Laws.{ProgramsAreWhole, ListingsReadBack, ListingsAreTheirOwn}
 use Rattle.cm_language.specs.Listing.{listing, program_listed, listing_of}
 use Rattle.cm_language.specs.Program.{Reading, ProgramText, nothing_read, after_lines, program_read, program_of}
-use Rattle.cm_language.proofs.ListedText.{program_of-listing}
+use Rattle.cm_language.specs.Whole.{IsProgram}
+use Rattle.cm_language.proofs.ListedText.{programs_are_listed}
 use Rattle.cm_language.proofs.TextsRead.{IsReading, after_lines_ok}
 
--- what was read is what its listing tells
-from_reading : (read : Result Reading AsmFault) (program : ProgramText) → IfOk read IsReading
-    → program_read read ≡ Ok program → program_of (listing program) ≡ Ok program
-from_reading (Ok r) program is e =
+-- what was read is a program
+is_program : (read : Result Reading AsmFault) (program : ProgramText) → IfOk read IsReading
+    → program_read read ≡ Ok program → IsProgram program
+is_program (Ok r) program is e =
     let same : record { fields = r.fields; acts = r.acts } ≡ program = cc in
-    subst (λ p. program_of (listing p) ≡ Ok p) same
-    (program_of-listing (record { fields = r.fields; acts = r.acts }) is.fields is.acts is.few)
-from_reading (Err fault) program is e = absurd cc
+    subst IsProgram same (record { fields = is.fields; acts = is.acts; few = is.few })
+is_program (Err fault) program is e = absurd cc
+
+-- the program of a text is made so
+pub programs_are_whole : ProgramsAreWhole
+unfolding program_of
+programs_are_whole text program e =
+    let start : IsReading nothing_read = record { fields = tt; context = tt; acts = tt; few = omega arith } in
+    is_program (after_lines nothing_read 1 (lines_of text)) program
+    (after_lines_ok nothing_read 1 (lines_of text) start) e
 
 -- the listing of a text's program is a text of that program
 pub listings_read_back : ListingsReadBack
-unfolding program_of
-listings_read_back text program e =
-    let start : IsReading nothing_read = record { fields = tt; context = tt; acts = tt; few = omega arith } in
-    from_reading (after_lines nothing_read 1 (lines_of text)) program
-    (after_lines_ok nothing_read 1 (lines_of text) start) e
+listings_read_back text program e = programs_are_listed program (programs_are_whole text program e)
 
 -- a listing's own listing
 from_program : (read : Result ProgramText AsmFault) (listed : List ℕ)

@@ -11,7 +11,8 @@ use Rattle.cm_language.specs.declared.statement.Statement.{Statement}
 use Rattle.cm_language.specs.declared.statement.Statement.TheVariants as statement
 use Rattle.cm_language.specs.Names.{NamedField}
 use Rattle.cm_language.specs.Lines.{◌>>=◌, no_operand, flag_operand, one_field, two_fields, nano_of, statement_of}
-use Rattle.cm_language.proofs.ProgramParts.{IsInstruction, AreFields}
+use Rattle.cm_language.specs.Whole.{IsInstruction}
+use Rattle.cm_language.proofs.ProgramParts.{AreFields}
 use Rattle.cm_language.proofs.OperandsRead.{IsSaid, if_ok-then, any_ok, flag_ok, one_field_ok, two_fields_ok, choice_ok, constant_ok, product_ok, nano_ok}
 
 -- ---- a line

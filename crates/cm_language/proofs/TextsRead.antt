@@ -22,7 +22,8 @@ use Rattle.cm_language.specs.Laws.{HasFields}
 use Rattle.cm_language.specs.Names.{NamedField, is_name, field_named}
 use Rattle.cm_language.specs.Lines.{◌>>=◌, operand_of, verb_of, statement_of, new_name, field_unless, definition_of}
 use Rattle.cm_language.specs.Program.{MOST_ACTS, Reading, within_length, with_acts, with_macro, after_statement, after_definition, after_words, unless_faulty, after_lines}
-use Rattle.cm_language.proofs.ProgramParts.{AreProgramActs, IsNext, AreNext, HasFlag, NamesFlags, are_fields, next-append, acts-append}
+use Rattle.cm_language.specs.Whole.{AreProgramActs, IsNext, AreNext}
+use Rattle.cm_language.proofs.ProgramParts.{HasFlag, NamesFlags, are_fields, next-append, acts-append}
 use Rattle.cm_language.proofs.MacroActs.{acts_of-program}
 use Rattle.cm_language.proofs.OperandsRead.{IsSaid, if_ok-then, any_ok}
 use Rattle.cm_language.proofs.StatementsRead.{statement_ok}

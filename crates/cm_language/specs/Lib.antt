@@ -5,4 +5,5 @@ pub mod Names
 pub mod Lines
 pub mod Program
 pub mod Listing
+pub mod Whole
 pub mod Laws
