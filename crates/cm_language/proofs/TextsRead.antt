@@ -1,13 +1,10 @@
 -- What a text has said, line by line, is a program.
-use Rattle.std.proofs.Common.{◌≡◌, ℕ, ◌+◌, ◌≤◌, Bool, true, false, not, eqb, ◌||◌, Option, None, Some, Result, Ok, Err, List, [], ◌∷◌, ◌++◌, length, refl, arith}
+use Rattle.std.proofs.Common.{◌≡◌, ℕ, ◌+◌, ◌≤◌, Bool, true, false, Option, None, Some, Result, Ok, Err, List, [], ◌∷◌, ◌++◌, length, refl, arith}
 use Rattle.std.specs.Prelude.{if◌then◌else◌, codes, bytes_eq, nat_lt}
-use Rattle.std.specs.Option.{is_some, ok_or}
+use Rattle.std.specs.Option.{ok_or}
 use Rattle.std.specs.Result.{IfOk}
 use Rattle.std.proofs.lemmas.Bool.Decides.{nat_tests}
-use Rattle.cm_bits.specs.Span.{Span, IsField}
-use Rattle.cm_bits.specs.Field.{field_fault}
 use Rattle.cm_bits.specs.Text.{words_of}
-use Rattle.cm_bits.specs.declared.field.FieldFault.TheVariants as field
 use Rattle.cm_model.specs.declared.act.Act.{Act}
 use Rattle.cm_language.specs.declared.macros.Macro.{Macro}
 use Rattle.cm_language.specs.declared.statement.Statement.{Statement}
@@ -19,14 +16,13 @@ use Rattle.cm_language.specs.declared.fault.AsmFault.{AsmFault}
 use Rattle.cm_language.specs.Acts.{acts_of}
 use Rattle.cm_language.specs.Faults.{first_fault}
 use Rattle.cm_language.specs.Laws.{HasFields}
-use Rattle.cm_language.specs.Names.{NamedField, is_name, field_named}
-use Rattle.cm_language.specs.Lines.{◌>>=◌, operand_of, verb_of, statement_of, new_name, field_unless, definition_of}
+use Rattle.cm_language.specs.Lines.{◌>>=◌, verb_of, statement_of, definition_of}
 use Rattle.cm_language.specs.Program.{MOST_ACTS, Reading, within_length, with_acts, with_macro, after_statement, after_definition, after_words, unless_faulty, after_lines}
 use Rattle.cm_language.specs.Whole.{AreProgramActs, IsNext, AreNext}
 use Rattle.cm_language.proofs.ProgramParts.{HasFlag, NamesFlags, are_fields, next-append, acts-append}
 use Rattle.cm_language.proofs.MacroActs.{acts_of-program}
 use Rattle.cm_language.proofs.OperandsRead.{IsSaid, if_ok-then, any_ok}
-use Rattle.cm_language.proofs.StatementsRead.{statement_ok}
+use Rattle.cm_language.proofs.StatementsRead.{statement_ok, definition_ok}
 
 -- what holds of what a text has said so far
 pub record IsReading (r : Reading) : Type 0 where
@@ -70,44 +66,6 @@ after_statement_ok r (statement.Macro m) is said = with_macro_ok r m (first_faul
 after_statement_ok r (statement.Act a) is said = with_acts_ok r (a ∷ []) is (said, tt)
 
 -- ---- definitions
-
--- a name that a definition may give
-abbrev IsNew : List NamedField → List ℕ → Type 0
-IsNew fields name = (is_name name ≡ true) × (field_named fields name ≡ None)
-
--- a name that is taken is new
-new_name_ok : (fields : List NamedField) (name : List ℕ) → IfOk (new_name fields name) (IsNew fields)
-new_name_ok fields name = by (is_name name) (field_named fields name) refl refl where
-  by : (b : Bool) (o : Option Span) → is_name name ≡ b → field_named fields name ≡ o
-      → IfOk (if not b then Err kind.Name else (if is_some o then Err kind.Twice else Ok name)) (IsNew fields)
-  by false o is new = tt
-  by true (Some field) is new = tt
-  by true None is new = (is, new)
-
--- a field that is taken is one
-field_unless_ok : (at len : ℕ) → IfOk (field_unless at len (field_fault at len)) IsField
-field_unless_ok at len = by (eqb len 0) (nat_lt 64 len) (nat_lt 4096 (at + len)) refl refl refl where
-  by : (a b c : Bool) → eqb len 0 ≡ a → nat_lt 64 len ≡ b → nat_lt 4096 (at + len) ≡ c
-      → IfOk (field_unless at len (if a || b then Some field.Width else (if c then Some field.Range else None))) IsField
-  by true b c empty wide beyond = tt
-  by false true c empty wide beyond = tt
-  by false false true empty wide beyond = tt
-  by false false false empty wide beyond =
-      record {
-        some = grind (arith, nat_tests, empty);
-        narrow = grind (arith, nat_tests, wide);
-        within = grind (arith, nat_tests, beyond);
-      }
-
--- a definition may follow the fields before it
-definition_ok : (fields : List NamedField) (words : List (List ℕ)) → IfOk (definition_of fields words) (IsNext fields)
-definition_ok fields (name ∷ at ∷ len ∷ []) =
-    if_ok-then (new_name fields name) _ (IsNew fields) _ (new_name_ok fields name) (λ name' is.
-    if_ok-then (operand_of 65536 at) _ (λ n. Unit {0}) _ (any_ok (operand_of 65536 at)) (λ at' any.
-    if_ok-then (operand_of 65536 len) _ (λ n. Unit {0}) _ (any_ok (operand_of 65536 len)) (λ len' some.
-    if_ok-then (field_unless at' len' (field_fault at' len')) _ IsField _ (field_unless_ok at' len') (λ field' right.
-    record { name = is.0; new = is.1; field = right }))))
-definition_ok fields _ = tt
 
 -- a definition more
 after_definition_ok : (r : Reading) (words : List (List ℕ)) → IsReading r → IfOk (after_definition r words) IsReading
