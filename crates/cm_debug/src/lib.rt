@@ -2,3 +2,4 @@
 #![tactic(auto)]
 
 mod reader;
+mod reader_operands;
