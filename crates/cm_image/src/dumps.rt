@@ -8,6 +8,7 @@ ghost use Rattle.cm_image_format.specs.Image.{chip_text, shape_text};
 ghost use Rattle.cm_image_format.specs.Whole.{flag_plane_of, memory_plane_of, image_of_chip, image_of, text_of};
 ghost use Rattle.cm_image.specs.Planes.{flags_text, listing_of, listed_below, planes_below};
 
+use crate::numbers::chip_count;
 use cm_array::Machine;
 use cm_bits::{Addr, FlagNo, NoMemory, Plane};
 use cm_element::Chip;
@@ -52,13 +53,6 @@ fn push_chips<const N: usize, const CAP: usize>(
         push_chip(text, machine.chip(c), machine.buffer(c))?;
     }
     Ok(())
-}
-
-fn chip_count<const N: usize>() -> u16
-    requires dimension { N ≤ 12 }
-    ensures value { result ≡ 2 ^ N }
-{
-    1 << N
 }
 
 fn push(text: &mut Vec<u8>, more: &[u8]) -> Result<(), NoMemory>
