@@ -3,3 +3,5 @@
 
 mod reader;
 mod reader_operands;
+
+pub use reader::read_command;

@@ -1,6 +1,6 @@
 //! What a line of a session asks for.
 
-ghost use Rattle.std.specs.Prelude.{◌≡◌, ◌<◌, ◌≤◌, ◌^◌, ℕ, IfOk, IfSome};
+ghost use Rattle.std.specs.Prelude.{◌≡◌, ◌≤◌, IfOk, IfSome};
 ghost use Rattle.cm_bits.specs.Text.{words_left, words_of};
 ghost use Rattle.cm_session.specs.Bounds.{IsFor};
 ghost use Rattle.cm_session.specs.Commands.{alone, index_of, wire_of, field_of, flag_of, poke_of, poke_flag_of, chip_of, find_of, command_named, command_of};
@@ -38,7 +38,6 @@ fn read_named(
 ) -> Result<Command, Refusal>
     requires dimension { dimensions ≤ 12 }
     ensures value { result ≡ command_named dimensions count name.now (words_left words.entry) }
-    ensures inside { IfOk result (IsFor dimensions count) }
 {
     if name == b"step".as_slice() {
         alone(Command::Step, words)
@@ -86,7 +85,6 @@ fn alone(command: Command, mut words: Words) -> Result<Command, Refusal>
 /// The index of an act.
 fn read_index(mut words: Words, count: usize) -> Result<usize, Refusal>
     ensures value { result ≡ index_of count (words_left words.entry) }
-    ensures inside { IfOk result (λ i. i < count) }
 {
     let (Some(i), None) = (words.next(), words.next()) else {
         return Err(Refusal::Operands);
@@ -116,7 +114,6 @@ fn read_wire(mut words: Words) -> Result<Command, Refusal>
 fn read_field(mut words: Words, dimensions: usize) -> Result<Command, Refusal>
     requires dimension { dimensions ≤ 12 }
     ensures value { result ≡ field_of dimensions (words_left words.entry) }
-    ensures inside { (count : ℕ) → IfOk result (IsFor dimensions count) }
 {
     let (Some(c), Some(p), Some(at)) = (words.next(), words.next(), words.next()) else {
         return Err(Refusal::Operands);
@@ -136,7 +133,6 @@ fn read_field(mut words: Words, dimensions: usize) -> Result<Command, Refusal>
 fn read_flag(mut words: Words, dimensions: usize) -> Result<Command, Refusal>
     requires dimension { dimensions ≤ 12 }
     ensures value { result ≡ flag_of dimensions (words_left words.entry) }
-    ensures inside { (count : ℕ) → IfOk result (IsFor dimensions count) }
 {
     let (Some(c), Some(p), Some(f)) = (words.next(), words.next(), words.next()) else {
         return Err(Refusal::Operands);
@@ -155,7 +151,6 @@ fn read_flag(mut words: Words, dimensions: usize) -> Result<Command, Refusal>
 fn read_poke(mut words: Words, dimensions: usize) -> Result<Command, Refusal>
     requires dimension { dimensions ≤ 12 }
     ensures value { result ≡ poke_of dimensions (words_left words.entry) }
-    ensures inside { (count : ℕ) → IfOk result (IsFor dimensions count) }
 {
     let (Some(c), Some(p), Some(at)) = (words.next(), words.next(), words.next()) else {
         return Err(Refusal::Operands);
@@ -177,7 +172,6 @@ fn read_poke(mut words: Words, dimensions: usize) -> Result<Command, Refusal>
 fn read_poke_flag(mut words: Words, dimensions: usize) -> Result<Command, Refusal>
     requires dimension { dimensions ≤ 12 }
     ensures value { result ≡ poke_flag_of dimensions (words_left words.entry) }
-    ensures inside { (count : ℕ) → IfOk result (IsFor dimensions count) }
 {
     let (Some(c), Some(p), Some(f)) = (words.next(), words.next(), words.next()) else {
         return Err(Refusal::Operands);
@@ -199,7 +193,6 @@ fn read_poke_flag(mut words: Words, dimensions: usize) -> Result<Command, Refusa
 fn read_chip(mut words: Words, dimensions: usize) -> Result<u16, Refusal>
     requires dimension { dimensions ≤ 12 }
     ensures value { result ≡ chip_of dimensions (words_left words.entry) }
-    ensures inside { IfOk result (λ c. c < 2 ^ dimensions) }
 {
     let (Some(c), None) = (words.next(), words.next()) else {
         return Err(Refusal::Operands);
@@ -212,7 +205,6 @@ fn read_chip(mut words: Words, dimensions: usize) -> Result<u16, Refusal>
 fn read_find(mut words: Words, dimensions: usize) -> Result<Command, Refusal>
     requires dimension { dimensions ≤ 12 }
     ensures value { result ≡ find_of dimensions (words_left words.entry) }
-    ensures inside { (count : ℕ) → IfOk result (IsFor dimensions count) }
 {
     let (Some(c), Some(p), Some(b)) = (words.next(), words.next(), words.next()) else {
         return Err(Refusal::Operands);
