@@ -27,6 +27,17 @@ pub enum BuildFault {
     Memory,
 }
 
+impl From<NoMemory> for BuildFault {
+    ghost use Rattle.std.specs.Prelude.{◌≡◌};
+    ghost use Rattle.cm_array.specs.declared.builder.BuildFault.TheVariants.{Memory};
+
+    ghost from_gives = { λ _ fault. fault ≡ Memory };
+
+    fn from(_: NoMemory) -> BuildFault {
+        BuildFault::Memory
+    }
+}
+
 /// A machine of 2^`N` chips, whose routers have room for `CAP` messages each, that is being built. It has
 /// no log, and until it is done two of its messages may have one tag.
 ///
@@ -46,17 +57,6 @@ impl<const N: usize, const CAP: usize> Model for Builder<N, CAP> {
     ghost view = { λ builder. machine_of builder.parts };
 
     ghost invariant = { λ builder. AreUnfinished N CAP builder.parts };
-}
-
-impl From<NoMemory> for BuildFault {
-    ghost use Rattle.std.specs.Prelude.{◌≡◌};
-    ghost use Rattle.cm_array.specs.declared.builder.BuildFault.TheVariants.{Memory};
-
-    ghost from_gives = { λ _ fault. fault ≡ Memory };
-
-    fn from(_: NoMemory) -> BuildFault {
-        BuildFault::Memory
-    }
 }
 
 impl<const N: usize, const CAP: usize> Builder<N, CAP> {
