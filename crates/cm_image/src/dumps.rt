@@ -23,6 +23,14 @@ const FLAGS: u8 = 16;
 
 const ADDRESSES: u16 = 4096;
 
+const HEADER_LEN: usize = 16;
+
+const BLANK_CHIP_LEN: usize = 35;
+
+const LISTED_LEN: usize = 4;
+
+const MESSAGE_LEN: usize = 18;
+
 /// The image of a machine: its one text. Its logs are not in it.
 pub fn dump<const N: usize, const CAP: usize>(
     alloc: Global,
@@ -30,12 +38,33 @@ pub fn dump<const N: usize, const CAP: usize>(
 ) -> Result<Vec<u8>, NoMemory>
     ensures value { IfOk result (λ text. text.items ≡ text_of N CAP machine.now.machine) }
 {
-    let mut text = Vec::new(alloc);
     let cycles = machine.clock();
+    let mut text = Vec::with_capacity(alloc, text_len(machine))?;
     push_shape(&mut text, N, CAP)?;
     push_u64(&mut text, cycles)?;
     push_chips(&mut text, machine)?;
     Ok(text)
+}
+
+/// How many bytes the image has, so that its list need not grow.
+fn text_len<const N: usize, const CAP: usize>(machine: &Machine<N, CAP>) -> usize
+    requires dimension { N ≤ 12 }
+{
+    let mut len: usize = HEADER_LEN;
+    let count = chip_count::<N>();
+    for c in 0..count {
+        len = len.saturating_add(chip_len(machine.chip(c), machine.buffer(c)));
+    }
+    len
+}
+
+/// How many bytes it has of a chip with this buffer.
+fn chip_len(chip: &Chip, buffer: &[Message]) -> usize {
+    let planes = usize::from(count_planes(chip)).saturating_mul(LISTED_LEN);
+    let messages = buffer.len().saturating_mul(MESSAGE_LEN);
+    BLANK_CHIP_LEN
+        .saturating_add(planes)
+        .saturating_add(messages)
 }
 
 /// What an image has of each chip, by number.
