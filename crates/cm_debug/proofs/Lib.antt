@@ -1,0 +1,5 @@
+pub mod Growing
+pub mod Telling
+pub mod Coming
+pub mod Breaking
+pub mod Ending
