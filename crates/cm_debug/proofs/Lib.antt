@@ -1,1 +1,6 @@
 pub mod ReaderLemmas
+pub mod Growing
+pub mod Telling
+pub mod Coming
+pub mod Breaking
+pub mod Ending

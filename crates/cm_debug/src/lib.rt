@@ -1,7 +1,14 @@
 //! Debugger sessions over any runner, any source of commands and any sink of answers.
 #![tactic(auto)]
 
+mod answers;
+mod commands;
+mod desk;
+mod lines;
 mod reader;
 mod reader_operands;
+mod running;
+mod stretch;
+mod want;
 
 pub use reader::read_command;

@@ -38,8 +38,8 @@ tells_nothing session act.Cycle h = refl
 tells_nothing session act.Sense h = untold session.report h (sense_line session.position (wire session.machine.chips))
 
 -- the stretch after its first act
-after_first : (n cap : ℕ) (stops : ℕ → Bool) (session : Session) (a b : Act) (acts : List Act) → IsStretch stops session (a ∷ b ∷ acts)
-    → IsStretch stops (acts_on n cap session (a ∷ [])) (b ∷ acts)
+after_first : (n cap : ℕ) (stops : ℕ → Bool) (session : Session) (a b : Act) (acts : List Act) → IsStretch stops session.report session.position session.machine.clock (a ∷ b ∷ acts)
+    → IsStretch stops session.report (session.position + 1) (run_of n cap session.machine (a ∷ [])).clock (b ∷ acts)
 after_first n cap stops session a b acts stretch = record {
   silent = λ i some inside. stretch.silent (suc i) (omega arith) (omega arith);
   goes = λ i some inside. subst (λ (k : ℕ). stops k ≡ false) (omega arith) (stretch.goes (suc i) (omega arith) (omega arith));
@@ -97,3 +97,9 @@ going-rises n cap stops session (a ∷ acts) =
         ≤ (cond refused (told session (refused_line CLOCK)) (preceded_by (told_by session a) (arrived n cap stops next acts))).session.position
     by true h = omega arith
     by false h = omega (arith, h)
+
+-- nor where it has come to a place
+pub arrived-rises : (n cap : ℕ) (stops : ℕ → Bool) (session : Session) (acts : List Act)
+    → session.position ≤ (arrived n cap stops session acts).session.position
+arrived-rises n cap stops session acts =
+    arriving n cap stops session acts (going-rises n cap stops session acts) (stops session.position && has_acts acts)

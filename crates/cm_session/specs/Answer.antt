@@ -26,7 +26,7 @@ message_words word m =
     word ∷ decimal m.rel ∷ decimal m.proc ∷ payload_word m.payload ∷ decimal m.tag.chip ∷ decimal m.tag.proc ∷ decimal m.tag.birth ∷ []
 
 -- the line of a message that stands in a router
-abbrev pub standing_line : Message → List ℕ
+unfoldable pub standing_line : Message → List ℕ
 standing_line m = line (message_words (codes "msg") m)
 
 -- the messages of a router, from the front

@@ -17,16 +17,12 @@ is_look (Nano nano) = false
 abbrev pub looks_at : List Act → ℕ → Bool
 looks_at acts i = is_look (slice_index_or acts i Cycle)
 
--- after the first act none is a look that is told and none is at a place where the session stops, and the counter has room for all
-pub record IsStretch (stops : ℕ → Bool) (session : Session) (acts : List Act) : Type 0 where
-  pub silent : (i : ℕ) → 0 < i → i < length acts → (session.report && looks_at acts i) ≡ false
-  pub goes : (i : ℕ) → 0 < i → i < length acts → stops (session.position + i) ≡ false
-  pub room : session.machine.clock + cycles_in acts < 2 ^ 63
-
--- what the first of the acts tells
-abbrev pub told_first : Session → List Act → List ℕ
-told_first session [] = []
-told_first session (act ∷ acts) = told_by session act
+-- from a position and a count of petit cycles on: after the first act none is a look that is told, none is at a place where the
+-- session stops, and the counter has room for all
+pub record IsStretch (stops : ℕ → Bool) (report : Bool) (position clock : ℕ) (acts : List Act) : Type 0 where
+  pub silent : (i : ℕ) → 0 < i → i < length acts → (report && looks_at acts i) ≡ false
+  pub goes : (i : ℕ) → 0 < i → i < length acts → stops (position + i) ≡ false
+  pub room : clock + cycles_in acts < 2 ^ 63
 
 -- the session so many acts on
 abbrev pub acts_on : ℕ → ℕ → Session → List Act → Session
@@ -41,6 +37,6 @@ arrived n cap stops session acts =
 -- acts that begin with a stretch are answered as the stretch is at once: what its first act tells, and then what comes after
 abbrev pub StretchesAreAnsweredAlike : Type 0
 StretchesAreAnsweredAlike = (n cap : ℕ) (stops : ℕ → Bool) (session : Session) (first : Act) (acts more : List Act)
-    → IsStretch stops session (first ∷ acts)
+    → IsStretch stops session.report session.position session.machine.clock (first ∷ acts)
     → going n cap stops session ((first ∷ acts) ++ more)
     ≡ preceded_by (told_by session first) (arrived n cap stops (acts_on n cap session (first ∷ acts)) more)

@@ -1,0 +1,157 @@
+//! What a command does and is answered.
+
+ghost use Rattle.std.specs.Prelude.{◌≡◌, ◌≢◌, ◌<◌, ◌^◌, ◌++◌, ◌∷◌, [], length, slice_set, codes, decimal, IfSome, OnOk, OnErr};
+ghost use Rattle.cm_bits.specs.Bit.{bit_number};
+ghost use Rattle.cm_model.specs.Processor.{ZERO, flag, field_value};
+ghost use Rattle.cm_model.specs.Array.{list_at, processor_of, wire};
+ghost use Rattle.cm_model.specs.Found.{found_in};
+ghost use Rattle.cm_array.specs.Pokes.{machine_with_memory_bit, machine_with_flag};
+ghost use Rattle.cm_session.specs.Answer.{line, buffer_lines, log_lines, found_line, refused_line};
+ghost use Rattle.cm_session.specs.Bounds.{IsFor};
+ghost use Rattle.cm_session.specs.Session.{obeyed};
+ghost use Rattle.cm_session.specs.Ends.{IsOnTheWay};
+ghost use Rattle.cm_debug.specs.Desk.{session_of, IsDeskOf};
+
+use crate::answers::{push_bit, push_buffer, push_found, push_log, push_number, push_word};
+use crate::desk::{Desk, Stops};
+use crate::running::run_on;
+use crate::want::Want;
+use cm_array::{Machine, Runner};
+use cm_bits::{Addr, Field, FlagNo, Place};
+use cm_model::Act;
+use cm_session::Command;
+use std::alloc::AllocError;
+
+/// Does what a command asks for, and tells what it is answered. After an `Err` the machine is as it was, or some of the
+/// acts that the command runs are run.
+pub fn obey<const N: usize, const CAP: usize, R: Runner<N, CAP>>(
+    machine: &mut Machine<N, CAP>,
+    acts: &[Act],
+    runner: &mut R,
+    desk: &mut Desk,
+    command: Command,
+    text: &mut Vec<u8>,
+) -> Result<(), Want>
+    requires runner { R.ready }
+    requires desk { IsDeskOf acts.now desk.old }
+    requires operands { IsFor N (length acts.now) command }
+    ensures answer { OnOk result (text.new.items ≡ text.old.items
+        ++ (obeyed N CAP acts.now (session_of machine.old.machine desk.old) command).answer) }
+    ensures session { OnOk result (session_of machine.new.machine desk.new
+        ≡ (obeyed N CAP acts.now (session_of machine.old.machine desk.old) command).session) }
+    ensures desk { OnOk result (IsDeskOf acts.now desk.new) }
+    ensures err { OnErr result (IsOnTheWay N CAP acts.now (session_of machine.old.machine desk.old)
+        (obeyed N CAP acts.now (session_of machine.old.machine desk.old) command).session machine.new.machine) }
+{
+    match command {
+        Command::Step => run_on(machine, acts, runner, desk, Stops::Everywhere, text),
+        Command::Run => run_on(machine, acts, runner, desk, Stops::AtBreaks, text),
+        Command::Break(index) => {
+            desk.breaks[index] = true;
+            push_number(text, b"break", index as u64)?;
+            Ok(())
+        }
+        Command::Clear(index) => {
+            desk.breaks[index] = false;
+            push_number(text, b"clear", index as u64)?;
+            Ok(())
+        }
+        Command::WireOn => {
+            desk.report = true;
+            push_wire(text, b"on")?;
+            Ok(())
+        }
+        Command::WireOff => {
+            desk.report = false;
+            push_wire(text, b"off")?;
+            Ok(())
+        }
+        Command::WireShow => {
+            push_bit(text, b"wire", machine.wire())?;
+            Ok(())
+        }
+        Command::Field(place, field) => {
+            push_field(text, machine, place, field)?;
+            Ok(())
+        }
+        Command::Flag(place, number) => {
+            push_flag(text, machine, place, number)?;
+            Ok(())
+        }
+        Command::Poke(place, at, bit) => {
+            push_word(text, b"ok")?;
+            machine.poke(place.chip, place.proc, at, bit);
+            Ok(())
+        }
+        Command::PokeFlag(place, number, bit) => {
+            push_word(text, b"ok")?;
+            poke_flag(machine, place, number, bit);
+            Ok(())
+        }
+        Command::Buffer(chip) => {
+            push_buffer(text, machine.buffer(chip))?;
+            Ok(())
+        }
+        Command::Find(tag) => {
+            push_found(text, machine.find(tag))?;
+            Ok(())
+        }
+        Command::Events(chip) => {
+            push_log(text, machine.log(chip))?;
+            Ok(())
+        }
+    }
+}
+
+#[tactic(auto, unfolding(cm_session::specs::Answer::line))]
+fn push_wire(text: &mut Vec<u8>, word: &[u8]) -> Result<(), AllocError>
+    ensures ok { OnOk result (text.new.items ≡ text.old.items ++ line (codes "wire" ∷ word.now ∷ [])) }
+{
+    text.extend_from_slice(b"wire ")?;
+    push_word(text, word)
+}
+
+fn push_field<const N: usize, const CAP: usize>(
+    text: &mut Vec<u8>,
+    machine: &Machine<N, CAP>,
+    place: Place,
+    field: Field,
+) -> Result<(), AllocError>
+    requires chip { place.chip < 2 ^ N }
+    ensures ok { OnOk result (text.new.items ≡ text.old.items
+        ++ line (codes "field" ∷ decimal (field_value (processor_of machine.now.machine.chips place) field.at field.len) ∷ [])) }
+{
+    let value = machine.chip(place.chip).field(place.proc, field);
+    push_number(text, b"field", value)
+}
+
+fn push_flag<const N: usize, const CAP: usize>(
+    text: &mut Vec<u8>,
+    machine: &Machine<N, CAP>,
+    place: Place,
+    number: FlagNo,
+) -> Result<(), AllocError>
+    requires chip { place.chip < 2 ^ N }
+    ensures ok { OnOk result (text.new.items ≡ text.old.items
+        ++ line (codes "flag" ∷ decimal (bit_number (flag (processor_of machine.now.machine.chips place) number)) ∷ [])) }
+{
+    push_bit(
+        text,
+        b"flag",
+        machine.chip(place.chip).flag(place.proc, number),
+    )
+}
+
+/// Puts a bit into a flag that is not flag 8.
+fn poke_flag<const N: usize, const CAP: usize>(
+    machine: &mut Machine<N, CAP>,
+    place: Place,
+    number: FlagNo,
+    bit: bool,
+)
+    requires chip { place.chip < 2 ^ N }
+    requires pokeable { number ≢ ZERO }
+    ensures value { machine.new.machine ≡ machine_with_flag machine.old.machine place.chip place.proc number bit }
+{
+    let _ = machine.poke_flag(place.chip, place.proc, number, bit);
+}
