@@ -24,20 +24,24 @@ pub record ArePlaces (nano : Nano) (stride : ℕ) (at : Places) : Type 0 where
 
 -- at each chip's number stands the plane of what a table gives its processors
 pub record AreLookedUp (table : ℕ) (nano : Nano) (chips : Chips) (planes : List ℕ) : Type 0 where
-  pub each : (c : ℕ) → c < length chips → IsPlane (slice_index planes c) (λ p. entry table
-      (memory_bit (processor_at (chip_at chips c) p) nano.a) (memory_bit (processor_at (chip_at chips c) p) nano.b) (flag (processor_at (chip_at chips c) p) nano.read))
+  pub each : (c : ℕ) → c < length chips → IsPlane (slice_index planes c)
+      (λ p. entry table (memory_bit (processor_at (chip_at chips c) p) nano.a)
+      (memory_bit (processor_at (chip_at chips c) p) nano.b) (flag (processor_at (chip_at chips c) p) nano.read))
 
 -- at each chip's number stands the plane of its flag outputs
 pub record AreSent (nano : Nano) (chips : Chips) (planes : List ℕ) : Type 0 where
-  pub each : (c : ℕ) → c < length chips → IsPlane (slice_index planes c) (λ p. flag_output nano (processor_at (chip_at chips c) p))
+  pub each : (c : ℕ) → c < length chips
+      → IsPlane (slice_index planes c) (λ p. flag_output nano (processor_at (chip_at chips c) p))
 
 -- at each chip's number stands the plane of where the condition holds
 pub record AreHolding (nano : Nano) (chips : Chips) (planes : List ℕ) : Type 0 where
-  pub each : (c : ℕ) → c < length chips → IsPlane (slice_index planes c) (λ p. holds nano (processor_at (chip_at chips c) p))
+  pub each : (c : ℕ) → c < length chips
+      → IsPlane (slice_index planes c) (λ p. holds nano (processor_at (chip_at chips c) p))
 
 -- in the row at a place each of so many planes was stored where its processors' condition holds; the list is else as it was
 pub record IsStored (row : ℕ) (holds planes old new : List ℕ) : Type 0 where
-  pub each : (c : ℕ) → c < length planes → (p : ℕ) → bit (slice_index new (row + c)) p ≡ cond (bit (slice_index holds c) p) (bit (slice_index planes c) p) (bit (slice_index old (row + c)) p)
+  pub each : (c : ℕ) → c < length planes → (p : ℕ) → bit (slice_index new (row + c)) p
+      ≡ cond (bit (slice_index holds c) p) (bit (slice_index planes c) p) (bit (slice_index old (row + c)) p)
   pub below : (i : ℕ) → i < row → slice_index new i ≡ slice_index old i
   pub above : (i : ℕ) → row + length planes ≤ i → slice_index new i ≡ slice_index old i
 

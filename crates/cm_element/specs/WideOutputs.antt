@@ -14,4 +14,8 @@ pub record HaveRoomFor (count : ℕ) (outputs : WideOutputs) : Type 0 where
 -- the planes of chip c are what its processors compute
 pub record AreWideOutputs (nano : Nano) (chips : Chips) (outputs : WideOutputs) : Type 0 where
   pub each : (c : ℕ) → c < length chips → AreOutputs nano (chip_at chips c)
-      (record { mem = slice_index outputs.mem.items c; flag = slice_index outputs.flag.items c; holds = slice_index outputs.holds.items c })
+      (record {
+        mem = slice_index outputs.mem.items c;
+        flag = slice_index outputs.flag.items c;
+        holds = slice_index outputs.holds.items c;
+      })
