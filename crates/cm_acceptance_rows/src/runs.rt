@@ -1,7 +1,7 @@
 //! A run of chips takes the steps of as many single chips.
 
 use cm_bits::{Addr, Dir, Field, FlagNo, NoMemory, Plane, Proc};
-use cm_element::{Chip, Run, takes_incoming};
+use cm_element::{Chip, Run, WideOutputs, takes_incoming};
 use cm_model::Nano;
 use cm_wire::{run, wire};
 use std::alloc::Global;
@@ -30,6 +30,7 @@ const TABLES: [(u8, u8); 14] = [
 
 #[derive(Drop)]
 struct Beside {
+    count: u16,
     run: Run,
     chips: Vec<Chip>,
     row: Vec<Plane>,
@@ -50,6 +51,7 @@ impl Beside {
             };
         }
         Ok(Beside {
+            count,
             run,
             chips,
             row,
@@ -101,6 +103,20 @@ impl Beside {
         step_chips(&mut self.chips, nano, &self.row);
         self.run.take(nano, &mut self.row);
         true
+    }
+
+    // The same by outputs and a store.
+    fn step_by_halves(&mut self, alloc: Global, nano: &Nano) -> Result<bool, NoMemory> {
+        let turned = (self.draw() & 0xffff) as u16;
+        let mut outputs = WideOutputs::blank(alloc, self.count)?;
+        if self.run.chips() != usize::from(self.count) || self.row.len() != self.run.chips() {
+            return Ok(false);
+        }
+        self.run.outputs(nano, &mut outputs);
+        turn(&mut self.row, &outputs.flag, turned);
+        step_chips(&mut self.chips, nano, &self.row);
+        self.run.store(nano, &outputs, &self.row);
+        Ok(true)
     }
 
     // A bit, a field, a flag or a plane of flags, put into one chip of both.
@@ -160,6 +176,14 @@ impl Beside {
     }
 }
 
+fn turn(row: &mut [Plane], sent: &[Plane], turned: Plane) {
+    for c in 0..row.len() {
+        if c < sent.len() {
+            row[c] = sent[c] ^ turned;
+        }
+    }
+}
+
 fn step_chips(chips: &mut [Chip], nano: &Nano, incoming: &[Plane]) {
     for c in 0..chips.len() {
         if c < incoming.len() {
@@ -194,7 +218,12 @@ fn same_steps(alloc: Global, count: u16, most: u32) -> Result<u32, Fail> {
     let mut both = Beside::new(alloc, count)?;
     for done in 0..most {
         let nano = both.nano();
-        if !both.step(&nano) || !both.poke() || !both.are_same() {
+        let has_gone = if done % 3 == 0 {
+            both.step_by_halves(alloc, &nano)?
+        } else {
+            both.step(&nano)
+        };
+        if !has_gone || !both.poke() || !both.are_same() {
             return Ok(done);
         }
     }

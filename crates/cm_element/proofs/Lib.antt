@@ -1,6 +1,7 @@
 mod Columns
 mod Fields
 mod Flagged
+mod Halves
 mod Lanes
 mod Laying
 mod Planes

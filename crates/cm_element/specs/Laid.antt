@@ -12,6 +12,7 @@ pub record AreLaid (at first count : ℕ) (from old new : Chips) : Type 0 where
 
 -- the same of so many words in each of the rows
 pub record AreLaidRows (here there : Band) (rows count : ℕ) (from old new : List ℕ) : Type 0 where
-  pub laid : (i c : ℕ) → i < rows → c < count → slice_index new (i * here.stride + (here.first + c)) ≡ slice_index from (i * there.stride + (there.first + c))
+  pub laid : (i c : ℕ) → i < rows → c < count
+      → slice_index new (i * here.stride + (here.first + c)) ≡ slice_index from (i * there.stride + (there.first + c))
   pub others : (i k : ℕ) → i < rows → k < here.stride → (k < here.first) ⊎ (here.first + count ≤ k)
       → slice_index new (i * here.stride + k) ≡ slice_index old (i * here.stride + k)

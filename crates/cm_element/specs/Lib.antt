@@ -5,3 +5,4 @@ pub mod Runs
 pub mod Steps
 pub mod Laid
 pub mod Flags
+pub mod WideOutputs

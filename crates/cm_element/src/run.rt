@@ -13,10 +13,11 @@ ghost use Rattle.cm_element.specs.Steps.{AreSent};
 mod bits;
 mod flags;
 mod lay;
+mod outputs;
 mod rows;
 mod view;
 
-use crate::run::rows::{send_row, step_rows, take_rows, word_at};
+use crate::run::rows::{look_up_row, step_rows, take_rows, word_at};
 use cm_bits::{Addr, FlagNo, NoMemory, Plane};
 use cm_model::Nano;
 use std::alloc::Global;
@@ -148,7 +149,8 @@ impl Run {
         requires sent { length sent.old ≡ length self.now }
         ensures value { AreSent nano.now self.now sent.new }
     {
-        send_row(
+        look_up_row(
+            nano.flag_table,
             &self.memory,
             &self.flags,
             nano,

@@ -10,10 +10,12 @@ abbrev pub IsJoined : Dir → ℕ → ℕ → ℕ → Type 0
 IsJoined dir own before plane =
     IsPlane plane (λ p. if is_entry dir p then bit before (at_edge dir (along dir p)) else bit own (one_back dir p))
 
--- of so many chips from a place on, what comes in at the one at k from the one that stands so many places on, round their end
+-- of so many chips from a place on: what comes in at the one at k from the one so many places on, round their end
 pub record IsTurned (dir : Dir) (planes : List ℕ) (from count by k plane : ℕ) : Type 0 where
-  pub straight : k + by < count → IsJoined dir (slice_index planes (from + k)) (slice_index planes (from + (k + by))) plane
-  pub over : count ≤ k + by → IsJoined dir (slice_index planes (from + k)) (slice_index planes (from + (k - (count - by)))) plane
+  pub straight : k + by < count
+      → IsJoined dir (slice_index planes (from + k)) (slice_index planes (from + (k + by))) plane
+  pub over : count ≤ k + by
+      → IsJoined dir (slice_index planes (from + k)) (slice_index planes (from + (k - (count - by)))) plane
 
 -- so at each of them, and the others are as they were
 pub record AreTurned (dir : Dir) (planes : List ℕ) (from count by : ℕ) (old new : List ℕ) : Type 0 where

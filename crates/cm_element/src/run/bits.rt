@@ -76,7 +76,8 @@ impl Run {
     ) -> Result<(), ZeroFlag>
         requires chip { chip < length self.old }
         ensures zero_flag { IsErr result ↔ (number ≡ ZERO) }
-        ensures ok { OnOk result (self.new ≡ slice_set self.old chip (with_flag (chip_at self.old chip) proc number bit)) }
+        ensures ok { OnOk result (self.new
+            ≡ slice_set self.old chip (with_flag (chip_at self.old chip) proc number bit)) }
         ensures err { OnErr result (self.new ≡ self.old) }
     {
         if number == FlagNo::ZERO {
@@ -91,7 +92,8 @@ impl Run {
     pub fn poke_flag_plane(&mut self, chip: u16, number: FlagNo, plane: Plane)
         requires chip { chip < length self.old }
         requires other { number ≢ ZERO }
-        ensures value { self.new ≡ slice_set self.old chip (with_flag_plane (chip_at self.old chip) number (bit plane)) }
+        ensures value { self.new
+            ≡ slice_set self.old chip (with_flag_plane (chip_at self.old chip) number (bit plane)) }
     {
         let here = word_at(usize::from(number.get()), FLAGS, self.stride, chip);
         self.flags[here] = plane;

@@ -7,7 +7,7 @@ ghost use Rattle.cm_model.specs.Instruction.{takes_incoming};
 ghost use Rattle.cm_model.specs.Chip.{chip_after};
 ghost use Rattle.cm_model.specs.Array.{chip_at};
 ghost use Rattle.cm_element.specs.Runs.{AreRows, chips_of};
-ghost use Rattle.cm_element.specs.Steps.{ArePlaces, AreMerged, AreSent};
+ghost use Rattle.cm_element.specs.Steps.{ArePlaces, AreMerged, AreLookedUp};
 
 use crate::chip::{chosen, holding};
 use cm_bits::{FlagNo, Plane};
@@ -73,23 +73,23 @@ pub(crate) fn step_rows(
     }
 }
 
-/// Writes down what every chip computes for the flag of an instruction, whatever its condition.
-pub(crate) fn send_row(
+/// Writes down what a table gives the processors of every chip, whatever their condition.
+pub(crate) fn look_up_row(
+    table: u8,
     memory: &[Plane],
     flags: &[Plane],
     nano: &Nano,
     stride: usize,
     chips: usize,
-    sent: &mut [Plane],
+    found: &mut [Plane],
 )
     requires rows { AreRows memory.now flags.now stride chips }
-    requires sent { length sent.old ≡ chips }
-    ensures value { AreSent nano.now (chips_of memory.now flags.now stride chips) sent.new }
+    requires found { length found.old ≡ chips }
+    ensures value { AreLookedUp table nano.now (chips_of memory.now flags.now stride chips) found.new }
 {
     let at = places(nano, stride);
-    let table = nano.flag_table;
     for c in 0..chips {
-        sent[c] = apply(
+        found[c] = apply(
             table,
             memory[at.a + c],
             memory[at.b + c],
@@ -162,7 +162,7 @@ fn is_always(nano: &Nano) -> bool
 }
 
 /// Where the rows of an instruction begin.
-fn places(nano: &Nano, stride: usize) -> Places
+pub(crate) fn places(nano: &Nano, stride: usize) -> Places
     requires stride { stride < 2 ^ 20 }
     ensures value { ArePlaces nano.now stride result }
     ensures a { result.a + stride ≤ 4096 * stride }
