@@ -3,15 +3,17 @@
 ghost use Rattle.std.specs.Prelude.{◌≡◌, ◌≤◌, IfOk, IfSome};
 ghost use Rattle.cm_bits.specs.Text.{words_left, words_of};
 ghost use Rattle.cm_session.specs.Bounds.{IsFor};
-ghost use Rattle.cm_session.specs.Commands.{alone, index_of, wire_of, field_of, flag_of, poke_of, poke_flag_of, chip_of, find_of, command_named, command_of};
+ghost use Rattle.cm_session.specs.Commands.{alone, index_of, wire_of, field_of, flag_of, poke_of};
+ghost use Rattle.cm_session.specs.Commands.{poke_flag_of, chip_of, find_of, command_named, command_of};
 
 use crate::reader_operands::{address, bit, chip, field, flag, index, number, place, pokeable};
 use cm_bits::Words;
 use cm_model::Tag;
 use cm_session::{Command, Refusal};
 
-/// The command of a line, none where the line has no words; on a cube of that many dimensions, with a program of so
-/// many acts.
+/// What a line asks for, in our own language of commands; none where it has no words. Chips are those of a cube of that
+/// many dimensions, acts those of a program of so many. Of several faults the first is told: the word, the number of
+/// operands, a word that is no number, then ranges from left to right. It takes no memory.
 pub fn read_command(
     line: &[u8],
     dimensions: usize,
