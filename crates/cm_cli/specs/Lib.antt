@@ -5,3 +5,4 @@ pub mod ChipText
 pub mod Session
 pub mod ProgramFault
 pub mod Listed
+pub mod Fresh
