@@ -1,8 +1,10 @@
+//! Debugger sessions over any runner, any source of commands and any sink of answers.
 #![tactic(auto)]
 
 mod answers;
 mod commands;
 mod desk;
+mod feeding;
 mod lines;
 mod reader;
 mod reader_operands;
