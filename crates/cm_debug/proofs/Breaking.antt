@@ -1,5 +1,5 @@
 -- Lines answered one more, and lines that break off.
-use Rattle.std.proofs.Common.{◌≡◌, ℕ, ◌+◌, ◌<◌, ◌≤◌, ◌⊎◌, inl, inr, Bool, true, false, List, [], ◌∷◌, ◌++◌, length, take, drop, take-add, take-append-drop, get_or, Option, refl, ap, ◌∙◌, sym, subst, arith, append_assoc, append-nil, length-append}
+use Rattle.std.proofs.Common.{◌≡◌, ℕ, ◌+◌, ◌<◌, ◌≤◌, inl, false, List, [], ◌∷◌, ◌++◌, length, take, drop, take-add, take-append-drop, get_or, Option, refl, ap, ◌∙◌, sym, subst, arith, append_assoc, append-nil, length-append}
 use Rattle.std.proofs.lemmas.Grind.{common_steps}
 use Rattle.std.proofs.KnownBytes.{Appends-trans, Appends-nil}
 use Rattle.std.specs.Io.KnownBytes.{Appends}
@@ -8,8 +8,8 @@ use Rattle.cm_model.specs.declared.act.Act.{Act}
 use Rattle.cm_model.specs.Machine.{Machine}
 use Rattle.cm_session.specs.declared.fault.SessionFault.{SessionFault}
 use Rattle.cm_session.specs.declared.fault.SessionFault.TheVariants.{Read, Write, TooMuch, Memory, NoThread}
-use Rattle.cm_session.specs.Session.{Session, Answered, told, preceded_by, opening, after_line, after_lines, answers, left}
-use Rattle.cm_session.specs.Ends.{ended_lines, open_line, session_after, IsOnTheWay, IsBeforeOrAmid, IsStopped, IsStoppedSomewhere, IsAnswered}
+use Rattle.cm_session.specs.Session.{Session, Answered, told, preceded_by, opening, after_line, after_lines, answers}
+use Rattle.cm_session.specs.Ends.{ended_lines, open_line, session_after, IsBeforeOrAmid, IsStopped, IsStoppedSomewhere, IsAnswered}
 use Rattle.cm_session.proofs.Lines.{after_lines-append, ended_lines-end, open_line-end, ended_lines-more, open_line-more, lines_of-open, lines_of-append, lines_after}
 use Rattle.cm_debug.specs.Telling.{IsTold, IsCutShort, IsGivenUp, BreaksOff, Stops}
 

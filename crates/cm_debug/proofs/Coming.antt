@@ -1,5 +1,5 @@
 -- How far acts have come that are run stretch by stretch.
-use Rattle.std.proofs.Common.{◌≡◌, ℕ, zero, suc, ◌+◌, ◌-◌, ◌^◌, ◌<◌, ◌≤◌, ◌⊎◌, inl, inr, ◌&&◌, Bool, true, false, cond, List, [], ◌∷◌, ◌++◌, length, take, drop, length-drop, drop-drop, take-add, take-append-drop, slice_index_or, refl, ap, ◌∙◌, sym, subst, arith, append_assoc, nat_lt, lt-ltb, le-ltb, Result, Ok, Err, OnErr}
+use Rattle.std.proofs.Common.{◌≡◌, ℕ, zero, suc, ◌+◌, ◌-◌, ◌<◌, ◌≤◌, ◌⊎◌, inl, inr, ◌&&◌, Bool, true, false, cond, List, [], ◌∷◌, ◌++◌, length, take, drop, length-drop, drop-drop, take-add, take-append-drop, slice_index_or, refl, ap, ◌∙◌, sym, subst, arith, append_assoc, nat_lt, lt-ltb, le-ltb, Result, Ok, Err, OnErr}
 use Rattle.std.proofs.lemmas.Bool.{cases_lt}
 use Rattle.std.proofs.lemmas.Grind.{common_steps}
 use Rattle.cm_model.specs.declared.act.Act.{Act}
@@ -8,7 +8,7 @@ use Rattle.cm_model.proofs.Runs.{run_of-append}
 use Rattle.cm_session.specs.Session.{Session, Answered, told, preceded_by, told_by, going, has_acts, lacks_room, one_on}
 use Rattle.cm_session.specs.Answer.{at_line, end_line, refused_line, CLOCK}
 use Rattle.cm_session.specs.Stretches.{IsStretch, acts_on, arrived}
-use Rattle.cm_session.specs.Ends.{IsAmid, IsOnTheWay}
+use Rattle.cm_session.specs.Ends.{IsOnTheWay}
 use Rattle.cm_session.proofs.Stretching.{going-stretch, going-rises, arrived-rises}
 
 -- acts whose first ones are a stretch

@@ -1,17 +1,17 @@
 -- How a session ends, by what was read and told before.
-use Rattle.std.proofs.Common.{◌≡◌, ℕ, ◌+◌, ◌<◌, ◌≤◌, Bool, true, false, List, [], ◌∷◌, ◌++◌, length, take, Option, Some, None, Result, Ok, Err, IfSome, refl, ap, ◌∙◌, sym, subst, arith, append_assoc, append-nil, length-append}
+use Rattle.std.proofs.Common.{◌≡◌, ℕ, ◌+◌, ◌<◌, ◌≤◌, List, [], ◌++◌, length, take, Option, Some, None, Ok, Err, IfSome, ap, ◌∙◌, sym, subst, arith, append_assoc, append-nil, length-append}
 use Rattle.std.proofs.lemmas.Grind.{common_steps}
-use Rattle.std.proofs.KnownBytes.{Appends-nil, Consumes-kept}
-use Rattle.std.specs.Io.KnownBytes.{Appends, Consumes, Keeps, IsAtEnd}
+use Rattle.std.proofs.KnownBytes.{Consumes-kept}
+use Rattle.std.specs.Io.KnownBytes.{Consumes, Keeps, IsAtEnd}
 use Rattle.cm_bits.specs.Text.{lines_of}
 use Rattle.cm_model.specs.declared.act.Act.{Act}
 use Rattle.cm_model.specs.Machine.{Machine}
 use Rattle.cm_session.specs.declared.fault.SessionFault.{SessionFault}
 use Rattle.cm_session.specs.declared.fault.SessionFault.TheVariants.{Read, Write, TooMuch, Memory, NoThread}
 use Rattle.cm_session.specs.Session.{Session}
-use Rattle.cm_session.specs.Ends.{LIMIT, ended_lines, IsAnswered, IsStoppedSomewhere, Ends}
+use Rattle.cm_session.specs.Ends.{LIMIT, ended_lines, IsAnswered, Ends}
 use Rattle.cm_debug.specs.Telling.{IsTold, Stops}
-use Rattle.cm_debug.proofs.Breaking.{all_told, closed_told, stops_between}
+use Rattle.cm_debug.proofs.Breaking.{all_told}
 
 -- by a read
 pub ends_read : (n cap : ℕ) (acts : List Act) (start : Machine) (held : Option (List ℕ)) (before now after : Option (List ℕ)) (taken : List ℕ)

@@ -4,6 +4,7 @@
 mod answers;
 mod commands;
 mod desk;
+mod feeding;
 mod lines;
 mod reader;
 mod reader_operands;

@@ -1,9 +1,8 @@
-use Rattle.std.proofs.Common.{◌≡◌, ℕ, ◌+◌, ◌≤◌, ◌<◌, ◌-◌, ◌++◌, List, drop, length, take, refl, sym, ap, ◌∙◌, subst, arith}
-use Rattle.cm_model.specs.Machine.{Machine}
-use Rattle.cm_session.specs.Session.{Session, Answered}
+use Rattle.std.proofs.Common.{◌++◌, drop, refl, sym, ap, ◌∙◌, subst, arith}
+use Rattle.cm_session.specs.Session.{Answered}
 use Rattle.cm_session.specs.Ends.{IsOnTheWay}
-use Rattle.cm_debug.specs.Desk.{gone, come, session_of, stops_at}
-use Rattle.cm_debug.proofs.Coming.{comes, HasCome, refused_here, ended_here, stopped_here, goes_on, broken, broken_at, either_way, same_length}
+use Rattle.cm_debug.specs.Desk.{session_of, stops_at}
+use Rattle.cm_debug.proofs.Coming.{comes, refused_here, ended_here, goes_on, broken, broken_at, either_way, same_length}
 use Rattle.cm_debug.proofs.running.run_on.Goals as goal
 
 pub returns-in_err-push_number-clause-err : goal.returns-in_err-push_number-clause-err

@@ -1,4 +1,4 @@
-use Rattle.std.proofs.Common.{◌≡◌, refl}
+use Rattle.std.proofs.Common.{refl}
 use Rattle.cm_debug.specs.Desk.{stops_at, session_of}
 use Rattle.cm_debug.proofs.Coming.{stretch_told}
 use Rattle.cm_debug.proofs.running.run_stretch.Goals as goal

@@ -1,4 +1,4 @@
-use Rattle.std.proofs.Common.{◌≡◌, ◌+◌, ◌≤◌, ◌^◌, ◌<◌, take, cond, refl, arith}
+use Rattle.std.proofs.Common.{◌≡◌, ◌+◌, take, cond, refl, arith}
 use Rattle.cm_array.specs.Acts.{cycles_in, is_cycle}
 use Rattle.cm_debug.proofs.Growing.{grows, one_more}
 use Rattle.cm_debug.proofs.stretch.stretch_len.Goals as goal
