@@ -1,5 +1,6 @@
 //! Lines of a session that are refused, each with its first fault, and lines that are read.
 
+use cm_bits::Place;
 use cm_debug::read_command;
 use cm_session::{Command, Refusal};
 
@@ -164,7 +165,10 @@ fn refusal(dimensions: usize, count: usize, line: &[u8]) -> Option<Refusal> {
     if dimensions > 12 {
         return None;
     }
-    read_command(line, dimensions, count).err()
+    match read_command(line, dimensions, count) {
+        Ok(_) => None,
+        Err(refusal) => Some(refusal),
+    }
 }
 
 /// What is asked for, and its operands as numbers.
@@ -180,49 +184,28 @@ fn parts(asked: Option<Command>) -> (&'static str, [u64; 4]) {
         Command::WireOn => ("wire on", [0; 4]),
         Command::WireOff => ("wire off", [0; 4]),
         Command::WireShow => ("wire show", [0; 4]),
-        Command::Field(place, field) => (
-            "field",
-            [
-                u64::from(place.chip),
-                u64::from(place.proc.get()),
-                u64::from(field.at()),
-                u64::from(field.len()),
-            ],
-        ),
-        Command::Flag(place, flag) => (
-            "flag",
-            [
-                u64::from(place.chip),
-                u64::from(place.proc.get()),
-                u64::from(flag.get()),
-                0,
-            ],
-        ),
-        Command::Poke(place, address, bit) => (
-            "poke",
-            [
-                u64::from(place.chip),
-                u64::from(place.proc.get()),
-                u64::from(address.get()),
-                u64::from(bit),
-            ],
-        ),
-        Command::PokeFlag(place, flag, bit) => (
-            "pokeflag",
-            [
-                u64::from(place.chip),
-                u64::from(place.proc.get()),
-                u64::from(flag.get()),
-                u64::from(bit),
-            ],
-        ),
-        Command::Buffer(c) => ("buf", [u64::from(c), 0, 0, 0]),
+        Command::Field(place, field) => ("field", at(place, field.at(), field.len() as u64)),
+        Command::Flag(place, flag) => ("flag", at(place, flag.get() as u16, 0)),
+        Command::Poke(place, address, bit) => ("poke", at(place, address.get(), bit as u64)),
+        Command::PokeFlag(place, flag, bit) => {
+            ("pokeflag", at(place, flag.get() as u16, bit as u64))
+        }
+        Command::Buffer(c) => ("buf", [c as u64, 0, 0, 0]),
         Command::Find(tag) => (
             "find",
-            [u64::from(tag.chip), u64::from(tag.proc.get()), tag.birth, 0],
+            [tag.chip as u64, tag.proc.get() as u64, tag.birth, 0],
         ),
-        Command::Events(c) => ("events", [u64::from(c), 0, 0, 0]),
+        Command::Events(c) => ("events", [c as u64, 0, 0, 0]),
     }
+}
+
+fn at(place: Place, third: u16, fourth: u64) -> [u64; 4] {
+    [
+        place.chip as u64,
+        place.proc.get() as u64,
+        third as u64,
+        fourth,
+    ]
 }
 
 #[test]
