@@ -1,6 +1,6 @@
-use Rattle.std.proofs.Common.{◌≡◌, ℕ, List, [], Option, Some, None, IsSomeAnd, codes, refl, sym, ap, ◌∙◌, subst, arith}
+use Rattle.std.proofs.Common.{◌≡◌, ℕ, List, Option, Some, IsSomeAnd, codes, subst, arith}
 use Rattle.std.proofs.lemmas.Grind.{common_steps}
-use Rattle.clap.specs.Walk.{Text, Row, first_of, rows_of, texts}
+use Rattle.clap.specs.Walk.{Text, Row, rows_of, texts}
 use Rattle.clap.specs.Matches.{found_of}
 use Rattle.clap.specs.Simple.{subcommand_of}
 use Rattle.cm_line.specs.declared.line.Line.{Line}

@@ -1,5 +1,5 @@
-use Rattle.std.proofs.Common.{◌≡◌, ℕ, List, Option, Some, None, codes, string_bytes, refl, sym, ap, ◌∙◌}
-use Rattle.clap.specs.Walk.{Text, first_of, rows_of}
+use Rattle.std.proofs.Common.{◌≡◌, ℕ, List, Option, Some, None, codes, refl, sym, ap, ◌∙◌}
+use Rattle.clap.specs.Walk.{Text}
 use Rattle.clap.specs.Matches.{found_of}
 use Rattle.clap.proofs.WalkLemmas.{first_value-rows}
 use Rattle.cm_line.proofs.line.fresh_line.Goals as goal

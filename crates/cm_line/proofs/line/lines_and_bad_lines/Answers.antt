@@ -1,4 +1,4 @@
-use Rattle.std.proofs.Common.{◌≡◌, ℕ, List, Some, codes, refl, sym, ap, lit<, lit≤}
+use Rattle.std.proofs.Common.{ℕ, List, Some, codes, refl, sym, ap, lit<, lit≤}
 use Rattle.clap.proofs.OnLiterals.{clap_on_literals}
 use Rattle.cm_line.proofs.line.lines_and_bad_lines.Goals as goal
 
