@@ -114,7 +114,7 @@ pub fn lines_and_bad_lines()
         → AsksFor (codes "cm1" ∷ codes "list" ∷ codes "sums.txt" ∷ []) (Line.List program) }
     ensures fresh { (file : String Global) → string_bytes file ≡ codes "blank.image"
         → AsksFor (codes "cm1" ∷ codes "fresh" ∷ codes "12" ∷ codes "7" ∷ codes "blank.image" ∷ [])
-            (Line.Fresh 12 7 file) }
+        (Line.Fresh 12 7 file) }
     ensures help { IsBadLine (codes "cm1" ∷ codes "help" ∷ []) }
     ensures help_flag { IsBadLine (codes "cm1" ∷ codes "--help" ∷ []) }
     ensures short_help_flag { IsBadLine (codes "cm1" ∷ codes "-h" ∷ []) }
