@@ -9,5 +9,9 @@ mod lines;
 mod reader;
 mod reader_operands;
 mod running;
+mod sessions;
 mod stretch;
 mod want;
+
+pub use cm_session::SessionFault;
+pub use sessions::session;
