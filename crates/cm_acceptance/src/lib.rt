@@ -10,6 +10,8 @@ mod beside;
 #[cfg(test)]
 mod both;
 #[cfg(test)]
+mod building;
+#[cfg(test)]
 mod draws;
 #[cfg(test)]
 mod largest;

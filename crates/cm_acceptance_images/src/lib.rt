@@ -2,10 +2,18 @@
 #![tactic(auto)]
 
 #[cfg(test)]
+mod draws;
+#[cfg(test)]
 mod dumps;
+#[cfg(test)]
+mod hostile;
 #[cfg(test)]
 mod messages;
 #[cfg(test)]
 mod parts;
 #[cfg(test)]
+mod reader;
+#[cfg(test)]
 mod shapes;
+#[cfg(test)]
+mod texts;

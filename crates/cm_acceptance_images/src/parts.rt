@@ -1,186 +1,241 @@
-//! The planes and messages of a chip of an image.
+//! The parts of an image of one chip, each with its faults.
 
-use cm_image::{ImageFault, take_flags, take_memory, take_message};
+use crate::texts::{ONE_CHIP, changed};
+use cm_image::{ImageFault, dump, load};
+use std::alloc::Global;
 use std::test::Fail;
 
-enum Part {
-    Flags,
-    Memory,
-    /// Of two chips, after one petit cycle.
-    Message,
-}
-
+/// The bytes of one chip, after one petit cycle, with some of them changed.
 struct Row {
     name: &'static str,
-    part: Part,
-    bytes: &'static [u8],
-    /// How many bytes are left, or the fault.
-    wanted: Result<usize, ImageFault>,
+    at: usize,
+    out: usize,
+    put: &'static [u8],
+    fault: Option<ImageFault>,
 }
 
-const FLAGS: [u8; 33] = [
-    0, 1, 0, 0, 0, 0, 0, 0, 0, 0, 0, 0, 0, 0, 0, 0, 0, 0, 0, 0, 0, 0, 0, 0, 0, 0, 0, 0, 0, 0, 0x80,
-    1, 9,
-];
+const FLAGS: usize = 16;
 
-const ZERO: [u8; 32] = [
-    0, 0, 0, 0, 0, 0, 0, 0, 0, 0, 0, 0, 0, 0, 0, 0, 0, 1, 0, 0, 0, 0, 0, 0, 0, 0, 0, 0, 0, 0, 0, 0,
-];
+const MEMORY: usize = 48;
 
-const ROWS: [Row; 18] = [
+const MESSAGES: usize = 50;
+
+const ROWS: [Row; 26] = [
     Row {
-        name: "flags",
-        part: Part::Flags,
-        bytes: &FLAGS,
-        wanted: Ok(1),
+        name: "no change",
+        at: 0,
+        out: 0,
+        put: &[],
+        fault: None,
+    },
+    Row {
+        name: "magic",
+        at: 3,
+        out: 1,
+        put: &[0x4a],
+        fault: Some(ImageFault::Magic),
+    },
+    Row {
+        name: "version 2",
+        at: 4,
+        out: 1,
+        put: &[2],
+        fault: Some(ImageFault::Version),
+    },
+    Row {
+        name: "another dimension",
+        at: 5,
+        out: 1,
+        put: &[1],
+        fault: Some(ImageFault::Shape),
+    },
+    Row {
+        name: "another room",
+        at: 6,
+        out: 1,
+        put: &[1],
+        fault: Some(ImageFault::Shape),
+    },
+    Row {
+        name: "reserve",
+        at: 7,
+        out: 1,
+        put: &[1],
+        fault: Some(ImageFault::Shape),
+    },
+    Row {
+        name: "the last counter",
+        at: 8,
+        out: 1,
+        put: &[0x7f],
+        fault: None,
+    },
+    Row {
+        name: "counter of 2^63",
+        at: 8,
+        out: 1,
+        put: &[0x80],
+        fault: Some(ImageFault::Value),
+    },
+    Row {
+        name: "a flag",
+        at: FLAGS,
+        out: 2,
+        put: &[0x80, 1],
+        fault: None,
     },
     Row {
         name: "flag ZERO",
-        part: Part::Flags,
-        bytes: &ZERO,
-        wanted: Err(ImageFault::Value),
-    },
-    Row {
-        name: "half a flag plane",
-        part: Part::Flags,
-        bytes: &[0, 0, 0],
-        wanted: Err(ImageFault::Short),
-    },
-    Row {
-        name: "no plane",
-        part: Part::Memory,
-        bytes: &[0, 0, 7],
-        wanted: Ok(1),
+        at: FLAGS + 17,
+        out: 1,
+        put: &[1],
+        fault: Some(ImageFault::Value),
     },
     Row {
         name: "two planes",
-        part: Part::Memory,
-        bytes: &[0, 2, 0, 5, 0, 1, 0x0f, 0xff, 0x80, 0],
-        wanted: Ok(0),
+        at: MEMORY,
+        out: 2,
+        put: &[0, 2, 0, 5, 0, 1, 0x0f, 0xff, 0x80, 0],
+        fault: None,
     },
     Row {
         name: "too many planes",
-        part: Part::Memory,
-        bytes: &[0x10, 1],
-        wanted: Err(ImageFault::Count),
+        at: MEMORY,
+        out: 2,
+        put: &[0x10, 1],
+        fault: Some(ImageFault::Count),
     },
     Row {
         name: "a plane of 0",
-        part: Part::Memory,
-        bytes: &[0, 1, 0, 0, 0, 0],
-        wanted: Err(ImageFault::Order),
+        at: MEMORY,
+        out: 2,
+        put: &[0, 1, 0, 0, 0, 0],
+        fault: Some(ImageFault::Order),
     },
     Row {
         name: "address 4096",
-        part: Part::Memory,
-        bytes: &[0, 1, 0x10, 0, 0, 1],
-        wanted: Err(ImageFault::Value),
+        at: MEMORY,
+        out: 2,
+        put: &[0, 1, 0x10, 0, 0, 1],
+        fault: Some(ImageFault::Value),
     },
     Row {
         name: "an address again",
-        part: Part::Memory,
-        bytes: &[0, 2, 0, 5, 0, 1, 0, 5, 0, 1],
-        wanted: Err(ImageFault::Order),
+        at: MEMORY,
+        out: 2,
+        put: &[0, 2, 0, 5, 0, 1, 0, 5, 0, 1],
+        fault: Some(ImageFault::Order),
     },
     Row {
         name: "addresses falling",
-        part: Part::Memory,
-        bytes: &[0, 2, 0, 5, 0, 1, 0, 4, 0, 1],
-        wanted: Err(ImageFault::Order),
-    },
-    Row {
-        name: "a plane that is cut",
-        part: Part::Memory,
-        bytes: &[0, 1, 0, 5, 0],
-        wanted: Err(ImageFault::Short),
+        at: MEMORY,
+        out: 2,
+        put: &[0, 2, 0, 5, 0, 1, 0, 4, 0, 1],
+        fault: Some(ImageFault::Order),
     },
     Row {
         name: "a message",
-        part: Part::Message,
-        bytes: &[0, 1, 15, 1, 2, 3, 4, 0, 1, 15, 0, 0, 0, 0, 0, 0, 0, 0, 8, 8],
-        wanted: Ok(2),
+        at: MESSAGES,
+        out: 1,
+        put: &[1, 0, 0, 15, 1, 2, 3, 4, 0, 0, 15, 0, 0, 0, 0, 0, 0, 0, 0],
+        fault: None,
     },
     Row {
-        name: "to chip 2",
-        part: Part::Message,
-        bytes: &[0, 2],
-        wanted: Err(ImageFault::Value),
+        name: "eight messages",
+        at: MESSAGES,
+        out: 1,
+        put: &[8],
+        fault: Some(ImageFault::Count),
+    },
+    Row {
+        name: "to chip 1",
+        at: MESSAGES,
+        out: 1,
+        put: &[1, 0, 1],
+        fault: Some(ImageFault::Value),
     },
     Row {
         name: "to processor 16",
-        part: Part::Message,
-        bytes: &[0, 0, 16],
-        wanted: Err(ImageFault::Value),
+        at: MESSAGES,
+        out: 1,
+        put: &[1, 0, 0, 16],
+        fault: Some(ImageFault::Value),
     },
     Row {
-        name: "from chip 2",
-        part: Part::Message,
-        bytes: &[0, 0, 0, 0, 0, 0, 0, 0, 2],
-        wanted: Err(ImageFault::Value),
+        name: "from chip 1",
+        at: MESSAGES,
+        out: 1,
+        put: &[1, 0, 0, 0, 0, 0, 0, 0, 0, 1],
+        fault: Some(ImageFault::Value),
     },
     Row {
         name: "from processor 16",
-        part: Part::Message,
-        bytes: &[0, 0, 0, 0, 0, 0, 0, 0, 0, 16],
-        wanted: Err(ImageFault::Value),
+        at: MESSAGES,
+        out: 1,
+        put: &[1, 0, 0, 0, 0, 0, 0, 0, 0, 0, 16],
+        fault: Some(ImageFault::Value),
     },
     Row {
         name: "born too late",
-        part: Part::Message,
-        bytes: &[0, 0, 0, 0, 0, 0, 0, 0, 0, 0, 0, 0, 0, 0, 0, 0, 0, 1],
-        wanted: Err(ImageFault::Value),
+        at: MESSAGES,
+        out: 1,
+        put: &[1, 0, 0, 0, 0, 0, 0, 0, 0, 0, 0, 0, 0, 0, 0, 0, 0, 0, 1],
+        fault: Some(ImageFault::Value),
     },
     Row {
-        name: "a birth that is cut",
-        part: Part::Message,
-        bytes: &[0, 0, 0, 0, 0, 0, 0, 0, 0, 0, 0, 0, 0, 0, 0, 0, 0],
-        wanted: Err(ImageFault::Short),
+        name: "one tag twice",
+        at: MESSAGES,
+        out: 1,
+        put: &[
+            2, 0, 0, 0, 0, 0, 0, 0, 0, 0, 0, 0, 0, 0, 0, 0, 0, 0, 0, 0, 0, 0, 0, 0, 0, 0, 0, 0, 0,
+            0, 0, 0, 0, 0, 0, 0, 0,
+        ],
+        fault: Some(ImageFault::TagTwice),
+    },
+    Row {
+        name: "one tag twice and one byte more",
+        at: MESSAGES,
+        out: 1,
+        put: &[
+            2, 0, 0, 0, 0, 0, 0, 0, 0, 0, 0, 0, 0, 0, 0, 0, 0, 0, 0, 0, 0, 0, 0, 0, 0, 0, 0, 0, 0,
+            0, 0, 0, 0, 0, 0, 0, 0, 7,
+        ],
+        fault: Some(ImageFault::TagTwice),
+    },
+    Row {
+        name: "one byte more",
+        at: 51,
+        out: 0,
+        put: &[0],
+        fault: Some(ImageFault::Extra),
     },
 ];
 
-fn left(row: &Row) -> Result<usize, ImageFault> {
-    match row.part {
-        Part::Flags => match take_flags(row.bytes) {
-            Ok((_, rest)) => Ok(rest.len()),
-            Err(fault) => Err(fault),
-        },
-        Part::Memory => {
-            let mut planes = [0u16; 4096];
-            let rest = take_memory(&mut planes, row.bytes)?;
-            Ok(rest.len())
-        }
-        Part::Message => match take_message(1, 2, 1, row.bytes) {
-            Ok((_, rest)) => Ok(rest.len()),
-            Err(fault) => Err(fault),
-        },
+/// Whether bytes are refused with this fault, or, where it is none, are read and written back.
+pub(crate) fn goes_so<const N: usize, const CAP: usize>(
+    alloc: Global,
+    bytes: &[u8],
+    fault: Option<ImageFault>,
+) -> Result<bool, Fail> {
+    match load::<N, CAP>(alloc, bytes) {
+        Ok(machine) => Ok(fault.is_none() && dump(alloc, &machine)?.as_slice() == bytes),
+        Err(found) => Ok(fault == Some(found)),
     }
 }
 
 /// What the first row shows that is not so.
-fn first_not_so(table: &[Row]) -> Option<&'static str> {
+fn first_not_so(alloc: Global, table: &[Row]) -> Result<Option<&'static str>, Fail> {
     for row in table {
-        if left(row) != row.wanted {
-            return Some(row.name);
+        let bytes = changed(alloc, &ONE_CHIP, row.at, row.out, row.put)?;
+        if !goes_so::<0, 7>(alloc, &bytes, row.fault)? {
+            return Ok(Some(row.name));
         }
     }
-    None
+    Ok(None)
 }
 
 #[test]
 fn parts_are_judged_one_after_another(rt: HostRuntime) -> Result<(), Fail> {
-    assert_eq!(rt; first_not_so(&ROWS), None);
-    Ok(())
-}
-
-#[test]
-fn planes_are_put_at_their_addresses(rt: HostRuntime) -> Result<(), Fail> {
-    let mut planes = [3u16; 4096];
-    let bytes = [0u8, 2, 0, 5, 0, 1, 0x0f, 0xff, 0x80, 0];
-    let rest = take_memory(&mut planes, &bytes)?;
-    assert_eq!(rt; rest.len(), 0);
-    assert_eq!(rt;
-        (planes[4], planes[5], planes[6], planes[4095]),
-        (3, 1, 3, 0x8000)
-    );
+    assert_eq!(rt; first_not_so(rt.alloc(), &ROWS)?, None);
     Ok(())
 }

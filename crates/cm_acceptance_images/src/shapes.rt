@@ -1,6 +1,7 @@
 //! The shape and the header of an image.
 
-use cm_image::{ImageFault, shape, take_header};
+use cm_image::{ImageFault, load, shape};
+use std::alloc::Global;
 use std::test::Fail;
 
 /// One chip, room for seven messages, counter 0.
@@ -12,9 +13,9 @@ struct Row {
     len: usize,
     at: usize,
     byte: u8,
-    /// What `shape` refuses, and what a reader of one chip and room for seven does.
+    /// What `shape` refuses, and what `load` of one chip and room for seven does: no chip follows.
     shape: Option<ImageFault>,
-    header: Option<ImageFault>,
+    whole: Option<ImageFault>,
 }
 
 const ROWS: [Row; 14] = [
@@ -24,7 +25,7 @@ const ROWS: [Row; 14] = [
         at: 0,
         byte: 0x43,
         shape: None,
-        header: None,
+        whole: Some(ImageFault::Short),
     },
     Row {
         name: "magic",
@@ -32,7 +33,7 @@ const ROWS: [Row; 14] = [
         at: 0,
         byte: 0,
         shape: Some(ImageFault::Magic),
-        header: Some(ImageFault::Magic),
+        whole: Some(ImageFault::Magic),
     },
     Row {
         name: "version 2",
@@ -40,7 +41,7 @@ const ROWS: [Row; 14] = [
         at: 4,
         byte: 2,
         shape: Some(ImageFault::Version),
-        header: Some(ImageFault::Version),
+        whole: Some(ImageFault::Version),
     },
     Row {
         name: "13 dimensions",
@@ -48,7 +49,7 @@ const ROWS: [Row; 14] = [
         at: 5,
         byte: 13,
         shape: Some(ImageFault::Shape),
-        header: Some(ImageFault::Shape),
+        whole: Some(ImageFault::Shape),
     },
     Row {
         name: "12 dimensions",
@@ -56,7 +57,7 @@ const ROWS: [Row; 14] = [
         at: 5,
         byte: 12,
         shape: None,
-        header: Some(ImageFault::Shape),
+        whole: Some(ImageFault::Shape),
     },
     Row {
         name: "no room",
@@ -64,7 +65,7 @@ const ROWS: [Row; 14] = [
         at: 6,
         byte: 0,
         shape: Some(ImageFault::Shape),
-        header: Some(ImageFault::Shape),
+        whole: Some(ImageFault::Shape),
     },
     Row {
         name: "room for 15",
@@ -72,7 +73,7 @@ const ROWS: [Row; 14] = [
         at: 6,
         byte: 15,
         shape: None,
-        header: Some(ImageFault::Shape),
+        whole: Some(ImageFault::Shape),
     },
     Row {
         name: "room for 16",
@@ -80,7 +81,7 @@ const ROWS: [Row; 14] = [
         at: 6,
         byte: 16,
         shape: Some(ImageFault::Shape),
-        header: Some(ImageFault::Shape),
+        whole: Some(ImageFault::Shape),
     },
     Row {
         name: "reserve",
@@ -88,7 +89,7 @@ const ROWS: [Row; 14] = [
         at: 7,
         byte: 1,
         shape: Some(ImageFault::Shape),
-        header: Some(ImageFault::Shape),
+        whole: Some(ImageFault::Shape),
     },
     Row {
         name: "counter of 2^63",
@@ -96,7 +97,7 @@ const ROWS: [Row; 14] = [
         at: 8,
         byte: 0x80,
         shape: None,
-        header: Some(ImageFault::Value),
+        whole: Some(ImageFault::Value),
     },
     Row {
         name: "cut in the counter",
@@ -104,7 +105,7 @@ const ROWS: [Row; 14] = [
         at: 0,
         byte: 0x43,
         shape: None,
-        header: Some(ImageFault::Short),
+        whole: Some(ImageFault::Short),
     },
     Row {
         name: "cut before the reserve",
@@ -112,7 +113,7 @@ const ROWS: [Row; 14] = [
         at: 0,
         byte: 0x43,
         shape: Some(ImageFault::Short),
-        header: Some(ImageFault::Short),
+        whole: Some(ImageFault::Short),
     },
     Row {
         name: "another dimension before a room that is cut",
@@ -120,7 +121,7 @@ const ROWS: [Row; 14] = [
         at: 5,
         byte: 1,
         shape: Some(ImageFault::Short),
-        header: Some(ImageFault::Shape),
+        whole: Some(ImageFault::Shape),
     },
     Row {
         name: "cut in the magic",
@@ -128,12 +129,12 @@ const ROWS: [Row; 14] = [
         at: 0,
         byte: 0,
         shape: Some(ImageFault::Short),
-        header: Some(ImageFault::Short),
+        whole: Some(ImageFault::Short),
     },
 ];
 
 /// What the first row shows that is not so.
-fn first_not_so(table: &[Row]) -> Option<&'static str> {
+fn first_not_so(alloc: Global, table: &[Row]) -> Option<&'static str> {
     for row in table {
         let mut changed = BLANK;
         if row.at < 16 {
@@ -143,7 +144,7 @@ fn first_not_so(table: &[Row]) -> Option<&'static str> {
             return Some(row.name);
         }
         let bytes = &changed[..row.len];
-        if shape(bytes).err() != row.shape || take_header(0, 7, bytes).err() != row.header {
+        if shape(bytes).err() != row.shape || load::<0, 7>(alloc, bytes).err() != row.whole {
             return Some(row.name);
         }
     }
@@ -152,7 +153,7 @@ fn first_not_so(table: &[Row]) -> Option<&'static str> {
 
 #[test]
 fn a_header_is_judged_part_by_part(rt: HostRuntime) -> Result<(), Fail> {
-    assert_eq!(rt; first_not_so(&ROWS), None);
+    assert_eq!(rt; first_not_so(rt.alloc(), &ROWS), None);
     Ok(())
 }
 

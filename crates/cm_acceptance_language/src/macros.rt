@@ -1,18 +1,15 @@
-//! Macros, run bit by bit on a plain machine, beside plain whole numbers.
+//! Macros, run on the fast machine, beside plain whole numbers.
 
 ghost use Rattle.std.specs.Prelude.{◌<◌};
 
 use crate::draws::Draws;
-use cm_bits::{Addr, Field, FlagNo, NoMemory, Proc};
+use cm_array::{Machine, MachineFault, Plain, Runner};
+use cm_bits::{Addr, Field, FlagNo, Proc};
+use cm_element::Chip;
 use cm_language::{Context, Macro};
 use cm_macros::expand;
-use cm_model::Act;
-use cm_plain::PlainMachine;
 use std::alloc::Global;
 use std::test::Fail;
-
-/// So many memory bits has each processor of a trial.
-const ADDRESSES: u16 = 200;
 
 pub(crate) fn processor(number: u8) -> Proc {
     Proc::new(number % 16).unwrap()
@@ -26,28 +23,29 @@ fn address(number: u16) -> Addr {
     Addr::new(number % 4096).unwrap()
 }
 
-/// A machine of one chip whose bits and flags are drawn: the same for one seed.
-fn drawn_machine(alloc: Global, seed: u32) -> Result<PlainMachine<0>, NoMemory> {
-    let mut machine = PlainMachine::<0>::blank(alloc, ADDRESSES)?;
+/// A machine of one chip whose memory bits and flags are drawn: the same for one seed.
+fn drawn_machine(alloc: Global, seed: u32) -> Result<Machine<0, 7>, MachineFault> {
+    let mut machine = Machine::<0, 7>::blank(alloc)?;
     let mut draws = Draws::new(seed);
     for number in 0..16u8 {
-        for at in 0..ADDRESSES {
+        for at in 0..4096u16 {
             let bit = draws.below(2) == 1;
             machine.poke(0, processor(number), address(at), bit);
         }
         for f in 0..16u16 {
             let bit = draws.below(2) == 1;
-            machine.poke_flag(0, processor(number), flag(f), bit);
+            // Flag 8 takes none.
+            machine.poke_flag(0, processor(number), flag(f), bit).ok();
         }
     }
     Ok(machine)
 }
 
 /// The number in a field.
-fn value(machine: &PlainMachine<0>, number: u8, field: Field) -> u64 {
+fn value(chip: &Chip, number: u8, field: Field) -> u64 {
     let mut sum = 0u64;
     for i in 0..field.len() {
-        let bit = machine.read(0, processor(number), address(field.at() + i));
+        let bit = chip.read(processor(number), address(field.at() + i));
         if bit {
             sum |= 1 << i;
         }
@@ -106,7 +104,7 @@ fn sum(d: Field, a: u64, b: u64) -> Outcome {
 }
 
 /// The outcome of a macro in whole numbers.
-fn wanted_outcome(wanted: &Macro, before: &PlainMachine<0>, number: u8) -> Outcome {
+fn wanted_outcome(wanted: &Macro, before: &Chip, number: u8) -> Outcome {
     match *wanted {
         Macro::Add(d, s) => sum(d, value(before, number, d), value(before, number, s)),
         Macro::Sub(d, s) => {
@@ -117,7 +115,7 @@ fn wanted_outcome(wanted: &Macro, before: &PlainMachine<0>, number: u8) -> Outco
         Macro::Equal(x, y) => carried(None, value(before, number, x) == value(before, number, y)),
         Macro::Move(d, s) => stored(d, value(before, number, s)),
         Macro::Select(d, s, f) => {
-            if before.flag(0, processor(number), f) {
+            if before.flag(processor(number), f) {
                 stored(d, value(before, number, s))
             } else {
                 nothing()
@@ -169,49 +167,56 @@ impl Outcome {
     }
 }
 
-fn is_selected(context: Context, machine: &PlainMachine<0>, number: u8) -> bool {
+fn is_selected(context: Context, chip: &Chip, number: u8) -> bool {
     match context {
         Context::Always => true,
-        Context::On(f) => machine.flag(0, processor(number), f),
-        Context::Off(f) => !machine.flag(0, processor(number), f),
+        Context::On(f) => chip.flag(processor(number), f),
+        Context::Off(f) => !chip.flag(processor(number), f),
     }
 }
 
-/// All bits and flags of one processor are as they should be.
-fn is_right_in(
-    wanted: &Macro,
-    context: Context,
-    before: &PlainMachine<0>,
-    after: &PlainMachine<0>,
-    number: u8,
-) -> bool {
+/// All memory bits and flags of one processor are as they should be.
+fn is_right_in(wanted: &Macro, context: Context, before: &Chip, after: &Chip, number: u8) -> bool {
     let outcome = if is_selected(context, before, number) {
         wanted_outcome(wanted, before, number)
     } else {
         nothing()
     };
     let p = processor(number);
-    (0..ADDRESSES).all(|at| {
-        after.read(0, p, address(at)) == outcome.bit(at, before.read(0, p, address(at)))
-    }) && (0..16u16).all(|f| after.flag(0, p, flag(f))
-        == outcome.flag(f, before.flag(0, p, flag(f))))
+    (0..4096u16).all(|at| {
+        after.read(p, address(at)) == outcome.bit(at, before.read(p, address(at)))
+    }) && (0..16u16).all(|f| after.flag(p, flag(f)) == outcome.flag(f, before.flag(p, flag(f))))
 }
 
-fn run(alloc: Global, machine: &mut PlainMachine<0>, acts: &[Act]) -> Result<(), NoMemory> {
-    for act in acts {
-        if let Act::Nano(nano) = act {
-            machine.step(alloc, nano)?;
+/// Three places for fields, one beside the other, somewhere in memory.
+#[derive(Clone, Copy)]
+struct Places {
+    base: u16,
+    len: u16,
+}
+
+impl Places {
+    fn drawn(draws: &mut Draws) -> Places {
+        Places {
+            len: 1 + draws.below(64),
+            base: draws.below(3905),
         }
     }
-    Ok(())
+
+    /// The field at one of the places.
+    fn field(self, place: u16) -> Result<Field, Fail> {
+        let at = (self.base % 3905) + 64 * (place % 3);
+        Ok(Field::new(at, self.len)?)
+    }
 }
 
 /// A macro over fields that are apart or the same, and of one length.
 fn drawn_macro(draws: &mut Draws, kind: u32) -> Result<Macro, Fail> {
-    let len = 1 + draws.below(64);
-    let d = Field::new(0, len)?;
-    let s = Field::new(64 * draws.below(2), len)?;
-    let y = Field::new(128, len)?;
+    let places = Places::drawn(draws);
+    let d = places.field(0)?;
+    let s = places.field(draws.below(2))?;
+    let x = places.field(1 + draws.below(2))?;
+    let y = places.field(1 + draws.below(2))?;
     let number = u64::from(draws.number()) << 32 | u64::from(draws.number());
     Ok(match kind % 11 {
         0 => Macro::Add(d, s),
@@ -222,14 +227,17 @@ fn drawn_macro(draws: &mut Draws, kind: u32) -> Result<Macro, Fail> {
         5 => Macro::Select(d, s, flag(draws.below(16))),
         6 => Macro::Const(d, cut(d, number)),
         7 => Macro::Shift(d),
-        8 => Macro::Mul(d, y, y),
+        8 => Macro::Mul(d, x, y),
         9 => Macro::Set(flag(12 + draws.below(4))),
         _ => Macro::Clear(flag(12 + draws.below(4))),
     })
 }
 
+/// Flags that no macro of the trials writes.
+const CONDITIONS: [u16; 10] = [0, 1, 2, 3, 4, 5, 8, 9, 10, 11];
+
 fn drawn_context(draws: &mut Draws) -> Context {
-    let f = flag(draws.below(6));
+    let f = flag(CONDITIONS[usize::from(draws.below(10))]);
     match draws.below(3) {
         0 => Context::Always,
         1 => Context::On(f),
@@ -246,11 +254,12 @@ fn goes_right(alloc: Global, seed: u32) -> Result<bool, Fail> {
         _ => drawn_context(&mut draws),
     };
     let before = drawn_machine(alloc, seed << 8)?;
-    let mut after = drawn_machine(alloc, seed << 8)?;
+    let mut after = before.copy(alloc)?;
     let mut list = Vec::new(alloc);
     expand(&wanted, context, &mut list)?;
-    run(alloc, &mut after, list.as_slice())?;
-    Ok((0..16u8).all(|number| is_right_in(&wanted, context, &before, &after, number)))
+    Plain.go(&mut after, list.as_slice())?;
+    let (before, after) = (before.chip(0), after.chip(0));
+    Ok((0..16u8).all(|number| is_right_in(&wanted, context, before, after, number)))
 }
 
 #[test]

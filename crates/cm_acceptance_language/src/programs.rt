@@ -14,7 +14,10 @@ type Row = (&'static [u8], u8, u8, u64, bool);
 const DIFFERENCE: &[u8] =
     b"field x 0 8\nfield y 8 8\nconst x 10\nconst y 3\nclear 7\nif 3\nsub x y\n";
 
-const PROGRAMS: [Row; 19] = [
+/// Where flag 3 is 1, x is 200 + 100 without what does not fit; elsewhere flag 7 stays 1.
+const SUM: &[u8] = b"field x 0 8\nfield y 8 8\nconst x 200\nconst y 100\nset 7\nif 3\nadd x y\n";
+
+const PROGRAMS: [Row; 26] = [
     (
         b"field x 0 8\nfield y 8 8\nconst x 200\nconst y 100\nadd x y",
         0,
@@ -58,6 +61,29 @@ const PROGRAMS: [Row; 19] = [
         255,
         true,
     ),
+    (
+        b"field x 0 64\nfield y 64 64\nconst x 0x8000000000000000\nset 7\nequal x y",
+        0,
+        3,
+        0,
+        false,
+    ),
+    (
+        b"field x 0 64\nfield y 64 64\nconst x 0x80000000000000ff\nmove y x\nequal x y",
+        0,
+        3,
+        255,
+        true,
+    ),
+    (
+        b"field x 0 8\nfield y 8 8\nconst x 4\nconst y 5\nless x y",
+        0,
+        0,
+        4,
+        true,
+    ),
+    (SUM, 4, 3, 44, true),
+    (SUM, 4, 4, 200, true),
     (DIFFERENCE, 4, 0, 7, true),
     (DIFFERENCE, 4, 3, 7, true),
     (DIFFERENCE, 4, 4, 10, false),
@@ -78,7 +104,21 @@ const PROGRAMS: [Row; 19] = [
         88,
         false,
     ),
+    (
+        b"field d 0 8\nfield x 8 8\nconst x 13\nset 6\nmul d x x\nif 6\nconst d 1",
+        0,
+        0,
+        169,
+        false,
+    ),
     (b"field x 0 8\nconst x 129\nshift x", 0, 0, 2, true),
+    (
+        b"field x 0 8\nconst x 100\nset 7\nshift x",
+        0,
+        1,
+        200,
+        false,
+    ),
     (
         b"field d 0 8\nfield s 8 8\nconst s 77\nunless 3\nmove d s",
         4,

@@ -6,7 +6,7 @@ use std::test::Fail;
 
 /// A text, the line that is faulty, and the first fault of that line: where another fault stands on
 /// the line, it comes later.
-const FAULTS: [(&[u8], u64, AsmKind); 44] = [
+const FAULTS: [(&[u8], u64, AsmKind); 57] = [
     (b"field x 0 65", 1, AsmKind::Width),
     (b"field x 4096 0", 1, AsmKind::Width),
     (b"field x 4090 8", 1, AsmKind::Range),
@@ -17,6 +17,7 @@ const FAULTS: [(&[u8], u64, AsmKind); 44] = [
     (b"field x-y 0 8", 1, AsmKind::Name),
     (b"field x 0 8\nfield x y 0", 2, AsmKind::Twice),
     (b"field x 0 8\nfield x 8 8", 2, AsmKind::Twice),
+    (b"field x 0 8\nfield x 0 65", 2, AsmKind::Twice),
     (b"field 1x 0", 1, AsmKind::Operands),
     (b"field x 0 8 8", 1, AsmKind::Operands),
     (b"jump", 1, AsmKind::Word),
@@ -37,6 +38,21 @@ const FAULTS: [(&[u8], u64, AsmKind); 44] = [
     (b"const x 0x", 1, AsmKind::Name),
     (b"field x 0 8\nconst x 0x", 2, AsmKind::Number),
     (b"shift x", 1, AsmKind::Name),
+    (b"field x 0 8\nselect x y 16", 2, AsmKind::Name),
+    (b"field x 0 8\nfield y 4 8\nmul x z y", 3, AsmKind::Name),
+    (b"field x 0 8\nfield y 4 8\nadd x y y", 3, AsmKind::Operands),
+    (
+        b"field x 0 8\nfield y 4 8\nselect x y 16",
+        3,
+        AsmKind::Number,
+    ),
+    (
+        b"field x 0 8\nconst x 18446744073709551616",
+        2,
+        AsmKind::Number,
+    ),
+    (b"if 11\nset 16", 2, AsmKind::Number),
+    (b"field x 0 8\nif 7\nshift x x", 3, AsmKind::Operands),
     (
         b"field x 0 8\nfield y 4 9\nif 7\nadd x y",
         4,
@@ -44,9 +60,25 @@ const FAULTS: [(&[u8], u64, AsmKind); 44] = [
     ),
     (b"field d 0 8\nfield x 8 8\nmul d d x", 3, AsmKind::Overlap),
     (
+        b"field d 0 8\nfield x 4 8\nif 0\nmul d x x",
+        4,
+        AsmKind::Overlap,
+    ),
+    (
         b"field x 0 8\nfield y 8 9\nif 7\nadd x y",
         4,
         AsmKind::Lengths,
+    ),
+    (
+        b"field d 0 8\nfield x 8 9\nif 0\nmul d x x",
+        4,
+        AsmKind::Lengths,
+    ),
+    (b"unless 7\nset 7", 2, AsmKind::Scratch),
+    (
+        b"field d 0 8\nfield x 8 8\nif 7\nmul d x x",
+        4,
+        AsmKind::Scratch,
     ),
     (b"field x 0 8\nconst x 256", 2, AsmKind::Lengths),
     (b"field x 0 8\nif 7\nshift x", 3, AsmKind::Scratch),
@@ -69,6 +101,7 @@ const FAULTS: [(&[u8], u64, AsmKind); 44] = [
         AsmKind::Context,
     ),
     (b"cycle\njump\njump 1\n", 2, AsmKind::Word),
+    (b"cycle\nset 8\n\njump\nshift x\n", 2, AsmKind::Scratch),
     (b"\n; set 8\n\tset 8\r\n", 3, AsmKind::Scratch),
     (
         b"field d 0 64\nfield x 64 64\nif 1\nshift y",
@@ -112,50 +145,120 @@ fn accepted_texts_have_so_many_acts(rt: HostRuntime) {
     }
 }
 
-/// So many lines after a first part.
-fn with_lines(alloc: Global, first: &[u8], line: &[u8], count: u32) -> Result<Vec<u8>, AllocError> {
-    let mut text = Vec::from_slice(alloc, first)?;
-    for _ in 0..count {
-        text.extend_from_slice(line)?;
-    }
-    Ok(text)
+/// A text of a first part, one line so many times, and a last part.
+struct Long {
+    first: &'static [u8],
+    line: &'static [u8],
+    count: u32,
+    last: &'static [u8],
+    want: Result<usize, AsmFault>,
 }
 
-/// A first part, a line, how often it stands there, and the fault or the number of acts.
-const LONG: [(&[u8], &[u8], u32, Result<usize, AsmFault>); 4] = [
-    (b"", b"cycle\n", 65535, Ok(65535)),
-    (
-        b"",
-        b"cycle\n",
-        65536,
-        Err(AsmFault {
+impl Long {
+    fn text(&self, alloc: Global) -> Result<Vec<u8>, AllocError> {
+        let mut text = Vec::from_slice(alloc, self.first)?;
+        for _ in 0..self.count {
+            text.extend_from_slice(self.line)?;
+        }
+        text.extend_from_slice(self.last)?;
+        Ok(text)
+    }
+}
+
+/// How many acts a text has, or its first fault: more than 65,535 acts are the last fault of a line.
+static LONG: [Long; 9] = [
+    Long {
+        first: b"",
+        line: b"cycle\n",
+        count: 65535,
+        last: b"always\n; done\n",
+        want: Ok(65535),
+    },
+    Long {
+        first: b"",
+        line: b"cycle\n",
+        count: 65536,
+        last: b"",
+        want: Err(AsmFault {
             line: 65536,
             kind: AsmKind::TooLong,
         }),
-    ),
-    (
-        b"field d 0 64\nfield x 64 64\nfield y 128 64\n",
-        b"mul d x y\n",
-        28,
-        Ok(63672),
-    ),
-    (
-        b"field d 0 64\nfield x 64 64\nfield y 128 64\n",
-        b"mul d x y\n",
-        29,
-        Err(AsmFault {
+    },
+    Long {
+        first: b"",
+        line: b"cycle\n",
+        count: 65535,
+        last: b"set 9",
+        want: Err(AsmFault {
+            line: 65536,
+            kind: AsmKind::TooLong,
+        }),
+    },
+    Long {
+        first: b"",
+        line: b"cycle\n",
+        count: 65535,
+        last: b"cycle 1",
+        want: Err(AsmFault {
+            line: 65536,
+            kind: AsmKind::Operands,
+        }),
+    },
+    Long {
+        first: b"",
+        line: b"cycle\n",
+        count: 65535,
+        last: b"set 16",
+        want: Err(AsmFault {
+            line: 65536,
+            kind: AsmKind::Number,
+        }),
+    },
+    Long {
+        first: b"",
+        line: b"cycle\n",
+        count: 65535,
+        last: b"set 8",
+        want: Err(AsmFault {
+            line: 65536,
+            kind: AsmKind::Scratch,
+        }),
+    },
+    Long {
+        first: b"field d 0 8\nfield x 8 8\nif 0\n",
+        line: b"cycle\n",
+        count: 65535,
+        last: b"mul d x x",
+        want: Err(AsmFault {
+            line: 65539,
+            kind: AsmKind::Context,
+        }),
+    },
+    Long {
+        first: b"field d 0 64\nfield x 64 64\nfield y 128 64\n",
+        line: b"mul d x y\n",
+        count: 28,
+        last: b"",
+        want: Ok(63672),
+    },
+    Long {
+        first: b"field d 0 64\nfield x 64 64\nfield y 128 64\n",
+        line: b"mul d x y\n",
+        count: 29,
+        last: b"",
+        want: Err(AsmFault {
             line: 32,
             kind: AsmKind::TooLong,
         }),
-    ),
+    },
 ];
 
 #[test]
 fn a_program_has_at_most_65535_acts(rt: HostRuntime) -> Result<(), Fail> {
-    for (i, (first, line, count, want)) in LONG.into_iter().enumerate() {
-        let text = with_lines(rt.alloc(), first, line, count)?;
+    for (i, long) in LONG.iter().enumerate() {
+        let text = long.text(rt.alloc())?;
         let found = assemble(rt.alloc(), text.as_slice()).map(|program| program.acts().len());
-        assert_eq!(rt; found, want, "in row {i}");
+        assert_eq!(rt; found, long.want, "in row {i}");
     }
     Ok(())
 }

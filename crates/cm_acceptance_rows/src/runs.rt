@@ -1,8 +1,9 @@
 //! A run of chips takes the steps of as many single chips.
 
-use cm_bits::{Addr, Dir, FlagNo, NoMemory, Plane};
-use cm_element::{Chip, Run, takes_incoming};
+use cm_bits::{Addr, Dir, Field, FlagNo, NoMemory, Plane, Proc};
+use cm_element::{Chip, Run, WideOutputs, takes_incoming};
 use cm_model::Nano;
+use cm_wire::{run, wire};
 use std::alloc::Global;
 use std::test::Fail;
 
@@ -29,6 +30,7 @@ const TABLES: [(u8, u8); 14] = [
 
 #[derive(Drop)]
 struct Beside {
+    count: u16,
     run: Run,
     chips: Vec<Chip>,
     row: Vec<Plane>,
@@ -49,6 +51,7 @@ impl Beside {
             };
         }
         Ok(Beside {
+            count,
             run,
             chips,
             row,
@@ -102,13 +105,82 @@ impl Beside {
         true
     }
 
+    // The same by outputs and a store.
+    fn step_by_halves(&mut self, alloc: Global, nano: &Nano) -> Result<bool, NoMemory> {
+        let turned = (self.draw() & 0xffff) as u16;
+        let mut outputs = WideOutputs::blank(alloc, self.count)?;
+        if self.run.chips() != usize::from(self.count) || self.row.len() != self.run.chips() {
+            return Ok(false);
+        }
+        self.run.outputs(nano, &mut outputs);
+        turn(&mut self.row, &outputs.flag, turned);
+        step_chips(&mut self.chips, nano, &self.row);
+        self.run.store(nano, &outputs, &self.row);
+        Ok(true)
+    }
+
+    // A bit, a field, a flag or a plane of flags, put into one chip of both.
+    fn poke(&mut self) -> bool {
+        let places = self.draw();
+        let value = self.draw();
+        let count = self.chips.len();
+        if count == 0 {
+            return true;
+        }
+        let c = (places >> 8) as usize % count;
+        if c >= self.run.chips() || c > 4096 {
+            return false;
+        }
+        let proc = Proc::new((places & 15) as u8).unwrap();
+        let number = FlagNo::new((places >> 4 & 15) as u8).unwrap();
+        let at = Addr::new((value >> 2 & 3) as u16).unwrap();
+        let bit = value >> 8 & 1 == 1;
+        let chip = c as u16;
+        match value & 3 {
+            0 => {
+                self.run.poke(chip, proc, at, bit);
+                self.chips[c].poke(proc, at, bit);
+            }
+            1 => {
+                let Ok(field) = Field::new((value >> 2 & 7) as u16, (value >> 5 & 63) as u16 + 1)
+                else {
+                    return false;
+                };
+                let number = u64::from(value).wrapping_mul(6_364_136_223_846_793_005);
+                self.run.poke_field(chip, proc, field, number);
+                self.chips[c].poke_field(proc, field, number);
+                return self.run.field(chip, proc, field) == self.chips[c].field(proc, field);
+            }
+            2 => {
+                let there = self.run.poke_flag(chip, proc, number, bit);
+                return there == self.chips[c].poke_flag(proc, number, bit);
+            }
+            _ => {
+                if number != FlagNo::ZERO {
+                    self.run
+                        .poke_flag_plane(chip, number, (value >> 4 & 0xffff) as u16);
+                    self.chips[c].poke_flag_plane(number, (value >> 4 & 0xffff) as u16);
+                }
+            }
+        }
+        true
+    }
+
     fn are_same(&self) -> bool {
         for c in 0..self.chips.len() {
             if c >= self.run.chips() || c > 4096 || !is_same(&self.run, c as u16, &self.chips[c]) {
                 return false;
             }
         }
-        self.chips.len() == self.run.chips()
+        self.chips.len() == self.run.chips() && run::wire(&self.run) == wire(&self.chips)
+    }
+}
+
+fn turn(row: &mut [Plane], sent: &[Plane], turned: Plane) {
+    for c in 0..row.len() {
+        if c < sent.len() {
+            row[c] = sent[c] ^ turned;
+        }
     }
 }
 
@@ -125,27 +197,33 @@ fn is_same(run: &Run, number: u16, chip: &Chip) -> bool {
     if usize::from(number) >= run.chips() {
         return false;
     }
+    let view = run.view(number);
     for flag in 0u8..16 {
         let flag = FlagNo::new(flag).unwrap();
-        if run.flag_plane(number, flag) != chip.flag_plane(flag) {
+        if view.flag_plane(flag) != chip.flag_plane(flag) {
             return false;
         }
     }
-    for at in 0u16..5 {
+    for at in 0u16..72 {
         let at = Addr::new(at).unwrap();
-        if run.plane(number, at) != chip.plane(at) {
+        if view.plane(at) != chip.plane(at) {
             return false;
         }
     }
     true
 }
 
-// How many instructions both go the same way.
+// How many instructions, each with a poke after it, both go the same way.
 fn same_steps(alloc: Global, count: u16, most: u32) -> Result<u32, Fail> {
     let mut both = Beside::new(alloc, count)?;
     for done in 0..most {
         let nano = both.nano();
-        if !both.step(&nano) || !both.are_same() {
+        let has_gone = if done % 3 == 0 {
+            both.step_by_halves(alloc, &nano)?
+        } else {
+            both.step(&nano)
+        };
+        if !has_gone || !both.poke() || !both.are_same() {
             return Ok(done);
         }
     }
@@ -153,7 +231,7 @@ fn same_steps(alloc: Global, count: u16, most: u32) -> Result<u32, Fail> {
 }
 
 #[test]
-fn a_run_takes_the_steps_of_its_chips(rt: HostRuntime) -> Result<(), Fail> {
+fn a_run_takes_the_steps_and_pokes_of_its_chips(rt: HostRuntime) -> Result<(), Fail> {
     for count in COUNTS {
         assert_eq!(rt; same_steps(rt.alloc(), count, 400)?, 400, "{count}");
     }

@@ -6,3 +6,5 @@ mod Searching
 mod Rooms
 mod Machines
 mod Accounts
+mod Building
+mod Tagging

@@ -1,10 +1,12 @@
--- A poke keeps a chip whole.
-use Rattle.std.proofs.Common.{◌≡◌, ℕ, ◌<◌, Bool, true, false, List, set, sym, ◌∙◌, subst, arith, ⊎_elim, get_or-set_other, Result, Ok, Err, IsErr, OnOk, OnErr, ◌↔◌, ◌≤◌}
+-- A poke keeps a chip whole, and so does a plane that is put there.
+use Rattle.std.proofs.Common.{◌≡◌, ◌≢◌, ℕ, ◌<◌, Bool, true, false, List, set, sym, ◌∙◌, subst, arith, ⊎_elim, get_or-set_other, Result, Ok, Err, IsErr, OnOk, OnErr, ◌↔◌, ◌≤◌}
 use Rattle.std.proofs.lemmas.Bool.{cases_lt}
 use Rattle.std.proofs.lemmas.List.{length-set, set_past}
 use Rattle.cm_model.specs.Processor.{Processor}
-use Rattle.cm_model.specs.Chip.{processor_at, no_processor, with_memory_bit, with_flag}
+use Rattle.cm_model.specs.Chip.{each_processor, processor_at, no_processor, with_memory_bit, with_flag}
 use Rattle.cm_model.specs.Whole.{IsProcessor, IsChip}
+use Rattle.cm_model.proofs.Each.{length-each_from, get_or-each_below}
+use Rattle.cm_element.specs.Wide.{with_memory_plane, with_flag_plane}
 use Rattle.cm_array.proofs.Lists.{each_after_set}
 
 -- a chip in which one processor is another whole one
@@ -45,3 +47,36 @@ pub IsChip-poked_flag : {X Y : Type 0} (result : Result X Y) (chip next : List P
     → (IsErr result ↔ (number ≡ 8)) → OnOk result (next ≡ with_flag chip p number b) → OnErr result (next ≡ chip) → IsChip chip → IsChip next
 IsChip-poked_flag (Ok x) chip next p number b refused ok err h = subst (λ (c : List Processor). IsChip c) (sym ok) (IsChip-with_flag chip p number b (λ e. let wrong : false ≡ true = refused.1 e in cc) h)
 IsChip-poked_flag (Err y) chip next p number b refused ok err h = subst (λ (c : List Processor). IsChip c) (sym err) h
+
+-- ---- planes
+
+-- a chip of whole processors
+IsChip-each : (f : ℕ → Processor) → ((p : ℕ) → p < 16 → IsProcessor (f p)) → IsChip (each_processor f)
+IsChip-each f whole = record {
+  count = length-each_from 0 16 f;
+  each = λ p l. subst (λ (q : Processor). IsProcessor q) (sym (get_or-each_below 16 f p no_processor l)) (whole p l);
+}
+
+-- a chip with another plane at an address
+IsChip-with_memory_plane : (chip : List Processor) (at : ℕ) (plane : ℕ → Bool) → IsChip chip → IsChip (with_memory_plane chip at plane)
+unfolding with_memory_plane
+IsChip-with_memory_plane chip at plane h =
+    IsChip-each (λ p. record (processor_at chip p) { memory = set (processor_at chip p).memory at (plane p) })
+    (λ p l. record { memory = length-set (processor_at chip p).memory at (plane p) ∙ (h.each p l).memory; flags = (h.each p l).flags; zero = (h.each p l).zero })
+
+pub IsChip-put_plane : (chip next : List Processor) (at : ℕ) (plane : ℕ → Bool) → next ≡ with_memory_plane chip at plane → IsChip chip → IsChip next
+IsChip-put_plane chip next at plane is h = subst (λ (c : List Processor). IsChip c) (sym is) (IsChip-with_memory_plane chip at plane h)
+
+-- a chip with another plane in a flag, but not in flag 8
+IsChip-with_flag_plane : (chip : List Processor) (number : ℕ) (plane : ℕ → Bool) → number ≢ 8 → IsChip chip → IsChip (with_flag_plane chip number plane)
+unfolding with_flag_plane
+IsChip-with_flag_plane chip number plane other h =
+    IsChip-each (λ p. record (processor_at chip p) { flags = set (processor_at chip p).flags number (plane p) })
+    (λ p l. record {
+      memory = (h.each p l).memory;
+      flags = length-set (processor_at chip p).flags number (plane p) ∙ (h.each p l).flags;
+      zero = get_or-set_other (processor_at chip p).flags number 8 (plane p) false (λ e. other (sym e)) ∙ (h.each p l).zero;
+    })
+
+pub IsChip-put_flag_plane : (chip next : List Processor) (number : ℕ) (plane : ℕ → Bool) → next ≡ with_flag_plane chip number plane → number ≢ 8 → IsChip chip → IsChip next
+IsChip-put_flag_plane chip next number plane is other h = subst (λ (c : List Processor). IsChip c) (sym is) (IsChip-with_flag_plane chip number plane other h)

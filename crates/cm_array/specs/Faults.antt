@@ -1,8 +1,16 @@
--- Why a machine of given sizes cannot be: ours.
+-- Why a machine of given sizes cannot be, and why what was built is none: ours.
 use Rattle.std.specs.Prelude.{ℕ, ◌==◌, ◌||◌, ltb, Option, Some, None, if◌then◌else◌}
+use Rattle.cm_model.specs.Machine.{Machine}
+use Rattle.cm_model.specs.Unlogged.{standing_messages, has_tag_twice}
 use Rattle.cm_array.specs.declared.machine.MachineFault.{MachineFault}
 use Rattle.cm_array.specs.declared.machine.MachineFault.TheVariants.{Dim, Cap}
+use Rattle.cm_array.specs.declared.builder.BuildFault.{BuildFault}
+use Rattle.cm_array.specs.declared.builder.BuildFault.TheVariants.{TagTwice}
 
 -- the dimension is looked at first
 abbrev pub size_fault : ℕ → ℕ → Option MachineFault
 size_fault n cap = if ltb 12 n then Some Dim else if cap == 0 || ltb 15 cap then Some Cap else None
+
+-- two messages that were put into it have one tag
+abbrev pub build_fault : Machine → Option BuildFault
+build_fault machine = if has_tag_twice (standing_messages machine) then Some TagTwice else None

@@ -3,3 +3,5 @@ pub mod Parts
 pub mod Faults
 pub mod Acts
 pub mod Pokes
+pub mod Building
+pub mod Tags

@@ -1,8 +1,11 @@
--- A machine with one bit changed: ours.
-use Rattle.std.specs.Prelude.{ℕ, Bool, slice_set}
+-- A machine with one bit or one plane changed, or with one message more: ours.
+use Rattle.std.specs.Prelude.{ℕ, Bool, [], ◌∷◌, ◌++◌, slice_set}
+use Rattle.cm_bits.specs.Bit.{bit}
+use Rattle.cm_model.specs.declared.message.Message.{Message}
 use Rattle.cm_model.specs.Chip.{with_memory_bit, with_flag}
-use Rattle.cm_model.specs.Array.{chip_at}
+use Rattle.cm_model.specs.Array.{chip_at, list_at}
 use Rattle.cm_model.specs.Machine.{Machine}
+use Rattle.cm_element.specs.Wide.{with_memory_plane, with_flag_plane}
 
 -- the machine with another bit at an address of a processor of a chip
 abbrev pub machine_with_memory_bit : Machine → ℕ → ℕ → ℕ → Bool → Machine
@@ -13,3 +16,18 @@ machine_with_memory_bit machine c p address b =
 abbrev pub machine_with_flag : Machine → ℕ → ℕ → ℕ → Bool → Machine
 machine_with_flag machine c p number b =
     record machine { chips = slice_set machine.chips c (with_flag (chip_at machine.chips c) p number b) }
+
+-- the machine with another plane at an address of a chip: bit p goes to processor p
+abbrev pub machine_with_plane : Machine → ℕ → ℕ → ℕ → Machine
+machine_with_plane machine c address plane =
+    record machine { chips = slice_set machine.chips c (with_memory_plane (chip_at machine.chips c) address (bit plane)) }
+
+-- the machine with another plane in a flag of a chip
+abbrev pub machine_with_flag_plane : Machine → ℕ → ℕ → ℕ → Machine
+machine_with_flag_plane machine c number plane =
+    record machine { chips = slice_set machine.chips c (with_flag_plane (chip_at machine.chips c) number (bit plane)) }
+
+-- the machine with a message more, behind those that stand at a chip
+abbrev pub machine_with_message : Machine → ℕ → Message → Machine
+machine_with_message machine c m =
+    record machine { buffers = slice_set machine.buffers c (list_at machine.buffers c ++ m ∷ []) }

@@ -1,11 +1,14 @@
 //! The machine of 2^N chips with their routers, all of which step at once, and the runner of one thread.
 #![tactic(auto)]
 
+mod builder;
 mod finding;
 mod machine;
 mod parts;
 mod runner;
 mod stepping;
+mod tags;
 
+pub use builder::{BuildFault, Builder};
 pub use machine::{Machine, MachineFault};
 pub use runner::{Plain, RunFault, Runner};

@@ -8,7 +8,7 @@ ghost use Rattle.cm_model.specs.Found.{found_in, IsWhereabouts};
 ghost use Rattle.cm_model.specs.Keeping.{IsMachine};
 ghost use Rattle.cm_array.specs.Acts.{cycles_in};
 ghost use Rattle.cm_array.specs.Faults.{size_fault};
-ghost use Rattle.cm_array.specs.Parts.{AreSizes, LacksLogRoom};
+ghost use Rattle.cm_array.specs.Parts.{kept_of, AreParts, AreSizes, LacksLogRoom};
 ghost use Rattle.cm_array.specs.Pokes.{machine_with_memory_bit, machine_with_flag};
 
 use crate::finding::{delivered_to, router_of};
@@ -85,7 +85,7 @@ impl<const N: usize, const CAP: usize> Machine<N, CAP> {
     }
 
     /// A machine with all bits and flags 0, no message and no event, whose count of petit cycles begins at `clock`.
-    fn blank_at(alloc: Global, clock: u64) -> Result<Self, MachineFault>
+    pub(crate) fn blank_at(alloc: Global, clock: u64) -> Result<Self, MachineFault>
         requires clock { clock < 2 ^ 63 }
         ensures value { IfOk result (λ kept. kept.machine ≡ record (blank_machine N) { clock = clock }) }
         ensures refused { IfSome (size_fault N CAP) (λ fault. IsErrOf result fault) }
@@ -115,6 +115,22 @@ impl<const N: usize, const CAP: usize> Machine<N, CAP> {
                 crossing,
             },
         })
+    }
+
+    /// What it keeps.
+    pub(crate) fn into_parts(self) -> Parts
+        ensures value { kept_of result ≡ self.entry }
+        ensures parts { AreParts N CAP result }
+    {
+        self.parts
+    }
+
+    /// The machine that keeps these.
+    pub(crate) fn of_parts(parts: Parts) -> Self
+        requires parts { AreParts N CAP parts }
+        ensures value { result ≡ kept_of parts }
+    {
+        Machine { parts }
     }
 
     /// A second machine, the same as this one, its logs too.

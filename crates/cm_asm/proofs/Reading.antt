@@ -1,11 +1,11 @@
 -- Reading a text line by line.
-use Rattle.std.proofs.Common.{◌≡◌, ℕ, ◌+◌, ◌-◌, ◌≤◌, ◌⊎◌, Bool, true, false, take, drop, drop-drop, take-add, length-drop, Result, Ok, Err, List, [], ◌∷◌, ◌++◌, length, refl, sym, ap, ◌∙◌, arith, inl, inr, ⊎_elim}
+use Rattle.std.proofs.Common.{◌≡◌, ℕ, ◌+◌, ◌-◌, ◌≤◌, ◌⊎◌, Bool, true, false, take, drop, drop-drop, get_or, get_or-drop, if◌then◌else◌, nat_lt, subst, take-add, length-drop, Result, Ok, Err, List, [], ◌∷◌, ◌++◌, length, refl, sym, ap, ◌∙◌, arith, inl, inr, ⊎_elim}
 use Rattle.std.specs.List.{slice_split, onto_first}
 use Rattle.std.proofs.lemmas.List.Splits.{slice_split-cons_yes, slice_split-cons_no}
 use Rattle.cm_bits.specs.Text.{lines_of, is_line_end, without_empty_last, words_of}
 use Rattle.cm_language.specs.declared.fault.AsmKind.{AsmKind}
 use Rattle.cm_language.specs.declared.fault.AsmKind.TheVariants as kind
-use Rattle.cm_language.specs.Program.{Reading, nothing_read, after_words, unless_faulty, after_lines, IsGrownFor, MatchKind}
+use Rattle.cm_language.specs.Program.{Reading, nothing_read, after_words, unless_faulty, after_lines, within_length, MOST_ACTS, IsGrownFor, MatchKind, MayLackMemory, IsOwnFault}
 
 -- ---- a text has no more lines than bytes
 
@@ -60,43 +60,57 @@ one_more n r read next (first ∷ lines) line h e =
       | Err f ↦ λ k. absurd cc
     ]) h
 
+-- the line that is next stands there
+pub is_there : (lines : List (List ℕ)) (i : ℕ) (line : List ℕ) (rest : List (List ℕ)) → line ∷ rest ≡ drop i lines → get_or lines (i + 1 - 1) [] ≡ line
+is_there lines i line rest is =
+    ap (λ (n : ℕ). get_or lines n []) (let e : i + 1 - 1 ≡ i + 0 = omega arith in e) ∙ sym (get_or-drop i lines 0 []) ∙ ap (λ (xs : List (List ℕ)). get_or xs 0 []) (sym is)
+
 -- where memory is wanting
-pub is_grown_for : (text : List ℕ) (i : ℕ) (read : Reading) → after_lines nothing_read 1 (take i (lines_of text)) ≡ Ok read → i + 1 ≤ length (lines_of text) → IsGrownFor text (i + 1)
-is_grown_for text i read before within = record {
+pub is_grown_for : (text : List ℕ) (i : ℕ) (read : Reading) (line : List ℕ) → after_lines nothing_read 1 (take i (lines_of text)) ≡ Ok read → i + 1 ≤ length (lines_of text)
+    → get_or (lines_of text) (i + 1 - 1) [] ≡ line → MayLackMemory (after_words read (words_of line)) → IsGrownFor text (i + 1)
+is_grown_for text i read line before within there here = record {
   first = omega arith;
   within = within;
   read = read;
   before = ap (λ (n : ℕ). after_lines nothing_read 1 (take n (lines_of text))) (let e : i + 1 - 1 ≡ i = omega arith in e) ∙ before;
+  here = subst (λ (l : List ℕ). MayLackMemory (after_words read (words_of l))) (sym there) here;
 }
 
 -- a fault of a line is one of the text
-pub of_kind : (k : AsmKind) (W P Q : Type 0) → MatchKind k (Unit {0}) P → W → (P → Q) → MatchKind k W Q
-of_kind kind.Memory W P Q h w f = w
-of_kind kind.Width W P Q h w f = f h
-of_kind kind.Range W P Q h w f = f h
-of_kind kind.Overlap W P Q h w f = f h
-of_kind kind.Lengths W P Q h w f = f h
-of_kind kind.Scratch W P Q h w f = f h
-of_kind kind.Context W P Q h w f = f h
-of_kind kind.Word W P Q h w f = f h
-of_kind kind.Operands W P Q h w f = f h
-of_kind kind.Number W P Q h w f = f h
-of_kind kind.Name W P Q h w f = f h
-of_kind kind.Twice W P Q h w f = f h
-of_kind kind.TooLong W P Q h w f = f h
+pub of_kind : (k : AsmKind) (V W P Q : Type 0) → MatchKind k V P → (V → W) → (P → Q) → MatchKind k W Q
+of_kind kind.Memory V W P Q h g f = g h
+of_kind kind.Width V W P Q h g f = f h
+of_kind kind.Range V W P Q h g f = f h
+of_kind kind.Overlap V W P Q h g f = f h
+of_kind kind.Lengths V W P Q h g f = f h
+of_kind kind.Scratch V W P Q h g f = f h
+of_kind kind.Context V W P Q h g f = f h
+of_kind kind.Word V W P Q h g f = f h
+of_kind kind.Operands V W P Q h g f = f h
+of_kind kind.Number V W P Q h g f = f h
+of_kind kind.Name V W P Q h g f = f h
+of_kind kind.Twice V W P Q h g f = f h
+of_kind kind.TooLong V W P Q h g f = f h
 
--- a fault that is not want of memory, of whatever kind
-pub is_fault : (k : AsmKind) (P : Type 0) → P → MatchKind k (Unit {0}) P
-is_fault kind.Memory P h = tt
-is_fault kind.Width P h = h
-is_fault kind.Range P h = h
-is_fault kind.Overlap P h = h
-is_fault kind.Lengths P h = h
-is_fault kind.Scratch P h = h
-is_fault kind.Context P h = h
-is_fault kind.Word P h = h
-is_fault kind.Operands P h = h
-is_fault kind.Number P h = h
-is_fault kind.Name P h = h
-is_fault kind.Twice P h = h
-is_fault kind.TooLong P h = h
+-- what is too long at most may lack memory
+pub lacks_at_most : (read : Reading) → MayLackMemory (within_length read)
+lacks_at_most read = elim (nat_lt MOST_ACTS (length read.acts)) as (λ b. MayLackMemory (if b then Err kind.TooLong else Ok read)) [
+  | true ↦ refl
+  | false ↦ tt
+]
+
+-- an own fault is told as it is
+pub told_as_it_is : (k : AsmKind) (W P : Type 0) → IsOwnFault k → P → MatchKind k W P
+told_as_it_is kind.Memory W P own p = absurd own
+told_as_it_is kind.Width W P own p = p
+told_as_it_is kind.Range W P own p = p
+told_as_it_is kind.Overlap W P own p = p
+told_as_it_is kind.Lengths W P own p = p
+told_as_it_is kind.Scratch W P own p = p
+told_as_it_is kind.Context W P own p = p
+told_as_it_is kind.Word W P own p = p
+told_as_it_is kind.Operands W P own p = p
+told_as_it_is kind.Number W P own p = p
+told_as_it_is kind.Name W P own p = p
+told_as_it_is kind.Twice W P own p = p
+told_as_it_is kind.TooLong W P own p = p

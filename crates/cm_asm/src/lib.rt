@@ -11,4 +11,5 @@ mod statements;
 
 pub use assembler::assemble;
 pub use cm_language::{AsmFault, AsmKind};
+pub use operands::read_nano;
 pub use program::Program;

@@ -1,8 +1,9 @@
 //! The operands of a line.
 
-ghost use Rattle.std.specs.Prelude.{◌≡◌, ◌<◌, IfOk};
+ghost use Rattle.std.specs.Prelude.{◌≡◌, ◌<◌, IfOk, IfErr};
 ghost use Rattle.cm_bits.specs.Text.{words_left};
 ghost use Rattle.cm_language.specs.Lines.{operand_of, number_operand, sense_of, direction_of, field_operand, no_operand, flag_operand, one_field, two_fields, nano_of};
+ghost use Rattle.cm_language.specs.Program.{IsOwnFault};
 
 use crate::fields::Fields;
 use cm_bits::{Addr, Dir, Field, FlagNo, Words, read_number};
@@ -12,6 +13,7 @@ use cm_model::Nano;
 /// No operand at all.
 pub fn no_operand(mut words: Words) -> Result<(), AsmKind>
     ensures value { result ≡ no_operand (words_left words.entry) }
+    ensures own { IfErr result IsOwnFault }
 {
     match words.next() {
         None => Ok(()),
@@ -22,6 +24,7 @@ pub fn no_operand(mut words: Words) -> Result<(), AsmKind>
 /// A flag.
 pub fn flag_operand(mut words: Words) -> Result<FlagNo, AsmKind>
     ensures value { result ≡ flag_operand (words_left words.entry) }
+    ensures own { IfErr result IsOwnFault }
 {
     let (Some(flag), None) = (words.next(), words.next()) else {
         return Err(AsmKind::Operands);
@@ -32,6 +35,7 @@ pub fn flag_operand(mut words: Words) -> Result<FlagNo, AsmKind>
 /// A field.
 pub fn one_field(fields: &Fields, mut words: Words) -> Result<Field, AsmKind>
     ensures value { result ≡ one_field fields.now (words_left words.entry) }
+    ensures own { IfErr result IsOwnFault }
 {
     let (Some(d), None) = (words.next(), words.next()) else {
         return Err(AsmKind::Operands);
@@ -42,6 +46,7 @@ pub fn one_field(fields: &Fields, mut words: Words) -> Result<Field, AsmKind>
 /// Two fields.
 pub fn two_fields(fields: &Fields, mut words: Words) -> Result<(Field, Field), AsmKind>
     ensures value { result ≡ two_fields fields.now (words_left words.entry) }
+    ensures own { IfErr result IsOwnFault }
 {
     let (Some(d), Some(s), None) = (words.next(), words.next(), words.next()) else {
         return Err(AsmKind::Operands);
@@ -51,9 +56,10 @@ pub fn two_fields(fields: &Fields, mut words: Words) -> Result<(Field, Field), A
     Ok((d, s))
 }
 
-/// The instruction of the words after `nano`.
+/// The instruction of the words after `nano`: nine operands, the first faulty one from left to right is told.
 pub fn read_nano(mut words: Words) -> Result<Nano, AsmKind>
     ensures value { result ≡ nano_of (words_left words.entry) }
+    ensures own { IfErr result IsOwnFault }
 {
     let (Some(a), Some(b), Some(read)) = (words.next(), words.next(), words.next()) else {
         return Err(AsmKind::Operands);
@@ -93,6 +99,7 @@ pub fn read_nano(mut words: Words) -> Result<Nano, AsmKind>
 /// The field of a defined name.
 pub fn read_field(fields: &Fields, word: &[u8]) -> Result<Field, AsmKind>
     ensures value { result ≡ field_operand fields.now word.now }
+    ensures own { IfErr result IsOwnFault }
 {
     fields.find(word).ok_or(AsmKind::Name)
 }
@@ -100,12 +107,14 @@ pub fn read_field(fields: &Fields, word: &[u8]) -> Result<Field, AsmKind>
 /// Any number.
 pub fn read_any(word: &[u8]) -> Result<u64, AsmKind>
     ensures value { result ≡ number_operand word.now }
+    ensures own { IfErr result IsOwnFault }
 {
     read_number(word).ok_or(AsmKind::Number)
 }
 
 pub fn read_flag(word: &[u8]) -> Result<FlagNo, AsmKind>
     ensures value { result ≡ operand_of 16 word.now }
+    ensures own { IfErr result IsOwnFault }
 {
     let number = read_below(word, 16)?;
     match FlagNo::new(number as u8) {
@@ -117,6 +126,7 @@ pub fn read_flag(word: &[u8]) -> Result<FlagNo, AsmKind>
 /// The number of a word, below 65,536.
 pub fn read_short(word: &[u8]) -> Result<u16, AsmKind>
     ensures value { result ≡ operand_of 65536 word.now }
+    ensures own { IfErr result IsOwnFault }
 {
     let number = read_below(word, 65536)?;
     Ok(number as u16)
@@ -124,6 +134,7 @@ pub fn read_short(word: &[u8]) -> Result<u16, AsmKind>
 
 fn read_address(word: &[u8]) -> Result<Addr, AsmKind>
     ensures value { result ≡ operand_of 4096 word.now }
+    ensures own { IfErr result IsOwnFault }
 {
     let number = read_below(word, 4096)?;
     match Addr::new(number as u16) {
@@ -134,6 +145,7 @@ fn read_address(word: &[u8]) -> Result<Addr, AsmKind>
 
 fn read_table(word: &[u8]) -> Result<u8, AsmKind>
     ensures value { result ≡ operand_of 256 word.now }
+    ensures own { IfErr result IsOwnFault }
 {
     let number = read_below(word, 256)?;
     Ok(number as u8)
@@ -141,6 +153,7 @@ fn read_table(word: &[u8]) -> Result<u8, AsmKind>
 
 fn read_sense(word: &[u8]) -> Result<bool, AsmKind>
     ensures value { result ≡ sense_of word.now }
+    ensures own { IfErr result IsOwnFault }
 {
     let number = read_below(word, 2)?;
     Ok(number == 1)
@@ -149,6 +162,7 @@ fn read_sense(word: &[u8]) -> Result<bool, AsmKind>
 /// The number of a word, below a limit.
 fn read_below(word: &[u8], limit: u64) -> Result<u64, AsmKind>
     ensures value { result ≡ operand_of limit word.now }
+    ensures own { IfErr result IsOwnFault }
     ensures below { IfOk result (λ number. number < limit) }
 {
     match read_number(word) {
@@ -159,6 +173,7 @@ fn read_below(word: &[u8], limit: u64) -> Result<u64, AsmKind>
 
 fn read_direction(word: &[u8]) -> Result<Dir, AsmKind>
     ensures value { result ≡ direction_of word.now }
+    ensures own { IfErr result IsOwnFault }
 {
     match word {
         b"n" => Ok(Dir::North),

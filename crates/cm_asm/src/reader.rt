@@ -49,6 +49,7 @@ impl Reader {
     }
 
     /// One line more. After a fault the reader is not used again.
+    #[tactic(auto, using(crate::proofs::Reading::told_as_it_is))]
     pub fn read_line(&mut self, alloc: Global, line: &[u8]) -> Result<(), AsmKind>
         ensures ok { OnOk result (after_words self.old (words_of line.now) ≡ Ok self.new) }
         ensures fault { IfErr result (IsLineFault (after_words self.old (words_of line.now))) }
@@ -70,6 +71,7 @@ impl Reader {
     }
 
     /// A field by the words after `field`.
+    #[tactic(auto, using(crate::proofs::Reading::told_as_it_is))]
     fn define(&mut self, alloc: Global, mut words: Words) -> Result<(), AsmKind>
         ensures ok { OnOk result (after_definition self.old (words_left words.entry) ≡ Ok self.new) }
         ensures fault { IfErr result (IsLineFault (after_definition self.old (words_left words.entry))) }
@@ -119,6 +121,7 @@ impl Reader {
         }
     }
 
+    #[tactic(auto, using(crate::proofs::Reading::lacks_at_most))]
     fn add_macro(&mut self, wanted: &Macro) -> Result<(), AsmKind>
         ensures ok { OnOk result (with_macro self.old wanted.now (first_fault wanted.now self.old.context) ≡ Ok self.new) }
         ensures fault { IfErr result (IsLineFault (with_macro self.old wanted.now (first_fault wanted.now self.old.context))) }
@@ -129,6 +132,7 @@ impl Reader {
         }
     }
 
+    #[tactic(auto, using(crate::proofs::Reading::lacks_at_most))]
     fn add_act(&mut self, act: Act) -> Result<(), AsmKind>
         ensures ok { OnOk result (with_acts self.old (act ∷ []) ≡ Ok self.new) }
         ensures fault { IfErr result (IsLineFault (with_acts self.old (act ∷ []))) }

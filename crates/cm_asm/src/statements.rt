@@ -1,8 +1,9 @@
 //! Lines other than definitions.
 
-ghost use Rattle.std.specs.Prelude.{◌≡◌};
+ghost use Rattle.std.specs.Prelude.{◌≡◌, IfErr};
 ghost use Rattle.cm_bits.specs.Text.{words_left};
 ghost use Rattle.cm_language.specs.Lines.{verb_of, statement_of, choice_of, constant_of, product_of};
+ghost use Rattle.cm_language.specs.Program.{IsOwnFault};
 
 use crate::fields::Fields;
 use crate::operands::{
@@ -58,6 +59,7 @@ pub fn verb_of(word: &[u8]) -> Option<Verb>
 /// What a first word and its operands say.
 pub fn read_statement(fields: &Fields, verb: Verb, words: Words) -> Result<Statement, AsmKind>
     ensures value { result ≡ statement_of fields.now verb (words_left words.entry) }
+    ensures own { IfErr result IsOwnFault }
 {
     match verb {
         Verb::Nano => {
@@ -125,6 +127,7 @@ pub fn read_statement(fields: &Fields, verb: Verb, words: Words) -> Result<State
 /// The operands of `select`.
 fn read_choice(fields: &Fields, mut words: Words) -> Result<Statement, AsmKind>
     ensures value { result ≡ choice_of fields.now (words_left words.entry) }
+    ensures own { IfErr result IsOwnFault }
 {
     let (Some(d), Some(s), Some(flag)) = (words.next(), words.next(), words.next()) else {
         return Err(AsmKind::Operands);
@@ -141,6 +144,7 @@ fn read_choice(fields: &Fields, mut words: Words) -> Result<Statement, AsmKind>
 /// The operands of `const`.
 fn read_constant(fields: &Fields, mut words: Words) -> Result<Statement, AsmKind>
     ensures value { result ≡ constant_of fields.now (words_left words.entry) }
+    ensures own { IfErr result IsOwnFault }
 {
     let (Some(d), Some(number), None) = (words.next(), words.next(), words.next()) else {
         return Err(AsmKind::Operands);
@@ -153,6 +157,7 @@ fn read_constant(fields: &Fields, mut words: Words) -> Result<Statement, AsmKind
 /// The operands of `mul`.
 fn read_product(fields: &Fields, mut words: Words) -> Result<Statement, AsmKind>
     ensures value { result ≡ product_of fields.now (words_left words.entry) }
+    ensures own { IfErr result IsOwnFault }
 {
     let (Some(d), Some(x), Some(y)) = (words.next(), words.next(), words.next()) else {
         return Err(AsmKind::Operands);

@@ -1,13 +1,14 @@
 -- Lines, words and numbers, taken from the front.
-use Rattle.std.proofs.Common.{◌≡◌, ℕ, ◌+◌, ◌-◌, ◌*◌, ◌^◌, ◌<◌, ◌≤◌, ◌⊎◌, Bool, true, false, cond, not, ◌&&◌, None, Some, List, [], ◌∷◌, length, take, drop, get_or, refl, inl, inr, sym, ap, subst, ◌∙◌, nat_lt, le-ltb, arith}
-use Rattle.std.proofs.lemmas.Bool.{cases_lt}
+use Rattle.std.proofs.Common.{◌≡◌, ℕ, ◌+◌, ◌-◌, ◌*◌, ◌^◌, ◌<◌, ◌≤◌, ◌⊎◌, Bool, true, false, cond, not, ◌&&◌, None, Some, List, [], ◌∷◌, length, take, drop, get_or, refl, inl, inr, sym, ap, subst, ◌∙◌, ◌==◌, nat_lt, le-ltb, arith}
+use Rattle.std.proofs.lemmas.Bool.{cases_lt, false_from_ne_true}
 use Rattle.std.proofs.lemmas.Grind.{common_steps}
 use Rattle.std.proofs.lemmas.List.Splits.{slice_split-cons_yes, slice_split_none, slice_split_first, length-slice_split}
-use Rattle.std.proofs.lemmas.List.Sums.{passes_at_first, fails_before_first, prefix_len_stops}
+use Rattle.std.proofs.lemmas.List.Sums.{passes_at_first, fails_before_first, position_or_len_is, prefix_len_stops}
 use Rattle.std.proofs.Math.Nat.{le-mul_of_pos_right}
 use Rattle.std.specs.List.{All, filter, list_all, position_or_len, prefix_len, slice_split}
 use Rattle.std.specs.Char.{digit_value, is_digit}
 use Rattle.std.specs.Str.Parse.{digits_value, digits_value_after}
+use Rattle.memchr.specs.Find.{NoneBefore, Nowhere, Passes, is_byte}
 use Rattle.cm_bits.specs.Text.{has_bytes, number_in, is_blank, is_line_end, lines_of, words_in, without_empty_last}
 
 -- the parts with bytes in them
@@ -153,3 +154,21 @@ pub lines_of-before_end : (text : List ℕ) (n : ℕ) → n ≡ position_or_len 
 lines_of-before_end text n e inside =
     let rest : take (length text - (n + 1)) (drop (n + 1) text) ≡ drop (n + 1) text = grind (arith, common_steps) in
     lines_of-line text n e inside ∙ ap (λ (left : List ℕ). take n text ∷ lines_of left) (sym rest)
+
+-- ---- the first place of a byte, as memchr answers it
+
+-- where there is one
+pub first_place : (byte k : ℕ) (bytes : List ℕ) → NoneBefore (Passes (is_byte byte) bytes) 0 (length bytes) k → Passes (is_byte byte) bytes k
+    → k ≡ position_or_len (λ other. other == byte) bytes
+first_place byte k bytes none here =
+    sym (position_or_len_is (λ (other : ℕ). other == byte) bytes k 0 (omega (arith, none.high))
+    (λ j l. false_from_ne_true (get_or bytes j 0 == byte) (none.before j (omega arith) l))
+    (λ l. here))
+
+-- where there is none
+pub no_place : (byte : ℕ) (bytes : List ℕ) → Nowhere (Passes (is_byte byte) bytes) 0 (length bytes)
+    → length bytes ≡ position_or_len (λ other. other == byte) bytes
+no_place byte bytes nowhere =
+    sym (position_or_len_is (λ (other : ℕ). other == byte) bytes (length bytes) 0 (omega arith)
+    (λ j l. false_from_ne_true (get_or bytes j 0 == byte) (nowhere j (omega arith) l))
+    (λ l. absurd (omega (arith, l))))

@@ -13,7 +13,8 @@ pub record IsIn (field : Span) (address : ℕ) : Type 0 where
 
 -- why a field of this address and length is refused, if it is: the length is judged first
 abbrev pub field_fault : ℕ → ℕ → Option FieldFault
-field_fault at len = if len == 0 || nat_lt 64 len then Some Width else (if nat_lt 4096 (at + len) then Some Range else None)
+field_fault at len =
+    if len == 0 || nat_lt 64 len then Some Width else (if nat_lt 4096 (at + len) then Some Range else None)
 
 -- how two fields meet: equal, with no bit in common, or the rest
 abbrev pub meeting : Span → Span → Meets

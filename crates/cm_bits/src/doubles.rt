@@ -1,11 +1,13 @@
 //! Ends of bytes in memory that fail when told to: for tests, here and in the crates above.
 
-ghost use Rattle.std.specs.Prelude.{◌≡◌, ◌-◌, ◌||◌, ◌↔◌, true, false, Some, None, [], length, min, max, IsErr, IfOk, MatchResult};
+ghost use Rattle.std.specs.Prelude.{◌≡◌, ◌-◌, ◌||◌, ◌↔◌, true, false, Some, None, [], length, min, max, IsErr, IfOk};
+ghost use Rattle.std.specs.Prelude.{MatchResult};
 ghost use Rattle.std.specs.Option.{option_map};
 ghost use Rattle.std.specs.Io.{ReadsAtMost, WritesAtMost};
 ghost use Rattle.std.specs.Io.KnownBytes.{ReadConsumes, WriteAppends};
 ghost use Rattle.cm_bits.specs.Ends.{is_refused};
-ghost use Rattle.cm_bits.specs.Doubles.{bytes_left, bytes_most, bytes_step, bytes_good, bytes_has_failed, room_taken, room_left, room_step, room_takes_nothing, room_has_failed, IsOverflow};
+ghost use Rattle.cm_bits.specs.Doubles.{bytes_left, bytes_most, bytes_step, bytes_good, bytes_has_failed, room_taken};
+ghost use Rattle.cm_bits.specs.Doubles.{room_left, room_step, room_takes_nothing, room_has_failed, IsOverflow};
 
 use crate::ends::{Failed, Sink, Source};
 use std::alloc::{AllocError, Global};

@@ -1,6 +1,7 @@
 //! The ends of bytes: where they come from and where they go.
 
-ghost use Rattle.std.specs.Prelude.{◌≡◌, ℕ, Bool, true, false, ◌||◌, ◌<◌, List, Option, length, take, OnOk, IfErr, MatchResult, is_err};
+ghost use Rattle.std.specs.Prelude.{◌≡◌, ℕ, Bool, true, false, ◌||◌, ◌<◌, List, Option, length, take, OnOk, IfErr};
+ghost use Rattle.std.specs.Prelude.{MatchResult, is_err};
 ghost use Rattle.std.specs.Io.{ReadsAtMost, WritesAtMost};
 ghost use Rattle.std.specs.Io.KnownBytes.{Appends, ReadConsumes, WriteAppends};
 ghost use Rattle.cm_bits.specs.Ends.{is_refused, std_inner, std_has_failed};

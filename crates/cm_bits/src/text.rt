@@ -5,6 +5,8 @@ ghost use Rattle.std.specs.Iterator.{YieldsFirstBy, item_count};
 ghost use Rattle.std.specs.List.{position_or_len, prefix_len};
 ghost use Rattle.cm_bits.specs.Text.{is_blank, lines_left, lines_of, number_in, number_of, words_left, words_of};
 
+use memchr::memchr;
+
 /// The lines of a text, each without its LF.
 #[derive(Drop)]
 pub struct Lines<'a> {
@@ -65,6 +67,7 @@ impl<'a> Iterator for Words<'a> {
 
     ghost remaining = { item_count words_left };
 
+    #[inline(never)]
     fn next(&mut self) -> Option<&'a [u8]> {
         let rest = &self.rest[blanks_len(self.rest)..];
         let end = word_len(rest);
@@ -111,12 +114,10 @@ fn find(bytes: &[u8], byte: u8) -> usize
     ensures place { result ≡ position_or_len (λ other. other == byte) bytes.now }
     ensures within { result ≤ length bytes.now }
 {
-    for (i, other) in bytes.iter().enumerate() {
-        if *other == byte {
-            return i;
-        }
+    match memchr(byte, bytes) {
+        Some(place) => place,
+        None => bytes.len(),
     }
-    bytes.len()
 }
 
 // The place of the first blank, or the length.

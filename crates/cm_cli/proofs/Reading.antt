@@ -5,12 +5,11 @@ use Rattle.std.proofs.lemmas.List.Splits.{length-slice_split}
 use Rattle.std.proofs.lemmas.List.Sums.{count_by-le-length}
 use Rattle.cm_bits.specs.Text.{lines_of, is_line_end, without_empty_last, words_of}
 use Rattle.cm_model.specs.declared.act.Nano.{Nano}
-use Rattle.cm_cli.specs.declared.fault.LineKind.{LineKind}
-use Rattle.cm_cli.specs.declared.fault.LineKind.TheVariants.{Word, Operands, Number}
 use Rattle.cm_language.specs.declared.fault.AsmKind.{AsmKind}
+use Rattle.cm_language.specs.declared.fault.AsmKind.TheVariants as kind
 use Rattle.cm_language.specs.declared.fault.AsmFault.{AsmFault}
-use Rattle.cm_cli.specs.Program.{nanos_of_lines, with_line, program_of, kind_of, IsAcceptedThrough, IsFaultOf}
-use Rattle.cm_cli.specs.NanoLine.{instruction_of}
+use Rattle.cm_language.specs.Program.{MatchKind, IsOwnFault}
+use Rattle.cm_cli.specs.Program.{nanos_of_lines, instruction_of, with_line, program_of, IsAcceptedThrough, IsFaultOf}
 
 -- instructions before those that were read
 abbrev pub prepended : List Nano → Result (List Nano) AsmFault → Result (List Nano) AsmFault
@@ -35,7 +34,7 @@ few_lines text = omega (arith, few_parts (slice_split is_line_end text), length-
 -- a blank line adds nothing
 pub read_blank : (nanos : List Nano) (number : ℕ) (line : List ℕ) (lines : List (List ℕ)) → instruction_of (words_of line) ≡ Ok None
     → prepended nanos (nanos_of_lines number (line ∷ lines)) ≡ prepended nanos (nanos_of_lines (number + 1) lines)
-read_blank nanos number line lines is = ap (λ (r : Result (Option Nano) LineKind). prepended nanos (with_line number r (nanos_of_lines (number + 1) lines))) is
+read_blank nanos number line lines is = ap (λ (r : Result (Option Nano) AsmKind). prepended nanos (with_line number r (nanos_of_lines (number + 1) lines))) is
 
 nano_first : (nanos : List Nano) (number : ℕ) (nano : Nano) (after : Result (List Nano) AsmFault)
     → prepended nanos (with_line number (Ok (Some nano)) after) ≡ prepended (nanos ++ nano ∷ []) after
@@ -46,13 +45,13 @@ nano_first nanos number nano (Err fault) = refl
 pub read_instruction : (nanos : List Nano) (number : ℕ) (line : List ℕ) (lines : List (List ℕ)) (nano : Nano) → instruction_of (words_of line) ≡ Ok (Some nano)
     → prepended nanos (nanos_of_lines number (line ∷ lines)) ≡ prepended (nanos ++ nano ∷ []) (nanos_of_lines (number + 1) lines)
 read_instruction nanos number line lines nano is =
-    ap (λ (r : Result (Option Nano) LineKind). prepended nanos (with_line number r (nanos_of_lines (number + 1) lines))) is
+    ap (λ (r : Result (Option Nano) AsmKind). prepended nanos (with_line number r (nanos_of_lines (number + 1) lines))) is
     ∙ nano_first nanos number nano (nanos_of_lines (number + 1) lines)
 
 -- a faulty line is the fault of the text
-pub read_fault : (nanos : List Nano) (number : ℕ) (line : List ℕ) (lines : List (List ℕ)) (fault : LineKind) → instruction_of (words_of line) ≡ Err fault
-    → prepended nanos (nanos_of_lines number (line ∷ lines)) ≡ Err (record { line = number; kind = kind_of fault })
-read_fault nanos number line lines fault is = ap (λ (r : Result (Option Nano) LineKind). prepended nanos (with_line number r (nanos_of_lines (number + 1) lines))) is
+pub read_fault : (nanos : List Nano) (number : ℕ) (line : List ℕ) (lines : List (List ℕ)) (kind : AsmKind) → instruction_of (words_of line) ≡ Err kind
+    → prepended nanos (nanos_of_lines number (line ∷ lines)) ≡ Err (record { line = number; kind = kind })
+read_fault nanos number line lines kind is = ap (λ (r : Result (Option Nano) AsmKind). prepended nanos (with_line number r (nanos_of_lines (number + 1) lines))) is
 
 -- ---- the lines that were read, one more at a time
 
@@ -61,7 +60,7 @@ abbrev pub joined : Result (List Nano) AsmFault → Result (List Nano) AsmFault 
 joined (Ok nanos) after = prepended nanos after
 joined (Err fault) after = Err fault
 
-line_first : (number : ℕ) (first : Result (Option Nano) LineKind) (before after : Result (List Nano) AsmFault)
+line_first : (number : ℕ) (first : Result (Option Nano) AsmKind) (before after : Result (List Nano) AsmFault)
     → with_line number first (joined before after) ≡ joined (with_line number first before) after
 line_first number (Err kind) before after = refl
 line_first number (Ok None) before after = refl
@@ -98,7 +97,7 @@ pub read_on_blank : (lines : List (List ℕ)) (line : List ℕ) (nanos : List Na
 read_on_blank lines line nanos before is =
     nanos_of_lines-append 1 lines (line ∷ [])
     ∙ ap (λ (r : Result (List Nano) AsmFault). joined r (nanos_of_lines (1 + length lines) (line ∷ []))) before
-    ∙ ap (λ (r : Result (Option Nano) LineKind). prepended nanos (with_line (1 + length lines) r (Ok []))) is
+    ∙ ap (λ (r : Result (Option Nano) AsmKind). prepended nanos (with_line (1 + length lines) r (Ok []))) is
     ∙ ap (λ (xs : List Nano). Ok xs) (append-nil nanos)
 
 -- and of one that has an instruction
@@ -107,7 +106,7 @@ pub read_on_instruction : (lines : List (List ℕ)) (line : List ℕ) (nanos : L
 read_on_instruction lines line nanos nano before is =
     nanos_of_lines-append 1 lines (line ∷ [])
     ∙ ap (λ (r : Result (List Nano) AsmFault). joined r (nanos_of_lines (1 + length lines) (line ∷ []))) before
-    ∙ ap (λ (r : Result (Option Nano) LineKind). prepended nanos (with_line (1 + length lines) r (Ok []))) is
+    ∙ ap (λ (r : Result (Option Nano) AsmKind). prepended nanos (with_line (1 + length lines) r (Ok []))) is
 
 -- a line whose instruction could not be kept
 pub accepted_through : (text : List ℕ) (i : ℕ) (nanos : List Nano) (nano : Nano) → nanos_of_lines 1 (take i (lines_of text)) ≡ Ok nanos
@@ -119,9 +118,24 @@ accepted_through text i nanos nano before here = record {
   here = here;
 }
 
--- a line that is refused is told whatever its fault, since want of memory is none of a line
-pub refused_at : (text : List ℕ) (line : ℕ) (fault : LineKind) (kind : AsmKind) → kind ≡ kind_of fault
-    → program_of text ≡ Err (record { line = line; kind = kind_of fault }) → IsFaultOf text (record { line = line; kind = kind })
-refused_at text line Word kind is read = rw is read
-refused_at text line Operands kind is read = rw is read
-refused_at text line Number kind is read = rw is read
+-- a line's own fault is told as it is
+told_as_it_is : (k : AsmKind) (W P : Type 0) → IsOwnFault k → P → MatchKind k W P
+told_as_it_is kind.Memory W P own p = absurd own
+told_as_it_is kind.Width W P own p = p
+told_as_it_is kind.Range W P own p = p
+told_as_it_is kind.Overlap W P own p = p
+told_as_it_is kind.Lengths W P own p = p
+told_as_it_is kind.Scratch W P own p = p
+told_as_it_is kind.Context W P own p = p
+told_as_it_is kind.Word W P own p = p
+told_as_it_is kind.Operands W P own p = p
+told_as_it_is kind.Number W P own p = p
+told_as_it_is kind.Name W P own p = p
+told_as_it_is kind.Twice W P own p = p
+told_as_it_is kind.TooLong W P own p = p
+
+-- a line that is refused is told whatever its fault
+pub refused_at : (text : List ℕ) (line : ℕ) (kind : AsmKind) → IsOwnFault kind
+    → program_of text ≡ Err (record { line = line; kind = kind }) → IsFaultOf text (record { line = line; kind = kind })
+refused_at text line kind own read =
+    told_as_it_is kind (IsAcceptedThrough text line) (program_of text ≡ Err (record { line = line; kind = kind })) own read

@@ -1,4 +1,3 @@
-pub mod NanoLine
 pub mod Take
 pub mod Report
 pub mod Program
@@ -6,3 +5,4 @@ pub mod ChipText
 pub mod Session
 pub mod ProgramFault
 pub mod Listed
+pub mod Fresh

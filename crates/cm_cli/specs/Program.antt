@@ -1,24 +1,21 @@
 -- A program text of one chip, line by line. Ours.
-use Rattle.std.specs.Prelude.{◌≡◌, ℕ, ◌+◌, ◌-◌, take, Option, Some, None, Result, Ok, Err, List, [], ◌∷◌, ◌++◌}
+use Rattle.std.specs.Prelude.{◌≡◌, ℕ, ◌+◌, ◌-◌, take, Option, Some, None, Result, Ok, Err, List, [], ◌∷◌, ◌++◌, codes, bytes_eq, if◌then◌else◌}
 use Rattle.cm_bits.specs.Text.{lines_of, words_of}
 use Rattle.cm_model.specs.declared.act.Nano.{Nano}
-use Rattle.cm_cli.specs.declared.fault.LineKind.{LineKind}
-use Rattle.cm_cli.specs.declared.fault.LineKind.TheVariants as line
 use Rattle.cm_language.specs.declared.fault.AsmKind.{AsmKind}
-use Rattle.cm_language.specs.declared.fault.AsmKind.TheVariants.{Word, Operands, Number}
+use Rattle.cm_language.specs.declared.fault.AsmKind.TheVariants.{Word}
 use Rattle.cm_language.specs.declared.fault.AsmFault.{AsmFault}
+use Rattle.cm_language.specs.Lines.{◌>>=◌, nano_of}
 use Rattle.cm_language.specs.Program.{MatchKind}
-use Rattle.cm_cli.specs.NanoLine.{instruction_of}
 
--- what is wrong with a line, as why its text is refused
-abbrev pub kind_of : LineKind → AsmKind
-kind_of line.Word = Word
-kind_of line.Operands = Operands
-kind_of line.Number = Number
+-- the instruction of the words of a line, none where there are no words: only `nano` may be the first
+abbrev pub instruction_of : List (List ℕ) → Result (Option Nano) AsmKind
+instruction_of [] = Ok None
+instruction_of (word ∷ operands) = if bytes_eq word (codes "nano") then (nano_of operands >>= λ nano. Ok (Some nano)) else Err Word
 
 -- the instruction of a line before those of the lines after it
-abbrev pub with_line : ℕ → Result (Option Nano) LineKind → Result (List Nano) AsmFault → Result (List Nano) AsmFault
-with_line number (Err fault) after = Err (record { line = number; kind = kind_of fault })
+abbrev pub with_line : ℕ → Result (Option Nano) AsmKind → Result (List Nano) AsmFault → Result (List Nano) AsmFault
+with_line number (Err kind) after = Err (record { line = number; kind = kind })
 with_line number (Ok None) after = after
 with_line number (Ok (Some nano)) (Ok nanos) = Ok (nano ∷ nanos)
 with_line number (Ok (Some nano)) (Err fault) = Err fault

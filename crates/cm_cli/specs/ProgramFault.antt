@@ -9,7 +9,7 @@ use Rattle.cm_cli.specs.declared.fault.ChipFault.TheVariants as chip
 use Rattle.cm_cli.specs.declared.takes.TakeFault.{TakeFault}
 use Rattle.cm_cli.specs.declared.takes.TakeFault.TheVariants as take
 use Rattle.cm_cli.specs.declared.program_fault.ProgramFault.{ProgramFault}
-use Rattle.cm_cli.specs.declared.program_fault.ProgramFault.TheVariants.{BadLine, Text, Read, Write, TooMuch, Memory}
+use Rattle.cm_cli.specs.declared.program_fault.ProgramFault.TheVariants.{BadLine, Text, Cap, Read, Write, TooMuch, Memory}
 
 -- the number of what is wrong with a line
 abbrev pub number_of_kind : AsmKind → ℕ
@@ -31,6 +31,7 @@ number_of_kind kind.TooLong = 20
 abbrev pub number_of : ProgramFault → ℕ
 number_of BadLine = 38
 number_of (Text fault) = number_of_kind fault.kind
+number_of Cap = 5
 number_of Read = 30
 number_of Write = 31
 number_of TooMuch = 32
@@ -40,6 +41,7 @@ number_of Memory = 33
 abbrev pub line_of : ProgramFault → Option ℕ
 line_of BadLine = None
 line_of (Text fault) = Some fault.line
+line_of Cap = None
 line_of Read = None
 line_of Write = None
 line_of TooMuch = None

@@ -2,9 +2,9 @@
 //! and the line that tells a fault.
 #![tactic(auto)]
 
+mod blanks;
 mod fault;
 mod listed;
-mod nano_line;
 mod one_chip;
 mod program;
 mod program_fault;
@@ -13,6 +13,7 @@ mod session;
 mod takes;
 mod texts;
 
+pub use blanks::fresh;
 pub use cm_language::{AsmFault, AsmKind};
 pub use cm_line::{Line, LineFault, command};
 pub use fault::ChipFault;

@@ -1,10 +1,12 @@
 //! Program texts for one chip.
 
-ghost use Rattle.std.specs.Prelude.{◌≡◌, ◌<◌, ◌^◌, length, Ok, MatchResult};
-ghost use Rattle.cm_cli.specs.Program.{program_of, IsFaultOf};
+ghost use Rattle.std.specs.Prelude.{◌≡◌, ◌<◌, ◌^◌, length, Ok, IfErr, MatchResult};
+ghost use Rattle.cm_bits.specs.Text.{words_of};
+ghost use Rattle.cm_language.specs.Program.{IsOwnFault};
+ghost use Rattle.cm_cli.specs.Program.{instruction_of, program_of, IsFaultOf};
 
-use crate::nano_line::read_line;
-use cm_bits::Lines;
+use cm_asm::read_nano;
+use cm_bits::{Lines, Words};
 use cm_language::{AsmFault, AsmKind};
 use cm_model::Nano;
 use std::alloc::Global;
@@ -28,13 +30,24 @@ pub fn read_program(alloc: Global, text: &[u8]) -> Result<Vec<Nano>, AsmFault>
                     });
                 }
             }
-            Err(fault) => {
-                return Err(AsmFault {
-                    line,
-                    kind: AsmKind::from(fault),
-                });
-            }
+            Err(kind) => return Err(AsmFault { line, kind }),
         }
     }
     Ok(nanos)
+}
+
+/// The instruction of a line, none where the line is blank.
+fn read_line(line: &[u8]) -> Result<Option<Nano>, AsmKind>
+    ensures value { result ≡ instruction_of (words_of line.now) }
+    ensures own { IfErr result IsOwnFault }
+{
+    let mut words = Words::new(line);
+    let Some(name) = words.next() else {
+        return Ok(None);
+    };
+    if name != b"nano".as_slice() {
+        return Err(AsmKind::Word);
+    }
+    let nano = read_nano(words)?;
+    Ok(Some(nano))
 }

@@ -14,6 +14,8 @@ use cm_line::LineFault;
 pub enum ProgramFault {
     BadLine,
     Text(AsmFault),
+    /// A machine's routers have another room than the program's machines.
+    Cap,
     Read,
     Write,
     TooMuch,
@@ -30,6 +32,7 @@ impl ProgramFault {
         match self {
             ProgramFault::BadLine => 38,
             ProgramFault::Text(fault) => asm_number(fault.kind),
+            ProgramFault::Cap => 5,
             ProgramFault::Read => 30,
             ProgramFault::Write => 31,
             ProgramFault::TooMuch => 32,

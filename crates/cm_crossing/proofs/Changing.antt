@@ -1,5 +1,6 @@
 -- One chip's tickets are written, and the row has more messages.
-use Rattle.std.proofs.Common.{◌≡◌, ◌≢◌, ℕ, Bool, ⊎_elim, get_or-set_same, get_or-set_other, length-set, suc, ◌<◌, ◌≤◌, ◌++◌, List, [], ◌∷◌, length, set, get_or, refl, sym, ap, ◌∙◌, arith}
+use Rattle.std.proofs.Common.{◌≡◌, ◌≢◌, ℕ, Bool, ⊎_elim, get_or-set_same, get_or-set_other, length-set, suc, ◌<◌, ◌≤◌}
+use Rattle.std.proofs.Common.{◌++◌, List, [], ◌∷◌, length, set, get_or, refl, sym, ap, ◌∙◌, arith}
 use Rattle.std.specs.List.{All}
 use Rattle.std.proofs.lemmas.Bool.{cases_eq}
 use Rattle.std.proofs.lemmas.List.{length-append, map-set, get_or-map, get_or_read}

@@ -1,9 +1,12 @@
 -- Tickets and the row of messages that they stand for, as a petit cycle begins and ends.
-use Rattle.std.proofs.Common.{◌≡◌, ◌≢◌, ℕ, suc, ◌+◌, ◌<◌, ◌≤◌, ◌++◌, Bool, true, false, not, IsTrue, List, [], ◌∷◌, length, take, set, get_or, refl, sym, ap, ◌∙◌, subst, arith, ⊎_elim, below_more, get_or-set_same, get_or-set_other}
+use Rattle.std.proofs.Common.{◌≡◌, ◌≢◌, ℕ, suc, ◌+◌, ◌<◌, ◌≤◌, ◌++◌, Bool, true, false, not, IsTrue, List, [], ◌∷◌}
+use Rattle.std.proofs.Common.{length, take, set, get_or, refl, sym, ap, ◌∙◌, subst, arith, ⊎_elim, below_more}
+use Rattle.std.proofs.Common.{get_or-set_same, get_or-set_other}
 use Rattle.std.specs.Bool.{beq}
 use Rattle.std.specs.List.{All, IsAnyAnswer}
 use Rattle.std.proofs.lemmas.Bool.{cases_eq, cases_lt}
-use Rattle.std.proofs.lemmas.List.{length-map, map-append, map-set, length-append, append_assoc, length-set, get_or-map, get_or_append_left, get_or_at, get_or_past, take_more, ext_get_or}
+use Rattle.std.proofs.lemmas.List.{length-map, map-append, map-set, length-append, append_assoc, length-set, get_or-map}
+use Rattle.std.proofs.lemmas.List.{get_or_append_left, get_or_at, get_or_past, take_more, ext_get_or}
 use Rattle.std.proofs.lemmas.List.Elements.{All-append, All-cons, All-nil, All-set}
 use Rattle.std.proofs.lemmas.List.FromFn.{map-range_with_len_more}
 use Rattle.cm_model.specs.declared.message.Message.{Message}
@@ -62,7 +65,8 @@ entered_kept row queue number m is kept =
 
 -- ---- all chips
 
--- the first nodes' messages stand at their chips, nowhere more than there is room for, and these nodes are empty; the others are as before, and their queues empty
+-- the first nodes' messages stand at their chips, nowhere more than there is room for, and these nodes are empty;
+-- the others are as before, and their queues empty
 pub record AreIssued (cap : ℕ) (row : List Message) (before now : List Buffer) (queues : List (List Ticket))
     (busy : List Bool) (count : ℕ) : Type 0 where
   pub value : (c : ℕ) → c < count → standing row (list_at queues c) ≡ get_or (buffers_of before) c []

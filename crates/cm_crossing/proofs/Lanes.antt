@@ -1,12 +1,16 @@
 -- What the lanes of a row give: the first with a bit, and the row without a place.
-use Rattle.std.proofs.Common.{◌≡◌, ◌≢◌, ℕ, zero, suc, ◌+◌, ◌*◌, ◌^◌, ◌%◌, ◌<◌, ◌≤◌, ◌⊎◌, Bool, true, false, not, eqb, ltb, cond, List, [], ◌∷◌, ◌++◌, map, length, get_or, replicate, bit_and, w16, refl, sym, ◌∙◌, ap, ⊎_elim, arith, inl, inr}
+use Rattle.std.proofs.Common.{◌≡◌, ◌≢◌, ℕ, zero, suc, ◌+◌, ◌*◌, ◌^◌, ◌%◌, ◌<◌, ◌≤◌, ◌⊎◌, Bool, true, false, not, eqb}
+use Rattle.std.proofs.Common.{ltb, cond, List, [], ◌∷◌, ◌++◌, map, length, get_or, replicate, bit_and, w16, refl, sym}
+use Rattle.std.proofs.Common.{◌∙◌, ap, ⊎_elim, arith, inl, inr}
 use Rattle.std.proofs.lemmas.Bool.{cases_eq, eq-eqb, ne_eqb, lt-ltb, le-ltb, not-true, not-false}
 use Rattle.std.proofs.lemmas.List.{length-map, length-replicate, get_or-map, get_or_append_left}
 use Rattle.std.proofs.lemmas.List.Sums.{prefix_len_passes, prefix_len_stops}
 use Rattle.std.proofs.lemmas.List.FromFn.{get_or-range_with_len, length-range_with_len}
 use Rattle.std.proofs.lemmas.Nat.{pow_pos}
 use Rattle.std.proofs.lemmas.Nat.Bits.{and_pow, bit_at-lt}
-use Rattle.std.proofs.lemmas.Simd.{zip2_splat, map-map, bitmask_splat, get_or-zip2, get_or-replicate, tops_compared, get_or-sel_l, leading_from_mask_l, trailing_mask_l, length-zip2, length-sel_l, length-chunk, get_or-chunk, get_or-put_chunk_at}
+use Rattle.std.proofs.lemmas.Simd.{zip2_splat, map-map, bitmask_splat, get_or-zip2, get_or-replicate, tops_compared}
+use Rattle.std.proofs.lemmas.Simd.{get_or-sel_l, leading_from_mask_l, trailing_mask_l, length-zip2, length-sel_l}
+use Rattle.std.proofs.lemmas.Simd.{length-chunk, get_or-chunk, get_or-put_chunk_at}
 use Rattle.std.specs.Int.{bit_at}
 use Rattle.std.specs.Int.Count.{count_trailing_zeros, trailing_of_zero}
 use Rattle.std.specs.List.{prefix_len, range_with_len}

@@ -1,5 +1,6 @@
 -- Who leaves a queue: its place, where nobody's is past the last, and the room that it makes for one who comes.
-use Rattle.std.proofs.Common.{◌≡◌, ℕ, ◌-◌, ◌<◌, ◌≤◌, Bool, true, false, eqb, ltb, min, List, [], ◌∷◌, ◌++◌, length, remove, Option, Some, None, refl, ap, ⊎_elim, arith}
+use Rattle.std.proofs.Common.{◌≡◌, ℕ, ◌-◌, ◌<◌, ◌≤◌, Bool, true, false, eqb, ltb, min, List, [], ◌∷◌, ◌++◌, length}
+use Rattle.std.proofs.Common.{remove, Option, Some, None, refl, ap, ⊎_elim, arith}
 use Rattle.std.proofs.lemmas.Bool.{cases_lt, cond_both, ltb-true, ltb-false, eqb-false}
 use Rattle.std.proofs.lemmas.List.{length-append}
 use Rattle.std.proofs.lemmas.List.Edits.{length-remove}

@@ -17,7 +17,8 @@ pub record IsFirstWith (width d : ℕ) (row : List ℕ) (place : ℕ) : Type 0 w
   pub none_before : (i : ℕ) → i < width → i < place → bit (slice_index row i) d ≡ false
   pub there : place < width → bit (slice_index row place) d ≡ true
 
--- so many numbers of a row without the one at a place: the later ones stand one place nearer the front, and the last place holds anything
+-- so many numbers of a row without the one at a place:
+-- the later ones stand one place nearer the front, and the last place holds anything
 pub record IsClosed (width place : ℕ) (row closed : List ℕ) : Type 0 where
   pub earlier : (i : ℕ) → i < width → i < place → slice_index closed i ≡ slice_index row i
   pub later : (i : ℕ) → i + 1 < width → place ≤ i → slice_index closed i ≡ slice_index row (i + 1)

@@ -1,5 +1,6 @@
 -- Which messages stand at the chips, where tickets cross in their place. Ours.
-use Rattle.std.specs.Prelude.{◌≡◌, ℕ, ◌*◌, ◌/◌, ◌<◌, ◌≤◌, Bool, false, List, [], length, map, slice_index_or, Vec, vec_len, vec_capacity}
+use Rattle.std.specs.Prelude.{◌≡◌, ℕ, ◌*◌, ◌/◌, ◌<◌, ◌≤◌, Bool, false, List, [], length, map, slice_index_or, Vec}
+use Rattle.std.specs.Prelude.{vec_len, vec_capacity}
 use Rattle.std.specs.List.{All}
 use Rattle.std.specs.declared.alloc.Global.{Global}
 use Rattle.cm_model.specs.declared.message.Message.{Message}
@@ -8,7 +9,8 @@ use Rattle.cm_model.specs.Letters.{senders_taken, messages_sent, can_receive}
 use Rattle.cm_model.specs.Buffers.{delivered, kept}
 use Rattle.cm_crossing.specs.declared.queue.Ticket.{Ticket}
 
--- what contracts see of messages under way: those at each chip, in order of arrival, and for how many more there are places
+-- what contracts see of messages under way:
+-- those at each chip, in order of arrival, and for how many more there are places
 pub record UnderWay : Type 0 where
   pub buffers : List (List Message)
   pub free : ℕ
@@ -57,7 +59,8 @@ abbrev pub AreQuiet : List Bool → List (List Ticket) → Type 0
 AreQuiet busy queues = (c : ℕ) → c < length queues → slice_index_or busy (c / 64) false ≡ false
     → slice_index_or queues c [] ≡ []
 
--- at most 4,096 chips in 64 blocks, and 15 places of the row for each; each ticket stands for a message, and there are none in a block that is not busy
+-- at most 4,096 chips in 64 blocks, and 15 places of the row for each;
+-- each ticket stands for a message, and there are none in a block that is not busy
 pub record IsCrossing (row : Vec Message Global) (places : ℕ) (queues : List (List Ticket)) (busy : List Bool) : Type
     0 where
   pub few : length queues ≤ 4096

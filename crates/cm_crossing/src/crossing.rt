@@ -1,6 +1,7 @@
 //! The messages of all chips while they are under way.
 
-ghost use Rattle.std.specs.Prelude.{◌≡◌, ◌+◌, ◌*◌, ◌^◌, ◌<◌, ◌≤◌, ◌++◌, [], IfOk, IsFalse, IsTrue, length, map, slice_set, bit_xor, vec_len, vec_capacity};
+ghost use Rattle.std.specs.Prelude.{◌≡◌, ◌+◌, ◌*◌, ◌^◌, ◌<◌, ◌≤◌, ◌++◌, [], IfOk, IsFalse, IsTrue, length, map};
+ghost use Rattle.std.specs.Prelude.{slice_set, bit_xor, vec_len, vec_capacity};
 ghost use Rattle.std.specs.List.{All};
 ghost use Rattle.cm_model.specs.declared.message.Event.TheVariants as event;
 ghost use Rattle.cm_model.specs.Letters.{chip_after_injection, chip_after_delivery};
@@ -121,7 +122,8 @@ impl Crossing {
         requires room { vec_len log.old + 4 ≤ vec_capacity log.old }
         ensures value { self.new.buffers ≡ slice_set self.old.buffers here (list_at self.old.buffers here
             ++ sent_with N CAP clock here (list_at self.old.buffers here) chip.old) }
-        ensures chip { chip.new ≡ chip_after_injection (taken_with CAP (list_at self.old.buffers here) chip.old) chip.old }
+        ensures chip { chip.new
+            ≡ chip_after_injection (taken_with CAP (list_at self.old.buffers here) chip.old) chip.old }
         ensures log { log.new.items ≡ log.old.items
             ++ map event.Injected (sent_with N CAP clock here (list_at self.old.buffers here) chip.old) }
         ensures told { vec_len log.new ≤ vec_len log.old + 4 }

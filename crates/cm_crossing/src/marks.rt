@@ -47,7 +47,8 @@ pub(crate) fn look_again(queues: &[Queue], busy: &mut [bool])
 /// Whether a ticket stands at some chip of a block.
 fn is_busy(queues: &[Queue], block: usize) -> bool
     requires block { block < 64 }
-    ensures none { IsFalse result → (c : ℕ) → c < length queues.now → c / 64 ≡ block → slice_index_or queues.now c [] ≡ [] }
+    ensures none { IsFalse result
+        → (c : ℕ) → c < length queues.now → c / 64 ≡ block → slice_index_or queues.now c [] ≡ [] }
 {
     let mut c = block * BLOCK;
     while c < queues.len() && c < (block + 1) * BLOCK {

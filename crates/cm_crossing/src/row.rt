@@ -1,11 +1,13 @@
 //! The row in which messages stay, and the tickets for them.
 
-ghost use Rattle.std.specs.Prelude.{◌≡◌, ◌+◌, ◌*◌, ◌<◌, ◌≤◌, ◌++◌, [], ◌∷◌, IsFalse, IsTrue, length, map, vec_len, vec_capacity};
+ghost use Rattle.std.specs.Prelude.{◌≡◌, ◌+◌, ◌*◌, ◌<◌, ◌≤◌, ◌++◌, [], ◌∷◌, IsFalse, IsTrue, length, map, vec_len};
+ghost use Rattle.std.specs.Prelude.{vec_capacity};
 ghost use Rattle.std.specs.List.{All};
 ghost use Rattle.cm_model.specs.declared.message.Event.TheVariants as event;
 ghost use Rattle.cm_model.specs.Letters.{chip_after_injection, chip_after_delivery};
 ghost use Rattle.cm_router.specs.Buffer.{IsBuffer, holding, buffers_of};
-ghost use Rattle.cm_crossing.specs.Standing.{message_of, standing, all_standing, AreKept, AreQuiet, taken_with, sent_with, delivered_of, kept_of};
+ghost use Rattle.cm_crossing.specs.Standing.{message_of, standing, all_standing, AreKept, AreQuiet, taken_with};
+ghost use Rattle.cm_crossing.specs.Standing.{sent_with, delivered_of, kept_of};
 
 use crate::marks::BLOCK;
 use crate::queue::{MOST_TICKETS, Queue, Ticket};
@@ -131,7 +133,8 @@ pub(crate) fn take_in<const N: usize, const CAP: usize>(
     ensures row_capacity { vec_capacity row.old ≤ vec_capacity row.new }
     ensures quiet { IsFalse result → queue.new ≡ queue.old }
     ensures some { IsTrue result → 0 < length queue.new }
-    ensures chip { chip.new ≡ chip_after_injection (taken_with CAP (standing row.old.items queue.old) chip.old) chip.old }
+    ensures chip { chip.new
+        ≡ chip_after_injection (taken_with CAP (standing row.old.items queue.old) chip.old) chip.old }
     ensures log { log.new.items ≡ log.old.items
         ++ map event.Injected (sent_with N CAP clock here (standing row.old.items queue.old) chip.old) }
     ensures told { vec_len log.new ≤ vec_len log.old + 4 }

@@ -1,5 +1,6 @@
 -- The bits of a plane that is shifted up by one place.
-use Rattle.std.proofs.Common.{◌≡◌, ℕ, ◌-◌, ◌*◌, ◌%◌, ◌<◌, ◌==◌, Bool, None, Some, if◌then◌else◌, zero, suc, ap, ◌∙◌, sym, arith, ne_eqb}
+use Rattle.std.proofs.Common.{◌≡◌, ℕ, ◌-◌, ◌*◌, ◌%◌, ◌<◌, ◌==◌, Bool, None, Some, if◌then◌else◌, zero, suc, ap, ◌∙◌}
+use Rattle.std.proofs.Common.{sym, arith, ne_eqb}
 use Rattle.std.specs.Int.{bit_at}
 use Rattle.std.proofs.lemmas.Nat.{pow_pos}
 use Rattle.std.proofs.lemmas.Nat.Bits.{bit_at_cat_low, bit_at_cat_high, bit_at-zero}

@@ -1,3 +1,4 @@
+pub mod ReaderLemmas
 pub mod Growing
 pub mod Telling
 pub mod Coming

@@ -14,4 +14,5 @@ mod stretch;
 mod want;
 
 pub use cm_session::SessionFault;
+pub use reader::read_command;
 pub use sessions::session;

@@ -1,17 +1,19 @@
 //! What a line of a session asks for.
 
-ghost use Rattle.std.specs.Prelude.{◌≡◌, ◌<◌, ◌≤◌, ◌^◌, ℕ, IfOk, IfSome};
+ghost use Rattle.std.specs.Prelude.{◌≡◌, ◌≤◌, IfOk, IfSome};
 ghost use Rattle.cm_bits.specs.Text.{words_left, words_of};
 ghost use Rattle.cm_session.specs.Bounds.{IsFor};
-ghost use Rattle.cm_session.specs.Commands.{alone, index_of, wire_of, field_of, flag_of, poke_of, poke_flag_of, chip_of, find_of, command_named, command_of};
+ghost use Rattle.cm_session.specs.Commands.{alone, index_of, wire_of, field_of, flag_of, poke_of};
+ghost use Rattle.cm_session.specs.Commands.{poke_flag_of, chip_of, find_of, command_named, command_of};
 
 use crate::reader_operands::{address, bit, chip, field, flag, index, number, place, pokeable};
 use cm_bits::Words;
 use cm_model::Tag;
 use cm_session::{Command, Refusal};
 
-/// The command of a line, none where the line has no words; on a cube of that many dimensions, with a program of so
-/// many acts.
+/// What a line asks for, in our own language of commands; none where it has no words. Chips are those of a cube of that
+/// many dimensions, acts those of a program of so many. Of several faults the first is told: the word, the number of
+/// operands, a word that is no number, then ranges from left to right. It takes no memory.
 pub fn read_command(
     line: &[u8],
     dimensions: usize,
@@ -38,7 +40,6 @@ fn read_named(
 ) -> Result<Command, Refusal>
     requires dimension { dimensions ≤ 12 }
     ensures value { result ≡ command_named dimensions count name.now (words_left words.entry) }
-    ensures inside { IfOk result (IsFor dimensions count) }
 {
     if name == b"step".as_slice() {
         alone(Command::Step, words)
@@ -86,7 +87,6 @@ fn alone(command: Command, mut words: Words) -> Result<Command, Refusal>
 /// The index of an act.
 fn read_index(mut words: Words, count: usize) -> Result<usize, Refusal>
     ensures value { result ≡ index_of count (words_left words.entry) }
-    ensures inside { IfOk result (λ i. i < count) }
 {
     let (Some(i), None) = (words.next(), words.next()) else {
         return Err(Refusal::Operands);
@@ -116,7 +116,6 @@ fn read_wire(mut words: Words) -> Result<Command, Refusal>
 fn read_field(mut words: Words, dimensions: usize) -> Result<Command, Refusal>
     requires dimension { dimensions ≤ 12 }
     ensures value { result ≡ field_of dimensions (words_left words.entry) }
-    ensures inside { (count : ℕ) → IfOk result (IsFor dimensions count) }
 {
     let (Some(c), Some(p), Some(at)) = (words.next(), words.next(), words.next()) else {
         return Err(Refusal::Operands);
@@ -136,7 +135,6 @@ fn read_field(mut words: Words, dimensions: usize) -> Result<Command, Refusal>
 fn read_flag(mut words: Words, dimensions: usize) -> Result<Command, Refusal>
     requires dimension { dimensions ≤ 12 }
     ensures value { result ≡ flag_of dimensions (words_left words.entry) }
-    ensures inside { (count : ℕ) → IfOk result (IsFor dimensions count) }
 {
     let (Some(c), Some(p), Some(f)) = (words.next(), words.next(), words.next()) else {
         return Err(Refusal::Operands);
@@ -155,7 +153,6 @@ fn read_flag(mut words: Words, dimensions: usize) -> Result<Command, Refusal>
 fn read_poke(mut words: Words, dimensions: usize) -> Result<Command, Refusal>
     requires dimension { dimensions ≤ 12 }
     ensures value { result ≡ poke_of dimensions (words_left words.entry) }
-    ensures inside { (count : ℕ) → IfOk result (IsFor dimensions count) }
 {
     let (Some(c), Some(p), Some(at)) = (words.next(), words.next(), words.next()) else {
         return Err(Refusal::Operands);
@@ -177,7 +174,6 @@ fn read_poke(mut words: Words, dimensions: usize) -> Result<Command, Refusal>
 fn read_poke_flag(mut words: Words, dimensions: usize) -> Result<Command, Refusal>
     requires dimension { dimensions ≤ 12 }
     ensures value { result ≡ poke_flag_of dimensions (words_left words.entry) }
-    ensures inside { (count : ℕ) → IfOk result (IsFor dimensions count) }
 {
     let (Some(c), Some(p), Some(f)) = (words.next(), words.next(), words.next()) else {
         return Err(Refusal::Operands);
@@ -199,7 +195,6 @@ fn read_poke_flag(mut words: Words, dimensions: usize) -> Result<Command, Refusa
 fn read_chip(mut words: Words, dimensions: usize) -> Result<u16, Refusal>
     requires dimension { dimensions ≤ 12 }
     ensures value { result ≡ chip_of dimensions (words_left words.entry) }
-    ensures inside { IfOk result (λ c. c < 2 ^ dimensions) }
 {
     let (Some(c), None) = (words.next(), words.next()) else {
         return Err(Refusal::Operands);
@@ -212,7 +207,6 @@ fn read_chip(mut words: Words, dimensions: usize) -> Result<u16, Refusal>
 fn read_find(mut words: Words, dimensions: usize) -> Result<Command, Refusal>
     requires dimension { dimensions ≤ 12 }
     ensures value { result ≡ find_of dimensions (words_left words.entry) }
-    ensures inside { (count : ℕ) → IfOk result (IsFor dimensions count) }
 {
     let (Some(c), Some(p), Some(b)) = (words.next(), words.next(), words.next()) else {
         return Err(Refusal::Operands);

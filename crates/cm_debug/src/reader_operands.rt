@@ -1,8 +1,7 @@
 //! The operands of a line: first the number that a word writes, then what that number stands for.
 
-ghost use Rattle.std.specs.Prelude.{◌≡◌, ◌≢◌, ◌<◌, ◌≤◌, ◌^◌, IfOk};
+ghost use Rattle.std.specs.Prelude.{◌≡◌, ◌<◌, ◌≤◌, ◌^◌, IfOk};
 ghost use Rattle.cm_bits.specs.Field.{field_fault};
-ghost use Rattle.cm_model.specs.Processor.{ZERO};
 ghost use Rattle.cm_session.specs.Operands.{number, below, one_bit, place, field_unless, pokeable};
 
 use cm_bits::{Addr, Field, FieldFault, FlagNo, Place, Proc, read_number};
@@ -17,17 +16,15 @@ pub fn number(word: &[u8]) -> Result<u64, Refusal>
 /// The index of one of so many acts.
 pub fn index(number: u64, count: usize) -> Result<usize, Refusal>
     ensures value { result ≡ below count number }
-    ensures inside { IfOk result (λ i. i < count) }
 {
-    let index = below(number, count as u64)?;
-    Ok(index as usize)
+    let small = below(number, count as u64)?;
+    Ok(small as usize)
 }
 
 /// A chip of a cube of that many dimensions.
 pub fn chip(number: u64, dimensions: usize) -> Result<u16, Refusal>
     requires dimension { dimensions ≤ 12 }
     ensures value { result ≡ below (2 ^ dimensions) number }
-    ensures inside { IfOk result (λ c. c < 2 ^ dimensions) }
 {
     let chip = below(number, 1 << dimensions)?;
     Ok(chip as u16)
@@ -37,7 +34,6 @@ pub fn chip(number: u64, dimensions: usize) -> Result<u16, Refusal>
 pub fn place(chip_number: u64, proc: u64, dimensions: usize) -> Result<Place, Refusal>
     requires dimension { dimensions ≤ 12 }
     ensures value { result ≡ place dimensions chip_number proc }
-    ensures inside { IfOk result (λ there. there.chip < 2 ^ dimensions) }
 {
     let chip = chip(chip_number, dimensions)?;
     let number = below(proc, 16)?;
@@ -88,7 +84,6 @@ pub fn field(at: u64, len: u64) -> Result<Field, Refusal>
 /// The flag itself, where a bit can be put into it.
 pub fn pokeable(flag: FlagNo) -> Result<FlagNo, Refusal>
     ensures value { result ≡ pokeable flag }
-    ensures inside { IfOk result (λ poked. poked ≢ ZERO) }
 {
     if flag == FlagNo::ZERO {
         return Err(Refusal::ZeroFlag);

@@ -1,5 +1,5 @@
 -- The planes of one chip among the rows of many.
-use Rattle.std.proofs.Common.{◌≡◌, ◌≢◌, inl, inr, ℕ, ◌+◌, ◌*◌, ◌<◌, ◌≤◌, zero, suc, List, [], length, get_or, set, replicate, refl, sym, ap, ◌∙◌, ⊎_elim, arith, ext_get_or, get_or-set_same, get_or-set_other, length-set}
+use Rattle.std.proofs.Common.{◌≡◌, ◌≢◌, inl, inr, ℕ, ◌+◌, ◌*◌, ◌<◌, ◌≤◌, zero, suc, List, [], length, get_or, set, replicate, refl, sym, ap, ◌∙◌, ⊎_elim, arith, lit<, ext_get_or, get_or-set_same, get_or-set_other, length-set}
 use Rattle.std.proofs.lemmas.Bool.{cases_lt}
 use Rattle.std.proofs.lemmas.Nat.{mul-le}
 use Rattle.std.proofs.lemmas.List.{get_or_read}
@@ -10,8 +10,9 @@ use Rattle.std.proofs.lemmas.Simd.{length-replicate}
 use Rattle.cm_model.specs.Each.{each_from}
 use Rattle.cm_model.proofs.Each.{get_or-each_below, length-each_from, same_each_below}
 use Rattle.cm_rows.specs.Rows.{IsApart}
-use Rattle.cm_element.specs.Runs.{column, chip_in, chips_of}
-use Rattle.cm_element.proofs.Planes.{blank_planes, memory_bit-chip_of, flag-chip_of}
+use Rattle.cm_model.specs.Whole.{IsChip}
+use Rattle.cm_element.specs.Runs.{column, chip_in, chips_of, AreRows}
+use Rattle.cm_element.proofs.Planes.{blank_planes, memory_bit-chip_of, flag-chip_of, planes_are_whole}
 
 pub get_or-column : (rows : List ℕ) (stride count c i : ℕ) → i < count → get_or (column rows stride count c) i 0 ≡ get_or rows (i * stride + c) 0
 unfolding column
@@ -118,3 +119,19 @@ flag_plane_in memory flags stride chips chip number index word here below inside
     ap (λ (w : ℕ). bit w p) (get_or_read flags index word inside read 0 ∙ ap (λ (i : ℕ). get_or flags i 0) is ∙ sym (get_or-column flags stride 16 chip number below))
     ∙ sym (flag-chip_of (column memory stride 4096 chip) (column flags stride 16 chip) p number h)
     ∙ sym (ap (λ c. flag (processor_at c p) number) (chip_at-chips_of memory flags stride chips chip here))
+
+-- a chip of the run has a word in each row
+pub has_word : (memory flags : List ℕ) (stride chips chip : ℕ) → AreRows memory flags stride chips → chip < length (chips_of memory flags stride chips) → chip < stride
+has_word memory flags stride chips chip rows here = omega (arith, here, length-chips_of memory flags stride chips, rows.within)
+
+-- every chip of the rows is whole
+pub chip_is_whole : (memory flags : List ℕ) (stride chips chip : ℕ) → AreRows memory flags stride chips → chip < length (chips_of memory flags stride chips)
+    → IsChip (get_or (chips_of memory flags stride chips) chip [])
+chip_is_whole memory flags stride chips chip rows here =
+    let below : chip < chips = omega (arith, here, length-chips_of memory flags stride chips) in
+    rw (chip_at-chips_of memory flags stride chips chip below)
+    (planes_are_whole (column memory stride 4096 chip) (column flags stride 16 chip) (record {
+      memory_planes = length-column memory stride 4096 chip;
+      flag_planes = length-column flags stride 16 chip;
+      zero = get_or-column flags stride 16 chip 8 (lit< tt) ∙ rows.zero chip below;
+    }))

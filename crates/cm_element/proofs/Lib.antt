@@ -1,8 +1,12 @@
 mod Columns
 mod Fields
+mod Flagged
+mod Halves
 mod Lanes
+mod Laying
 mod Planes
 mod Poking
 mod Stepping
+mod Replacing
 mod Storing
 mod Widening

@@ -218,16 +218,17 @@ chip_taken nano always memory flags memory_new flags_new merged stride chips c a
           ∙ (λ j. cond (beq (bit (cond_is j) p) nano.sense) (bit (get_or incoming c 0) p) (bit (old_is j) p))
           ∙ ap (λ b. cond (beq b nano.sense) (bit (get_or incoming c 0) p) (bit (get_or (column flags stride 16 c) nano.write 0) p)) (sym (bit_in_row (column flags stride 16 c) nano.cond p))
 
--- what a chip sends
-pub chip_sent : (nano : Nano) (memory flags : List ℕ) (stride chips c : ℕ) (at : Places) (word p : ℕ) → ArePlaces nano stride at → c < chips → p < 16
-    → bit word p ≡ entry nano.flag_table (bit (get_or memory (at.a + c) 0) p) (bit (get_or memory (at.b + c) 0) p) (bit (get_or flags (at.read + c) 0) p)
-    → bit word p ≡ flag_output nano (processor_at (get_or (chips_of memory flags stride chips) c []) p)
-chip_sent nano memory flags stride chips c at word p places here h is =
+-- what a table gives a chip
+pub chip_looked_up : (table : ℕ) (nano : Nano) (memory flags : List ℕ) (stride chips c : ℕ) (at : Places) (word p : ℕ) → ArePlaces nano stride at → c < chips → p < 16
+    → bit word p ≡ entry table (bit (get_or memory (at.a + c) 0) p) (bit (get_or memory (at.b + c) 0) p) (bit (get_or flags (at.read + c) 0) p)
+    → bit word p ≡ entry table (memory_bit (processor_at (get_or (chips_of memory flags stride chips) c []) p) nano.a)
+    (memory_bit (processor_at (get_or (chips_of memory flags stride chips) c []) p) nano.b) (flag (processor_at (get_or (chips_of memory flags stride chips) c []) p) nano.read)
+chip_looked_up table nano memory flags stride chips c at word p places here h is =
     is
-    ∙ (λ j. entry nano.flag_table (bit (a_is j) p) (bit (b_is j) p) (bit (f_is j) p))
-    ∙ (λ j. entry nano.flag_table (sym (memory_bit-chip_of (column memory stride 4096 c) (column flags stride 16 c) p nano.a h) j)
+    ∙ (λ j. entry table (bit (a_is j) p) (bit (b_is j) p) (bit (f_is j) p))
+    ∙ (λ j. entry table (sym (memory_bit-chip_of (column memory stride 4096 c) (column flags stride 16 c) p nano.a h) j)
     (sym (memory_bit-chip_of (column memory stride 4096 c) (column flags stride 16 c) p nano.b h) j) (sym (flag-chip_of (column memory stride 4096 c) (column flags stride 16 c) p nano.read h) j))
-    ∙ ap (λ chip. flag_output nano (processor_at chip p)) (sym (chip_at-chips_of memory flags stride chips c here)) where
+    ∙ ap (λ chip. entry table (memory_bit (processor_at chip p) nano.a) (memory_bit (processor_at chip p) nano.b) (flag (processor_at chip p) nano.read)) (sym (chip_at-chips_of memory flags stride chips c here)) where
       a_is : get_or memory (at.a + c) 0 ≡ get_or (column memory stride 4096 c) nano.a 0
       a_is = ap (λ (i : ℕ). get_or memory (i + c) 0) places.a ∙ sym (get_or-column memory stride 4096 c nano.a places.a_below)
 
@@ -236,3 +237,13 @@ chip_sent nano memory flags stride chips c at word p places here h is =
 
       f_is : get_or flags (at.read + c) 0 ≡ get_or (column flags stride 16 c) nano.read 0
       f_is = ap (λ (i : ℕ). get_or flags (i + c) 0) places.read ∙ sym (get_or-column flags stride 16 c nano.read places.read_below)
+
+-- where the condition of a chip's processors holds
+pub chip_holds : (nano : Nano) (memory flags : List ℕ) (stride chips c : ℕ) (at : Places) (word p : ℕ) → ArePlaces nano stride at → c < chips → p < 16
+    → bit word p ≡ beq (bit (get_or flags (at.cond + c) 0) p) nano.sense
+    → bit word p ≡ holds nano (processor_at (get_or (chips_of memory flags stride chips) c []) p)
+chip_holds nano memory flags stride chips c at word p places here h is =
+    is
+    ∙ ap (λ (w : ℕ). beq (bit w p) nano.sense) (ap (λ (i : ℕ). get_or flags (i + c) 0) places.cond ∙ sym (get_or-column flags stride 16 c nano.cond places.cond_below))
+    ∙ ap (λ b. beq b nano.sense) (sym (flag-chip_of (column memory stride 4096 c) (column flags stride 16 c) p nano.cond h))
+    ∙ ap (λ chip. holds nano (processor_at chip p)) (sym (chip_at-chips_of memory flags stride chips c here))

@@ -16,7 +16,7 @@ use Rattle.cm_model.specs.Letters.{bits_of, with_field}
 use Rattle.cm_model.proofs.Each.{same_each_below}
 use Rattle.cm_model.proofs.Wholes.{length-bits_of}
 use Rattle.cm_element.specs.Planes.{processor_in, chip_of}
-use Rattle.cm_element.specs.Wide.{ArePut, with_memory_field, with_flag_plane}
+use Rattle.cm_element.specs.Wide.{ArePut, with_memory_field, with_flag_plane, with_memory_plane}
 use Rattle.cm_element.proofs.Planes.{processor_at-chip_of, bit_in_row}
 use Rattle.cm_element.proofs.Poking.{put_there}
 
@@ -145,3 +145,12 @@ put_flag_plane memory flags number word =
     (λ p. record (processor_at (chip_of memory flags) p) { flags = set (processor_at (chip_of memory flags) p).flags number (bit word p) })
     (λ p h. let here = processor_at-chip_of memory flags p h in
     rw here (λ i. record { memory = map (λ plane. bit plane p) memory; flags = map-set (λ plane. bit plane p) flags number word i }))
+
+-- planes with another one at an address are the chip with that plane there
+pub put_memory_plane : (memory flags : List ℕ) (address word : ℕ) → chip_of (set memory address word) flags ≡ with_memory_plane (chip_of memory flags) address (bit word)
+unfolding chip_of with_memory_plane
+put_memory_plane memory flags address word =
+    same_each_below no_processor 16 (processor_in (set memory address word) flags)
+    (λ p. record (processor_at (chip_of memory flags) p) { memory = set (processor_at (chip_of memory flags) p).memory address (bit word p) })
+    (λ p h. let here = processor_at-chip_of memory flags p h in
+    rw here (λ i. record { memory = map-set (λ plane. bit plane p) memory address word i; flags = map (λ plane. bit plane p) flags }))

@@ -7,9 +7,11 @@ ghost use Rattle.cm_model.specs.Processor.{ZERO, NEWS, DAISY, memory_bit, flag};
 ghost use Rattle.cm_model.specs.Instruction.{takes_incoming};
 ghost use Rattle.cm_model.specs.Chip.{IsPlane, processor_at, blank_chip, chip_after, with_memory_bit, with_flag};
 ghost use Rattle.cm_model.specs.Whole.{IsChip};
+ghost use Rattle.cm_element.specs.Flags.{has_flag};
 ghost use Rattle.cm_element.specs.Outputs.{AreOutputs};
 
-mod wide;
+mod planes;
+pub(crate) mod wide;
 
 use crate::outputs::Outputs;
 use cm_bits::{Addr, FlagNo, NoMemory, Plane, Proc};
@@ -102,6 +104,13 @@ impl Chip {
         self.flags[usize::from(number.get())]
     }
 
+    /// Whether a flag is 1 in some processor.
+    pub fn has_flag(&self, number: FlagNo) -> bool
+        ensures value { result ≡ has_flag number self.now }
+    {
+        self.flag_plane(number) != 0
+    }
+
     /// Puts a bit into the memory of one processor.
     pub fn poke(&mut self, proc: Proc, at: Addr, bit: bool)
         ensures value { self.new ≡ with_memory_bit self.old proc at bit }
@@ -156,7 +165,7 @@ impl Chip {
 }
 
 /// Whether the bit of a processor is 1 in a plane.
-fn is_one(plane: Plane, proc: Proc) -> bool
+pub(crate) fn is_one(plane: Plane, proc: Proc) -> bool
     ensures value { result ≡ bit plane proc }
     ensures in_range { proc < 16 }
 {
@@ -164,7 +173,7 @@ fn is_one(plane: Plane, proc: Proc) -> bool
 }
 
 /// The plane with this bit for one processor.
-fn with_bit(plane: Plane, proc: Proc, value: bool) -> Plane
+pub(crate) fn with_bit(plane: Plane, proc: Proc, value: bool) -> Plane
     ensures value { IsPlane result (λ p. if p == proc then value else bit plane p) }
     ensures in_range { proc < 16 }
 {

@@ -4,8 +4,10 @@
 mod chip;
 mod outputs;
 mod run;
+mod wide_outputs;
 
 pub use chip::{Chip, ZeroFlag};
 pub use cm_bits::NoMemory;
 pub use outputs::Outputs;
-pub use run::{Run, takes_incoming};
+pub use run::{ChipView, Run, takes_incoming};
+pub use wide_outputs::WideOutputs;

@@ -7,23 +7,26 @@ ghost use Rattle.cm_model.specs.Processor.{memory_bit, flag};
 ghost use Rattle.cm_model.specs.Instruction.{takes_incoming};
 ghost use Rattle.cm_model.specs.Chip.{IsPlane, processor_at, blank_chip, chip_after};
 ghost use Rattle.cm_model.specs.Array.{chip_at};
+ghost use Rattle.cm_model.specs.Whole.{IsChip};
 ghost use Rattle.cm_element.specs.Steps.{AreSent};
 
+mod bits;
+mod flags;
+mod lay;
+mod outputs;
 mod rows;
+mod view;
 
-use crate::run::rows::{row, send_row, step_rows, take_rows};
+use crate::run::rows::{look_up_row, step_rows, take_rows, word_at};
 use cm_bits::{Addr, FlagNo, NoMemory, Plane};
 use cm_model::Nano;
 use std::alloc::Global;
 use std::marker::Model;
+pub use view::ChipView;
 
 const ADDRESSES: usize = 4096;
 
 const FLAGS: usize = 16;
-
-const NEWS_FLAG: u8 = 10;
-
-const DAISY_FLAG: u8 = 11;
 
 /// From so many chips on, rows lie some words further apart than they are long: a power of two would
 /// put all bits of a processor into the same few sets of the cache.
@@ -101,17 +104,28 @@ impl Run {
         requires chip { chip < length self.now }
         ensures value { IsPlane result (λ p. memory_bit (processor_at (chip_at self.now chip) p) at) }
     {
-        let first = row(usize::from(at.get()), ADDRESSES, self.stride);
-        self.memory[first + usize::from(chip)]
+        self.memory_word(chip, usize::from(at.get()))
     }
 
     /// One flag of all processors of a chip: bit p is that of processor p.
     pub fn flag_plane(&self, chip: u16, number: FlagNo) -> Plane
         requires chip { chip < length self.now }
         ensures value { IsPlane result (λ p. flag (processor_at (chip_at self.now chip) p) number) }
+        ensures whole { IsChip (chip_at self.now chip) }
     {
-        let first = row(usize::from(number.get()), FLAGS, self.stride);
-        self.flags[first + usize::from(chip)]
+        let here = word_at(usize::from(number.get()), FLAGS, self.stride, chip);
+        self.flags[here]
+    }
+
+    /// The bits of all processors of a chip at an address.
+    fn memory_word(&self, chip: u16, at: usize) -> Plane
+        requires chip { chip < length self.now }
+        requires at { at < 4096 }
+        ensures value { IsPlane result (λ p. memory_bit (processor_at (chip_at self.now chip) p) at) }
+        ensures whole { IsChip (chip_at self.now chip) }
+    {
+        let here = word_at(at, ADDRESSES, self.stride, chip);
+        self.memory[here]
     }
 
     /// One instruction in all chips, when nothing comes in over NEWS or DAISY.
@@ -135,7 +149,8 @@ impl Run {
         requires sent { length sent.old ≡ length self.now }
         ensures value { AreSent nano.now self.now sent.new }
     {
-        send_row(
+        look_up_row(
+            nano.flag_table,
             &self.memory,
             &self.flags,
             nano,
@@ -168,8 +183,7 @@ impl Run {
 pub fn takes_incoming(nano: &Nano) -> bool
     ensures value { result ≡ takes_incoming nano.now }
 {
-    let number = nano.write.get();
-    number == NEWS_FLAG || number == DAISY_FLAG
+    nano.write == FlagNo::NEWS || nano.write == FlagNo::DAISY
 }
 
 /// How far the rows of so many chips lie apart.

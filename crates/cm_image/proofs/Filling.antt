@@ -101,3 +101,19 @@ uncounted count (Err fault) = refl
 pub counted_is : {A : Type 0} (w : Width) (check : Check) (next : ℕ → A → ℕ) (one : ℕ → List ℕ → Read A) (s count : ℕ) (bytes rest : List ℕ)
     → number_at w bytes ≡ Ok (count, rest) → check count ≡ None → counted w check next one s bytes ≡ many next one count s rest
 counted_is w check next one s count bytes rest is passes = rw (is, passes) (uncounted count (many next one count s rest))
+
+-- ---- a loop over values behind their count: a fault, and the end
+
+pub counted_err : {A B : Type 0} (w : Width) (check : Check) (next : ℕ → A → ℕ) (one : ℕ → List ℕ → Read A) (put : B → A → B) (count i s start : ℕ) (into first : B) (rest after bytes : List ℕ) (fault : ImageFault)
+    → i < count → check count ≡ None → number_at w bytes ≡ Ok (count, after) → fill next one put (count - i) s into rest ≡ fill next one put count start first after → one s rest ≡ Err fault
+    → counted w check next one start bytes ≡ Err fault
+counted_err w check next one put count i s start into first rest after bytes fault h passes is same wrong =
+    counted_is w check next one start count bytes after is passes
+    ∙ many_err next one put count start first after fault (sym same ∙ fill_err next one put count i s into rest fault h wrong)
+
+pub counted_all : {A B : Type 0} (w : Width) (check : Check) (next : ℕ → A → ℕ) (one : ℕ → List ℕ → Read A) (put : B → A → B) (count i s start : ℕ) (into first : B) (rest after bytes : List ℕ)
+    → count ≤ i → check count ≡ None → number_at w bytes ≡ Ok (count, after) → fill next one put (count - i) s into rest ≡ fill next one put count start first after
+    → made (λ xs. fold put first xs) (counted w check next one start) bytes ≡ Ok (into, rest)
+counted_all {A} w check next one put count i s start into first rest after bytes h passes is same =
+    ap (λ (r : Read (List A)). r >>= (λ x. Ok (fold put first x.0, x.1))) (counted_is w check next one start count bytes after is passes)
+    ∙ (sym (fill_is next one put count start first after) ∙ (sym same ∙ fill_done next one put count i s into rest h))

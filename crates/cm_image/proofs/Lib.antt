@@ -1,3 +1,5 @@
 mod Filling
 mod Taking
+mod Building
+mod Loading
 mod Dumping

@@ -1,16 +1,20 @@
-//! The planes of a chip of an image.
+//! The chips of an image.
 
-ghost use Rattle.std.specs.Prelude.{◌≡◌, ◌<◌, IfOk, IfErr, Ok, Err, fold};
+ghost use Rattle.std.specs.Prelude.{◌≡◌, ◌≤◌, ◌<◌, ◌^◌, IfOk, IfErr, OnOk, Ok, Err, fold, slice_index};
 ghost use Rattle.cm_image_format.specs.Reading.{Gives, made};
-ghost use Rattle.cm_image_format.specs.Image.{flag_part, listed_part, flags_part, memory_part};
-ghost use Rattle.cm_image.specs.Planes.{put_plane};
+ghost use Rattle.cm_image_format.specs.Image.{flag_part, listed_part, flags_part, memory_part, chip_part};
+ghost use Rattle.cm_image.specs.Chips.{with_listed, with_flags, with_chip_image, IsBlankFrom, blank_at, chips_part, machine_of_chips};
 
-use crate::numbers::take_u16;
+use crate::messages::take_messages;
+use crate::numbers::{chip_count, take_u16};
+use cm_array::Builder;
+use cm_bits::{Addr, FlagNo, Plane};
 use cm_image_format::ImageFault;
 
 /// The flag planes of a chip, by number.
-pub fn take_flags(bytes: &[u8]) -> Result<([u16; 16], &[u8]), ImageFault>
+fn take_flags(bytes: &[u8]) -> Result<([Plane; 16], &[u8]), ImageFault>
     ensures value { Gives (λ x. (x.0, x.1.now)) result (flags_part bytes.now) }
+    ensures zero { IfOk result (λ x. slice_index x.0 8 ≡ 0) }
 {
     let mut flags = [0u16; 16];
     let mut rest = bytes;
@@ -22,8 +26,9 @@ pub fn take_flags(bytes: &[u8]) -> Result<([u16; 16], &[u8]), ImageFault>
     Ok((flags, rest))
 }
 
-fn take_flag(f: usize, bytes: &[u8]) -> Result<(u16, &[u8]), ImageFault>
+fn take_flag(f: usize, bytes: &[u8]) -> Result<(Plane, &[u8]), ImageFault>
     ensures value { Gives (λ x. (x.0, x.1.now)) result (flag_part f bytes.now) }
+    ensures zero { IfOk result (λ x. f ≡ 8 → x.0 ≡ 0) }
 {
     let (plane, rest) = take_u16(bytes)?;
     if f == 8 && plane != 0 {
@@ -33,7 +38,7 @@ fn take_flag(f: usize, bytes: &[u8]) -> Result<(u16, &[u8]), ImageFault>
 }
 
 /// The address of a plane, which is this one or above it, and the plane.
-pub fn take_listed(least: u16, bytes: &[u8]) -> Result<(u16, u16, &[u8]), ImageFault>
+fn take_listed(least: u16, bytes: &[u8]) -> Result<(u16, Plane, &[u8]), ImageFault>
     ensures value { Gives (λ x. (record { at = x.0; plane = x.1 }, x.2.now)) result
         (listed_part least bytes.now) }
     ensures below { IfOk result (λ x. x.0 < 4096) }
@@ -52,12 +57,18 @@ pub fn take_listed(least: u16, bytes: &[u8]) -> Result<(u16, u16, &[u8]), ImageF
     Ok((at, plane, rest))
 }
 
-/// Puts the memory planes that are listed into these, by address, and leaves the others as they are; gives the
-/// bytes after them.
-pub fn take_memory<'a>(planes: &mut [u16; 4096], bytes: &'a [u8]) -> Result<&'a [u8], ImageFault>
-    ensures ok { IfOk result (λ rest. made (λ listed. fold put_plane planes.old listed) memory_part bytes.now
-        ≡ Ok (planes.new, rest.now)) }
+/// Puts the memory planes that are listed into a chip, and gives the bytes after them.
+fn take_memory<'a, const N: usize, const CAP: usize>(
+    builder: &mut Builder<N, CAP>,
+    chip: u16,
+    bytes: &'a [u8],
+) -> Result<&'a [u8], ImageFault>
+    requires chip { chip < 2 ^ N }
+    ensures ok { IfOk result (λ rest. made (λ listed. fold (with_listed chip) builder.old listed) memory_part bytes.now
+        ≡ Ok (builder.new, rest.now)) }
     ensures refused { IfErr result (λ fault. memory_part bytes.now ≡ Err fault) }
+    ensures buffers { OnOk result (builder.new.buffers ≡ builder.old.buffers) }
+    ensures clock { OnOk result (builder.new.clock ≡ builder.old.clock) }
 {
     let (count, mut rest) = take_u16(bytes)?;
     if count > 4096 {
@@ -66,9 +77,70 @@ pub fn take_memory<'a>(planes: &mut [u16; 4096], bytes: &'a [u8]) -> Result<&'a 
     let mut least = 0;
     for i in 0..count {
         let (at, plane, after) = take_listed(least, rest)?;
-        planes[usize::from(at)] = plane;
+        builder.plane(chip, Addr::new(at).unwrap(), plane);
         least = at + 1;
         rest = after;
+    }
+    Ok(rest)
+}
+
+/// Puts the flag planes into a chip, but not that of flag 8, which is 0.
+fn put_flags<const N: usize, const CAP: usize>(
+    builder: &mut Builder<N, CAP>,
+    chip: u16,
+    flags: &[Plane; 16],
+)
+    requires chip { chip < 2 ^ N }
+    requires blank { IsBlankFrom N chip builder.old }
+    requires zero { slice_index flags.now 8 ≡ 0 }
+    ensures value { builder.new ≡ with_flags chip builder.old flags.now }
+{
+    for f in 0..16u8 {
+        let plane = flags[usize::from(f)];
+        if f != 8 {
+            builder.flag_plane(chip, FlagNo::new(f).unwrap(), plane);
+        }
+    }
+}
+
+/// Puts what an image has of a chip into it, and gives the bytes after it.
+fn take_chip<'a, const N: usize, const CAP: usize>(
+    builder: &mut Builder<N, CAP>,
+    chip: u16,
+    chips: u16,
+    clock: u64,
+    bytes: &'a [u8],
+) -> Result<&'a [u8], ImageFault>
+    requires cube { chips ≡ 2 ^ N }
+    requires chip { chip < chips }
+    requires blank { IsBlankFrom N chip builder.old }
+    requires clock { builder.old.clock ≡ clock }
+    ensures ok { IfOk result (λ rest. made (with_chip_image chip builder.old) (chip_part N CAP clock) bytes.now
+        ≡ Ok (builder.new, rest.now)) }
+    ensures refused { IfErr result (λ fault. chip_part N CAP clock bytes.now ≡ Err fault) }
+{
+    let (flags, rest) = take_flags(bytes)?;
+    put_flags(builder, chip, &flags);
+    let rest = take_memory(builder, chip, rest)?;
+    take_messages(builder, chip, chips, clock, rest)
+}
+
+/// Puts what an image has of each chip into it, and gives the bytes after the last.
+pub(crate) fn take_chips<'a, const N: usize, const CAP: usize>(
+    builder: &mut Builder<N, CAP>,
+    clock: u64,
+    bytes: &'a [u8],
+) -> Result<&'a [u8], ImageFault>
+    requires dimension { N ≤ 12 }
+    requires blank { builder.old ≡ blank_at N clock }
+    ensures ok { IfOk result (λ rest. made (machine_of_chips clock) (chips_part N CAP clock) bytes.now
+        ≡ Ok (builder.new, rest.now)) }
+    ensures refused { IfErr result (λ fault. chips_part N CAP clock bytes.now ≡ Err fault) }
+{
+    let chips = chip_count::<N>();
+    let mut rest = bytes;
+    for chip in 0..chips {
+        rest = take_chip(builder, chip, chips, clock, rest)?;
     }
     Ok(rest)
 }

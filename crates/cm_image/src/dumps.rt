@@ -8,6 +8,7 @@ ghost use Rattle.cm_image_format.specs.Image.{chip_text, shape_text};
 ghost use Rattle.cm_image_format.specs.Whole.{flag_plane_of, memory_plane_of, image_of_chip, image_of, text_of};
 ghost use Rattle.cm_image.specs.Planes.{flags_text, listing_of, listed_below, planes_below};
 
+use crate::numbers::chip_count;
 use cm_array::Machine;
 use cm_bits::{Addr, FlagNo, NoMemory, Plane};
 use cm_element::Chip;
@@ -22,6 +23,14 @@ const FLAGS: u8 = 16;
 
 const ADDRESSES: u16 = 4096;
 
+const HEADER_LEN: usize = 16;
+
+const BLANK_CHIP_LEN: usize = 35;
+
+const LISTED_LEN: usize = 4;
+
+const MESSAGE_LEN: usize = 18;
+
 /// The image of a machine: its one text. Its logs are not in it.
 pub fn dump<const N: usize, const CAP: usize>(
     alloc: Global,
@@ -29,12 +38,33 @@ pub fn dump<const N: usize, const CAP: usize>(
 ) -> Result<Vec<u8>, NoMemory>
     ensures value { IfOk result (λ text. text.items ≡ text_of N CAP machine.now.machine) }
 {
-    let mut text = Vec::new(alloc);
     let cycles = machine.clock();
+    let mut text = Vec::with_capacity(alloc, text_len(machine))?;
     push_shape(&mut text, N, CAP)?;
     push_u64(&mut text, cycles)?;
     push_chips(&mut text, machine)?;
     Ok(text)
+}
+
+/// How many bytes the image has, so that its list need not grow.
+fn text_len<const N: usize, const CAP: usize>(machine: &Machine<N, CAP>) -> usize
+    requires dimension { N ≤ 12 }
+{
+    let mut len: usize = HEADER_LEN;
+    let count = chip_count::<N>();
+    for c in 0..count {
+        len = len.saturating_add(chip_len(machine.chip(c), machine.buffer(c)));
+    }
+    len
+}
+
+/// How many bytes it has of a chip with this buffer.
+fn chip_len(chip: &Chip, buffer: &[Message]) -> usize {
+    let planes = usize::from(count_planes(chip)).saturating_mul(LISTED_LEN);
+    let messages = buffer.len().saturating_mul(MESSAGE_LEN);
+    BLANK_CHIP_LEN
+        .saturating_add(planes)
+        .saturating_add(messages)
 }
 
 /// What an image has of each chip, by number.
@@ -52,13 +82,6 @@ fn push_chips<const N: usize, const CAP: usize>(
         push_chip(text, machine.chip(c), machine.buffer(c))?;
     }
     Ok(())
-}
-
-fn chip_count<const N: usize>() -> u16
-    requires dimension { N ≤ 12 }
-    ensures value { result ≡ 2 ^ N }
-{
-    1 << N
 }
 
 fn push(text: &mut Vec<u8>, more: &[u8]) -> Result<(), NoMemory>

@@ -4,11 +4,11 @@
 mod chips;
 mod dumps;
 mod header;
+mod loads;
 mod messages;
 mod numbers;
 
-pub use chips::{take_flags, take_listed, take_memory};
 pub use cm_image_format::ImageFault;
 pub use dumps::dump;
-pub use header::{shape, take_header};
-pub use messages::take_message;
+pub use header::shape;
+pub use loads::load;

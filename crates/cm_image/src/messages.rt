@@ -1,10 +1,13 @@
-//! A message of an image.
+//! The messages of a chip of an image.
 
-ghost use Rattle.std.specs.Prelude.{◌≡◌, ◌≤◌, ◌^◌};
-ghost use Rattle.cm_image_format.specs.Reading.{Gives};
-ghost use Rattle.cm_image_format.specs.Image.{chip_number_part, processor_part, message_part};
+ghost use Rattle.std.specs.Prelude.{◌≡◌, ◌≤◌, ◌<◌, ◌^◌, [], IfOk, IfErr, Ok, Err, fold, length};
+ghost use Rattle.cm_model.specs.Array.{list_at};
+ghost use Rattle.cm_image_format.specs.Reading.{Gives, made};
+ghost use Rattle.cm_image_format.specs.Image.{chip_number_part, processor_part, message_part, messages_part};
+ghost use Rattle.cm_image.specs.Chips.{with_message};
 
 use crate::numbers::{take_u8, take_u16, take_u32, take_u64};
+use cm_array::Builder;
 use cm_bits::Proc;
 use cm_image_format::ImageFault;
 use cm_message::{Message, Tag};
@@ -13,6 +16,7 @@ use cm_message::{Message, Tag};
 fn take_chip_number(n: usize, chips: u16, bytes: &[u8]) -> Result<(u16, &[u8]), ImageFault>
     requires cube { chips ≡ 2 ^ n }
     ensures value { Gives (λ x. (x.0, x.1.now)) result (chip_number_part n bytes.now) }
+    ensures below { IfOk result (λ x. x.0 < chips) }
 {
     let (chip, rest) = take_u16(bytes)?;
     if chip >= chips {
@@ -32,7 +36,7 @@ fn take_processor(bytes: &[u8]) -> Result<(u8, &[u8]), ImageFault>
 }
 
 /// A message of a cube of so many chips, born before this count of petit cycles.
-pub fn take_message(
+fn take_message(
     n: usize,
     chips: u16,
     clock: u64,
@@ -40,6 +44,9 @@ pub fn take_message(
 ) -> Result<(Message, &[u8]), ImageFault>
     requires cube { chips ≡ 2 ^ n }
     ensures value { Gives (λ x. (x.0, x.1.now)) result (message_part n clock bytes.now) }
+    ensures rel { IfOk result (λ x. x.0.rel < chips) }
+    ensures origin { IfOk result (λ x. x.0.tag.chip < chips) }
+    ensures born { IfOk result (λ x. x.0.tag.birth < clock) }
 {
     let (rel, rest) = take_chip_number(n, chips, bytes)?;
     let (proc, rest) = take_processor(rest)?;
@@ -66,4 +73,37 @@ pub fn take_message(
         },
         rest,
     ))
+}
+
+/// Puts the messages of a chip into its buffer, and gives the bytes after them.
+pub(crate) fn take_messages<'a, const N: usize, const CAP: usize>(
+    builder: &mut Builder<N, CAP>,
+    chip: u16,
+    chips: u16,
+    clock: u64,
+    bytes: &'a [u8],
+) -> Result<&'a [u8], ImageFault>
+    requires cube { chips ≡ 2 ^ N }
+    requires chip { chip < chips }
+    requires buffer_count { length builder.old.buffers ≡ 2 ^ N }
+    requires none { list_at builder.old.buffers chip ≡ [] }
+    requires clock { builder.old.clock ≡ clock }
+    ensures ok { IfOk result (λ rest. made (λ messages. fold (with_message chip) builder.old messages)
+        (messages_part N CAP clock) bytes.now ≡ Ok (builder.new, rest.now)) }
+    ensures refused { IfErr result (λ fault. messages_part N CAP clock bytes.now ≡ Err fault) }
+{
+    let (count, mut rest) = take_u8(bytes)?;
+    if usize::from(count) > CAP {
+        return Err(ImageFault::Count);
+    }
+    for i in 0..count {
+        match take_message(N, chips, clock, rest) {
+            Ok((message, after)) => {
+                builder.message(chip, message);
+                rest = after;
+            }
+            Err(fault) => return Err(fault),
+        }
+    }
+    Ok(rest)
 }

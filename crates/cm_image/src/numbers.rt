@@ -1,5 +1,6 @@
-//! Numbers at the front of bytes, the highest byte first, and the bytes after them.
+//! Numbers at the front of bytes, the highest byte first, and the bytes after them; the number of chips.
 
+ghost use Rattle.std.specs.Prelude.{◌≡◌, ◌≤◌, ◌^◌};
 ghost use Rattle.std.specs.Int.{w8, w16, w32, w64};
 ghost use Rattle.cm_image_format.specs.Reading.{Gives, number_at};
 
@@ -49,4 +50,12 @@ pub(crate) fn take_u64(bytes: &[u8]) -> Result<(u64, &[u8]), ImageFault>
         bytes[0], bytes[1], bytes[2], bytes[3], bytes[4], bytes[5], bytes[6], bytes[7],
     ]);
     Ok((number, &bytes[8..]))
+}
+
+/// The chips of a cube of N dimensions.
+pub(crate) fn chip_count<const N: usize>() -> u16
+    requires dimension { N ≤ 12 }
+    ensures value { result ≡ 2 ^ N }
+{
+    1 << N
 }

@@ -13,16 +13,18 @@ use Rattle.cm_model.specs.Whole.{IsChip}
 use Rattle.cm_model.specs.Array.{each_chip, chip_at, list_at}
 use Rattle.cm_model.specs.Machine.{Machine}
 use Rattle.cm_model.specs.Keeping.{IsMessage, IsEventOf}
+use Rattle.cm_model.specs.Unlogged.{IsUnlogged, has_tag_twice}
 use Rattle.cm_model.proofs.Each.{length-each_from, get_or-each_below, is_each}
+use Rattle.cm_model.proofs.Unlogged.{standing, none_injected, HasTagsOnce-standing, IsBorn, BornBefore-buffers, born_at}
 use Rattle.cm_image_format.specs.declared.fault.ImageFault.TheVariants.{Count}
 use Rattle.cm_image_format.specs.Image.{ChipImage}
-use Rattle.cm_image_format.specs.Whole.{image_of_chip, chip_from, Image, image_of, machine_from, has_tag_twice, messages_in}
-use Rattle.cm_image_format.specs.Laws.{IsUnlogged, IsStored}
+use Rattle.cm_image_format.specs.Whole.{image_of_chip, chip_from, Image, image_of, machine_from, messages_in}
+use Rattle.cm_image_format.specs.Laws.{IsStored}
 use Rattle.cm_image_format.proofs.Forms.{must_hold}
 use Rattle.cm_image_format.proofs.Parts.{IsStoredMessage, IsChipImage}
 use Rattle.cm_image_format.proofs.Images.{IsImage}
 use Rattle.cm_image_format.proofs.Chips.{chip_from-image_of_chip, image_of_chip-chip_from, AllFrom-All, All-AllFrom, AreMessages-buffer, IsChipImage-image_of_chip, IsChip-chip_from}
-use Rattle.cm_image_format.proofs.Accounts.{standing, messages_in-image_of, none_injected, HasTagsOnce-standing, IsBorn, BornBefore-buffers, born_at}
+use Rattle.cm_image_format.proofs.Accounts.{messages_in-image_of}
 
 map-each_from : {X Y : Type 0} (h : X → Y) (first count : ℕ) (f : ℕ → X) → map h (each_from first count f) ≡ each_from first count (λ k. h (f k))
 unfolding each_from

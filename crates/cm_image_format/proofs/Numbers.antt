@@ -1,9 +1,13 @@
 -- Numbers as parts: their bytes, and what is read of bytes, at each width.
-use Rattle.std.proofs.Common.{◌≡◌, ℕ, ◌+◌, ◌<◌, ◌≤◌, ◌^◌, Bool, true, false, List, [], ◌∷◌, ◌++◌, length, get_or, take, drop, Ok, Err, refl, sym, ap, ◌∙◌, subst, inl, inr, arith, lit<, mod-eq_of_lt, nat_lt, if◌then◌else◌}
+use Rattle.std.proofs.Common.{◌≡◌, ℕ, ◌+◌, ◌<◌, ◌≤◌, ◌^◌, Bool, true, false, List, [], ◌∷◌, ◌++◌, length, get_or, take}
+use Rattle.std.proofs.Common.{drop, Ok, Err, refl, sym, ap, ◌∙◌, subst, inl, inr, arith, lit<, mod-eq_of_lt, nat_lt}
+use Rattle.std.proofs.Common.{if◌then◌else◌}
 use Rattle.std.specs.Int.{Width, w8, w16, w32, w64, byte_len, from_be_bytes}
 use Rattle.std.proofs.lemmas.Bool.{cases_lt, le-ltb, ltb-false}
-use Rattle.std.proofs.lemmas.List.{length-append, length-take-le, get_or-take, get_or_past, get_or-append-add, length-take, take-append-drop}
-use Rattle.std.proofs.lemmas.Nat.{from_be_bytes-to_be_bytes_2, from_be_bytes-to_be_bytes_4, from_be_bytes-to_be_bytes_8, be_bytes_2, be_bytes_4, be_bytes_8}
+use Rattle.std.proofs.lemmas.List.{length-append, length-take-le, get_or-take, get_or_past, get_or-append-add}
+use Rattle.std.proofs.lemmas.List.{length-take, take-append-drop}
+use Rattle.std.proofs.lemmas.Nat.{from_be_bytes-to_be_bytes_2, from_be_bytes-to_be_bytes_4, from_be_bytes-to_be_bytes_8}
+use Rattle.std.proofs.lemmas.Nat.{be_bytes_2, be_bytes_4, be_bytes_8}
 use Rattle.cm_message.specs.Bytes.{number}
 use Rattle.cm_image_format.specs.declared.fault.ImageFault.TheVariants.{Short}
 use Rattle.cm_image_format.specs.Reading.{Read, number_at}
@@ -12,7 +16,8 @@ use Rattle.cm_image_format.specs.Laws.{AreBytes}
 -- a text and a reading tell each other, of the values that are good
 pub record Reads {A : Type 0} (Good : A → Type 0) (text : A → List ℕ) (read : List ℕ → Read A) : Type 0 where
   pub back : (x : A) (rest : List ℕ) → Good x → read (text x ++ rest) ≡ Ok (x, rest)
-  pub only : (bytes rest : List ℕ) (x : A) → AreBytes bytes → read bytes ≡ Ok (x, rest) → (bytes ≡ text x ++ rest) × Good x
+  pub only : (bytes rest : List ℕ) (x : A) → AreBytes bytes → read bytes ≡ Ok (x, rest)
+      → (bytes ≡ text x ++ rest) × Good x
 
 -- ---- bytes
 
@@ -27,14 +32,17 @@ AreBytes-front bytes n are i = elim (cases_lt i n) [
 
 -- ---- any width
 
-number_back : (w : Width) (n : ℕ) (rest : List ℕ) → length (number w n) ≡ byte_len w → from_be_bytes w (number w n ++ rest) ≡ n → drop (byte_len w) (number w n ++ rest) ≡ rest
+number_back : (w : Width) (n : ℕ) (rest : List ℕ) → length (number w n) ≡ byte_len w
+    → from_be_bytes w (number w n ++ rest) ≡ n → drop (byte_len w) (number w n ++ rest) ≡ rest
     → number_at w (number w n ++ rest) ≡ Ok (n, rest)
 unfolding number_at
 number_back w n rest long is after =
-    let enough : nat_lt (length (number w n ++ rest)) (byte_len w) ≡ false = le-ltb _ _ (omega (arith, length-append (number w n) rest)) in
+    let enough : nat_lt (length (number w n ++ rest)) (byte_len w) ≡ false =
+    le-ltb _ _ (omega (arith, length-append (number w n) rest)) in
     rw (enough, is, after) refl
 
-at_least : (b : Bool) (x y : ℕ × List ℕ) → ◌≡◌ {A = Read ℕ} (if b then Err Short else Ok x) (Ok y) → (b ≡ false) × (x ≡ y)
+at_least : (b : Bool) (x y : ℕ × List ℕ) → ◌≡◌ {A = Read ℕ} (if b then Err Short else Ok x) (Ok y)
+    → (b ≡ false) × (x ≡ y)
 at_least true x y is = absurd (cc)
 at_least false x y is = (refl, cc)
 
@@ -62,7 +70,8 @@ joined k bytes rest text after is = sym (take-append-drop k bytes) ∙ (λ i. sy
 abbrev pub Fits8 : ℕ → Type 0
 Fits8 n = n < 2 ^ 8
 
-one_byte : (bytes : List ℕ) (n : ℕ) → 1 ≤ length bytes → AreBytes bytes → n ≡ from_be_bytes w8 bytes → (number w8 n ≡ take 1 bytes) × Fits8 n
+one_byte : (bytes : List ℕ) (n : ℕ) → 1 ≤ length bytes → AreBytes bytes → n ≡ from_be_bytes w8 bytes
+    → (number w8 n ≡ take 1 bytes) × Fits8 n
 unfolding number
 one_byte [] n long are is = absurd (omega (arith, long))
 one_byte (a ∷ rest) n long are is =
@@ -128,8 +137,11 @@ number_16 = record {
   back = λ n rest fits. number_back w16 n rest refl (from_be_bytes-to_be_bytes_2 n fits) refl;
   only = λ bytes rest n are read.
       let r = number_only w16 bytes rest n read in
-      let long : length (take 2 bytes) ≡ 2 = length-take-le 2 bytes r.long in
-      (joined 2 bytes rest (number w16 n) r.after (be_bytes_2 (take 2 bytes) n long (AreBytes-front bytes 2 are) (r.is ∙ front_2 bytes)), fits_2 bytes n are r.is);
+      let long : length (take 2 bytes) ≡ 2 = length-take-le 2 bytes r.long in (
+        joined 2 bytes rest (number w16 n) r.after
+            (be_bytes_2 (take 2 bytes) n long (AreBytes-front bytes 2 are) (r.is ∙ front_2 bytes)),
+        fits_2 bytes n are r.is,
+      );
 }
 
 pub number_32 : Reads Fits32 (number w32) (number_at w32)
@@ -138,8 +150,11 @@ number_32 = record {
   back = λ n rest fits. number_back w32 n rest refl (from_be_bytes-to_be_bytes_4 n fits) refl;
   only = λ bytes rest n are read.
       let r = number_only w32 bytes rest n read in
-      let long : length (take 4 bytes) ≡ 4 = length-take-le 4 bytes r.long in
-      (joined 4 bytes rest (number w32 n) r.after (be_bytes_4 (take 4 bytes) n long (AreBytes-front bytes 4 are) (r.is ∙ front_4 bytes)), fits_4 bytes n are r.is);
+      let long : length (take 4 bytes) ≡ 4 = length-take-le 4 bytes r.long in (
+        joined 4 bytes rest (number w32 n) r.after
+            (be_bytes_4 (take 4 bytes) n long (AreBytes-front bytes 4 are) (r.is ∙ front_4 bytes)),
+        fits_4 bytes n are r.is,
+      );
 }
 
 pub number_64 : Reads Fits64 (number w64) (number_at w64)
@@ -148,6 +163,9 @@ number_64 = record {
   back = λ n rest fits. number_back w64 n rest refl (from_be_bytes-to_be_bytes_8 n fits) refl;
   only = λ bytes rest n are read.
       let r = number_only w64 bytes rest n read in
-      let long : length (take 8 bytes) ≡ 8 = length-take-le 8 bytes r.long in
-      (joined 8 bytes rest (number w64 n) r.after (be_bytes_8 (take 8 bytes) n long (AreBytes-front bytes 8 are) (r.is ∙ front_8 bytes)), fits_8 bytes n are r.is);
+      let long : length (take 8 bytes) ≡ 8 = length-take-le 8 bytes r.long in (
+        joined 8 bytes rest (number w64 n) r.after
+            (be_bytes_8 (take 8 bytes) n long (AreBytes-front bytes 8 are) (r.is ∙ front_8 bytes)),
+        fits_8 bytes n are r.is,
+      );
 }

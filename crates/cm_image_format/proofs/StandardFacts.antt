@@ -1,7 +1,9 @@
--- Worked values of the definitions, which the checker computes: the blank image of one chip, and each change of it with its fault.
+-- Worked values of the definitions, which the checker computes:
+-- the blank image of one chip, and each change of it with its fault.
 use Rattle.std.proofs.Common.{◌≡◌, ℕ, List, [], ◌∷◌, ◌++◌, take, set, replicate, map, Some, Ok, refl}
 use Rattle.cm_message.specs.Bytes.{number}
-use Rattle.cm_image_format.specs.declared.fault.ImageFault.TheVariants.{Short, Magic, Version, Shape, Order, Count, Value, TagTwice, Extra}
+use Rattle.cm_image_format.specs.declared.fault.ImageFault.TheVariants.{Short, Magic, Version, Shape, Order, Count}
+use Rattle.cm_image_format.specs.declared.fault.ImageFault.TheVariants.{Value, TagTwice, Extra}
 use Rattle.cm_image_format.specs.Reading.{number_at, many}
 use Rattle.cm_image_format.specs.Image.{shape_text, chip_part}
 use Rattle.cm_image_format.specs.Whole.{Image, image_text, image_part, read_image, image_fault, read_shape}
@@ -29,7 +31,11 @@ shape_is_read = refl
 -- ---- one more part: memory plane 5 of bit 0 alone, and flag plane 15
 
 abbrev one_plane : Image
-one_plane = record { clock = 0; chips = record { flags = set (replicate 16 0) 15 0x8001; memory = record { at = 5; plane = 1 } ∷ []; messages = [] } ∷ [] }
+one_plane = record {
+  clock = 0;
+  chips =
+      record { flags = set (replicate 16 0) 15 0x8001; memory = record { at = 5; plane = 1 } ∷ []; messages = [] } ∷ [];
+}
 
 abbrev one_plane_bytes : List ℕ
 one_plane_bytes = take 46 blank ++ (0x80 ∷ 0x01 ∷ 0 ∷ 1 ∷ 0 ∷ 5 ∷ 0 ∷ 1 ∷ 0 ∷ [])
@@ -75,9 +81,11 @@ listing bytes = take 48 blank ++ (bytes ++ (0 ∷ []))
 
 abbrev changes : List (List ℕ)
 changes =
-    set blank 0 0 ∷ set blank 4 2 ∷ set blank 5 13 ∷ set blank 5 1 ∷ set blank 6 6 ∷ set blank 7 1 ∷ set blank 8 0x80 ∷ set blank 33 1
+    set blank 0 0 ∷ set blank 4 2 ∷ set blank 5 13 ∷ set blank 5 1 ∷ set blank 6 6 ∷ set blank 7 1
+    ∷ set blank 8 0x80 ∷ set blank 33 1
     ∷ set (set blank 48 0x10) 49 1 ∷ set blank 50 8 ∷ (set blank 50 1 ++ replicate 18 0)
-    ∷ listing (0 ∷ 1 ∷ 0 ∷ 0 ∷ 0 ∷ 0 ∷ []) ∷ listing (0 ∷ 1 ∷ 0x10 ∷ 0 ∷ 0 ∷ 1 ∷ []) ∷ listing (0 ∷ 2 ∷ 0 ∷ 5 ∷ 0 ∷ 1 ∷ 0 ∷ 5 ∷ 0 ∷ 1 ∷ [])
+    ∷ listing (0 ∷ 1 ∷ 0 ∷ 0 ∷ 0 ∷ 0 ∷ []) ∷ listing (0 ∷ 1 ∷ 0x10 ∷ 0 ∷ 0 ∷ 1 ∷ [])
+    ∷ listing (0 ∷ 2 ∷ 0 ∷ 5 ∷ 0 ∷ 1 ∷ 0 ∷ 5 ∷ 0 ∷ 1 ∷ [])
     ∷ take 50 blank ∷ take 9 blank ∷ (blank ++ 0 ∷ []) ∷ []
 
 faults_of_changes : map (image_fault 0 7) changes

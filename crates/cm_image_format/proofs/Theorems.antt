@@ -2,14 +2,16 @@
 use Rattle.std.proofs.Common.{◌≡◌, ℕ, Bool, true, false, List, [], ◌∷◌, ◌++◌, None, Result, Ok, Err, refl, sym, ap, ◌∙◌, subst, if◌then◌else◌}
 use Rattle.std.proofs.lemmas.List.{append-nil}
 use Rattle.cm_model.specs.Machine.{Machine}
+use Rattle.cm_model.specs.Unlogged.{has_tag_twice}
+use Rattle.cm_model.proofs.Unlogged.{tags_stand_once}
 use Rattle.cm_image_format.specs.declared.fault.ImageFault.{ImageFault}
 use Rattle.cm_image_format.specs.declared.fault.ImageFault.TheVariants.{TagTwice, Extra}
 use Rattle.cm_image_format.specs.Reading.{◌>>=◌, fault_in}
-use Rattle.cm_image_format.specs.Whole.{Image, image_of, image_text, text_of, machine_from, has_tag_twice, messages_in, image_part, ended, read_image, image_fault}
+use Rattle.cm_image_format.specs.Whole.{Image, image_of, image_text, text_of, machine_from, messages_in, image_part, ended, read_image, image_fault}
 use Rattle.cm_image_format.specs.Laws.{AreBytes, IsStored, TextsAreRead, OnlyTextsAreRead, TextsAreApart, TextsHaveNoFault}
 use Rattle.cm_image_format.proofs.Forms.{bound, same_ok}
 use Rattle.cm_image_format.proofs.Images.{Reads-image}
-use Rattle.cm_image_format.proofs.Accounts.{messages_in-image_of, tags_stand_once}
+use Rattle.cm_image_format.proofs.Accounts.{messages_in-image_of}
 use Rattle.cm_image_format.proofs.Machines.{machine_from-image_of, image_of-machine_from, IsImage-image_of, IsStored-machine_from}
 
 -- ---- a text is read

@@ -1,5 +1,6 @@
 -- An image: its parts in reading order, each with its check. Ours.
-use Rattle.std.specs.Prelude.{ℕ, ◌+◌, ◌^◌, ◌==◌, ◌&&◌, ◌||◌, not, Bool, List, ◌++◌, Some, None, length, nat_lt, nat_le, if◌then◌else◌}
+use Rattle.std.specs.Prelude.{ℕ, ◌+◌, ◌^◌, ◌==◌, ◌&&◌, ◌||◌, not, Bool, List, ◌++◌, Some, None, length, nat_lt, nat_le}
+use Rattle.std.specs.Prelude.{if◌then◌else◌}
 use Rattle.std.specs.List.{flat_map}
 use Rattle.std.specs.Int.{w8, w16, w32, w64}
 use Rattle.cm_model.specs.declared.message.Message.{Message}
@@ -12,7 +13,8 @@ pub record Listed : Type 0 where
   pub at : ℕ
   pub plane : ℕ
 
--- what an image has of a chip: its flag planes by number, its memory planes that are not 0, and its messages from the front
+-- what an image has of a chip: its flag planes by number, its memory planes that are not 0,
+-- and its messages from the front
 pub record ChipImage : Type 0 where
   pub flags : List ℕ
   pub memory : List Listed
@@ -59,7 +61,8 @@ abbrev pub listed_text : Listed → List ℕ
 listed_text x = number w16 x.at ++ number w16 x.plane
 
 abbrev pub listed_part : ℕ → List ℕ → Read Listed
-listed_part least = made (λ x. record { at = x.0; plane = x.1 }) (part w16 (address_fault least) ⨾ part w16 (must Order (λ plane. not (plane == 0))))
+listed_part least = made (λ x. record { at = x.0; plane = x.1 })
+    (part w16 (address_fault least) ⨾ part w16 (must Order (λ plane. not (plane == 0))))
 
 abbrev pub memory_part : List ℕ → Read (List Listed)
 memory_part = counted w16 (must Count (λ k. nat_le k 4096)) (λ least x. x.at + 1) listed_part 0
@@ -72,8 +75,14 @@ processor_part = part w8 (must Value (λ k. nat_lt k 16))
 
 abbrev pub message_part : ℕ → ℕ → List ℕ → Read Message
 message_part n clock =
-    made (λ x. record { rel = x.0; proc = x.1.0; payload = x.1.1.0; tag = record { chip = x.1.1.1.0; proc = x.1.1.1.1.0; birth = x.1.1.1.1.1 } })
-    (chip_number_part n ⨾ processor_part ⨾ number_at w32 ⨾ chip_number_part n ⨾ processor_part ⨾ part w64 (must Value (λ k. nat_lt k clock)))
+    made (λ x. record {
+      rel = x.0;
+      proc = x.1.0;
+      payload = x.1.1.0;
+      tag = record { chip = x.1.1.1.0; proc = x.1.1.1.1.0; birth = x.1.1.1.1.1 };
+    })
+    (chip_number_part n ⨾ processor_part ⨾ number_at w32 ⨾ chip_number_part n ⨾ processor_part
+    ⨾ part w64 (must Value (λ k. nat_lt k clock)))
 
 abbrev pub chip_text : ChipImage → List ℕ
 chip_text chip =
@@ -88,4 +97,5 @@ messages_part n cap clock = counted w8 (must Count (λ k. nat_le k cap)) (λ i m
 
 unfoldable pub chip_part : ℕ → ℕ → ℕ → List ℕ → Read ChipImage
 chip_part n cap clock =
-    made (λ x. record { flags = x.0; memory = x.1.0; messages = x.1.1 }) (flags_part ⨾ memory_part ⨾ messages_part n cap clock)
+    made (λ x. record { flags = x.0; memory = x.1.0; messages = x.1.1 })
+    (flags_part ⨾ memory_part ⨾ messages_part n cap clock)

@@ -1,13 +1,9 @@
 -- Laws over images, each the contract of a function of its name. Ours.
-use Rattle.std.specs.Prelude.{◌≡◌, ℕ, ◌<◌, ◌≤◌, ◌^◌, ◌↔◌, List, [], None, Ok, slice_index}
-use Rattle.cm_model.specs.Array.{each_chip}
+use Rattle.std.specs.Prelude.{◌≡◌, ℕ, ◌<◌, ◌≤◌, ◌^◌, ◌↔◌, List, None, Ok, slice_index}
 use Rattle.cm_model.specs.Machine.{Machine}
 use Rattle.cm_model.specs.Keeping.{IsMachine}
+use Rattle.cm_model.specs.Unlogged.{IsUnlogged}
 use Rattle.cm_image_format.specs.Whole.{text_of, read_image, image_fault}
-
--- no log has an event
-abbrev pub IsUnlogged : ℕ → Machine → Type 0
-IsUnlogged n machine = machine.logs ≡ each_chip n (λ c. [])
 
 -- a machine that an image can tell: of these sizes, whole, and without logs
 pub record IsStored (n cap : ℕ) (machine : Machine) : Type 0 where
@@ -43,4 +39,5 @@ TextsAreApart =
 abbrev pub TextsHaveNoFault : Type 0
 TextsHaveNoFault =
     (n cap : ℕ) (bytes : List ℕ) → AreBytes bytes
-    → (image_fault n cap bytes ≡ None) ↔ ((machine : Machine) × (IsStored n cap machine × (bytes ≡ text_of n cap machine)))
+    → (image_fault n cap bytes ≡ None)
+    ↔ ((machine : Machine) × (IsStored n cap machine × (bytes ≡ text_of n cap machine)))

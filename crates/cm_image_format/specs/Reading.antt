@@ -1,5 +1,6 @@
 -- Reading bytes from left to right, part after part, with the first fault that is met. Ours.
-use Rattle.std.specs.Prelude.{◌≡◌, MatchResult, ℕ, Bool, List, [], ◌∷◌, Option, Some, None, Result, Ok, Err, zero, suc, length, drop, nat_lt, if◌then◌else◌}
+use Rattle.std.specs.Prelude.{◌≡◌, MatchResult, ℕ, Bool, List, [], ◌∷◌, Option, Some, None, Result, Ok, Err, zero, suc}
+use Rattle.std.specs.Prelude.{length, drop, nat_lt, if◌then◌else◌}
 use Rattle.std.specs.Int.{Width, byte_len, from_be_bytes}
 use Rattle.cm_image_format.specs.declared.fault.ImageFault.{ImageFault}
 use Rattle.cm_image_format.specs.declared.fault.ImageFault.TheVariants.{Short}

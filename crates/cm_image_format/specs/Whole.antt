@@ -1,6 +1,6 @@
 -- The image of a machine: its text, and what bytes are read as. Ours.
-use Rattle.std.specs.Prelude.{ℕ, ◌^◌, ◌==◌, ◌&&◌, ◌||◌, not, Bool, false, List, [], ◌∷◌, ◌++◌, map, fold, Option, Result, Ok, Err, if◌then◌else◌}
-use Rattle.std.specs.List.{flat_map, filter, list_any}
+use Rattle.std.specs.Prelude.{ℕ, ◌^◌, ◌==◌, ◌&&◌, not, Bool, List, [], ◌∷◌, ◌++◌, map, fold, Option, Result, Ok, Err, if◌then◌else◌}
+use Rattle.std.specs.List.{flat_map, filter}
 use Rattle.std.specs.Int.{w64}
 use Rattle.cm_bits.specs.Bit.{bit}
 use Rattle.cm_model.specs.declared.message.Message.{Message}
@@ -9,7 +9,7 @@ use Rattle.cm_model.specs.Processor.{Processor, memory_bit, flag}
 use Rattle.cm_model.specs.Chip.{each_processor, processor_at, plane_number}
 use Rattle.cm_model.specs.Array.{each_chip, chip_at, list_at}
 use Rattle.cm_model.specs.Machine.{Machine}
-use Rattle.cm_model.specs.Found.{same_tag}
+pub use Rattle.cm_model.specs.Unlogged.{has_tag_twice}
 use Rattle.cm_message.specs.Bytes.{number}
 use Rattle.cm_image_format.specs.declared.fault.ImageFault.{ImageFault}
 use Rattle.cm_image_format.specs.declared.fault.ImageFault.TheVariants.{TagTwice, Extra}
@@ -81,11 +81,6 @@ machine_from image = record {
   logs = map (λ chip. []) image.chips;
   clock = image.clock;
 }
-
--- two of these messages have one tag
-abbrev pub has_tag_twice : List Message → Bool
-has_tag_twice [] = false
-has_tag_twice (m ∷ ms) = list_any (λ q. same_tag q.tag m.tag) ms || has_tag_twice ms
 
 -- all messages of an image
 abbrev pub messages_in : List ChipImage → List Message

@@ -8,3 +8,15 @@ pub mod Products
 pub mod Lifting
 pub mod AllMacros
 pub mod LeftAlone
+pub mod Numerals
+pub mod Spaced
+pub mod ProgramParts
+pub mod ListedLines
+pub mod ListedWords
+pub mod ListedText
+pub mod Instructions
+pub mod MacroActs
+pub mod OperandsRead
+pub mod StatementsRead
+pub mod TextsRead
+pub mod ReadingBack

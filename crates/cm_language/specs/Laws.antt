@@ -1,5 +1,5 @@
 -- Laws over the definitions, each the contract of a function of its name. Ours.
-use Rattle.std.specs.Prelude.{◌≡◌, ℕ, ◌^◌, ◌<◌, false, None}
+use Rattle.std.specs.Prelude.{◌≡◌, ℕ, ◌^◌, ◌<◌, false, None, Ok, List}
 use Rattle.cm_bits.specs.Span.{IsField}
 use Rattle.cm_bits.specs.Field.{IsIn}
 use Rattle.cm_model.specs.Processor.{Processor, memory_bit, flag}
@@ -13,6 +13,9 @@ use Rattle.cm_language.specs.declared.macros.Context.{Context}
 use Rattle.cm_language.specs.Effect.{selected, effect}
 use Rattle.cm_language.specs.Acts.{acts_of}
 use Rattle.cm_language.specs.Faults.{writes, first_fault}
+use Rattle.cm_language.specs.Program.{ProgramText, program_of}
+use Rattle.cm_language.specs.Listing.{listing, listing_of}
+use Rattle.cm_language.specs.Whole.{IsProgram}
 
 -- all fields of a macro are fields
 abbrev pub HasFields : Macro → Type 0
@@ -63,3 +66,20 @@ pub record IsLeftAlone (m : Macro) (c : Context) (before after : Processor) : Ty
 abbrev pub MacrosLeaveTheRest : Type 0
 MacrosLeaveTheRest = (n cap : ℕ) (m : Macro) (c : Context) (machine : Machine) (chip p : ℕ) → IsMachine n cap machine → HasFields m → first_fault m c ≡ None →
     chip < 2 ^ n → p < 16 → IsLeftAlone m c (processor_at (chip_at machine.chips chip) p) (processor_at (chip_at (run_of n cap machine (acts_of m c)).chips chip) p)
+
+-- the program of every text is made as `IsProgram` says
+abbrev pub ProgramsAreWhole : Type 0
+ProgramsAreWhole = (text : List ℕ) (program : ProgramText) → program_of text ≡ Ok program → IsProgram program
+
+-- every program that is made so is the program of its listing
+abbrev pub ProgramsAreListed : Type 0
+ProgramsAreListed = (program : ProgramText) → IsProgram program → program_of (listing program) ≡ Ok program
+
+-- the listing of a text's program is a text of that program: the same names, fields and order, and the same acts
+abbrev pub ListingsReadBack : Type 0
+ListingsReadBack =
+    (text : List ℕ) (program : ProgramText) → program_of text ≡ Ok program → program_of (listing program) ≡ Ok program
+
+-- the listing of a text is a text whose listing it is
+abbrev pub ListingsAreTheirOwn : Type 0
+ListingsAreTheirOwn = (text listed : List ℕ) → listing_of text ≡ Ok listed → listing_of listed ≡ Ok listed

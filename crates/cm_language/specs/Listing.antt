@@ -1,5 +1,5 @@
 -- The listing of a program, which is itself a program text: ours.
-use Rattle.std.specs.Prelude.{ℕ, ◌+◌, ◌/◌, ◌%◌, nat_lt, if◌then◌else◌, List, [], ◌∷◌, ◌++◌, flat_map, codes, decimal}
+use Rattle.std.specs.Prelude.{ℕ, ◌+◌, ◌/◌, ◌%◌, nat_lt, if◌then◌else◌, Result, Ok, Err, List, [], ◌∷◌, ◌++◌, flat_map, codes, decimal}
 use Rattle.cm_bits.specs.Bit.{bit_number}
 use Rattle.cm_bits.specs.declared.plane.Dir.{Dir}
 use Rattle.cm_bits.specs.declared.plane.Dir.TheVariants.{North, East, West, South}
@@ -7,7 +7,8 @@ use Rattle.cm_model.specs.declared.act.Nano.{Nano}
 use Rattle.cm_model.specs.declared.act.Act.{Act}
 use Rattle.cm_model.specs.declared.act.Act.TheVariants as act
 use Rattle.cm_language.specs.Names.{NamedField}
-use Rattle.cm_language.specs.Program.{ProgramText}
+use Rattle.cm_language.specs.declared.fault.AsmFault.{AsmFault}
+use Rattle.cm_language.specs.Program.{ProgramText, program_of}
 
 -- a hexadecimal digit, lower case
 abbrev pub hex_digit : ℕ → ℕ
@@ -62,3 +63,12 @@ act_lines i (a ∷ acts) = act_line i a ++ act_lines (i + 1) acts
 -- the fields in order of definition, then the acts
 unfoldable pub listing : ProgramText → List ℕ
 listing program = flat_map field_line program.fields ++ act_lines 0 program.acts
+
+-- the listing of the program that was read
+abbrev pub program_listed : Result ProgramText AsmFault → Result (List ℕ) AsmFault
+program_listed (Ok program) = Ok (listing program)
+program_listed (Err fault) = Err fault
+
+-- the listing of a text's program, or the text's first faulty line
+abbrev pub listing_of : List ℕ → Result (List ℕ) AsmFault
+listing_of text = program_listed (program_of text)

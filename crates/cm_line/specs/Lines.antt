@@ -1,5 +1,6 @@
 -- The command line, as clap reads it: the program's name, a subcommand, its arguments; ours.
-use Rattle.std.specs.Prelude.{◌≡◌, List, [], Some, IsSomeAnd, codes, string_bytes, true}
+use Rattle.std.specs.Prelude.{◌≡◌, ℕ, ◌≤◌, List, [], Some, IsSomeAnd, codes, string_bytes, true}
+use Rattle.std.specs.Str.Parse.{IsNumeral, digits_value, without_leading_plus}
 use Rattle.clap.specs.Walk.{Row, Rule, Text, first_of}
 use Rattle.clap.specs.Simple.{App, Shape, new_app, new_rule, on_top, subcommand_of, with_rule, with_subcommand}
 use Rattle.clap.specs.Faults.{fault_of}
@@ -29,19 +30,44 @@ required_operand name = record (new_rule name) { required = true }
 abbrev pub list_app : App
 list_app = with_rule (without_help_flag (new_app (codes "list"))) (required_operand (codes "program"))
 
+-- the subcommand `fresh`, whose operands are a dimension, a room and a file
+abbrev pub fresh_app : App
+fresh_app =
+    with_rule (with_rule (with_rule (without_help_flag (new_app (codes "fresh"))) (required_operand (codes "n"))) (required_operand (codes "cap"))) (required_operand (codes "file"))
+
 -- the program, with each of its subcommands
 abbrev pub program_app : App
 program_app =
-    with_subcommand (with_subcommand (asking_for_subcommand (without_help_flag (new_app (codes "cm1")))) chip_app.top) list_app.top
+    with_subcommand
+    (with_subcommand
+    (with_subcommand (asking_for_subcommand (without_help_flag (new_app (codes "cm1")))) chip_app.top)
+    list_app.top) fresh_app.top
 
 -- clap finds no fault in the words, of which the first is the program's name
 abbrev pub IsTaken : List Text → Type 0
 IsTaken words = fault_of program_app words ≡ []
 
+-- the number that stands for an operand, in plain decimal and within its range; a plus may stand before its digits
+pub record IsNumberOperand (name : Text) (found : List Row) (least most number : ℕ) : Type 0 where
+  pub text : Text
+  pub given : first_of name found ≡ Some text
+  pub digits : IsNumeral 10 (without_leading_plus text)
+  pub value : digits_value 10 (without_leading_plus text) ≡ number
+  pub not_less : least ≤ number
+  pub not_more : number ≤ most
+
+-- a dimension, a room and a file's name stand for the operands of `fresh`
+pub record IsFreshLine (n cap : ℕ) (file : Text) (found : List Row) : Type 0 where
+  pub dimension : IsNumberOperand (codes "n") found 0 12 n
+  pub room : IsNumberOperand (codes "cap") found 1 15 cap
+  pub named : first_of (codes "file") found ≡ Some file
+
 -- the line is the subcommand of this name, with what was found for its arguments
 abbrev pub IsLine : Line → Text × List Row → Type 0
 IsLine line.Chip found = found.0 ≡ codes "chip"
-IsLine (line.List program) found = (found.0 ≡ codes "list") × (first_of (codes "program") found.1 ≡ Some (string_bytes program))
+IsLine (line.List program) found =
+    (found.0 ≡ codes "list") × (first_of (codes "program") found.1 ≡ Some (string_bytes program))
+IsLine (line.Fresh n cap file) found = (found.0 ≡ codes "fresh") × IsFreshLine n cap (string_bytes file) found.1
 
 -- the words are taken, and the line is the subcommand that clap reads in them
 pub record AsksFor (words : List Text) (line : Line) : Type 0 where

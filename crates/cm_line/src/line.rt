@@ -1,9 +1,9 @@
-ghost use Rattle.std.specs.Prelude.{◌≡◌, [], ◌∷◌, None, IfOk, IsErrOf, String, codes, string_bytes, false};
+ghost use Rattle.std.specs.Prelude.{◌≡◌, ℕ, List, [], ◌∷◌, None, IfOk, IfSome, IsErrOf, String, codes, string_bytes, false};
 ghost use Rattle.clap.specs.Walk.{first_of, rows_of, texts};
 ghost use Rattle.clap.specs.Matches.{found_of};
-ghost use Rattle.clap.specs.Simple.{app_of};
+ghost use Rattle.clap.specs.Simple.{app_of, with_rule, with_subcommand};
 ghost use Rattle.clap.specs.declared.builder.command.Command.TheViews.{out-Command as fields_of};
-ghost use Rattle.cm_line.specs.Lines.{AsksFor, IsBadLine, IsLine, chip_app, list_app, program_app};
+ghost use Rattle.cm_line.specs.Lines.{AsksFor, IsBadLine, IsLine, IsFreshLine, IsNumberOperand, required_operand, chip_app, list_app, fresh_app, program_app};
 
 use crate::fault::LineFault;
 use clap::error::ErrorKind;
@@ -13,6 +13,13 @@ use std::alloc::{AllocError, Global};
 /// The name of the operand that is a program's file.
 const PROGRAM: &str = "program";
 
+/// The names of the operands of `fresh`.
+const DIMENSION: &str = "n";
+
+const ROOM: &str = "cap";
+
+const FILE: &str = "file";
+
 /// What the program is asked to do.
 #[derive(Debug, PartialEq, Eq, Drop)]
 pub enum Line {
@@ -21,6 +28,9 @@ pub enum Line {
     Chip,
     /// `list PROGRAM`: writes the listing of the program text in this file to standard output.
     List { program: String },
+    /// `fresh N CAP FILE`: writes the image of a blank machine of 2^N chips and room CAP into this file. N is from 0
+    /// to 12, CAP from 1 to 15.
+    Fresh { n: u8, cap: u8, file: String },
 }
 
 /// Reads the words of a command line. The first is the program's name, and may be any.
@@ -39,6 +49,7 @@ pub fn command<'a>(alloc: Global, words: &'a [&'a str]) -> Result<Line, LineFaul
     match matches.subcommand() {
         Some(("chip", _)) => Ok(Line::Chip),
         Some(("list", operands)) => list_line(alloc, operands),
+        Some(("fresh", operands)) => fresh_line(alloc, operands),
         _ => Err(LineFault::BadLine),
     }
 }
@@ -46,13 +57,49 @@ pub fn command<'a>(alloc: Global, words: &'a [&'a str]) -> Result<Line, LineFaul
 /// The line of `list`, by what was found for its operand.
 fn list_line(alloc: Global, operands: &ArgMatches) -> Result<Line, LineFault>
     ensures value { IfOk result (λ line. IsLine line (codes "list", rows_of (found_of operands.now))) }
-    ensures none { IsErrOf result LineFault.BadLine → first_of (codes "program") (rows_of (found_of operands.now)) ≡ None }
+    ensures none { IsErrOf result LineFault.BadLine
+        → first_of (codes "program") (rows_of (found_of operands.now)) ≡ None }
 {
     match operands.get_str(PROGRAM) {
         Some(program) => Ok(Line::List {
             program: String::from_str(alloc, program)?,
         }),
         None => Err(LineFault::BadLine),
+    }
+}
+
+/// The line of `fresh`, by what was found for its operands.
+fn fresh_line(alloc: Global, operands: &ArgMatches) -> Result<Line, LineFault>
+    ensures value { IfOk result (λ line. IsLine line (codes "fresh", rows_of (found_of operands.now))) }
+    ensures none { IsErrOf result LineFault.BadLine
+        → (n : ℕ) (cap : ℕ) (file : List ℕ) → ¬ IsFreshLine n cap file (rows_of (found_of operands.now)) }
+{
+    let Some(n) = number_operand(operands, DIMENSION, 0, 12) else {
+        return Err(LineFault::BadLine);
+    };
+    let Some(cap) = number_operand(operands, ROOM, 1, 15) else {
+        return Err(LineFault::BadLine);
+    };
+    let Some(file) = operands.get_str(FILE) else {
+        return Err(LineFault::BadLine);
+    };
+    Ok(Line::Fresh {
+        n,
+        cap,
+        file: String::from_str(alloc, file)?,
+    })
+}
+
+/// The number that was found for an operand, if it is one of this range.
+fn number_operand(operands: &ArgMatches, name: &str, least: u8, most: u8) -> Option<u8>
+    ensures some { IfSome result (λ number. IsNumberOperand name.now (rows_of (found_of operands.now)) least most number) }
+    ensures none { result ≡ None
+        → (number : ℕ) → ¬ IsNumberOperand name.now (rows_of (found_of operands.now)) least most number }
+{
+    let text = operands.get_str(name)?;
+    match text.parse::<u8>() {
+        Ok(number) if least <= number && number <= most => Some(number),
+        _ => None,
     }
 }
 
@@ -63,7 +110,11 @@ fn list_line(alloc: Global, operands: &ArgMatches) -> Result<Line, LineFault>
 pub fn lines_and_bad_lines()
     ensures chip { AsksFor (codes "cm1" ∷ codes "chip" ∷ []) Line.Chip }
     ensures lone_dashes { AsksFor (codes "cm1" ∷ codes "chip" ∷ codes "--" ∷ []) Line.Chip }
-    ensures list { (program : String Global) → string_bytes program ≡ codes "sums.txt" → AsksFor (codes "cm1" ∷ codes "list" ∷ codes "sums.txt" ∷ []) (Line.List program) }
+    ensures list { (program : String Global) → string_bytes program ≡ codes "sums.txt"
+        → AsksFor (codes "cm1" ∷ codes "list" ∷ codes "sums.txt" ∷ []) (Line.List program) }
+    ensures fresh { (file : String Global) → string_bytes file ≡ codes "blank.image"
+        → AsksFor (codes "cm1" ∷ codes "fresh" ∷ codes "12" ∷ codes "7" ∷ codes "blank.image" ∷ [])
+            (Line.Fresh 12 7 file) }
     ensures help { IsBadLine (codes "cm1" ∷ codes "help" ∷ []) }
     ensures help_flag { IsBadLine (codes "cm1" ∷ codes "--help" ∷ []) }
     ensures short_help_flag { IsBadLine (codes "cm1" ∷ codes "-h" ∷ []) }
@@ -84,12 +135,13 @@ fn program<'a>(alloc: Global) -> Result<Command<'a>, AllocError>
     ensures app { IfOk result (λ made. app_of made ≡ program_app) }
     ensures local { IfOk result (λ made. (fields_of made).has_globals ≡ false) }
 {
-    Command::new(alloc, "cm1")
+    let program = Command::new(alloc, "cm1")
         .disable_help_flag(true)
         .disable_help_subcommand(true)
-        .subcommand_required(true)
-        .subcommand(chip(alloc))?
-        .subcommand(list(alloc)?)
+        .subcommand_required(true);
+    let program = adding_subcommand(program, chip(alloc))?;
+    let program = adding_subcommand(program, list(alloc)?)?;
+    adding_subcommand(program, fresh(alloc)?)
 }
 
 fn chip<'a>(alloc: Global) -> Command<'a>
@@ -103,7 +155,42 @@ fn list<'a>(alloc: Global) -> Result<Command<'a>, AllocError>
     ensures app { IfOk result (λ made. app_of made ≡ list_app) }
     ensures local { IfOk result (λ made. (fields_of made).has_globals ≡ false) }
 {
-    Command::new(alloc, "list")
-        .disable_help_flag(true)
-        .arg(Arg::new(alloc, PROGRAM).required(true))
+    let list = Command::new(alloc, "list").disable_help_flag(true);
+    adding_operand(alloc, list, PROGRAM)
+}
+
+fn fresh<'a>(alloc: Global) -> Result<Command<'a>, AllocError>
+    ensures app { IfOk result (λ made. app_of made ≡ fresh_app) }
+    ensures local { IfOk result (λ made. (fields_of made).has_globals ≡ false) }
+{
+    let fresh = Command::new(alloc, "fresh").disable_help_flag(true);
+    let fresh = adding_operand(alloc, fresh, DIMENSION)?;
+    let fresh = adding_operand(alloc, fresh, ROOM)?;
+    adding_operand(alloc, fresh, FILE)
+}
+
+/// The command with one more operand, which must stand there.
+fn adding_operand<'a>(
+    alloc: Global,
+    command: Command<'a>,
+    name: &'a str,
+) -> Result<Command<'a>, AllocError>
+    ensures app { IfOk result (λ made. app_of made ≡ with_rule (app_of command.entry) (required_operand name.entry.now)) }
+    ensures local { (fields_of command.entry).has_globals ≡ false
+        → IfOk result (λ made. (fields_of made).has_globals ≡ false) }
+{
+    command.arg(Arg::new(alloc, name).required(true))
+}
+
+/// The command with one more subcommand, which has no global argument.
+fn adding_subcommand<'a>(
+    command: Command<'a>,
+    subcommand: Command<'a>,
+) -> Result<Command<'a>, AllocError>
+    requires local { (fields_of subcommand).has_globals ≡ false }
+    ensures app { IfOk result (λ made. app_of made ≡ with_subcommand (app_of command.entry) (app_of subcommand.entry).top) }
+    ensures local { (fields_of command.entry).has_globals ≡ false
+        → IfOk result (λ made. (fields_of made).has_globals ≡ false) }
+{
+    command.subcommand(subcommand)
 }

@@ -1,7 +1,9 @@
 //! Why a macro is refused.
 
 ghost use Rattle.std.specs.Prelude.{◌≡◌, ◌^◌, not, nat_le};
-ghost use Rattle.cm_language.specs.Faults.{overlaps, misfits, writes, writes_condition, names_fixed, is_conditional, is_conditional_product, first_fault, lengths_differ, is_partly, is_apart, is_fixed};
+ghost use Rattle.cm_language.specs.Faults.{overlaps, misfits, writes, writes_condition, names_fixed, is_conditional};
+ghost use Rattle.cm_language.specs.Faults.{is_conditional_product, first_fault, lengths_differ, is_partly, is_apart};
+ghost use Rattle.cm_language.specs.Faults.{is_fixed};
 ghost use Rattle.cm_bits.specs.Field.{meeting};
 
 use cm_bits::{Field, FlagNo, Meets};

@@ -55,7 +55,8 @@ pub fn push_bits(
 )
     requires lengths { y.len ≡ x.len }
     requires room { vec_len list.old + x.len ≤ vec_capacity list.old }
-    ensures items { list.new.items ≡ list.old.items ++ map Act.Nano (each_bit context.now x y read write tables.memory tables.flag) }
+    ensures items { list.new.items ≡ list.old.items
+        ++ map Act.Nano (each_bit context.now x y read write tables.memory tables.flag) }
     ensures len { vec_len list.new ≡ vec_len list.old + x.len }
     ensures capacity { vec_capacity list.old ≤ vec_capacity list.new }
 {
@@ -82,7 +83,8 @@ pub fn push_number(list: &mut Vec<Act>, context: &Context, d: Field, number: u64
 /// Bit `i` of a number into that of a field.
 fn number_bit(context: &Context, d: Field, number: u64, i: u16) -> Nano
     requires { i < d.len }
-    ensures { result ≡ nano context.now (d.at + i) (d.at + i) ZERO ZERO (if bit number i then ALWAYS_1 else ALWAYS_0) ALWAYS_0 }
+    ensures { result ≡ nano context.now (d.at + i) (d.at + i) ZERO ZERO
+        (if bit number i then ALWAYS_1 else ALWAYS_0) ALWAYS_0 }
 {
     let tables = if number >> i & 1 == 1 {
         Tables::ONE

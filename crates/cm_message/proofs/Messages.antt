@@ -1,10 +1,14 @@
 -- A message and its bytes, both ways.
-use Rattle.std.proofs.Common.{◌≡◌, ℕ, ◌+◌, ◌<◌, ◌≤◌, ◌^◌, List, [], ◌∷◌, ◌++◌, length, get_or, take, drop, Bool, true, false, Some, None, refl, sym, ap, ◌∙◌, arith, mod-eq_of_lt, if◌then◌else◌, rules, tests, nat_lt, ◌&&◌}
+use Rattle.std.proofs.Common.{◌≡◌, ℕ, ◌+◌, ◌<◌, ◌≤◌, ◌^◌, List, [], ◌∷◌, ◌++◌, length, get_or, take, drop, Bool, true}
+use Rattle.std.proofs.Common.{false, Some, None, refl, sym, ap, ◌∙◌, arith, mod-eq_of_lt, if◌then◌else◌, rules, tests}
+use Rattle.std.proofs.Common.{nat_lt, ◌&&◌}
 use Rattle.std.specs.Int.{w8, w16, w32, w64}
 use Rattle.std.proofs.lemmas.List.{get_or-drop, length-take, length-drop, take-append-drop, drop-drop, take_all}
-use Rattle.std.proofs.lemmas.Nat.{from_be_bytes-to_be_bytes_2, from_be_bytes-to_be_bytes_4, from_be_bytes-to_be_bytes_8, be_bytes_2, be_bytes_4, be_bytes_8}
+use Rattle.std.proofs.lemmas.Nat.{from_be_bytes-to_be_bytes_2, from_be_bytes-to_be_bytes_4, from_be_bytes-to_be_bytes_8}
+use Rattle.std.proofs.lemmas.Nat.{be_bytes_2, be_bytes_4, be_bytes_8}
 use Rattle.cm_model.specs.declared.message.Message.{Message}
-use Rattle.cm_message.specs.Bytes.{number, message_text, number_from, rel_in, proc_in, payload_in, origin_chip_in, origin_proc_in, birth_in, message_of}
+use Rattle.cm_message.specs.Bytes.{number, message_text, number_from, rel_in, proc_in, payload_in, origin_chip_in}
+use Rattle.cm_message.specs.Bytes.{origin_proc_in, birth_in, message_of}
 use Rattle.cm_message.specs.Laws.{MessagesAreRead, OnlyTheirBytesAreRead}
 use Rattle.cm_message.proofs.Numbers.{small_part, from_be_bytes-take_2, from_be_bytes-take_4, from_be_bytes-take_8}
 
@@ -50,39 +54,58 @@ messages_are_read m is birth =
 
 -- ---- the bytes of which parts are read are the bytes of the parts
 
-pair : (bytes : List ℕ) (at : ℕ) → at + 2 ≤ length bytes → ((i : ℕ) → get_or bytes i 0 < 256) → number w16 (number_from w16 at bytes) ≡ take 2 (drop at bytes)
+pair : (bytes : List ℕ) (at : ℕ) → at + 2 ≤ length bytes → ((i : ℕ) → get_or bytes i 0 < 256)
+    → number w16 (number_from w16 at bytes) ≡ take 2 (drop at bytes)
 unfolding number number_from
 pair bytes at long small =
-    be_bytes_2 (take 2 (drop at bytes)) _ (omega (arith, length-take 2 (drop at bytes), length-drop at bytes)) (small_part bytes at 2 small) (from_be_bytes-take_2 (drop at bytes))
+    be_bytes_2 (take 2 (drop at bytes)) _ (omega (arith, length-take 2 (drop at bytes), length-drop at bytes))
+    (small_part bytes at 2 small) (from_be_bytes-take_2 (drop at bytes))
 
-four : (bytes : List ℕ) (at : ℕ) → at + 4 ≤ length bytes → ((i : ℕ) → get_or bytes i 0 < 256) → number w32 (number_from w32 at bytes) ≡ take 4 (drop at bytes)
+four : (bytes : List ℕ) (at : ℕ) → at + 4 ≤ length bytes → ((i : ℕ) → get_or bytes i 0 < 256)
+    → number w32 (number_from w32 at bytes) ≡ take 4 (drop at bytes)
 unfolding number number_from
 four bytes at long small =
-    be_bytes_4 (take 4 (drop at bytes)) _ (omega (arith, length-take 4 (drop at bytes), length-drop at bytes)) (small_part bytes at 4 small) (from_be_bytes-take_4 (drop at bytes))
+    be_bytes_4 (take 4 (drop at bytes)) _ (omega (arith, length-take 4 (drop at bytes), length-drop at bytes))
+    (small_part bytes at 4 small) (from_be_bytes-take_4 (drop at bytes))
 
-eight : (bytes : List ℕ) (at : ℕ) → at + 8 ≤ length bytes → ((i : ℕ) → get_or bytes i 0 < 256) → number w64 (number_from w64 at bytes) ≡ take 8 (drop at bytes)
+eight : (bytes : List ℕ) (at : ℕ) → at + 8 ≤ length bytes → ((i : ℕ) → get_or bytes i 0 < 256)
+    → number w64 (number_from w64 at bytes) ≡ take 8 (drop at bytes)
 unfolding number number_from
 eight bytes at long small =
-    be_bytes_8 (take 8 (drop at bytes)) _ (omega (arith, length-take 8 (drop at bytes), length-drop at bytes)) (small_part bytes at 8 small) (from_be_bytes-take_8 (drop at bytes))
+    be_bytes_8 (take 8 (drop at bytes)) _ (omega (arith, length-take 8 (drop at bytes), length-drop at bytes))
+    (small_part bytes at 8 small) (from_be_bytes-take_8 (drop at bytes))
 
 first_byte : (bytes : List ℕ) → 1 ≤ length bytes → get_or bytes 0 0 < 256 → number w8 (get_or bytes 0 0) ≡ take 1 bytes
 unfolding number
 first_byte [] long small = absurd (omega (arith, long))
 first_byte (a ∷ rest) long small = ap (λ (x : ℕ). x ∷ []) (mod-eq_of_lt small)
 
-byte : (bytes : List ℕ) (at b : ℕ) → get_or (drop at bytes) 0 0 ≡ b → at + 1 ≤ length bytes → ((i : ℕ) → get_or bytes i 0 < 256) → number w8 b ≡ take 1 (drop at bytes)
+byte : (bytes : List ℕ) (at b : ℕ) → get_or (drop at bytes) 0 0 ≡ b → at + 1 ≤ length bytes
+    → ((i : ℕ) → get_or bytes i 0 < 256) → number w8 b ≡ take 1 (drop at bytes)
 byte bytes at b is long small =
-    ap (number w8) (sym is) ∙ first_byte (drop at bytes) (omega (arith, length-drop at bytes)) (rw (get_or-drop at bytes 0 0) (small (at + 0)))
+    ap (number w8) (sym is)
+    ∙ first_byte (drop at bytes) (omega (arith, length-drop at bytes)) (rw (get_or-drop at bytes 0 0) (small (at + 0)))
 
 -- a part and what follows it
 onward : (bytes : List ℕ) (at n next : ℕ) → at + n ≡ next → take n (drop at bytes) ++ drop next bytes ≡ drop at bytes
-onward bytes at n next is = ap (λ (k : ℕ). take n (drop at bytes) ++ drop k bytes) (sym is) ∙ ap (λ (xs : List ℕ). take n (drop at bytes) ++ xs) (sym (drop-drop n at bytes)) ∙ take-append-drop n (drop at bytes)
+onward bytes at n next is = ap (λ (k : ℕ). take n (drop at bytes) ++ drop k bytes) (sym is)
+    ∙ ap (λ (xs : List ℕ). take n (drop at bytes) ++ xs) (sym (drop-drop n at bytes))
+    ∙ take-append-drop n (drop at bytes)
 
 all_parts : (bytes : List ℕ) → length bytes ≡ 18
-    → take 2 (drop 0 bytes) ++ (take 1 (drop 2 bytes) ++ (take 4 (drop 3 bytes) ++ (take 2 (drop 7 bytes) ++ (take 1 (drop 9 bytes) ++ take 8 (drop 10 bytes))))) ≡ bytes
+    → take 2 (drop 0 bytes) ++ (take 1 (drop 2 bytes)
+    ++ (take 4 (drop 3 bytes) ++ (take 2 (drop 7 bytes) ++ (take 1 (drop 9 bytes) ++ take 8 (drop 10 bytes))))) ≡ bytes
 all_parts bytes long =
-    let last : take 8 (drop 10 bytes) ≡ drop 10 bytes = take_all 8 (drop 10 bytes) (omega (arith, length-drop 10 bytes)) in
-    rw (last, onward bytes 9 1 10 refl, onward bytes 7 2 9 refl, onward bytes 3 4 7 refl, onward bytes 2 1 3 refl, onward bytes 0 2 2 refl) refl
+    let last : take 8 (drop 10 bytes) ≡ drop 10 bytes =
+    take_all 8 (drop 10 bytes) (omega (arith, length-drop 10 bytes)) in
+    rw (
+      last,
+      onward bytes 9 1 10 refl,
+      onward bytes 7 2 9 refl,
+      onward bytes 3 4 7 refl,
+      onward bytes 2 1 3 refl,
+      onward bytes 0 2 2 refl,
+    ) refl
 
 chosen : (b : Bool) (x m : Message) → (if b then Some x else None) ≡ Some m → m ≡ x
 chosen true x m is = cc
@@ -93,7 +116,9 @@ unfolding message_of
 only_their_bytes_are_read bytes m long small is =
     let read = chosen _ _ m is in
     ap message_text read ∙
-    (λ i. pair bytes 0 (omega arith) small i ++ (byte bytes 2 (proc_in bytes) (get_or-drop 2 bytes 0 0) (omega arith) small i
+    (λ i. pair bytes 0 (omega arith) small i
+    ++ (byte bytes 2 (proc_in bytes) (get_or-drop 2 bytes 0 0) (omega arith) small i
     ++ (four bytes 3 (omega arith) small i ++ (pair bytes 7 (omega arith) small i
-    ++ (byte bytes 9 (origin_proc_in bytes) (get_or-drop 9 bytes 0 0) (omega arith) small i ++ eight bytes 10 (omega arith) small i)))))
+    ++ (byte bytes 9 (origin_proc_in bytes) (get_or-drop 9 bytes 0 0) (omega arith) small i
+    ++ eight bytes 10 (omega arith) small i)))))
     ∙ all_parts bytes long

@@ -9,7 +9,8 @@ pub dropped : (at : ℕ) (bytes : List ℕ) (i : ℕ) → get_or (drop at bytes)
 dropped at bytes i = get_or-drop at bytes i 0
 
 -- where all bytes are below 256, those of a part are
-pub small_part : (bytes : List ℕ) (at n : ℕ) → ((i : ℕ) → get_or bytes i 0 < 256) → (i : ℕ) → get_or (take n (drop at bytes)) i 0 < 256
+pub small_part : (bytes : List ℕ) (at n : ℕ) → ((i : ℕ) → get_or bytes i 0 < 256) → (i : ℕ)
+    → get_or (take n (drop at bytes)) i 0 < 256
 small_part bytes at n small i = elim (cases_lt i n) [
   | inl inside ↦ rw (get_or-take n (drop at bytes) i 0 inside, get_or-drop at bytes i 0) (small (at + i))
   | inr past ↦ rw (get_or_past (take n (drop at bytes)) i 0 (omega (arith, length-take n (drop at bytes)))) (lit< tt)

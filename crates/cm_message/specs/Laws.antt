@@ -11,4 +11,5 @@ MessagesAreRead = (m : Message) → IsMessage 16 m → m.tag.birth < 2 ^ 64 → 
 -- eighteen bytes of which a message is read are the bytes of that message
 abbrev pub OnlyTheirBytesAreRead : Type 0
 OnlyTheirBytesAreRead =
-    (bytes : List ℕ) (m : Message) → length bytes ≡ 18 → ((i : ℕ) → slice_index bytes i < 256) → message_of bytes ≡ Some m → message_text m ≡ bytes
+    (bytes : List ℕ) (m : Message) → length bytes ≡ 18 → ((i : ℕ) → slice_index bytes i < 256)
+    → message_of bytes ≡ Some m → message_text m ≡ bytes

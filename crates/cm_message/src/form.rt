@@ -1,7 +1,8 @@
 //! The eighteen bytes of a message, as an image has them: its parts in order, each with its highest byte first.
 
 ghost use Rattle.std.specs.Prelude.{◌≡◌, ◌<◌, ◌↔◌, IsSome, IfSome};
-ghost use Rattle.cm_message.specs.Bytes.{message_text, message_of, rel_in, proc_in, payload_in, origin_chip_in, origin_proc_in, birth_in};
+ghost use Rattle.cm_message.specs.Bytes.{message_text, message_of, rel_in, proc_in, payload_in, origin_chip_in};
+ghost use Rattle.cm_message.specs.Bytes.{origin_proc_in, birth_in};
 
 use cm_bits::Proc;
 use cm_model::{Message, Tag};

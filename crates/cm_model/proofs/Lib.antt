@@ -30,3 +30,4 @@ pub mod Receiving
 pub mod Blanks
 pub mod Apart
 pub mod Finding
+pub mod Unlogged

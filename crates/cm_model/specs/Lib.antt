@@ -18,3 +18,4 @@ pub mod Keeping
 pub mod StepLaws
 pub mod Laws
 pub mod Leaver
+pub mod Unlogged

@@ -3,3 +3,4 @@ mod Stepping
 mod Sources
 mod OneWay
 mod Joining
+mod Rounding

@@ -1,5 +1,6 @@
 -- Each of a chip's sixteen bits stays on the chip or leaves it, and goes to one place only.
-use Rattle.std.proofs.Common.{◌≡◌, ℕ, ◌+◌, ◌-◌, ◌/◌, ◌%◌, ◌<◌, ◌⊎◌, ◌≢◌, inl, inr, Bool, true, false, Option, Some, None, if◌then◌else◌, refl, ap, ◌∙◌, arith, ne_eqb}
+use Rattle.std.proofs.Common.{◌≡◌, ℕ, ◌+◌, ◌-◌, ◌/◌, ◌%◌, ◌<◌, ◌⊎◌, ◌≢◌, inl, inr, Bool, true, false, Option, Some}
+use Rattle.std.proofs.Common.{None, if◌then◌else◌, refl, ap, ◌∙◌, arith, ne_eqb}
 use Rattle.std.proofs.lemmas.Bool.{eqb-false, cases_eq}
 use Rattle.cm_bits.specs.declared.plane.Dir.{Dir}
 use Rattle.cm_bits.specs.declared.plane.Dir.TheVariants.{North, East, West, South}
@@ -7,7 +8,8 @@ use Rattle.cm_news.specs.Moves.{is_entry, one_back}
 use Rattle.cm_news.specs.Laws.{MovesTo, LeavesAs, InsideAndEdgeAreAll}
 
 -- who is sent a bit, and by whom
-sent_by : (entry : Bool) (q p : ℕ) → (let from : Option ℕ = if entry then None else Some q in from ≡ Some p) → (entry ≡ false) × (q ≡ p)
+sent_by : (entry : Bool) (q p : ℕ) → (let from : Option ℕ = if entry then None else Some q in from ≡ Some p)
+    → (entry ≡ false) × (q ≡ p)
 sent_by true q p e = cc
 sent_by false q p e = (refl, cc)
 
@@ -22,25 +24,30 @@ step_of dir p q moves = let parts = sent_by (is_entry dir q) (one_back dir q) p 
     record { there = moves.there; others = parts.0; from = parts.1 }
 
 moves_to : (dir : Dir) (p q : ℕ) → q < 16 → is_entry dir q ≡ false → one_back dir q ≡ p → MovesTo dir p q
-moves_to dir p q h others e = record { there = h; from = ap (λ (b : Bool). if b then None else Some (one_back dir q)) others ∙ ap Some e }
+moves_to dir p q h others e =
+    record { there = h; from = ap (λ (b : Bool). if b then None else Some (one_back dir q)) others ∙ ap Some e }
 
 somewhere : (dir : Dir) (p : ℕ) → p < 16 → ((q : ℕ) × MovesTo dir p q) ⊎ ((i : ℕ) × LeavesAs dir p i)
 somewhere North p h = by (cases_eq (p / 4) 0) where
   by : (p / 4 ≡ 0) ⊎ (p / 4 ≢ 0) → ((q : ℕ) × MovesTo North p q) ⊎ ((i : ℕ) × LeavesAs North p i)
   by (inl first) = inr (p % 4, record { there = omega arith; from = omega arith })
-  by (inr others) = inl (p - 4, moves_to North p (p - 4) (omega arith) (ne_eqb ((p - 4) / 4) 3 (λ e. omega arith)) (omega arith))
+  by (inr others) =
+      inl (p - 4, moves_to North p (p - 4) (omega arith) (ne_eqb ((p - 4) / 4) 3 (λ e. omega arith)) (omega arith))
 somewhere South p h = by (cases_eq (p / 4) 3) where
   by : (p / 4 ≡ 3) ⊎ (p / 4 ≢ 3) → ((q : ℕ) × MovesTo South p q) ⊎ ((i : ℕ) × LeavesAs South p i)
   by (inl last) = inr (p % 4, record { there = omega arith; from = omega arith })
-  by (inr others) = inl (p + 4, moves_to South p (p + 4) (omega arith) (ne_eqb ((p + 4) / 4) 0 (λ e. omega arith)) (omega arith))
+  by (inr others) =
+      inl (p + 4, moves_to South p (p + 4) (omega arith) (ne_eqb ((p + 4) / 4) 0 (λ e. omega arith)) (omega arith))
 somewhere West p h = by (cases_eq (p % 4) 0) where
   by : (p % 4 ≡ 0) ⊎ (p % 4 ≢ 0) → ((q : ℕ) × MovesTo West p q) ⊎ ((i : ℕ) × LeavesAs West p i)
   by (inl first) = inr (p / 4, record { there = omega arith; from = omega arith })
-  by (inr others) = inl (p - 1, moves_to West p (p - 1) (omega arith) (ne_eqb ((p - 1) % 4) 3 (λ e. omega arith)) (omega arith))
+  by (inr others) =
+      inl (p - 1, moves_to West p (p - 1) (omega arith) (ne_eqb ((p - 1) % 4) 3 (λ e. omega arith)) (omega arith))
 somewhere East p h = by (cases_eq (p % 4) 3) where
   by : (p % 4 ≡ 3) ⊎ (p % 4 ≢ 3) → ((q : ℕ) × MovesTo East p q) ⊎ ((i : ℕ) × LeavesAs East p i)
   by (inl last) = inr (p / 4, record { there = omega arith; from = omega arith })
-  by (inr others) = inl (p + 1, moves_to East p (p + 1) (omega arith) (ne_eqb ((p + 1) % 4) 0 (λ e. omega arith)) (omega arith))
+  by (inr others) =
+      inl (p + 1, moves_to East p (p + 1) (omega arith) (ne_eqb ((p + 1) % 4) 0 (λ e. omega arith)) (omega arith))
 
 not_both : (dir : Dir) (p q i : ℕ) → IsStep dir p q → LeavesAs dir p i → ⊥
 not_both North p q i step leaves = let others : q / 4 ≢ 3 = eqb-false (q / 4) 3 step.others in omega arith

@@ -10,11 +10,11 @@ use Rattle.cm_news.specs.Moves.{is_entry, one_back, at_edge, along, corner}
 use Rattle.cm_news.specs.Laws.{StepsAreTheTorus}
 
 -- rows of chips
-abbrev chip_rows : ℕ → ℕ
+abbrev pub chip_rows : ℕ → ℕ
 chip_rows n = 2 ^ (n - n / 2)
 
 -- the chip whose edge leads to this one's in a direction
-abbrev chip_before : ℕ → Dir → ℕ → ℕ
+abbrev pub chip_before : ℕ → Dir → ℕ → ℕ
 chip_before n North chip = (chip / chip_columns n + 1) % chip_rows n * chip_columns n + chip % chip_columns n
 chip_before n South chip = (chip / chip_columns n + chip_rows n - 1) % chip_rows n * chip_columns n + chip % chip_columns n
 chip_before n West chip = chip / chip_columns n * chip_columns n + (chip % chip_columns n + 1) % chip_columns n
@@ -48,7 +48,7 @@ inside n East chip p there h others =
     ∙ place_at-split n (chip / chip_columns n) (p / 4) (chip % chip_columns n) (p % 4 - 1) (omega arith) (omega arith)
     ∙ same_chip n chip (one_back East p)
 
-over_edge : (n : ℕ) (dir : Dir) (chip p : ℕ) → chip < 2 ^ n → p < 16 → is_entry dir p ≡ true
+pub over_edge : (n : ℕ) (dir : Dir) (chip p : ℕ) → chip < 2 ^ n → p < 16 → is_entry dir p ≡ true
     → source n dir (record { chip = chip; proc = p }) ≡ record { chip = chip_before n dir chip; proc = at_edge dir (along dir p) }
 unfolding neighbour
 over_edge n North chip p there h entry =

@@ -25,11 +25,16 @@ pub record GoesOneWay (dir : Dir) (p : ℕ) : Type 0 where
 abbrev pub InsideAndEdgeAreAll : Type 0
 InsideAndEdgeAreAll = (dir : Dir) (p : ℕ) → p < 16 → GoesOneWay dir p
 
--- a step that leads to a place of the torus comes from the same chip, or from the edge of the chip from which the corner's comes
+-- a step that leads to a place of the torus comes from the same chip,
+-- or from the edge of the chip from which the corner's comes
 pub record ComesFrom (n : ℕ) (dir : Dir) (chip p : ℕ) : Type 0 where
-  pub inside : is_entry dir p ≡ false → source n dir (record { chip = chip; proc = p }) ≡ record { chip = chip; proc = one_back dir p }
+  pub inside : is_entry dir p ≡ false
+      → source n dir (record { chip = chip; proc = p }) ≡ record { chip = chip; proc = one_back dir p }
   pub edge : is_entry dir p ≡ true → source n dir (record { chip = chip; proc = p })
-      ≡ record { chip = (source n dir (record { chip = chip; proc = corner dir })).chip; proc = at_edge dir (along dir p) }
+      ≡ record {
+        chip = (source n dir (record { chip = chip; proc = corner dir })).chip;
+        proc = at_edge dir (along dir p);
+      }
 
 -- in each direction, at every size of the machine
 abbrev pub StepsAreTheTorus : Type 0

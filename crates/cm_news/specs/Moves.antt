@@ -1,5 +1,5 @@
 -- Steps on the grid as one chip sees them, four by four processors: Hillis 1985; the numbering is ours.
-use Rattle.std.specs.Prelude.{ℕ, ◌+◌, ◌-◌, ◌*◌, ◌/◌, ◌%◌, ◌==◌, Bool, false, List, Option, Some, None, slice_index, if◌then◌else◌}
+use Rattle.std.specs.Prelude.{ℕ, ◌+◌, ◌-◌, ◌*◌, ◌/◌, ◌%◌, ◌==◌, Bool, List, Option, Some, None, slice_index, if◌then◌else◌}
 use Rattle.cm_bits.specs.Bit.{bit}
 use Rattle.cm_bits.specs.declared.place.Place.{Place}
 use Rattle.cm_bits.specs.declared.plane.Dir.{Dir}

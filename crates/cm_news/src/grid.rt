@@ -1,11 +1,13 @@
 //! Steps on the grid: of one place, and of a plane at once.
 
-ghost use Rattle.std.specs.Prelude.{◌≡◌, ℕ, ◌*◌, ◌/◌, ◌%◌, ◌^◌, ◌<◌, ◌≤◌, ◌==◌, ◌||◌, false, length, slice_index, if◌then◌else◌};
+ghost use Rattle.std.specs.Prelude.{◌≡◌, ℕ, ◌*◌, ◌/◌, ◌%◌, ◌^◌, ◌<◌, ◌≤◌, ◌==◌, ◌||◌, false, length, slice_index};
+ghost use Rattle.std.specs.Prelude.{if◌then◌else◌};
 ghost use Rattle.cm_bits.specs.Bit.{bit};
 ghost use Rattle.cm_model.specs.Chip.{IsPlane, plane_bit};
 ghost use Rattle.cm_model.specs.Place.{neighbour, source};
 ghost use Rattle.cm_news.specs.Moves.{is_entry, sender, at_edge, along, corner, bit_of_place};
 
+use crate::row::incoming_row;
 use cm_bits::{Dir, Place, Plane, Proc};
 use cm_model::{PlainGrid, opposite};
 
@@ -83,9 +85,7 @@ impl<const N: usize> Grid<N> {
         ensures value { (c : ℕ) → c < 2 ^ N → IsPlane (slice_index out.new c)
             (λ p. bit_of_place planes.now (source N dir (record { chip = c; proc = p }))) }
     {
-        for c in 0..out.len() {
-            out[c] = Self::incoming(planes, dir, c as u16);
-        }
+        incoming_row(N as u8, planes, dir, out);
     }
 
     /// The chip whose edge leads to this one's in a direction.

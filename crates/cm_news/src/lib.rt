@@ -3,6 +3,8 @@
 
 mod grid;
 mod laws;
+mod row;
 
 pub use grid::Grid;
 pub use laws::{inside_and_edge_are_all, steps_are_the_torus};
+pub use row::incoming_row;

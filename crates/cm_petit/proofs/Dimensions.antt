@@ -8,7 +8,8 @@ use Rattle.cm_petit.specs.Routers.{Log, machine_of}
 
 -- a dimension more
 pub crossed_machine : (n cap d : ℕ) (chips : Chips) (before now : List (List Message)) (logs : List Log) (clock : ℕ)
-    → now ≡ each_chip n (λ c. buffer_after_dimension cap d (list_at before c) (outgoing cap d (list_at before (bit_xor c (2 ^ d)))))
+    → now ≡ each_chip n
+    (λ c. buffer_after_dimension cap d (list_at before c) (outgoing cap d (list_at before (bit_xor c (2 ^ d)))))
     → machine_of chips now logs clock ≡ machine_after_dimension n cap d (machine_of chips before logs clock)
 unfolding machine_after_dimension
 crossed_machine n cap d chips before now logs clock are = λ i. machine_of chips (are i) logs clock

@@ -1,5 +1,6 @@
 -- Rows that a loop makes anew, one element after another, each from the old row.
-use Rattle.std.proofs.Common.{◌≡◌, ◌≢◌, ℕ, ◌+◌, ◌<◌, ◌≤◌, List, length, map, set, get_or, refl, sym, ap, ◌∙◌, subst, arith, ⊎_elim, below_more, get_or-set_same, get_or-set_other}
+use Rattle.std.proofs.Common.{◌≡◌, ◌≢◌, ℕ, ◌+◌, ◌<◌, ◌≤◌, List, length, map, set, get_or, refl, sym, ap, ◌∙◌, subst}
+use Rattle.std.proofs.Common.{arith, ⊎_elim, below_more, get_or-set_same, get_or-set_other}
 use Rattle.std.proofs.lemmas.Bool.{cases_lt}
 use Rattle.std.proofs.lemmas.List.{length-set, length-map, map-set, get_or-map, get_or_read}
 use Rattle.cm_model.specs.Each.{each_from}
@@ -17,7 +18,8 @@ pub made_begins : {X : Type 0} (d : X) (f : ℕ → X) (xs : List X) → AreMade
 made_begins d f xs = record { long = refl; done = λ c h. absurd (omega arith); rest = λ c h. refl }
 
 -- one more
-pub made_more : {X : Type 0} (d : X) (f : ℕ → X) (before now : List X) (i : ℕ) (x : X) → i < length before → x ≡ f i → AreMade d f before now i → AreMade d f before (set now i x) (i + 1)
+pub made_more : {X : Type 0} (d : X) (f : ℕ → X) (before now : List X) (i : ℕ) (x : X) → i < length before → x ≡ f i
+    → AreMade d f before now i → AreMade d f before (set now i x) (i + 1)
 made_more d f before now i x inside is was =
     let here : i < length now = omega (arith, was.long) in
     record {
@@ -29,14 +31,17 @@ made_more d f before now i x inside is was =
     }
 
 -- the next element is still the old one
-pub not_yet_made : {X : Type 0} (d : X) (f : ℕ → X) (before now : List X) (i : ℕ) (x : X) → i < length before → x ≡ get_or now i x → AreMade d f before now i → x ≡ get_or before i d
+pub not_yet_made : {X : Type 0} (d : X) (f : ℕ → X) (before now : List X) (i : ℕ) (x : X) → i < length before
+    → x ≡ get_or now i x → AreMade d f before now i → x ≡ get_or before i d
 not_yet_made d f before now i x inside read was =
     let here : i < length now = omega (arith, was.long) in
     get_or_read now i x here read d ∙ was.rest i (omega arith)
 
 -- all of them
-pub made_all : {X : Type 0} (d : X) (f : ℕ → X) (before now : List X) (count last : ℕ) → length before ≡ count → count ≤ last → AreMade d f before now last → now ≡ each_from 0 count f
-made_all d f before now count last long all was = is_each d count f now (was.long ∙ long) (λ c h. was.done c (omega arith))
+pub made_all : {X : Type 0} (d : X) (f : ℕ → X) (before now : List X) (count last : ℕ) → length before ≡ count
+    → count ≤ last → AreMade d f before now last → now ≡ each_from 0 count f
+made_all d f before now count last long all was =
+    is_each d count f now (was.long ∙ long) (λ c h. was.done c (omega arith))
 
 -- ---- the free places of logs
 
@@ -49,17 +54,21 @@ pub lost_begins : (most : ℕ) (logs : List Log) → HaveLost most logs logs 0
 lost_begins most logs = record { done = λ c h. absurd (omega arith); rest = λ c h. refl }
 
 -- what a log takes that was read at its number
-pub free_read : (logs : List Log) (i : ℕ) (log : Log) → i < length logs → log ≡ get_or logs i log → free_at logs i ≡ free_places log
+pub free_read : (logs : List Log) (i : ℕ) (log : Log) → i < length logs → log ≡ get_or logs i log
+    → free_at logs i ≡ free_places log
 free_read logs i log inside read = get_or-map free_places logs i log 0 inside ∙ ap free_places (sym read)
 
 pub lost_more : (most : ℕ) (before now : List Log) (i : ℕ) (log after : Log) → i < length now → log ≡ get_or now i log
-    → free_places log ≤ free_places after + most → HaveLost most before now i → HaveLost most before (set now i after) (i + 1)
+    → free_places log ≤ free_places after + most → HaveLost most before now i
+    → HaveLost most before (set now i after) (i + 1)
 lost_more most before now i log after inside read fewer was =
     let here : i < length (map free_places now) = omega (arith, length-map now free_places) in
     let same : (c : ℕ) → c ≢ i → free_at (set now i after) c ≡ free_at now c =
-    λ c other. ap (λ (ns : List ℕ). get_or ns c 0) (map-set free_places now i after) ∙ get_or-set_other (map free_places now) i c (free_places after) 0 other in
+    λ c other. ap (λ (ns : List ℕ). get_or ns c 0) (map-set free_places now i after)
+    ∙ get_or-set_other (map free_places now) i c (free_places after) 0 other in
     let new : free_at (set now i after) i ≡ free_places after =
-    ap (λ (ns : List ℕ). get_or ns i 0) (map-set free_places now i after) ∙ get_or-set_same (map free_places now) i (free_places after) 0 here in
+    ap (λ (ns : List ℕ). get_or ns i 0) (map-set free_places now i after)
+    ∙ get_or-set_same (map free_places now) i (free_places after) 0 here in
     record {
       done = below_more (λ c. free_at before c ≤ free_at (set now i after) c + most) i
           (λ c h. let other : c ≢ i = omega arith in omega (arith, same c other, was.done c h))
@@ -68,7 +77,8 @@ lost_more most before now i log after inside read fewer was =
     }
 
 -- all of them
-pub lost_all : (most last : ℕ) (before now : List Log) → length before ≤ last → length now ≡ length before → HaveLost most before now last
+pub lost_all : (most last : ℕ) (before now : List Log) → length before ≤ last → length now ≡ length before
+    → HaveLost most before now last
     → (c : ℕ) → free_at before c ≤ free_at now c + most
 lost_all most last before now all long was c =
     ⊎_elim (λ (h : c < last). was.done c h) (λ (h : last ≤ c). omega (arith, was.rest c h)) (cases_lt c last)
@@ -76,12 +86,16 @@ lost_all most last before now all long was c =
 -- ---- rows that are read off others
 
 -- one more, where the row has a part of each element
-pub made_more_of : {X Y : Type 0} (g : Y → X) (d : X) (f : ℕ → X) (before : List X) (now : List Y) (i : ℕ) (y : Y) → i < length before → g y ≡ f i
+pub made_more_of : {X Y : Type 0} (g : Y → X) (d : X) (f : ℕ → X) (before : List X) (now : List Y) (i : ℕ) (y : Y)
+    → i < length before → g y ≡ f i
     → AreMade d f before (map g now) i → AreMade d f before (map g (set now i y)) (i + 1)
 made_more_of {X} g d f before now i y inside is was =
-    subst (λ (row : List X). AreMade d f before row (i + 1)) (sym (map-set g now i y)) (made_more d f before (map g now) i (g y) inside is was)
+    subst (λ (row : List X). AreMade d f before row (i + 1)) (sym (map-set g now i y))
+    (made_more d f before (map g now) i (g y) inside is was)
 
 -- of the next element that part is still the old one
-pub not_yet_made_of : {X Y : Type 0} (g : Y → X) (d : X) (f : ℕ → X) (before : List X) (now : List Y) (i : ℕ) (y : Y) → i < length now → y ≡ get_or now i y
+pub not_yet_made_of : {X Y : Type 0} (g : Y → X) (d : X) (f : ℕ → X) (before : List X) (now : List Y) (i : ℕ) (y : Y)
+    → i < length now → y ≡ get_or now i y
     → AreMade d f before (map g now) i → g y ≡ get_or before i d
-not_yet_made_of g d f before now i y inside read was = ap g read ∙ sym (get_or-map g now i y d inside) ∙ was.rest i (omega arith)
+not_yet_made_of g d f before now i y inside read was =
+    ap g read ∙ sym (get_or-map g now i y d inside) ∙ was.rest i (omega arith)

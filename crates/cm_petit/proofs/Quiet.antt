@@ -1,5 +1,6 @@
 -- A petit cycle of a router without messages.
-use Rattle.std.proofs.Common.{◌≡◌, ℕ, zero, suc, ◌+◌, ◌<◌, ◌≤◌, ◌^◌, ◌++◌, List, [], length, map, Option, Some, None, refl, sym, ap, ◌∙◌, arith}
+use Rattle.std.proofs.Common.{◌≡◌, ℕ, zero, suc, ◌+◌, ◌<◌, ◌≤◌, ◌^◌, ◌++◌, List, [], length, map, Option, Some, None}
+use Rattle.std.proofs.Common.{refl, sym, ap, ◌∙◌, arith}
 use Rattle.std.specs.Prelude.{bit_xor}
 use Rattle.std.specs.Option.{option_map}
 use Rattle.std.proofs.lemmas.List.{append-nil}
@@ -11,7 +12,8 @@ use Rattle.cm_model.specs.Array.{chip_at, list_at}
 use Rattle.cm_model.specs.Router.{message_across}
 use Rattle.cm_model.specs.Letters.{can_receive, chip_after_delivery}
 use Rattle.cm_model.specs.Machine.{Machine}
-use Rattle.cm_model.specs.Buffers.{leaving_place, element_at, without, outgoing, buffer_after_dimension, machine_after_dimension, delivered_in, kept, machine_after_delivery}
+use Rattle.cm_model.specs.Buffers.{leaving_place, element_at, without, outgoing, buffer_after_dimension}
+use Rattle.cm_model.specs.Buffers.{machine_after_dimension, delivered_in, kept, machine_after_delivery}
 use Rattle.cm_model.proofs.Each.{is_each}
 use Rattle.cm_model.proofs.Flips.{across_below}
 use Rattle.cm_model.proofs.Leaving.{remove_past}
@@ -38,16 +40,19 @@ stays_empty : (cap d : ℕ) → buffer_after_dimension cap d [] (outgoing cap d 
 unfolding buffer_after_dimension
 stays_empty cap d = rw (nothing_without (leaving_place cap d []), nobody_at (leaving_place cap d []) d) refl
 
-crossing_nothing : (n cap d : ℕ) (machine : Machine) → d < n → IsQuiet n machine → machine_after_dimension n cap d machine ≡ machine
+crossing_nothing : (n cap d : ℕ) (machine : Machine) → d < n → IsQuiet n machine
+    → machine_after_dimension n cap d machine ≡ machine
 unfolding machine_after_dimension
 crossing_nothing n cap d machine below h =
     let same = is_each [] (2 ^ n)
-    (λ c. buffer_after_dimension cap d (list_at machine.buffers c) (outgoing cap d (list_at machine.buffers (bit_xor c (2 ^ d)))))
+    (λ c. buffer_after_dimension cap d (list_at machine.buffers c)
+    (outgoing cap d (list_at machine.buffers (bit_xor c (2 ^ d)))))
     machine.buffers h.buffer_count
     (λ c l. rw (h.empty c l, h.empty (bit_xor c (2 ^ d)) (across_below n d c below l)) (sym (stays_empty cap d))) in
     λ i. record { chips = machine.chips; buffers = sym same i; logs = machine.logs; clock = machine.clock }
 
-crossings_of_nothing : (n cap k : ℕ) (machine : Machine) → k ≤ n → IsQuiet n machine → after_crossings n cap machine k ≡ machine
+crossings_of_nothing : (n cap k : ℕ) (machine : Machine) → k ≤ n → IsQuiet n machine
+    → after_crossings n cap machine k ≡ machine
 crossings_of_nothing n cap zero machine few h = refl
 crossings_of_nothing n cap (suc k) machine few h =
     let next : k + 1 ≡ suc k = omega arith in
@@ -60,17 +65,23 @@ chip_undelivered : (chip : List Processor) → length chip ≡ 16 → chip ≡ c
 unfolding chip_after_delivery
 chip_undelivered chip long = is_each no_processor 16 (λ p. processor_at chip p) chip long (λ p l. refl)
 
-delivery_of_nothing : (n : ℕ) (machine : Machine) → IsQuiet n machine → machine_after_delivery n machine ≡ record machine { clock = machine.clock + 1 }
+delivery_of_nothing : (n : ℕ) (machine : Machine) → IsQuiet n machine
+    → machine_after_delivery n machine ≡ record machine { clock = machine.clock + 1 }
 unfolding machine_after_delivery
 delivery_of_nothing n machine h =
-    let chips = is_each [] (2 ^ n) (λ c. chip_after_delivery (delivered_in machine c) (chip_at machine.chips c)) machine.chips h.chip_count
+    let chips = is_each [] (2 ^ n)
+    (λ c. chip_after_delivery (delivered_in machine c) (chip_at machine.chips c)) machine.chips h.chip_count
     (λ c l. rw (h.empty c l) (chip_undelivered (chip_at machine.chips c) (h.sixteen c l))) in
-    let buffers = is_each [] (2 ^ n) (λ c. kept (can_receive (chip_at machine.chips c)) [] (list_at machine.buffers c)) machine.buffers h.buffer_count
+    let buffers = is_each [] (2 ^ n)
+    (λ c. kept (can_receive (chip_at machine.chips c)) [] (list_at machine.buffers c)) machine.buffers h.buffer_count
     (λ c l. rw (h.empty c l) refl) in
-    let logs = is_each [] (2 ^ n) (λ c. list_at machine.logs c ++ map (λ m. Delivered m c) (delivered_in machine c)) machine.logs h.log_count
+    let logs = is_each [] (2 ^ n)
+    (λ c. list_at machine.logs c ++ map (λ m. Delivered m c) (delivered_in machine c)) machine.logs h.log_count
     (λ c l. rw (h.empty c l) (sym (append-nil (list_at machine.logs c)))) in
     λ i. record { chips = sym chips i; buffers = sym buffers i; logs = sym logs i; clock = machine.clock + 1 }
 
 -- all that is left of the petit cycle changes nothing but the counter
-pub rest_is_quiet : (n cap : ℕ) (machine : Machine) → IsQuiet n machine → machine_after_delivery n (after_crossings n cap machine n) ≡ record machine { clock = machine.clock + 1 }
-rest_is_quiet n cap machine h = ap (machine_after_delivery n) (crossings_of_nothing n cap n machine (omega arith) h) ∙ delivery_of_nothing n machine h
+pub rest_is_quiet : (n cap : ℕ) (machine : Machine) → IsQuiet n machine
+    → machine_after_delivery n (after_crossings n cap machine n) ≡ record machine { clock = machine.clock + 1 }
+rest_is_quiet n cap machine h = ap (machine_after_delivery n) (crossings_of_nothing n cap n machine (omega arith) h)
+    ∙ delivery_of_nothing n machine h

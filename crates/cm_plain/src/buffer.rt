@@ -5,7 +5,8 @@ ghost use Rattle.std.specs.List.{position};
 ghost use Rattle.std.specs.Option.{option_to_list};
 ghost use Rattle.cm_model.specs.Router.{has_to_cross, message_across};
 ghost use Rattle.cm_model.specs.Letters.{can_receive, is_among};
-ghost use Rattle.cm_model.specs.Buffers.{referred_place, leaving_place, outgoing, buffer_after_dimension, without, arrived_for, is_accepted, delivered, kept};
+ghost use Rattle.cm_model.specs.Buffers.{referred_place, leaving_place, outgoing, buffer_after_dimension, without};
+ghost use Rattle.cm_model.specs.Buffers.{arrived_for, is_accepted, delivered, kept};
 ghost use Rattle.cm_model.specs.declared.message.Event.TheVariants.{Injected, Delivered};
 
 use crate::letters::is_among;
@@ -113,7 +114,8 @@ impl PlainBuffer {
 
     /// Which messages are delivered to the processors of a chip, and which stay.
     pub(crate) fn sorted(&self, alloc: Global, chip: &PlainChip) -> Result<Sorted, NoMemory>
-        ensures delivered { IfOk result (λ sorted. sorted.delivered.items ≡ delivered (can_receive chip.now) [] self.now) }
+        ensures delivered { IfOk result (λ sorted. sorted.delivered.items
+            ≡ delivered (can_receive chip.now) [] self.now) }
         ensures kept { IfOk result (λ sorted. sorted.kept.items ≡ kept (can_receive chip.now) [] self.now) }
     {
         let mut delivered = Vec::new(alloc);

@@ -7,7 +7,9 @@ ghost use Rattle.cm_bits.specs.Bit.{bit};
 ghost use Rattle.cm_model.specs.Processor.{Processor, flag, value, field_value};
 ghost use Rattle.cm_model.specs.Chip.{processor_at};
 ghost use Rattle.cm_model.specs.Array.{chip_at};
-ghost use Rattle.cm_model.specs.Letters.{senders, message_sent, is_among, processor_after_injection, chip_after_injection, is_for, with_field, processor_after_delivery, chip_after_delivery};
+ghost use Rattle.cm_model.specs.Letters.{senders, message_sent, is_among, processor_after_injection};
+ghost use Rattle.cm_model.specs.Letters.{chip_after_injection, is_for, with_field, processor_after_delivery};
+ghost use Rattle.cm_model.specs.Letters.{chip_after_delivery};
 
 use crate::machine::{PROCESSORS, PlainChip, PlainMachine, PlainProcessor, put};
 use cm_bits::{FlagNo, NoMemory, Proc};

@@ -1,7 +1,8 @@
 //! The plain program beside the definitions: a whole machine kept bit by bit, one place after
 //! another, each from the old state. It is slow, and is there to be run beside a fast one.
 
-ghost use Rattle.std.specs.Prelude.{◌≡◌, ◌^◌, ◌<◌, ◌≤◌, ◌==◌, Bool, false, List, length, replicate, slice_index_or, slice_set, IfOk, OnOk, OnErr, if◌then◌else◌};
+ghost use Rattle.std.specs.Prelude.{◌≡◌, ◌^◌, ◌<◌, ◌≤◌, ◌==◌, Bool, false, List, length, replicate, slice_index_or};
+ghost use Rattle.std.specs.Prelude.{slice_set, IfOk, OnOk, OnErr, if◌then◌else◌};
 ghost use Rattle.cm_model.specs.Processor.{Processor, ZERO, memory_bit, flag, entry};
 ghost use Rattle.cm_model.specs.Instruction.{memory_output, flag_output, takes_incoming, processor_after};
 ghost use Rattle.cm_model.specs.Chip.{each_processor, processor_at, chip_after, with_memory_bit, with_flag};
@@ -133,7 +134,8 @@ impl<const N: usize> PlainMachine<N> {
     fn chip_after(&self, alloc: Global, nano: &Nano, chip: u16) -> Result<PlainChip, NoMemory>
         requires dimension { N ≤ 12 }
         requires chip { chip < 2 ^ N }
-        ensures value { IfOk result (λ after. after ≡ chip_after nano.now (incoming N nano.now self.now chip) (chip_at self.now chip)) }
+        ensures value { IfOk result (λ after. after
+            ≡ chip_after nano.now (incoming N nano.now self.now chip) (chip_at self.now chip)) }
     {
         let mut processors = Vec::new(alloc);
         for number in 0..PROCESSORS {
@@ -212,7 +214,8 @@ impl PlainChip {
 
 impl PlainProcessor {
     fn blank(alloc: Global, addresses: u16) -> Result<PlainProcessor, NoMemory>
-        ensures value { IfOk result (λ processor. processor ≡ record { memory = replicate addresses false; flags = replicate 16 false }) }
+        ensures value { IfOk result (λ processor. processor
+            ≡ record { memory = replicate addresses false; flags = replicate 16 false }) }
     {
         let memory = vec![in alloc; false; usize::from(addresses)]?;
         let flags = vec![in alloc; false; FLAGS]?;

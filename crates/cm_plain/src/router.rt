@@ -1,7 +1,8 @@
 //! The plain program beside the definitions of the router: a whole machine with its messages, in
 //! which every step makes all chips, buffers and logs anew from the old ones.
 
-ghost use Rattle.std.specs.Prelude.{◌≡◌, ℕ, ◌+◌, ◌^◌, ◌<◌, ◌≤◌, ◌==◌, false, List, [], ◌∷◌, ◌++◌, length, map, replicate, slice_set, bit_xor, IfOk, OnOk, OnErr, if◌then◌else◌};
+ghost use Rattle.std.specs.Prelude.{◌≡◌, ℕ, ◌+◌, ◌^◌, ◌<◌, ◌≤◌, ◌==◌, false, List, [], ◌∷◌, ◌++◌, length, map};
+ghost use Rattle.std.specs.Prelude.{replicate, slice_set, bit_xor, IfOk, OnOk, OnErr, if◌then◌else◌};
 ghost use Rattle.cm_model.specs.declared.message.Message.{Message};
 ghost use Rattle.cm_model.specs.declared.message.Event.{Event};
 ghost use Rattle.cm_model.specs.declared.message.Event.TheVariants.{Injected, Delivered};
@@ -11,7 +12,9 @@ ghost use Rattle.cm_model.specs.Chip.{each_processor, processor_at, with_memory_
 ghost use Rattle.cm_model.specs.Array.{each_chip, chip_at, after_nano, list_at};
 ghost use Rattle.cm_model.specs.Letters.{can_receive, chip_after_injection, chip_after_delivery};
 ghost use Rattle.cm_model.specs.Machine.{Machine, blank_machine, run_of};
-ghost use Rattle.cm_model.specs.Buffers.{taken_in, sent_in, machine_after_injection, outgoing, buffer_after_dimension, machine_after_dimension, delivered_in, kept, machine_after_delivery, after_act};
+ghost use Rattle.cm_model.specs.Buffers.{taken_in, sent_in, machine_after_injection, outgoing, buffer_after_dimension};
+ghost use Rattle.cm_model.specs.Buffers.{machine_after_dimension, delivered_in, kept, machine_after_delivery};
+ghost use Rattle.cm_model.specs.Buffers.{after_act};
 
 use crate::buffer::{PlainBuffer, PlainLog, Sorted};
 use crate::machine::{PlainChip, PlainMachine};
@@ -35,9 +38,15 @@ pub struct PlainRouter<const N: usize, const CAP: usize> {
 impl<const N: usize, const CAP: usize> Model for PlainRouter<N, CAP> {
     ghost Value = { Machine };
 
-    ghost view = { λ router. record { chips = router.chips; buffers = router.buffers.items; logs = router.logs.items; clock = router.clock } };
+    ghost view = { λ router. record {
+      chips = router.chips;
+      buffers = router.buffers.items;
+      logs = router.logs.items;
+      clock = router.clock;
+    } };
 
-    ghost invariant = { λ router. (N ≤ 12) × (length router.buffers.items ≡ 2 ^ N) × (length router.logs.items ≡ 2 ^ N) };
+    ghost invariant = { λ router.
+        (N ≤ 12) × (length router.buffers.items ≡ 2 ^ N) × (length router.logs.items ≡ 2 ^ N) };
 }
 
 impl<const N: usize, const CAP: usize> PlainRouter<N, CAP> {
@@ -47,7 +56,8 @@ impl<const N: usize, const CAP: usize> PlainRouter<N, CAP> {
     pub fn blank(alloc: Global, addresses: u16) -> Result<PlainRouter<N, CAP>, NoMemory>
         requires dimension { N ≤ 12 }
         ensures value { IfOk result (λ router. router ≡ record {
-          chips = each_chip N (λ c. each_processor (λ p. record { memory = replicate addresses false; flags = replicate 16 false }));
+          chips = each_chip N
+              (λ c. each_processor (λ p. record { memory = replicate addresses false; flags = replicate 16 false }));
           buffers = each_chip N (λ c. []);
           logs = each_chip N (λ c. []);
           clock = 0;

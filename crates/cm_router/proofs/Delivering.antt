@@ -1,5 +1,7 @@
 -- A delivery, one message after another: that each message more brings the chip one on, and a node's list with it.
-use Rattle.std.proofs.Common.{◌≡◌, ◌≢◌, ℕ, ◌+◌, ◌<◌, ◌==◌, ◌&&◌, Bool, true, false, not, List, [], ◌∷◌, ◌++◌, length, map, get_or, remove, Option, Some, None, refl, sym, ap, ◌∙◌, ⊎_elim, arith, append_assoc, get_or-set_same, get_or-set_other}
+use Rattle.std.proofs.Common.{◌≡◌, ◌≢◌, ℕ, ◌+◌, ◌<◌, ◌==◌, ◌&&◌, Bool, true, false, not, List, [], ◌∷◌, ◌++◌, length}
+use Rattle.std.proofs.Common.{map, get_or, remove, Option, Some, None, refl, sym, ap, ◌∙◌, ⊎_elim, arith, append_assoc}
+use Rattle.std.proofs.Common.{get_or-set_same, get_or-set_other}
 use Rattle.std.proofs.lemmas.Bool.{cases_Bool, eqb-true, eqb-false}
 use Rattle.std.proofs.lemmas.List.{map-append, append-nil, length-append}
 use Rattle.std.specs.List.{find}
@@ -9,11 +11,13 @@ use Rattle.cm_model.specs.declared.message.Event.TheVariants.{Delivered}
 use Rattle.cm_model.specs.Processor.{Processor, RECV, flag}
 use Rattle.cm_model.specs.Chip.{processor_at, no_processor}
 use Rattle.cm_model.specs.Whole.{IsChip}
-use Rattle.cm_model.specs.Letters.{can_receive, has_arrived, is_for, is_among, processor_after_delivery, chip_after_delivery}
+use Rattle.cm_model.specs.Letters.{can_receive, has_arrived, is_for, is_among, processor_after_delivery}
+use Rattle.cm_model.specs.Letters.{chip_after_delivery}
 use Rattle.cm_model.specs.Buffers.{is_accepted, delivered, kept}
 use Rattle.cm_model.proofs.Each.{is_each}
 use Rattle.cm_router.specs.Delivery.{arrived_in, HasGone, HasHandedOver}
-use Rattle.cm_router.proofs.Scanning.{delivered-more, kept-more, arrived_in-more, none_delivered, after_one, processor_at-delivered, length-delivered, delivered_one_more}
+use Rattle.cm_router.proofs.Scanning.{delivered-more, kept-more, arrived_in-more, none_delivered, after_one}
+use Rattle.cm_router.proofs.Scanning.{processor_at-delivered, length-delivered, delivered_one_more}
 
 -- of a buffer, what a whole chip delivers and what stays
 abbrev pub out_of : List Processor → List Message → List Message
@@ -158,7 +162,7 @@ keeps before seen chip m gone refused =
 
 -- ---- the beginning
 
-nobody_yet : (chip : List Processor) → IsChip chip → chip ≡ chip_after_delivery [] chip
+pub nobody_yet : (chip : List Processor) → IsChip chip → chip ≡ chip_after_delivery [] chip
 unfolding chip_after_delivery
 nobody_yet chip whole = is_each no_processor 16 (λ p. processor_at chip p) chip whole.count (λ p h. refl)
 

@@ -1,3 +1,4 @@
 pub mod Scanning
 pub mod Delivering
 pub mod Taking
+mod Replaced

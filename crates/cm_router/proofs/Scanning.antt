@@ -1,5 +1,7 @@
 -- Delivery on one chip, message by message: what a scan from the front has delivered and kept so far.
-use Rattle.std.proofs.Common.{◌≡◌, ◌≢◌, ℕ, ◌<◌, ◌==◌, ◌&&◌, ◌||◌, Bool, true, false, not, List, [], ◌∷◌, ◌++◌, length, set, Option, Some, None, refl, sym, ap, ◌∙◌, ⊎_elim, arith, eq-eqb, get_or-set_same, get_or-set_other, length-set}
+use Rattle.std.proofs.Common.{◌≡◌, ◌≢◌, ℕ, ◌<◌, ◌==◌, ◌&&◌, ◌||◌, Bool, true, false, not, List, [], ◌∷◌, ◌++◌, length}
+use Rattle.std.proofs.Common.{set, Option, Some, None, refl, sym, ap, ◌∙◌, ⊎_elim, arith, eq-eqb, get_or-set_same}
+use Rattle.std.proofs.Common.{get_or-set_other, length-set}
 use Rattle.std.proofs.lemmas.Bool.{cases_Bool, eqb-true, eqb-false}
 use Rattle.std.proofs.lemmas.List.{set-set}
 use Rattle.std.proofs.lemmas.List.Folds.{find-append}
@@ -9,7 +11,8 @@ use Rattle.cm_model.specs.declared.letters.TheConstants.{RECEIVED_PAYLOAD}
 use Rattle.cm_model.specs.declared.message.Message.{Message}
 use Rattle.cm_model.specs.Processor.{Processor, RECV}
 use Rattle.cm_model.specs.Chip.{processor_at, no_processor, with_flag}
-use Rattle.cm_model.specs.Letters.{has_arrived, is_for, is_among, with_field, processor_after_delivery, chip_after_delivery}
+use Rattle.cm_model.specs.Letters.{has_arrived, is_for, is_among, with_field, processor_after_delivery}
+use Rattle.cm_model.specs.Letters.{chip_after_delivery}
 use Rattle.cm_element.specs.Wide.{with_memory_field}
 use Rattle.cm_model.specs.Buffers.{is_accepted, arrived_for, delivered, kept}
 use Rattle.cm_model.proofs.Each.{is_each, length-each_from, get_or-each_below}

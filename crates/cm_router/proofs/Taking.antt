@@ -1,7 +1,10 @@
 -- Injection on one chip, processor by processor: whose messages were taken so far, as a list and as a plane.
-use Rattle.std.proofs.Common.{◌≡◌, ◌≢◌, ℕ, zero, suc, ◌+◌, ◌-◌, ◌*◌, ◌%◌, ◌^◌, ◌<◌, ◌≤◌, ◌==◌, ◌&&◌, ◌||◌, min, nat_cmp, Bool, true, false, not, cond, List, [], ◌∷◌, ◌++◌, length, map, get_or, set, take, refl, sym, ap, ◌∙◌, ◌⊎◌, ⊎_elim, append_assoc, arith, add-one, bit_and, bit_or, if◌then◌else◌}
+use Rattle.std.proofs.Common.{◌≡◌, ◌≢◌, ℕ, zero, suc, ◌+◌, ◌-◌, ◌*◌, ◌%◌, ◌^◌, ◌<◌, ◌≤◌, ◌==◌, ◌&&◌, ◌||◌, min, nat_cmp}
+use Rattle.std.proofs.Common.{Bool, true, false, not, cond, List, [], ◌∷◌, ◌++◌, length, map, get_or, set, take, refl}
+use Rattle.std.proofs.Common.{sym, ap, ◌∙◌, ◌⊎◌, ⊎_elim, append_assoc, arith, add-one, bit_and, bit_or, if◌then◌else◌}
 use Rattle.std.proofs.lemmas.Bool.{cases_Bool, eqb-true, eqb-false}
-use Rattle.std.proofs.lemmas.List.{append-nil, map-append, take-append-le, take_all, length-append, length-take, set-get_or}
+use Rattle.std.proofs.lemmas.List.{append-nil, map-append, take-append-le, take_all, length-append, length-take}
+use Rattle.std.proofs.lemmas.List.{set-get_or}
 use Rattle.std.proofs.lemmas.List.Elements.{filter-append}
 use Rattle.std.proofs.lemmas.List.Folds.{list_any-append}
 use Rattle.std.proofs.lemmas.Nat.{one_shl}
@@ -15,7 +18,8 @@ use Rattle.cm_model.specs.declared.message.Event.{Event}
 use Rattle.cm_model.specs.declared.message.Event.TheVariants.{Injected}
 use Rattle.cm_model.specs.Processor.{Processor, SEND, ACK, flag}
 use Rattle.cm_model.specs.Chip.{IsPlane, processor_at, no_processor}
-use Rattle.cm_model.specs.Letters.{senders, senders_taken, message_sent, messages_sent, is_among, processor_after_injection, chip_after_injection}
+use Rattle.cm_model.specs.Letters.{senders, senders_taken, message_sent, messages_sent, is_among}
+use Rattle.cm_model.specs.Letters.{processor_after_injection, chip_after_injection}
 use Rattle.cm_model.proofs.Bits.{bit-bit_and, bit-bit_or, bit-bit_not, bit-zero}
 use Rattle.cm_model.proofs.Each.{same_each_below, get_or-each_below, is_each}
 use Rattle.cm_element.specs.Wide.{with_flag_plane}

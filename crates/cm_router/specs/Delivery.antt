@@ -11,7 +11,8 @@ abbrev pub arrived_in : List ℕ → List Message → List ℕ
 arrived_in before [] = before
 arrived_in before (m ∷ ms) = arrived_in (arrived_for before m) ms
 
--- a chip for which these messages of a buffer have been gone through, one after another: what could be delivered to it was
+-- a chip for which these messages of a buffer have been gone through, one after another:
+-- what could be delivered to it was
 pub record HasGone (before : List Processor) (seen : List Message) (chip : List Processor) : Type 0 where
   pub whole : IsChip before
   pub chip_is : chip ≡ chip_after_delivery (delivered (can_receive before) [] seen) before

@@ -1,6 +1,7 @@
 //! Delivery of one message, wherever it stands.
 
-ghost use Rattle.std.specs.Prelude.{◌≡◌, ◌<◌, ◌≤◌, ◌+◌, List, [], ◌∷◌, ◌++◌, IsFalse, vec_len, vec_capacity, if◌then◌else◌};
+ghost use Rattle.std.specs.Prelude.{◌≡◌, ◌<◌, ◌≤◌, ◌+◌, List, [], ◌∷◌, ◌++◌, IsFalse, vec_len, vec_capacity};
+ghost use Rattle.std.specs.Prelude.{if◌then◌else◌};
 ghost use Rattle.cm_model.specs.declared.message.Message.{Message};
 ghost use Rattle.cm_model.specs.Processor.{Processor};
 ghost use Rattle.cm_router.specs.Delivery.{HasGone, HasHandedOver};

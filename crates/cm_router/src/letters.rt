@@ -1,11 +1,13 @@
 //! What the router takes from a chip's processors, and what it leaves there.
 
-ghost use Rattle.std.specs.Prelude.{◌≡◌, ℕ, ◌+◌, ◌^◌, ◌<◌, ◌≤◌, Some, List, [], ◌∷◌, ◌++◌, length, not, IsFalse, slice_set, vec_len, vec_capacity};
+ghost use Rattle.std.specs.Prelude.{◌≡◌, ℕ, ◌+◌, ◌^◌, ◌<◌, ◌≤◌, Some, List, [], ◌∷◌, ◌++◌, length, not, IsFalse};
+ghost use Rattle.std.specs.Prelude.{slice_set, vec_len, vec_capacity};
 ghost use Rattle.cm_bits.specs.Bit.{bit};
 ghost use Rattle.cm_model.specs.Processor.{SEND, RECV, flag, field_value};
 ghost use Rattle.cm_model.specs.Chip.{IsPlane, processor_at};
 ghost use Rattle.cm_model.specs.Whole.{IsChip};
-ghost use Rattle.cm_model.specs.Letters.{senders_taken, is_among, message_sent, chip_after_injection, processor_after_delivery};
+ghost use Rattle.cm_model.specs.Letters.{senders_taken, is_among, message_sent, chip_after_injection};
+ghost use Rattle.cm_model.specs.Letters.{processor_after_delivery};
 
 use cm_bits::{Field, FlagNo, Plane, Proc};
 use cm_element::Chip;
@@ -126,7 +128,7 @@ fn field_value(chip: &Chip, proc: Proc, at: u16, len: u16) -> u64
     chip.field(proc, Field::new(at, len).unwrap())
 }
 
-fn payload_field() -> Field
+pub(crate) fn payload_field() -> Field
     ensures at { result.at ≡ RECEIVED_PAYLOAD }
     ensures len { result.len ≡ 32 }
 {

@@ -4,6 +4,7 @@
 mod delivery;
 mod letters;
 mod node;
+pub mod run;
 
 pub use cm_message::{Event, Message, Tag};
 pub use delivery::{begin, hand_over};

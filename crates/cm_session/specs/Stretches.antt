@@ -1,5 +1,5 @@
 -- Stretches: acts that a session hands to its runner at once, and the law that it answers the same. Ours.
-use Rattle.std.specs.Prelude.{◌≡◌, ℕ, ◌+◌, ◌^◌, ◌<◌, ◌&&◌, Bool, true, false, if◌then◌else◌, List, [], ◌∷◌, ◌++◌, length, slice_index_or}
+use Rattle.std.specs.Prelude.{◌≡◌, ℕ, ◌+◌, ◌^◌, ◌<◌, ◌&&◌, Bool, true, false, if◌then◌else◌, List, ◌∷◌, ◌++◌, length, slice_index_or}
 use Rattle.cm_model.specs.declared.act.Act.{Act}
 use Rattle.cm_model.specs.declared.act.Act.TheVariants.{Nano, Sense, Cycle}
 use Rattle.cm_model.specs.Machine.{run_of}

@@ -7,15 +7,20 @@ use Rattle.cm_model.proofs.Bits.{differ-false, differ_chosen, differ_crossed}
 use Rattle.cm_truth.specs.Choice.{chosen_of_four}
 
 -- the choice of four by two choices of differences
-pub four_chosen : (b f w x y z : Bool) → differ (differ w (f && differ w x)) (b && differ (differ w y) (f && differ (differ w x) (differ y z))) ≡ chosen_of_four b f w x y z
+pub four_chosen : (b f w x y z : Bool) → differ (differ w (f && differ w x))
+    (b && differ (differ w y) (f && differ (differ w x) (differ y z))) ≡ chosen_of_four b f w x y z
 four_chosen false f w x y z = differ-false (differ w (f && differ w x)) ∙ differ_chosen f w x
-four_chosen true false w x y z = ap (λ (v : Bool). differ v (differ (differ w y) false)) (differ-false w) ∙ ap (differ w) (differ-false (differ w y)) ∙ differ_chosen true w y
-four_chosen true true w x y z = ap (λ (v : Bool). differ v (differ (differ w y) (differ (differ w x) (differ y z)))) (differ_chosen true w x) ∙ ap (differ x) (differ_crossed true w x y z) ∙ differ_chosen true x z
+four_chosen true false w x y z = ap (λ (v : Bool). differ v (differ (differ w y) false)) (differ-false w)
+    ∙ ap (differ w) (differ-false (differ w y)) ∙ differ_chosen true w y
+four_chosen true true w x y z =
+    ap (λ (v : Bool). differ v (differ (differ w y) (differ (differ w x) (differ y z)))) (differ_chosen true w x)
+    ∙ ap (differ x) (differ_crossed true w x y z) ∙ differ_chosen true x z
 
 -- the choice between four and their differences from four others is a choice of eight
 pub eight_chosen : (table : ℕ) (a b f : Bool)
     → differ (chosen_of_four b f (bit table 0) (bit table 1) (bit table 2) (bit table 3))
-    (a && chosen_of_four b f (differ (bit table 0) (bit table 4)) (differ (bit table 1) (bit table 5)) (differ (bit table 2) (bit table 6)) (differ (bit table 3) (bit table 7)))
+    (a && chosen_of_four b f (differ (bit table 0) (bit table 4)) (differ (bit table 1) (bit table 5))
+    (differ (bit table 2) (bit table 6)) (differ (bit table 3) (bit table 7)))
     ≡ entry table a b f
 eight_chosen table false false false = differ_chosen false (bit table 0) (bit table 4)
 eight_chosen table false false true = differ_chosen false (bit table 1) (bit table 5)

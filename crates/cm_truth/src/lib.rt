@@ -84,7 +84,9 @@ fn changed(choice: Plane, word: Plane, difference: Plane) -> Plane
 
 /// At each bit that one of the four planes which `b` and `f` choose.
 fn chosen(four: Four, b: Plane, f: Plane) -> Plane
-    ensures value { (p : ℕ) → bit result p ≡ chosen_of_four (bit b p) (bit f p) (bit four.neither p) (bit four.by_f p) (bit four.by_b p) (bit four.by_both p) }
+    ensures value { (p : ℕ) → bit result p
+        ≡ chosen_of_four (bit b p) (bit f p)
+        (bit four.neither p) (bit four.by_f p) (bit four.by_b p) (bit four.by_both p) }
 {
     let by_f = four.neither ^ four.by_f;
     let without = changed(f, four.neither, by_f);

@@ -9,7 +9,7 @@ use cm_element::Chip;
 pub fn chip_or(chip: &Chip) -> bool
     ensures value { result ≡ chip_or chip.now }
 {
-    chip.flag_plane(FlagNo::GLOBAL) != 0
+    chip.has_flag(FlagNo::GLOBAL)
 }
 
 /// The global wire: whether flag GLOBAL is 1 in some processor of some chip.

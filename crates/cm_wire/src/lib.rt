@@ -2,5 +2,6 @@
 #![tactic(auto)]
 
 mod global;
+pub mod run;
 
 pub use global::{chip_or, wire};

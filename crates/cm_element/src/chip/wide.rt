@@ -121,7 +121,7 @@ fn put_each(planes: &mut [Plane], proc: Proc, number: u64)
     }
 }
 
-fn bit_of(number: u64, i: usize) -> bool
+pub(crate) fn bit_of(number: u64, i: usize) -> bool
     requires { i < 64 }
     ensures value { result ≡ bit number i }
 {

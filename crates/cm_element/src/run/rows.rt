@@ -7,10 +7,10 @@ ghost use Rattle.cm_model.specs.Instruction.{takes_incoming};
 ghost use Rattle.cm_model.specs.Chip.{chip_after};
 ghost use Rattle.cm_model.specs.Array.{chip_at};
 ghost use Rattle.cm_element.specs.Runs.{AreRows, chips_of};
-ghost use Rattle.cm_element.specs.Steps.{ArePlaces, AreMerged, AreSent};
+ghost use Rattle.cm_element.specs.Steps.{ArePlaces, AreMerged, AreLookedUp};
 
 use crate::chip::{chosen, holding};
-use cm_bits::Plane;
+use cm_bits::{FlagNo, Plane};
 use cm_model::Nano;
 use cm_rows::{Places, compute, compute_memory};
 use cm_truth::apply;
@@ -18,8 +18,6 @@ use cm_truth::apply;
 const ADDRESSES: usize = 4096;
 
 const FLAGS: usize = 16;
-
-const ZERO_FLAG: u8 = 8;
 
 /// Where a row begins.
 pub(crate) fn row(number: usize, rows: usize, stride: usize) -> usize
@@ -30,6 +28,18 @@ pub(crate) fn row(number: usize, rows: usize, stride: usize) -> usize
     ensures within { result + stride ≤ rows * stride }
 {
     number * stride
+}
+
+/// Where the word of a chip lies in a row.
+pub(crate) fn word_at(number: usize, rows: usize, stride: usize, chip: u16) -> usize
+    requires number { number < rows }
+    requires rows { rows ≤ 4096 }
+    requires stride { stride < 2 ^ 20 }
+    requires chip { chip < stride }
+    ensures value { result ≡ number * stride + chip }
+    ensures within { result < rows * stride }
+{
+    row(number, rows, stride) + usize::from(chip)
 }
 
 /// One instruction in all chips of the rows, when nothing comes in over NEWS or DAISY.
@@ -48,7 +58,7 @@ pub(crate) fn step_rows(
 {
     let at = places(nano, stride);
     let always = is_always(nano);
-    if nano.write.get() == ZERO_FLAG {
+    if nano.write == FlagNo::ZERO {
         compute_memory(nano.mem_table, always, nano.sense, memory, flags, at, chips);
     } else {
         compute(
@@ -63,23 +73,23 @@ pub(crate) fn step_rows(
     }
 }
 
-/// Writes down what every chip computes for the flag of an instruction, whatever its condition.
-pub(crate) fn send_row(
+/// Writes down what a table gives the processors of every chip, whatever their condition.
+pub(crate) fn look_up_row(
+    table: u8,
     memory: &[Plane],
     flags: &[Plane],
     nano: &Nano,
     stride: usize,
     chips: usize,
-    sent: &mut [Plane],
+    found: &mut [Plane],
 )
     requires rows { AreRows memory.now flags.now stride chips }
-    requires sent { length sent.old ≡ chips }
-    ensures value { AreSent nano.now (chips_of memory.now flags.now stride chips) sent.new }
+    requires found { length found.old ≡ chips }
+    ensures value { AreLookedUp table nano.now (chips_of memory.now flags.now stride chips) found.new }
 {
     let at = places(nano, stride);
-    let table = nano.flag_table;
     for c in 0..chips {
-        sent[c] = apply(
+        found[c] = apply(
             table,
             memory[at.a + c],
             memory[at.b + c],
@@ -133,7 +143,7 @@ fn merge(flags: &[Plane], sense: bool, at: Places, incoming: &mut [Plane])
 }
 
 /// Puts planes into a list from a place on.
-fn put_row(rows: &mut [Plane], at: usize, planes: &[Plane])
+pub(crate) fn put_row(rows: &mut [Plane], at: usize, planes: &[Plane])
     requires within { at + length planes.now ≤ length rows.old }
     ensures value { (c : ℕ) → c < length planes.now → slice_index rows.new (at + c) ≡ slice_index planes.now c }
     ensures below { (i : ℕ) → i < at → slice_index rows.new i ≡ slice_index rows.old i }
@@ -148,11 +158,11 @@ fn put_row(rows: &mut [Plane], at: usize, planes: &[Plane])
 fn is_always(nano: &Nano) -> bool
     ensures value { result ≡ true → (nano.now.cond ≡ 8) × (nano.now.sense ≡ false) }
 {
-    nano.cond.get() == ZERO_FLAG && !nano.sense
+    nano.cond == FlagNo::ZERO && !nano.sense
 }
 
 /// Where the rows of an instruction begin.
-fn places(nano: &Nano, stride: usize) -> Places
+pub(crate) fn places(nano: &Nano, stride: usize) -> Places
     requires stride { stride < 2 ^ 20 }
     ensures value { ArePlaces nano.now stride result }
     ensures a { result.a + stride ≤ 4096 * stride }

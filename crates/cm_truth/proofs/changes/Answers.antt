@@ -4,8 +4,12 @@ use Rattle.cm_truth.proofs.changes.Goals as goal
 
 pub returns : goal.returns
 returns c = record {
-  neither = λ p h. rw bit-bit_xor (λ j. differ (c.entry_everywhere.ensures.value p h j) (c.entry_everywhere-2.ensures.value p h j));
-  by_f = λ p h. rw bit-bit_xor (λ j. differ (c.entry_everywhere-3.ensures.value p h j) (c.entry_everywhere-4.ensures.value p h j));
-  by_b = λ p h. rw bit-bit_xor (λ j. differ (c.entry_everywhere-5.ensures.value p h j) (c.entry_everywhere-6.ensures.value p h j));
-  by_both = λ p h. rw bit-bit_xor (λ j. differ (c.entry_everywhere-7.ensures.value p h j) (c.entry_everywhere-8.ensures.value p h j));
+  neither = λ p h. rw bit-bit_xor
+      (λ j. differ (c.entry_everywhere.ensures.value p h j) (c.entry_everywhere-2.ensures.value p h j));
+  by_f = λ p h. rw bit-bit_xor
+      (λ j. differ (c.entry_everywhere-3.ensures.value p h j) (c.entry_everywhere-4.ensures.value p h j));
+  by_b = λ p h. rw bit-bit_xor
+      (λ j. differ (c.entry_everywhere-5.ensures.value p h j) (c.entry_everywhere-6.ensures.value p h j));
+  by_both = λ p h. rw bit-bit_xor
+      (λ j. differ (c.entry_everywhere-7.ensures.value p h j) (c.entry_everywhere-8.ensures.value p h j));
 }

@@ -6,5 +6,6 @@ use Rattle.cm_truth.proofs.chosen.Goals as goal
 pub returns : goal.returns
 returns c = record {
   value = λ p. rw (c.changed.ensures.value p, c.changed-without.ensures.value p, c.changed-difference.ensures.value p)
-      (simp bit-bit_xor (four_chosen (bit c.args.b p) (bit c.args.f p) (bit c.args.four.neither p) (bit c.args.four.by_f p) (bit c.args.four.by_b p) (bit c.args.four.by_both p)));
+      (simp bit-bit_xor (four_chosen (bit c.args.b p) (bit c.args.f p) (bit c.args.four.neither p)
+      (bit c.args.four.by_f p) (bit c.args.four.by_b p) (bit c.args.four.by_both p)));
 }

@@ -3,7 +3,7 @@ use Rattle.cm_bits.specs.Text.{lines_left, lines_of, words_of}
 use Rattle.cm_language.specs.declared.fault.AsmKind.{AsmKind}
 use Rattle.cm_language.specs.declared.fault.AsmFault.{AsmFault}
 use Rattle.cm_language.specs.Program.{Reading, ProgramText, nothing_read, after_words, after_lines, unless_faulty, program_read, program_of, IsGrownFor}
-use Rattle.cm_asm.proofs.Reading.{few_lines, next_line, one_more, is_grown_for, of_kind}
+use Rattle.cm_asm.proofs.Reading.{few_lines, next_line, one_more, is_there, is_grown_for, of_kind}
 use Rattle.cm_asm.proofs.assembler.assemble.Goals as goal
 
 pub loop-bytes-init : goal.loop-bytes-init
@@ -38,11 +38,12 @@ unfolding program_of
 returns-in-Err c =
     let steps = c.in-Some.ensures.steps in
     let here = next_line (lines_of c.args.text.now) c.loop-bytes.line c.in-Some.bytes.now (lines_left c.next.new.self) (sym steps ∙ c.loop-bytes.invariant.left) in
+    let there = is_there (lines_of c.args.text.now) c.loop-bytes.line c.in-Some.bytes.now (lines_left c.next.new.self) (sym steps ∙ c.loop-bytes.invariant.left) in
     let line : AsmFault = record { line = c.loop-bytes.line + 1; kind = c.in-Err.kind } in
     record {
-      value = of_kind c.in-Err.kind (IsGrownFor c.args.text.now (c.loop-bytes.line + 1)) (after_words c.loop-bytes.reader (words_of c.in-Some.bytes.now) ≡ Err c.in-Err.kind) (program_of c.args.text.now ≡ Err line)
+      value = of_kind c.in-Err.kind _ (IsGrownFor c.args.text.now (c.loop-bytes.line + 1)) (after_words c.loop-bytes.reader (words_of c.in-Some.bytes.now) ≡ Err c.in-Err.kind) (program_of c.args.text.now ≡ Err line)
           c.in-Err.ensures.fault
-          (is_grown_for c.args.text.now c.loop-bytes.line c.loop-bytes.reader c.loop-bytes.invariant.before here.within)
+          (is_grown_for c.args.text.now c.loop-bytes.line c.loop-bytes.reader c.in-Some.bytes.now c.loop-bytes.invariant.before here.within there)
           (λ e. ap program_read (sym (rw steps at c.loop-bytes.invariant.read)
           ∙ ap (λ (q : Result Reading AsmKind). unless_faulty (c.loop-bytes.line + 1) q (λ r. after_lines r (c.loop-bytes.line + 1 + 1) (lines_left c.next.new.self))) e));
     }

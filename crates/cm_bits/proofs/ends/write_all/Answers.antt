@@ -10,7 +10,8 @@ Appends_next_part : (a b c : Option (List ℕ)) (text : List ℕ) (done count : 
     → Appends b c (take count (take (length text - done) (drop done text))) → Appends a c (take (done + count) text)
 Appends_next_part a b c text done count first next =
     let rest : take (length text - done) (drop done text) ≡ drop done text = grind (arith, common_steps) in
-    subst (Appends a c) (sym (take-add done count text)) (Appends-trans a b c _ _ first (subst (λ (part : List ℕ). Appends b c (take count part)) rest next))
+    subst (Appends a c) (sym (take-add done count text))
+    (Appends-trans a b c _ _ first (subst (λ (part : List ℕ). Appends b c (take count part)) rest next))
 
 pub loop-done-preserved : goal.loop-done-preserved
 loop-done-preserved g c =

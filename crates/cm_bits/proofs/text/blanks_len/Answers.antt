@@ -9,4 +9,5 @@ returns-then-not-is_blank-clause-place c =
 
 pub returns-clause-place : goal.returns-clause-place
 returns-clause-place c =
-    sym (prefix_len_is is_blank c.args.bytes.now _ 0 (omega arith) (λ k l. c.loop-i.invariant k (omega arith)) (λ l. absurd (omega arith)))
+    sym (prefix_len_is is_blank c.args.bytes.now _ 0 (omega arith) (λ k l. c.loop-i.invariant k (omega arith))
+    (λ l. absurd (omega arith)))

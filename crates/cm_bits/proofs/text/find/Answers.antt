@@ -1,13 +1,8 @@
-use Rattle.std.proofs.Common.{ℕ, ◌==◌, arith, sym}
-use Rattle.std.proofs.lemmas.Grind.{common_steps}
-use Rattle.std.proofs.lemmas.List.Sums.{position_or_len_is}
+use Rattle.cm_bits.proofs.TextLemmas.{first_place, no_place}
 use Rattle.cm_bits.proofs.text.find.Goals as goal
 
-pub returns-then-other-byte-clause-place : goal.returns-then-other-byte-clause-place
-returns-then-other-byte-clause-place c =
-    sym (position_or_len_is (λ (other : ℕ). other == c.args.byte) c.args.bytes.now c.loop-i.i 0 (omega arith) c.loop-i.invariant (λ _. grind (arith, common_steps)))
+pub returns-in-Some-clause-place : goal.returns-in-Some-clause-place
+returns-in-Some-clause-place c = first_place c.args.byte c.in-Some.place c.args.bytes.now c.in-Some.ensures.0 c.in-Some.ensures.1
 
-pub returns-clause-place : goal.returns-clause-place
-returns-clause-place c =
-    sym (position_or_len_is (λ (other : ℕ). other == c.args.byte) c.args.bytes.now _ 0 (omega arith)
-    (λ k l. c.loop-i.invariant k (omega arith)) (λ l. absurd (omega arith)))
+pub returns-in-None-clause-place : goal.returns-in-None-clause-place
+returns-in-None-clause-place c = no_place c.args.byte c.args.bytes.now c.in-None.ensures

@@ -8,6 +8,7 @@ abbrev pub invariant-loop-digit : goal.invariant-loop-digit
 invariant-loop-digit l =
     record {
       value : digits_value_after l.base l.value (drop l.digit-index l.digits) ≡ digits_value l.base l.digits;
-      are_digits : list_all (λ d. is_digit d l.base) (drop l.digit-index l.digits) ≡ list_all (λ d. is_digit d l.base) l.digits;
+      are_digits : list_all (λ d. is_digit d l.base) (drop l.digit-index l.digits)
+          ≡ list_all (λ d. is_digit d l.base) l.digits;
       fits : l.value < 2 ^ 64;
     }

@@ -52,9 +52,9 @@ pub returns-in-Err : goal.returns-in-Err
 returns-in-Err c =
     let steps = c.in-Some.ensures.steps in
     record {
-      value = refused_at c.args.text.now (c.loop-bytes.line + 1) c.in-Err.fault c.from.result c.from.ensures
+      value = refused_at c.args.text.now (c.loop-bytes.line + 1) c.in-Err.kind c.in-Err.ensures.own
           (sym (rw steps at c.loop-bytes.invariant.read)
-          ∙ read_fault c.loop-bytes.nanos.items (c.loop-bytes.line + 1) c.in-Some.bytes.now (lines_left c.next.new.self) c.in-Err.fault
+          ∙ read_fault c.loop-bytes.nanos.items (c.loop-bytes.line + 1) c.in-Some.bytes.now (lines_left c.next.new.self) c.in-Err.kind
           (sym c.read_line.ensures.value ∙ c.in-Err.is));
     }
 

@@ -1,9 +1,8 @@
 use Rattle.std.proofs.Common.{arith}
 use Rattle.std.proofs.lemmas.List.{length-append, length-take, length-take-le, append_assoc}
 use Rattle.std.proofs.Common.{ap, sym, ◌∙◌}
-use Rattle.std.specs.Prelude.{◌≡◌, ◌≤◌, ◌++◌, ℕ, List, Option, Some, None, length, take}
+use Rattle.std.specs.Prelude.{◌++◌, ℕ, List, Option, Some, None, take}
 use Rattle.std.specs.Io.KnownBytes.{Consumes}
-use Rattle.cm_cli.specs.Take.{ConsumesAtMost}
 use Rattle.cm_cli.proofs.takes.take.Goals as goal
 
 consumes-more : (a b c : Option (List ℕ)) (xs ys : List ℕ) → Consumes a b xs → Consumes b c ys → Consumes a c (xs ++ ys)

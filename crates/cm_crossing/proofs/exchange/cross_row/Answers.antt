@@ -1,10 +1,13 @@
-use Rattle.std.proofs.Common.{◌≡◌, ℕ, ◌+◌, ◌/◌, ◌%◌, ◌<◌, ◌^◌, true, false, length, set, get_or, ap, ◌∙◌, arith, length-set}
+use Rattle.std.proofs.Common.{◌≡◌, ℕ, ◌+◌, ◌/◌, ◌%◌, ◌<◌, ◌^◌, true, false, length, set, get_or, ap, ◌∙◌, arith}
+use Rattle.std.proofs.Common.{length-set}
 use Rattle.std.specs.Prelude.{bit_xor}
 use Rattle.cm_model.proofs.Flips.{across_below}
 use Rattle.cm_crossing.proofs.Blocks.{same_block, in_block, quiet_after}
 use Rattle.cm_crossing.proofs.Pairs.{crossed_past, crossed_one, crossed_skip, crossed_more, crossed_all}
 use Rattle.cm_crossing.proofs.exchange.cross_row.Goals as goal
-use Rattle.cm_crossing.proofs.exchange.cross_row.Goals.{then-c-other+then-not-are_empty, else-c-other, else-c-other-via-then-c-other+else-not-are_empty, else-c-other-via-else-c-other}
+use Rattle.cm_crossing.proofs.exchange.cross_row.Goals.{then-c-other+then-not-are_empty, else-c-other}
+use Rattle.cm_crossing.proofs.exchange.cross_row.Goals.{else-c-other-via-then-c-other+else-not-are_empty}
+use Rattle.cm_crossing.proofs.exchange.cross_row.Goals.{else-c-other-via-else-c-other}
 
 pub bounds-busy-other : goal.bounds-busy-other
 bounds-busy-other g c =

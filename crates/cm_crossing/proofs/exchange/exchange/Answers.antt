@@ -1,4 +1,5 @@
-use Rattle.std.proofs.Common.{◌≡◌, ◌≢◌, ◌≤◌, List, [], length, set, sym, ap, ◌∙◌, get_or-set_same, get_or-set_other, length-set, arith}
+use Rattle.std.proofs.Common.{◌≡◌, ◌≢◌, ◌≤◌, List, [], length, set, sym, ap, ◌∙◌, get_or-set_same, get_or-set_other}
+use Rattle.std.proofs.Common.{length-set, arith}
 use Rattle.std.specs.List.{All}
 use Rattle.std.proofs.lemmas.List.{get_or_read}
 use Rattle.std.proofs.lemmas.List.Elements.{All-set}

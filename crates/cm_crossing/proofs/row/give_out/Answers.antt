@@ -1,11 +1,13 @@
-use Rattle.std.proofs.Common.{◌≡◌, ◌+◌, ◌<◌, ◌≤◌, ◌++◌, [], ◌∷◌, Bool, List, length, if◌then◌else◌, get_or, ap, ◌∙◌, arith}
+use Rattle.std.proofs.Common.{◌≡◌, ◌+◌, ◌<◌, ◌≤◌, ◌++◌, [], ◌∷◌, Bool, List, length, if◌then◌else◌, get_or, ap, ◌∙◌}
+use Rattle.std.proofs.Common.{arith}
 use Rattle.std.proofs.lemmas.List.{append-nil, length-map}
 use Rattle.std.proofs.lemmas.List.Edits.{length-remove}
 use Rattle.cm_model.specs.declared.message.Message.{Message}
 use Rattle.cm_model.specs.declared.message.Event.TheVariants.{Delivered}
 use Rattle.cm_crossing.specs.declared.queue.Ticket.{Ticket}
 use Rattle.cm_crossing.specs.Standing.{message_of, standing}
-use Rattle.cm_crossing.proofs.Giving.{giving_begins, gives, passes, given_all, remove-standing, remove_kept, read_standing}
+use Rattle.cm_crossing.proofs.Giving.{giving_begins, gives, passes, given_all, remove-standing, remove_kept}
+use Rattle.cm_crossing.proofs.Giving.{read_standing}
 use Rattle.cm_crossing.proofs.row.give_out.Goals as goal
 
 pub loop-place-init : goal.loop-place-init

@@ -1,4 +1,5 @@
-use Rattle.std.proofs.Common.{◌≡◌, ◌+◌, ◌/◌, ◌<◌, ◌≤◌, Bool, List, [], length, set, sym, ap, ◌∙◌, subst, refl, arith, length-set}
+use Rattle.std.proofs.Common.{◌≡◌, ◌+◌, ◌/◌, ◌<◌, ◌≤◌, Bool, List, [], length, set, sym, ap, ◌∙◌, subst, refl, arith}
+use Rattle.std.proofs.Common.{length-set}
 use Rattle.std.proofs.lemmas.List.Elements.{All-from_get_or}
 use Rattle.cm_model.specs.declared.message.Message.{Message}
 use Rattle.cm_router.specs.Buffer.{Buffer}

@@ -1,29 +1,31 @@
-use Rattle.std.proofs.Common.{◌≡◌, ℕ, ◌+◌, Ok, sym, subst, arith, set}
+use Rattle.std.proofs.Common.{◌≡◌, ℕ, Ok, ap, ◌∙◌, arith}
 use Rattle.std.specs.Int.{w16}
 use Rattle.std.proofs.lemmas.Result.{err_from_is_err_and}
+use Rattle.cm_array.specs.Pokes.{machine_with_plane}
 use Rattle.cm_image_format.specs.Reading.{number_at}
 use Rattle.cm_image_format.specs.Image.{listed_part}
-use Rattle.cm_image.proofs.Taking.{IsListing, memory_on, memory_err, memory_all}
+use Rattle.cm_image.proofs.Taking.{memory_on, memory_err, memory_all}
 use Rattle.cm_image.proofs.chips.take_memory.Goals as goal
 
 pub returns-in_err-at-clause-refused : goal.returns-in_err-at-clause-refused
-returns-in_err-at-clause-refused c =
+returns-in_err-at-clause-refused g c =
     let p = err_from_is_err_and c.from_residual-in_err-at.result c.from_residual-in_err-at.ensures.1 in
     let counted : number_at w16 c.args.bytes.now ≡ Ok (c.in_ok-count.count, c.in_ok-count.rest.now) = cc (c.in_ok-count.ensures.value) in
     rw (p.1, p.2)
-    (memory_err c.in_ok-count.count c.loop-i.i c.loop-i.least c.loop-i.planes c.loop-i.rest.now c.args.planes.now c.in_ok-count.rest.now c.args.bytes.now _ (omega arith) (omega arith) counted
-    c.loop-i.invariant c.in_err-at.ensures.value)
+    (memory_err c.args.chip c.in_ok-count.count c.loop-i.i c.loop-i.least c.loop-i.builder c.args.builder.now c.loop-i.rest.now c.in_ok-count.rest.now c.args.bytes.now _ (omega arith) (omega arith)
+    counted c.loop-i.invariant c.in_err-at.ensures.value)
 
 pub loop-i-preserved : goal.loop-i-preserved
-loop-i-preserved c =
+loop-i-preserved g c =
     let told : listed_part c.loop-i.least c.loop-i.rest.now ≡ Ok (record { at = c.in_ok-at.at; plane = c.in_ok-at.plane }, c.in_ok-at.after.now) = cc (c.in_ok-at.ensures.value) in
-    let same : c.from.result ≡ c.in_ok-at.at = cc (c.from.ensures) in
-    subst (λ (k : ℕ). IsListing c.in_ok-count.count (c.loop-i.i + 1) (c.in_ok-at.at + 1) (set c.loop-i.planes k c.in_ok-at.plane) c.in_ok-at.after.now c.args.planes.now c.in_ok-count.rest.now) (sym same)
-    (memory_on c.in_ok-count.count c.loop-i.i c.loop-i.least c.loop-i.planes c.loop-i.rest.now c.in_ok-at.after.now c.args.planes.now c.in_ok-count.rest.now c.in_ok-at.at c.in_ok-at.plane (omega arith)
-    c.loop-i.invariant told)
+    let number_is : c.unwrap.result ≡ c.in_ok-at.at = rw c.unwrap.ensures at c.new.ensures.value in
+    let put : c.plane.new.self ≡ machine_with_plane c.loop-i.builder c.args.chip c.in_ok-at.at c.in_ok-at.plane =
+    c.plane.ensures.value ∙ ap (λ (k : ℕ). machine_with_plane c.loop-i.builder c.args.chip k c.in_ok-at.plane) number_is in
+    memory_on c.args.chip c.in_ok-count.count c.loop-i.i c.loop-i.least c.in_ok-at.at c.in_ok-at.plane c.loop-i.builder c.plane.new.self c.args.builder.now c.loop-i.rest.now c.in_ok-at.after.now
+    c.in_ok-count.rest.now (omega arith) c.loop-i.invariant told put
 
 pub returns-clause-ok : goal.returns-clause-ok
-returns-clause-ok c =
+returns-clause-ok g c =
     let counted : number_at w16 c.args.bytes.now ≡ Ok (c.in_ok-count.count, c.in_ok-count.rest.now) = cc (c.in_ok-count.ensures.value) in
-    memory_all c.in_ok-count.count c.loop-i.i c.loop-i.least c.loop-i.planes c.loop-i.rest.now c.args.planes.now c.in_ok-count.rest.now c.args.bytes.now (omega arith) (omega arith) counted
+    memory_all c.args.chip c.in_ok-count.count c.loop-i.i c.loop-i.least c.loop-i.builder c.args.builder.now c.loop-i.rest.now c.in_ok-count.rest.now c.args.bytes.now (omega arith) (omega arith) counted
     c.loop-i.invariant

@@ -3,4 +3,4 @@ use Rattle.cm_image.proofs.chips.take_memory.Given as goal
 
 -- the loop from here on gives what it gave at the start
 abbrev pub invariant-loop-i : goal.invariant-loop-i
-invariant-loop-i l = IsListing l.count l.i l.least l.planes l.rest l.initial.planes l.initial.rest
+invariant-loop-i g l = IsListing l.chip l.count l.i l.least l.builder l.rest l.initial.builder l.initial.rest

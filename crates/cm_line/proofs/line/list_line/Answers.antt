@@ -11,4 +11,5 @@ returns-in_ok-from_str-in-Some-clause-value c = (
 )
 
 pub returns-in-None-clause-none : goal.returns-in-None-clause-none
-returns-in-None-clause-none c = λ e. sym (first_value-rows (found_of c.args.operands.now) (codes "program")) ∙ sym c.in-None.ensures
+returns-in-None-clause-none c =
+    λ e. sym (first_value-rows (found_of c.args.operands.now) (codes "program")) ∙ sym c.in-None.ensures

@@ -10,7 +10,8 @@ push_round-requires-clause-room c =
 
 pub loop-j-preserved : goal.loop-j-preserved
 loop-j-preserved c = record {
-  items = rounds_more c.args.list.now.items c.loop-j.list.items c.push_round.new.list.items c.loop-j.j (product_round c.args.d c.args.x c.args.y)
+  items = rounds_more c.args.list.now.items c.loop-j.list.items c.push_round.new.list.items c.loop-j.j
+      (product_round c.args.d c.args.x c.args.y)
       c.loop-j.invariant.items c.push_round.ensures.items;
   len = omega (arith, length-rounds_more c.args.d c.args.x c.args.y c.loop-j.j);
   capacity = omega arith;

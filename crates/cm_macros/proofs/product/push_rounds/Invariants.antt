@@ -7,7 +7,8 @@ use Rattle.cm_macros.proofs.product.push_rounds.Given as goal
 
 abbrev pub invariant-loop-j : goal.invariant-loop-j
 invariant-loop-j l = record {
-  items : l.list.items ≡ l.initial.list.items ++ map act.Nano (flat_map (product_round l.d l.x l.y) (range_with_len 0 l.j));
+  items : l.list.items
+      ≡ l.initial.list.items ++ map act.Nano (flat_map (product_round l.d l.x l.y) (range_with_len 0 l.j));
   len : vec_len l.list ≡ vec_len l.initial.list + length (flat_map (product_round l.d l.x l.y) (range_with_len 0 l.j));
   capacity : vec_capacity l.initial.list ≤ vec_capacity l.list;
 }

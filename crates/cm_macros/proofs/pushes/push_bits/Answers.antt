@@ -9,8 +9,10 @@ loop-i-init c = record { items = pushed_none _ _; len = omega arith; capacity = 
 pub loop-i-preserved : goal.loop-i-preserved
 loop-i-preserved c = record {
   items = pushed_more c.args.list.now.items c.loop-i.list.items c.push.new.list.items c.loop-i.i
-      (λ k. nano c.args.context.now (c.args.x.at + k) (c.args.y.at + k) c.args.read c.args.write c.args.tables.memory c.args.tables.flag) c.nano.result
-      c.loop-i.invariant.items c.push.ensures.items (rw (c.nano.ensures, c.address.ensures, c.address-in-loop-i.ensures) refl);
+      (λ k. nano c.args.context.now (c.args.x.at + k) (c.args.y.at + k) c.args.read c.args.write
+      c.args.tables.memory c.args.tables.flag)
+      c.nano.result c.loop-i.invariant.items c.push.ensures.items
+      (rw (c.nano.ensures, c.address.ensures, c.address-in-loop-i.ensures) refl);
   len = omega arith;
   capacity = omega arith;
 }

@@ -7,7 +7,8 @@ use Rattle.cm_macros.proofs.pushes.push_bits.Given as goal
 
 abbrev pub invariant-loop-i : goal.invariant-loop-i
 invariant-loop-i l = record {
-  items : l.list.items ≡ l.initial.list.items ++ map act.Nano (each_from 0 l.i (λ k. nano l.context (l.x.at + k) (l.y.at + k) l.read l.write l.tables.memory l.tables.flag));
+  items : l.list.items ≡ l.initial.list.items ++ map act.Nano
+      (each_from 0 l.i (λ k. nano l.context (l.x.at + k) (l.y.at + k) l.read l.write l.tables.memory l.tables.flag));
   len : vec_len l.list ≡ vec_len l.initial.list + l.i;
   capacity : vec_capacity l.initial.list ≤ vec_capacity l.list;
 }

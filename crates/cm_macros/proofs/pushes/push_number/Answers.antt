@@ -11,7 +11,8 @@ loop-i-init c = record { items = pushed_none _ _; len = omega arith; capacity = 
 pub loop-i-preserved : goal.loop-i-preserved
 loop-i-preserved c = record {
   items = pushed_more c.args.list.now.items c.loop-i.list.items c.push.new.list.items c.loop-i.i
-      (λ k. nano c.args.context.now (c.args.d.at + k) (c.args.d.at + k) 8 8 (if bit c.args.number k then 0xff else 0x00) 0x00) c.number_bit.result
+      (λ k. nano c.args.context.now (c.args.d.at + k) (c.args.d.at + k) 8 8
+      (if bit c.args.number k then 0xff else 0x00) 0x00) c.number_bit.result
       c.loop-i.invariant.items c.push.ensures.items c.number_bit.ensures;
   len = omega arith;
   capacity = omega arith;

@@ -9,7 +9,8 @@ use Rattle.cm_macros.proofs.pushes.push_number.Given as goal
 
 abbrev pub invariant-loop-i : goal.invariant-loop-i
 invariant-loop-i l = record {
-  items : l.list.items ≡ l.initial.list.items ++ map act.Nano (each_from 0 l.i (λ k. nano l.context (l.d.at + k) (l.d.at + k) 8 8 (if bit l.number k then 0xff else 0x00) 0x00));
+  items : l.list.items ≡ l.initial.list.items ++ map act.Nano (each_from 0 l.i
+      (λ k. nano l.context (l.d.at + k) (l.d.at + k) 8 8 (if bit l.number k then 0xff else 0x00) 0x00));
   len : vec_len l.list ≡ vec_len l.initial.list + l.i;
   capacity : vec_capacity l.initial.list ≤ vec_capacity l.list;
 }

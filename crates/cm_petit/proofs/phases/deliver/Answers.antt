@@ -9,8 +9,10 @@ pub deliver-requires-clause-room : goal.deliver-requires-clause-room
 deliver-requires-clause-room g c =
     let here = c.loop-c in
     let below : here.c < 2 ^ g.row.N = omega (arith, c.requires.routers.chip_count) in
-    room_to_deliver g.row.N g.row.CAP c.args.chips.now c.args.crossing.now.buffers c.args.logs.now here.chips here.crossing.buffers here.logs here.c c.index-logs-c.result
-    c.requires.routers c.requires.log_room below (omega (arith, here.auto.logs, c.requires.routers.log_count)) c.index-logs-c.is (c.index-logs-c.result.ok.1) here.invariant.delivered
+    room_to_deliver g.row.N g.row.CAP c.args.chips.now c.args.crossing.now.buffers c.args.logs.now
+    here.chips here.crossing.buffers here.logs here.c c.index-logs-c.result
+    c.requires.routers c.requires.log_room below (omega (arith, here.auto.logs, c.requires.routers.log_count))
+    c.index-logs-c.is (c.index-logs-c.result.ok.1) here.invariant.delivered
 
 pub loop-c-preserved : goal.loop-c-preserved
 loop-c-preserved g c =
@@ -24,9 +26,12 @@ loop-c-preserved g c =
     let longer = rw (← c.index-logs-c.is) at c.deliver.ensures.told in
     let kept = rw (← c.index-logs-c.is) at c.deliver.ensures.log_room in
     record {
-      delivered = rw value (delivered_more g.row.N g.row.CAP c.args.chips.now c.args.crossing.now.buffers c.args.logs.now here.chips here.crossing.buffers here.logs i
-          c.index-chips-c.result c.deliver.new.chip ms (kept_of ms c.index-chips-c.result) c.index-logs-c.result c.deliver.new.log
-          c.requires.routers below (omega (arith, here.auto.logs, c.requires.routers.log_count)) c.index-chips-c.is refl c.index-logs-c.is
+      delivered = rw value (delivered_more g.row.N g.row.CAP
+          c.args.chips.now c.args.crossing.now.buffers c.args.logs.now here.chips here.crossing.buffers here.logs i
+          c.index-chips-c.result c.deliver.new.chip ms (kept_of ms c.index-chips-c.result)
+          c.index-logs-c.result c.deliver.new.log
+          c.requires.routers below (omega (arith, here.auto.logs, c.requires.routers.log_count))
+          c.index-chips-c.is refl c.index-logs-c.is
           chip_is refl log_is longer kept here.invariant.delivered);
       within = c.deliver.ensures.within;
     }
@@ -34,5 +39,6 @@ loop-c-preserved g c =
 pub returns-clause-value : goal.returns-clause-value
 returns-clause-value g c =
     let here = c.loop-c in
-    λ clock. delivered_all g.row.N g.row.CAP clock c.args.chips.now c.args.crossing.now.buffers c.args.logs.now here.chips here.crossing.buffers here.logs here.c
+    λ clock. delivered_all g.row.N g.row.CAP clock c.args.chips.now c.args.crossing.now.buffers c.args.logs.now
+    here.chips here.crossing.buffers here.logs here.c
     c.requires.routers (omega (arith, c.requires.routers.chip_count)) here.invariant.delivered

@@ -5,6 +5,7 @@ use Rattle.cm_petit.proofs.phases.deliver.Given as goal
 
 abbrev pub invariant-loop-c : goal.invariant-loop-c
 invariant-loop-c g l = record {
-  delivered : IsDelivered g.row.N g.row.CAP l.initial.chips l.initial.crossing.buffers l.initial.logs l.chips l.crossing.buffers l.logs l.c;
+  delivered : IsDelivered g.row.N g.row.CAP l.initial.chips l.initial.crossing.buffers l.initial.logs l.chips
+      l.crossing.buffers l.logs l.c;
   within : All (λ ms. length ms ≤ g.row.CAP) l.crossing.buffers;
 }

@@ -11,16 +11,19 @@ loop-c-preserved g c =
     let i = here.c in
     let below : i < 2 ^ g.row.N = omega (arith, c.requires.routers.chip_count) in
     let ms : List Message = list_at here.crossing.buffers i in
-    let sent : List Message = messages_sent g.row.N c.args.clock i c.index-chips-c.result (senders_taken g.row.CAP (length ms) c.index-chips-c.result) in
+    let sent : List Message = messages_sent g.row.N c.args.clock i c.index-chips-c.result
+    (senders_taken g.row.CAP (length ms) c.index-chips-c.result) in
     let chip_is = rw (← c.index-chips-c.is) at c.inject.ensures.chip in
     let log_is = rw (← c.index-chips-c.is, ← c.index-logs-c.is) at c.inject.ensures.log in
     let value = rw (← c.index-chips-c.is) at c.inject.ensures.value in
     let longer = rw (← c.index-logs-c.is) at c.inject.ensures.told in
     let kept = rw (← c.index-logs-c.is) at c.inject.ensures.log_room in
     record {
-      injected = rw value (injected_more g.row.N g.row.CAP c.args.clock c.args.chips.now c.args.crossing.now.buffers c.args.logs.now here.chips here.crossing.buffers here.logs i
+      injected = rw value (injected_more g.row.N g.row.CAP c.args.clock
+          c.args.chips.now c.args.crossing.now.buffers c.args.logs.now here.chips here.crossing.buffers here.logs i
           c.index-chips-c.result c.inject.new.chip ms (ms ++ sent) c.index-logs-c.result c.inject.new.log
-          c.requires.routers below (omega (arith, here.auto.logs, c.requires.routers.log_count)) c.index-chips-c.is refl c.index-logs-c.is
+          c.requires.routers below (omega (arith, here.auto.logs, c.requires.routers.log_count))
+          c.index-chips-c.is refl c.index-logs-c.is
           chip_is refl log_is longer kept here.invariant.injected);
       within = c.inject.ensures.within;
       places = omega (arith, here.invariant.places, c.inject.ensures.free);
@@ -29,5 +32,6 @@ loop-c-preserved g c =
 pub returns-clause-value : goal.returns-clause-value
 returns-clause-value g c =
     let here = c.loop-c in
-    injected_all g.row.N g.row.CAP c.args.clock c.args.chips.now c.args.crossing.now.buffers c.args.logs.now here.chips here.crossing.buffers here.logs here.c
+    injected_all g.row.N g.row.CAP c.args.clock c.args.chips.now c.args.crossing.now.buffers c.args.logs.now
+    here.chips here.crossing.buffers here.logs here.c
     c.requires.routers (omega (arith, c.requires.routers.chip_count)) here.invariant.injected

@@ -5,7 +5,8 @@ use Rattle.cm_petit.proofs.phases.inject_under_way.Given as goal
 
 abbrev pub invariant-loop-c : goal.invariant-loop-c
 invariant-loop-c g l = record {
-  injected : IsInjected g.row.N g.row.CAP l.clock l.initial.chips l.initial.crossing.buffers l.initial.logs l.chips l.crossing.buffers l.logs l.c;
+  injected : IsInjected g.row.N g.row.CAP l.clock l.initial.chips l.initial.crossing.buffers l.initial.logs l.chips
+      l.crossing.buffers l.logs l.c;
   within : All (λ ms. length ms ≤ g.row.CAP) l.crossing.buffers;
   places : 4 * 2 ^ g.row.N ≤ l.crossing.free + 4 * l.c;
 }

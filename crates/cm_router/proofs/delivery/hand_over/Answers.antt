@@ -3,7 +3,8 @@ use Rattle.std.proofs.lemmas.Bool.{eqb-true}
 use Rattle.cm_model.specs.Letters.{can_receive, has_arrived}
 use Rattle.cm_router.proofs.Delivering.{IsRefused, hands_over, keeps}
 use Rattle.cm_router.proofs.delivery.hand_over.Goals as goal
-use Rattle.cm_router.proofs.delivery.hand_over.Goals.{else-message-eq0-via-then-message-eq0+else-not-is_one, else-message-eq0-via-else-message-eq0}
+use Rattle.cm_router.proofs.delivery.hand_over.Goals.{else-message-eq0-via-then-message-eq0+else-not-is_one}
+use Rattle.cm_router.proofs.delivery.hand_over.Goals.{else-message-eq0-via-else-message-eq0}
 
 pub returns-then-not-is_one-clause-step : goal.returns-then-not-is_one-clause-step
 returns-then-not-is_one-clause-step c =

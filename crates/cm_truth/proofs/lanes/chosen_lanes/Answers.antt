@@ -14,5 +14,6 @@ returns c = record {
     c.changed_lanes-difference.ensures.value k h p,
     get_or-replicate 32 k c.args.four.neither 0 h,
   )
-      (simp (get_or-replicate, bit-bit_xor) (four_chosen (bit (get_or c.args.b k 0) p) (bit (get_or c.args.f k 0) p) (bit c.args.four.neither p) (bit c.args.four.by_f p) (bit c.args.four.by_b p) (bit c.args.four.by_both p)));
+      (simp (get_or-replicate, bit-bit_xor) (four_chosen (bit (get_or c.args.b k 0) p) (bit (get_or c.args.f k 0) p)
+      (bit c.args.four.neither p) (bit c.args.four.by_f p) (bit c.args.four.by_b p) (bit c.args.four.by_both p)));
 }

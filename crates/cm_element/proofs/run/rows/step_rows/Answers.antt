@@ -1,4 +1,5 @@
-use Rattle.std.proofs.Common.{◌≡◌, ◌≢◌, true, false, sym, ◌∙◌, arith, eq-eqb, ne_eqb, ◌==◌}
+use Rattle.std.proofs.Common.{◌≡◌, ◌≢◌, true, false, sym, ◌∙◌, arith, ◌==◌}
+use Rattle.std.proofs.lemmas.Bool.{eqb-false}
 use Rattle.cm_element.proofs.Columns.{apart_at}
 use Rattle.cm_element.proofs.Stepping.{rows_stepped, chip_stepped, chip_stepped_alone, row_changed, zero_kept}
 use Rattle.cm_element.proofs.run.rows.step_rows.Goals as goal
@@ -19,10 +20,10 @@ pub compute-requires-clause-cond_apart : goal.compute-requires-clause-cond_apart
 compute-requires-clause-cond_apart c =
     apart_at c.args.nano.now.write c.args.nano.now.cond c.args.stride c.args.chips c.places-at.result.write c.places-at.result.cond c.places-at.ensures.value.write c.places-at.ensures.value.cond c.requires.rows.within
 
-pub returns-then-get-eq-ZERO_FLAG-clause-value : goal.returns-then-get-eq-ZERO_FLAG-clause-value
-returns-then-get-eq-ZERO_FLAG-clause-value c = λ incoming.
+pub returns-then-eq-clause-value : goal.returns-then-eq-clause-value
+returns-then-eq-clause-value c = λ incoming.
     let nano = c.args.nano.now in
-    let zero_flag : (nano.write == 8) ≡ true = eq-eqb nano.write 8 (sym c.get.ensures.value ∙ c.if-get-eq-ZERO_FLAG.true) in
+    let zero_flag : (nano.write == 8) ≡ true = sym c.eq.ensures ∙ c.if-eq.true in
     rows_stepped nano c.args.memory.now c.args.flags.now c.compute_memory.new.memory c.args.flags.now c.args.stride c.args.chips incoming
     (λ chip h. chip_stepped_alone nano c.is_always-always.result c.args.memory.now c.args.flags.now c.compute_memory.new.memory c.args.stride c.args.chips chip c.places-at.result (incoming chip)
     (record {
@@ -33,10 +34,10 @@ returns-then-get-eq-ZERO_FLAG-clause-value c = λ incoming.
       stored = c.compute_memory.ensures.memory;
     }) c.requires.alone zero_flag)
 
-pub returns-else-get-eq-ZERO_FLAG-clause-rows : goal.returns-else-get-eq-ZERO_FLAG-clause-rows
-returns-else-get-eq-ZERO_FLAG-clause-rows c =
+pub returns-else-eq-clause-rows : goal.returns-else-eq-clause-rows
+returns-else-eq-clause-rows c =
     let nano = c.args.nano.now in
-    let other : nano.write ≢ 8 = λ e. c.if-get-eq-ZERO_FLAG.false (c.get.ensures.value ∙ e) in
+    let other : nano.write ≢ 8 = eqb-false nano.write 8 (sym c.eq.ensures ∙ c.if-eq.false) in
     record {
       memory_words = omega (arith, c.compute.auto.memory, c.requires.rows.memory_words);
       flag_words = omega (arith, c.compute.auto.flags, c.requires.rows.flag_words);
@@ -47,10 +48,10 @@ returns-else-get-eq-ZERO_FLAG-clause-rows c =
           c.places-at.ensures.value.write c.compute.ensures.flags);
     }
 
-pub returns-else-get-eq-ZERO_FLAG-clause-value : goal.returns-else-get-eq-ZERO_FLAG-clause-value
-returns-else-get-eq-ZERO_FLAG-clause-value c = λ incoming.
+pub returns-else-eq-clause-value : goal.returns-else-eq-clause-value
+returns-else-eq-clause-value c = λ incoming.
     let nano = c.args.nano.now in
-    let other : (nano.write == 8) ≡ false = ne_eqb nano.write 8 (λ e. c.if-get-eq-ZERO_FLAG.false (c.get.ensures.value ∙ e)) in
+    let other : (nano.write == 8) ≡ false = sym c.eq.ensures ∙ c.if-eq.false in
     rows_stepped nano c.args.memory.now c.args.flags.now c.compute.new.memory c.compute.new.flags c.args.stride c.args.chips incoming
     (λ chip h. chip_stepped nano c.is_always-always.result c.args.memory.now c.args.flags.now c.compute.new.memory c.compute.new.flags c.args.stride c.args.chips chip c.places-at.result (incoming chip)
     (record {

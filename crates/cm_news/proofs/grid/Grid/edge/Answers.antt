@@ -9,6 +9,8 @@ pub returns-clause-value : goal.returns-clause-value
 returns-clause-value g c = λ i h. elim c.match-dir.branch [
   | in-North w ↦ rw (w.edge-is, w.in-North.is) (edge_north c.args.plane i h)
   | in-South w ↦ rw (w.edge-is, w.in-South.is) (edge_south c.args.plane i)
-  | in-West w ↦ rw (w.edge-is, w.in-West.is) (w.first_column-edge.ensures.value i h ∙ ap (bit c.args.plane) (omega arith))
-  | in-East w ↦ rw (w.edge-is, w.in-East.is) (w.first_column-edge-in-East.ensures.value i h ∙ bit-down c.args.plane 3 (4 * i) ∙ ap (bit c.args.plane) (omega arith))
+  | in-West w ↦
+      rw (w.edge-is, w.in-West.is) (w.first_column-edge.ensures.value i h ∙ ap (bit c.args.plane) (omega arith))
+  | in-East w ↦ rw (w.edge-is, w.in-East.is) (w.first_column-edge-in-East.ensures.value i h
+      ∙ bit-down c.args.plane 3 (4 * i) ∙ ap (bit c.args.plane) (omega arith))
 ]

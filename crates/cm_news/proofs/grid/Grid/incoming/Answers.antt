@@ -12,7 +12,8 @@ returns g c =
     record {
       value = λ p h.
           c.over_edge.ensures.value p h
-          ∙ ap (λ (i : ℕ). plane_bit (get_or planes i 0) (sender dir p) || (if is_entry dir p then bit c.edge.result (along dir p) else false)) c.from.ensures
+          ∙ ap (λ (i : ℕ). plane_bit (get_or planes i 0) (sender dir p)
+          || (if is_entry dir p then bit c.edge.result (along dir p) else false)) c.from.ensures
           ∙ joined g.row.N dir c.args.chip planes c.edge.result c.requires.chip
           (λ i below. c.edge.ensures.value i below
           ∙ ap (λ (k : ℕ). bit (get_or planes k 0) (at_edge dir i)) (c.from-2.ensures ∙ c.chip_before.ensures.value))

@@ -4,7 +4,9 @@ use Rattle.cm_model.specs.Letters.{message_sent, messages_sent, is_among}
 use Rattle.cm_model.specs.declared.message.Event.TheVariants.{Injected}
 use Rattle.cm_router.proofs.Taking.{most_taken, asks, taking_begins, taking_more, taking_no_more, taken_all, least-is}
 use Rattle.cm_router.proofs.node.Node.take_in.Goals as goal
-use Rattle.cm_router.proofs.node.Node.take_in.Goals.{then-left-gt0+then-is_one, else-left-gt0, else-left-gt0-via-then-left-gt0+else-is_one, else-left-gt0-via-else-left-gt0}
+use Rattle.cm_router.proofs.node.Node.take_in.Goals.{then-left-gt0+then-is_one, else-left-gt0}
+use Rattle.cm_router.proofs.node.Node.take_in.Goals.{else-left-gt0-via-then-left-gt0+else-is_one}
+use Rattle.cm_router.proofs.node.Node.take_in.Goals.{else-left-gt0-via-else-left-gt0}
 
 pub loop-number-init : goal.loop-number-init
 loop-number-init c =

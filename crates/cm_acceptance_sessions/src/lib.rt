@@ -1,0 +1,5 @@
+//! Tests of debugger sessions; it has no code of its own.
+#![tactic(auto)]
+
+#[cfg(test)]
+mod reader;

@@ -1,0 +1,36 @@
+use Rattle.std.proofs.Common.{◌≡◌, ◌<◌, ◌^◌, ℕ, length, sym, ap, ◌∙◌, arith, subst}
+use Rattle.cm_model.specs.Array.{list_at}
+use Rattle.cm_model.specs.Machine.{Machine}
+use Rattle.cm_array.specs.Parts.{machine_of}
+use Rattle.cm_array.specs.Pokes.{machine_with_message}
+use Rattle.cm_array.proofs.Building.{machine_of-with_message, AreUnfinished-with_message}
+use Rattle.cm_array.proofs.builder.Builder.message.Goals as goal
+
+pub invariant_of-self : goal.invariant_of-self
+invariant_of-self g c =
+    let parts = c.self.inside.parts in
+    let below : c.from.result < 2 ^ g.row.N = omega arith in
+    let is : machine_of parts ≡ c.args.self.now = c.self.view_is in
+    let place : c.from.result ≡ c.args.chip = c.from.ensures in
+    let room : length (list_at (machine_of parts).buffers c.args.chip) < g.row.CAP =
+    subst (λ (m : Machine). length (list_at m.buffers c.args.chip) < g.row.CAP) (sym is) c.requires.room in
+    let born : c.args.message.tag.birth < (machine_of parts).clock =
+    subst (λ (m : Machine). c.args.message.tag.birth < m.clock) (sym is) c.requires.born in
+    AreUnfinished-with_message g.row.N g.row.CAP parts c.from.result c.index_mut-node.result.now c.arrive.new.self
+    c.args.message c.self.invariant below
+    c.index_mut-node.ensures.value c.arrive.ensures.value
+    (subst (λ (i : ℕ). length (list_at (machine_of parts).buffers i) < g.row.CAP) (sym place) room)
+    c.look_at.ensures.message born
+
+pub returns : goal.returns
+returns g c =
+    let parts = c.self.inside.parts in
+    let below : c.from.result < 2 ^ g.row.N = omega arith in
+    record {
+      value =
+          machine_of-with_message g.row.N g.row.CAP parts c.from.result c.index_mut-node.result.now c.arrive.new.self
+          c.args.message c.self.invariant below
+          c.index_mut-node.ensures.value c.arrive.ensures.value
+          ∙ ap (λ (i : ℕ). machine_with_message (machine_of parts) i c.args.message) c.from.ensures
+          ∙ ap (λ (machine : Machine). machine_with_message machine c.args.chip c.args.message) c.self.view_is;
+    }

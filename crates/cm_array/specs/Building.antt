@@ -1,0 +1,32 @@
+-- A machine that is being built: it has no log yet, and a tag may stand twice in it. Ours.
+use Rattle.std.specs.Prelude.{◌≡◌, ℕ, ◌<◌, ◌≤◌, ◌^◌, length}
+use Rattle.std.specs.List.{All}
+use Rattle.cm_model.specs.Whole.{IsChip}
+use Rattle.cm_model.specs.Array.{chip_at, list_at}
+use Rattle.cm_model.specs.Machine.{Machine}
+use Rattle.cm_model.specs.Keeping.{HasRoom, HasMessages}
+use Rattle.cm_model.specs.Unlogged.{IsUnlogged}
+use Rattle.cm_array.specs.declared.parts.Parts.{Parts}
+use Rattle.cm_array.specs.Parts.{machine_of}
+
+-- all that every machine keeps but that a tag stands once, and no event
+pub record IsUnfinished (n cap : ℕ) (machine : Machine) : Type 0 where
+  pub chip_count : length machine.chips ≡ 2 ^ n
+  pub buffer_count : length machine.buffers ≡ 2 ^ n
+  pub whole : (c : ℕ) → c < 2 ^ n → IsChip (chip_at machine.chips c)
+  pub room : HasRoom n cap machine
+  pub messages : HasMessages n machine
+  pub born : (c : ℕ) → c < 2 ^ n → All (λ m. m.tag.birth < machine.clock) (list_at machine.buffers c)
+  pub unlogged : IsUnlogged n machine
+
+-- the parts of such a machine, with sizes and working room as every machine has them
+pub record AreUnfinished (n cap : ℕ) (parts : Parts) : Type 0 where
+  pub dimension : n ≤ 12
+  pub some_room : 1 ≤ cap
+  pub most_room : cap ≤ 15
+  pub rooms : All (λ node. node.room ≡ cap) parts.nodes.items
+  pub output_count : length parts.outputs.items ≡ 2 ^ n
+  pub sent_count : length parts.sent.items ≡ 2 ^ n
+  pub crossing_count : length parts.crossing.buffers ≡ 2 ^ n
+  pub clock : parts.clock < 2 ^ 63
+  pub machine : IsUnfinished n cap (machine_of parts)

@@ -1,0 +1,149 @@
+//! A machine that is built of planes and messages.
+
+ghost use Rattle.std.specs.Prelude.{◌≡◌, ◌≢◌, ◌^◌, ◌<◌, ◌≤◌, ◌↔◌, IfOk, IfErr, IfSome, IsErrOf, IsOk, IsOkUnless, IsTrue, None, Some, length};
+ghost use Rattle.cm_model.specs.Processor.{ZERO};
+ghost use Rattle.cm_model.specs.Array.{list_at};
+ghost use Rattle.cm_model.specs.Machine.{blank_machine};
+ghost use Rattle.cm_model.specs.Keeping.{IsMessage};
+ghost use Rattle.cm_array.specs.Faults.{size_fault, build_fault};
+ghost use Rattle.cm_array.specs.Parts.{AreSizes};
+ghost use Rattle.cm_array.specs.Pokes.{machine_with_plane, machine_with_flag_plane, machine_with_message};
+
+use crate::machine::{Machine, MachineFault};
+use crate::parts::Parts;
+use crate::tags::has_tag_twice;
+use cm_bits::{Addr, FlagNo, NoMemory, Plane};
+use cm_message::Message;
+use std::alloc::Global;
+use std::marker::Model;
+use thiserror::Error;
+
+/// Why what was built is no machine.
+#[derive(Clone, Copy, Debug, PartialEq, Eq, Error)]
+pub enum BuildFault {
+    #[error("two messages have one tag")]
+    TagTwice,
+    #[error("out of memory")]
+    Memory,
+}
+
+impl From<NoMemory> for BuildFault {
+    ghost use Rattle.std.specs.Prelude.{◌≡◌};
+    ghost use Rattle.cm_array.specs.declared.builder.BuildFault.TheVariants.{Memory};
+
+    ghost from_gives = { λ _ fault. fault ≡ Memory };
+
+    fn from(_: NoMemory) -> BuildFault {
+        BuildFault::Memory
+    }
+}
+
+/// A machine of 2^`N` chips, whose routers have room for `CAP` messages each, that is being built. It has
+/// no log, and until it is done two of its messages may have one tag.
+///
+/// Contracts see the machine that it is so far.
+#[derive(Debug, Drop)]
+pub struct Builder<const N: usize, const CAP: usize> {
+    parts: Parts,
+}
+
+impl<const N: usize, const CAP: usize> Model for Builder<N, CAP> {
+    ghost use Rattle.cm_model.specs.Machine.{Machine};
+    ghost use Rattle.cm_array.specs.Parts.{machine_of};
+    ghost use Rattle.cm_array.specs.Building.{AreUnfinished};
+
+    ghost Value = { Machine };
+
+    ghost view = { λ builder. machine_of builder.parts };
+
+    ghost invariant = { λ builder. AreUnfinished N CAP builder.parts };
+}
+
+impl<const N: usize, const CAP: usize> Builder<N, CAP> {
+    /// Begins with all bits and flags 0 and no message, at this count of petit cycles.
+    pub fn start(alloc: Global, clock: u64) -> Result<Self, MachineFault>
+        requires clock { clock < 2 ^ 63 }
+        ensures value { IfOk result (λ built. built ≡ record (blank_machine N) { clock = clock }) }
+        ensures refused { IfSome (size_fault N CAP) (λ fault. IsErrOf result fault) }
+        ensures otherwise { size_fault N CAP ≡ None → IsOkUnless result MachineFault.Memory }
+        ensures sizes { IsOk result → AreSizes N CAP }
+    {
+        let machine = Machine::<N, CAP>::blank_at(alloc, clock)?;
+        let parts = machine.into_parts();
+        Ok(Builder { parts })
+    }
+
+    /// Petit cycles so far, before which each message has to be born.
+    pub fn clock(&self) -> u64
+        ensures value { result ≡ self.now.clock }
+        ensures within { result < 2 ^ 63 }
+    {
+        self.parts.clock
+    }
+
+    /// Whether a chip's router has no room for another message.
+    pub fn is_full(&self, chip: u16) -> bool
+        requires chip { chip < 2 ^ N }
+        ensures value { IsTrue result ↔ (CAP ≤ length (list_at self.now.buffers chip)) }
+    {
+        self.parts.nodes[usize::from(chip)].is_full()
+    }
+
+    /// Puts a plane at an address of a chip: bit p is that of processor p.
+    pub fn plane(&mut self, chip: u16, at: Addr, plane: Plane)
+        requires chip { chip < 2 ^ N }
+        ensures value { self.new ≡ machine_with_plane self.old chip at plane }
+    {
+        let changed = &mut self.parts.chips[usize::from(chip)];
+        changed.poke_plane(at, plane);
+    }
+
+    /// Puts a plane into a flag of a chip, but not into flag 8.
+    pub fn flag_plane(&mut self, chip: u16, number: FlagNo, plane: Plane)
+        requires chip { chip < 2 ^ N }
+        requires other { number ≢ ZERO }
+        ensures value { self.new ≡ machine_with_flag_plane self.old chip number plane }
+    {
+        let changed = &mut self.parts.chips[usize::from(chip)];
+        changed.poke_flag_plane(number, plane);
+    }
+
+    /// Puts a message behind those that stand in a chip's router.
+    pub fn message(&mut self, chip: u16, message: Message)
+        requires chip { chip < 2 ^ N }
+        requires room { length (list_at self.old.buffers chip) < CAP }
+        requires rel { message.rel < 2 ^ N }
+        requires origin { message.tag.chip < 2 ^ N }
+        requires born { message.tag.birth < self.old.clock }
+        ensures value { self.new ≡ machine_with_message self.old chip message }
+    {
+        look_at::<N>(&message);
+        let node = &mut self.parts.nodes[usize::from(chip)];
+        node.arrive(message);
+    }
+
+    /// The machine that was built, if no two of its messages have one tag.
+    pub fn done(self) -> Result<Machine<N, CAP>, BuildFault>
+        ensures value { IfOk result (λ kept. kept.machine ≡ self.entry) }
+        ensures ok { IsOk result → build_fault self.entry ≡ None }
+        ensures refused { IfErr result (λ fault. fault ≢ BuildFault.Memory → build_fault self.entry ≡ Some fault) }
+    {
+        let alloc = *self.parts.nodes.allocator();
+        if has_tag_twice(alloc, &self.parts.nodes)? {
+            return Err(BuildFault::TagTwice);
+        }
+        Ok(Machine::of_parts(self.parts))
+    }
+}
+
+/// Nothing is done: a message between chips of the cube is one of the cube, since its other numbers cannot be
+/// out of range.
+fn look_at<const N: usize>(message: &Message)
+    requires rel { message.now.rel < 2 ^ N }
+    requires origin { message.now.tag.chip < 2 ^ N }
+    ensures message { IsMessage N message.now }
+{
+    let _payload = message.payload;
+    let _proc = message.proc.get();
+    let _sender = message.tag.proc.get();
+}

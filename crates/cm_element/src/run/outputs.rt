@@ -1,0 +1,135 @@
+//! An instruction in two halves: what all chips compute, and what they store of it.
+
+ghost use Rattle.std.specs.Prelude.{◌≡◌, ℕ, ◌+◌, ◌<◌, ◌≤◌, length, slice_index};
+ghost use Rattle.cm_bits.specs.Bit.{bit};
+ghost use Rattle.cm_model.specs.Each.{each_from};
+ghost use Rattle.cm_model.specs.Chip.{chip_after};
+ghost use Rattle.cm_model.specs.Array.{chip_at};
+ghost use Rattle.cm_element.specs.Runs.{AreRows, chips_of};
+ghost use Rattle.cm_element.specs.Steps.{AreHolding, IsStored};
+ghost use Rattle.cm_element.specs.WideOutputs.{HaveRoomFor, AreWideOutputs};
+
+use super::{Run, takes_incoming};
+use crate::chip::{chosen, holding};
+use crate::run::rows::{look_up_row, places};
+use crate::wide_outputs::WideOutputs;
+use cm_bits::{FlagNo, Plane};
+use cm_model::Nano;
+
+impl Run {
+    /// Writes down what every processor of every chip computes of an instruction, whatever its own
+    /// condition, from the bits as they are.
+    pub fn outputs(&self, nano: &Nano, outputs: &mut WideOutputs)
+        requires room { HaveRoomFor (length self.now) outputs.old }
+        ensures value { AreWideOutputs nano.now self.now outputs.new }
+        ensures room { HaveRoomFor (length self.now) outputs.new }
+    {
+        look_up_row(
+            nano.mem_table,
+            &self.memory,
+            &self.flags,
+            nano,
+            self.stride,
+            self.chips,
+            &mut outputs.mem,
+        );
+        look_up_row(
+            nano.flag_table,
+            &self.memory,
+            &self.flags,
+            nano,
+            self.stride,
+            self.chips,
+            &mut outputs.flag,
+        );
+        hold_row(
+            &self.memory,
+            &self.flags,
+            nano,
+            self.stride,
+            self.chips,
+            &mut outputs.holds,
+        );
+    }
+
+    /// Stores the outputs of this run where the condition holds. `incoming` has the planes that come in
+    /// over NEWS or DAISY, one for each chip, and counts only where the instruction writes one of these.
+    pub fn store(&mut self, nano: &Nano, outputs: &WideOutputs, incoming: &[Plane])
+        requires room { HaveRoomFor (length self.old) outputs.now }
+        requires outputs { AreWideOutputs nano.now self.old outputs.now }
+        requires incoming { length incoming.now ≡ length self.old }
+        ensures value { self.new ≡ each_from 0 (length self.old)
+            (λ c. chip_after nano.now (bit (slice_index incoming.now c)) (chip_at self.old c)) }
+    {
+        store_rows(
+            &mut self.memory,
+            &mut self.flags,
+            nano,
+            self.stride,
+            self.chips,
+            outputs,
+            incoming,
+        );
+    }
+}
+
+/// Writes down where the condition of an instruction holds.
+fn hold_row(
+    memory: &[Plane],
+    flags: &[Plane],
+    nano: &Nano,
+    stride: usize,
+    chips: usize,
+    found: &mut [Plane],
+)
+    requires rows { AreRows memory.now flags.now stride chips }
+    requires found { length found.old ≡ chips }
+    ensures value { AreHolding nano.now (chips_of memory.now flags.now stride chips) found.new }
+{
+    let at = places(nano, stride);
+    let sense = nano.sense;
+    for c in 0..chips {
+        found[c] = holding(flags[at.cond + c], sense);
+    }
+}
+
+/// Stores the outputs in the rows.
+fn store_rows(
+    memory: &mut [Plane],
+    flags: &mut [Plane],
+    nano: &Nano,
+    stride: usize,
+    chips: usize,
+    outputs: &WideOutputs,
+    incoming: &[Plane],
+)
+    requires rows { AreRows memory.old flags.old stride chips }
+    requires room { HaveRoomFor chips outputs.now }
+    requires outputs { AreWideOutputs nano.now (chips_of memory.old flags.old stride chips) outputs.now }
+    requires incoming { length incoming.now ≡ chips }
+    ensures rows { AreRows memory.new flags.new stride chips }
+    ensures value { chips_of memory.new flags.new stride chips
+        ≡ each_from 0 chips (λ c. chip_after nano.now (bit (slice_index incoming.now c))
+        (chip_at (chips_of memory.old flags.old stride chips) c)) }
+{
+    let at = places(nano, stride);
+    store_row(memory, at.a, &outputs.holds, &outputs.mem);
+    if nano.write != FlagNo::ZERO {
+        if takes_incoming(nano) {
+            store_row(flags, at.write, &outputs.holds, incoming);
+        } else {
+            store_row(flags, at.write, &outputs.holds, &outputs.flag);
+        }
+    }
+}
+
+/// Stores planes in a row where the condition holds.
+fn store_row(rows: &mut [Plane], at: usize, holds: &[Plane], planes: &[Plane])
+    requires within { at + length planes.now ≤ length rows.old }
+    requires holds { length holds.now ≡ length planes.now }
+    ensures value { IsStored at holds.now planes.now rows.old rows.new }
+{
+    for c in 0..planes.len() {
+        rows[at + c] = chosen(holds[c], planes[c], rows[at + c]);
+    }
+}

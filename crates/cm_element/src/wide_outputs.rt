@@ -1,0 +1,38 @@
+//! What the processors of all chips of a run compute of one instruction.
+
+ghost use Rattle.std.specs.Prelude.{◌≡◌, length, IfOk};
+ghost use Rattle.cm_element.specs.WideOutputs.{HaveRoomFor};
+
+use cm_bits::{NoMemory, Plane};
+use std::alloc::Global;
+
+/// The two outputs of an instruction in each processor of each chip of a run, and where its condition
+/// holds: a plane for each chip in each list.
+#[derive(Debug, Drop)]
+pub struct WideOutputs {
+    pub mem: Vec<Plane>,
+    pub flag: Vec<Plane>,
+    pub holds: Vec<Plane>,
+}
+
+impl WideOutputs {
+    /// Room for so many chips.
+    pub fn blank(alloc: Global, chips: u16) -> Result<WideOutputs, NoMemory>
+        ensures room { IfOk result (λ outputs. HaveRoomFor chips outputs) }
+    {
+        Ok(WideOutputs {
+            mem: blank_row(alloc, chips)?,
+            flag: blank_row(alloc, chips)?,
+            holds: blank_row(alloc, chips)?,
+        })
+    }
+}
+
+fn blank_row(alloc: Global, chips: u16) -> Result<Vec<Plane>, NoMemory>
+    ensures count { IfOk result (λ row. length row.items ≡ chips) }
+{
+    let Ok(row) = vec![in alloc; 0; usize::from(chips)] else {
+        return Err(NoMemory);
+    };
+    Ok(row)
+}

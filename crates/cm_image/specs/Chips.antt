@@ -1,0 +1,53 @@
+-- What an image has of chips, put into a machine: ours.
+use Rattle.std.specs.Prelude.{◌≡◌, ℕ, ◌≤◌, ◌<◌, ◌^◌, List, [], length, slice_set, replicate}
+use Rattle.cm_model.specs.declared.message.Message.{Message}
+use Rattle.cm_model.specs.Chip.{blank_chip}
+use Rattle.cm_model.specs.Array.{chip_at, list_at}
+use Rattle.cm_model.specs.Machine.{Machine, blank_machine}
+use Rattle.cm_element.specs.Planes.{chip_of}
+use Rattle.cm_array.specs.Pokes.{machine_with_plane, machine_with_message}
+use Rattle.cm_image_format.specs.Reading.{Read, many}
+use Rattle.cm_image_format.specs.Image.{Listed, ChipImage, chip_part}
+use Rattle.cm_image_format.specs.Whole.{chip_from, machine_from}
+
+-- the machine with a chip of these planes, of memory and of flags
+abbrev pub with_chip : ℕ → Machine → List ℕ → List ℕ → Machine
+with_chip c machine memory flags = record machine { chips = slice_set machine.chips c (chip_of memory flags) }
+
+-- the machine with these flag planes in a chip, whose memory is 0
+abbrev pub with_flags : ℕ → Machine → List ℕ → Machine
+with_flags c machine flags = with_chip c machine (replicate 4096 0) flags
+
+-- the machine with the plane that is listed in a chip
+abbrev pub with_listed : ℕ → Machine → Listed → Machine
+with_listed c machine x = machine_with_plane machine c x.at x.plane
+
+-- the machine with a message more at a chip
+abbrev pub with_message : ℕ → Machine → Message → Machine
+with_message c machine m = machine_with_message machine c m
+
+-- the machine with what an image has of a chip
+unfoldable pub with_chip_image : ℕ → Machine → ChipImage → Machine
+with_chip_image c machine image = record machine {
+  chips = slice_set machine.chips c (chip_from image);
+  buffers = slice_set machine.buffers c image.messages;
+}
+
+-- of so many chips and buffers nothing was put into those from this one on
+pub record IsBlankFrom (n c : ℕ) (machine : Machine) : Type 0 where
+  pub chip_count : length machine.chips ≡ 2 ^ n
+  pub buffer_count : length machine.buffers ≡ 2 ^ n
+  pub chips : (d : ℕ) → c ≤ d → d < 2 ^ n → chip_at machine.chips d ≡ blank_chip
+  pub buffers : (d : ℕ) → c ≤ d → d < 2 ^ n → list_at machine.buffers d ≡ []
+
+-- the blank machine at a count of petit cycles
+abbrev pub blank_at : ℕ → ℕ → Machine
+blank_at n clock = record (blank_machine n) { clock = clock }
+
+-- all chips of an image, as they stand behind its header
+abbrev pub chips_part : ℕ → ℕ → ℕ → List ℕ → Read (List ChipImage)
+chips_part n cap clock = many (λ i chip. i) (λ i. chip_part n cap clock) (2 ^ n) 0
+
+-- the machine of chips that were read
+abbrev pub machine_of_chips : ℕ → List ChipImage → Machine
+machine_of_chips clock chips = machine_from (record { clock = clock; chips = chips })

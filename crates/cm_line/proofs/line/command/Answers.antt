@@ -1,0 +1,22 @@
+use Rattle.std.proofs.Common.{◌≡◌, ℕ, List, Option, Some, IsSomeAnd, codes, subst, arith}
+use Rattle.std.proofs.lemmas.Grind.{common_steps}
+use Rattle.clap.specs.Walk.{Text, Row, rows_of, texts}
+use Rattle.clap.specs.Matches.{found_of}
+use Rattle.clap.specs.Simple.{subcommand_of}
+use Rattle.cm_line.specs.declared.line.Line.{Line}
+use Rattle.cm_line.specs.declared.line.Line.TheVariants as line
+use Rattle.cm_line.specs.Lines.{AsksFor, IsLine, IsFreshLine, program_app}
+use Rattle.cm_line.proofs.line.command.Goals as goal
+
+no_line : (rows : List Row) → ((n cap : ℕ) (file : List ℕ) → IsFreshLine n cap file rows → ⊥) → (l : Line) → IsLine l (codes "fresh", rows) → ⊥
+no_line rows none line.Chip is = cc
+no_line rows none (line.List program) is = let wrong : codes "fresh" ≡ codes "list" = is.0 in cc
+no_line rows none (line.Fresh n cap file) is = none n cap _ is.1
+
+-- words whose subcommand is `fresh`, without operands that are its own, ask for no line
+no_fresh_line : (words : List Text) (rows : List Row) → subcommand_of program_app words ≡ Some (codes "fresh", rows) → ((n cap : ℕ) (file : List ℕ) → IsFreshLine n cap file rows → ⊥) → (l : Line) → AsksFor words l → ⊥
+no_fresh_line words rows is none l asks = no_line rows none l (subst (λ (o : Option (Text × List Row)). IsSomeAnd o (IsLine l)) is asks.subcommand)
+
+pub returns-in-Some-fresh-default-clause-bad_line : goal.returns-in-Some-fresh-default-clause-bad_line
+returns-in-Some-fresh-default-clause-bad_line c = λ e.
+    no_fresh_line (texts c.args.words.now) (rows_of (found_of c.in-Some-fresh-default.operands.now)) (grind (arith, common_steps)) (c.fresh_line.ensures.none e)
