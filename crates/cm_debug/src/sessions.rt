@@ -9,6 +9,7 @@ use crate::lines::tell_line;
 use cm_array::{Machine, Runner};
 use cm_asm::Program;
 use cm_bits::{Sink, Source};
+use cm_model::Act;
 use cm_session::SessionFault;
 use std::alloc::Global;
 
@@ -38,7 +39,26 @@ pub fn session<const N: usize, const CAP: usize, R: Runner<N, CAP>, I: Source, O
     ensures read { (I.has_failed commands.new ≡ true) ↔ IsErrOf result SessionFault.Read }
     ensures write { O.has_failed out.new ≡ is_write result }
 {
-    let acts = program.acts();
+    answer_all(alloc, machine, program.acts(), commands, out, runner)
+}
+
+/// Answers the commands of a source, with a program of these acts.
+fn answer_all<const N: usize, const CAP: usize, R: Runner<N, CAP>, I: Source, O: Sink>(
+    alloc: Global,
+    machine: &mut Machine<N, CAP>,
+    acts: &[Act],
+    commands: &mut I,
+    out: &mut O,
+    runner: &mut R,
+) -> Result<(), SessionFault>
+    requires runner { R.ready }
+    requires reader { I.has_failed commands.old ≡ false }
+    requires writer { O.has_failed out.old ≡ false }
+    ensures ends { IfSome (I.left commands.old) (λ text. Ends N CAP acts.now text (I.left commands.new)
+        machine.old.machine (O.contents out.old) machine.new.machine (O.contents out.new) result) }
+    ensures read { (I.has_failed commands.new ≡ true) ↔ IsErrOf result SessionFault.Read }
+    ensures write { O.has_failed out.new ≡ is_write result }
+{
     let Ok(mut desk) = Desk::new(alloc, acts.len()) else {
         return Err(SessionFault::Memory);
     };
@@ -54,7 +74,17 @@ pub fn session<const N: usize, const CAP: usize, R: Runner<N, CAP>, I: Source, O
             break;
         }
         let room = count.min(LIMIT - taken);
-        match feed(alloc, machine, acts, runner, &mut desk, &piece[..room], &mut line, out, &mut sent) {
+        match feed(
+            alloc,
+            machine,
+            acts,
+            runner,
+            &mut desk,
+            &piece[..room],
+            &mut line,
+            out,
+            &mut sent,
+        ) {
             Ok(()) => taken += room,
             Err(fault) => return Err(fault),
         }
@@ -65,5 +95,17 @@ pub fn session<const N: usize, const CAP: usize, R: Runner<N, CAP>, I: Source, O
     if line.is_empty() {
         return Ok(());
     }
-    tell_line(alloc, machine, acts, runner, &mut desk, line.as_slice(), out, &mut sent)
+    match tell_line(
+        alloc,
+        machine,
+        acts,
+        runner,
+        &mut desk,
+        line.as_slice(),
+        out,
+        &mut sent,
+    ) {
+        Ok(()) => Ok(()),
+        Err(fault) => Err(fault),
+    }
 }

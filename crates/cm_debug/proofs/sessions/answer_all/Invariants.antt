@@ -3,7 +3,7 @@ use Rattle.std.specs.Io.KnownBytes.{Consumes}
 use Rattle.cm_session.specs.Ends.{LIMIT}
 use Rattle.cm_debug.specs.Desk.{session_of, IsDeskOf}
 use Rattle.cm_debug.specs.Telling.{IsTold}
-use Rattle.cm_debug.proofs.sessions.session.Given as goal
+use Rattle.cm_debug.proofs.sessions.answer_all.Given as goal
 
 abbrev pub invariant-loop-count : goal.invariant-loop-count
 invariant-loop-count g l = record {
