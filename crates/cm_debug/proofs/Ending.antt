@@ -1,17 +1,20 @@
 -- How a session ends, by what was read and told before.
-use Rattle.std.proofs.Common.{◌≡◌, ℕ, ◌+◌, ◌<◌, ◌≤◌, List, [], ◌++◌, length, take, Option, Some, None, Ok, Err, IfSome, ap, ◌∙◌, sym, subst, arith, append_assoc, append-nil, length-append}
+use Rattle.std.proofs.Common.{◌≡◌, ℕ, ◌+◌, ◌-◌, ◌<◌, ◌≤◌, min, Bool, true, false, ◌==◌, List, [], ◌∷◌, ◌++◌, length, take, drop, replicate, Option, Some, None, Ok, Err, IfSome, ap, ◌∙◌, sym, subst, arith, append_assoc, append-nil, length-append, length-drop, take-append-drop, take-take}
 use Rattle.std.proofs.lemmas.Grind.{common_steps}
+use Rattle.std.proofs.lemmas.Bool.{false≢true}
 use Rattle.std.proofs.KnownBytes.{Consumes-kept}
-use Rattle.std.specs.Io.KnownBytes.{Consumes, Keeps, IsAtEnd}
+use Rattle.std.specs.Io.KnownBytes.{Appends, Consumes, Keeps, IsAtEnd}
 use Rattle.cm_bits.specs.Text.{lines_of}
 use Rattle.cm_model.specs.declared.act.Act.{Act}
 use Rattle.cm_model.specs.Machine.{Machine}
 use Rattle.cm_session.specs.declared.fault.SessionFault.{SessionFault}
 use Rattle.cm_session.specs.declared.fault.SessionFault.TheVariants.{Read, Write, TooMuch, Memory, NoThread}
-use Rattle.cm_session.specs.Session.{Session}
+use Rattle.cm_session.specs.Session.{Session, opening, after_line}
 use Rattle.cm_session.specs.Ends.{LIMIT, ended_lines, IsAnswered, Ends}
-use Rattle.cm_debug.specs.Telling.{IsTold, Stops}
-use Rattle.cm_debug.proofs.Breaking.{all_told}
+use Rattle.cm_debug.specs.declared.desk.Desk.{Desk}
+use Rattle.cm_debug.specs.Desk.{session_of, IsDeskOf}
+use Rattle.cm_debug.specs.Telling.{IsTold, BreaksOff, Stops}
+use Rattle.cm_debug.proofs.Breaking.{all_told, closed_told, last_told, nothing_told, stops_at_last, stops_between}
 
 -- by a read
 pub ends_read : (n cap : ℕ) (acts : List Act) (start : Machine) (held : Option (List ℕ)) (before now after : Option (List ℕ)) (taken : List ℕ)
@@ -98,3 +101,111 @@ breaks_at_end n cap acts start held (Some text) (Some left) (Some rest) taken ma
     let whole : taken ≡ text = sym (first ∙ ap (λ (xs : List ℕ). taken ++ xs) (second ∙ end) ∙ append-nil taken) in
     stop_ends n cap acts text (Some rest) start held machine holds fault
     (subst (λ (t : List ℕ). Stops n cap acts start held (lines_of t) machine holds fault) whole stops)
+
+-- ---- before the first byte
+
+-- without memory
+pub ends_first : (n cap : ℕ) (acts : List Act) (start : Machine) (held : Option (List ℕ)) (before : Option (List ℕ))
+    → IfSome before (λ text. Ends n cap acts text before start held start held (Err Memory))
+ends_first n cap acts start held None = tt
+ends_first n cap acts start held (Some text) =
+    stops_between n cap acts start held [] text (opening start (length acts)) held 0 [] (nothing_told n cap acts start held)
+
+-- nothing is told
+pub told_first : (n cap : ℕ) (acts : List Act) (start : Machine) (held : Option (List ℕ)) (desk : Desk) (line : List ℕ) → desk.position ≡ 0
+    → desk.breaks.items ≡ replicate (length acts) false → desk.report ≡ false → line ≡ []
+    → IsTold n cap acts start held [] (session_of start desk) held 0 line
+told_first n cap acts start held desk line position breaks report none =
+    let is : session_of start desk ≡ opening start (length acts) =
+    (λ i. record { machine = start; position = position i; breaks = breaks i; report = report i }) in
+    subst (λ (l : List ℕ). IsTold n cap acts start held [] (session_of start desk) held 0 l) (sym none)
+    (subst (λ (s : Session). IsTold n cap acts start held [] s held 0 []) (sym is) (nothing_told n cap acts start held))
+
+-- ---- what a read gave
+
+-- a part of it, and the rest
+front_and_rest : (buf : List ℕ) (room count : ℕ) → room ≤ count → take count buf ≡ take room buf ++ drop room (take count buf)
+front_and_rest buf room count within =
+    sym (take-append-drop room (take count buf)) ∙ ap (λ (xs : List ℕ). xs ++ drop room (take count buf)) (take-take room count buf within)
+
+-- the first bytes that it gave broke off
+pub ends_in_read : (n cap : ℕ) (acts : List Act) (start : Machine) (held : Option (List ℕ)) (before now after : Option (List ℕ))
+    (taken buf : List ℕ) (count room : ℕ) (machine : Machine) (holds : Option (List ℕ)) (fault : SessionFault) → room ≤ count
+    → Consumes before now taken → Consumes now after (take count buf)
+    → ((rest : List ℕ) → Stops n cap acts start held (lines_of (taken ++ (take room buf ++ rest))) machine holds fault)
+    → IfSome before (λ text. Ends n cap acts text after start held machine holds (Err fault))
+ends_in_read n cap acts start held before now after taken buf count room machine holds fault within first second stops =
+    ends_within n cap acts start held before now after taken (take count buf) (take room buf) (drop room (take count buf)) machine holds fault
+    first second (front_and_rest buf room count within) stops
+
+-- it gave more than there was room for
+pub ends_over : (n cap : ℕ) (acts : List Act) (start : Machine) (held : Option (List ℕ)) (before now after : Option (List ℕ))
+    (taken buf : List ℕ) (count room used : ℕ) (session : Session) (holds : Option (List ℕ)) (sent : ℕ) (line : List ℕ) → count ≤ length buf
+    → room ≡ min count (LIMIT - used) → room < count → used ≡ length taken → used ≤ LIMIT
+    → Consumes before now taken → Consumes now after (take count buf) → IsTold n cap acts start held (taken ++ take room buf) session holds sent line
+    → IfSome before (λ text. Ends n cap acts text after start held session.machine holds (Err TooMuch))
+ends_over n cap acts start held before now after taken buf count room used session holds sent line inside is less so few first second told' =
+    let fed : length (take room buf) ≡ room = long room buf (omega (arith, less, inside)) in
+    let all : length (take count buf) ≡ count = long count buf inside in
+    ends_too_much n cap acts start held before now after taken (take count buf) (take room buf) (drop room (take count buf)) session holds sent line
+    first second (front_and_rest buf room count (omega (arith, less))) (omega (arith, fed, is, less, so, few))
+    (omega (arith, length-drop room (take count buf), all, less)) told' where
+      long : (k : ℕ) (xs : List ℕ) → k ≤ length xs → length (take k xs) ≡ k
+      long k xs h = grind (arith, common_steps)
+
+-- it gave nothing
+nothing_read : (now after : Option (List ℕ)) (buf : List ℕ) (count : ℕ) → count ≡ 0 → Consumes now after (take count buf) → Consumes now after []
+nothing_read now after buf count none read = subst (λ (k : ℕ). Consumes now after (take k buf)) none read
+
+-- and no line is open
+pub ends_closed : (n cap : ℕ) (acts : List Act) (start : Machine) (held : Option (List ℕ)) (before now after : Option (List ℕ))
+    (taken buf : List ℕ) (count used : ℕ) (session : Session) (holds : Option (List ℕ)) (sent : ℕ) (line : List ℕ) → count ≡ 0
+    → used ≡ length taken → used ≤ LIMIT → Consumes before now taken → Consumes now after (take count buf) → IsAtEnd after → line ≡ []
+    → IsTold n cap acts start held taken session holds sent line
+    → IfSome before (λ text. Ends n cap acts text after start held session.machine holds (Ok tt))
+ends_closed n cap acts start held before now after taken buf count used session holds sent line none so few first second end empty told' =
+    ends_at_end n cap acts start held before now after taken session.machine holds first (nothing_read now after buf count none second) end
+    (omega (arith, so, few)) (closed_told n cap acts start held taken session holds sent line empty told')
+
+-- and the line that is open is answered
+pub ends_answered : (n cap : ℕ) (acts : List Act) (start : Machine) (held : Option (List ℕ)) (before now after : Option (List ℕ))
+    (taken buf : List ℕ) (count used : ℕ) (session on : Session) (holds gone : Option (List ℕ)) (sent : ℕ) (line : List ℕ) → count ≡ 0
+    → used ≡ length taken → used ≤ LIMIT → Consumes before now taken → Consumes now after (take count buf) → IsAtEnd after → 0 < length line
+    → IsTold n cap acts start held taken session holds sent line → on ≡ (after_line n cap acts session line).session
+    → Appends holds gone (after_line n cap acts session line).answer
+    → IfSome before (λ text. Ends n cap acts text after start held on.machine gone (Ok tt))
+ends_answered n cap acts start held before now after taken buf count used session on holds gone sent line none so few first second end some told' is wrote =
+    ends_at_end n cap acts start held before now after taken on.machine gone first (nothing_read now after buf count none second) end
+    (omega (arith, so, few)) (last_told n cap acts start held taken session on holds gone sent line some told' is wrote)
+
+-- and the line that is open breaks off
+pub ends_broken : (n cap : ℕ) (acts : List Act) (start : Machine) (held : Option (List ℕ)) (before now after : Option (List ℕ))
+    (taken buf : List ℕ) (count : ℕ) (session : Session) (holds gone : Option (List ℕ)) (sent : ℕ) (line : List ℕ) (machine : Machine)
+    (fault : SessionFault) → count ≡ 0 → Consumes before now taken → Consumes now after (take count buf) → IsAtEnd after → 0 < length line
+    → IsTold n cap acts start held taken session holds sent line → BreaksOff n cap acts session line sent holds machine gone fault
+    → IfSome before (λ text. Ends n cap acts text after start held machine gone (Err fault))
+ends_broken n cap acts start held before now after taken buf count session holds gone sent line machine fault none first second end some told' breaks =
+    breaks_at_end n cap acts start held before now after taken machine gone fault first (nothing_read now after buf count none second) end
+    (stops_at_last n cap acts start held taken session holds gone sent line machine fault some told' breaks)
+
+-- a desk for so many acts
+pub desk_first : (acts : List Act) (desk : Desk) → desk.position ≡ 0 → desk.breaks.items ≡ replicate (length acts) false → IsDeskOf acts desk
+desk_first acts desk position breaks = record {
+  within = omega (arith, position);
+  breaks = grind (arith, common_steps);
+}
+
+-- ---- whether a line is open
+
+pub is_none : (line : List ℕ) (count : ℕ) (is_empty : Bool) → count ≡ length line → is_empty ≡ (count == 0) → is_empty ≡ true → line ≡ []
+is_none [] count is_empty long is so = λ i. []
+is_none (byte ∷ line) count is_empty long is so =
+    let other : (count == 0) ≡ false = above count (omega (arith, long)) in
+    absurd (false≢true (sym (is ∙ other) ∙ so)) where
+      above : (k : ℕ) → 0 < k → (k == 0) ≡ false
+      above k h = grind (arith, common_steps)
+
+pub has_some : (line seen : List ℕ) (count : ℕ) (is_empty : Bool) → count ≡ length line → is_empty ≡ (count == 0) → is_empty ≡ false
+    → seen ≡ line → 0 < length seen
+has_some [] seen count is_empty long is so same = absurd (false≢true (sym so ∙ is ∙ ap (λ (k : ℕ). k == 0) long))
+has_some (byte ∷ line) seen count is_empty long is so same = omega (arith, ap length same)

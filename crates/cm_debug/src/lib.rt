@@ -9,7 +9,10 @@ mod lines;
 mod reader;
 mod reader_operands;
 mod running;
+mod sessions;
 mod stretch;
 mod want;
 
+pub use cm_session::SessionFault;
 pub use reader::read_command;
+pub use sessions::session;

@@ -1,0 +1,111 @@
+//! A session, from the bytes of a source to those of a sink.
+
+ghost use Rattle.std.specs.Prelude.{◌≡◌, ◌↔◌, true, false, IfSome, IsErrOf};
+ghost use Rattle.cm_session.specs.Ends.{Ends, is_write};
+
+use crate::desk::Desk;
+use crate::feeding::feed;
+use crate::lines::tell_line;
+use cm_array::{Machine, Runner};
+use cm_asm::Program;
+use cm_bits::{Sink, Source};
+use cm_model::Act;
+use cm_session::SessionFault;
+use std::alloc::Global;
+
+const LIMIT: usize = 1048576;
+
+const PIECE: usize = 4096;
+
+/// Answers commands line by line, at most 1,048,576 bytes of them, and leaves the machine as they leave it. Each answer
+/// is written before the bytes that follow its line are asked for.
+///
+/// After a fault of reading, and after too much, the lines that ended before are answered. After a failed write, or for
+/// want of memory or of a thread, a front of the answers is written, and the machine is that after a front of the lines
+/// and perhaps some of the acts that the next one runs.
+pub fn session<const N: usize, const CAP: usize, R: Runner<N, CAP>, I: Source, O: Sink>(
+    alloc: Global,
+    machine: &mut Machine<N, CAP>,
+    program: &Program,
+    commands: &mut I,
+    out: &mut O,
+    runner: &mut R,
+) -> Result<(), SessionFault>
+    requires runner { R.ready }
+    requires reader { I.has_failed commands.old ≡ false }
+    requires writer { O.has_failed out.old ≡ false }
+    ensures ends { IfSome (I.left commands.old) (λ text. Ends N CAP program.now.acts text (I.left commands.new)
+        machine.old.machine (O.contents out.old) machine.new.machine (O.contents out.new) result) }
+    ensures read { (I.has_failed commands.new ≡ true) ↔ IsErrOf result SessionFault.Read }
+    ensures write { O.has_failed out.new ≡ is_write result }
+{
+    answer_all(alloc, machine, program.acts(), commands, out, runner)
+}
+
+/// Answers the commands of a source, with a program of these acts.
+fn answer_all<const N: usize, const CAP: usize, R: Runner<N, CAP>, I: Source, O: Sink>(
+    alloc: Global,
+    machine: &mut Machine<N, CAP>,
+    acts: &[Act],
+    commands: &mut I,
+    out: &mut O,
+    runner: &mut R,
+) -> Result<(), SessionFault>
+    requires runner { R.ready }
+    requires reader { I.has_failed commands.old ≡ false }
+    requires writer { O.has_failed out.old ≡ false }
+    ensures ends { IfSome (I.left commands.old) (λ text. Ends N CAP acts.now text (I.left commands.new)
+        machine.old.machine (O.contents out.old) machine.new.machine (O.contents out.new) result) }
+    ensures read { (I.has_failed commands.new ≡ true) ↔ IsErrOf result SessionFault.Read }
+    ensures write { O.has_failed out.new ≡ is_write result }
+{
+    let Ok(mut desk) = Desk::new(alloc, acts.len()) else {
+        return Err(SessionFault::Memory);
+    };
+    let mut line = Vec::new(alloc);
+    let mut sent = 0u128;
+    let mut taken = 0;
+    let mut piece = [0u8; PIECE];
+    loop {
+        let Ok(count) = commands.read(&mut piece) else {
+            return Err(SessionFault::Read);
+        };
+        if count == 0 {
+            break;
+        }
+        let room = count.min(LIMIT - taken);
+        match feed(
+            alloc,
+            machine,
+            acts,
+            runner,
+            &mut desk,
+            &piece[..room],
+            &mut line,
+            out,
+            &mut sent,
+        ) {
+            Ok(()) => taken += room,
+            Err(fault) => return Err(fault),
+        }
+        if room < count {
+            return Err(SessionFault::TooMuch);
+        }
+    }
+    if line.is_empty() {
+        return Ok(());
+    }
+    match tell_line(
+        alloc,
+        machine,
+        acts,
+        runner,
+        &mut desk,
+        line.as_slice(),
+        out,
+        &mut sent,
+    ) {
+        Ok(()) => Ok(()),
+        Err(fault) => Err(fault),
+    }
+}
