@@ -26,6 +26,8 @@ pub fn list<I: Source, O: Sink>(
     ensures end { IsTrue (has_read_all result) → IsAtEnd (I.left source.new) }
     ensures read { (I.has_failed source.new ≡ true) ↔ IsErrOf result ProgramFault.Read }
     ensures read_within { IsErrOf result ProgramFault.Read → ConsumesAtMost LIMIT (I.left source.old) (I.left source.new) }
+    ensures memory_within { IsErrOf result ProgramFault.Memory
+        → ConsumesAtMost LIMIT (I.left source.old) (I.left source.new) }
     ensures write { O.has_failed sink.new ≡ is_write result }
 {
     let text = match take(alloc, source, LIMIT) {

@@ -19,6 +19,7 @@ pub fn expand(wanted: &Macro, context: Context, list: &mut Vec<Act>) -> Result<(
     ensures refused { IfErr result (λ fault. IsRefusal wanted.now context
         (vec_capacity list.old < vec_len list.old + length (acts_of wanted.now context)) fault) }
     ensures err { OnErr result (list.new.items ≡ list.old.items) }
+    ensures capacity { vec_capacity list.old ≤ vec_capacity list.new }
 {
     if let Some(fault) = fault_of(wanted, &context) {
         return Err(fault);
@@ -51,7 +52,8 @@ fn count_acts(wanted: &Macro, context: &Context) -> usize
 fn append(wanted: &Macro, context: &Context, list: &mut Vec<Act>)
     requires accepted { first_fault wanted.now context.now ≡ None }
     requires room { vec_len list.old + length (acts_of wanted.now context.now) ≤ vec_capacity list.old }
-    ensures { list.new.items ≡ list.old.items ++ acts_of wanted.now context.now }
+    ensures items { list.new.items ≡ list.old.items ++ acts_of wanted.now context.now }
+    ensures capacity { vec_capacity list.old ≤ vec_capacity list.new }
 {
     match *wanted {
         Macro::Add(d, s) => {

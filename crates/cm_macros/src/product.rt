@@ -27,9 +27,10 @@ pub fn push_product(list: &mut Vec<Act>, context: &Context, d: Field, x: Field, 
     requires factor { x.len ≡ d.len }
     requires other { y.len ≡ d.len }
     requires room { vec_len list.old + d.len + length (product d x y) + 2 ≤ vec_capacity list.old }
-    ensures { list.new.items ≡ list.old.items
+    ensures items { list.new.items ≡ list.old.items
         ++ map Act.Nano (number_bits context.now d 0
         ++ (product d x y ++ clear_flag context.now FACTOR ∷ clear_flag context.now CARRY ∷ [])) }
+    ensures capacity { vec_capacity list.old ≤ vec_capacity list.new }
 {
     push_number(list, context, d, 0);
     push_rounds(list, d, x, y);
