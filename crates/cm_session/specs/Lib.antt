@@ -6,3 +6,4 @@ pub mod Session
 pub mod Stretches
 pub mod Ends
 pub mod Laws
+pub mod Faults

@@ -1,5 +1,8 @@
 //! Why a session ends before its commands do.
 
+ghost use Rattle.std.specs.Prelude.{◌≡◌, ◌≤◌};
+ghost use Rattle.cm_session.specs.Faults.{fault_number};
+
 use thiserror::Error;
 
 /// Why a session ends before all its commands are answered.
@@ -16,4 +19,21 @@ pub enum SessionFault {
     Memory,
     #[error("a thread was not admitted or not started")]
     NoThread,
+}
+
+impl SessionFault {
+    /// The number that is reported of it.
+    pub fn number(self) -> u8
+        ensures value { result ≡ fault_number self }
+        ensures some { 1 ≤ result }
+        ensures known { result ≤ 38 }
+    {
+        match self {
+            SessionFault::Read => 30,
+            SessionFault::Write(_) => 31,
+            SessionFault::TooMuch => 32,
+            SessionFault::Memory => 33,
+            SessionFault::NoThread => 9,
+        }
+    }
 }
