@@ -3,3 +3,5 @@
 
 #[cfg(test)]
 mod reader;
+#[cfg(test)]
+mod sessions;
