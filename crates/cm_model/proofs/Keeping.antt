@@ -17,7 +17,7 @@ use Rattle.cm_model.specs.Steps.{Step, Instruct, Look, Inject, Cross, Deliver, I
 use Rattle.cm_model.specs.Machine.{Machine, run_of}
 use Rattle.cm_model.specs.Buffers.{taken_in, sent_in, machine_after_injection, outgoing, buffer_after_dimension, machine_after_dimension, kept, delivered_in, machine_after_delivery, after_step, after_steps, after_act, after_acts}
 use Rattle.cm_model.specs.Account.{account, all_injected, HasLines}
-use Rattle.cm_model.specs.Keeping.{IsMessage, IsEventOf, HasRoom, HasMessages, HasEvents, BornBefore, HasTagsOnce, IsMachine}
+use Rattle.cm_model.specs.Keeping.{IsMessage, IsEventOf, HasRoom, HasMessages, HasEvents, BornBefore, HasTagsOnce, IsSound, IsMachine}
 use Rattle.cm_model.proofs.Each.{length-each_from, get_or-each_below}
 use Rattle.cm_model.proofs.Flips.{across_below}
 use Rattle.cm_model.proofs.Injecting.{AllBelow-taken}
@@ -27,16 +27,6 @@ use Rattle.cm_model.proofs.Accounting.{AreSteps, AreSteps-act, injected_stand_in
 use Rattle.cm_model.proofs.Tags.{tags_stay_once, births_stay_before}
 use Rattle.cm_model.proofs.Wholes.{IsChip-after, IsChip-after_injection, IsChip-after_delivery}
 use Rattle.cm_model.proofs.Messages.{AllMessages-sent, AllMessages-after_dimension, AllMessages-kept, AllEvents-sent, AllEvents-delivered}
-
--- what even each step of a petit cycle keeps
-record IsSound (n cap : ℕ) (machine : Machine) : Type 0 where
-  chip_count : length machine.chips ≡ 2 ^ n
-  buffer_count : length machine.buffers ≡ 2 ^ n
-  log_count : length machine.logs ≡ 2 ^ n
-  whole : (c : ℕ) → c < 2 ^ n → IsChip (chip_at machine.chips c)
-  room : HasRoom n cap machine
-  messages : HasMessages n machine
-  events : HasEvents n machine
 
 -- chips that are made one by one
 made_whole : (n : ℕ) (f : ℕ → List Processor) → ((c : ℕ) → c < 2 ^ n → IsChip (f c)) → (c : ℕ) → c < 2 ^ n
@@ -139,7 +129,7 @@ sound-delivery n cap machine h =
           (h.messages c l)));
     }
 
-sound-step : (n cap : ℕ) (machine : Machine) (step : Step) → IsStep n step → IsSound n cap machine
+pub sound-step : (n cap : ℕ) (machine : Machine) (step : Step) → IsStep n step → IsSound n cap machine
     → IsSound n cap (after_step n cap machine step)
 sound-step n cap machine (Instruct nano) s h = sound-nano n cap machine nano h
 sound-step n cap machine Look s h = h
@@ -153,21 +143,24 @@ sound-steps n cap machine [] s h = h
 sound-steps n cap machine (step ∷ steps) s h =
     sound-steps n cap (after_step n cap machine step) steps s.1 (sound-step n cap machine step s.0 h)
 
+-- a machine is sound
+pub sound-machine : (n cap : ℕ) (machine : Machine) → IsMachine n cap machine → IsSound n cap machine
+sound-machine n cap machine h = record {
+  chip_count = h.chip_count;
+  buffer_count = h.buffer_count;
+  log_count = h.log_count;
+  whole = h.whole;
+  room = h.room;
+  messages = h.messages;
+  events = h.events;
+}
+
 -- an act keeps a machine what it is
 pub IsMachine-after_act : (n cap : ℕ) (machine : Machine) (a : Act) → IsMachine n cap machine
     → IsMachine n cap (after_act n cap machine a)
 IsMachine-after_act n cap machine a h =
     let sound : IsSound n cap (after_act n cap machine a) = sound-steps n cap machine (steps_of n a) (AreSteps-act n a)
-    (record {
-      chip_count = h.chip_count;
-      buffer_count = h.buffer_count;
-      log_count = h.log_count;
-      whole =
-          h.whole;
-      room = h.room;
-      messages = h.messages;
-      events = h.events;
-    }) in
+    (sound-machine n cap machine h) in
     let same : run_of n cap machine (a ∷ []) ≡ after_act n cap machine a = run_of-one n cap machine a h.buffer_count in
     record {
       chip_count = sound.chip_count;

@@ -31,3 +31,5 @@ pub mod Blanks
 pub mod Apart
 pub mod Finding
 pub mod Unlogged
+pub mod Sinces
+pub mod Delivered

@@ -60,6 +60,16 @@ pub record HasGoodTags (n : ℕ) (machine : Machine) : Type 0 where
   pub once : HasTagsOnce n machine
   pub born : BornBefore n machine
 
+-- what holds at every step of a run, in the midst of a petit cycle too: counts, whole chips, room, messages, events
+pub record IsSound (n cap : ℕ) (machine : Machine) : Type 0 where
+  pub chip_count : length machine.chips ≡ 2 ^ n
+  pub buffer_count : length machine.buffers ≡ 2 ^ n
+  pub log_count : length machine.logs ≡ 2 ^ n
+  pub whole : (c : ℕ) → c < 2 ^ n → IsChip (chip_at machine.chips c)
+  pub room : HasRoom n cap machine
+  pub messages : HasMessages n machine
+  pub events : HasEvents n machine
+
 -- of a cube of n dimensions whose routers have room for cap messages each
 pub record IsMachine (n cap : ℕ) (machine : Machine) : Type 0 where
   pub chip_count : length machine.chips ≡ 2 ^ n

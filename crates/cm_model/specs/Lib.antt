@@ -17,5 +17,6 @@ pub mod Found
 pub mod Keeping
 pub mod StepLaws
 pub mod Laws
+pub mod RunLaws
 pub mod Leaver
 pub mod Unlogged

@@ -9,6 +9,7 @@ mod grid;
 mod laws;
 mod letters;
 mod message;
+mod run_laws;
 
 pub use act::{Act, Nano};
 pub use found::Found;
@@ -23,3 +24,7 @@ pub use laws::{
 };
 pub use letters::{RECEIVED_PAYLOAD, SENT_PAYLOAD, SENT_PROC, SENT_REL};
 pub use message::{Event, Message, Tag};
+pub use run_laws::{
+    delivered_are_received, machines_are_sound, runs_are_told_by_phases, sinces_stay_apart,
+    steps_keep_soundness,
+};
