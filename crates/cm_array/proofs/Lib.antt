@@ -8,3 +8,4 @@ mod Machines
 mod Accounts
 mod Building
 mod Tagging
+mod Poking

@@ -30,7 +30,7 @@ use Rattle.cm_array.proofs.Lists.{each_after_set}
 use Rattle.cm_array.proofs.Searching.{AreOf}
 
 -- a machine with other whole chips
-IsMachine-with_chips : (n cap : ℕ) (machine : Machine) (chips : Chips) → length chips ≡ 2 ^ n → ((c : ℕ) → c < 2 ^ n → IsChip (chip_at chips c))
+pub IsMachine-with_chips : (n cap : ℕ) (machine : Machine) (chips : Chips) → length chips ≡ 2 ^ n → ((c : ℕ) → c < 2 ^ n → IsChip (chip_at chips c))
     → IsMachine n cap machine → IsMachine n cap (record machine { chips = chips })
 unfolding account all_injected
 IsMachine-with_chips n cap machine chips long whole h = record {

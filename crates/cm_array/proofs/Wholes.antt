@@ -21,7 +21,7 @@ with_processor chip p processor h new =
     (cases_lt p 16)
 
 -- a chip with another memory bit
-IsChip-with_memory_bit : (chip : List Processor) (p at : ℕ) (b : Bool) → IsChip chip → IsChip (with_memory_bit chip p at b)
+pub IsChip-with_memory_bit : (chip : List Processor) (p at : ℕ) (b : Bool) → IsChip chip → IsChip (with_memory_bit chip p at b)
 unfolding with_memory_bit
 IsChip-with_memory_bit chip p at b h =
     with_processor chip p (record (processor_at chip p) { memory = set (processor_at chip p).memory at b }) h
@@ -32,7 +32,7 @@ pub IsChip-poked_bit : (chip next : List Processor) (p at : ℕ) (b : Bool) → 
 IsChip-poked_bit chip next p at b is h = subst (λ (c : List Processor). IsChip c) (sym is) (IsChip-with_memory_bit chip p at b h)
 
 -- a chip with another flag, but not flag 8
-IsChip-with_flag : (chip : List Processor) (p number : ℕ) (b : Bool) → (number ≡ 8 → ⊥) → IsChip chip → IsChip (with_flag chip p number b)
+pub IsChip-with_flag : (chip : List Processor) (p number : ℕ) (b : Bool) → (number ≡ 8 → ⊥) → IsChip chip → IsChip (with_flag chip p number b)
 unfolding with_flag
 IsChip-with_flag chip p number b other h =
     with_processor chip p (record (processor_at chip p) { flags = set (processor_at chip p).flags number b }) h

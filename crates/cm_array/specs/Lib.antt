@@ -5,3 +5,4 @@ pub mod Acts
 pub mod Pokes
 pub mod Building
 pub mod Tags
+pub mod PokeLaws

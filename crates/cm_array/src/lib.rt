@@ -5,10 +5,12 @@ mod builder;
 mod finding;
 mod machine;
 mod parts;
+mod poke_laws;
 mod runner;
 mod stepping;
 mod tags;
 
 pub use builder::{BuildFault, Builder};
 pub use machine::{Machine, MachineFault};
+pub use poke_laws::{flag_pokes_keep_machines, pokes_keep_machines};
 pub use runner::{Plain, RunFault, Runner};
