@@ -1,0 +1,49 @@
+-- What a cut of a list reads, and that a cut of a made list is a made list.
+use Rattle.std.proofs.Common.{◌≡◌, ℕ, ◌+◌, ◌-◌, ◌<◌, ◌≤◌, Bool, true, false, List, [], length, get_or, take, drop, sym, ◌∙◌, ap, arith, ext_get_or}
+use Rattle.std.proofs.lemmas.Bool.Decides.{nat_tests}
+use Rattle.std.proofs.lemmas.List.{length-take-le, length-drop, get_or-take, get_or-drop}
+use Rattle.cm_model.specs.Each.{each_from}
+use Rattle.cm_model.proofs.Each.{length-each_from, get_or-each_from, get_or-each_below}
+use Rattle.cm_blocks.specs.Parts.{Part, cut, part, is_within}
+
+-- what a cut reads at a place
+pub read-cut_at : {X : Type 0} (first count : ℕ) (xs : List X) (i : ℕ) (d : X) → i < count
+    → get_or (cut first count xs) i d ≡ get_or xs (first + i) d
+unfolding cut
+read-cut_at first count xs i d below = get_or-take count (drop first xs) i d below ∙ get_or-drop first xs i d
+
+-- and of an element by its number in the whole
+pub read-cut : {X : Type 0} (first count : ℕ) (xs : List X) (c : ℕ) (d : X) → first ≤ c → c < first + count
+    → get_or (cut first count xs) (c - first) d ≡ get_or xs c d
+read-cut first count xs c d from below =
+    read-cut_at first count xs (c - first) d (omega arith)
+    ∙ ap (λ (k : ℕ). get_or xs k d) (let e : first + (c - first) ≡ c = omega arith in e)
+
+pub length-cut : {X : Type 0} (first count : ℕ) (xs : List X) → first + count ≤ length xs
+    → length (cut first count xs) ≡ count
+unfolding cut
+length-cut first count xs h = length-take-le count (drop first xs) (omega (arith, length-drop first xs))
+
+-- a cut of a made list is made by any function that agrees with the first on it
+pub cut-same : {X : Type 0} (d : X) (first count len : ℕ) (f g : ℕ → X) → first + count ≤ len
+    → ((i : ℕ) → i < count → f (first + i) ≡ g (first + i))
+    → cut first count (each_from 0 len f) ≡ each_from first count g
+cut-same d first count len f g h same =
+    let long : length (cut first count (each_from 0 len f)) ≡ count =
+    length-cut first count (each_from 0 len f) (omega (arith, length-each_from 0 len f, h)) in
+    ext_get_or d (cut first count (each_from 0 len f)) (each_from first count g)
+    (long ∙ sym (length-each_from first count g))
+    (λ i l. let below : i < count = omega (arith, long, l) in
+    read-cut_at first count (each_from 0 len f) i d below
+    ∙ (get_or-each_below len f (first + i) d (omega (arith, h, below))
+    ∙ (same i below ∙ sym (get_or-each_from first count g i d below))))
+
+-- a number within a part
+pub within-part : (s : Part) (c : ℕ) → s.first ≤ c → c < s.first + s.count → is_within s c ≡ true
+within-part s c from below = grind (arith, nat_tests)
+
+pub within-from : (s : Part) (c : ℕ) → is_within s c ≡ true → s.first ≤ c
+within-from s c h = grind (arith, nat_tests)
+
+pub within-below : (s : Part) (c : ℕ) → is_within s c ≡ true → c < s.first + s.count
+within-below s c h = grind (arith, nat_tests)

@@ -1,0 +1,5 @@
+pub mod Cutting
+pub mod Local
+pub mod Mailing
+pub mod Bands
+pub mod News

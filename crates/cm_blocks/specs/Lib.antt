@@ -1,0 +1,5 @@
+pub mod Rounds
+pub mod Parts
+pub mod Parcels
+pub mod Steps
+pub mod Laws

@@ -1,0 +1,67 @@
+-- Parcels: what a block sends to another at a round, and to which. Ours.
+use Rattle.std.specs.Prelude.{ℕ, ◌+◌, ◌-◌, ◌*◌, ◌/◌, ◌%◌, ◌^◌, Bool, false, List, [], Option, None, slice_index_or, bit_xor}
+use Rattle.cm_bits.specs.declared.place.Place.{Place}
+use Rattle.cm_bits.specs.declared.plane.Dir.{Dir}
+use Rattle.cm_bits.specs.declared.plane.Dir.TheVariants.{North, East, West, South}
+use Rattle.cm_model.specs.declared.act.Nano.{Nano}
+use Rattle.cm_model.specs.declared.message.Message.{Message}
+use Rattle.cm_model.specs.Each.{each_from}
+use Rattle.cm_model.specs.Place.{chip_columns, columns, place_at}
+use Rattle.cm_model.specs.Processor.{Processor}
+use Rattle.cm_model.specs.Instruction.{flag_output}
+use Rattle.cm_model.specs.Chip.{processor_at}
+use Rattle.cm_model.specs.Buffers.{outgoing}
+use Rattle.cm_model.specs.Steps.{Step, Instruct, Look, Inject, Cross, Deliver}
+use Rattle.cm_blocks.specs.Parts.{Part, chip_in, buffer_in}
+
+-- what is sent: nothing; by chip of the sender, a message or none; by column of the grid, a bit
+pub data Parcel : Type 0 where
+  Blank : Parcel
+  Mail : List (Option Message) → Parcel
+  Edge : List Bool → Parcel
+
+-- what a parcel has at a place: no message and no bit where it has none
+abbrev pub mail_in : Parcel → ℕ → Option Message
+mail_in Blank i = None
+mail_in (Mail lane) i = slice_index_or lane i None
+mail_in (Edge row) i = None
+
+abbrev pub bit_in : Parcel → ℕ → Bool
+bit_in Blank i = false
+bit_in (Mail lane) i = false
+bit_in (Edge row) i = slice_index_or row i false
+
+-- the flag output at a place, where a function reads the chips
+abbrev pub output : Nano → (ℕ → List Processor) → Place → Bool
+output nano read place = flag_output nano (processor_at (read place.chip) place.proc)
+
+-- the row of the grid that a part sends over its edge: northward its first, southward its last
+abbrev pub edge_row : ℕ → Dir → Part → ℕ
+edge_row n North s = 4 * (s.first / chip_columns n)
+edge_row n South s = 4 * (s.first / chip_columns n) + 4 * (s.count / chip_columns n) - 1
+edge_row n East s = 0
+edge_row n West s = 0
+
+-- what a part sends at a step: in a dimension who leaves each chip, over NEWS the outputs of its edge row
+unfoldable pub due : ℕ → ℕ → Step → Part → Parcel
+due n cap (Instruct nano) s =
+    Edge (each_from 0 (columns n) (λ column. output nano (chip_in s) (place_at n (edge_row n nano.dir s) column)))
+due n cap Look s = Blank
+due n cap Inject s = Blank
+due n cap (Cross d) s = Mail (each_from s.first s.count (λ c. outgoing cap d (buffer_in s c)))
+due n cap Deliver s = Blank
+
+-- the block of 2 ^ k from which block b gets its parcel: over NEWS northward the one below it, southward the one above, round the torus
+abbrev pub sender_over : ℕ → Dir → ℕ → ℕ
+sender_over k North b = (b + 1) % 2 ^ k
+sender_over k South b = (b + 2 ^ k - 1) % 2 ^ k
+sender_over k East b = b
+sender_over k West b = b
+
+-- in a dimension the one across it
+abbrev pub sender : ℕ → ℕ → Step → ℕ → ℕ
+sender n k (Instruct nano) b = sender_over k nano.dir b
+sender n k Look b = b
+sender n k Inject b = b
+sender n k (Cross d) b = bit_xor b (2 ^ (d - (n - k)))
+sender n k Deliver b = b
