@@ -3,3 +3,4 @@ pub mod Local
 pub mod Mailing
 pub mod Bands
 pub mod News
+pub mod Stepping

@@ -156,3 +156,70 @@ over n k b North machine place h l from below proc out =
           from = from-row n k other on (column_of n place) h (omega (arith, is));
           below = below-row n k other on (column_of n place) h (omega (arith, is, some)) wide;
         }
+
+-- what comes in over NEWS at a place of a block
+news_is : (n cap k b : ℕ) (nano : Nano) (machine : Machine) (c p : ℕ) → k ≤ n - n / 2 → b < 2 ^ k
+    → b * size n k ≤ c → c < b * size n k + size n k → p < 16 →
+    news_in n nano (due n cap (Instruct nano) (block n k (sender_over k nano.dir b) machine)) (block n k b machine) c p
+    ≡ flag_output nano (processor_of machine.chips (source n nano.dir (record { chip = c; proc = p })))
+unfolding part due
+news_is n cap k b nano machine c p h l from below proc =
+    let place : Place = record { chip = c; proc = p } in
+    let s : Part = block n k b machine in
+    let sent : Part = block n k (sender_over k nano.dir b) machine in
+    let q : Place = source n nano.dir place in
+    let row : ℕ → Bool = λ column. output nano (chip_in sent) (place_at n (edge_row n nano.dir sent) column) in
+    let reads : (chip : List Processor) → chip ≡ chip_at machine.chips q.chip → flag_output nano (processor_at chip q.proc)
+    ≡ flag_output nano (processor_of machine.chips q) =
+    λ chip same. ap (λ (z : List Processor). flag_output nano (processor_at z q.proc)) same in
+    ⊎_elim
+    (λ (e : is_within s q.chip ≡ true). rw e (reads (chip_in s q.chip)
+    (read-chip (b * size n k) (size n k) machine q.chip (within-from s q.chip e) (within-below s q.chip e))))
+    (λ (e : is_within s q.chip ≡ false).
+    let far : IsOver n k b nano.dir machine place = over n k b nano.dir machine place h l from below proc e in
+    rw e (get_or-each_below (columns n) row (column_of n place) false (column_of-lt n place proc)
+    ∙ (ap (λ (z : Place). output nano (chip_in sent) z) (sym far.same)
+    ∙ reads (chip_in sent q.chip)
+    (read-chip (sender_over k nano.dir b * size n k) (size n k) machine q.chip far.from far.below))))
+    (cases_Bool (is_within s q.chip))
+
+-- what comes in at a place of a block
+incoming_is : (n cap k b : ℕ) (nano : Nano) (machine : Machine) (c p : ℕ) → k ≤ n - n / 2 → b < 2 ^ k
+    → b * size n k ≤ c → c < b * size n k + size n k → p < 16 →
+    incoming n nano machine.chips c p
+    ≡ incoming_in n nano (due n cap (Instruct nano) (block n k (sender_over k nano.dir b) machine)) (block n k b machine) c p
+unfolding incoming incoming_in
+incoming_is n cap k b nano machine c p h l from below proc =
+    ⊎_elim
+    (λ (e : (nano.write == NEWS) ≡ true). rw e (sym (news_is n cap k b nano machine c p h l from below proc)))
+    (λ (e : (nano.write == NEWS) ≡ false). rw e
+    (ap (λ (z : List Processor). chain_output nano z (predecessor p))
+    (sym (read-chip (b * size n k) (size n k) machine c from below))))
+    (cases_Bool (nano.write == NEWS))
+
+pub block-instruct : (n cap k b : ℕ) (nano : Nano) (machine : Machine) → k ≤ n - n / 2 → b < 2 ^ k →
+    block n k b (record machine { chips = after_nano n nano machine.chips })
+    ≡ part_after n cap (Instruct nano)
+    (due n cap (Instruct nano) (block n k (sender n k (Instruct nano) b) machine)) (block n k b machine)
+unfolding part after_nano part_after
+block-instruct n cap k b nano machine h l =
+    let first : ℕ = b * size n k in
+    let s : Part = block n k b machine in
+    let parcel : Parcel = due n cap (Instruct nano) (block n k (sender n k (Instruct nano) b) machine) in
+    let chips = cut-same [] first (size n k) (2 ^ n)
+    (λ c. chip_after nano (incoming n nano machine.chips c) (chip_at machine.chips c))
+    (λ c. chip_after nano (incoming_in n nano parcel s c) (chip_in s c)) (block-fits n k b (omega arith) l)
+    (λ i inside.
+    same_chip nano (incoming n nano machine.chips (first + i)) (incoming_in n nano parcel s (first + i))
+    (chip_at machine.chips (first + i))
+    (λ p proc takes. incoming_is n cap k b nano machine (first + i) p h l (omega arith) (omega arith) proc)
+    ∙ ap (chip_after nano (incoming_in n nano parcel s (first + i)))
+    (sym (read-chip first (size n k) machine (first + i) (omega arith) (omega arith)))) in
+    λ j. record {
+      first = first;
+      count = size n k;
+      chips = chips j;
+      buffers = s.buffers;
+      logs = s.logs;
+      clock = machine.clock;
+    }
