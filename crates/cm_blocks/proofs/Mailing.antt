@@ -32,6 +32,16 @@ low_across m b i d h l =
     ∙ (xor_block m b 0 i (2 ^ d) l (pow_below d m h)
     ∙ ap (λ (z : ℕ). z * 2 ^ m + bit_xor i (2 ^ d)) (xor_zero_r b))
 
+-- so the chip across is in the block
+pub stays_within : (n k b d : ℕ) (machine : Machine) (i : ℕ) → d < n - k → i < size n k
+    → is_within (block n k b machine) (bit_xor (b * size n k + i) (2 ^ d)) ≡ true
+unfolding part
+stays_within n k b d machine i low inside =
+    let other : ℕ = bit_xor (b * size n k + i) (2 ^ d) in
+    let small : bit_xor i (2 ^ d) < size n k = xor_lt (n - k) i (2 ^ d) inside (pow_below d (n - k) low) in
+    let there : other ≡ b * size n k + bit_xor i (2 ^ d) = low_across (n - k) b i d low inside in
+    within-part (block n k b machine) other (omega (arith, there)) (omega (arith, there, small))
+
 -- across one of the upper it has the same place in another
 high_across : (m b i d : ℕ) → m ≤ d → i < 2 ^ m
     → bit_xor (b * 2 ^ m + i) (2 ^ d) ≡ bit_xor b (2 ^ (d - m)) * 2 ^ m + i
@@ -60,9 +70,7 @@ mail_is n cap k b d machine i h l below inside =
     (λ (e : is_within s other ≡ false). rw e
     (⊎_elim
     (λ (low : d < m).
-    let small : bit_xor i (2 ^ d) < 2 ^ m = xor_lt m i (2 ^ d) inside (pow_below d m low) in
-    let there : other ≡ b * 2 ^ m + bit_xor i (2 ^ d) = low_across m b i d low inside in
-    absurd (both_ways (is_within s other) e (within-part s other (omega (arith, there)) (omega (arith, there, small)))))
+    absurd (both_ways (is_within s other) e (stays_within n k b d machine i low inside)))
     (λ (high : m ≤ d).
     let there : other ≡ from * size n k + i = high_across m b i d high inside in
     let place : b * size n k + i - b * size n k ≡ i = omega arith in

@@ -66,12 +66,12 @@ band_rows : (n k : ℕ) → k ≤ n - n / 2 → size n k / chip_columns n ≡ ba
 band_rows n k h = ap (λ (z : ℕ). z / chip_columns n) (size-band n k h) ∙ mul-div_cancel (band n k) (columns_some n)
 
 -- a source out of a block: it stands at the sender's edge, in the same column
-record IsOver (n k b : ℕ) (dir : Dir) (machine : Machine) (place : Place) : Type 0 where
-  same : source n dir place ≡ place_at n (edge_row n dir (block n k (sender_over k dir b) machine)) (column_of n place)
-  from : sender_over k dir b * size n k ≤ (source n dir place).chip
-  below : (source n dir place).chip < sender_over k dir b * size n k + size n k
+pub record IsOver (n k b : ℕ) (dir : Dir) (machine : Machine) (place : Place) : Type 0 where
+  pub same : source n dir place ≡ place_at n (edge_row n dir (block n k (sender_over k dir b) machine)) (column_of n place)
+  pub from : sender_over k dir b * size n k ≤ (source n dir place).chip
+  pub below : (source n dir place).chip < sender_over k dir b * size n k + size n k
 
-over : (n k b : ℕ) (dir : Dir) (machine : Machine) (place : Place) → k ≤ n - n / 2 → b < 2 ^ k
+pub over : (n k b : ℕ) (dir : Dir) (machine : Machine) (place : Place) → k ≤ n - n / 2 → b < 2 ^ k
     → b * size n k ≤ place.chip → place.chip < b * size n k + size n k → place.proc < 16
     → is_within (block n k b machine) (source n dir place).chip ≡ false → IsOver n k b dir machine place
 unfolding neighbour part
