@@ -1,6 +1,6 @@
 -- Bands of the torus: so many rows of chips each, and which row lies over the edge.
-use Rattle.std.proofs.Common.{◌≡◌, ℕ, zero, suc, ◌+◌, ◌-◌, ◌*◌, ◌/◌, ◌%◌, ◌^◌, ◌<◌, ◌≤◌, ◌⊎◌, inl, inr, ◌∙◌, ap, sym, subst, arith}
-use Rattle.std.proofs.lemmas.Nat.{pow-add, pow_pos, mul-le, div_below, le-div}
+use Rattle.std.proofs.Common.{◌≡◌, ℕ, zero, suc, ◌+◌, ◌-◌, ◌*◌, ◌/◌, ◌%◌, ◌^◌, ◌<◌, ◌≤◌, ◌⊎◌, inl, inr, ◌∙◌, ap, sym, arith}
+use Rattle.std.proofs.lemmas.Nat.{pow-add, mul-le, div_below, le-div}
 use Rattle.std.proofs.Math.Nat.{mod_self}
 use Rattle.std.proofs.lemmas.Bool.{cases_lt}
 use Rattle.cm_model.specs.Place.{chip_columns, rows}

@@ -1,10 +1,10 @@
 -- What a cut of a list reads, and that a cut of a made list is a made list.
-use Rattle.std.proofs.Common.{◌≡◌, ℕ, ◌+◌, ◌-◌, ◌<◌, ◌≤◌, Bool, true, false, List, [], length, get_or, take, drop, sym, ◌∙◌, ap, arith, ext_get_or}
+use Rattle.std.proofs.Common.{◌≡◌, ℕ, ◌+◌, ◌-◌, ◌<◌, ◌≤◌, true, List, length, get_or, drop, sym, ◌∙◌, ap, arith, ext_get_or}
 use Rattle.std.proofs.lemmas.Bool.Decides.{nat_tests}
 use Rattle.std.proofs.lemmas.List.{length-take-le, length-drop, get_or-take, get_or-drop}
 use Rattle.cm_model.specs.Each.{each_from}
 use Rattle.cm_model.proofs.Each.{length-each_from, get_or-each_from, get_or-each_below}
-use Rattle.cm_blocks.specs.Parts.{Part, cut, part, is_within}
+use Rattle.cm_blocks.specs.Parts.{Part, cut, is_within}
 
 -- what a cut reads at a place
 pub read-cut_at : {X : Type 0} (first count : ℕ) (xs : List X) (i : ℕ) (d : X) → i < count

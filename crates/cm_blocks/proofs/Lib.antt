@@ -4,3 +4,7 @@ pub mod Mailing
 pub mod Bands
 pub mod News
 pub mod Stepping
+pub mod Rounding
+pub mod Joining
+pub mod Filling
+mod StandardFacts

@@ -1,9 +1,6 @@
 -- Injection and delivery at a part are those of the whole there.
-use Rattle.std.proofs.Common.{◌≡◌, ℕ, ◌+◌, ◌-◌, ◌<◌, ◌≤◌, ◌^◌, List, [], ◌++◌, length, map, refl, sym, ap, arith}
-use Rattle.cm_model.specs.declared.message.Message.{Message}
-use Rattle.cm_model.specs.declared.message.Event.{Event}
+use Rattle.std.proofs.Common.{◌≡◌, ℕ, ◌+◌, ◌<◌, ◌≤◌, ◌^◌, [], ◌++◌, length, map, sym, arith}
 use Rattle.cm_model.specs.declared.message.Event.TheVariants.{Injected, Delivered}
-use Rattle.cm_model.specs.Processor.{Processor}
 use Rattle.cm_model.specs.Array.{chip_at, list_at}
 use Rattle.cm_model.specs.Letters.{senders_taken, messages_sent, chip_after_injection, can_receive, chip_after_delivery}
 use Rattle.cm_model.specs.Machine.{Machine}

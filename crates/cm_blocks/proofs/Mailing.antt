@@ -1,10 +1,9 @@
 -- A dimension step at a block: within it from the chip across, over its bounds from the parcel at the chip's own place.
-use Rattle.std.proofs.Common.{◌≡◌, ℕ, ◌+◌, ◌-◌, ◌*◌, ◌<◌, ◌≤◌, ◌^◌, Bool, true, false, [], None, get_or, sym, ◌∙◌, ap, ⊎_elim, arith}
+use Rattle.std.proofs.Common.{◌≡◌, ℕ, ◌+◌, ◌-◌, ◌*◌, ◌<◌, ◌≤◌, ◌^◌, true, false, [], None, get_or, sym, ◌∙◌, ap, ⊎_elim, arith}
 use Rattle.std.proofs.lemmas.Bool.{cases_Bool, cases_lt, both_ways}
-use Rattle.std.proofs.lemmas.Nat.{xor_block, xor_lt, pow_below, pow-add, pow_pos, mul-le, mul-add-lt}
+use Rattle.std.proofs.lemmas.Nat.{xor_block, xor_lt, pow_below, pow-add, pow_pos, mul-le}
 use Rattle.std.specs.Prelude.{bit_xor}
 use Rattle.std.specs.Int.Bits.{xor_zero_r}
-use Rattle.cm_model.specs.declared.message.Message.{Message}
 use Rattle.cm_model.specs.Each.{each_from}
 use Rattle.cm_model.specs.Array.{list_at}
 use Rattle.cm_model.specs.Machine.{Machine}
@@ -12,7 +11,7 @@ use Rattle.cm_model.specs.Steps.{Cross}
 use Rattle.cm_model.specs.Buffers.{outgoing, buffer_after_dimension, machine_after_dimension}
 use Rattle.cm_model.proofs.Each.{get_or-each_from}
 use Rattle.cm_blocks.specs.Parts.{Part, part, block, size, is_within, buffer_in}
-use Rattle.cm_blocks.specs.Parcels.{Parcel, Mail, mail_in, due, sender}
+use Rattle.cm_blocks.specs.Parcels.{Parcel, due, sender}
 use Rattle.cm_blocks.specs.Steps.{mail_for, part_after}
 use Rattle.cm_blocks.proofs.Cutting.{cut-same, within-part, within-from, within-below}
 use Rattle.cm_blocks.proofs.Local.{read-buffer}
@@ -43,7 +42,7 @@ stays_within n k b d machine i low inside =
     within-part (block n k b machine) other (omega (arith, there)) (omega (arith, there, small))
 
 -- across one of the upper it has the same place in another
-high_across : (m b i d : ℕ) → m ≤ d → i < 2 ^ m
+pub high_across : (m b i d : ℕ) → m ≤ d → i < 2 ^ m
     → bit_xor (b * 2 ^ m + i) (2 ^ d) ≡ bit_xor b (2 ^ (d - m)) * 2 ^ m + i
 high_across m b i d h l =
     let upper : 2 ^ d ≡ 2 ^ (d - m) * 2 ^ m + 0 =

@@ -1,5 +1,5 @@
 -- An instruction at a block: over NEWS from within, or from the sender's edge row in the same column.
-use Rattle.std.proofs.Common.{◌≡◌, ℕ, ◌+◌, ◌-◌, ◌*◌, ◌/◌, ◌%◌, ◌^◌, ◌<◌, ◌≤◌, ◌==◌, Bool, true, false, List, [], Option, Some, None, get_or, refl, sym, ◌∙◌, ap, subst, ⊎_elim, inl, inr, ◌⊎◌, arith}
+use Rattle.std.proofs.Common.{◌≡◌, ℕ, ◌+◌, ◌-◌, ◌*◌, ◌/◌, ◌%◌, ◌^◌, ◌<◌, ◌≤◌, ◌==◌, Bool, true, false, List, [], sym, ◌∙◌, ap, ⊎_elim, inl, inr, ◌⊎◌, arith}
 use Rattle.std.proofs.lemmas.Bool.{cases_Bool, both_ways}
 use Rattle.std.proofs.lemmas.Nat.{pow_pos}
 use Rattle.std.proofs.Math.Nat.{mod-lt, mul-div_cancel}
@@ -7,7 +7,6 @@ use Rattle.cm_bits.specs.declared.place.Place.{Place}
 use Rattle.cm_bits.specs.declared.plane.Dir.{Dir}
 use Rattle.cm_bits.specs.declared.plane.Dir.TheVariants.{North, East, West, South}
 use Rattle.cm_model.specs.declared.act.Nano.{Nano}
-use Rattle.cm_model.specs.Each.{each_from}
 use Rattle.cm_model.specs.Place.{chip_columns, rows, columns, row_of, column_of, place_at, neighbour, source, predecessor}
 use Rattle.cm_model.specs.Processor.{Processor, NEWS}
 use Rattle.cm_model.specs.Instruction.{flag_output}
@@ -19,7 +18,7 @@ use Rattle.cm_model.proofs.Each.{get_or-each_below}
 use Rattle.cm_model.proofs.Incoming.{same_chip}
 use Rattle.cm_model.proofs.Torus.{columns_some, column_of-lt}
 use Rattle.cm_blocks.specs.Parts.{Part, part, block, size, is_within, chip_in}
-use Rattle.cm_blocks.specs.Parcels.{Parcel, Edge, bit_in, output, edge_row, due, sender_over, sender}
+use Rattle.cm_blocks.specs.Parcels.{Parcel, output, edge_row, due, sender_over, sender}
 use Rattle.cm_blocks.specs.Steps.{news_in, incoming_in, part_after}
 use Rattle.cm_blocks.proofs.Bands.{band, size-band, rows-band, block-row, row-from, row-below, its_row-from, its_row-below, row_back, row_on}
 use Rattle.cm_blocks.proofs.Cutting.{cut-same, within-part, within-from, within-below}
@@ -99,12 +98,16 @@ over n k b South machine place h l from below proc out =
   where
     wide : column_of n place < columns n
     wide = column_of-lt n place proc
+
     back : ℕ
     back = (row_of n place + rows n - 1) % rows n
+
     back-is : back ≡ (row_of n place + 4 * (2 ^ k * band n k) - 1) % (4 * (2 ^ k * band n k))
     back-is = ap (λ (w : ℕ). (row_of n place + w - 1) % w) (rows-band n k h)
+
     other : ℕ
     other = (b + 2 ^ k - 1) % 2 ^ k
+
     by_edge : ((row_of n place + 4 * (2 ^ k * band n k) - 1) % (4 * (2 ^ k * band n k)) ≡ row_of n place - 1)
         × (4 * (b * band n k) < row_of n place)
         ⊎ ((row_of n place + 4 * (2 ^ k * band n k) - 1) % (4 * (2 ^ k * band n k)) ≡ 4 * (other * band n k) + 4 * band n k - 1)
@@ -131,12 +134,16 @@ over n k b North machine place h l from below proc out =
   where
     wide : column_of n place < columns n
     wide = column_of-lt n place proc
+
     on : ℕ
     on = (row_of n place + 1) % rows n
+
     on-is : on ≡ (row_of n place + 1) % (4 * (2 ^ k * band n k))
     on-is = ap (λ (w : ℕ). (row_of n place + 1) % w) (rows-band n k h)
+
     other : ℕ
     other = (b + 1) % 2 ^ k
+
     by_edge : ((row_of n place + 1) % (4 * (2 ^ k * band n k)) ≡ row_of n place + 1)
         × (row_of n place + 1 < 4 * (b * band n k + band n k))
         ⊎ ((row_of n place + 1) % (4 * (2 ^ k * band n k)) ≡ 4 * (other * band n k))

@@ -1,12 +1,13 @@
 -- Laws of blocks and rounds, each the contract of a function of its name. Ours.
-use Rattle.std.specs.Prelude.{◌≡◌, ℕ, ◌+◌, ◌-◌, ◌/◌, ◌^◌, ◌<◌, ◌≤◌, true, false, Option, Some, List, length, slice_get}
+use Rattle.std.specs.Prelude.{◌≡◌, ℕ, ◌+◌, ◌-◌, ◌*◌, ◌/◌, ◌^◌, ◌<◌, ◌≤◌, true, false, Some, List, length, slice_get}
 use Rattle.std.specs.List.{flat_map, range_with_len}
 use Rattle.cm_model.specs.declared.act.Act.{Act}
 use Rattle.cm_model.specs.Steps.{Step, Cross, IsStep, Phase}
 use Rattle.cm_model.specs.Machine.{Machine, run_of}
 use Rattle.cm_model.specs.Buffers.{after_step}
+use Rattle.cm_model.specs.Keeping.{HasRoom}
 use Rattle.cm_blocks.specs.Rounds.{is_round, rounds, steps_between, steps_until, before_round}
-use Rattle.cm_blocks.specs.Parts.{Part, block}
+use Rattle.cm_blocks.specs.Parts.{block, size, buffer_in}
 use Rattle.cm_blocks.specs.Parcels.{Blank, due, sender}
 use Rattle.cm_blocks.specs.Steps.{part_after, part_after_all, less, absorbed}
 
@@ -59,3 +60,9 @@ LeavingThenTakingIn = (n cap k b : ℕ) (machine : Machine) (step : Step) → k 
     → is_round n k step ≡ true →
     absorbed n cap step (due n cap step (block n k (sender n k step b) machine)) (less cap step (block n k b machine))
     ≡ part_after n cap step (due n cap step (block n k (sender n k step b) machine)) (block n k b machine)
+
+-- once who leaves is gone, each chip has room for one message that comes
+abbrev pub LeavingMakesRoom : Type 0
+LeavingMakesRoom = (n cap k b d c : ℕ) (machine : Machine) → k ≤ n → b < 2 ^ k → 0 < cap → HasRoom n cap machine
+    → b * size n k ≤ c → c < b * size n k + size n k →
+    length (buffer_in (less cap (Cross d) (block n k b machine)) c) < cap

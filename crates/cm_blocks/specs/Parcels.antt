@@ -1,5 +1,5 @@
 -- Parcels: what a block sends to another at a round, and to which. Ours.
-use Rattle.std.specs.Prelude.{ℕ, ◌+◌, ◌-◌, ◌*◌, ◌/◌, ◌%◌, ◌^◌, Bool, false, List, [], Option, None, slice_index_or, bit_xor}
+use Rattle.std.specs.Prelude.{ℕ, ◌+◌, ◌-◌, ◌*◌, ◌/◌, ◌%◌, ◌^◌, Bool, false, List, Option, None, slice_index_or, bit_xor}
 use Rattle.cm_bits.specs.declared.place.Place.{Place}
 use Rattle.cm_bits.specs.declared.plane.Dir.{Dir}
 use Rattle.cm_bits.specs.declared.plane.Dir.TheVariants.{North, East, West, South}

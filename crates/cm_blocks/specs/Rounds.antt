@@ -1,5 +1,5 @@
 -- Rounds: the steps of a run at which bands of a machine have to exchange, and the steps between them. Ours.
-use Rattle.std.specs.Prelude.{ℕ, zero, suc, ◌+◌, ◌-◌, ◌==◌, ◌&&◌, Bool, true, false, not, List, [], ◌∷◌, nat_le, length, if◌then◌else◌}
+use Rattle.std.specs.Prelude.{ℕ, zero, suc, ◌-◌, ◌==◌, ◌&&◌, Bool, true, false, not, List, [], ◌∷◌, nat_le, if◌then◌else◌}
 use Rattle.std.specs.List.{filter}
 use Rattle.cm_bits.specs.declared.plane.Dir.{Dir}
 use Rattle.cm_bits.specs.declared.plane.Dir.TheVariants.{North, East, West, South}

@@ -1,7 +1,6 @@
 -- What a step does to a part of a machine, where a parcel has come: chip by chip, with what comes in from outside read from the parcel. Ours.
 use Rattle.std.specs.Prelude.{ℕ, ◌+◌, ◌-◌, ◌^◌, ◌==◌, Bool, List, [], ◌∷◌, ◌++◌, Option, length, map, bit_xor, if◌then◌else◌}
 use Rattle.std.specs.Option.{option_to_list}
-use Rattle.cm_bits.specs.declared.place.Place.{Place}
 use Rattle.cm_model.specs.declared.act.Nano.{Nano}
 use Rattle.cm_model.specs.declared.message.Message.{Message}
 use Rattle.cm_model.specs.declared.message.Event.TheVariants.{Injected, Delivered}

@@ -1,6 +1,6 @@
 //! Laws over the definitions: what each function is named for holds, of every machine and every cut.
 
-ghost use Rattle.cm_blocks.specs.Laws.{BlocksStepAlone, LocalStepsNeedNoParcel, BlocksBegin, BlocksGoOn, RoundsEndTheRun, BlocksAreTheWhole, LeavingThenTakingIn};
+ghost use Rattle.cm_blocks.specs.Laws.{BlocksStepAlone, LocalStepsNeedNoParcel, BlocksBegin, BlocksGoOn, RoundsEndTheRun, BlocksAreTheWhole, LeavingThenTakingIn, LeavingMakesRoom};
 
 /// A block after a step of the whole is the block after the step, with the parcel that is due to it.
 pub fn blocks_step_alone()
@@ -35,4 +35,9 @@ pub fn blocks_are_the_whole()
 /// Sending first and taking in then is the step.
 pub fn leaving_then_taking_in()
     ensures { LeavingThenTakingIn }
+{}
+
+/// Once its leaver is gone, each chip has room for the message that comes.
+pub fn leaving_makes_room()
+    ensures { LeavingMakesRoom }
 {}

@@ -5,6 +5,6 @@
 mod laws;
 
 pub use laws::{
-    blocks_are_the_whole, blocks_begin, blocks_go_on, blocks_step_alone, leaving_then_taking_in,
-    local_steps_need_no_parcel, rounds_end_the_run,
+    blocks_are_the_whole, blocks_begin, blocks_go_on, blocks_step_alone, leaving_makes_room,
+    leaving_then_taking_in, local_steps_need_no_parcel, rounds_end_the_run,
 };
