@@ -215,10 +215,9 @@ fn drawn_macro(draws: &mut Draws, kind: u32) -> Result<Macro, Fail> {
     let places = Places::drawn(draws);
     let d = places.field(0)?;
     let s = places.field(draws.below(2))?;
-    let x = places.field(1 + draws.below(2))?;
-    let y = places.field(1 + draws.below(2))?;
+    let (x, y) = (places.field(1)?, places.field(2)?);
     let number = u64::from(draws.number()) << 32 | u64::from(draws.number());
-    Ok(match kind % 11 {
+    Ok(match kind % 12 {
         0 => Macro::Add(d, s),
         1 => Macro::Sub(d, s),
         2 => Macro::Less(d, s),
@@ -228,7 +227,8 @@ fn drawn_macro(draws: &mut Draws, kind: u32) -> Result<Macro, Fail> {
         6 => Macro::Const(d, cut(d, number)),
         7 => Macro::Shift(d),
         8 => Macro::Mul(d, x, y),
-        9 => Macro::Set(flag(12 + draws.below(4))),
+        9 => Macro::Mul(d, y, y),
+        10 => Macro::Set(flag(12 + draws.below(4))),
         _ => Macro::Clear(flag(12 + draws.below(4))),
     })
 }
@@ -264,7 +264,7 @@ fn goes_right(alloc: Global, seed: u32) -> Result<bool, Fail> {
 
 #[test]
 fn macros_are_their_whole_numbers(rt: HostRuntime) -> Result<(), Fail> {
-    for seed in 0..132u32 {
+    for seed in 0..144u32 {
         assert!(rt; goes_right(rt.alloc(), seed)?, "seed {seed}");
     }
     Ok(())

@@ -6,7 +6,7 @@ use std::test::Fail;
 
 /// A text, the line that is faulty, and the first fault of that line: where another fault stands on
 /// the line, it comes later.
-const FAULTS: [(&[u8], u64, AsmKind); 57] = [
+const FAULTS: [(&[u8], u64, AsmKind); 60] = [
     (b"field x 0 65", 1, AsmKind::Width),
     (b"field x 4096 0", 1, AsmKind::Width),
     (b"field x 4090 8", 1, AsmKind::Range),
@@ -26,11 +26,14 @@ const FAULTS: [(&[u8], u64, AsmKind); 57] = [
     (b"cycle 1", 1, AsmKind::Operands),
     (b"add; x y", 1, AsmKind::Operands),
     (b"always 0", 1, AsmKind::Operands),
+    (b"set 16 16", 1, AsmKind::Operands),
+    (b"add x", 1, AsmKind::Operands),
     (b"nano 0 0 0 0 0 0 0 0", 1, AsmKind::Operands),
     (b"nano 4096 0 8 8 8 0 0 0 x", 1, AsmKind::Number),
     (b"nano 0 0 16 8 8 0 0 0 x", 1, AsmKind::Number),
     (b"nano 0 0 8 8 8 2 0 0 n", 1, AsmKind::Number),
     (b"nano 0 0 8 8 8 0 256 0 n", 1, AsmKind::Number),
+    (b"nano 0 0 8 8 8 0 0 256 x", 1, AsmKind::Number),
     (b"nano 0 0 0 0 0 0 0 0 x", 1, AsmKind::Operands),
     (b"if 16", 1, AsmKind::Number),
     (b"if 0X1", 1, AsmKind::Number),
@@ -166,7 +169,7 @@ impl Long {
 }
 
 /// How many acts a text has, or its first fault: more than 65,535 acts are the last fault of a line.
-static LONG: [Long; 9] = [
+static LONG: [Long; 13] = [
     Long {
         first: b"",
         line: b"cycle\n",
@@ -225,6 +228,46 @@ static LONG: [Long; 9] = [
         }),
     },
     Long {
+        first: b"",
+        line: b"cycle\n",
+        count: 65535,
+        last: b"shift x",
+        want: Err(AsmFault {
+            line: 65536,
+            kind: AsmKind::Name,
+        }),
+    },
+    Long {
+        first: b"field d 0 8\nfield x 4 8\n",
+        line: b"cycle\n",
+        count: 65535,
+        last: b"add d x",
+        want: Err(AsmFault {
+            line: 65538,
+            kind: AsmKind::Overlap,
+        }),
+    },
+    Long {
+        first: b"field d 0 8\n",
+        line: b"cycle\n",
+        count: 65535,
+        last: b"const d 256",
+        want: Err(AsmFault {
+            line: 65537,
+            kind: AsmKind::Lengths,
+        }),
+    },
+    Long {
+        first: b"field d 0 8\nif 7\n",
+        line: b"cycle\n",
+        count: 65535,
+        last: b"shift d",
+        want: Err(AsmFault {
+            line: 65538,
+            kind: AsmKind::Scratch,
+        }),
+    },
+    Long {
         first: b"field d 0 8\nfield x 8 8\nif 0\n",
         line: b"cycle\n",
         count: 65535,
@@ -261,4 +304,23 @@ fn a_program_has_at_most_65535_acts(rt: HostRuntime) -> Result<(), Fail> {
         assert_eq!(rt; found, long.want, "in row {i}");
     }
     Ok(())
+}
+
+/// Whether a text whose last macro is too much is told so, or want of memory at an earlier line.
+fn tells_too_many_acts(alloc: Global) -> Result<bool, AllocError> {
+    let long = &LONG[LONG.len() - 1];
+    let text = long.text(alloc)?;
+    Ok(match assemble(alloc, text.as_slice()) {
+        Ok(_) => false,
+        Err(fault) => Err(fault) == long.want || fault.kind == AsmKind::Memory && fault.line < 32,
+    })
+}
+
+// Made for `rt try --test --fail-alloc N`, which makes the Nth allocation fail.
+#[test]
+fn a_refused_growth_hides_no_fault(rt: HostRuntime) {
+    let Ok(so) = tells_too_many_acts(rt.alloc()) else {
+        return;
+    };
+    assert!(rt; so);
 }

@@ -1,11 +1,16 @@
 -- Reading a text line by line.
-use Rattle.std.proofs.Common.{◌≡◌, ℕ, ◌+◌, ◌-◌, ◌≤◌, ◌⊎◌, Bool, true, false, take, drop, drop-drop, get_or, get_or-drop, if◌then◌else◌, nat_lt, subst, take-add, length-drop, Result, Ok, Err, List, [], ◌∷◌, ◌++◌, length, refl, sym, ap, ◌∙◌, arith, inl, inr, ⊎_elim}
+use Rattle.std.proofs.Common.{◌≡◌, ℕ, ◌+◌, ◌-◌, ◌<◌, ◌≤◌, ◌⊎◌, Bool, true, false, take, drop, drop-drop, get_or, get_or-drop}
+use Rattle.std.proofs.Common.{if◌then◌else◌, nat_lt, subst, take-add, length-drop, Result, Ok, Err, List, [], ◌∷◌, ◌++◌}
+use Rattle.std.proofs.Common.{length, length-append, refl, sym, ap, ◌∙◌, arith, inl, inr, ⊎_elim}
 use Rattle.std.specs.List.{slice_split, onto_first}
 use Rattle.std.proofs.lemmas.List.Splits.{slice_split-cons_yes, slice_split-cons_no}
 use Rattle.cm_bits.specs.Text.{lines_of, is_line_end, without_empty_last, words_of}
 use Rattle.cm_language.specs.declared.fault.AsmKind.{AsmKind}
 use Rattle.cm_language.specs.declared.fault.AsmKind.TheVariants as kind
-use Rattle.cm_language.specs.Program.{Reading, nothing_read, after_words, unless_faulty, after_lines, within_length, MOST_ACTS, IsGrownFor, MatchKind, MayLackMemory, IsOwnFault}
+use Rattle.cm_language.specs.Program.{Reading, nothing_read, after_words, unless_faulty, after_lines, with_acts, parts}
+use Rattle.cm_language.specs.Program.{MOST_ACTS, IsGrownFor, MatchKind, MayLackMemory, IsLineFault, IsOwnFault}
+use Rattle.cm_language.specs.Names.{NamedField}
+use Rattle.cm_model.specs.declared.act.Act.{Act}
 
 -- ---- a text has no more lines than bytes
 
@@ -66,14 +71,15 @@ is_there lines i line rest is =
     ap (λ (n : ℕ). get_or lines n []) (let e : i + 1 - 1 ≡ i + 0 = omega arith in e) ∙ sym (get_or-drop i lines 0 []) ∙ ap (λ (xs : List (List ℕ)). get_or xs 0 []) (sym is)
 
 -- where memory is wanting
-pub is_grown_for : (text : List ℕ) (i : ℕ) (read : Reading) (line : List ℕ) → after_lines nothing_read 1 (take i (lines_of text)) ≡ Ok read → i + 1 ≤ length (lines_of text)
-    → get_or (lines_of text) (i + 1 - 1) [] ≡ line → MayLackMemory (after_words read (words_of line)) → IsGrownFor text (i + 1)
+pub is_grown_for : (text : List ℕ) (i : ℕ) (read : Reading) (line : List ℕ)
+    → after_lines nothing_read 1 (take i (lines_of text)) ≡ Ok read → i + 1 ≤ length (lines_of text)
+    → get_or (lines_of text) (i + 1 - 1) [] ≡ line → MayLackMemory read (after_words read (words_of line)) → IsGrownFor text (i + 1)
 is_grown_for text i read line before within there here = record {
   first = omega arith;
   within = within;
   read = read;
   before = ap (λ (n : ℕ). after_lines nothing_read 1 (take n (lines_of text))) (let e : i + 1 - 1 ≡ i = omega arith in e) ∙ before;
-  here = subst (λ (l : List ℕ). MayLackMemory (after_words read (words_of l))) (sym there) here;
+  here = subst (λ (l : List ℕ). MayLackMemory read (after_words read (words_of l))) (sym there) here;
 }
 
 -- a fault of a line is one of the text
@@ -92,12 +98,28 @@ of_kind kind.Name V W P Q h g f = f h
 of_kind kind.Twice V W P Q h g f = f h
 of_kind kind.TooLong V W P Q h g f = f h
 
--- what is too long at most may lack memory
-pub lacks_at_most : (read : Reading) → MayLackMemory (within_length read)
-lacks_at_most read = elim (nat_lt MOST_ACTS (length read.acts)) as (λ b. MayLackMemory (if b then Err kind.TooLong else Ok read)) [
-  | true ↦ refl
-  | false ↦ tt
-]
+-- what is too long is told so, and for what is longer otherwise memory may be wanting
+told_longer : (read longer : Reading) → parts read < parts longer → (b : Bool)
+    → IsLineFault read (if b then Err kind.TooLong else Ok longer) (if b then kind.TooLong else kind.Memory)
+told_longer read longer grows true = refl
+told_longer read longer grows false = grows
+
+-- acts that are refused a growth are too many, or want memory
+pub told_growth : (read : Reading) (acts : List Act) → 0 < length acts
+    → IsLineFault read (with_acts read acts)
+    (if nat_lt MOST_ACTS (length read.acts + length acts) then kind.TooLong else kind.Memory)
+told_growth read acts some =
+    let longer : Reading = record { fields = read.fields; context = read.context; acts = read.acts ++ acts } in
+    subst (λ (n : ℕ). IsLineFault read (if nat_lt MOST_ACTS n then Err kind.TooLong else Ok longer)
+    (if nat_lt MOST_ACTS (length read.acts + length acts) then kind.TooLong else kind.Memory))
+    (sym (length-append read.acts acts))
+    (told_longer read longer (omega (arith, some, length-append read.acts acts))
+    (nat_lt MOST_ACTS (length read.acts + length acts)))
+
+-- a definition more is longer
+pub longer_by_field : (read : Reading) (defined : NamedField)
+    → parts read < length (read.fields ++ defined ∷ []) + length read.acts
+longer_by_field read defined = omega (arith, length-append read.fields (defined ∷ []))
 
 -- an own fault is told as it is
 pub told_as_it_is : (k : AsmKind) (W P : Type 0) → IsOwnFault k → P → MatchKind k W P

@@ -2,7 +2,7 @@
 
 ghost use Rattle.std.specs.Prelude.{◌≡◌, ◌<◌, IfOk, IfErr};
 ghost use Rattle.cm_bits.specs.Text.{words_left};
-ghost use Rattle.cm_language.specs.Lines.{operand_of, number_operand, sense_of, direction_of, field_operand, no_operand, flag_operand, one_field, two_fields, nano_of};
+ghost use Rattle.cm_language.specs.Lines.{operand_of, number_operand, sense_operand, direction_of, field_operand, no_operand, flag_operand, one_field, two_fields, nano_of};
 ghost use Rattle.cm_language.specs.Program.{IsOwnFault};
 
 use crate::fields::Fields;
@@ -152,7 +152,7 @@ fn read_table(word: &[u8]) -> Result<u8, AsmKind>
 }
 
 fn read_sense(word: &[u8]) -> Result<bool, AsmKind>
-    ensures value { result ≡ sense_of word.now }
+    ensures value { result ≡ sense_operand word.now }
     ensures own { IfErr result IsOwnFault }
 {
     let number = read_below(word, 2)?;

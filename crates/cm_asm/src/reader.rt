@@ -1,8 +1,9 @@
 //! What a text has said so far.
 
-ghost use Rattle.std.specs.Prelude.{◌≡◌, ◌∷◌, [], Ok, OnOk, Err, IfErr};
+ghost use Rattle.std.specs.Prelude.{◌≡◌, ◌∷◌, [], Ok, OnOk, Err, IfErr, ◌+◌, length, nat_lt, if◌then◌else◌};
 ghost use Rattle.cm_bits.specs.Text.{words_left, words_of};
-ghost use Rattle.cm_language.specs.Program.{Reading, nothing_read, after_words, after_statement, after_definition, with_acts, with_macro, within_length, IsLineFault};
+ghost use Rattle.cm_language.specs.Program.{Reading, nothing_read, after_words, after_statement, after_definition};
+ghost use Rattle.cm_language.specs.Program.{with_acts, with_macro, within_length, MOST_ACTS, IsLineFault};
 ghost use Rattle.cm_language.specs.Names.{is_name, is_name_byte};
 ghost use Rattle.std.specs.List.{list_all};
 ghost use Rattle.cm_language.specs.Faults.{first_fault};
@@ -12,8 +13,8 @@ use crate::operands::read_short;
 use crate::program::Program;
 use crate::statements::{read_statement, verb_of};
 use cm_bits::{Field, FieldFault, Words};
-use cm_language::{AsmKind, Context, Macro, Statement};
-use cm_macros::expand;
+use cm_language::{AsmKind, Context, Macro, MacroFault, Statement};
+use cm_macros::{count_acts, expand};
 use cm_model::Act;
 use std::alloc::Global;
 use std::marker::Model;
@@ -52,7 +53,7 @@ impl Reader {
     #[tactic(auto, using(crate::proofs::Reading::told_as_it_is))]
     pub fn read_line(&mut self, alloc: Global, line: &[u8]) -> Result<(), AsmKind>
         ensures ok { OnOk result (after_words self.old (words_of line.now) ≡ Ok self.new) }
-        ensures fault { IfErr result (IsLineFault (after_words self.old (words_of line.now))) }
+        ensures fault { IfErr result (IsLineFault self.old (after_words self.old (words_of line.now))) }
     {
         let mut words = Words::new(line);
         let Some(word) = words.next() else {
@@ -71,10 +72,10 @@ impl Reader {
     }
 
     /// A field by the words after `field`.
-    #[tactic(auto, using(crate::proofs::Reading::told_as_it_is))]
+    #[tactic(auto, using(crate::proofs::Reading::told_as_it_is, crate::proofs::Reading::longer_by_field))]
     fn define(&mut self, alloc: Global, mut words: Words) -> Result<(), AsmKind>
         ensures ok { OnOk result (after_definition self.old (words_left words.entry) ≡ Ok self.new) }
-        ensures fault { IfErr result (IsLineFault (after_definition self.old (words_left words.entry))) }
+        ensures fault { IfErr result (IsLineFault self.old (after_definition self.old (words_left words.entry))) }
     {
         let (Some(name), Some(at), Some(len)) = (words.next(), words.next(), words.next()) else {
             return Err(AsmKind::Operands);
@@ -109,7 +110,7 @@ impl Reader {
     /// What a line says.
     fn add(&mut self, statement: Statement) -> Result<(), AsmKind>
         ensures ok { OnOk result (after_statement self.old statement ≡ Ok self.new) }
-        ensures fault { IfErr result (IsLineFault (after_statement self.old statement)) }
+        ensures fault { IfErr result (IsLineFault self.old (after_statement self.old statement)) }
     {
         match statement {
             Statement::Context(context) => {
@@ -121,25 +122,39 @@ impl Reader {
         }
     }
 
-    #[tactic(auto, using(crate::proofs::Reading::lacks_at_most))]
+    #[tactic(auto, using(crate::proofs::Reading::told_growth))]
     fn add_macro(&mut self, wanted: &Macro) -> Result<(), AsmKind>
-        ensures ok { OnOk result (with_macro self.old wanted.now (first_fault wanted.now self.old.context) ≡ Ok self.new) }
-        ensures fault { IfErr result (IsLineFault (with_macro self.old wanted.now (first_fault wanted.now self.old.context))) }
+        ensures ok { OnOk result
+            (with_macro self.old wanted.now (first_fault wanted.now self.old.context) ≡ Ok self.new) }
+        ensures fault { IfErr result (IsLineFault self.old
+            (with_macro self.old wanted.now (first_fault wanted.now self.old.context))) }
     {
         match expand(wanted, self.context, &mut self.acts) {
             Ok(()) => self.check_length(),
+            Err(MacroFault::Memory) => Err(self.refused_growth(count_acts(wanted, self.context))),
             Err(fault) => Err(fault.kind()),
         }
     }
 
-    #[tactic(auto, using(crate::proofs::Reading::lacks_at_most))]
+    #[tactic(auto, using(crate::proofs::Reading::told_growth))]
     fn add_act(&mut self, act: Act) -> Result<(), AsmKind>
         ensures ok { OnOk result (with_acts self.old (act ∷ []) ≡ Ok self.new) }
-        ensures fault { IfErr result (IsLineFault (with_acts self.old (act ∷ []))) }
+        ensures fault { IfErr result (IsLineFault self.old (with_acts self.old (act ∷ []))) }
     {
         match self.acts.push(act) {
             Ok(()) => self.check_length(),
-            Err(_) => Err(AsmKind::Memory),
+            Err(_) => Err(self.refused_growth(1)),
+        }
+    }
+
+    /// Why so many acts more are refused where memory is wanting: a program that would be too long is told so.
+    fn refused_growth(&self, count: usize) -> AsmKind
+        ensures { result
+            ≡ (if nat_lt MOST_ACTS (length self.now.acts + count) then AsmKind.TooLong else AsmKind.Memory) }
+    {
+        match self.acts.len().checked_add(count) {
+            Some(len) if len <= MOST_ACTS => AsmKind::Memory,
+            _ => AsmKind::TooLong,
         }
     }
 

@@ -2,3 +2,4 @@ mod Reading
 mod Telling
 mod OneChip
 mod Fronts
+mod Programs

@@ -9,7 +9,7 @@ use Rattle.cm_language.specs.declared.fault.AsmKind.{AsmKind}
 use Rattle.cm_language.specs.declared.fault.AsmKind.TheVariants as kind
 use Rattle.cm_language.specs.declared.fault.AsmFault.{AsmFault}
 use Rattle.cm_language.specs.Program.{MatchKind, IsOwnFault}
-use Rattle.cm_cli.specs.Program.{nanos_of_lines, instruction_of, with_line, program_of, IsAcceptedThrough, IsFaultOf}
+use Rattle.cm_cli.specs.Program.{nanos_of_lines, instruction_of, with_line, nanos_of, IsAcceptedThrough, IsChipFaultOf}
 
 -- instructions before those that were read
 abbrev pub prepended : List Nano → Result (List Nano) AsmFault → Result (List Nano) AsmFault
@@ -136,6 +136,6 @@ told_as_it_is kind.TooLong W P own p = p
 
 -- a line that is refused is told whatever its fault
 pub refused_at : (text : List ℕ) (line : ℕ) (kind : AsmKind) → IsOwnFault kind
-    → program_of text ≡ Err (record { line = line; kind = kind }) → IsFaultOf text (record { line = line; kind = kind })
+    → nanos_of text ≡ Err (record { line = line; kind = kind }) → IsChipFaultOf text (record { line = line; kind = kind })
 refused_at text line kind own read =
-    told_as_it_is kind (IsAcceptedThrough text line) (program_of text ≡ Err (record { line = line; kind = kind })) own read
+    told_as_it_is kind (IsAcceptedThrough text line) (nanos_of text ≡ Err (record { line = line; kind = kind })) own read

@@ -9,8 +9,8 @@ use Rattle.cm_cli.specs.declared.program_fault.ProgramFault.{ProgramFault}
 use Rattle.cm_cli.specs.declared.program_fault.ProgramFault.TheVariants.{BadLine, Text, Cap, Read, Write, TooMuch, Memory}
 
 -- the most bytes of a program text
-abbrev pub LIMIT : ℕ
-LIMIT = 16777216
+abbrev pub PROGRAM_LIMIT : ℕ
+PROGRAM_LIMIT = 16777216
 
 -- a text is a program, whose listing this is
 pub record IsListingOf (text bytes : List ℕ) : Type 0 where
@@ -19,14 +19,14 @@ pub record IsListingOf (text bytes : List ℕ) : Type 0 where
   pub listed : bytes ≡ listing program
 
 -- every line of a text is accepted
-pub record IsProgram (text : List ℕ) : Type 0 where
+pub record HasProgram (text : List ℕ) : Type 0 where
   pub program : ProgramText
   pub is : program_of text ≡ Ok program
 
 -- why there is no listing of a text: want of memory is told so only of a program
 abbrev pub HasNoListing : List ℕ → ProgramFault → Type 0
 HasNoListing text (Text fault) = IsFaultOf text fault
-HasNoListing text Memory = IsProgram text
+HasNoListing text Memory = HasProgram text
 HasNoListing text BadLine = ⊥
 HasNoListing text Cap = ⊥
 HasNoListing text Read = ⊥
@@ -35,27 +35,27 @@ HasNoListing text TooMuch = ⊥
 
 -- the whole listing was written
 pub record IsListed (text : List ℕ) (held holds : Option (List ℕ)) : Type 0 where
-  pub within : length text ≤ LIMIT
+  pub within : length text ≤ PROGRAM_LIMIT
   pub bytes : List ℕ
   pub is : IsListingOf text bytes
   pub written : Appends held holds bytes
 
 -- only the first bytes of the listing were written
 pub record IsListedInPart (text : List ℕ) (held holds : Option (List ℕ)) : Type 0 where
-  pub within : length text ≤ LIMIT
+  pub within : length text ≤ PROGRAM_LIMIT
   pub bytes : List ℕ
   pub is : IsListingOf text bytes
   pub front : HasFront held holds bytes
 
 -- the text is refused, and nothing was written
 pub record IsNotListed (text : List ℕ) (held holds : Option (List ℕ)) (fault : AsmFault) : Type 0 where
-  pub within : length text ≤ LIMIT
+  pub within : length text ≤ PROGRAM_LIMIT
   pub is : IsFaultOf text fault
   pub nothing : Keeps held holds
 
 -- the text is too long, and nothing was written
 pub record IsTooLongToList (text : List ℕ) (held holds : Option (List ℕ)) : Type 0 where
-  pub beyond : LIMIT < length text
+  pub beyond : PROGRAM_LIMIT < length text
   pub nothing : Keeps held holds
 
 -- how the listing of a source that has this text ends

@@ -26,8 +26,8 @@ nanos_of_lines number [] = Ok []
 nanos_of_lines number (line ∷ lines) = with_line number (instruction_of (words_of line)) (nanos_of_lines (number + 1) lines)
 
 -- the instructions of a text, or its first faulty line, counted from 1
-unfoldable pub program_of : List ℕ → Result (List Nano) AsmFault
-program_of text = nanos_of_lines 1 (lines_of text)
+unfoldable pub nanos_of : List ℕ → Result (List Nano) AsmFault
+nanos_of text = nanos_of_lines 1 (lines_of text)
 
 -- the lines of a text up to this one are accepted, and this one has an instruction
 pub record IsAcceptedThrough (text : List ℕ) (line : ℕ) : Type 0 where
@@ -37,5 +37,5 @@ pub record IsAcceptedThrough (text : List ℕ) (line : ℕ) : Type 0 where
   pub here : nanos_of_lines 1 (take line (lines_of text)) ≡ Ok (nanos ++ nano ∷ [])
 
 -- a fault that a text is refused with: its first faulty line, or one whose instruction could not be kept
-abbrev pub IsFaultOf : List ℕ → AsmFault → Type 0
-IsFaultOf text fault = MatchKind fault.kind (IsAcceptedThrough text fault.line) (program_of text ≡ Err fault)
+abbrev pub IsChipFaultOf : List ℕ → AsmFault → Type 0
+IsChipFaultOf text fault = MatchKind fault.kind (IsAcceptedThrough text fault.line) (nanos_of text ≡ Err fault)

@@ -12,30 +12,30 @@ use Rattle.cm_cli.specs.declared.program_fault.ProgramFault.{ProgramFault}
 use Rattle.cm_cli.specs.declared.program_fault.ProgramFault.TheVariants.{BadLine, Text, Cap, Read, Write, TooMuch, Memory}
 
 -- the number of what is wrong with a line
-abbrev pub number_of_kind : AsmKind → ℕ
-number_of_kind kind.Width = 1
-number_of_kind kind.Range = 2
-number_of_kind kind.Overlap = 10
-number_of_kind kind.Lengths = 11
-number_of_kind kind.Scratch = 12
-number_of_kind kind.Context = 13
-number_of_kind kind.Memory = 14
-number_of_kind kind.Word = 15
-number_of_kind kind.Operands = 16
-number_of_kind kind.Number = 17
-number_of_kind kind.Name = 18
-number_of_kind kind.Twice = 19
-number_of_kind kind.TooLong = 20
+abbrev pub kind_number : AsmKind → ℕ
+kind_number kind.Width = 1
+kind_number kind.Range = 2
+kind_number kind.Overlap = 10
+kind_number kind.Lengths = 11
+kind_number kind.Scratch = 12
+kind_number kind.Context = 13
+kind_number kind.Memory = 14
+kind_number kind.Word = 15
+kind_number kind.Operands = 16
+kind_number kind.Number = 17
+kind_number kind.Name = 18
+kind_number kind.Twice = 19
+kind_number kind.TooLong = 20
 
 -- the number of a fault
-abbrev pub number_of : ProgramFault → ℕ
-number_of BadLine = 38
-number_of (Text fault) = number_of_kind fault.kind
-number_of Cap = 5
-number_of Read = 30
-number_of Write = 31
-number_of TooMuch = 32
-number_of Memory = 33
+abbrev pub told_number : ProgramFault → ℕ
+told_number BadLine = 38
+told_number (Text fault) = kind_number fault.kind
+told_number Cap = 5
+told_number Read = 30
+told_number Write = 31
+told_number TooMuch = 32
+told_number Memory = 33
 
 -- the line of the text, if the fault stands in one
 abbrev pub line_of : ProgramFault → Option ℕ

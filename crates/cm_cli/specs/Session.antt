@@ -9,12 +9,12 @@ use Rattle.cm_model.specs.Machine.{blank_machine, run_of}
 use Rattle.cm_language.specs.declared.fault.AsmFault.{AsmFault}
 use Rattle.cm_cli.specs.declared.fault.ChipFault.{ChipFault}
 use Rattle.cm_cli.specs.declared.fault.ChipFault.TheVariants.{Text, Read, Write, TooMuch, Memory}
-use Rattle.cm_cli.specs.Program.{program_of, IsFaultOf}
+use Rattle.cm_cli.specs.Program.{nanos_of, IsChipFaultOf}
 use Rattle.cm_cli.specs.ChipText.{chip_text}
 
 -- the most bytes that a session reads
-abbrev pub LIMIT : ℕ
-LIMIT = 1048576
+abbrev pub CHIP_LIMIT : ℕ
+CHIP_LIMIT = 1048576
 
 -- the chip after a list of instructions on a blank machine of one chip
 unfoldable pub chip_left : List Instruction → List Processor
@@ -27,18 +27,18 @@ answer_to (Err fault) = Err fault
 
 -- what a session writes for a text, or its first faulty line
 abbrev pub answer_of : List ℕ → Result (List ℕ) AsmFault
-answer_of text = answer_to (program_of text)
+answer_of text = answer_to (nanos_of text)
 
 -- the whole answer was written
 pub record IsAnswered (text : List ℕ) (held holds : Option (List ℕ)) : Type 0 where
-  pub within : length text ≤ LIMIT
+  pub within : length text ≤ CHIP_LIMIT
   pub answer : List ℕ
   pub is : answer_of text ≡ Ok answer
   pub written : Appends held holds answer
 
 -- only the first bytes of the answer were written
 pub record IsCutShort (text : List ℕ) (held holds : Option (List ℕ)) (count : ℕ) : Type 0 where
-  pub within : length text ≤ LIMIT
+  pub within : length text ≤ CHIP_LIMIT
   pub answer : List ℕ
   pub is : answer_of text ≡ Ok answer
   pub short : count < length answer
@@ -46,13 +46,13 @@ pub record IsCutShort (text : List ℕ) (held holds : Option (List ℕ)) (count 
 
 -- the text is refused, and nothing was written
 pub record IsRefused (text : List ℕ) (held holds : Option (List ℕ)) (fault : AsmFault) : Type 0 where
-  pub within : length text ≤ LIMIT
-  pub is : IsFaultOf text fault
+  pub within : length text ≤ CHIP_LIMIT
+  pub is : IsChipFaultOf text fault
   pub nothing : Keeps held holds
 
 -- the text is too long, and nothing was written
 pub record IsTooLong (text : List ℕ) (held holds : Option (List ℕ)) : Type 0 where
-  pub beyond : LIMIT < length text
+  pub beyond : CHIP_LIMIT < length text
   pub nothing : Keeps held holds
 
 -- how a session ends whose source has this text
@@ -85,11 +85,11 @@ has_read_all (Err Memory) = false
 -- every line of the text is accepted
 pub record IsAccepted (text : List ℕ) : Type 0 where
   pub nanos : List Instruction
-  pub is : program_of text ≡ Ok nanos
+  pub is : nanos_of text ≡ Ok nanos
 
 -- why there is no answer to a text that was read: want of memory is told so only once all lines are accepted
 abbrev pub HasNoAnswer : List ℕ → ChipFault → Type 0
-HasNoAnswer text (Text fault) = IsFaultOf text fault
+HasNoAnswer text (Text fault) = IsChipFaultOf text fault
 HasNoAnswer text Read = ⊥
 HasNoAnswer text (Write count) = ⊥
 HasNoAnswer text TooMuch = ⊥

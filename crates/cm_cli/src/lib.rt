@@ -4,6 +4,7 @@
 
 mod blanks;
 mod fault;
+mod laws;
 mod listed;
 mod one_chip;
 mod program;
@@ -17,6 +18,7 @@ pub use blanks::fresh;
 pub use cm_language::{AsmFault, AsmKind};
 pub use cm_line::{Line, LineFault, command};
 pub use fault::ChipFault;
+pub use laws::{chip_faults_are_faults, chip_texts_are_programs};
 pub use listed::list;
 pub use program_fault::ProgramFault;
 pub use reports::report;

@@ -11,7 +11,7 @@ use cm_asm::assemble;
 use cm_bits::{Sink, Source, write_all};
 use std::alloc::Global;
 
-const LIMIT: u64 = 16777216;
+const PROGRAM_LIMIT: u64 = 16777216;
 
 /// Reads a whole program text, at most 16,777,216 bytes, and writes its listing: the fields that the
 /// text defines, and the acts of its lines. Nothing is written before every line was accepted.
@@ -25,12 +25,13 @@ pub fn list<I: Source, O: Sink>(
     ensures ends { IfSome (I.left source.old) (λ text. EndsListing text (O.contents sink.old) (O.contents sink.new) result) }
     ensures end { IsTrue (has_read_all result) → IsAtEnd (I.left source.new) }
     ensures read { (I.has_failed source.new ≡ true) ↔ IsErrOf result ProgramFault.Read }
-    ensures read_within { IsErrOf result ProgramFault.Read → ConsumesAtMost LIMIT (I.left source.old) (I.left source.new) }
+    ensures read_within { IsErrOf result ProgramFault.Read
+        → ConsumesAtMost PROGRAM_LIMIT (I.left source.old) (I.left source.new) }
     ensures memory_within { IsErrOf result ProgramFault.Memory
-        → ConsumesAtMost LIMIT (I.left source.old) (I.left source.new) }
+        → ConsumesAtMost PROGRAM_LIMIT (I.left source.old) (I.left source.new) }
     ensures write { O.has_failed sink.new ≡ is_write result }
 {
-    let text = match take(alloc, source, LIMIT) {
+    let text = match take(alloc, source, PROGRAM_LIMIT) {
         Ok(text) => text,
         Err(fault) => return Err(ProgramFault::from(fault)),
     };

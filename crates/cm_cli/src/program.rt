@@ -3,7 +3,7 @@
 ghost use Rattle.std.specs.Prelude.{◌≡◌, ◌<◌, ◌^◌, length, Ok, IfErr, MatchResult};
 ghost use Rattle.cm_bits.specs.Text.{words_of};
 ghost use Rattle.cm_language.specs.Program.{IsOwnFault};
-ghost use Rattle.cm_cli.specs.Program.{instruction_of, program_of, IsFaultOf};
+ghost use Rattle.cm_cli.specs.Program.{instruction_of, nanos_of, IsChipFaultOf};
 
 use cm_asm::read_nano;
 use cm_bits::{Lines, Words};
@@ -14,7 +14,7 @@ use std::alloc::Global;
 /// The instructions of a text, or its first faulty line.
 pub fn read_program(alloc: Global, text: &[u8]) -> Result<Vec<Nano>, AsmFault>
     requires short { length text.now < 2 ^ 63 }
-    ensures value { MatchResult result (λ nanos. program_of text.now ≡ Ok nanos.items) (IsFaultOf text.now) }
+    ensures value { MatchResult result (λ nanos. nanos_of text.now ≡ Ok nanos.items) (IsChipFaultOf text.now) }
 {
     let mut nanos = Vec::new(alloc);
     let mut line = 0;

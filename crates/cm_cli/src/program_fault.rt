@@ -2,7 +2,7 @@
 
 ghost use Rattle.std.specs.Prelude.{◌≡◌, ◌≤◌, IfSome};
 ghost use Rattle.cm_cli.specs.Report.{HasLine};
-ghost use Rattle.cm_cli.specs.ProgramFault.{number_of, number_of_kind, line_of};
+ghost use Rattle.cm_cli.specs.ProgramFault.{told_number, kind_number, line_of};
 
 use crate::fault::ChipFault;
 use crate::takes::TakeFault;
@@ -25,7 +25,7 @@ pub enum ProgramFault {
 impl ProgramFault {
     /// The number that `report` is told.
     pub fn number(&self) -> u8
-        ensures value { result ≡ number_of self.now }
+        ensures value { result ≡ told_number self.now }
         ensures some { 1 ≤ result }
         ensures known { result ≤ 38 }
     {
@@ -43,7 +43,7 @@ impl ProgramFault {
     /// The line of the program text in which it stands.
     pub fn line(&self) -> Option<u64>
         ensures value { result ≡ line_of self.now }
-        ensures place { IfSome result (λ _. HasLine (number_of self.now)) }
+        ensures place { IfSome result (λ _. HasLine (told_number self.now)) }
     {
         match self {
             ProgramFault::Text(fault) => Some(fault.line),
@@ -53,7 +53,7 @@ impl ProgramFault {
 }
 
 fn asm_number(kind: AsmKind) -> u8
-    ensures value { result ≡ number_of_kind kind }
+    ensures value { result ≡ kind_number kind }
 {
     match kind {
         AsmKind::Width => 1,

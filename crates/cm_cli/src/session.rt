@@ -13,7 +13,7 @@ use crate::texts::chip_text;
 use cm_bits::{Sink, Source, write_all};
 use std::alloc::Global;
 
-const LIMIT: u64 = 1048576;
+const CHIP_LIMIT: u64 = 1048576;
 
 /// Reads a whole text of `nano` lines, at most 1,048,576 bytes, runs it on one blank chip and writes
 /// the chip's flags and planes. Nothing is written before the whole text was read, accepted and run.
@@ -28,12 +28,12 @@ pub fn chip_session<I: Source, O: Sink>(
     ensures end { IsTrue (has_read_all result) → IsAtEnd (I.left source.new) }
     ensures read { (I.has_failed source.new ≡ true) ↔ IsErrOf result ChipFault.Read }
     ensures read_within { IsErrOf result ChipFault.Read
-        → ConsumesAtMost LIMIT (I.left source.old) (I.left source.new) }
+        → ConsumesAtMost CHIP_LIMIT (I.left source.old) (I.left source.new) }
     ensures memory_within { IsErrOf result ChipFault.Memory
-        → ConsumesAtMost LIMIT (I.left source.old) (I.left source.new) }
+        → ConsumesAtMost CHIP_LIMIT (I.left source.old) (I.left source.new) }
     ensures write { O.has_failed sink.new ≡ is_write result }
 {
-    let text = match take(alloc, source, LIMIT) {
+    let text = match take(alloc, source, CHIP_LIMIT) {
         Ok(text) => text,
         Err(TakeFault::Read) => return Err(ChipFault::Read),
         Err(TakeFault::TooMuch) => return Err(ChipFault::TooMuch),

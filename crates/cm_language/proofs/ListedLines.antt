@@ -15,7 +15,7 @@ use Rattle.cm_language.specs.declared.statement.Statement.TheVariants as stateme
 use Rattle.cm_language.specs.declared.fault.AsmKind.{AsmKind}
 use Rattle.cm_language.specs.declared.fault.AsmKind.TheVariants.{Number, Name, Twice}
 use Rattle.cm_language.specs.Names.{NamedField, is_name, field_named}
-use Rattle.cm_language.specs.Lines.{◌>>=◌, number_below, operand_of, sense_of, direction_of, nano_of, new_name, field_unless, definition_of}
+use Rattle.cm_language.specs.Lines.{◌>>=◌, number_below, operand_of, sense_operand, direction_of, nano_of, new_name, field_unless, definition_of}
 use Rattle.cm_language.specs.Listing.{table_word, direction_word, act_words, field_words}
 use Rattle.cm_language.specs.Program.{Reading, after_statement, after_words, with_acts}
 use Rattle.cm_language.specs.Whole.{IsInstruction, IsProgramAct, IsNext}
@@ -50,8 +50,8 @@ bit_small true = omega arith
 bit_small false = omega arith
 
 -- a bit is read as that bit
-sense_of-bit : (b : Bool) → sense_of (decimal (bit_number b)) ≡ Ok b
-sense_of-bit b =
+sense_operand-bit : (b : Bool) → sense_operand (decimal (bit_number b)) ≡ Ok b
+sense_operand-bit b =
     ap (λ (q : Result ℕ AsmKind). q >>= λ n. Ok (eqb n 1))
     (operand_of-decimal 2 (bit_number b) (bit_small b) (omega arith))
     ∙ ap (λ (c : Bool). Ok c) (bit_is b)
@@ -74,7 +74,7 @@ nano_of-words nano is =
     let read = operand_of-decimal 16 nano.read is.read (omega arith) in
     let write = operand_of-decimal 16 nano.write is.write (omega arith) in
     let cond = operand_of-decimal 16 nano.cond is.cond (omega arith) in
-    let sense = sense_of-bit nano.sense in
+    let sense = sense_operand-bit nano.sense in
     let mem = operand_of-table_word nano.mem_table is.mem_table in
     let flag = operand_of-table_word nano.flag_table is.flag_table in
     let dir = direction_of-word nano.dir in

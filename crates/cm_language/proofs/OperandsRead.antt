@@ -12,7 +12,7 @@ use Rattle.cm_language.specs.declared.fault.AsmKind.{AsmKind}
 use Rattle.cm_language.specs.declared.fault.AsmKind.TheVariants.{Number, Name}
 use Rattle.cm_language.specs.Laws.{HasFields}
 use Rattle.cm_language.specs.Names.{NamedField, field_named}
-use Rattle.cm_language.specs.Lines.{◌>>=◌, number_below, operand_of, number_operand, sense_of, direction_of, field_operand, flag_operand, one_field, two_fields, choice_of, constant_of, product_of, nano_of}
+use Rattle.cm_language.specs.Lines.{◌>>=◌, number_below, operand_of, number_operand, sense_operand, direction_of, field_operand, flag_operand, one_field, two_fields, choice_of, constant_of, product_of, nano_of}
 use Rattle.cm_language.specs.Whole.{IsInstruction, IsProgramAct}
 use Rattle.cm_language.proofs.ProgramParts.{AreFields, HasFlag, NamesFlags}
 
@@ -117,7 +117,7 @@ nano_ok (a ∷ b ∷ read ∷ write ∷ cond ∷ sense ∷ mem ∷ flag ∷ dir 
     if_ok-then (operand_of 16 read) _ (λ n. n < 16) _ (operand_ok 16 read) (λ read' lr.
     if_ok-then (operand_of 16 write) _ (λ n. n < 16) _ (operand_ok 16 write) (λ write' lw.
     if_ok-then (operand_of 16 cond) _ (λ n. n < 16) _ (operand_ok 16 cond) (λ cond' lc.
-    if_ok-then (sense_of sense) _ (λ s. Unit {0}) _ (any_ok (sense_of sense)) (λ sense' any.
+    if_ok-then (sense_operand sense) _ (λ s. Unit {0}) _ (any_ok (sense_operand sense)) (λ sense' any.
     if_ok-then (operand_of 256 mem) _ (λ n. n < 256) _ (operand_ok 256 mem) (λ mem' lm.
     if_ok-then (operand_of 256 flag) _ (λ n. n < 256) _ (operand_ok 256 flag) (λ flag' lf.
     if_ok-then (direction_of dir) _ (λ d. Unit {0}) _ (any_ok (direction_of dir)) (λ dir' way.

@@ -42,8 +42,8 @@ abbrev pub number_operand : List ℕ → Result ℕ AsmKind
 number_operand word = ok_or (number_of word) Number
 
 -- 0 or 1
-abbrev pub sense_of : List ℕ → Result Bool AsmKind
-sense_of word = operand_of 2 word >>= λ n. Ok (n == 1)
+abbrev pub sense_operand : List ℕ → Result Bool AsmKind
+sense_operand word = operand_of 2 word >>= λ n. Ok (n == 1)
 
 -- n, e, w or s
 abbrev pub direction_of : List ℕ → Result Dir AsmKind
@@ -103,7 +103,7 @@ product_of fields _ = Err Operands
 abbrev pub nano_of_nine : List ℕ → List ℕ → List ℕ → List ℕ → List ℕ → List ℕ → List ℕ → List ℕ → List ℕ → Result Nano AsmKind
 nano_of_nine a b read write cond sense mem_table flag_table dir =
     operand_of 4096 a >>= λ a'. operand_of 4096 b >>= λ b'.
-    operand_of 16 read >>= λ read'. operand_of 16 write >>= λ write'. operand_of 16 cond >>= λ cond'. sense_of sense >>= λ sense'.
+    operand_of 16 read >>= λ read'. operand_of 16 write >>= λ write'. operand_of 16 cond >>= λ cond'. sense_operand sense >>= λ sense'.
     operand_of 256 mem_table >>= λ mem'. operand_of 256 flag_table >>= λ flag'. direction_of dir >>= λ dir'.
     Ok (record { a = a'; b = b'; read = read'; write = write'; cond = cond'; sense = sense'; mem_table = mem'; flag_table = flag'; dir = dir' })
 

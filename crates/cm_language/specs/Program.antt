@@ -1,5 +1,5 @@
 -- A program text, line by line: ours.
-use Rattle.std.specs.Prelude.{◌≡◌, ℕ, ◌+◌, ◌-◌, ◌≤◌, nat_lt, if◌then◌else◌, Option, Some, None, Result, Ok, Err, List, [], ◌∷◌, ◌++◌, length, take, get_or, codes, bytes_eq, IfErr}
+use Rattle.std.specs.Prelude.{◌≡◌, ℕ, ◌+◌, ◌-◌, ◌<◌, ◌≤◌, nat_lt, if◌then◌else◌, Option, Some, None, Result, Ok, Err, List, [], ◌∷◌, ◌++◌, length, take, get_or, codes, bytes_eq}
 use Rattle.std.specs.Option.{ok_or}
 use Rattle.cm_bits.specs.Text.{lines_of, words_of}
 use Rattle.cm_model.specs.declared.act.Act.{Act}
@@ -89,18 +89,23 @@ program_read (Err fault) = Err fault
 unfoldable pub program_of : List ℕ → Result ProgramText AsmFault
 program_of text = program_read (after_lines nothing_read 1 (lines_of text))
 
--- memory may run out for what reads so: all of a line's faults but the last come first
-abbrev pub MayLackMemory : Result Reading AsmKind → Type 0
-MayLackMemory read = IfErr read (λ fault. fault ≡ kind.TooLong)
+-- how many definitions and acts have been read
+abbrev pub parts : Reading → ℕ
+parts r = length r.fields + length r.acts
 
--- memory ran out at this line: it is one of the text's, the lines before it are accepted, and it has no fault but
--- perhaps too many acts
+-- memory may run out at a line that is accepted and adds a definition or acts: it never takes the place of a fault
+abbrev pub MayLackMemory : Reading → Result Reading AsmKind → Type 0
+MayLackMemory before (Ok after) = parts before < parts after
+MayLackMemory before (Err kind) = ⊥
+
+-- memory ran out at this line: it is one of the text's, the lines before it are accepted, and so is it itself, which
+-- adds to what they say
 pub record IsGrownFor (text : List ℕ) (line : ℕ) : Type 0 where
   pub first : 1 ≤ line
   pub within : line ≤ length (lines_of text)
   pub read : Reading
   pub before : after_lines nothing_read 1 (take (line - 1) (lines_of text)) ≡ Ok read
-  pub here : MayLackMemory (after_words read (words_of (get_or (lines_of text) (line - 1) [])))
+  pub here : MayLackMemory read (after_words read (words_of (get_or (lines_of text) (line - 1) [])))
 
 -- what a kind of fault says: want of memory the first, the others the second
 abbrev pub MatchKind : AsmKind → Type 0 → Type 0 → Type 0
@@ -123,8 +128,8 @@ abbrev pub IsOwnFault : AsmKind → Type 0
 IsOwnFault kind = MatchKind kind ⊥ (Unit {0})
 
 -- a fault that a line is refused with: its own, or want of memory
-abbrev pub IsLineFault : Result Reading AsmKind → AsmKind → Type 0
-IsLineFault read kind = MatchKind kind (MayLackMemory read) (read ≡ Err kind)
+abbrev pub IsLineFault : Reading → Result Reading AsmKind → AsmKind → Type 0
+IsLineFault before read kind = MatchKind kind (MayLackMemory before read) (read ≡ Err kind)
 
 -- a fault that a text is refused with: its first faulty line, or where memory ran out
 abbrev pub IsFaultOf : List ℕ → AsmFault → Type 0

@@ -24,7 +24,7 @@ pub fn expand(wanted: &Macro, context: Context, list: &mut Vec<Act>) -> Result<(
     if let Some(fault) = fault_of(wanted, &context) {
         return Err(fault);
     }
-    if list.reserve(count_acts(wanted, &context)).is_err() {
+    if list.reserve(count_acts(wanted, context)).is_err() {
         return Err(MacroFault::Memory);
     }
     append(wanted, &context, list);
@@ -33,8 +33,8 @@ pub fn expand(wanted: &Macro, context: Context, list: &mut Vec<Act>) -> Result<(
 
 /// How many acts a macro has.
 #[tactic(auto, using(crate::proofs::Lists::length_of_bits, crate::proofs::Lists::length_of_product))]
-fn count_acts(wanted: &Macro, context: &Context) -> usize
-    ensures { result ≡ length (acts_of wanted.now context.now) }
+pub fn count_acts(wanted: &Macro, context: Context) -> usize
+    ensures { result ≡ length (acts_of wanted.now context) }
 {
     match *wanted {
         Macro::Add(d, _) | Macro::Sub(d, _) | Macro::Less(d, _) | Macro::Equal(d, _) => {

@@ -8,4 +8,4 @@ mod product;
 mod pushes;
 
 pub use cm_language::{Context, Macro, MacroFault};
-pub use expansion::expand;
+pub use expansion::{count_acts, expand};

@@ -1,12 +1,12 @@
 use Rattle.std.proofs.Common.{◌≡◌, ◌+◌, Ok, List, [], ◌∷◌, ◌++◌, length, take, sym, ap, ◌∙◌, arith, append-nil, rules}
 use Rattle.cm_bits.specs.Text.{lines_left, lines_of}
 use Rattle.cm_model.specs.declared.act.Nano.{Nano}
-use Rattle.cm_cli.specs.Program.{program_of, nanos_of_lines}
+use Rattle.cm_cli.specs.Program.{nanos_of, nanos_of_lines}
 use Rattle.cm_cli.proofs.Reading.{none_before, few_lines, read_blank, read_instruction, read_fault, next_line, read_on_blank, read_on_instruction, accepted_through, refused_at}
 use Rattle.cm_cli.proofs.program.read_program.Goals as goal
 
 pub loop-bytes-init : goal.loop-bytes-init
-unfolding program_of
+unfolding nanos_of
 loop-bytes-init c =
     let lines : lines_left c.into_iter-bytes-iterator.result ≡ lines_of c.args.text.now = ap lines_left c.into_iter-bytes-iterator.ensures.into_iter_gives ∙ c.new-bytes-items.ensures in
     record {
