@@ -1,17 +1,20 @@
 //! Writing the bytes of a machine.
 
-ghost use Rattle.std.specs.Prelude.{◌≡◌, ◌==◌, ◌++◌, ◌^◌, ◌<◌, ◌≤◌, length, IfOk, OnOk, if◌then◌else◌};
+ghost use Rattle.std.specs.Prelude.{◌≡◌, ◌==◌, ◌++◌, ◌^◌, ◌<◌, ◌≤◌, length, IfOk, Ok, OnOk, if◌then◌else◌};
 ghost use Rattle.std.specs.List.{flat_map};
 ghost use Rattle.std.specs.Int.{w8, w16, w32, w64};
 ghost use Rattle.cm_message.specs.Bytes.{number, message_text};
 ghost use Rattle.cm_image_format.specs.Image.{chip_text, shape_text};
 ghost use Rattle.cm_image_format.specs.Whole.{flag_plane_of, memory_plane_of, image_of_chip, image_of, text_of};
+ghost use Rattle.cm_image_format.specs.Whole.{read_image};
+ghost use Rattle.cm_image_format.specs.Laws.{without_logs};
 ghost use Rattle.cm_image.specs.Planes.{flags_text, listing_of, listed_below, planes_below};
 
 use crate::numbers::chip_count;
 use cm_array::Machine;
 use cm_bits::{Addr, FlagNo, NoMemory, Plane};
 use cm_element::Chip;
+use cm_image_format::texts_leave_out_logs;
 use cm_message::{Message, bytes};
 use std::alloc::Global;
 
@@ -37,8 +40,10 @@ pub fn dump<const N: usize, const CAP: usize>(
     machine: &Machine<N, CAP>,
 ) -> Result<Vec<u8>, NoMemory>
     ensures value { IfOk result (λ text. text.items ≡ text_of N CAP machine.now.machine) }
+    ensures read { IfOk result (λ text. read_image N CAP text.items ≡ Ok (without_logs N machine.now.machine)) }
 {
     let cycles = machine.clock();
+    texts_leave_out_logs();
     let mut text = Vec::with_capacity(alloc, text_len(machine))?;
     push_shape(&mut text, N, CAP)?;
     push_u64(&mut text, cycles)?;
@@ -184,15 +189,16 @@ fn push_planes(text: &mut Vec<u8>, chip: &Chip) -> Result<(), NoMemory>
 }
 
 /// The address and the plane, but nothing where it is 0.
+#[tactic(auto, unfolding(cm_message::specs::Bytes::number))]
 fn push_plane(text: &mut Vec<u8>, at: u16, plane: Plane) -> Result<(), NoMemory>
     ensures ok { OnOk result (text.new.items ≡ text.old.items ++ listing_of at plane) }
 {
     if plane == 0 {
         return Ok(());
     }
-    push_u16(text, at)?;
-    push_u16(text, plane)?;
-    Ok(())
+    let [at_high, at_low] = at.to_be_bytes();
+    let [high, low] = plane.to_be_bytes();
+    push(text, &[at_high, at_low, high, low])
 }
 
 fn push_messages(text: &mut Vec<u8>, messages: &[Message]) -> Result<(), NoMemory>

@@ -7,4 +7,5 @@ mod Chips
 mod Accounts
 mod Machines
 mod Theorems
+mod Unlogging
 mod StandardFacts

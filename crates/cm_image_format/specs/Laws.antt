@@ -1,5 +1,6 @@
 -- Laws over images, each the contract of a function of its name. Ours.
-use Rattle.std.specs.Prelude.{◌≡◌, ℕ, ◌<◌, ◌≤◌, ◌^◌, ◌↔◌, List, None, Ok, slice_index}
+use Rattle.std.specs.Prelude.{◌≡◌, ℕ, ◌<◌, ◌≤◌, ◌^◌, ◌↔◌, List, [], None, Ok, slice_index}
+use Rattle.cm_model.specs.Array.{each_chip}
 use Rattle.cm_model.specs.Machine.{Machine}
 use Rattle.cm_model.specs.Keeping.{IsMachine}
 use Rattle.cm_model.specs.Unlogged.{IsUnlogged}
@@ -14,6 +15,18 @@ pub record IsStored (n cap : ℕ) (machine : Machine) : Type 0 where
   pub whole : IsMachine n cap machine
   pub unlogged : IsUnlogged n machine
 
+-- a machine of these sizes, as every machine is that a run leaves: its logs may have events
+pub record HasText (n cap : ℕ) (machine : Machine) : Type 0 where
+  pub dimension : n ≤ 12
+  pub some_room : 1 ≤ cap
+  pub most_room : cap ≤ 15
+  pub clock : machine.clock < 2 ^ 63
+  pub whole : IsMachine n cap machine
+
+-- the machine as if it had been made with what stands in it now: no log has an event
+abbrev pub without_logs : ℕ → Machine → Machine
+without_logs n machine = record machine { logs = each_chip n (λ c. []) }
+
 -- these are bytes
 abbrev pub AreBytes : List ℕ → Type 0
 AreBytes bytes = (i : ℕ) → slice_index bytes i < 256
@@ -22,6 +35,12 @@ AreBytes bytes = (i : ℕ) → slice_index bytes i < 256
 abbrev pub TextsAreRead : Type 0
 TextsAreRead =
     (n cap : ℕ) (machine : Machine) → IsStored n cap machine → read_image n cap (text_of n cap machine) ≡ Ok machine
+
+-- the text of a machine with logs is read as that machine without them
+abbrev pub TextsLeaveOutLogs : Type 0
+TextsLeaveOutLogs =
+    (n cap : ℕ) (machine : Machine) → HasText n cap machine
+    → read_image n cap (text_of n cap machine) ≡ Ok (without_logs n machine)
 
 -- bytes that are read as a machine are its text
 abbrev pub OnlyTextsAreRead : Type 0
