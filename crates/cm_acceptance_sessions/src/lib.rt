@@ -2,6 +2,10 @@
 #![tactic(auto)]
 
 #[cfg(test)]
+mod examples;
+#[cfg(test)]
+mod gallery;
+#[cfg(test)]
 mod reader;
 #[cfg(test)]
 mod sessions;

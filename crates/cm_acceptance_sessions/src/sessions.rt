@@ -11,7 +11,7 @@ use std::test::Fail;
 
 /// The blank machine that a session starts with.
 #[derive(Clone, Copy)]
-enum Start {
+pub(crate) enum Start {
     /// One chip with room for seven messages.
     OneChip,
     /// The same, after as many petit cycles as are counted.
@@ -24,12 +24,16 @@ enum Start {
     FourChipsOfTwo,
     /// Four chips with room for seven.
     FourChipsOfSeven,
+    /// Sixteen chips with room for one.
+    SixteenChips,
+    /// Sixteen chips with room for seven.
+    SixteenChipsOfSeven,
 }
 
 const LAST: u64 = u64::MAX >> 1;
 
 /// The machine, a program text, commands, and what they are answered.
-type Row = (Start, &'static [u8], &'static [u8], &'static [u8]);
+pub(crate) type Row = (Start, &'static [u8], &'static [u8], &'static [u8]);
 
 const ANSWERED: [Row; 22] = [
     // a program without acts
@@ -280,7 +284,7 @@ fn ends_so<const N: usize, const CAP: usize>(
     }
 }
 
-fn is_answered(alloc: Global, row: &Row) -> bool {
+pub(crate) fn is_answered(alloc: Global, row: &Row) -> bool {
     let (start, text, commands, wanted) = *row;
     let told = Told {
         text,
@@ -295,6 +299,8 @@ fn is_answered(alloc: Global, row: &Row) -> bool {
         Start::FourChips => ends_so::<2, 1>(alloc, 0, told, wanted, Ok(())),
         Start::FourChipsOfTwo => ends_so::<2, 2>(alloc, 0, told, wanted, Ok(())),
         Start::FourChipsOfSeven => ends_so::<2, 7>(alloc, 0, told, wanted, Ok(())),
+        Start::SixteenChips => ends_so::<4, 1>(alloc, 0, told, wanted, Ok(())),
+        Start::SixteenChipsOfSeven => ends_so::<4, 7>(alloc, 0, told, wanted, Ok(())),
     }
 }
 
