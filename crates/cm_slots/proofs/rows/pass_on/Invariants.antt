@@ -1,0 +1,10 @@
+use Rattle.std.proofs.Common.{slice_index, if◌then◌else◌}
+use Rattle.cm_slots.specs.Slots.{crosses}
+use Rattle.cm_slots.proofs.Lanes.{AreDone}
+use Rattle.cm_slots.proofs.rows.pass_on.Given as goal
+
+abbrev pub invariant-loop-i : goal.invariant-loop-i
+invariant-loop-i l = record {
+  carried : AreDone (λ i. if crosses l.dim (slice_index l.initial.carried i) then slice_index l.initial.carried i else slice_index l.initial.row i) l.initial.carried l.carried l.i;
+  row : AreDone (λ i. if crosses l.dim (slice_index l.initial.carried i) then slice_index l.initial.row i else slice_index l.initial.carried i) l.initial.row l.row l.i;
+}

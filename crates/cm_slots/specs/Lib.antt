@@ -1,0 +1,4 @@
+pub mod Queues
+pub mod Tickets
+pub mod Slots
+pub mod Tiles

@@ -1,0 +1,85 @@
+-- A chip's tickets in slots, the first that came in slot 0: who is carried on and who stays. Ours.
+use Rattle.std.specs.Prelude.{ℕ, zero, suc, ◌+◌, ◌^◌, ◌<◌, ◌≤◌, ◌≡◌, ◌≢◌, ◌==◌, true, Bool, List, [], ◌∷◌, length, bit_xor, map}
+use Rattle.std.specs.Prelude.{slice_index, slice_index_or, if◌then◌else◌}
+use Rattle.std.specs.List.{filter}
+use Rattle.cm_bits.specs.Bit.{bit}
+use Rattle.cm_model.specs.Each.{each_from}
+use Rattle.cm_slots.specs.declared.ticket.Ticket.{Ticket}
+use Rattle.cm_slots.specs.Tickets.{ticket_of}
+
+-- ---- one slot
+
+-- a ticket stands there
+abbrev pub is_taken : ℕ → Bool
+is_taken slot = bit slot 31
+
+-- a ticket stands there whose message has to cross dimension d
+abbrev pub crosses : ℕ → ℕ → Bool
+crosses d slot = bit slot (16 + d)
+
+-- what arrives across dimension d, 0 where nothing does
+abbrev pub slot_across : ℕ → ℕ → ℕ
+slot_across d slot = if slot == 0 then 0 else bit_xor slot (2 ^ (16 + d))
+
+-- who comes with a slot, if anyone does
+abbrev pub comers : ℕ → List ℕ
+comers slot = if slot == 0 then [] else slot ∷ []
+
+-- ---- the slots of a chip
+
+-- slot j of the chip at place i of a tile, of its first row and the rest
+abbrev pub slot_in : List ℕ → List (List ℕ) → ℕ → ℕ → ℕ
+slot_in first rest i zero = slice_index first i
+slot_in first rest i (suc j) = slice_index (slice_index_or rest j []) i
+
+-- the same without the first row
+abbrev pub slot_behind : List (List ℕ) → ℕ → ℕ → ℕ
+slot_behind rest i j = slice_index (slice_index_or rest j []) i
+
+-- the first number of which it is true, or the last where it is true of none before
+abbrev pub first_of : (ℕ → Bool) → ℕ → ℕ
+first_of test zero = 0
+first_of test (suc n) = if test (first_of test n) then first_of test n else suc n
+
+-- who leaves of so many slots and one: the first who has to cross dimension d, else the last
+abbrev pub leaver_in : ℕ → ℕ → (ℕ → ℕ) → ℕ
+leaver_in d count slots = first_of (λ j. crosses d (slots j)) count
+
+-- so many slots hold what others hold without one of them
+pub record IsWithout (count place : ℕ) (old new : ℕ → ℕ) : Type 0 where
+  pub earlier : (j : ℕ) → j < count → j < place → new j ≡ old j
+  pub later : (j : ℕ) → j < count → place ≤ j → new j ≡ old (suc j)
+
+-- so many slots hold something up to a number, and nothing from there on
+pub record IsFilled (count len : ℕ) (slots : ℕ → ℕ) : Type 0 where
+  pub within : len ≤ count
+  pub some : (j : ℕ) → j < len → slots j ≢ 0
+  pub none : (j : ℕ) → len ≤ j → j < count → slots j ≡ 0
+
+-- so many slots and one hold what so many hold, and behind that what comes
+pub record IsBehind (count len comes : ℕ) (old new : ℕ → ℕ) : Type 0 where
+  pub earlier : (j : ℕ) → j < len → new j ≡ old j
+  pub there : new len ≡ comes
+  pub none : (j : ℕ) → len < j → j ≤ count → new j ≡ 0
+
+-- so many slots, of which the first hold these numbers, each of a ticket, and the others 0
+pub record AreSlots (count : ℕ) (slots : ℕ → ℕ) (numbers : List ℕ) : Type 0 where
+  pub fits : length numbers ≤ count
+  pub each : (j : ℕ) → j < count → slots j ≡ slice_index numbers j
+  pub taken : (j : ℕ) → j < length numbers → is_taken (slice_index numbers j) ≡ true
+
+-- the first so many lanes of a row hold at most this
+abbrev pub AreUpTo : ℕ → List ℕ → ℕ → Type 0
+AreUpTo most row count = (i : ℕ) → i < count → slice_index row i ≤ most
+
+-- all lanes of a row are 0
+abbrev pub IsBlank : List ℕ → Type 0
+IsBlank row = (i : ℕ) → i < 64 → slice_index row i ≡ 0
+
+-- what stands in so many slots
+abbrev pub standing_in : ℕ → (ℕ → ℕ) → List ℕ
+standing_in count slots = filter is_taken (each_from 0 count slots)
+
+-- the tickets in so many slots
+abbrev pub tickets_in : ℕ → (ℕ → ℕ) → List Ticket
+tickets_in count slots = map ticket_of (standing_in count slots)

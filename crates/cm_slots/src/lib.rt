@@ -1,0 +1,12 @@
+//! The tickets of a run of chips, slot by slot over tiles of 64 chips, so that a dimension is two passes.
+#![tactic(auto)]
+
+mod across;
+mod passes;
+mod rows;
+mod slots;
+mod ticket;
+mod tile;
+
+pub use slots::Slots;
+pub use ticket::Ticket;

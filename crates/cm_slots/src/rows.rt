@@ -1,0 +1,111 @@
+//! Rows of slots: the same slot of 64 chips that stand side by side. A step does the same at each of them,
+//! whatever stands there, so that it takes several at once.
+
+ghost use Rattle.std.specs.Prelude.{◌≡◌, ℕ, ◌+◌, ◌<◌, ◌≤◌, ◌==◌, IsTrue, length, slice_index, if◌then◌else◌};
+ghost use Rattle.std.specs.List.{All};
+ghost use Rattle.cm_slots.specs.Slots.{crosses, slot_in, slot_behind, leaver_in, IsWithout, IsFilled, IsBehind};
+ghost use Rattle.cm_slots.specs.Slots.{IsBlank};
+
+/// So many chips stand side by side.
+pub(crate) const WIDTH: usize = 64;
+
+/// One slot of each of them.
+pub(crate) type Row = [u32; WIDTH];
+
+/// Takes out who leaves each chip: of so many slots and one the first that has to cross the dimension, or
+/// else the last. The first row holds who leaves then, and in the rest the others close up.
+pub(crate) fn leave(first: &mut Row, rest: &mut [Row], count: usize, dim: u8)
+    requires dimension { dim < 12 }
+    requires count { count ≤ length rest.old }
+    requires long { length first.old ≡ 64 }
+    requires wide { All (λ row. length row ≡ 64) rest.old }
+    ensures going { (i : ℕ) → i < 64 → slice_index first.new i
+        ≡ slot_in first.old rest.old i (leaver_in dim count (slot_in first.old rest.old i)) }
+    ensures stay { (i : ℕ) → i < 64 → IsWithout count (leaver_in dim count (slot_in first.old rest.old i))
+        (slot_in first.old rest.old i) (slot_behind rest.new i) }
+    ensures long { length first.new ≡ 64 }
+    ensures wide { All (λ row. length row ≡ 64) rest.new }
+{
+    for k in 0..count {
+        pass_on(first, &mut rest[k], dim);
+    }
+}
+
+/// Takes in who comes to each chip, which the first row holds: behind all who stand in so many slots.
+pub(crate) fn take_in(first: &mut Row, rest: &mut [Row], count: usize)
+    requires count { count ≤ length rest.old }
+    requires long { length first.old ≡ 64 }
+    requires wide { All (λ row. length row ≡ 64) rest.old }
+    ensures taken { (i len : ℕ) → i < 64 → IsFilled count len (slot_behind rest.old i)
+        → IsBehind count len (slice_index first.old i) (slot_behind rest.old i) (slot_in first.new rest.new i) }
+    ensures long { length first.new ≡ 64 }
+    ensures wide { All (λ row. length row ≡ 64) rest.new }
+{
+    for k in (0..count).rev() {
+        pass_back(first, &mut rest[k]);
+    }
+}
+
+/// At each chip, who has to cross the dimension is carried on; who has not stays in this row, and what was
+/// there is carried on.
+#[inline(never)]
+fn pass_on(carried: &mut Row, row: &mut Row, dim: u8)
+    requires dimension { dim < 12 }
+    requires long { length carried.old ≡ 64 }
+    requires wide { length row.old ≡ 64 }
+    ensures carried { (i : ℕ) → i < 64 → slice_index carried.new i
+        ≡ (if crosses dim (slice_index carried.old i) then slice_index carried.old i else slice_index row.old i) }
+    ensures row { (i : ℕ) → i < 64 → slice_index row.new i
+        ≡ (if crosses dim (slice_index carried.old i) then slice_index row.old i else slice_index carried.old i) }
+    ensures long { length carried.new ≡ 64 }
+    ensures wide { length row.new ≡ 64 }
+{
+    for i in 0..WIDTH {
+        let here = carried[i];
+        let next = row[i];
+        let goes = has_to_cross(here, dim);
+        carried[i] = if goes { here } else { next };
+        row[i] = if goes { next } else { here };
+    }
+}
+
+/// At each chip, who is carried stays in this row where somebody stood there, who is carried on.
+#[inline(never)]
+fn pass_back(carried: &mut Row, row: &mut Row)
+    requires long { length carried.old ≡ 64 }
+    requires wide { length row.old ≡ 64 }
+    ensures carried { (i : ℕ) → i < 64 → slice_index carried.new i
+        ≡ (if slice_index row.old i == 0 then slice_index carried.old i else slice_index row.old i) }
+    ensures row { (i : ℕ) → i < 64 → slice_index row.new i
+        ≡ (if slice_index row.old i == 0 then 0 else slice_index carried.old i) }
+    ensures long { length carried.new ≡ 64 }
+    ensures wide { length row.new ≡ 64 }
+{
+    for i in 0..WIDTH {
+        let here = carried[i];
+        let next = row[i];
+        let none = next == 0;
+        carried[i] = if none { here } else { next };
+        row[i] = if none { 0 } else { here };
+    }
+}
+
+/// Whether all lanes of a row are 0.
+pub(crate) fn is_blank(row: &Row) -> bool
+    requires long { length row.now ≡ 64 }
+    ensures none { IsTrue result → IsBlank row.now }
+{
+    let mut all = 0;
+    for i in 0..WIDTH {
+        all |= row[i];
+    }
+    all == 0
+}
+
+/// Whether the message of a slot's ticket has to cross a dimension.
+fn has_to_cross(slot: u32, dim: u8) -> bool
+    requires dimension { dim < 12 }
+    ensures value { result ≡ crosses dim slot }
+{
+    slot >> (16 + dim) & 1 == 1
+}
