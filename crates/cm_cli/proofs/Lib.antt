@@ -2,3 +2,5 @@ mod Reading
 mod Telling
 mod OneChip
 mod Fronts
+mod Opening
+mod Lifting

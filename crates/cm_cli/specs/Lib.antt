@@ -6,3 +6,4 @@ pub mod Session
 pub mod ProgramFault
 pub mod Listed
 pub mod Fresh
+pub mod Run
