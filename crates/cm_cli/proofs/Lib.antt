@@ -3,3 +3,5 @@ mod Telling
 mod OneChip
 mod Fronts
 mod Programs
+mod Opening
+mod Lifting

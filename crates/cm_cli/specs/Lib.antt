@@ -7,3 +7,4 @@ pub mod ProgramFault
 pub mod Listed
 pub mod Fresh
 pub mod Laws
+pub mod Run

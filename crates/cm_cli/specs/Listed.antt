@@ -6,7 +6,7 @@ use Rattle.cm_language.specs.Program.{ProgramText, program_of, IsFaultOf}
 use Rattle.cm_language.specs.Listing.{listing}
 use Rattle.cm_cli.specs.Report.{HasFront}
 use Rattle.cm_cli.specs.declared.program_fault.ProgramFault.{ProgramFault}
-use Rattle.cm_cli.specs.declared.program_fault.ProgramFault.TheVariants.{BadLine, Text, Cap, Read, Write, TooMuch, Memory}
+use Rattle.cm_cli.specs.declared.program_fault.ProgramFault.TheVariants.{BadLine, Text, Image, Cap, Read, Write, TooMuch, Memory, NoThread}
 
 -- the most bytes of a program text
 abbrev pub PROGRAM_LIMIT : ℕ
@@ -28,7 +28,9 @@ abbrev pub HasNoListing : List ℕ → ProgramFault → Type 0
 HasNoListing text (Text fault) = IsFaultOf text fault
 HasNoListing text Memory = HasProgram text
 HasNoListing text BadLine = ⊥
+HasNoListing text (Image fault) = ⊥
 HasNoListing text Cap = ⊥
+HasNoListing text NoThread = ⊥
 HasNoListing text Read = ⊥
 HasNoListing text Write = ⊥
 HasNoListing text TooMuch = ⊥
@@ -67,13 +69,17 @@ EndsListing text held holds (Err Write) = IsListedInPart text held holds
 EndsListing text held holds (Err TooMuch) = IsTooLongToList text held holds
 EndsListing text held holds (Err Memory) = Keeps held holds
 EndsListing text held holds (Err BadLine) = ⊥
+EndsListing text held holds (Err (Image fault)) = ⊥
 EndsListing text held holds (Err Cap) = ⊥
+EndsListing text held holds (Err NoThread) = ⊥
 
 -- it ended by a write
 abbrev pub is_write : Result (Unit {0}) ProgramFault → Bool
 is_write (Ok done) = false
 is_write (Err BadLine) = false
+is_write (Err (Image fault)) = false
 is_write (Err Cap) = false
+is_write (Err NoThread) = false
 is_write (Err (Text fault)) = false
 is_write (Err Read) = false
 is_write (Err Write) = true
@@ -84,7 +90,9 @@ is_write (Err Memory) = false
 abbrev pub has_read_all : Result (Unit {0}) ProgramFault → Bool
 has_read_all (Ok done) = true
 has_read_all (Err BadLine) = false
+has_read_all (Err (Image fault)) = false
 has_read_all (Err Cap) = false
+has_read_all (Err NoThread) = false
 has_read_all (Err (Text fault)) = true
 has_read_all (Err Read) = false
 has_read_all (Err Write) = true

@@ -4,12 +4,16 @@ use Rattle.cm_line.specs.declared.fault.LineFault.{LineFault}
 use Rattle.cm_line.specs.declared.fault.LineFault.TheVariants as line
 use Rattle.cm_language.specs.declared.fault.AsmKind.{AsmKind}
 use Rattle.cm_language.specs.declared.fault.AsmKind.TheVariants as kind
+use Rattle.cm_image_format.specs.declared.fault.ImageFault.{ImageFault}
+use Rattle.cm_image_format.specs.declared.fault.ImageFault.TheVariants as image
+use Rattle.cm_session.specs.declared.fault.SessionFault.{SessionFault}
+use Rattle.cm_session.specs.declared.fault.SessionFault.TheVariants as session
 use Rattle.cm_cli.specs.declared.fault.ChipFault.{ChipFault}
 use Rattle.cm_cli.specs.declared.fault.ChipFault.TheVariants as chip
 use Rattle.cm_cli.specs.declared.takes.TakeFault.{TakeFault}
 use Rattle.cm_cli.specs.declared.takes.TakeFault.TheVariants as take
 use Rattle.cm_cli.specs.declared.program_fault.ProgramFault.{ProgramFault}
-use Rattle.cm_cli.specs.declared.program_fault.ProgramFault.TheVariants.{BadLine, Text, Cap, Read, Write, TooMuch, Memory}
+use Rattle.cm_cli.specs.declared.program_fault.ProgramFault.TheVariants.{BadLine, Text, Image, Cap, Read, Write, TooMuch, Memory, NoThread}
 
 -- the number of what is wrong with a line
 abbrev pub kind_number : AsmKind → ℕ
@@ -27,25 +31,42 @@ kind_number kind.Name = 18
 kind_number kind.Twice = 19
 kind_number kind.TooLong = 20
 
+-- the number of what is wrong with an image
+abbrev pub image_number : ImageFault → ℕ
+image_number image.Short = 21
+image_number image.Magic = 22
+image_number image.Version = 23
+image_number image.Shape = 24
+image_number image.Order = 25
+image_number image.Count = 26
+image_number image.Value = 27
+image_number image.TagTwice = 28
+image_number image.Extra = 29
+image_number image.Memory = 33
+
 -- the number of a fault
 abbrev pub told_number : ProgramFault → ℕ
 told_number BadLine = 38
 told_number (Text fault) = kind_number fault.kind
+told_number (Image fault) = image_number fault
 told_number Cap = 5
 told_number Read = 30
 told_number Write = 31
 told_number TooMuch = 32
 told_number Memory = 33
+told_number NoThread = 9
 
 -- the line of the text, if the fault stands in one
 abbrev pub line_of : ProgramFault → Option ℕ
 line_of BadLine = None
 line_of (Text fault) = Some fault.line
+line_of (Image fault) = None
 line_of Cap = None
 line_of Read = None
 line_of Write = None
 line_of TooMuch = None
 line_of Memory = None
+line_of NoThread = None
 
 -- a session's fault as one of the program
 abbrev pub of_chip : ChipFault → ProgramFault
@@ -65,3 +86,24 @@ of_take take.Memory = Memory
 abbrev pub of_line : LineFault → ProgramFault
 of_line line.BadLine = BadLine
 of_line line.Memory = Memory
+
+-- a debugger session's fault as one of the program
+abbrev pub of_session : SessionFault → ProgramFault
+of_session session.Read = Read
+of_session (session.Write count) = Write
+of_session session.TooMuch = TooMuch
+of_session session.Memory = Memory
+of_session session.NoThread = NoThread
+
+-- a fault of an image as one of the program: want of memory is told as any other
+abbrev pub of_image : ImageFault → ProgramFault
+of_image image.Memory = Memory
+of_image image.Short = Image image.Short
+of_image image.Magic = Image image.Magic
+of_image image.Version = Image image.Version
+of_image image.Shape = Image image.Shape
+of_image image.Order = Image image.Order
+of_image image.Count = Image image.Count
+of_image image.Value = Image image.Value
+of_image image.TagTwice = Image image.TagTwice
+of_image image.Extra = Image image.Extra

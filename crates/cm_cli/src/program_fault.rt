@@ -2,10 +2,12 @@
 
 ghost use Rattle.std.specs.Prelude.{◌≡◌, ◌≤◌, IfSome};
 ghost use Rattle.cm_cli.specs.Report.{HasLine};
-ghost use Rattle.cm_cli.specs.ProgramFault.{told_number, kind_number, line_of};
+ghost use Rattle.cm_cli.specs.ProgramFault.{told_number, kind_number, image_number, line_of};
 
 use crate::fault::ChipFault;
 use crate::takes::TakeFault;
+use cm_debug::SessionFault;
+use cm_image_format::ImageFault;
 use cm_language::{AsmFault, AsmKind};
 use cm_line::LineFault;
 
@@ -14,12 +16,14 @@ use cm_line::LineFault;
 pub enum ProgramFault {
     BadLine,
     Text(AsmFault),
+    Image(ImageFault),
     /// A machine's routers have another room than the program's machines.
     Cap,
     Read,
     Write,
     TooMuch,
     Memory,
+    NoThread,
 }
 
 impl ProgramFault {
@@ -32,11 +36,13 @@ impl ProgramFault {
         match self {
             ProgramFault::BadLine => 38,
             ProgramFault::Text(fault) => asm_number(fault.kind),
+            ProgramFault::Image(fault) => image_number(*fault),
             ProgramFault::Cap => 5,
             ProgramFault::Read => 30,
             ProgramFault::Write => 31,
             ProgramFault::TooMuch => 32,
             ProgramFault::Memory => 33,
+            ProgramFault::NoThread => 9,
         }
     }
 
@@ -69,6 +75,54 @@ fn asm_number(kind: AsmKind) -> u8
         AsmKind::Name => 18,
         AsmKind::Twice => 19,
         AsmKind::TooLong => 20,
+    }
+}
+
+fn image_number(fault: ImageFault) -> u8
+    ensures value { result ≡ image_number fault }
+{
+    match fault {
+        ImageFault::Short => 21,
+        ImageFault::Magic => 22,
+        ImageFault::Version => 23,
+        ImageFault::Shape => 24,
+        ImageFault::Order => 25,
+        ImageFault::Count => 26,
+        ImageFault::Value => 27,
+        ImageFault::TagTwice => 28,
+        ImageFault::Extra => 29,
+        ImageFault::Memory => 33,
+    }
+}
+
+impl From<ImageFault> for ProgramFault {
+    ghost use Rattle.std.specs.Prelude.{◌≡◌};
+    ghost use Rattle.cm_cli.specs.ProgramFault.{of_image};
+
+    ghost from_gives = { λ fault whole. whole ≡ of_image fault };
+
+    fn from(fault: ImageFault) -> ProgramFault {
+        match fault {
+            ImageFault::Memory => ProgramFault::Memory,
+            _ => ProgramFault::Image(fault),
+        }
+    }
+}
+
+impl From<SessionFault> for ProgramFault {
+    ghost use Rattle.std.specs.Prelude.{◌≡◌};
+    ghost use Rattle.cm_cli.specs.ProgramFault.{of_session};
+
+    ghost from_gives = { λ fault whole. whole ≡ of_session fault };
+
+    fn from(fault: SessionFault) -> ProgramFault {
+        match fault {
+            SessionFault::Read => ProgramFault::Read,
+            SessionFault::Write(_) => ProgramFault::Write,
+            SessionFault::TooMuch => ProgramFault::TooMuch,
+            SessionFault::Memory => ProgramFault::Memory,
+            SessionFault::NoThread => ProgramFault::NoThread,
+        }
     }
 }
 

@@ -1,6 +1,6 @@
 //! The first parts of an image: its shape, and the counter.
 
-ghost use Rattle.std.specs.Prelude.{◌<◌, ◌^◌, ◌==◌, ◌&&◌, IfOk, IsOk};
+ghost use Rattle.std.specs.Prelude.{◌<◌, ◌≤◌, ◌^◌, ◌==◌, ◌&&◌, IfOk, IsOk};
 ghost use Rattle.cm_array.specs.Parts.{AreSizes};
 ghost use Rattle.cm_image_format.specs.Reading.{Gives, ◌⨾◌};
 ghost use Rattle.cm_image_format.specs.Image.{is_dimension, is_room, shape_part, clock_part};
@@ -17,6 +17,9 @@ const MAGIC: u32 = 0x434d_3149;
 #[tactic(auto, unfolding(cm_image_format::specs::Whole::read_shape))]
 pub fn shape(bytes: &[u8]) -> Result<(u8, u8), ImageFault>
     ensures value { Gives (λ x. x) result (read_shape bytes.now) }
+    ensures dimension { IfOk result (λ shape. shape.0 ≤ 12) }
+    ensures some_room { IfOk result (λ shape. 1 ≤ shape.1) }
+    ensures most_room { IfOk result (λ shape. shape.1 ≤ 15) }
 {
     let (magic, rest) = take_u32(bytes)?;
     if magic != MAGIC {
