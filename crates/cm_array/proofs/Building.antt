@@ -1,8 +1,9 @@
 -- A machine that is being built stays one.
 use Rattle.std.proofs.Common.{◌≡◌, ℕ, ◌^◌, ◌+◌, ◌<◌, ◌≤◌, List, [], ◌∷◌, ◌++◌, false, length, get_or, set, refl, sym, ap, ◌∙◌, subst, arith}
-use Rattle.std.proofs.lemmas.List.{get_or_read, length-set, length-map, map-set, get_or-map, length-append}
-use Rattle.std.proofs.lemmas.List.Elements.{All-nil, All-cons, All-append, All-set}
+use Rattle.std.proofs.lemmas.List.{get_or_read, length-set, length-append}
+use Rattle.std.proofs.lemmas.List.Elements.{All-nil, All-cons, All-append}
 use Rattle.std.specs.List.{All}
+use Rattle.std.specs.Prelude.{IsTrue}
 use Rattle.std.specs.Vec.{with_item}
 use Rattle.cm_model.specs.declared.message.Message.{Message}
 use Rattle.cm_model.specs.declared.message.Event.{Event}
@@ -15,12 +16,13 @@ use Rattle.cm_model.specs.Unlogged.{IsUnlogged, standing_messages, has_tag_twice
 use Rattle.cm_model.proofs.Each.{length-each_from, get_or-each_below}
 use Rattle.cm_model.proofs.Unlogged.{standing-all, none_injected, HasTagsOnce-standing, BornBefore-buffers}
 use Rattle.cm_model.proofs.Blanks.{IsMachine-blank_at}
-use Rattle.cm_router.specs.Buffer.{Buffer, buffers_of, holding}
+use Rattle.cm_crossing.specs.Standing.{UnderWay}
 use Rattle.cm_array.specs.declared.parts.Parts.{Parts}
 use Rattle.cm_array.specs.Parts.{machine_of, AreParts}
 use Rattle.cm_array.specs.Pokes.{machine_with_message}
 use Rattle.cm_array.specs.Building.{IsUnfinished, AreUnfinished}
 use Rattle.cm_array.proofs.Lists.{each_after_set}
+use Rattle.cm_array.proofs.Machines.{machine_of-gathered}
 
 -- ---- blank
 
@@ -52,10 +54,8 @@ AreUnfinished-blank n cap clock parts h is = record {
   dimension = h.dimension;
   some_room = h.some_room;
   most_room = h.most_room;
-  rooms = h.rooms;
   output_count = h.output_count;
   sent_count = h.sent_count;
-  crossing_count = h.crossing_count;
   clock = h.clock;
   machine = subst (λ (m : Machine). IsUnfinished n cap m) (sym is) (IsUnfinished-blank n cap clock);
 }
@@ -77,10 +77,8 @@ AreUnfinished-with_chip n cap parts i chip whole h = record {
   dimension = h.dimension;
   some_room = h.some_room;
   most_room = h.most_room;
-  rooms = h.rooms;
   output_count = h.output_count;
   sent_count = h.sent_count;
-  crossing_count = h.crossing_count;
   clock = h.clock;
   machine = record {
     chip_count = length-set parts.chips.items i chip ∙ h.machine.chip_count;
@@ -95,22 +93,6 @@ AreUnfinished-with_chip n cap parts i chip whole h = record {
 }
 
 -- ---- a message more
-
--- the messages of a node that was read
-read_buffer : (nodes : List Buffer) (i : ℕ) (node : Buffer) → i < length nodes → node ≡ get_or nodes i node
-    → node.messages ≡ list_at (buffers_of nodes) i
-read_buffer nodes i node inside is = ap (λ (n : Buffer). n.messages) is
-    ∙ sym (get_or-map (λ (n : Buffer). n.messages) nodes i node [] inside)
-
--- where a node has a message more the buffer of its chip has
-pub buffers_of-with_message : (nodes : List Buffer) (i : ℕ) (node next : Buffer) (m : Message) → i < length nodes
-    → node ≡ get_or nodes i node
-    → next ≡ holding node (node.messages ++ m ∷ []) → buffers_of (set nodes i next) ≡ set (buffers_of nodes) i
-    (list_at (buffers_of nodes) i ++ m ∷ [])
-buffers_of-with_message nodes i node next m inside is holds =
-    map-set (λ (n : Buffer). n.messages) nodes i next
-    ∙ ap (set (buffers_of nodes) i) (ap (λ (n : Buffer). n.messages) holds
-    ∙ ap (λ (ms : List Message). ms ++ m ∷ []) (read_buffer nodes i node inside is))
 
 -- with a message more that fits there
 IsUnfinished-with_message : (n cap : ℕ) (machine : Machine) (c : ℕ) (m : Message) → IsUnfinished n cap machine
@@ -139,40 +121,30 @@ IsUnfinished-with_message n cap machine c m h below room message born =
       unlogged = h.unlogged;
     }
 
--- the machine of the parts with such a node
-pub machine_of-with_message : (n cap : ℕ) (parts : Parts) (i : ℕ) (node next : Buffer) (m : Message)
-    → AreUnfinished n cap parts → i < 2 ^ n → node ≡ get_or parts.nodes.items i node
-    → next ≡ holding node (node.messages ++ m ∷ [])
-    → machine_of (record parts { nodes = with_item parts.nodes i next }) ≡ machine_with_message (machine_of parts) i m
-machine_of-with_message n cap parts i node next m h below is holds =
-    let long : length parts.nodes.items ≡ 2 ^ n = sym (length-map parts.nodes.items (λ (v : Buffer). v.messages))
-    ∙ h.machine.buffer_count in
-    let buffers = buffers_of-with_message parts.nodes.items i node next m (omega arith) is holds in
-    λ j. record { chips = parts.chips.items; buffers = buffers j; logs = (machine_of parts).logs; clock = parts.clock }
+-- the machine of the parts with such a buffer
+pub machine_of-with_message : (parts : Parts) (i : ℕ) (crossing : UnderWay) (m : Message)
+    → crossing.buffers ≡ set parts.crossing.buffers i (list_at parts.crossing.buffers i ++ m ∷ [])
+    → machine_of (record parts { crossing = crossing }) ≡ machine_with_message (machine_of parts) i m
+machine_of-with_message parts i crossing m is =
+    λ j. record { chips = parts.chips.items; buffers = is j; logs = (machine_of parts).logs; clock = parts.clock }
 
-pub AreUnfinished-with_message : (n cap : ℕ) (parts : Parts) (i : ℕ) (node next : Buffer) (m : Message)
-    → AreUnfinished n cap parts → i < 2 ^ n → node ≡ get_or parts.nodes.items i node
-    → next ≡ holding node (node.messages ++ m ∷ []) → length (list_at (machine_of parts).buffers i) < cap
+pub AreUnfinished-with_message : (n cap : ℕ) (parts : Parts) (i : ℕ) (crossing : UnderWay) (m : Message)
+    → AreUnfinished n cap parts → i < 2 ^ n
+    → crossing.buffers ≡ set parts.crossing.buffers i (list_at parts.crossing.buffers i ++ m ∷ [])
+    → length (list_at (machine_of parts).buffers i) < cap
     → IsMessage n m → m.tag.birth < parts.clock
-    → AreUnfinished n cap (record parts { nodes = with_item parts.nodes i next })
-AreUnfinished-with_message n cap parts i node next m h below is holds room message born =
-    let long : length parts.nodes.items ≡ 2 ^ n = sym (length-map parts.nodes.items (λ (v : Buffer). v.messages))
-    ∙ h.machine.buffer_count in
-    let same : node.room ≡ cap = ap (λ (v : Buffer). v.room) is ∙ h.rooms i node (omega arith) in
-    record {
-      dimension = h.dimension;
-      some_room = h.some_room;
-      most_room = h.most_room;
-      rooms = All-set (λ (v : Buffer). v.room ≡ cap) parts.nodes.items i next (ap (λ (v : Buffer). v.room) holds
-          ∙ same) h.rooms;
-      output_count = h.output_count;
-      sent_count = h.sent_count;
-      crossing_count = h.crossing_count;
-      clock = h.clock;
-      machine = subst (λ (machine : Machine). IsUnfinished n cap machine)
-          (sym (machine_of-with_message n cap parts i node next m h below is holds))
-          (IsUnfinished-with_message n cap (machine_of parts) i m h.machine below room message born);
-    }
+    → AreUnfinished n cap (record parts { crossing = crossing })
+AreUnfinished-with_message n cap parts i crossing m h below is room message born = record {
+  dimension = h.dimension;
+  some_room = h.some_room;
+  most_room = h.most_room;
+  output_count = h.output_count;
+  sent_count = h.sent_count;
+  clock = h.clock;
+  machine = subst (λ (machine : Machine). IsUnfinished n cap machine)
+      (sym (machine_of-with_message parts i crossing m is))
+      (IsUnfinished-with_message n cap (machine_of parts) i m h.machine below room message born);
+}
 
 -- ---- done
 
@@ -196,16 +168,18 @@ IsMachine-finished n cap machine h apart = record {
   injected = none_injected n machine h.unlogged;
 }
 
-pub AreParts-finished : (n cap : ℕ) (parts : Parts) → AreUnfinished n cap parts
-    → has_tag_twice (standing_messages (machine_of parts)) ≡ false → AreParts n cap parts
-AreParts-finished n cap parts h apart = record {
+-- its messages gathered
+pub AreParts-finished : (n cap : ℕ) (parts : Parts) (crossing : UnderWay) → AreUnfinished n cap parts
+    → crossing.buffers ≡ parts.crossing.buffers → IsTrue crossing.gathered
+    → has_tag_twice (standing_messages (machine_of parts)) ≡ false → AreParts n cap (record parts { crossing = crossing })
+AreParts-finished n cap parts crossing h same gathered apart = record {
   dimension = h.dimension;
   some_room = h.some_room;
   most_room = h.most_room;
-  rooms = h.rooms;
   output_count = h.output_count;
   sent_count = h.sent_count;
-  crossing_count = h.crossing_count;
   clock = h.clock;
-  machine = IsMachine-finished n cap (machine_of parts) h.machine apart;
+  gathered = gathered;
+  machine = subst (λ (m : Machine). IsMachine n cap m) (sym (machine_of-gathered parts crossing same))
+      (IsMachine-finished n cap (machine_of parts) h.machine apart);
 }

@@ -11,7 +11,6 @@ use Rattle.cm_model.specs.declared.message.Event.{Event}
 use Rattle.cm_model.specs.Array.{list_at}
 use Rattle.cm_model.specs.Machine.{Machine}
 use Rattle.cm_model.specs.Found.{same_tag, router_of, delivery_place, delivery_places, found_from, found_in}
-use Rattle.cm_router.specs.Buffer.{Buffer, buffers_of}
 use Rattle.cm_petit.specs.Routers.{Log, events_of}
 
 -- ---- the numbers of a range
@@ -44,10 +43,6 @@ first_next {Y} f c count l e =
 
 -- ---- what stands at a chip, and what its log tells
 
--- the messages of a node that was read
-pub list_at-buffers_of : (nodes : List Buffer) (c : ℕ) (node : Buffer) → c < length nodes → node ≡ get_or nodes c node → list_at (buffers_of nodes) c ≡ node.messages
-list_at-buffers_of nodes c node l e = get_or-map (λ (n : Buffer). n.messages) nodes c node [] l ∙ ap (λ (n : Buffer). n.messages) (sym e)
-
 -- the events of a log that was read
 pub list_at-events_of : (logs : List Log) (c : ℕ) (log : Log) → c < length logs → log ≡ get_or logs c log → list_at (events_of logs) c ≡ log.items
 list_at-events_of logs c log l e = get_or-map (λ (v : Log). v.items) logs c log [] l ∙ ap (λ (v : Log). v.items) (sym e)
@@ -55,31 +50,31 @@ list_at-events_of logs c log l e = get_or-map (λ (v : Log). v.items) logs c log
 -- ---- where the message of a tag is
 
 -- the test whether a message of the tag stands at a chip
-abbrev stands : Tag → List Buffer → ℕ → Bool
-stands tag nodes c = list_any (λ m. same_tag m.tag tag) (list_at (buffers_of nodes) c)
+abbrev stands : Tag → List (List Message) → ℕ → Bool
+stands tag buffers c = list_any (λ m. same_tag m.tag tag) (list_at buffers c)
 
 -- the places to which messages of the tag were delivered, of a chip
 abbrev places : Tag → List Log → ℕ → List Place
 places tag logs c = filter_map (delivery_place tag) (list_at (events_of logs) c)
 
--- these nodes and logs are those of a machine
-pub record AreOf (n : ℕ) (machine : Machine) (nodes : List Buffer) (logs : List Log) : Type 0 where
-  pub buffers : buffers_of nodes ≡ machine.buffers
+-- these messages and logs are those of a machine
+pub record AreOf (n : ℕ) (machine : Machine) (messages : List (List Message)) (logs : List Log) : Type 0 where
+  pub buffers : messages ≡ machine.buffers
   pub events : events_of logs ≡ machine.logs
-  pub node_count : length nodes ≡ 2 ^ n
+  pub buffer_count : length messages ≡ 2 ^ n
   pub log_count : length logs ≡ 2 ^ n
 
--- what is found among the nodes is found in the machine
-router_of-nodes : (n : ℕ) (machine : Machine) (tag : Tag) (nodes : List Buffer) (logs : List Log) → AreOf n machine nodes logs
-    → find (stands tag nodes) (range_with_len 0 (length nodes)) ≡ router_of n machine tag
-router_of-nodes n machine tag nodes logs h =
-    ap (λ (count : ℕ). find (stands tag nodes) (range_with_len 0 count)) h.node_count
-    ∙ ap (λ (buffers : List (List Message)). find (λ c. list_any (λ m. same_tag m.tag tag) (list_at buffers c)) (range_with_len 0 (2 ^ n))) h.buffers
+-- what is found among the messages is found in the machine
+router_of-buffers : (n : ℕ) (machine : Machine) (tag : Tag) (buffers : List (List Message)) (logs : List Log) → AreOf n machine buffers logs
+    → find (stands tag buffers) (range_with_len 0 (length buffers)) ≡ router_of n machine tag
+router_of-buffers n machine tag buffers logs h =
+    ap (λ (count : ℕ). find (stands tag buffers) (range_with_len 0 count)) h.buffer_count
+    ∙ ap (λ (bs : List (List Message)). find (stands tag bs) (range_with_len 0 (2 ^ n))) h.buffers
 
 -- what the logs tell was delivered is what the machine's logs tell
-delivery_places-logs : (n : ℕ) (machine : Machine) (tag : Tag) (nodes : List Buffer) (logs : List Log) → AreOf n machine nodes logs
+delivery_places-logs : (n : ℕ) (machine : Machine) (tag : Tag) (buffers : List (List Message)) (logs : List Log) → AreOf n machine buffers logs
     → flat_map (places tag logs) (range_with_len 0 (length logs)) ≡ delivery_places n machine tag
-delivery_places-logs n machine tag nodes logs h =
+delivery_places-logs n machine tag buffers logs h =
     ap (λ (count : ℕ). flat_map (places tag logs) (range_with_len 0 count)) h.log_count
     ∙ ap (λ (events : List (List Event)). flat_map (λ c. filter_map (delivery_place tag) (list_at events c)) (range_with_len 0 (2 ^ n))) h.events
 
@@ -94,26 +89,26 @@ found_at_none [] e = refl
 found_at_none (q ∷ ps) e = absurd cc
 
 -- in a router
-pub found_in-router : (n : ℕ) (machine : Machine) (tag : Tag) (nodes : List Buffer) (logs : List Log) (c : ℕ) → AreOf n machine nodes logs
-    → Some c ≡ find (stands tag nodes) (range_with_len 0 (length nodes)) → found.Router c ≡ found_in n machine tag
+pub found_in-router : (n : ℕ) (machine : Machine) (tag : Tag) (buffers : List (List Message)) (logs : List Log) (c : ℕ) → AreOf n machine buffers logs
+    → Some c ≡ find (stands tag buffers) (range_with_len 0 (length buffers)) → found.Router c ≡ found_in n machine tag
 unfolding found_in
-found_in-router n machine tag nodes logs c h is =
-    ap (λ (o : Option ℕ). found_from o (delivery_places n machine tag)) (is ∙ router_of-nodes n machine tag nodes logs h)
+found_in-router n machine tag buffers logs c h is =
+    ap (λ (o : Option ℕ). found_from o (delivery_places n machine tag)) (is ∙ router_of-buffers n machine tag buffers logs h)
 
 -- delivered
-pub found_in-delivered : (n : ℕ) (machine : Machine) (tag : Tag) (nodes : List Buffer) (logs : List Log) (place : Place) → AreOf n machine nodes logs
-    → None ≡ find (stands tag nodes) (range_with_len 0 (length nodes)) → Some place ≡ slice_get (flat_map (places tag logs) (range_with_len 0 (length logs))) 0
+pub found_in-delivered : (n : ℕ) (machine : Machine) (tag : Tag) (buffers : List (List Message)) (logs : List Log) (place : Place) → AreOf n machine buffers logs
+    → None ≡ find (stands tag buffers) (range_with_len 0 (length buffers)) → Some place ≡ slice_get (flat_map (places tag logs) (range_with_len 0 (length logs))) 0
     → found.Delivered place.chip place.proc ≡ found_in n machine tag
 unfolding found_in
-found_in-delivered n machine tag nodes logs place h none is =
-    sym (found_at_first (delivery_places n machine tag) place (is ∙ ap (λ (ps : List Place). slice_get ps 0) (delivery_places-logs n machine tag nodes logs h)))
-    ∙ ap (λ (o : Option ℕ). found_from o (delivery_places n machine tag)) (none ∙ router_of-nodes n machine tag nodes logs h)
+found_in-delivered n machine tag buffers logs place h none is =
+    sym (found_at_first (delivery_places n machine tag) place (is ∙ ap (λ (ps : List Place). slice_get ps 0) (delivery_places-logs n machine tag buffers logs h)))
+    ∙ ap (λ (o : Option ℕ). found_from o (delivery_places n machine tag)) (none ∙ router_of-buffers n machine tag buffers logs h)
 
 -- nowhere
-pub found_in-nowhere : (n : ℕ) (machine : Machine) (tag : Tag) (nodes : List Buffer) (logs : List Log) → AreOf n machine nodes logs
-    → None ≡ find (stands tag nodes) (range_with_len 0 (length nodes)) → None ≡ slice_get (flat_map (places tag logs) (range_with_len 0 (length logs))) 0
+pub found_in-nowhere : (n : ℕ) (machine : Machine) (tag : Tag) (buffers : List (List Message)) (logs : List Log) → AreOf n machine buffers logs
+    → None ≡ find (stands tag buffers) (range_with_len 0 (length buffers)) → None ≡ slice_get (flat_map (places tag logs) (range_with_len 0 (length logs))) 0
     → found.Unknown ≡ found_in n machine tag
 unfolding found_in
-found_in-nowhere n machine tag nodes logs h none is =
-    sym (found_at_none (delivery_places n machine tag) (is ∙ ap (λ (ps : List Place). slice_get ps 0) (delivery_places-logs n machine tag nodes logs h)))
-    ∙ ap (λ (o : Option ℕ). found_from o (delivery_places n machine tag)) (none ∙ router_of-nodes n machine tag nodes logs h)
+found_in-nowhere n machine tag buffers logs h none is =
+    sym (found_at_none (delivery_places n machine tag) (is ∙ ap (λ (ps : List Place). slice_get ps 0) (delivery_places-logs n machine tag buffers logs h)))
+    ∙ ap (λ (o : Option ℕ). found_from o (delivery_places n machine tag)) (none ∙ router_of-buffers n machine tag buffers logs h)

@@ -2,7 +2,7 @@
 use Rattle.std.proofs.Common.{◌≡◌, ◌≢◌, ℕ, zero, suc, ◌+◌, ◌-◌, ◌<◌, ◌≤◌, ◌==◌, ◌&&◌, Bool, true, false, cond, List, [], ◌∷◌, ◌++◌, length, map, get_or, take, refl, sym, ap, ◌∙◌, subst, ⊎_elim, arith}
 use Rattle.std.proofs.lemmas.Bool.{cases_Bool, and_parts, eqb-true}
 use Rattle.std.proofs.lemmas.Cmp.{nat_cmp_total, on_total, then_total, tied_itself}
-use Rattle.std.proofs.lemmas.List.{map-append, append-nil, take_more, take_all}
+use Rattle.std.proofs.lemmas.List.{map-append, append-nil, take_more, take_all, get_or_default}
 use Rattle.std.proofs.lemmas.List.Concat.{flat_map-append}
 use Rattle.std.proofs.lemmas.List.Elements.{All-nil, All-cons, All-head, All-tail, All-weaker}
 use Rattle.std.proofs.lemmas.List.Sorted.{sum_by-IsPermutation}
@@ -20,7 +20,6 @@ use Rattle.cm_model.specs.Found.{same_tag}
 use Rattle.cm_model.specs.Unlogged.{has_tag_twice}
 use Rattle.cm_model.proofs.Counting.{sum_by-map}
 use Rattle.cm_model.proofs.Unlogged.{same_tag-true, same_tag-self, counted_more, counted_yes, counted_no, counted_once, counted_twice}
-use Rattle.cm_router.specs.Buffer.{Buffer, buffers_of}
 use Rattle.cm_array.specs.Tags.{Key, key_of, no_key, HasEqualNeighbours, AreNeighboursApart}
 
 -- ---- the order of keys
@@ -206,32 +205,30 @@ equal_neighbours keys i some inside e =
 
 -- ---- all keys
 
--- the keys of a node more
-pub keys_more : (nodes : List Buffer) (i : ℕ) (node : Buffer) (before after : List Key) → i < length nodes
-    → node ≡ get_or nodes i node
-    → before ≡ map key_of (flat_map (λ buffer. buffer) (buffers_of (take i nodes)))
-    → after ≡ before ++ map key_of node.messages
-    → after ≡ map key_of (flat_map (λ buffer. buffer) (buffers_of (take (i + 1) nodes)))
-keys_more nodes i node before after inside read is more =
-    let so_far : List (List Message) = buffers_of (take i nodes) in
-    let next : take (i + 1) nodes ≡ take i nodes ++ node ∷ [] = take_more nodes i node inside
-    ∙ ap (λ (n : Buffer). take i nodes ++ n ∷ []) (sym read) in
-    let gathered : flat_map (λ (buffer : List Message). buffer) (buffers_of (take (i + 1) nodes))
-    ≡ flat_map (λ buffer. buffer) so_far ++ node.messages =
-    ap (λ (ns : List Buffer). flat_map (λ (buffer : List Message). buffer) (buffers_of ns)) next
-    ∙ (ap (flat_map (λ (buffer : List Message). buffer)) (map-append (λ (n : Buffer). n.messages) (take i nodes)
-    (node ∷ []))
-    ∙ (flat_map-append (λ (buffer : List Message). buffer) so_far (node.messages ∷ [])
-    ∙ ap (λ (ms : List Message). flat_map (λ (buffer : List Message). buffer) so_far ++ ms)
-    (append-nil node.messages))) in
+-- the keys of a chip more
+pub keys_more : (buffers : List (List Message)) (i : ℕ) (ms : List Message) (before after : List Key)
+    → i < length buffers → ms ≡ get_or buffers i []
+    → before ≡ map key_of (flat_map (λ buffer. buffer) (take i buffers))
+    → after ≡ before ++ map key_of ms
+    → after ≡ map key_of (flat_map (λ buffer. buffer) (take (i + 1) buffers))
+keys_more buffers i ms before after inside read is more =
+    let so_far : List (List Message) = take i buffers in
+    let here : ms ≡ get_or buffers i ms = read ∙ get_or_default buffers i [] ms inside in
+    let next : take (i + 1) buffers ≡ so_far ++ ms ∷ [] = take_more buffers i ms inside
+    ∙ ap (λ (buffer : List Message). so_far ++ buffer ∷ []) (sym here) in
+    let gathered : flat_map (λ (buffer : List Message). buffer) (take (i + 1) buffers)
+    ≡ flat_map (λ buffer. buffer) so_far ++ ms =
+    ap (flat_map (λ (buffer : List Message). buffer)) next
+    ∙ (flat_map-append (λ (buffer : List Message). buffer) so_far (ms ∷ [])
+    ∙ ap (λ (tail : List Message). flat_map (λ (buffer : List Message). buffer) so_far ++ tail) (append-nil ms)) in
     more
-    ∙ (ap (λ (ks : List Key). ks ++ map key_of node.messages) is
-    ∙ (sym (map-append key_of (flat_map (λ buffer. buffer) so_far) node.messages) ∙ sym (ap (map key_of) gathered)))
+    ∙ (ap (λ (ks : List Key). ks ++ map key_of ms) is
+    ∙ (sym (map-append key_of (flat_map (λ buffer. buffer) so_far) ms) ∙ sym (ap (map key_of) gathered)))
 
--- of all nodes
-pub keys_all : (nodes : List Buffer) (i : ℕ) (keys : List Key) → length nodes ≤ i
-    → keys ≡ map key_of (flat_map (λ buffer. buffer) (buffers_of (take i nodes)))
-    → keys ≡ map key_of (flat_map (λ buffer. buffer) (buffers_of nodes))
-keys_all nodes i keys done is = is
-    ∙ ap (λ (ns : List Buffer). map key_of (flat_map (λ (buffer : List Message). buffer) (buffers_of ns)))
-    (take_all i nodes done)
+-- of all chips
+pub keys_all : (buffers : List (List Message)) (i : ℕ) (keys : List Key) → length buffers ≤ i
+    → keys ≡ map key_of (flat_map (λ buffer. buffer) (take i buffers))
+    → keys ≡ map key_of (flat_map (λ buffer. buffer) buffers)
+keys_all buffers i keys done is = is
+    ∙ ap (λ (bs : List (List Message)). map key_of (flat_map (λ (buffer : List Message). buffer) bs))
+    (take_all i buffers done)

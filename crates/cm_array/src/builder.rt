@@ -86,7 +86,7 @@ impl<const N: usize, const CAP: usize> Builder<N, CAP> {
         requires chip { chip < 2 ^ N }
         ensures value { IsTrue result ↔ (CAP ≤ length (list_at self.now.buffers chip)) }
     {
-        self.parts.nodes[usize::from(chip)].is_full()
+        self.parts.crossing.len(usize::from(chip)) >= CAP
     }
 
     /// Puts a plane at an address of a chip: bit p is that of processor p.
@@ -118,8 +118,7 @@ impl<const N: usize, const CAP: usize> Builder<N, CAP> {
         ensures value { self.new ≡ machine_with_message self.old chip message }
     {
         look_at::<N>(&message);
-        let node = &mut self.parts.nodes[usize::from(chip)];
-        node.arrive(message);
+        self.parts.crossing.arrive(usize::from(chip), message);
     }
 
     /// The machine that was built, if no two of its messages have one tag.
@@ -128,11 +127,13 @@ impl<const N: usize, const CAP: usize> Builder<N, CAP> {
         ensures ok { IsOk result → build_fault self.entry ≡ None }
         ensures refused { IfErr result (λ fault. fault ≢ BuildFault.Memory → build_fault self.entry ≡ Some fault) }
     {
-        let alloc = *self.parts.nodes.allocator();
-        if has_tag_twice(alloc, &self.parts.nodes)? {
+        let mut parts = self.parts;
+        parts.crossing.gather();
+        let alloc = *parts.logs.allocator();
+        if has_tag_twice(alloc, &parts.crossing)? {
             return Err(BuildFault::TagTwice);
         }
-        Ok(Machine::of_parts(self.parts))
+        Ok(Machine::of_parts(parts))
     }
 }
 

@@ -1,37 +1,34 @@
 //! Where the message of a tag is.
 
-ghost use Rattle.std.specs.Prelude.{◌≡◌, ◌≤◌, length, slice_get};
+ghost use Rattle.std.specs.Prelude.{◌≡◌, IsTrue, length, slice_get};
 ghost use Rattle.std.specs.List.{find, filter_map, flat_map, list_any, range_with_len};
 ghost use Rattle.cm_model.specs.Array.{list_at};
 ghost use Rattle.cm_model.specs.Found.{same_tag, delivery_place};
-ghost use Rattle.cm_router.specs.Buffer.{buffers_of};
 ghost use Rattle.cm_petit.specs.Routers.{events_of};
 
 use cm_bits::Place;
-use cm_message::{Event, Tag};
-use cm_router::Node;
+use cm_crossing::Crossing;
+use cm_message::{Event, Message, Tag};
 
 /// The first chip in whose router a message of the tag stands.
-pub(crate) fn router_of(nodes: &[Node], tag: &Tag) -> Option<u16>
-    requires few { length nodes.now ≤ 4096 }
+pub(crate) fn router_of(crossing: &Crossing, tag: &Tag) -> Option<u16>
+    requires gathered { IsTrue crossing.now.gathered }
     ensures value { result ≡ find
-        (λ c. list_any (λ m. same_tag m.tag tag.now) (list_at (buffers_of nodes.now) c))
-        (range_with_len 0 (length nodes.now)) }
+        (λ c. list_any (λ m. same_tag m.tag tag.now) (list_at crossing.now.buffers c))
+        (range_with_len 0 (length crossing.now.buffers)) }
 {
-    for c in 0..nodes.len() {
-        if has_tag(&nodes[c], tag) {
+    for c in 0..crossing.chips() {
+        if has_tag(crossing.buffer(c), tag) {
             return Some(c as u16);
         }
     }
     None
 }
 
-fn has_tag(node: &Node, tag: &Tag) -> bool
-    ensures value { result ≡ list_any (λ m. same_tag m.tag tag.now) node.now.messages }
+fn has_tag(messages: &[Message], tag: &Tag) -> bool
+    ensures value { result ≡ list_any (λ m. same_tag m.tag tag.now) messages.now }
 {
-    node.messages()
-        .iter()
-        .any(|message| are_same(&message.tag, tag))
+    messages.iter().any(|message| are_same(&message.tag, tag))
 }
 
 /// The first place to which a message of the tag was delivered.

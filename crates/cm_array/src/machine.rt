@@ -13,8 +13,8 @@ ghost use Rattle.cm_array.specs.Pokes.{machine_with_memory_bit, machine_with_fla
 
 use crate::finding::{delivered_to, router_of};
 use crate::parts::{
-    Parts, blank_chips, blank_logs, blank_nodes, blank_outputs, blank_planes, copied_chips,
-    copied_logs, copied_nodes, reserve, run, run_in_place,
+    Parts, blank_chips, blank_logs, blank_outputs, blank_planes, copied_chips, copied_logs,
+    reserve, run,
 };
 use cm_bits::{Addr, FlagNo, NoMemory, Proc};
 use cm_crossing::Crossing;
@@ -99,7 +99,6 @@ impl<const N: usize, const CAP: usize> Machine<N, CAP> {
         }
         let count = Self::chip_count();
         let chips = blank_chips(alloc, count)?;
-        let nodes = blank_nodes(alloc, count, CAP as u8)?;
         let logs = blank_logs(alloc, count)?;
         let outputs = blank_outputs(alloc, count)?;
         let sent = blank_planes(alloc, count)?;
@@ -107,7 +106,6 @@ impl<const N: usize, const CAP: usize> Machine<N, CAP> {
         Ok(Machine {
             parts: Parts {
                 chips,
-                nodes,
                 logs,
                 clock,
                 outputs,
@@ -139,15 +137,13 @@ impl<const N: usize, const CAP: usize> Machine<N, CAP> {
     {
         let count = self.parts.chips.len();
         let chips = copied_chips(alloc, &self.parts.chips)?;
-        let nodes = copied_nodes(alloc, &self.parts.nodes)?;
         let logs = copied_logs(alloc, &self.parts.logs)?;
         let outputs = blank_outputs(alloc, count)?;
         let sent = blank_planes(alloc, count)?;
-        let crossing = Crossing::new(alloc, count)?;
+        let crossing = self.parts.crossing.copy(alloc)?;
         Ok(Machine {
             parts: Parts {
                 chips,
-                nodes,
                 logs,
                 clock: self.parts.clock,
                 outputs,
@@ -172,7 +168,7 @@ impl<const N: usize, const CAP: usize> Machine<N, CAP> {
         ensures value { result.now ≡ list_at self.now.machine.buffers chip }
         ensures whole { IsMachine N CAP self.now.machine }
     {
-        self.parts.nodes[usize::from(chip)].messages()
+        self.parts.crossing.buffer(usize::from(chip))
     }
 
     /// A chip's events since the machine was made, the oldest first; a copy has those of its original.
@@ -200,7 +196,7 @@ impl<const N: usize, const CAP: usize> Machine<N, CAP> {
         ensures there { IsWhereabouts N self.now.machine tag result }
         ensures whole { IsMachine N CAP self.now.machine }
     {
-        if let Some(chip) = router_of(&self.parts.nodes, &tag) {
+        if let Some(chip) = router_of(&self.parts.crossing, &tag) {
             return Found::Router(chip);
         }
         match delivered_to(&self.parts.logs, &tag) {
@@ -263,12 +259,7 @@ impl<const N: usize, const CAP: usize> Machine<N, CAP> {
         ensures err { OnErr result (self.new.machine ≡ self.old.machine) }
     {
         reserve(&mut self.parts.logs, cycles * (MOST_INJECTED + CAP))?;
-        // Without petit cycles the messages need not be taken up.
-        if cycles == 0 {
-            run_in_place::<N, CAP>(&mut self.parts, acts);
-        } else {
-            run::<N, CAP>(&mut self.parts, acts);
-        }
+        run::<N, CAP>(&mut self.parts, acts);
         Ok(())
     }
 }

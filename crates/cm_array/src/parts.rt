@@ -8,7 +8,7 @@ ghost use Rattle.cm_model.specs.Machine.{run_of};
 ghost use Rattle.cm_model.specs.Buffers.{after_act};
 ghost use Rattle.cm_petit.specs.Routers.{events_of, HasLogRoom, LosesAtMost};
 ghost use Rattle.cm_array.specs.Acts.{cycles_in};
-ghost use Rattle.cm_array.specs.Parts.{machine_of, under_way, log_rooms_of, AreParts, AreUnderWay, LacksLogRoom};
+ghost use Rattle.cm_array.specs.Parts.{machine_of, log_rooms_of, AreParts, AreUnderWay, LacksLogRoom};
 
 use crate::stepping::{compute, step_alone, store_all};
 use cm_bits::{FlagNo, NoMemory, Plane};
@@ -17,7 +17,6 @@ use cm_element::{Chip, Outputs};
 use cm_message::Event;
 use cm_model::{Act, Nano};
 use cm_petit::cycle;
-use cm_router::Node;
 use std::alloc::Global;
 
 /// What a machine keeps, and the working room of instructions and petit cycles, so that these take no
@@ -26,8 +25,6 @@ use std::alloc::Global;
 pub(crate) struct Parts {
     /// By number.
     pub(crate) chips: Vec<Chip>,
-    /// By chip, its node of the router.
-    pub(crate) nodes: Vec<Node>,
     /// By chip, its events since the machine was made.
     pub(crate) logs: Vec<Vec<Event>>,
     /// Petit cycles so far.
@@ -36,37 +33,11 @@ pub(crate) struct Parts {
     pub(crate) outputs: Vec<Outputs>,
     /// By chip, what it sends over the grid.
     pub(crate) sent: Vec<Plane>,
-    /// The messages in place of the nodes, from the first act to the last of a list with petit cycles.
+    /// By chip, the messages that stand in its router; between two lists of acts they are gathered.
     pub(crate) crossing: Crossing,
 }
 
-/// Runs acts of which none is a petit cycle, one after another.
-pub(crate) fn run_in_place<const N: usize, const CAP: usize>(parts: &mut Parts, acts: &[Act])
-    requires parts { AreParts N CAP parts.old }
-    requires no_cycles { cycles_in acts.now ≡ 0 }
-    ensures value { machine_of parts.new ≡ run_of N CAP (machine_of parts.old) acts.now }
-    ensures parts { AreParts N CAP parts.new }
-{
-    for act in acts {
-        run_one_in_place::<N, CAP>(parts, act);
-    }
-}
-
-fn run_one_in_place<const N: usize, const CAP: usize>(parts: &mut Parts, act: &Act)
-    requires parts { AreParts N CAP parts.old }
-    requires no_cycle { cycles_in (act.now ∷ []) ≡ 0 }
-    ensures value { machine_of parts.new ≡ after_act N CAP (machine_of parts.old) act.now }
-    ensures parts { AreParts N CAP parts.new }
-{
-    match act {
-        Act::Nano(nano) => instruct::<N>(parts, nano),
-        Act::Sense => {}
-        Act::Cycle => unreachable!(),
-    }
-}
-
-/// Runs acts one after another, in routers with room for `CAP` messages each. Between the first act and
-/// the last no message stands in a node: all are in `crossing`.
+/// Runs acts one after another, in routers with room for `CAP` messages each, and gathers the messages then.
 pub(crate) fn run<const N: usize, const CAP: usize>(parts: &mut Parts, acts: &[Act])
     requires parts { AreParts N CAP parts.old }
     requires clock { parts.old.clock + cycles_in acts.now < 2 ^ 63 }
@@ -74,28 +45,17 @@ pub(crate) fn run<const N: usize, const CAP: usize>(parts: &mut Parts, acts: &[A
     ensures value { machine_of parts.new ≡ run_of N CAP (machine_of parts.old) acts.now }
     ensures parts { AreParts N CAP parts.new }
 {
-    parts.crossing.take_up::<CAP>(&mut parts.nodes);
-    run_under_way::<N, CAP>(parts, acts);
-    parts.crossing.put_back::<CAP>(&mut parts.nodes);
-}
-
-fn run_under_way<const N: usize, const CAP: usize>(parts: &mut Parts, acts: &[Act])
-    requires parts { AreUnderWay N CAP parts.old }
-    requires clock { parts.old.clock + cycles_in acts.now < 2 ^ 63 }
-    requires log_room { HasLogRoom (cycles_in acts.now * (4 + CAP)) parts.old.logs.items }
-    ensures value { under_way parts.new ≡ run_of N CAP (under_way parts.old) acts.now }
-    ensures parts { AreUnderWay N CAP parts.new }
-{
     for act in acts {
-        run_one_under_way::<N, CAP>(parts, act);
+        run_one::<N, CAP>(parts, act);
     }
+    parts.crossing.gather();
 }
 
-fn run_one_under_way<const N: usize, const CAP: usize>(parts: &mut Parts, act: &Act)
+fn run_one<const N: usize, const CAP: usize>(parts: &mut Parts, act: &Act)
     requires parts { AreUnderWay N CAP parts.old }
     requires clock { parts.old.clock + cycles_in (act.now ∷ []) < 2 ^ 63 }
     requires log_room { HasLogRoom (cycles_in (act.now ∷ []) * (4 + CAP)) parts.old.logs.items }
-    ensures value { under_way parts.new ≡ after_act N CAP (under_way parts.old) act.now }
+    ensures value { machine_of parts.new ≡ after_act N CAP (machine_of parts.old) act.now }
     ensures parts { AreUnderWay N CAP parts.new }
     ensures clock { parts.new.clock ≡ parts.old.clock + cycles_in (act.now ∷ []) }
     ensures log_room { LosesAtMost (cycles_in (act.now ∷ []) * (4 + CAP)) parts.old.logs.items parts.new.logs.items }
@@ -108,7 +68,6 @@ fn run_one_under_way<const N: usize, const CAP: usize>(parts: &mut Parts, act: &
             &mut parts.crossing,
             &mut parts.logs,
             &mut parts.clock,
-            &mut parts.nodes,
         ),
     }
 }
@@ -120,7 +79,6 @@ fn instruct<const N: usize>(parts: &mut Parts, nano: &Nano)
     requires output_count { length parts.old.outputs.items ≡ 2 ^ N }
     requires sent_count { length parts.old.sent.items ≡ 2 ^ N }
     ensures chips { parts.new.chips.items ≡ after_nano N nano.now parts.old.chips.items }
-    ensures nodes { parts.new.nodes ≡ parts.old.nodes }
     ensures logs { parts.new.logs ≡ parts.old.logs }
     ensures clock { parts.new.clock ≡ parts.old.clock }
     ensures output_count { length parts.new.outputs.items ≡ 2 ^ N }
@@ -185,15 +143,6 @@ pub(crate) fn blank_chips(alloc: Global, count: usize) -> Result<Vec<Chip>, NoMe
     Ok((0..count).map(|_| Chip::blank(alloc)).try_collect(alloc)?)
 }
 
-#[tactic(auto, unfolding(cm_model::specs::Each::each_from))]
-pub(crate) fn blank_nodes(alloc: Global, count: usize, room: u8) -> Result<Vec<Node>, NoMemory>
-    requires some { 0 < room }
-    requires most { room ≤ 15 }
-    ensures value { IfOk result (λ nodes. nodes.items ≡ each_from 0 count (λ c. record { room = room; messages = [] })) }
-{
-    Ok((0..count).map(|_| Node::new(room)).collect(alloc)?)
-}
-
 pub(crate) fn blank_logs(alloc: Global, count: usize) -> Result<Vec<Vec<Event>>, NoMemory>
     ensures value { IfOk result (λ logs. events_of logs.items ≡ each_from 0 count (λ c. [])) }
 {
@@ -222,12 +171,6 @@ pub(crate) fn copied_chips(alloc: Global, chips: &[Chip]) -> Result<Vec<Chip>, N
     ensures value { IfOk result (λ copies. copies.items ≡ chips.now) }
 {
     chips.iter().map(|chip| chip.copy(alloc)).try_collect(alloc)
-}
-
-pub(crate) fn copied_nodes(alloc: Global, nodes: &[Node]) -> Result<Vec<Node>, NoMemory>
-    ensures value { IfOk result (λ copies. copies.items ≡ nodes.now) }
-{
-    Ok(nodes.iter().map(|node| node.copy()).collect(alloc)?)
 }
 
 pub(crate) fn copied_logs(alloc: Global, logs: &[Vec<Event>]) -> Result<Vec<Vec<Event>>, NoMemory>

@@ -1,44 +1,50 @@
 //! Whether two messages have one tag.
 
-ghost use Rattle.std.specs.Prelude.{◌≡◌, ◌++◌, IfOk, OnOk, map};
+ghost use Rattle.std.specs.Prelude.{◌≡◌, ◌++◌, IfOk, IsTrue, OnOk, map};
 ghost use Rattle.std.specs.Bool.{MatchBool};
 ghost use Rattle.std.specs.List.{flat_map};
 ghost use Rattle.cm_model.specs.Unlogged.{has_tag_twice};
-ghost use Rattle.cm_router.specs.Buffer.{buffers_of};
 ghost use Rattle.cm_array.specs.Tags.{key_of, HasEqualNeighbours, AreNeighboursApart};
 
 use cm_bits::NoMemory;
+use cm_crossing::Crossing;
 use cm_message::Message;
-use cm_router::Node;
 use std::alloc::Global;
 
 /// A tag as it is sorted: its birth, chip and processor.
 type Key = (u64, u16, u8);
 
-/// Whether two of the messages that stand in the nodes have one tag: then two copies stand side by side once
-/// all are sorted.
-pub(crate) fn has_tag_twice(alloc: Global, nodes: &[Node]) -> Result<bool, NoMemory>
+/// Whether two of the messages that stand there have one tag: then two copies stand side by side once all
+/// are sorted.
+pub(crate) fn has_tag_twice(alloc: Global, crossing: &Crossing) -> Result<bool, NoMemory>
+    requires gathered { IsTrue crossing.now.gathered }
     ensures value { IfOk result (λ twice.
-        twice ≡ has_tag_twice (flat_map (λ buffer. buffer) (buffers_of nodes.now))) }
+        twice ≡ has_tag_twice (flat_map (λ buffer. buffer) crossing.now.buffers)) }
 {
-    let mut keys = keys_in(alloc, nodes)?;
+    let mut keys = keys_in(alloc, crossing)?;
     keys.sort_unstable();
     Ok(has_equal_neighbours(&keys))
 }
 
-fn keys_in(alloc: Global, nodes: &[Node]) -> Result<Vec<Key>, NoMemory>
+fn keys_in(alloc: Global, crossing: &Crossing) -> Result<Vec<Key>, NoMemory>
+    requires gathered { IsTrue crossing.now.gathered }
     ensures value { IfOk result (λ keys.
-        keys.items ≡ map key_of (flat_map (λ buffer. buffer) (buffers_of nodes.now))) }
+        keys.items ≡ map key_of (flat_map (λ buffer. buffer) crossing.now.buffers)) }
 {
-    let mut count: usize = 0;
-    for node in nodes {
-        count = count.saturating_add(node.messages().len());
-    }
-    let mut keys = Vec::with_capacity(alloc, count)?;
-    for node in nodes {
-        push_keys(&mut keys, node.messages())?;
+    let mut keys = Vec::with_capacity(alloc, count(crossing))?;
+    for c in 0..crossing.chips() {
+        push_keys(&mut keys, crossing.buffer(c))?;
     }
     Ok(keys)
+}
+
+/// How many messages stand there, as a hint.
+fn count(crossing: &Crossing) -> usize {
+    let mut count: usize = 0;
+    for c in 0..crossing.chips() {
+        count = count.saturating_add(crossing.len(c));
+    }
+    count
 }
 
 fn push_keys(keys: &mut Vec<Key>, messages: &[Message]) -> Result<(), NoMemory>

@@ -1,20 +1,22 @@
 -- Tickets and the row of messages that they stand for, as a petit cycle begins and ends.
-use Rattle.std.proofs.Common.{◌≡◌, ◌≢◌, ℕ, suc, ◌+◌, ◌<◌, ◌≤◌, ◌++◌, Bool, true, false, not, IsTrue, List, [], ◌∷◌}
-use Rattle.std.proofs.Common.{length, take, set, get_or, refl, sym, ap, ◌∙◌, subst, arith, ⊎_elim, below_more}
+use Rattle.std.proofs.Common.{◌≡◌, ◌≢◌, ℕ, suc, ◌+◌, ◌-◌, ◌<◌, ◌≤◌, ◌++◌, Bool, true, false, not, IsTrue, List, []}
+use Rattle.std.proofs.Common.{◌∷◌, length, take, drop, set, get_or, refl, sym, ap, ◌∙◌, subst, arith, ⊎_elim, below_more}
 use Rattle.std.proofs.Common.{get_or-set_same, get_or-set_other}
 use Rattle.std.specs.Bool.{beq}
-use Rattle.std.specs.List.{All, IsAnyAnswer}
-use Rattle.std.proofs.lemmas.Bool.{cases_eq, cases_lt}
-use Rattle.std.proofs.lemmas.List.{length-map, map-append, map-set, length-append, append_assoc, length-set, get_or-map}
-use Rattle.std.proofs.lemmas.List.{get_or_append_left, get_or_at, get_or_past, take_more, ext_get_or}
-use Rattle.std.proofs.lemmas.List.Elements.{All-append, All-cons, All-nil, All-set}
+use Rattle.std.specs.List.{IsAnyAnswer, slice_range}
+use Rattle.std.proofs.Math.Seq.{drop-append_seam, take-length}
+use Rattle.std.proofs.lemmas.Bool.{cases_lt}
+use Rattle.std.proofs.lemmas.List.{length-map, map-append, length-append, append_assoc, length-set, get_or-map}
+use Rattle.std.proofs.lemmas.List.{get_or_append_left, get_or_at, get_or_past, take_more, ext_get_or, drop-append-le}
+use Rattle.std.proofs.lemmas.List.{take-append-le, length-drop}
+use Rattle.std.proofs.lemmas.List.Elements.{All-append, All-cons, All-nil}
 use Rattle.std.proofs.lemmas.List.FromFn.{map-range_with_len_more}
 use Rattle.cm_model.specs.declared.message.Message.{Message}
 use Rattle.cm_model.specs.Each.{each_from}
-use Rattle.cm_router.specs.Buffer.{Buffer, holding, buffers_of}
 use Rattle.cm_crossing.specs.declared.queue.Ticket.{Ticket}
 use Rattle.cm_model.specs.Array.{list_at}
-use Rattle.cm_crossing.specs.Standing.{no_message, message_of, standing, all_standing, AreKept, AreQuiet}
+use Rattle.cm_crossing.specs.Standing.{no_message, message_of, standing, all_standing, AreKept, AreQuiet, start_of}
+use Rattle.cm_crossing.specs.Standing.{AreTogether}
 
 -- ---- a longer row
 
@@ -63,179 +65,150 @@ entered_kept row queue number m is kept =
     All-append P queue (t ∷ []) (kept_longer (length row) (length (row ++ m ∷ [])) queue (omega (arith, longer)) kept)
     (All-cons P t [] (omega (arith, longer, is)) (All-nil P))
 
+-- ---- messages side by side
+
+-- none
+pub together_none : (row : List Message) → AreTogether row []
+together_none row = record { within = omega arith; value = refl }
+
+-- as the row grows
+together_longer : (row more : List Message) (ts : List Ticket) → AreKept (length row) ts → AreTogether row ts
+    → AreTogether (row ++ more) ts
+together_longer row more ts kept was =
+    let s = start_of ts in
+    let n = length ts in
+    let count : (s + n) - s ≡ n = omega arith in
+    let inside : n ≤ length (drop s row) = omega (arith, length-drop s row, was.within) in
+    let here : take n (drop s (row ++ more)) ≡ take n (drop s row) =
+    ap (take n) (drop-append-le s row more (omega (arith, was.within))) ∙ take-append-le n (drop s row) more inside in
+    record {
+      within = omega (arith, length-append row more, was.within);
+      value = ap (λ (k : ℕ). take k (drop s (row ++ more))) count ∙ here
+          ∙ ap (λ (k : ℕ). take k (drop s row)) (sym count) ∙ was.value ∙ sym (standing_kept row more ts kept);
+    }
+
+-- those that were put behind a row
+pub together_behind : (row ms : List Message) (ts : List Ticket) → standing (row ++ ms) ts ≡ ms
+    → (0 < length ts → start_of ts ≡ length row) → AreTogether (row ++ ms) ts
+together_behind row ms [] is start = together_none (row ++ ms)
+together_behind row ms (t ∷ ts) is start =
+    let s = length row in
+    let n = length (t ∷ ts) in
+    let same : start_of (t ∷ ts) ≡ s = start (omega arith) in
+    let many : length ms ≡ n = ap length (sym is) ∙ length-map (t ∷ ts) (message_of (row ++ ms)) in
+    let count : (s + n) - s ≡ length ms = omega (arith, many) in
+    record {
+      within = omega (arith, length-append row ms, same, many);
+      value = ap (λ (k : ℕ). slice_range (row ++ ms) k (k + n)) same
+          ∙ ap (λ (k : ℕ). take k (drop s (row ++ ms))) count
+          ∙ ap (take (length ms)) (drop-append_seam row ms) ∙ take-length ms ∙ sym is;
+    }
+
+-- the tickets of a chip that is carried over: one more
+pub start_kept : (ts : List Ticket) (t : Ticket) (start : ℕ) → (0 < length ts → start_of ts ≡ start)
+    → (length ts ≡ 0 → t.number ≡ start) → start_of (ts ++ t ∷ []) ≡ start
+start_kept [] t start was new = new refl
+start_kept (x ∷ ts) t start was new = was (omega arith)
+
 -- ---- all chips
 
--- the first nodes' messages stand at their chips, nowhere more than there is room for, and these nodes are empty;
--- the others are as before, and their queues empty
-pub record AreIssued (cap : ℕ) (row : List Message) (before now : List Buffer) (queues : List (List Ticket))
-    (busy : List Bool) (count : ℕ) : Type 0 where
-  pub value : (c : ℕ) → c < count → standing row (list_at queues c) ≡ get_or (buffers_of before) c []
-  pub kept : (c : ℕ) → c < count → AreKept (length row) (list_at queues c)
-  pub within : (c : ℕ) → c < count → length (list_at queues c) ≤ cap
-  pub waiting : (c : ℕ) → count ≤ c → list_at queues c ≡ []
-  pub quiet : AreQuiet busy queues
-  pub rooms : All (λ node. node.room ≡ cap) now
-  pub taken : (c : ℕ) (d : Buffer) → c < count → c < length now → (get_or now c d).messages ≡ []
-  pub rest : (c : ℕ) (d : Buffer) → count ≤ c → get_or now c d ≡ get_or before c d
-
--- none yet, of empty queues
-pub issued_begins : (cap : ℕ) (nodes : List Buffer) (queues : List (List Ticket)) (busy : List Bool)
-    → All (λ node. node.room ≡ cap) nodes → All (λ ts. ts ≡ []) queues → AreIssued cap [] nodes nodes queues busy 0
-issued_begins cap nodes queues busy rooms none =
-    let empty : (c : ℕ) → list_at queues c ≡ [] =
-    λ c. ⊎_elim (λ (l : c < length queues). none c [] l) (λ (l : length queues ≤ c). get_or_past queues c [] l)
-    (cases_lt c (length queues)) in
-    record {
-      value = λ c h. absurd (omega arith);
-      kept = λ c h. absurd (omega arith);
-      within = λ c h. absurd (omega arith);
-      waiting = λ c h. empty c;
-      quiet = λ c l calm. empty c;
-      rooms = rooms;
-      taken = λ c d h l. absurd (omega arith);
-      rest = λ c d h. refl;
-    }
-
--- one more
-pub issued_more : (cap : ℕ) (row more : List Message) (before now : List Buffer) (queues : List (List Ticket))
-    (busy busier : List Bool) (i : ℕ) (node after : Buffer) (queue : List Ticket)
-    → i < length queues → i < length before → length now ≡ length before → node ≡ get_or now i node
-    → standing (row ++ more) queue ≡ node.messages → AreKept (length (row ++ more)) queue → length queue ≤ cap
-    → after ≡ holding node []
-    → AreQuiet busier (set queues i queue)
-    → AreIssued cap row before now queues busy i
-    → AreIssued cap (row ++ more) before (set now i after) (set queues i queue) busier (i + 1)
-issued_more cap row more before now queues busy busier i node after queue inside there long read is kept within
-    emptied quiet was =
-    let longer : length (row ++ more) ≡ length row + length more = length-append row more in
-    let here : list_at (set queues i queue) i ≡ queue = get_or-set_same queues i queue [] inside in
-    let others : (c : ℕ) → c ≢ i → list_at (set queues i queue) c ≡ list_at queues c =
-    λ c other. get_or-set_other queues i c queue [] other in
-    let old : node ≡ get_or before i node = read ∙ was.rest i node (omega arith) in
-    record {
-      value = below_more (λ c. standing (row ++ more) (list_at (set queues i queue) c) ≡ get_or (buffers_of before) c
-          []) i
-          (λ c h. let other : c ≢ i = omega arith in
-          ap (standing (row ++ more)) (others c other) ∙ standing_kept row more (list_at queues c) (was.kept c h)
-          ∙ was.value c h)
-          (ap (standing (row ++ more)) here ∙ is ∙ ap (λ (b : Buffer). b.messages) old
-          ∙ sym (get_or-map (λ (b : Buffer). b.messages) before i node [] there));
-      kept = below_more (λ c. AreKept (length (row ++ more)) (list_at (set queues i queue) c)) i
-          (λ c h. let other : c ≢ i = omega arith in
-          subst (AreKept (length (row ++ more))) (sym (others c other))
-          (kept_longer (length row) (length (row ++ more)) (list_at queues c) (omega (arith, longer))
-          (was.kept c h)))
-          (subst (AreKept (length (row ++ more))) (sym here) kept);
-      within = below_more (λ c. length (list_at (set queues i queue) c) ≤ cap) i
-          (λ c h. let other : c ≢ i = omega arith in omega (arith, ap length (others c other), was.within c h))
-          (omega (arith, ap length here));
-      waiting = λ c h. let other : c ≢ i = omega arith in others c other ∙ was.waiting c (omega arith);
-      quiet = quiet;
-      rooms = All-set (λ (b : Buffer). b.room ≡ cap) now i after
-          (ap (λ (b : Buffer). b.room) (emptied ∙ ap (λ (b : Buffer). holding b []) read)
-          ∙ was.rooms i node (omega (arith, long))) was.rooms;
-      taken = λ c d h l.
-          ⊎_elim (λ (e : c ≡ i). ap (λ (b : Buffer). b.messages) (ap (λ (k : ℕ). get_or (set now i after) k d) e
-          ∙ get_or-set_same now i after d (omega (arith, long)) ∙ emptied))
-          (λ (e : c ≢ i). ap (λ (b : Buffer). b.messages) (get_or-set_other now i c after d e)
-          ∙ was.taken c d (omega (arith, e)) (omega (arith, length-set now i after)))
-          (cases_eq c i);
-      rest = λ c d h. let other : c ≢ i = omega arith in get_or-set_other now i c after d other
-          ∙ was.rest c d (omega arith);
-    }
-
-pub issued_all : (cap : ℕ) (row : List Message) (before now : List Buffer) (queues : List (List Ticket))
-    (busy : List Bool) (last : ℕ) → length before ≡ length queues → length before ≤ last
-    → AreIssued cap row before now queues busy last → all_standing row queues ≡ buffers_of before
-issued_all cap row before now queues busy last long all is =
-    ext_get_or [] (all_standing row queues) (buffers_of before)
-    (length-map queues (standing row) ∙ sym long ∙ sym (length-map before (λ (b : Buffer). b.messages)))
-    (λ c l. let inside : c < length queues = omega (arith, length-map queues (standing row)) in
-    get_or-map (standing row) queues c [] [] inside ∙ is.value c (omega arith))
-
--- ---- back into the nodes
-
--- the first nodes hold these messages, and the others are as before
-pub record AreSettled (cap : ℕ) (buffers : List (List Message)) (before nodes : List Buffer) (count : ℕ) : Type 0 where
-  pub long : length nodes ≡ length before
-  pub rooms : All (λ node. node.room ≡ cap) nodes
-  pub done : (c : ℕ) → c < count → c < length before → get_or (buffers_of nodes) c [] ≡ get_or buffers c []
-  pub rest : (c : ℕ) (d : Buffer) → count ≤ c → get_or nodes c d ≡ get_or before c d
-
-pub settled_one : (cap : ℕ) (buffers : List (List Message)) (before nodes : List Buffer) (i : ℕ) (node : Buffer)
-    → i < length before → node.room ≡ cap → node.messages ≡ get_or buffers i []
-    → AreSettled cap buffers before nodes i → AreSettled cap buffers before (set nodes i node) (i + 1)
-settled_one cap buffers before nodes i node inside room is was =
-    let back : buffers_of (set nodes i node) ≡ set (buffers_of nodes) i node.messages =
-    map-set (λ (b : Buffer). b.messages) nodes i node in
-    let long : length (buffers_of nodes) ≡ length nodes = length-map nodes (λ (b : Buffer). b.messages) in
-    record {
-      long = length-set nodes i node ∙ was.long;
-      rooms = All-set (λ (b : Buffer). b.room ≡ cap) nodes i node room was.rooms;
-      done = below_more (λ c. c < length before → get_or (buffers_of (set nodes i node)) c [] ≡ get_or buffers c []) i
-          (λ c h l. let other : c ≢ i = omega arith in ap (λ (bs : List (List Message)). get_or bs c []) back
-          ∙ get_or-set_other (buffers_of nodes) i c node.messages [] other ∙ was.done c h l)
-          (λ l. ap (λ (bs : List (List Message)). get_or bs i []) back
-          ∙ get_or-set_same (buffers_of nodes) i node.messages [] (omega (arith, long, was.long)) ∙ is);
-      rest = λ c d h. let other : c ≢ i = omega arith in get_or-set_other nodes i c node d other
-          ∙ was.rest c d (omega arith);
-    }
-
--- where nothing stands, and the nodes are empty
-pub settled_past : (cap : ℕ) (buffers : List (List Message)) (before nodes : List Buffer) (i last : ℕ) → i ≤ last
-    → All (λ node. node.messages ≡ []) before
-    → ((c : ℕ) → i ≤ c → c < last → c < length before → get_or buffers c [] ≡ [])
-    → AreSettled cap buffers before nodes i → AreSettled cap buffers before nodes last
-settled_past cap buffers before nodes i last ordered empty none was =
-    let nobody : Buffer = record { room = 0; messages = [] } in
-    record {
-      long = was.long;
-      rooms = was.rooms;
-      done = λ c h l.
-          ⊎_elim (λ (early : c < i). was.done c early l)
-          (λ (late : i ≤ c).
-          get_or-map (λ (b : Buffer). b.messages) nodes c nobody [] (omega (arith, was.long))
-          ∙ ap (λ (b : Buffer). b.messages) (was.rest c nobody late) ∙ empty c nobody l ∙ sym (none c late h l))
-          (cases_lt c i);
-      rest = λ c d h. was.rest c d (omega arith);
-    }
-
-pub settled_all : (cap : ℕ) (buffers : List (List Message)) (before nodes : List Buffer) (last : ℕ)
-    → length before ≡ length buffers → length before ≤ last
-    → AreSettled cap buffers before nodes last → buffers_of nodes ≡ buffers
-settled_all cap buffers before nodes last long all is =
-    let counted : length (buffers_of nodes) ≡ length nodes = length-map nodes (λ (b : Buffer). b.messages) in
-    ext_get_or [] (buffers_of nodes) buffers (counted ∙ is.long ∙ long)
-    (λ c l. is.done c (omega (arith, counted, is.long)) (omega (arith, counted, is.long)))
-
--- ---- tickets that are taken away
-
--- the first queues are empty, and the others as before
-pub record AreForgotten (before queues : List (List Ticket)) (count : ℕ) : Type 0 where
+-- the first chips' messages are laid out side by side in the second row, and the tickets of the others are as before
+pub record AreLaidOut (row spare : List Message) (before queues : List (List Ticket)) (count : ℕ) : Type 0 where
   pub long : length queues ≡ length before
-  pub done : (c : ℕ) → c < count → c < length before → list_at queues c ≡ []
+  pub value : (c : ℕ) → c < count → c < length before
+      → standing spare (list_at queues c) ≡ standing row (list_at before c)
+  pub kept : (c : ℕ) → c < count → c < length before → AreKept (length spare) (list_at queues c)
+  pub together : (c : ℕ) → c < count → c < length before → AreTogether spare (list_at queues c)
   pub rest : (c : ℕ) → count ≤ c → list_at queues c ≡ list_at before c
 
-pub forgotten_one : (before queues : List (List Ticket)) (i : ℕ) (queue : List Ticket) → i < length before
-    → queue ≡ [] → AreForgotten before queues i → AreForgotten before (set queues i queue) (i + 1)
-forgotten_one before queues i queue inside is was = record {
-  long = length-set queues i queue ∙ was.long;
-  done = below_more (λ c. c < length before → list_at (set queues i queue) c ≡ []) i
-      (λ c h l. let other : c ≢ i = omega arith in get_or-set_other queues i c queue [] other ∙ was.done c h l)
-      (λ l. get_or-set_same queues i queue [] (omega (arith, was.long)) ∙ is);
-  rest = λ c h. let other : c ≢ i = omega arith in get_or-set_other queues i c queue [] other
-      ∙ was.rest c (omega arith);
+-- none yet
+pub laid_out_begins : (row spare : List Message) (queues : List (List Ticket)) → AreLaidOut row spare queues queues 0
+laid_out_begins row spare queues = record {
+  long = refl;
+  value = λ c h l. absurd (omega arith);
+  kept = λ c h l. absurd (omega arith);
+  together = λ c h l. absurd (omega arith);
+  rest = λ c h. refl;
 }
 
-pub forgotten_past : (before queues : List (List Ticket)) (i last : ℕ) → i ≤ last
-    → ((c : ℕ) → i ≤ c → c < last → c < length before → list_at before c ≡ []) → AreForgotten before queues i
-    → AreForgotten before queues last
-forgotten_past before queues i last ordered none was = record {
-  long = was.long;
-  done = λ c h l. ⊎_elim (λ (early : c < i). was.done c early l) (λ (late : i ≤ c). was.rest c late ∙ none c late h l)
-      (cases_lt c i);
-  rest = λ c h. was.rest c (omega arith);
-}
+-- one more
+pub laid_out_more : (row spare more : List Message) (before queues : List (List Ticket)) (i : ℕ)
+    (old new : List Ticket) → i < length before → old ≡ list_at queues i
+    → standing (spare ++ more) new ≡ standing row old → AreKept (length (spare ++ more)) new
+    → AreTogether (spare ++ more) new
+    → AreLaidOut row spare before queues i → AreLaidOut row (spare ++ more) before (set queues i new) (i + 1)
+laid_out_more row spare more before queues i old new inside read is kept together was =
+    let longer : length (spare ++ more) ≡ length spare + length more = length-append spare more in
+    let here : list_at (set queues i new) i ≡ new = get_or-set_same queues i new [] (omega (arith, was.long)) in
+    let others : (c : ℕ) → c ≢ i → list_at (set queues i new) c ≡ list_at queues c =
+    λ c other. get_or-set_other queues i c new [] other in
+    record {
+      long = length-set queues i new ∙ was.long;
+      value = below_more (λ c. c < length before
+          → standing (spare ++ more) (list_at (set queues i new) c) ≡ standing row (list_at before c)) i
+          (λ c h l. let other : c ≢ i = omega arith in
+          ap (standing (spare ++ more)) (others c other)
+          ∙ standing_kept spare more (list_at queues c) (was.kept c h l) ∙ was.value c h l)
+          (λ l. ap (standing (spare ++ more)) here ∙ is ∙ ap (standing row) (read ∙ was.rest i (omega arith)));
+      kept = below_more (λ c. c < length before → AreKept (length (spare ++ more)) (list_at (set queues i new) c)) i
+          (λ c h l. let other : c ≢ i = omega arith in
+          subst (AreKept (length (spare ++ more))) (sym (others c other))
+          (kept_longer (length spare) (length (spare ++ more)) (list_at queues c) (omega (arith, longer))
+          (was.kept c h l)))
+          (λ l. subst (AreKept (length (spare ++ more))) (sym here) kept);
+      together = below_more (λ c. c < length before → AreTogether (spare ++ more) (list_at (set queues i new) c)) i
+          (λ c h l. let other : c ≢ i = omega arith in
+          subst (AreTogether (spare ++ more)) (sym (others c other))
+          (together_longer spare more (list_at queues c) (was.kept c h l) (was.together c h l)))
+          (λ l. subst (AreTogether (spare ++ more)) (sym here) together);
+      rest = λ c h. let other : c ≢ i = omega arith in others c other ∙ was.rest c (omega arith);
+    }
+
+-- where no ticket stands
+pub laid_out_past : (row spare : List Message) (before queues : List (List Ticket)) (i last : ℕ) → i ≤ last
+    → ((c : ℕ) → i ≤ c → c < last → c < length before → list_at before c ≡ [])
+    → AreLaidOut row spare before queues i → AreLaidOut row spare before queues last
+laid_out_past row spare before queues i last ordered none was =
+    let still : (c : ℕ) → i ≤ c → c < last → c < length before → list_at queues c ≡ [] =
+    λ c late h l. was.rest c late ∙ none c late h l in
+    record {
+      long = was.long;
+      value = λ c h l. ⊎_elim (λ (early : c < i). was.value c early l)
+          (λ (late : i ≤ c). ap (standing spare) (still c late h l) ∙ sym (ap (standing row) (none c late h l)))
+          (cases_lt c i);
+      kept = λ c h l. ⊎_elim (λ (early : c < i). was.kept c early l)
+          (λ (late : i ≤ c). subst (AreKept (length spare)) (sym (still c late h l))
+          (All-nil (λ (t : Ticket). t.number < length spare)))
+          (cases_lt c i);
+      together = λ c h l. ⊎_elim (λ (early : c < i). was.together c early l)
+          (λ (late : i ≤ c). subst (AreTogether spare) (sym (still c late h l)) (together_none spare))
+          (cases_lt c i);
+      rest = λ c h. was.rest c (omega arith);
+    }
+
+-- all of them
+pub laid_out_all : (row spare : List Message) (before queues : List (List Ticket)) (last : ℕ) → length before ≤ last
+    → AreLaidOut row spare before queues last → all_standing spare queues ≡ all_standing row before
+laid_out_all row spare before queues last all is =
+    ext_get_or [] (all_standing spare queues) (all_standing row before)
+    (length-map queues (standing spare) ∙ is.long ∙ sym (length-map before (standing row)))
+    (λ c l.
+    let inside : c < length queues = omega (arith, length-map queues (standing spare)) in
+    let there : c < length before = omega (arith, is.long) in
+    get_or-map (standing spare) queues c [] [] inside ∙ is.value c (omega arith) there
+    ∙ sym (get_or-map (standing row) before c [] [] there))
+
+-- no ticket stands where none stood
+pub laid_out_quiet : (row spare : List Message) (busy : List Bool) (before queues : List (List Ticket)) (last : ℕ)
+    → length before ≤ last → AreQuiet busy before → AreLaidOut row spare before queues last → AreQuiet busy queues
+laid_out_quiet row spare busy before queues last all quiet is c l calm =
+    let there : c < length before = omega (arith, is.long) in
+    none_for_none (list_at queues c)
+    (is.value c (omega arith) there ∙ ap (standing row) (quiet c there calm))
+  where
+    none_for_none : (ts : List Ticket) → standing spare ts ≡ [] → ts ≡ []
+    none_for_none [] h = refl
+    none_for_none (t ∷ ts) h = let some : length (standing spare (t ∷ ts)) ≡ 0 = ap length h in absurd (omega arith)
 
 -- ---- rows that are made
 

@@ -1,5 +1,5 @@
 -- The tickets of all chips, and the messages that stand there.
-use Rattle.std.proofs.Common.{◌≡◌, ℕ, ◌<◌, ◌≤◌, ◌^◌, List, [], ◌∷◌, length, get_or, refl, sym, ap, ◌∙◌, subst, arith}
+use Rattle.std.proofs.Common.{◌≡◌, ℕ, ◌<◌, ◌≤◌, ◌^◌, List, [], length, get_or, refl, sym, ap, ◌∙◌, subst, arith}
 use Rattle.std.specs.Prelude.{bit_xor}
 use Rattle.std.specs.List.{All}
 use Rattle.std.specs.Vec.{with_items}
@@ -14,8 +14,9 @@ use Rattle.cm_model.proofs.Each.{is_each, length-each_from, get_or-each_below}
 use Rattle.cm_model.proofs.Flips.{across_below}
 use Rattle.cm_crossing.specs.declared.queue.Ticket.{Ticket}
 use Rattle.cm_crossing.specs.Tickets.{exchanged}
-use Rattle.cm_crossing.specs.Standing.{message_of, standing, all_standing, AreKept}
+use Rattle.cm_crossing.specs.Standing.{message_of, standing, all_standing, AreKept, AreTogether}
 use Rattle.cm_crossing.proofs.Carrying.{exchanged-standing, exchanged_kept}
+use Rattle.cm_crossing.proofs.Keeping.{together_none}
 
 -- a row whose slice was lent whole has what was written to the slice
 pub items-lent : {X : Type 0} (row : Vec X) (now : List X) → length now ≡ length row.items
@@ -108,15 +109,10 @@ none_kept count bound =
     (λ c l. subst (AreKept bound) (sym (get_or-each_below count none c [] (omega (arith, counted))))
     (All-nil (λ (t : Ticket). t.number < bound)))
 
--- no message is kept, so none stands anywhere
-none_kept_here : (row : List Message) (ts : List Ticket) → length row ≡ 0 → AreKept (length row) ts
-    → standing row ts ≡ []
-none_kept_here row [] none kept = refl
-none_kept_here row (t ∷ ts) none kept = let below : t.number < length row = kept 0 t (omega arith) in
-    absurd (omega arith)
-
-pub none_kept_none : (row : List Message) (queues : List (List Ticket)) → length row ≡ 0
-    → All (AreKept (length row)) queues → All (λ ms. ms ≡ []) (all_standing row queues)
-none_kept_none row queues none kept k d l =
-    let inside : k < length queues = omega (arith, length-map queues (standing row)) in
-    get_or-map (standing row) queues k [] d inside ∙ none_kept_here row (get_or queues k []) none (kept k [] inside)
+pub none_together : (count : ℕ) (row : List Message) → All (AreTogether row) (each_from 0 count (λ c. []))
+none_together count row =
+    let none : ℕ → List Ticket = λ c. [] in
+    let counted : length (each_from 0 count none) ≡ count = length-each_from 0 count none in
+    All-from_get_or (AreTogether row) (each_from 0 count none) []
+    (λ c l. subst (AreTogether row) (sym (get_or-each_below count none c [] (omega (arith, counted))))
+    (together_none row))

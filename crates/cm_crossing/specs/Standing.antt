@@ -1,7 +1,7 @@
 -- Which messages stand at the chips, where tickets cross in their place. Ours.
-use Rattle.std.specs.Prelude.{◌≡◌, ℕ, ◌*◌, ◌/◌, ◌<◌, ◌≤◌, Bool, false, List, [], length, map, slice_index_or, Vec}
-use Rattle.std.specs.Prelude.{vec_len, vec_capacity}
-use Rattle.std.specs.List.{All}
+use Rattle.std.specs.Prelude.{◌≡◌, ℕ, ◌+◌, ◌*◌, ◌/◌, ◌<◌, ◌≤◌, Bool, false, IsTrue, List, [], length, map, Vec}
+use Rattle.std.specs.Prelude.{slice_index_or, vec_len, vec_capacity}
+use Rattle.std.specs.List.{All, slice_range}
 use Rattle.std.specs.declared.alloc.Global.{Global}
 use Rattle.cm_model.specs.declared.message.Message.{Message}
 use Rattle.cm_model.specs.Processor.{Processor}
@@ -9,11 +9,13 @@ use Rattle.cm_model.specs.Letters.{senders_taken, messages_sent, can_receive}
 use Rattle.cm_model.specs.Buffers.{delivered, kept}
 use Rattle.cm_crossing.specs.declared.queue.Ticket.{Ticket}
 
--- what contracts see of messages under way:
--- those at each chip, in order of arrival, and for how many more there are places
+-- what contracts see of the messages of a run of chips:
+-- those at each chip, in order of arrival, for how many more there are places,
+-- and whether those of each chip are known to stand side by side, so that they can be read as one slice
 pub record UnderWay : Type 0 where
   pub buffers : List (List Message)
   pub free : ℕ
+  pub gathered : Bool
 
 -- ---- one chip
 
@@ -54,20 +56,35 @@ all_standing row queues = map (standing row) queues
 abbrev pub AreKept : ℕ → List Ticket → Type 0
 AreKept count ts = All (λ t. t.number < count) ts
 
+-- what is read where no ticket stands
+abbrev pub no_ticket : Ticket
+no_ticket = record { rel = 0; number = 0 }
+
+-- where the message of the first of these tickets is kept
+abbrev pub start_of : List Ticket → ℕ
+start_of ts = (slice_index_or ts 0 no_ticket).number
+
+-- from there on the messages of these tickets stand side by side, in their order and with the addresses of by now
+pub record AreTogether (row : List Message) (ts : List Ticket) : Type 0 where
+  pub within : start_of ts + length ts ≤ length row
+  pub value : slice_range row (start_of ts) (start_of ts + length ts) ≡ standing row ts
+
 -- the chips are looked at in blocks of 64: of a block that is not busy, no chip has a ticket
 abbrev pub AreQuiet : List Bool → List (List Ticket) → Type 0
 AreQuiet busy queues = (c : ℕ) → c < length queues → slice_index_or busy (c / 64) false ≡ false
     → slice_index_or queues c [] ≡ []
 
--- at most 4,096 chips in 64 blocks, and 15 places of the row for each;
+-- at most 4,096 chips in 64 blocks, and 15 places of the row for each, and four more, in two rows in turn;
 -- each ticket stands for a message, and there are none in a block that is not busy
-pub record IsCrossing (row : Vec Message Global) (places : ℕ) (queues : List (List Ticket)) (busy : List Bool) : Type
-    0 where
+pub record IsCrossing (row spare : Vec Message Global) (places : ℕ) (queues : List (List Ticket)) (busy : List Bool)
+    (gathered : Bool) : Type 0 where
   pub few : length queues ≤ 4096
   pub blocks : length busy ≡ 64
-  pub enough : 15 * length queues ≤ places
+  pub enough : 15 * length queues + 4 ≤ places
   pub most : places ≤ 65536
   pub capacity : places ≤ vec_capacity row
+  pub spare_capacity : places ≤ vec_capacity spare
   pub filled : vec_len row ≤ places
   pub kept : All (AreKept (length row.items)) queues
   pub quiet : AreQuiet busy queues
+  pub together : IsTrue gathered → All (AreTogether row.items) queues

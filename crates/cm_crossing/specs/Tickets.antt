@@ -1,6 +1,6 @@
 -- Tickets of one chip, in order of arrival, and which of them leaves in a dimension:
 -- the rule is cm_model's, told for tickets. Ours.
-use Rattle.std.specs.Prelude.{ℕ, ◌-◌, ◌^◌, ◌==◌, ◌++◌, Bool, List, [], length, Option, Some, None, bit_xor}
+use Rattle.std.specs.Prelude.{ℕ, ◌-◌, ◌^◌, ◌==◌, ◌++◌, Bool, List, length, Option, Some, None, bit_xor}
 use Rattle.std.specs.Prelude.{if◌then◌else◌}
 use Rattle.std.specs.List.{position}
 use Rattle.std.specs.Option.{option_or, option_map, option_to_list}

@@ -1,7 +1,6 @@
 //! The marks of blocks: at the chips of which of them tickets may stand.
 
 ghost use Rattle.std.specs.Prelude.{◌≡◌, ℕ, ◌/◌, ◌<◌, ◌≤◌, [], IsFalse, false, length, slice_index_or};
-ghost use Rattle.std.specs.List.{All};
 ghost use Rattle.cm_crossing.specs.Standing.{AreQuiet};
 
 use crate::queue::Queue;
@@ -9,26 +8,6 @@ use crate::queue::Queue;
 /// So many chips are looked at together: where no ticket may stand at any of them, nor at those across,
 /// they cost one look.
 pub(crate) const BLOCK: usize = 64;
-
-/// Takes all tickets away.
-pub(crate) fn forget(queues: &mut [Queue], busy: &mut [bool])
-    requires few { length queues.old ≤ 4096 }
-    requires blocks { length busy.old ≡ 64 }
-    requires quiet { AreQuiet busy.old queues.old }
-    ensures none { All (λ ts. ts ≡ []) queues.new }
-    ensures idle { All (λ b. b ≡ false) busy.new }
-{
-    let mut c = 0;
-    while c < queues.len() {
-        if c % BLOCK == 0 && !busy[c / BLOCK] {
-            c += BLOCK;
-        } else {
-            queues[c].clear();
-            c += 1;
-        }
-    }
-    busy.fill(false);
-}
 
 /// Looks which of the blocks that were busy still are.
 pub(crate) fn look_again(queues: &[Queue], busy: &mut [bool])

@@ -73,6 +73,17 @@ impl Queue {
         }
     }
 
+    /// A second queue, with the tickets of this one.
+    pub fn copy(&self) -> Queue
+        ensures value { result ≡ self.now }
+    {
+        Queue {
+            rels: self.rels,
+            numbers: self.numbers,
+            len: self.len,
+        }
+    }
+
     /// How many tickets stand here.
     pub fn len(&self) -> usize
         ensures value { result ≡ length self.now }
@@ -92,13 +103,6 @@ impl Queue {
             rel: rels[place],
             number: numbers[place],
         }
-    }
-
-    /// Takes all tickets away.
-    pub fn clear(&mut self)
-        ensures value { self.new ≡ [] }
-    {
-        self.len = 0;
     }
 
     /// Takes in a ticket, which stands last.

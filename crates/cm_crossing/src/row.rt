@@ -1,77 +1,87 @@
 //! The row in which messages stay, and the tickets for them.
 
-ghost use Rattle.std.specs.Prelude.{◌≡◌, ◌+◌, ◌*◌, ◌<◌, ◌≤◌, ◌++◌, [], ◌∷◌, IsFalse, IsTrue, length, map, vec_len};
-ghost use Rattle.std.specs.Prelude.{vec_capacity};
+ghost use Rattle.std.specs.Prelude.{◌≡◌, ◌+◌, ◌*◌, ◌<◌, ◌≤◌, ◌++◌, ◌∷◌, [], length, map, vec_len, vec_capacity};
 ghost use Rattle.std.specs.List.{All};
 ghost use Rattle.cm_model.specs.declared.message.Event.TheVariants as event;
-ghost use Rattle.cm_model.specs.Letters.{chip_after_injection, chip_after_delivery};
-ghost use Rattle.cm_router.specs.Buffer.{IsBuffer, holding, buffers_of};
-ghost use Rattle.cm_crossing.specs.Standing.{message_of, standing, all_standing, AreKept, AreQuiet, taken_with};
-ghost use Rattle.cm_crossing.specs.Standing.{sent_with, delivered_of, kept_of};
+ghost use Rattle.cm_model.specs.Letters.{chip_after_delivery};
+ghost use Rattle.cm_crossing.specs.Standing.{message_of, standing, all_standing, AreKept, AreQuiet, AreTogether};
+ghost use Rattle.cm_crossing.specs.Standing.{delivered_of, kept_of};
 
 use crate::marks::BLOCK;
 use crate::queue::{MOST_TICKETS, Queue, Ticket};
 use cm_element::Chip;
 use cm_message::{Event, Message};
-use cm_router::{Node, begin, hand_over, may_ask, take_none};
+use cm_router::{begin, hand_over};
 
-/// Gives each message of the nodes a place in the row, and its chip a ticket for it.
-pub(crate) fn issue<const CAP: usize>(
-    row: &mut Vec<Message>,
+/// Gives each message a place in the second row, those of a chip side by side, and its ticket tells that.
+pub(crate) fn lay_out(
+    row: &[Message],
+    spare: &mut Vec<Message>,
     queues: &mut [Queue],
-    busy: &mut [bool],
-    nodes: &mut [Node],
+    busy: &[bool],
 )
     requires few { length queues.old ≤ 4096 }
-    requires blocks { length busy.old ≡ 64 }
-    requires none { All (λ ts. ts ≡ []) queues.old }
-    requires capacity { 15 * length queues.old ≤ vec_capacity row.old }
-    requires count { length nodes.old ≡ length queues.old }
-    requires rooms { All (λ node. node.room ≡ CAP) nodes.old }
-    ensures value { all_standing row.new.items queues.new ≡ buffers_of nodes.old }
-    ensures kept { All (AreKept (length row.new.items)) queues.new }
-    ensures capacity { vec_capacity row.old ≤ vec_capacity row.new }
-    ensures filled { vec_len row.new ≤ 15 * length queues.old }
-    ensures within { All (λ ts. length ts ≤ CAP) queues.new }
-    ensures quiet { AreQuiet busy.new queues.new }
-    ensures room { 0 < length nodes.old → (0 < CAP) × (CAP ≤ 15) }
-    ensures rooms { All (λ node. node.room ≡ CAP) nodes.new }
-    ensures taken { All (λ node. node.messages ≡ []) nodes.new }
+    requires blocks { length busy.now ≡ 64 }
+    requires capacity { 15 * length queues.old ≤ vec_capacity spare.old }
+    requires kept { All (AreKept (length row.now)) queues.old }
+    requires quiet { AreQuiet busy.now queues.old }
+    ensures value { all_standing spare.new.items queues.new ≡ all_standing row.now queues.old }
+    ensures kept { All (AreKept (length spare.new.items)) queues.new }
+    ensures together { All (AreTogether spare.new.items) queues.new }
+    ensures filled { vec_len spare.new ≤ 15 * length queues.old }
+    ensures capacity { vec_capacity spare.old ≤ vec_capacity spare.new }
+    ensures quiet { AreQuiet busy.now queues.new }
 {
-    row.clear();
-    for c in 0..nodes.len() {
-        if enter(row, &mut queues[c], &mut nodes[c]) {
-            busy[c / BLOCK] = true;
+    spare.clear();
+    let mut c = 0;
+    while c < queues.len() {
+        if c % BLOCK == 0 && !busy[c / BLOCK] {
+            c += BLOCK;
+        } else {
+            carry_over(row, spare, &mut queues[c]);
+            c += 1;
         }
     }
 }
 
-/// Takes the messages out of one node, and tells whether there were any.
-fn enter(row: &mut Vec<Message>, queue: &mut Queue, node: &mut Node) -> bool
-    requires few { vec_len row.old + 15 ≤ 65536 }
-    requires capacity { vec_len row.old + 15 ≤ vec_capacity row.old }
-    requires none { queue.old ≡ [] }
-    ensures items { row.new.items ≡ row.old.items ++ node.old.messages }
-    ensures value { standing row.new.items queue.new ≡ node.old.messages }
-    ensures kept { AreKept (length row.new.items) queue.new }
-    ensures within { length queue.new ≤ node.old.room }
-    ensures len { vec_len row.new ≤ vec_len row.old + 15 }
-    ensures capacity { vec_capacity row.old ≤ vec_capacity row.new }
-    ensures whole { IsBuffer node.old }
-    ensures taken { node.new ≡ holding node.old [] }
-    ensures told { IsFalse result → queue.new ≡ [] }
-    ensures some { IsTrue result → 0 < length queue.new }
+/// Gives the messages of one chip places in the second row.
+fn carry_over(row: &[Message], spare: &mut Vec<Message>, queue: &mut Queue)
+    requires few { vec_len spare.old + 15 ≤ 65536 }
+    requires capacity { vec_len spare.old + 15 ≤ vec_capacity spare.old }
+    requires kept { AreKept (length row.now) queue.old }
+    ensures items { spare.new.items ≡ spare.old.items ++ standing row.now queue.old }
+    ensures value { standing spare.new.items queue.new ≡ standing row.now queue.old }
+    ensures kept { AreKept (length spare.new.items) queue.new }
+    ensures together { AreTogether spare.new.items queue.new }
+    ensures len { vec_len spare.new ≤ vec_len spare.old + 15 }
+    ensures capacity { vec_capacity spare.old ≤ vec_capacity spare.new }
 {
-    if node.messages().is_empty() {
-        return false;
+    let mut carried = Queue::new();
+    for place in 0..queue.len() {
+        let message = message_of(row, queue.ticket(place));
+        let number = keep(spare, &message);
+        carried.arrive(Ticket {
+            rel: message.rel,
+            number,
+        });
     }
-    stand(row, queue, node.messages());
-    node.clear();
-    true
+    *queue = carried;
+}
+
+/// The messages of a chip as they stand side by side.
+pub(crate) fn read_out<'a>(row: &'a [Message], queue: &Queue) -> &'a [Message]
+    requires together { AreTogether row.now queue.now }
+    ensures value { result.now ≡ standing row.now queue.now }
+{
+    if queue.len() == 0 {
+        return &[];
+    }
+    let start = usize::from(queue.ticket(0).number);
+    &row[start..start + queue.len()]
 }
 
 /// Messages get places in the row, and stand last at their chip.
-fn stand(row: &mut Vec<Message>, queue: &mut Queue, messages: &[Message])
+pub(crate) fn stand(row: &mut Vec<Message>, queue: &mut Queue, messages: &[Message])
     requires few { vec_len row.old + length messages.now ≤ 65536 }
     requires capacity { vec_len row.old + length messages.now ≤ vec_capacity row.old }
     requires kept { AreKept (length row.old.items) queue.old }
@@ -106,53 +116,6 @@ fn keep(row: &mut Vec<Message>, message: &Message) -> u16
     number
 }
 
-/// Takes messages in at one chip, and tells whether there were any.
-pub(crate) fn take_in<const N: usize, const CAP: usize>(
-    row: &mut Vec<Message>,
-    queue: &mut Queue,
-    chip: &mut Chip,
-    here: u16,
-    clock: u64,
-    log: &mut Vec<Event>,
-) -> bool
-    requires dimension { N ≤ 12 }
-    requires some { 0 < CAP }
-    requires most { CAP ≤ 15 }
-    requires within { length queue.old ≤ CAP }
-    requires kept { AreKept (length row.old.items) queue.old }
-    requires few { vec_len row.old + 4 ≤ 65536 }
-    requires capacity { vec_len row.old + 4 ≤ vec_capacity row.old }
-    requires room { vec_len log.old + 4 ≤ vec_capacity log.old }
-    ensures items { row.new.items ≡ row.old.items
-        ++ sent_with N CAP clock here (standing row.old.items queue.old) chip.old }
-    ensures value { standing row.new.items queue.new ≡ standing row.old.items queue.old
-        ++ sent_with N CAP clock here (standing row.old.items queue.old) chip.old }
-    ensures kept { AreKept (length row.new.items) queue.new }
-    ensures within { length queue.new ≤ CAP }
-    ensures len { vec_len row.new ≤ vec_len row.old + 4 }
-    ensures row_capacity { vec_capacity row.old ≤ vec_capacity row.new }
-    ensures quiet { IsFalse result → queue.new ≡ queue.old }
-    ensures some { IsTrue result → 0 < length queue.new }
-    ensures chip { chip.new
-        ≡ chip_after_injection (taken_with CAP (standing row.old.items queue.old) chip.old) chip.old }
-    ensures log { log.new.items ≡ log.old.items
-        ++ map event.Injected (sent_with N CAP clock here (standing row.old.items queue.old) chip.old) }
-    ensures told { vec_len log.new ≤ vec_len log.old + 4 }
-    ensures log_room { vec_capacity log.old ≤ vec_capacity log.new }
-{
-    if !may_ask(chip) || queue.len() == CAP {
-        take_none(chip);
-        return false;
-    }
-    let mut taken = Node::new((CAP - queue.len()) as u8);
-    taken.inject(chip, here, N as u8, clock, log);
-    if taken.messages().is_empty() {
-        return false;
-    }
-    stand(row, queue, taken.messages());
-    true
-}
-
 /// Delivers to one chip, message by message.
 pub(crate) fn give_out(
     row: &[Message],
@@ -181,18 +144,6 @@ pub(crate) fn give_out(
         } else {
             place += 1;
         }
-    }
-}
-
-/// Puts the messages of a queue into a node.
-pub(crate) fn settle(node: &mut Node, row: &[Message], queue: &Queue)
-    requires kept { AreKept (length row.now) queue.now }
-    requires room { length queue.now ≤ node.old.room }
-    requires taken { node.old.messages ≡ [] }
-    ensures value { node.new ≡ holding node.old (standing row.now queue.now) }
-{
-    for place in 0..queue.len() {
-        node.arrive(message_of(row, queue.ticket(place)));
     }
 }
 

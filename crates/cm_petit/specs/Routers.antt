@@ -1,5 +1,5 @@
 -- A machine as the code of its router has it: chips, buffers and logs by the chip's number. Ours.
-use Rattle.std.specs.Prelude.{◌≡◌, ℕ, ◌+◌, ◌-◌, ◌<◌, ◌≤◌, ◌^◌, List, [], length, map, slice_index, Vec, vec_len}
+use Rattle.std.specs.Prelude.{◌≡◌, ℕ, ◌+◌, ◌-◌, ◌<◌, ◌≤◌, ◌^◌, List, length, map, slice_index, Vec, vec_len}
 use Rattle.std.specs.Prelude.{vec_capacity}
 use Rattle.std.specs.List.{All}
 use Rattle.std.specs.declared.alloc.Global.{Global}
@@ -7,7 +7,6 @@ use Rattle.cm_model.specs.declared.message.Message.{Message}
 use Rattle.cm_model.specs.declared.message.Event.{Event}
 use Rattle.cm_model.specs.Array.{Chips}
 use Rattle.cm_model.specs.Machine.{Machine}
-use Rattle.cm_router.specs.Buffer.{Buffer}
 
 -- the log of one chip
 abbrev pub Log : Type 0
@@ -27,15 +26,6 @@ pub record AreRouters (n cap : ℕ) (chips : Chips) (buffers : List (List Messag
   pub buffer_count : length buffers ≡ 2 ^ n
   pub log_count : length logs ≡ 2 ^ n
   pub within : All (λ ms. length ms ≤ cap) buffers
-
--- one node with room for cap messages for each number of a cube of n dimensions
-pub record AreNodes (n cap : ℕ) (nodes : List Buffer) : Type 0 where
-  pub count : length nodes ≡ 2 ^ n
-  pub rooms : All (λ node. node.room ≡ cap) nodes
-
--- no message stands in a node
-abbrev pub AreEmpty : List Buffer → Type 0
-AreEmpty nodes = All (λ node. node.messages ≡ []) nodes
 
 -- how many events more a log takes before it has to grow
 abbrev pub free_places : Log → ℕ

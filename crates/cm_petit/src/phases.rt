@@ -1,43 +1,36 @@
 //! The parts of a petit cycle, each on all chips before the next begins.
 
-ghost use Rattle.std.specs.Prelude.{◌≡◌, ℕ, ◌+◌, ◌*◌, ◌^◌, ◌<◌, ◌≤◌, length};
+ghost use Rattle.std.specs.Prelude.{◌≡◌, ℕ, ◌+◌, ◌^◌, ◌<◌, ◌≤◌};
 ghost use Rattle.cm_model.specs.declared.act.Act.TheVariants as act;
 ghost use Rattle.cm_model.specs.Buffers.{machine_after_injection, machine_after_delivery, after_act};
-ghost use Rattle.cm_router.specs.Buffer.{buffers_of};
-ghost use Rattle.cm_petit.specs.Routers.{machine_of, AreRouters, AreNodes, AreEmpty, HasLogRoom, LosesAtMost};
+ghost use Rattle.cm_petit.specs.Routers.{machine_of, AreRouters, HasLogRoom, LosesAtMost};
 
 use cm_crossing::Crossing;
 use cm_element::Chip;
 use cm_message::Event;
-use cm_router::Node;
 
 /// One petit cycle: every router takes messages in, they cross each dimension, from the lowest on,
 /// and those that have arrived go to their processors (a dimension at a time: Hillis 1985; the order:
-/// ours). The counter is one more then. The nodes are working room: the messages are all in `crossing`.
+/// ours). The counter is one more then.
 pub fn cycle<const N: usize, const CAP: usize>(
     chips: &mut [Chip],
     crossing: &mut Crossing,
     logs: &mut [Vec<Event>],
     clock: &mut u64,
-    nodes: &mut [Node],
 )
     requires dimension { N ≤ 12 }
     requires some { 0 < CAP }
     requires most { CAP ≤ 15 }
     requires routers { AreRouters N CAP chips.old crossing.old.buffers logs.old }
-    requires nodes { AreNodes N CAP nodes.old }
-    requires empty { AreEmpty nodes.old }
     requires log_room { HasLogRoom (4 + CAP) logs.old }
     requires counter { clock.old < 2 ^ 63 }
     ensures value { machine_of chips.new crossing.new.buffers logs.new clock.new
         ≡ after_act N CAP (machine_of chips.old crossing.old.buffers logs.old clock.old) act.Cycle }
     ensures counter { clock.new ≡ clock.old + 1 }
     ensures routers { AreRouters N CAP chips.new crossing.new.buffers logs.new }
-    ensures nodes { AreNodes N CAP nodes.new }
-    ensures empty { AreEmpty nodes.new }
     ensures log_room { LosesAtMost (4 + CAP) logs.old logs.new }
 {
-    inject::<N, CAP>(chips, crossing, logs, *clock, nodes);
+    inject::<N, CAP>(chips, crossing, logs, *clock);
     *clock += 1;
     if crossing.is_empty() {
         return;
@@ -55,43 +48,11 @@ fn inject<const N: usize, const CAP: usize>(
     crossing: &mut Crossing,
     logs: &mut [Vec<Event>],
     clock: u64,
-    nodes: &mut [Node],
 )
     requires dimension { N ≤ 12 }
     requires some { 0 < CAP }
     requires most { CAP ≤ 15 }
     requires routers { AreRouters N CAP chips.old crossing.old.buffers logs.old }
-    requires nodes { AreNodes N CAP nodes.old }
-    requires empty { AreEmpty nodes.old }
-    requires log_room { HasLogRoom 4 logs.old }
-    ensures value { machine_of chips.new crossing.new.buffers logs.new clock
-        ≡ machine_after_injection N CAP (machine_of chips.old crossing.old.buffers logs.old clock) }
-    ensures routers { AreRouters N CAP chips.new crossing.new.buffers logs.new }
-    ensures nodes { AreNodes N CAP nodes.new }
-    ensures empty { AreEmpty nodes.new }
-    ensures log_room { LosesAtMost 4 logs.old logs.new }
-{
-    if crossing.has_places(4 * chips.len()) {
-        inject_under_way::<N, CAP>(chips, crossing, logs, clock);
-    } else {
-        crossing.put_back::<CAP>(nodes);
-        inject_at_nodes::<N, CAP>(chips, nodes, logs, clock);
-        crossing.take_up::<CAP>(nodes);
-    }
-}
-
-/// Takes them in among the messages under way, where there are places for all that may come.
-fn inject_under_way<const N: usize, const CAP: usize>(
-    chips: &mut [Chip],
-    crossing: &mut Crossing,
-    logs: &mut [Vec<Event>],
-    clock: u64,
-)
-    requires dimension { N ≤ 12 }
-    requires some { 0 < CAP }
-    requires most { CAP ≤ 15 }
-    requires routers { AreRouters N CAP chips.old crossing.old.buffers logs.old }
-    requires places { 4 * length chips.old ≤ crossing.old.free }
     requires log_room { HasLogRoom 4 logs.old }
     ensures value { machine_of chips.new crossing.new.buffers logs.new clock
         ≡ machine_after_injection N CAP (machine_of chips.old crossing.old.buffers logs.old clock) }
@@ -100,30 +61,6 @@ fn inject_under_way<const N: usize, const CAP: usize>(
 {
     for c in 0..chips.len() {
         crossing.inject::<N, CAP>(c, &mut chips[c], clock, &mut logs[c]);
-    }
-}
-
-/// Takes them in at the nodes, to which the messages were put back.
-fn inject_at_nodes<const N: usize, const CAP: usize>(
-    chips: &mut [Chip],
-    nodes: &mut [Node],
-    logs: &mut [Vec<Event>],
-    clock: u64,
-)
-    requires dimension { N ≤ 12 }
-    requires nodes { AreNodes N CAP nodes.old }
-    requires routers { AreRouters N CAP chips.old (buffers_of nodes.old) logs.old }
-    requires log_room { HasLogRoom 4 logs.old }
-    ensures value { machine_of chips.new (buffers_of nodes.new) logs.new clock
-        ≡ machine_after_injection N CAP (machine_of chips.old (buffers_of nodes.old) logs.old clock) }
-    ensures nodes { AreNodes N CAP nodes.new }
-    ensures chip_count { length chips.new ≡ 2 ^ N }
-    ensures log_count { length logs.new ≡ 2 ^ N }
-    ensures log_room { LosesAtMost 4 logs.old logs.new }
-{
-    for c in 0..chips.len() {
-        let node = &mut nodes[c];
-        node.inject(&mut chips[c], c as u16, N as u8, clock, &mut logs[c]);
     }
 }
 

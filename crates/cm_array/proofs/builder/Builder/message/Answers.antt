@@ -16,21 +16,17 @@ invariant_of-self g c =
     subst (λ (m : Machine). length (list_at m.buffers c.args.chip) < g.row.CAP) (sym is) c.requires.room in
     let born : c.args.message.tag.birth < (machine_of parts).clock =
     subst (λ (m : Machine). c.args.message.tag.birth < m.clock) (sym is) c.requires.born in
-    AreUnfinished-with_message g.row.N g.row.CAP parts c.from.result c.index_mut-node.result.now c.arrive.new.self
-    c.args.message c.self.invariant below
-    c.index_mut-node.ensures.value c.arrive.ensures.value
+    AreUnfinished-with_message g.row.N g.row.CAP parts c.from.result c.arrive.new.self c.args.message c.self.invariant
+    below c.arrive.ensures.value
     (subst (λ (i : ℕ). length (list_at (machine_of parts).buffers i) < g.row.CAP) (sym place) room)
     c.look_at.ensures.message born
 
 pub returns : goal.returns
 returns g c =
     let parts = c.self.inside.parts in
-    let below : c.from.result < 2 ^ g.row.N = omega arith in
     record {
       value =
-          machine_of-with_message g.row.N g.row.CAP parts c.from.result c.index_mut-node.result.now c.arrive.new.self
-          c.args.message c.self.invariant below
-          c.index_mut-node.ensures.value c.arrive.ensures.value
+          machine_of-with_message parts c.from.result c.arrive.new.self c.args.message c.arrive.ensures.value
           ∙ ap (λ (i : ℕ). machine_with_message (machine_of parts) i c.args.message) c.from.ensures
           ∙ ap (λ (machine : Machine). machine_with_message machine c.args.chip c.args.message) c.self.view_is;
     }

@@ -1,4 +1,4 @@
-use Rattle.std.proofs.Common.{◌≡◌, ◌≤◌, ◌^◌, List, length, sym, ap, ◌∙◌, subst, arith}
+use Rattle.std.proofs.Common.{◌≡◌, ◌≤◌, ◌^◌, false, true, List, length, sym, ap, ◌∙◌, subst, arith}
 use Rattle.std.specs.Prelude.{bit_xor}
 use Rattle.std.specs.List.{All}
 use Rattle.std.specs.Vec.{with_items}
@@ -31,7 +31,8 @@ invariant_of-self g c =
     let is : new ≡ each_chip g.row.N
     (λ k. exchanged g.row.CAP c.args.dim (list_at old k) (list_at old (bit_xor k (2 ^ c.args.dim)))) =
     rw c.deref_mut.ensures.value at c.cross_row.ensures.value in
-    subst (λ (queues : List (List Ticket)). IsCrossing inside.row inside.places queues c.cross_row.new.busy)
+    subst (λ (queues : List (List Ticket)). IsCrossing inside.row inside.spare inside.places queues c.cross_row.new.busy
+    false)
     (sym (items-lent inside.queues new same))
     (record {
       blocks = c.cross_row.auto.busy ∙ c.self.invariant.blocks;
@@ -40,6 +41,8 @@ invariant_of-self g c =
       enough = omega (arith, same, c.self.invariant.enough);
       most = c.self.invariant.most;
       capacity = c.self.invariant.capacity;
+      spare_capacity = c.self.invariant.spare_capacity;
+      together = λ gathered. let wrong : false ≡ true = gathered in absurd cc;
       filled = c.self.invariant.filled;
       kept = subst (λ (queues : List (List Ticket)). All (AreKept (length inside.row.items)) queues) (sym is)
           (crossed_kept g.row.N g.row.CAP c.args.dim (length inside.row.items) old c.requires.dim long

@@ -1,4 +1,4 @@
-use Rattle.std.proofs.Common.{◌≡◌, ◌<◌, ◌≤◌, ◌++◌, List, [], length, map, set, get_or, ap, ◌∙◌, arith, length-set}
+use Rattle.std.proofs.Common.{◌≡◌, ◌<◌, ◌≤◌, ◌++◌, false, true, List, [], length, map, set, get_or, ap, ◌∙◌, arith, length-set}
 use Rattle.std.specs.List.{All}
 use Rattle.std.proofs.lemmas.List.{length-map, get_or_read}
 use Rattle.std.proofs.lemmas.List.Elements.{All-set}
@@ -56,6 +56,8 @@ invariant_of-self g c =
       enough = omega (arith, length-set queues i queue, c.self.invariant.enough);
       most = c.self.invariant.most;
       capacity = c.self.invariant.capacity;
+      spare_capacity = c.self.invariant.spare_capacity;
+      together = λ gathered. let wrong : false ≡ true = gathered in absurd cc;
       filled = c.self.invariant.filled;
       kept = All-set (AreKept (length row)) queues i queue (rw c.deref.ensures.value at c.give_out.ensures.kept)
           c.self.invariant.kept;
@@ -101,5 +103,4 @@ returns g c =
       log_room = c.give_out.ensures.log_room;
       within = changed_within g.row.CAP row queues i queue (tickets_within g.row.CAP row queues messages)
           (omega (arith, c.give_out.ensures.fewer, few, ap length read));
-      free = ap (λ (u : UnderWay). u.free) c.self.view_is;
     }

@@ -2,9 +2,9 @@ use Rattle.std.proofs.Common.{◌≡◌, ℕ, List, [], length, get_or, sym, ap,
 use Rattle.cm_model.specs.declared.message.Message.{Message}
 use Rattle.cm_model.proofs.Each.{length-each_from, get_or-each_below}
 use Rattle.cm_crossing.specs.declared.queue.Ticket.{Ticket}
-use Rattle.cm_crossing.specs.Standing.{all_standing, AreKept}
+use Rattle.cm_crossing.specs.Standing.{all_standing, AreKept, AreTogether}
 use Rattle.std.specs.List.{All}
-use Rattle.cm_crossing.proofs.Wholes.{none_standing, none_kept}
+use Rattle.cm_crossing.proofs.Wholes.{none_standing, none_kept, none_together}
 use Rattle.cm_crossing.proofs.crossing.Crossing.new.Goals as goal
 
 pub invariant_of-result : goal.invariant_of-result
@@ -17,6 +17,9 @@ invariant_of-result c =
       enough = omega (arith, long, c.requires.few, c.min-places.ensures);
       most = omega (arith, c.min-places.ensures);
       capacity = omega (arith, c.in_ok-row.ensures.capacity);
+      spare_capacity = omega (arith, c.in_ok-spare.ensures.capacity);
+      together = λ gathered. subst (λ (queues : List (List Ticket)). All (AreTogether c.in_ok-row.row.items) queues)
+          (sym c.in_ok-queues.ensures.value) (none_together c.args.chips c.in_ok-row.row.items);
       filled = omega (arith, c.in_ok-row.ensures.len);
       kept = subst (λ (queues : List (List Ticket)). All (AreKept (length c.in_ok-row.row.items)) queues)
           (sym c.in_ok-queues.ensures.value) (none_kept c.args.chips (length c.in_ok-row.row.items));
@@ -30,4 +33,4 @@ returns c =
     let none : ℕ → List Message = λ k. [] in
     let same = ap (all_standing c.in_ok-row.row.items) c.in_ok-queues.ensures.value
     ∙ none_standing c.in_ok-row.row.items c.args.chips in
-    record { value = same; count = ap length same ∙ length-each_from 0 c.args.chips none }
+    record { value = same; count = ap length same ∙ length-each_from 0 c.args.chips none; gathered = refl }
