@@ -1,0 +1,5 @@
+//! Tests of runs, from an image, a program and commands to answers and an image; it has no code of its own.
+#![tactic(auto)]
+
+#[cfg(test)]
+mod runs;

@@ -1,0 +1,159 @@
+//! Runs of images: what is answered, what is kept, and how they end.
+
+use cm_bits::doubles::{Bytes, Room};
+use cm_cli::{TakeFault, fresh, run_session};
+use std::alloc::Global;
+
+/// The image that is given: that of a blank machine, or one that is damaged.
+#[derive(Clone, Copy)]
+enum Given {
+    /// Of 2^n chips, with routers of this room.
+    Blank(u8, u8),
+    /// Of one chip, without its last byte.
+    Cut,
+    /// Of one chip, with a byte more.
+    Longer,
+    /// Of one chip, with another byte at a place.
+    With(usize, u8),
+    /// No byte.
+    Nothing,
+}
+
+/// The program's text, as it was read.
+type Text = Result<&'static [u8], TakeFault>;
+
+/// The image, the program, the commands, of which so many bytes come before a read fails, and how many bytes of answers
+/// can be written; what is written, and the number of the fault, 0 for none.
+type Row = (Given, Text, &'static [u8], usize, usize, &'static [u8], u8);
+
+const SUM: Text = Ok(b"field x 0 8\nfield y 8 8\nconst x 200\nconst y 100\nadd x y\n");
+
+const ASKS: &[u8] = b"run\nfield 0 0 0 8\nflag 0 0 7\n";
+
+const ANSWERS: &[u8] = b"end\nfield 44\nflag 1\n";
+
+const RUNS: [Row; 19] = [
+    // a sum on each of the program's own rooms, and on more chips
+    (Given::Blank(0, 7), SUM, ASKS, 100, 100, ANSWERS, 0),
+    (Given::Blank(0, 1), SUM, ASKS, 100, 100, ANSWERS, 0),
+    (Given::Blank(3, 7), SUM, ASKS, 100, 100, ANSWERS, 0),
+    (Given::Blank(5, 1), SUM, ASKS, 100, 100, ANSWERS, 0),
+    // no program, no command
+    (Given::Blank(0, 7), Ok(b""), b"", 100, 100, b"", 0),
+    // an image that is refused, and nothing is written
+    (Given::Cut, SUM, ASKS, 100, 100, b"", 21),
+    (Given::Nothing, SUM, ASKS, 100, 100, b"", 21),
+    (Given::Longer, SUM, ASKS, 100, 100, b"", 29),
+    (Given::With(0, 0), SUM, ASKS, 100, 100, b"", 22),
+    (Given::With(4, 2), SUM, ASKS, 100, 100, b"", 23),
+    (Given::With(5, 13), SUM, ASKS, 100, 100, b"", 24),
+    // a room that the program has no machines of; before the rest of the image is looked at
+    (Given::With(6, 2), SUM, ASKS, 100, 100, b"", 5),
+    // a program that is refused, or was not read to its end
+    (Given::Blank(0, 7), Ok(b"jump\n"), ASKS, 100, 100, b"", 15),
+    (
+        Given::Blank(0, 7),
+        Err(TakeFault::Read),
+        ASKS,
+        100,
+        100,
+        b"",
+        30,
+    ),
+    (
+        Given::Blank(0, 7),
+        Err(TakeFault::TooMuch),
+        ASKS,
+        100,
+        100,
+        b"",
+        32,
+    ),
+    // the image's fault comes before the program's
+    (Given::Cut, Err(TakeFault::Read), ASKS, 100, 100, b"", 21),
+    (Given::With(6, 2), Ok(b"jump\n"), ASKS, 100, 100, b"", 5),
+    // a read of commands that fails, and a write of answers
+    (Given::Blank(0, 7), SUM, ASKS, 6, 100, b"end\n", 30),
+    (Given::Blank(0, 7), SUM, ASKS, 100, 5, b"end\nf", 31),
+];
+
+/// The bytes of an image.
+fn bytes_of(alloc: Global, given: Given) -> Option<Vec<u8>> {
+    let (n, cap) = match given {
+        Given::Blank(n, cap) => (n, cap),
+        _ => (0, 7),
+    };
+    let mut image = fresh(alloc, n, cap).ok()?;
+    match given {
+        Given::Blank(_, _) => {}
+        Given::Cut => {
+            image.pop();
+        }
+        Given::Longer => image.push(0).ok()?,
+        Given::With(place, byte) => *image.get_mut(place)? = byte,
+        Given::Nothing => image.clear(),
+    }
+    Some(image)
+}
+
+/// The bytes of a text, as they were read.
+fn text_of(alloc: Global, text: Text) -> Option<Result<Vec<u8>, TakeFault>> {
+    match text {
+        Ok(bytes) => Some(Ok(bytes.to_vec(alloc).ok()?)),
+        Err(fault) => Some(Err(fault)),
+    }
+}
+
+/// Whether a run writes and ends as its row says; and keeps an image only if it is to, and has no fault.
+fn is_so(alloc: Global, row: &Row, keeps: bool) -> Option<bool> {
+    let (given, text, commands, good, room, wanted, number) = *row;
+    let mut commands = Bytes::failing(commands, 3, good);
+    let mut answers = Room::new(alloc, room, 5).ok()?;
+    let end = run_session(
+        alloc,
+        bytes_of(alloc, given)?,
+        text_of(alloc, text)?,
+        &mut commands,
+        &mut answers,
+        keeps,
+    );
+    let ended = match end {
+        Ok(kept) => number == 0 && kept.is_some() == keeps,
+        Err(fault) => number == fault.number(),
+    };
+    Some(ended && answers.taken() == wanted)
+}
+
+/// The answers of a second session, on the image that a first one keeps.
+fn goes_on(alloc: Global, first: &[u8], second: &[u8]) -> Option<Room> {
+    let mut commands = Bytes::failing(first, 3, 100);
+    let mut answers = Room::new(alloc, 100, 5).ok()?;
+    let text = text_of(alloc, SUM)?;
+    let image = bytes_of(alloc, Given::Blank(2, 7))?;
+    let kept = run_session(alloc, image, text, &mut commands, &mut answers, true).ok()??;
+    let mut commands = Bytes::failing(second, 3, 100);
+    let mut answers = Room::new(alloc, 100, 5).ok()?;
+    let text = text_of(alloc, Ok(b""))?;
+    run_session(alloc, kept, text, &mut commands, &mut answers, false).ok()?;
+    Some(answers)
+}
+
+#[test]
+fn images_are_run(rt: HostRuntime) {
+    for (i, row) in RUNS.iter().enumerate() {
+        let so = is_so(rt.alloc(), row, i % 2 == 0);
+        assert!(rt; so == Some(true), "in row {i}");
+    }
+}
+
+#[test]
+fn the_image_that_is_kept_goes_on_where_the_first_session_ended(rt: HostRuntime) {
+    let wanted: &[u8] = b"field 44\nfield 102\nend\n";
+    let answers = goes_on(
+        rt.alloc(),
+        b"run\npoke 3 15 9 1\n",
+        b"field 2 7 0 8\nfield 3 15 8 8\nrun\n",
+    );
+    let told = answers.map(|room| room.taken() == wanted);
+    assert!(rt; told == Some(true));
+}
