@@ -1,5 +1,5 @@
 -- The command line, as clap reads it: the program's name, a subcommand, its arguments; ours.
-use Rattle.std.specs.Prelude.{◌≡◌, ℕ, ◌≤◌, List, [], Some, IsSomeAnd, codes, string_bytes, true}
+use Rattle.std.specs.Prelude.{◌≡◌, ℕ, ◌≤◌, List, [], Option, Some, option_map, IsSomeAnd, codes, string_bytes, true}
 use Rattle.std.specs.Str.Parse.{IsNumeral, digits_value, without_leading_plus}
 use Rattle.clap.specs.Walk.{Row, Rule, Text, first_of}
 use Rattle.clap.specs.Simple.{App, Shape, new_app, new_rule, on_top, subcommand_of, with_rule, with_subcommand}
@@ -35,13 +35,25 @@ abbrev pub fresh_app : App
 fresh_app =
     with_rule (with_rule (with_rule (without_help_flag (new_app (codes "fresh"))) (required_operand (codes "n"))) (required_operand (codes "cap"))) (required_operand (codes "file"))
 
+-- an option `--name FILE` or `--name=FILE`, which may stand there, once
+abbrev pub option_with_value : Text → Rule
+option_with_value name = record (new_rule name) { long = Some name }
+
+-- the subcommand `run`, whose operands are an image's file and a program's file; its option names a file
+abbrev pub run_app : App
+run_app =
+    with_rule (with_rule (with_rule (without_help_flag (new_app (codes "run"))) (required_operand (codes "image"))) (required_operand (codes "program"))) (option_with_value (codes "out"))
+
+-- the program, with those of its subcommands that read and write texts alone
+abbrev pub texts_app : App
+texts_app =
+    with_subcommand
+    (with_subcommand (asking_for_subcommand (without_help_flag (new_app (codes "cm1")))) chip_app.top)
+    list_app.top
+
 -- the program, with each of its subcommands
 abbrev pub program_app : App
-program_app =
-    with_subcommand
-    (with_subcommand
-    (with_subcommand (asking_for_subcommand (without_help_flag (new_app (codes "cm1")))) chip_app.top)
-    list_app.top) fresh_app.top
+program_app = with_subcommand (with_subcommand texts_app fresh_app.top) run_app.top
 
 -- clap finds no fault in the words, of which the first is the program's name
 abbrev pub IsTaken : List Text → Type 0
@@ -62,12 +74,21 @@ pub record IsFreshLine (n cap : ℕ) (file : Text) (found : List Row) : Type 0 w
   pub room : IsNumberOperand (codes "cap") found 1 15 cap
   pub named : first_of (codes "file") found ≡ Some file
 
+-- the names of an image's file and of a program's file stand for the operands of `run`, and this name, if any, for
+-- its option
+pub record IsRunLine (image program : List ℕ) (out : Option (List ℕ)) (found : List Row) : Type 0 where
+  pub start : first_of (codes "image") found ≡ Some image
+  pub text : first_of (codes "program") found ≡ Some program
+  pub left : first_of (codes "out") found ≡ out
+
 -- the line is the subcommand of this name, with what was found for its arguments
 abbrev pub IsLine : Line → Text × List Row → Type 0
 IsLine line.Chip found = found.0 ≡ codes "chip"
 IsLine (line.List program) found =
     (found.0 ≡ codes "list") × (first_of (codes "program") found.1 ≡ Some (string_bytes program))
 IsLine (line.Fresh n cap file) found = (found.0 ≡ codes "fresh") × IsFreshLine n cap (string_bytes file) found.1
+IsLine (line.Run image program out) found =
+    (found.0 ≡ codes "run") × IsRunLine (string_bytes image) (string_bytes program) (option_map string_bytes out) found.1
 
 -- the words are taken, and the line is the subcommand that clap reads in them
 pub record AsksFor (words : List Text) (line : Line) : Type 0 where

@@ -1,9 +1,9 @@
-ghost use Rattle.std.specs.Prelude.{◌≡◌, ℕ, List, [], ◌∷◌, None, IfOk, IfSome, IsErrOf, String, codes, string_bytes, false};
+ghost use Rattle.std.specs.Prelude.{◌≡◌, ℕ, List, [], ◌∷◌, Option, Some, None, IfOk, IfSome, IsErrOf, String, codes, string_bytes, false};
 ghost use Rattle.clap.specs.Walk.{first_of, rows_of, texts};
 ghost use Rattle.clap.specs.Matches.{found_of};
 ghost use Rattle.clap.specs.Simple.{app_of, with_rule, with_subcommand};
 ghost use Rattle.clap.specs.declared.builder.command.Command.TheViews.{out-Command as fields_of};
-ghost use Rattle.cm_line.specs.Lines.{AsksFor, IsBadLine, IsLine, IsFreshLine, IsNumberOperand, required_operand, chip_app, list_app, fresh_app, program_app};
+ghost use Rattle.cm_line.specs.Lines.{AsksFor, IsBadLine, IsLine, IsFreshLine, IsRunLine, IsNumberOperand, required_operand, option_with_value, chip_app, list_app, fresh_app, run_app, texts_app, program_app};
 
 use crate::fault::LineFault;
 use clap::error::ErrorKind;
@@ -20,6 +20,11 @@ const ROOM: &str = "cap";
 
 const FILE: &str = "file";
 
+/// The names of what `run` has besides its program: an operand, and an option.
+const IMAGE: &str = "image";
+
+const OUT: &str = "out";
+
 /// What the program is asked to do.
 #[derive(Debug, PartialEq, Eq, Drop)]
 pub enum Line {
@@ -27,10 +32,23 @@ pub enum Line {
     /// output.
     Chip,
     /// `list PROGRAM`: writes the listing of the program text in this file to standard output.
-    List { program: String },
+    List {
+        program: String,
+    },
     /// `fresh N CAP FILE`: writes the image of a blank machine of 2^N chips and room CAP into this file. N is from 0
     /// to 12, CAP from 1 to 15.
-    Fresh { n: u8, cap: u8, file: String },
+    Fresh {
+        n: u8,
+        cap: u8,
+        file: String,
+    },
+    /// `run IMAGE PROGRAM [--out FILE]`: runs the program in this file on the machine of this image, by the commands
+    /// of standard input. The image of the machine that is left goes into the file of `--out`, if one is named.
+    Run {
+        image: String,
+        program: String,
+        out: Option<String>,
+    },
 }
 
 /// Reads the words of a command line. The first is the program's name, and may be any.
@@ -50,6 +68,7 @@ pub fn command<'a>(alloc: Global, words: &'a [&'a str]) -> Result<Line, LineFaul
         Some(("chip", _)) => Ok(Line::Chip),
         Some(("list", operands)) => list_line(alloc, operands),
         Some(("fresh", operands)) => fresh_line(alloc, operands),
+        Some(("run", operands)) => run_line(alloc, operands),
         _ => Err(LineFault::BadLine),
     }
 }
@@ -90,6 +109,30 @@ fn fresh_line(alloc: Global, operands: &ArgMatches) -> Result<Line, LineFault>
     })
 }
 
+/// The line of `run`, by what was found for its operands and its option.
+fn run_line(alloc: Global, operands: &ArgMatches) -> Result<Line, LineFault>
+    ensures value { IfOk result (λ line. IsLine line (codes "run", rows_of (found_of operands.now))) }
+    ensures none { IsErrOf result LineFault.BadLine
+        → (image : List ℕ) (program : List ℕ) (out : Option (List ℕ))
+        → ¬ IsRunLine image program out (rows_of (found_of operands.now)) }
+{
+    let Some(image) = operands.get_str(IMAGE) else {
+        return Err(LineFault::BadLine);
+    };
+    let Some(program) = operands.get_str(PROGRAM) else {
+        return Err(LineFault::BadLine);
+    };
+    let out = match operands.get_str(OUT) {
+        Some(file) => Some(String::from_str(alloc, file)?),
+        None => None,
+    };
+    Ok(Line::Run {
+        image: String::from_str(alloc, image)?,
+        program: String::from_str(alloc, program)?,
+        out,
+    })
+}
+
 /// The number that was found for an operand, if it is one of this range.
 fn number_operand(operands: &ArgMatches, name: &str, least: u8, most: u8) -> Option<u8>
     ensures some { IfSome result (λ number. IsNumberOperand name.now (rows_of (found_of operands.now)) least most number) }
@@ -103,9 +146,11 @@ fn number_operand(operands: &ArgMatches, name: &str, least: u8, most: u8) -> Opt
     }
 }
 
-/// A law: of the words below, `chip` alone and `list` with one operand ask for a line. A call for help or
-/// for the version, no subcommand, no word at all, an unknown subcommand, an operand or an option of
-/// `chip`, and `list` with no operand, with two or with an option do not.
+/// A law: of the words below, `chip` alone, `list` with one operand, `fresh` with three, and `run` with two and at
+/// most one `--out`, before its operands or behind them, ask for a line. A call for help or for the version, no
+/// subcommand, no word at all, an unknown subcommand, an operand or an option of `chip`, `list` with no operand, with
+/// two or with an option, and `run` with one operand or three, with another option, with `--out` twice or with no
+/// file behind it do not.
 #[tactic(auto, unfolding(clap::proofs::OnLiterals::clap_on_literals))]
 pub fn lines_and_bad_lines()
     ensures chip { AsksFor (codes "cm1" ∷ codes "chip" ∷ []) Line.Chip }
@@ -128,11 +173,44 @@ pub fn lines_and_bad_lines()
     ensures option { IsBadLine (codes "cm1" ∷ codes "chip" ∷ codes "--out" ∷ []) }
     ensures no_program { IsBadLine (codes "cm1" ∷ codes "list" ∷ []) }
     ensures two_programs { IsBadLine (codes "cm1" ∷ codes "list" ∷ codes "sums.txt" ∷ codes "more.txt" ∷ []) }
+    ensures run { (image : String Global) (program : String Global) → string_bytes image ≡ codes "a.image"
+        → string_bytes program ≡ codes "sums.txt"
+        → AsksFor (codes "cm1" ∷ codes "run" ∷ codes "a.image" ∷ codes "sums.txt" ∷ []) (Line.Run image program None) }
+    ensures run_with_out { (image : String Global) (program : String Global) (out : String Global)
+        → string_bytes image ≡ codes "a.image" → string_bytes program ≡ codes "sums.txt"
+        → string_bytes out ≡ codes "b.image"
+        → AsksFor
+        (codes "cm1" ∷ codes "run" ∷ codes "a.image" ∷ codes "sums.txt" ∷ codes "--out" ∷ codes "b.image" ∷ [])
+        (Line.Run image program (Some out)) }
+    ensures run_with_out_first { (image : String Global) (program : String Global) (out : String Global)
+        → string_bytes image ≡ codes "a.image" → string_bytes program ≡ codes "sums.txt"
+        → string_bytes out ≡ codes "b.image"
+        → AsksFor (codes "cm1" ∷ codes "run" ∷ codes "--out=b.image" ∷ codes "a.image" ∷ codes "sums.txt" ∷ [])
+        (Line.Run image program (Some out)) }
     ensures option_of_list { IsBadLine (codes "cm1" ∷ codes "list" ∷ codes "sums.txt" ∷ codes "--out" ∷ []) }
+    ensures run_without_program { IsBadLine (codes "cm1" ∷ codes "run" ∷ codes "a.image" ∷ []) }
+    ensures run_of_three { IsBadLine
+        (codes "cm1" ∷ codes "run" ∷ codes "a.image" ∷ codes "sums.txt" ∷ codes "more.txt" ∷ []) }
+    ensures unknown_option_of_run { IsBadLine
+        (codes "cm1" ∷ codes "run" ∷ codes "a.image" ∷ codes "sums.txt" ∷ codes "--split" ∷ codes "4" ∷ []) }
+    ensures out_without_file { IsBadLine
+        (codes "cm1" ∷ codes "run" ∷ codes "a.image" ∷ codes "sums.txt" ∷ codes "--out" ∷ []) }
+    ensures out_twice { IsBadLine
+        (codes "cm1" ∷ codes "run" ∷ codes "a.image" ∷ codes "sums.txt" ∷ codes "--out=b" ∷ codes "--out=c" ∷ []) }
 {}
 
 fn program<'a>(alloc: Global) -> Result<Command<'a>, AllocError>
     ensures app { IfOk result (λ made. app_of made ≡ program_app) }
+    ensures local { IfOk result (λ made. (fields_of made).has_globals ≡ false) }
+{
+    let program = program_of_texts(alloc)?;
+    let program = adding_subcommand(program, fresh(alloc)?)?;
+    adding_subcommand(program, run(alloc)?)
+}
+
+/// The program, with those of its subcommands that read and write texts alone.
+fn program_of_texts<'a>(alloc: Global) -> Result<Command<'a>, AllocError>
+    ensures app { IfOk result (λ made. app_of made ≡ texts_app) }
     ensures local { IfOk result (λ made. (fields_of made).has_globals ≡ false) }
 {
     let program = Command::new(alloc, "cm1")
@@ -140,8 +218,7 @@ fn program<'a>(alloc: Global) -> Result<Command<'a>, AllocError>
         .disable_help_subcommand(true)
         .subcommand_required(true);
     let program = adding_subcommand(program, chip(alloc))?;
-    let program = adding_subcommand(program, list(alloc)?)?;
-    adding_subcommand(program, fresh(alloc)?)
+    adding_subcommand(program, list(alloc)?)
 }
 
 fn chip<'a>(alloc: Global) -> Command<'a>
@@ -169,6 +246,16 @@ fn fresh<'a>(alloc: Global) -> Result<Command<'a>, AllocError>
     adding_operand(alloc, fresh, FILE)
 }
 
+fn run<'a>(alloc: Global) -> Result<Command<'a>, AllocError>
+    ensures app { IfOk result (λ made. app_of made ≡ run_app) }
+    ensures local { IfOk result (λ made. (fields_of made).has_globals ≡ false) }
+{
+    let run = Command::new(alloc, "run").disable_help_flag(true);
+    let run = adding_operand(alloc, run, IMAGE)?;
+    let run = adding_operand(alloc, run, PROGRAM)?;
+    adding_option(alloc, run, OUT)
+}
+
 /// The command with one more operand, which must stand there.
 fn adding_operand<'a>(
     alloc: Global,
@@ -180,6 +267,19 @@ fn adding_operand<'a>(
         → IfOk result (λ made. (fields_of made).has_globals ≡ false) }
 {
     command.arg(Arg::new(alloc, name).required(true))
+}
+
+/// The command with one more option, which has a value.
+fn adding_option<'a>(
+    alloc: Global,
+    command: Command<'a>,
+    name: &'a str,
+) -> Result<Command<'a>, AllocError>
+    ensures app { IfOk result (λ made. app_of made ≡ with_rule (app_of command.entry) (option_with_value name.entry.now)) }
+    ensures local { (fields_of command.entry).has_globals ≡ false
+        → IfOk result (λ made. (fields_of made).has_globals ≡ false) }
+{
+    command.arg(Arg::new(alloc, name).long(name))
 }
 
 /// The command with one more subcommand, which has no global argument.
