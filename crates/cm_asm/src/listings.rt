@@ -106,38 +106,48 @@ fn push_flag(text: &mut Vec<u8>, flag: FlagNo) -> Result<(), AllocError>
 fn push_sense(text: &mut Vec<u8>, sense: bool) -> Result<(), AllocError>
     ensures ok { OnOk result (text.new.items ≡ text.old.items ++ (decimal (bit_number sense) ++ 32 ∷ [])) }
 {
-    push_number(text, sense_number(sense))
+    text.extend_from_slice(sense_word(sense))
 }
 
 /// A truth table and a space.
 fn push_table(text: &mut Vec<u8>, table: u8) -> Result<(), AllocError>
     ensures ok { OnOk result (text.new.items ≡ text.old.items ++ (table_word table ++ 32 ∷ [])) }
 {
-    text.extend_from_slice(&table_word(table))?;
-    text.push(b' ')?;
-    Ok(())
+    text.extend_from_slice(&table_word(table))
 }
 
 /// A number and a space.
+#[tactic(auto, using(crate::proofs::Telling::number_word))]
 fn push_number(text: &mut Vec<u8>, number: u16) -> Result<(), AllocError>
     ensures ok { OnOk result (text.new.items ≡ text.old.items ++ (decimal number ++ 32 ∷ [])) }
 {
-    text.extend_from_slice(Buffer::new().format(number).as_bytes())?;
-    text.push(b' ')?;
-    Ok(())
+    if number < 10 {
+        text.extend_from_slice(&[b'0' + number as u8, b' '])
+    } else {
+        text.extend_from_slice(Buffer::new().format(number).as_bytes())?;
+        text.push(b' ')?;
+        Ok(())
+    }
 }
 
-fn sense_number(sense: bool) -> u16
-    ensures { result ≡ bit_number sense }
+/// 0 or 1, and a space.
+fn sense_word(sense: bool) -> &'static [u8]
+    ensures value { result.now ≡ decimal (bit_number sense) ++ 32 ∷ [] }
 {
-    if sense { 1 } else { 0 }
+    if sense { b"1 " } else { b"0 " }
 }
 
-/// `0x` and two hexadecimal digits.
-fn table_word(table: u8) -> [u8; 4]
-    ensures value { result ≡ table_word table }
+/// `0x`, two hexadecimal digits and a space.
+fn table_word(table: u8) -> [u8; 5]
+    ensures value { result ≡ table_word table ++ 32 ∷ [] }
 {
-    [b'0', b'x', hex_digit(table / 16), hex_digit(table % 16)]
+    [
+        b'0',
+        b'x',
+        hex_digit(table / 16),
+        hex_digit(table % 16),
+        b' ',
+    ]
 }
 
 /// A hexadecimal digit, lower case.

@@ -8,6 +8,7 @@ pub mod Products
 pub mod Lifting
 pub mod AllMacros
 pub mod LeftAlone
+pub mod NumbersKept
 pub mod Numerals
 pub mod Spaced
 pub mod ProgramParts

@@ -1,16 +1,17 @@
 -- Laws over the definitions, each the contract of a function of its name. Ours.
-use Rattle.std.specs.Prelude.{◌≡◌, ℕ, ◌^◌, ◌<◌, false, None, Ok, List}
-use Rattle.cm_bits.specs.Span.{IsField}
+use Rattle.std.specs.Prelude.{◌≡◌, ℕ, ◌%◌, ◌^◌, ◌<◌, false, None, Ok, List}
+use Rattle.cm_bits.specs.Span.{Span, IsField}
 use Rattle.cm_bits.specs.Field.{IsIn}
 use Rattle.cm_model.specs.Processor.{Processor, memory_bit, flag}
 use Rattle.cm_model.specs.Array.{each_chip, chip_at}
 use Rattle.cm_model.specs.Chip.{each_processor, processor_at}
 use Rattle.cm_model.specs.Machine.{Machine, run_of}
 use Rattle.cm_model.specs.Keeping.{IsMachine}
+use Rattle.cm_model.specs.Whole.{IsProcessor}
 use Rattle.cm_language.specs.declared.macros.Macro.{Macro}
 use Rattle.cm_language.specs.declared.macros.Macro.TheVariants.{Add, Sub, Less, Equal, Move, Select, Const, Shift, Mul, Set, Clear}
 use Rattle.cm_language.specs.declared.macros.Context.{Context}
-use Rattle.cm_language.specs.Effect.{selected, effect}
+use Rattle.cm_language.specs.Effect.{selected, value_of, size, with_value, effect}
 use Rattle.cm_language.specs.Acts.{acts_of}
 use Rattle.cm_language.specs.Faults.{writes, first_fault}
 use Rattle.cm_language.specs.Program.{ProgramText, program_of}
@@ -41,6 +42,11 @@ machine_after_macro n m c machine = record machine {
 abbrev pub MacrosAreRight : Type 0
 MacrosAreRight = (n cap : ℕ) (m : Macro) (c : Context) (machine : Machine) → IsMachine n cap machine → HasFields m → first_fault m c ≡ None →
     run_of n cap machine (acts_of m c) ≡ machine_after_macro n m c machine
+
+-- a field reads the number that was put into it, cut to its bits
+abbrev pub NumbersReadBack : Type 0
+NumbersReadBack = (field : Span) (number : ℕ) (p : Processor) → IsField field → IsProcessor p →
+    value_of (with_value field number p) field ≡ number % size field
 
 -- the memory bit is one of those that a macro gives a number
 abbrev pub Stores : Macro → ℕ → Type 0

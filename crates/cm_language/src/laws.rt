@@ -1,10 +1,16 @@
 //! Laws over the definitions: what each function is named for holds, for every macro and every text.
 
-ghost use Rattle.cm_language.specs.Laws.{MacrosAreRight, MacrosLeaveTheRest, ProgramsAreWhole, ProgramsAreListed, ListingsReadBack, ListingsAreTheirOwn};
+ghost use Rattle.cm_language.specs.Laws.{MacrosAreRight, NumbersReadBack, MacrosLeaveTheRest, ProgramsAreWhole};
+ghost use Rattle.cm_language.specs.Laws.{ProgramsAreListed, ListingsReadBack, ListingsAreTheirOwn};
 
 /// The acts of a macro that is not refused do what it says in whole numbers, in all processors at once.
 pub fn macros_are_right()
     ensures { MacrosAreRight }
+{}
+
+/// A field reads the number that was put into it, cut to its bits: so what a macro assigns is what is read.
+pub fn numbers_read_back()
+    ensures { NumbersReadBack }
 {}
 
 /// A macro changes nothing in a processor that is not selected, and in the others its own field and flags alone.
