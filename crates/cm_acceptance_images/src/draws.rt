@@ -2,6 +2,8 @@
 
 ghost use Rattle.std.specs.Prelude.{◌<◌};
 
+use cm_bits::Plane;
+
 /// A generator.
 #[derive(Drop)]
 pub(crate) struct Draws {
@@ -21,6 +23,10 @@ impl Draws {
         self.state ^= self.state >> 17;
         self.state ^= self.state << 5;
         self.state
+    }
+
+    pub(crate) fn plane(&mut self) -> Plane {
+        (self.number() >> 16) as u16
     }
 
     pub(crate) fn below(&mut self, limit: u16) -> u16

@@ -1,13 +1,13 @@
 //! Bytes of images that were damaged: cut, changed at each place, or drawn.
 
+ghost use Rattle.std.specs.Prelude.{◌≡◌, ◌≤◌, ◌^◌};
+
+use crate::drawn::few;
 use crate::draws::Draws;
 use crate::parts::goes_so;
 use crate::reader::Reader;
 use crate::texts::{ONE_CHIP, changed};
-use cm_array::Builder;
-use cm_bits::{Addr, FlagNo, Proc};
 use cm_image::{ImageFault, dump, load};
-use cm_message::{Message, Tag};
 use std::alloc::Global;
 use std::test::Fail;
 
@@ -53,47 +53,9 @@ fn first_not_so(alloc: Global) -> Result<Option<(usize, u8)>, Fail> {
     Ok(None)
 }
 
-/// The image of four chips with drawn planes, flags and messages.
-fn drawn(alloc: Global, draws: &mut Draws) -> Result<Vec<u8>, Fail> {
-    let clock = 5 + u64::from(draws.below(1000));
-    let mut builder = Builder::<2, 3>::start(alloc, clock)?;
-    for chip in 0..4u16 {
-        for _ in 0..draws.below(6) {
-            if let Some(at) = Addr::new(draws.below(4096)) {
-                builder.plane(chip, at, draws.below(4));
-            }
-        }
-        for number in 0..16u8 {
-            match FlagNo::new(number) {
-                Some(number) if number != FlagNo::ZERO => {
-                    builder.flag_plane(chip, number, draws.below(3));
-                }
-                _ => {}
-            }
-        }
-        for birth in 0..u64::from(draws.below(4)) {
-            let message = Message {
-                rel: draws.below(4),
-                proc: Proc::new(draws.below(16) as u8).ok_or("no processor")?,
-                payload: draws.number(),
-                tag: Tag {
-                    chip,
-                    proc: Proc::new(draws.below(16) as u8).ok_or("no processor")?,
-                    birth,
-                },
-            };
-            if !builder.is_full(chip) && birth < builder.clock() {
-                builder.message(chip, message);
-            }
-        }
-    }
-    let machine = builder.done()?;
-    Ok(dump(alloc, &machine)?)
-}
-
 /// The bytes with one changed, cut off, doubled or put in at a drawn place.
 fn damaged(alloc: Global, draws: &mut Draws, bytes: &[u8]) -> Result<Vec<u8>, Fail> {
-    let at = usize::from(draws.below(400)) % (bytes.len() + 1);
+    let at = usize::from(draws.below(65_535)) % (bytes.len() + 1);
     let here = bytes.get(at).copied().unwrap_or(0);
     let small = draws.below(6) as u8;
     Ok(match draws.below(5) {
@@ -105,19 +67,51 @@ fn damaged(alloc: Global, draws: &mut Draws, bytes: &[u8]) -> Result<Vec<u8>, Fa
     })
 }
 
-/// How many of these drawn images, and of damages of each, go as by a plain reader.
-fn all_go_so(alloc: Global, images: u32) -> Result<u32, Fail> {
+/// The image of so many chips with drawn planes, flags and messages.
+fn drawn<const N: usize, const CAP: usize>(
+    alloc: Global,
+    draws: &mut Draws,
+    chips: u16,
+) -> Result<Vec<u8>, Fail>
+    requires cube { chips ≡ 2 ^ N }
+{
+    let machine = few::<N, CAP>(alloc, draws, chips)?;
+    Ok(dump(alloc, &machine)?)
+}
+
+/// Whether an image and twenty damages of it go as by a plain reader.
+fn go_so<const N: usize, const CAP: usize>(
+    alloc: Global,
+    draws: &mut Draws,
+    whole: &[u8],
+) -> Result<bool, Fail>
+    requires dimension { N ≤ 12 }
+    requires room { CAP ≤ 15 }
+{
+    let (n, cap) = (N as u8, CAP as u8);
+    let mut so = fault_of(alloc, n, cap, whole).is_none() && goes_so::<N, CAP>(alloc, whole, None)?;
+    for _ in 0..20 {
+        let bytes = damaged(alloc, draws, whole)?;
+        so = so && goes_so::<N, CAP>(alloc, &bytes, fault_of(alloc, n, cap, &bytes))?;
+    }
+    Ok(so)
+}
+
+/// How many of these drawn images of so many chips go as by a plain reader, and so do their damages.
+fn all_go_so<const N: usize, const CAP: usize>(
+    alloc: Global,
+    chips: u16,
+    images: u32,
+) -> Result<u32, Fail>
+    requires cube { chips ≡ 2 ^ N }
+    requires dimension { N ≤ 12 }
+    requires room { CAP ≤ 15 }
+{
     let mut draws = Draws::new(7);
     for i in 0..images {
-        let whole = drawn(alloc, &mut draws)?;
-        if !goes_so::<2, 3>(alloc, &whole, None)? || fault_of(alloc, 2, 3, &whole).is_some() {
+        let whole = drawn::<N, CAP>(alloc, &mut draws, chips)?;
+        if !go_so::<N, CAP>(alloc, &mut draws, &whole)? {
             return Ok(i);
-        }
-        for _ in 0..20 {
-            let bytes = damaged(alloc, &mut draws, &whole)?;
-            if !goes_so::<2, 3>(alloc, &bytes, fault_of(alloc, 2, 3, &bytes))? {
-                return Ok(i);
-            }
         }
     }
     Ok(images)
@@ -141,7 +135,13 @@ fn each_other_byte_is_refused_or_another_machine(rt: HostRuntime) -> Result<(), 
 fn drawn_images_and_a_thousand_damages_go_as_by_a_plain_reader(
     rt: HostRuntime,
 ) -> Result<(), Fail> {
-    assert_eq!(rt; all_go_so(rt.alloc(), 50)?, 50);
+    let alloc = rt.alloc();
+    let sizes = [
+        all_go_so::<2, 3>(alloc, 4, 50)?,
+        all_go_so::<3, 7>(alloc, 8, 20)?,
+        all_go_so::<5, 1>(alloc, 32, 20)?,
+    ];
+    assert_eq!(rt; sizes, [50, 20, 20]);
     Ok(())
 }
 

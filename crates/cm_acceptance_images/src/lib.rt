@@ -2,9 +2,17 @@
 #![tactic(auto)]
 
 #[cfg(test)]
+mod again;
+#[cfg(test)]
+mod blanks;
+#[cfg(test)]
+mod drawn;
+#[cfg(test)]
 mod draws;
 #[cfg(test)]
 mod dumps;
+#[cfg(test)]
+mod growths;
 #[cfg(test)]
 mod hostile;
 #[cfg(test)]
@@ -15,5 +23,7 @@ mod parts;
 mod reader;
 #[cfg(test)]
 mod shapes;
+#[cfg(test)]
+mod speed;
 #[cfg(test)]
 mod texts;

@@ -1,0 +1,169 @@
+//! Machines that ran, written and read back: without their events they are the same, and go on in the same way.
+
+ghost use Rattle.std.specs.Prelude.{◌≡◌, ◌<◌, ◌^◌, IfOk, IsOkUnless};
+ghost use Rattle.cm_image_format.specs.Laws.{without_logs};
+
+use crate::drawn::asking;
+use crate::draws::Draws;
+use cm_array::{Machine, Plain, Runner};
+use cm_bits::{Addr, Dir, FlagNo, NoMemory};
+use cm_image::{ImageFault, dump, load};
+use cm_model::{Act, Nano};
+use std::alloc::Global;
+use std::test::Fail;
+
+/// The machine that is read from a machine's image: the same, but without its events.
+fn read_back<const N: usize, const CAP: usize>(
+    alloc: Global,
+    machine: &Machine<N, CAP>,
+) -> Result<Machine<N, CAP>, ImageFault>
+    ensures value { IfOk result (λ kept. kept.machine ≡ without_logs N machine.now.machine) }
+    ensures otherwise { IsOkUnless result ImageFault.Memory }
+{
+    let Ok(text) = dump(alloc, machine) else {
+        return Err(ImageFault::Memory);
+    };
+    load(alloc, text.as_slice())
+}
+
+/// The planes of one address, half of them turned, go to another and over the grid.
+fn over_the_grid() -> Option<Nano> {
+    Some(Nano {
+        a: Addr::new(3970)?,
+        b: Addr::new(77)?,
+        read: FlagNo::new(10)?,
+        write: FlagNo::new(10)?,
+        cond: FlagNo::new(3)?,
+        sense: false,
+        mem_table: 0x96,
+        flag_table: 0xe8,
+        dir: Dir::East,
+    })
+}
+
+/// Petit cycles, and an instruction between two of them.
+fn acts() -> Option<[Act; 5]> {
+    Some([
+        Act::Cycle,
+        Act::Cycle,
+        Act::Nano(over_the_grid()?),
+        Act::Sense,
+        Act::Cycle,
+    ])
+}
+
+/// Whether two machines of so many chips are the same, but for their events.
+fn are_same<const N: usize, const CAP: usize>(
+    left: &Machine<N, CAP>,
+    right: &Machine<N, CAP>,
+    chips: u16,
+) -> bool
+    requires cube { chips ≡ 2 ^ N }
+{
+    for c in 0..chips {
+        for number in 0..16u8 {
+            let Some(number) = FlagNo::new(number) else {
+                return false;
+            };
+            if left.chip(c).flag_plane(number) != right.chip(c).flag_plane(number) {
+                return false;
+            }
+        }
+        for at in 0..4096u16 {
+            let Some(at) = Addr::new(at) else {
+                return false;
+            };
+            if left.chip(c).plane(at) != right.chip(c).plane(at) {
+                return false;
+            }
+        }
+        if left.buffer(c) != right.buffer(c) {
+            return false;
+        }
+    }
+    left.clock() == right.clock()
+}
+
+/// Whether so many chips have messages, and whether they have events.
+fn messages_and_events<const N: usize, const CAP: usize>(
+    machine: &Machine<N, CAP>,
+    chips: u16,
+) -> (bool, bool)
+    requires cube { chips ≡ 2 ^ N }
+{
+    let mut found = (false, false);
+    for c in 0..chips {
+        found.0 |= !machine.buffer(c).is_empty();
+        found.1 |= !machine.log(c).is_empty();
+    }
+    found
+}
+
+/// A machine that ran, and the one that was read from its image, of which no contract tells anything.
+#[derive(Drop)]
+struct Both<const N: usize, const CAP: usize> {
+    machine: Machine<N, CAP>,
+    again: Machine<N, CAP>,
+}
+
+impl<const N: usize, const CAP: usize> Both<N, CAP> {
+    fn new(alloc: Global, chips: u16, acts: &[Act]) -> Result<Self, Fail>
+        requires cube { chips ≡ 2 ^ N }
+    {
+        let mut machine = asking::<N, CAP>(alloc, &mut Draws::new(u32::from(chips)), chips)?;
+        Plain.go(&mut machine, acts)?;
+        let again = read_back(alloc, &machine)?;
+        Ok(Both { machine, again })
+    }
+
+    /// Whether both have messages, and the first alone events.
+    fn have_messages(&self, chips: u16) -> bool
+        requires cube { chips ≡ 2 ^ N }
+    {
+        messages_and_events(&self.machine, chips) == (true, true)
+            && messages_and_events(&self.again, chips) == (true, false)
+    }
+
+    fn are_same(&self, chips: u16) -> bool
+        requires cube { chips ≡ 2 ^ N }
+    {
+        are_same(&self.machine, &self.again, chips)
+    }
+
+    fn have_same_bytes(&self, alloc: Global) -> Result<bool, NoMemory> {
+        Ok(dump(alloc, &self.machine)? == dump(alloc, &self.again)?)
+    }
+
+    fn go(&mut self, acts: &[Act]) -> bool {
+        Plain.go(&mut self.machine, acts).is_ok() && Plain.go(&mut self.again, acts).is_ok()
+    }
+}
+
+/// Whether a machine that ran has messages and events, comes back without the events, has its bytes again, and whether
+/// both go on in the same way.
+fn come_back<const N: usize, const CAP: usize>(alloc: Global, chips: u16) -> Result<[bool; 4], Fail>
+    requires cube { chips ≡ 2 ^ N }
+{
+    let acts = acts().ok_or("no acts")?;
+    let mut both = Both::<N, CAP>::new(alloc, chips, &acts)?;
+    let have_messages = both.have_messages(chips);
+    let are_same = both.are_same(chips);
+    let have_same_bytes = both.have_same_bytes(alloc)?;
+    let go_on = both.go(&acts) && both.are_same(chips);
+    Ok([have_messages, are_same, have_same_bytes, go_on])
+}
+
+#[test]
+fn machines_that_ran_come_back_without_their_events(rt: HostRuntime) -> Result<(), Fail> {
+    let alloc = rt.alloc();
+    let sizes = [
+        come_back::<0, 15>(alloc, 1)?,
+        come_back::<1, 2>(alloc, 2)?,
+        come_back::<3, 7>(alloc, 8)?,
+        come_back::<4, 1>(alloc, 16)?,
+        come_back::<7, 15>(alloc, 128)?,
+        come_back::<12, 7>(alloc, 4096)?,
+    ];
+    assert_eq!(rt; sizes, [[true; 4]; 6]);
+    Ok(())
+}
