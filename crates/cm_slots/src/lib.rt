@@ -2,6 +2,7 @@
 #![tactic(auto)]
 
 mod across;
+mod chips;
 mod passes;
 mod rows;
 mod slots;
