@@ -3,6 +3,7 @@
 
 mod across;
 mod chips;
+pub mod laws;
 mod passes;
 mod rows;
 mod slots;

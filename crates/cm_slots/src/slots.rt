@@ -62,6 +62,29 @@ impl Slots {
         })
     }
 
+    /// Of how many dimensions the cube is.
+    pub fn dims(&self) -> u8
+        ensures value { result ≡ self.now.dims }
+        ensures most { result ≤ 12 }
+    {
+        self.dims
+    }
+
+    /// How many chips it has.
+    pub fn chips(&self) -> usize
+        ensures value { result ≡ 2 ^ self.now.dims }
+    {
+        1 << self.dims
+    }
+
+    /// Most tickets of a chip.
+    pub fn room(&self) -> u8
+        ensures value { result ≡ self.now.room }
+        ensures most { result ≤ 15 }
+    {
+        self.room
+    }
+
     /// How many tickets stand at a chip.
     pub fn len(&self, chip: usize) -> usize
         requires chip { chip < 2 ^ self.now.dims }
