@@ -6,3 +6,5 @@ pub mod Numbers
 pub mod Tiles
 pub mod Runs
 pub mod Empty
+pub mod Changing
+pub mod Single

@@ -1,8 +1,10 @@
 -- Queues of which one leaves and one comes, whatever stands in them: cm_model's rule for a buffer. Ours.
-use Rattle.std.specs.Prelude.{ℕ, ◌-◌, ◌==◌, ◌++◌, Bool, List, length, Option, Some, None, if◌then◌else◌}
+use Rattle.std.specs.Prelude.{ℕ, ◌≡◌, ◌-◌, ◌==◌, ◌++◌, Bool, List, length, Option, Some, None, if◌then◌else◌}
 use Rattle.std.specs.List.{position}
 use Rattle.std.specs.Option.{option_or, option_to_list}
-use Rattle.cm_model.specs.Buffers.{element_at, without}
+use Rattle.cm_model.specs.declared.message.Message.{Message}
+use Rattle.cm_model.specs.Router.{has_to_cross}
+use Rattle.cm_model.specs.Buffers.{leaving_place, element_at, without}
 
 -- the place of the last, where there are as many as there is room for, else none
 abbrev pub last_of_full : {X : Type 0} → ℕ → List X → Option ℕ
@@ -23,3 +25,8 @@ stayers_of has_to_go room xs = without xs (place_of_leaver has_to_go room xs)
 -- what the step over a dimension makes of a queue: who stays, and behind them who comes
 abbrev pub after_exchange : {X : Type 0} → (X → Bool) → ℕ → List X → Option X → List X
 after_exchange has_to_go room xs coming = stayers_of has_to_go room xs ++ option_to_list coming
+
+-- of a queue of messages that leaves which leaves a buffer
+abbrev pub LeaversAreThoseOfBuffers : Type 0
+LeaversAreThoseOfBuffers =
+    (cap d : ℕ) (ms : List Message) → place_of_leaver (has_to_cross d) cap ms ≡ leaving_place cap d ms

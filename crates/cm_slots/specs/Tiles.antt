@@ -1,5 +1,5 @@
 -- Tiles: 64 chips that stand side by side, and what a dimension's two passes make of one. Ours.
-use Rattle.std.specs.Prelude.{ℕ, ◌-◌, ◌/◌, ◌%◌, ◌^◌, ◌<◌, ◌≤◌, ◌≡◌, ◌++◌, List, [], length, map, slice_index, slice_index_or, bit_xor}
+use Rattle.std.specs.Prelude.{ℕ, ◌-◌, ◌/◌, ◌%◌, ◌^◌, ◌<◌, ◌≤◌, ◌≡◌, ◌≢◌, ◌++◌, List, [], length, map, slice_index, slice_index_or, bit_xor}
 use Rattle.std.specs.List.{All}
 use Rattle.std.specs.Option.{unwrap_or}
 use Rattle.cm_model.specs.Array.{each_chip}
@@ -43,6 +43,20 @@ pub record HasTakenIn (room : ℕ) (coming : ℕ → ℕ) (old new : Tile) : Typ
   pub came : (i : ℕ) (numbers : List ℕ) → i < 64 → AreSlots (room - 1) (slot_behind old.rest i) numbers
       → AreSlots room (slots_of new i) (numbers ++ comers (coming i))
 
+-- this number is in one slot of one chip, and the others hold what they held
+pub record IsPut (place slot number : ℕ) (old new : Tile) : Type 0 where
+  pub shape : IsShaped new
+  pub here : slots_of new place slot ≡ number
+  pub earlier : (j : ℕ) → j < slot → slots_of new place j ≡ slots_of old place j
+  pub later : (j : ℕ) → slot < j → slots_of new place j ≡ slots_of old place j
+  pub others : (i j : ℕ) → i ≢ place → slots_of new i j ≡ slots_of old i j
+
+-- these stand at one chip now, and at the others who stood there
+pub record HasChanged (room place : ℕ) (numbers : List ℕ) (old new : Tile) : Type 0 where
+  pub shape : IsShaped new
+  pub here : AreSlots room (slots_of new place) numbers
+  pub others : (i j : ℕ) → i ≢ place → slots_of new i j ≡ slots_of old i j
+
 -- ---- tiles in a row: chip c stands at place c % 64 of tile c / 64
 
 -- what is read where there is no tile
@@ -85,6 +99,12 @@ pub record AreTiles (dims room : ℕ) (tiles : List Tile) (leaving : List (List 
   pub count : length tiles ≡ 2 ^ (dims - 6)
   pub rows : length leaving ≡ length tiles
   pub whole : All (IsTile room) tiles
+
+-- these tickets stand at one chip now, and at the others those that stood there
+pub record IsChanged (room chip : ℕ) (tickets : List Ticket) (old new : List Tile) : Type 0 where
+  pub whole : All (IsTile room) new
+  pub here : tickets_of room new chip ≡ tickets
+  pub others : (c : ℕ) → c / 64 < length old → c ≢ chip → tickets_of room new c ≡ tickets_of room old c
 
 -- so many tiles, all of whose slots are 0
 pub record AreEmpty (count : ℕ) (tiles : List Tile) : Type 0 where

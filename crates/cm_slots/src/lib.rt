@@ -2,6 +2,8 @@
 #![tactic(auto)]
 
 mod across;
+mod chips;
+pub mod laws;
 mod passes;
 mod rows;
 mod slots;

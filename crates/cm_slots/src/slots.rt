@@ -1,12 +1,16 @@
 //! The queues of a run of chips.
 
-ghost use Rattle.std.specs.Prelude.{◌≡◌, ◌^◌, ◌<◌, ◌≤◌, [], IfOk, bit_xor, length};
+ghost use Rattle.std.specs.Prelude.{◌≡◌, ◌^◌, ◌<◌, ◌≤◌, ◌++◌, [], ◌∷◌, IfOk, IsTrue, bit_xor, length, remove};
+ghost use Rattle.std.specs.Prelude.{slice_index_or, slice_set};
+ghost use Rattle.std.specs.List.{All};
 ghost use Rattle.cm_model.specs.Array.{each_chip, list_at};
 ghost use Rattle.cm_slots.specs.Tiles.{AreEmpty};
 ghost use Rattle.cm_slots.specs.Tickets.{queue_after_dimension, ticket_going};
 
+use crate::chips;
 use crate::passes::cross;
 use crate::rows::{Row, WIDTH};
+use crate::ticket::Ticket;
 use crate::tile::Tile;
 use cm_bits::NoMemory;
 use std::alloc::Global;
@@ -56,6 +60,76 @@ impl Slots {
             tiles,
             leaving,
         })
+    }
+
+    /// Of how many dimensions the cube is.
+    pub fn dims(&self) -> u8
+        ensures value { result ≡ self.now.dims }
+        ensures most { result ≤ 12 }
+    {
+        self.dims
+    }
+
+    /// How many chips it has.
+    pub fn chips(&self) -> usize
+        ensures value { result ≡ 2 ^ self.now.dims }
+    {
+        1 << self.dims
+    }
+
+    /// Most tickets of a chip.
+    pub fn room(&self) -> u8
+        ensures value { result ≡ self.now.room }
+        ensures most { result ≤ 15 }
+    {
+        self.room
+    }
+
+    /// How many tickets stand at a chip.
+    pub fn len(&self, chip: usize) -> usize
+        requires chip { chip < 2 ^ self.now.dims }
+        ensures value { result ≡ length (list_at self.now.tickets chip) }
+    {
+        chips::len(&self.tiles, usize::from(self.room), chip)
+    }
+
+    /// The ticket at a place of a chip, 0 the first that came.
+    pub fn ticket(&self, chip: usize, place: usize) -> Ticket
+        requires chip { chip < 2 ^ self.now.dims }
+        requires place { place < length (list_at self.now.tickets chip) }
+        ensures value { result ≡ slice_index_or (list_at self.now.tickets chip) place result }
+    {
+        chips::ticket(&self.tiles, usize::from(self.room), chip, place)
+    }
+
+    /// Takes in a ticket at a chip, where it stands last.
+    pub fn arrive(&mut self, chip: usize, ticket: Ticket)
+        requires chip { chip < 2 ^ self.old.dims }
+        requires rel { ticket.rel < 2 ^ 12 }
+        requires room { length (list_at self.old.tickets chip) < self.old.room }
+        ensures value { self.new ≡ record self.old {
+          tickets = slice_set self.old.tickets chip (list_at self.old.tickets chip ++ ticket ∷ []);
+        } }
+    {
+        chips::arrive(&mut self.tiles, usize::from(self.room), chip, ticket);
+    }
+
+    /// Takes out the ticket at a place of a chip; the later ones stand one place nearer the front.
+    pub fn remove(&mut self, chip: usize, place: usize)
+        requires chip { chip < 2 ^ self.old.dims }
+        requires place { place < length (list_at self.old.tickets chip) }
+        ensures value { self.new ≡ record self.old {
+          tickets = slice_set self.old.tickets chip (remove (list_at self.old.tickets chip) place);
+        } }
+    {
+        chips::remove(&mut self.tiles, usize::from(self.room), chip, place);
+    }
+
+    /// True only where no ticket stands at any chip.
+    pub fn is_quiet(&self) -> bool
+        ensures none { IsTrue result → All (λ ts. ts ≡ []) self.now.tickets }
+    {
+        chips::are_quiet(&self.tiles, usize::from(self.room))
     }
 
     /// The tickets cross a dimension: all leave before any comes.

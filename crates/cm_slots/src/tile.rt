@@ -1,8 +1,9 @@
 //! Tiles of chips.
 
-ghost use Rattle.std.specs.Prelude.{◌≡◌, ◌≢◌, ℕ, ◌<◌, ◌≤◌, true, length, slice_index};
+ghost use Rattle.std.specs.Prelude.{◌≡◌, ◌≢◌, ℕ, ◌<◌, ◌≤◌, ◌++◌, [], ◌∷◌, IsTrue, true, length, remove, slice_index};
 ghost use Rattle.cm_slots.specs.Slots.{is_taken};
-ghost use Rattle.cm_slots.specs.Tiles.{slots_of, IsShaped, IsTile, HasLeft, HasTakenIn};
+ghost use Rattle.cm_slots.specs.Tiles.{slots_of, standing_at, IsShaped, IsTile, HasLeft, HasTakenIn};
+ghost use Rattle.cm_slots.specs.Tiles.{IsPut, HasChanged};
 
 use crate::rows::{Row, WIDTH, is_blank, leave, take_in};
 
@@ -55,6 +56,83 @@ impl Tile {
         self.first = *coming;
         if !is_blank(coming) || !is_blank(&self.rest[0]) {
             take_in(&mut self.first, &mut self.rest[..], room - 1);
+        }
+    }
+
+    /// True only where no ticket stands: the first slots are filled first.
+    pub fn is_quiet(&self, room: usize) -> bool
+        requires whole { IsTile room self.now }
+        ensures none { IsTrue result → (i : ℕ) → i < 64 → standing_at room self.now i ≡ [] }
+    {
+        is_blank(&self.first)
+    }
+
+    /// How many tickets stand at a chip.
+    pub fn len(&self, room: usize, place: usize) -> usize
+        requires most { room ≤ 15 }
+        requires place { place < 64 }
+        requires whole { IsTile room self.now }
+        ensures value { result ≡ length (standing_at room self.now place) }
+    {
+        let mut len = 0;
+        while len < room && self.slot(place, len) != 0 {
+            len += 1;
+        }
+        len
+    }
+
+    /// What is in a slot of a chip.
+    pub fn slot(&self, place: usize, slot: usize) -> u32
+        requires place { place < 64 }
+        requires slot { slot < 15 }
+        requires shape { IsShaped self.now }
+        ensures value { result ≡ slots_of self.now place slot }
+    {
+        if slot == 0 {
+            self.first[place]
+        } else {
+            self.rest[slot - 1][place]
+        }
+    }
+
+    /// Puts a ticket's number behind those of a chip.
+    pub fn arrive(&mut self, room: usize, place: usize, number: u32)
+        requires most { room ≤ 15 }
+        requires place { place < 64 }
+        requires whole { IsTile room self.old }
+        requires space { length (standing_at room self.old place) < room }
+        requires taken { is_taken number ≡ true }
+        ensures value { HasChanged room place (standing_at room self.old place ++ number ∷ []) self.old self.new }
+    {
+        let len = self.len(room, place);
+        self.put(place, len, number);
+    }
+
+    /// Takes one out of a chip's slots; the later ones close up.
+    pub fn remove(&mut self, room: usize, place: usize, slot: usize)
+        requires most { room ≤ 15 }
+        requires place { place < 64 }
+        requires whole { IsTile room self.old }
+        requires there { slot < length (standing_at room self.old place) }
+        ensures value { HasChanged room place (remove (standing_at room self.old place) slot) self.old self.new }
+    {
+        for later in slot + 1..room {
+            let next = self.slot(place, later);
+            self.put(place, later - 1, next);
+        }
+        self.put(place, room - 1, 0);
+    }
+
+    fn put(&mut self, place: usize, slot: usize, number: u32)
+        requires place { place < 64 }
+        requires slot { slot < 15 }
+        requires shape { IsShaped self.old }
+        ensures value { IsPut place slot number self.old self.new }
+    {
+        if slot == 0 {
+            self.first[place] = number;
+        } else {
+            self.rest[slot - 1][place] = number;
         }
     }
 }
