@@ -26,6 +26,8 @@ pub enum RunFault {
     Clock,
     #[error("out of memory")]
     Memory,
+    #[error("a thread was not admitted or not started")]
+    NoThread,
 }
 
 impl From<NoMemory> for RunFault {
@@ -75,6 +77,7 @@ impl<const N: usize, const CAP: usize> Runner<N, CAP> for Plain {
         ensures no_cycles { cycles_in acts.now ≡ 0 → IsFalse (is_long acts.now) → IsOk result }
         ensures memory { IsErrOf result RunFault.Memory
             → LacksLogRoom (cycles_in acts.now * (4 + CAP)) machine.old.log_rooms }
+        ensures threads { ¬ IsErrOf result RunFault.NoThread }
         ensures ok { OnOk result (machine.new.machine ≡ run_of N CAP machine.old.machine acts.now) }
         ensures account { OnOk result (SameLines (account N machine.new.machine)
             (account N machine.old.machine ++ newly_injected N machine.old.machine machine.new.machine)) }

@@ -12,7 +12,7 @@ use crate::answers::{push_number, push_sense, push_word};
 use crate::desk::{Desk, Stops};
 use crate::stretch::{is_look, lacks_room, stretch_len};
 use crate::want::Want;
-use cm_array::{Machine, Runner};
+use cm_array::{Machine, RunFault, Runner};
 use cm_model::Act;
 use std::alloc::AllocError;
 
@@ -125,6 +125,7 @@ fn hand_over<const N: usize, const CAP: usize, R: Runner<N, CAP>>(
 {
     match runner.go(machine, acts) {
         Ok(()) => Ok(()),
+        Err(RunFault::NoThread) => Err(Want::Thread),
         Err(_) => Err(Want::Memory),
     }
 }
