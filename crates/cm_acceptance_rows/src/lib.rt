@@ -1,10 +1,13 @@
-//! Tests of rows of planes, of a run of chips beside single chips, and of the grid's row; it has no code of its own.
+//! Tests of rows of planes, of a run of chips beside single chips, of tickets beside plain lists, and of the grid's row;
+//! it has no code of its own.
 #![tactic(auto)]
 
 #[cfg(test)]
 mod grids;
 #[cfg(test)]
 mod laid;
+#[cfg(test)]
+mod queues;
 #[cfg(test)]
 mod runs;
 #[cfg(test)]

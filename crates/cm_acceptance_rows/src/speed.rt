@@ -4,6 +4,7 @@ use cm_bits::{Addr, Dir, FlagNo, NoMemory, Plane};
 use cm_element::{Run, takes_incoming};
 use cm_model::Nano;
 use cm_news::incoming_row;
+use cm_slots::{Slots, Ticket};
 use std::alloc::Global;
 use std::test::Fail;
 
@@ -122,6 +123,41 @@ fn looks(alloc: Global) -> Result<u32, Fail> {
         }
     }
     Ok(done)
+}
+
+// Three to seven tickets at each chip, where there is room for seven.
+fn filled(alloc: Global) -> Result<Slots, Fail> {
+    let mut slots = Slots::new(alloc, DIMS, 7)?;
+    for chip in 0..slots.chips() {
+        for i in 0..3 + chip % 5 {
+            let rel = ((chip * 2654435761 + i * 40503) >> 7 & 4095) as u16;
+            if chip < slots.chips() && rel < 4096 && slots.len(chip) < usize::from(slots.room()) {
+                slots.arrive(chip, Ticket { rel, number: 0 });
+            }
+        }
+    }
+    Ok(slots)
+}
+
+// The twelve dimensions, a hundredth as many times.
+fn dimensions(alloc: Global) -> Result<u32, Fail> {
+    let mut slots = filled(alloc)?;
+    let mut done = 0;
+    for i in 0..TIMES / 100 {
+        for dim in 0..DIMS {
+            if dim < slots.dims() {
+                slots.cross(dim);
+                done = i;
+            }
+        }
+    }
+    Ok(done)
+}
+
+#[test]
+fn tickets_cross_twelve_dimensions(rt: HostRuntime) -> Result<(), Fail> {
+    assert_eq!(rt; dimensions(rt.alloc())?, TIMES / 100 - 1);
+    Ok(())
 }
 
 #[test]
