@@ -5,17 +5,23 @@ use cm_line::{Line, LineFault, command};
 use std::alloc::Global;
 use std::test::Fail;
 
-/// The words of a command line that asks for one chip or for the listing of a file, or of a bad one.
+/// The words of a command line, with what it asks for, or of a bad one.
 enum Worded {
     Chip(&'static str, &'static [&'static str]),
     List(&'static str, &'static [&'static str], &'static str),
+    Fresh(&'static str, &'static [&'static str], (u8, u8), &'static str),
+    Run(&'static str, &'static [&'static str], (&'static str, &'static str), Option<&'static str>),
     Bad(&'static str, &'static [&'static str]),
 }
 
 impl Case for Worded {
     fn name(&self) -> &'static str {
         match *self {
-            Worded::Chip(name, _) | Worded::List(name, _, _) | Worded::Bad(name, _) => name,
+            Worded::Chip(name, _)
+            | Worded::List(name, _, _)
+            | Worded::Fresh(name, _, _, _)
+            | Worded::Run(name, _, _, _)
+            | Worded::Bad(name, _) => name,
         }
     }
 
@@ -23,6 +29,8 @@ impl Case for Worded {
         Ok(match *self {
             Worded::Chip(_, words) => command(alloc, words) == Ok(Line::Chip),
             Worded::List(_, words, file) => lists(alloc, words, file),
+            Worded::Fresh(_, words, sizes, file) => makes(alloc, words, sizes, file),
+            Worded::Run(_, words, files, out) => runs(alloc, words, files, out),
             Worded::Bad(_, words) => command(alloc, words) == Err(LineFault::BadLine),
         })
     }
@@ -36,7 +44,38 @@ fn lists(alloc: Global, words: &[&str], file: &str) -> bool {
     }
 }
 
-static WORDED: [Worded; 32] = [
+/// Whether the words ask for a blank machine of this dimension and room in this file.
+fn makes(alloc: Global, words: &[&str], sizes: (u8, u8), file: &str) -> bool {
+    match command(alloc, words) {
+        Ok(
+            Line::Fresh {
+                n,
+                cap,
+                file: named,
+            },
+        ) => (n, cap) == sizes && named.as_str() == file,
+        _ => false,
+    }
+}
+
+/// Whether the words ask for a session of an image and a program, and for what is left in this file, if any.
+fn runs(alloc: Global, words: &[&str], files: (&str, &str), out: Option<&str>) -> bool {
+    match command(alloc, words) {
+        Ok(
+            Line::Run {
+                image,
+                program,
+                out: left,
+            },
+        ) => {
+            let named = left.as_ref().map(|file| file.as_str());
+            (image.as_str(), program.as_str()) == files && named == out
+        }
+        _ => false,
+    }
+}
+
+static WORDED: [Worded; 62] = [
     Worded::Chip("the subcommand", &["cm1", "chip"]),
     Worded::Chip("a lone -- ends the words", &["cm1", "chip", "--"]),
     Worded::Bad("help", &["cm1", "help"]),
@@ -85,6 +124,101 @@ static WORDED: [Worded; 32] = [
     Worded::Bad(
         "a program before its subcommand",
         &["cm1", "sums.txt", "list"],
+    ),
+    Worded::Fresh(
+        "a blank machine",
+        &["cm1", "fresh", "12", "7", "a"],
+        (12, 7),
+        "a",
+    ),
+    Worded::Fresh(
+        "the least sizes",
+        &["cm1", "fresh", "0", "1", "a"],
+        (0, 1),
+        "a",
+    ),
+    Worded::Fresh(
+        "the greatest room, and a plus",
+        &["cm1", "fresh", "+3", "015", "a"],
+        (3, 15),
+        "a",
+    ),
+    Worded::Bad("a dimension above 12", &["cm1", "fresh", "13", "7", "a"]),
+    Worded::Bad("no room", &["cm1", "fresh", "3", "0", "a"]),
+    Worded::Bad("a room above 15", &["cm1", "fresh", "3", "16", "a"]),
+    Worded::Bad(
+        "a dimension that is no number",
+        &["cm1", "fresh", "0x3", "7", "a"],
+    ),
+    Worded::Bad("a number above 255", &["cm1", "fresh", "259", "7", "a"]),
+    Worded::Bad("no file", &["cm1", "fresh", "3", "7"]),
+    Worded::Bad(
+        "a fourth operand of fresh",
+        &["cm1", "fresh", "3", "7", "a", "b"],
+    ),
+    Worded::Bad(
+        "an option of fresh",
+        &["cm1", "fresh", "3", "7", "a", "--out", "b"],
+    ),
+    Worded::Run("a session", &["cm1", "run", "a", "p"], ("a", "p"), None),
+    Worded::Run(
+        "--out behind",
+        &["cm1", "run", "a", "p", "--out", "b"],
+        ("a", "p"),
+        Some("b"),
+    ),
+    Worded::Run(
+        "--out between",
+        &["cm1", "run", "a", "--out", "b", "p"],
+        ("a", "p"),
+        Some("b"),
+    ),
+    Worded::Run(
+        "--out before",
+        &["cm1", "run", "--out", "b", "a", "p"],
+        ("a", "p"),
+        Some("b"),
+    ),
+    Worded::Run(
+        "--out with an equals sign",
+        &["cm1", "run", "--out=b", "a", "p"],
+        ("a", "p"),
+        Some("b"),
+    ),
+    Worded::Run(
+        "the image's own file",
+        &["cm1", "run", "a", "p", "--out", "a"],
+        ("a", "p"),
+        Some("a"),
+    ),
+    Worded::Run(
+        "an equals sign in a name",
+        &["cm1", "run", "a", "p", "--out=b=c"],
+        ("a", "p"),
+        Some("b=c"),
+    ),
+    Worded::Run(
+        "a lone -- before --out",
+        &["cm1", "run", "a", "--", "--out"],
+        ("a", "--out"),
+        None,
+    ),
+    Worded::Bad("an image alone", &["cm1", "run", "a"]),
+    Worded::Bad("an image and --out", &["cm1", "run", "a", "--out", "b"]),
+    Worded::Bad("no operand of run", &["cm1", "run"]),
+    Worded::Bad("a third operand of run", &["cm1", "run", "a", "p", "b"]),
+    Worded::Bad(
+        "--out twice",
+        &["cm1", "run", "a", "p", "--out", "b", "--out", "c"],
+    ),
+    Worded::Bad("--out without a file", &["cm1", "run", "a", "p", "--out"]),
+    Worded::Bad("the front of --out", &["cm1", "run", "a", "p", "--ou", "b"]),
+    Worded::Bad("--split", &["cm1", "run", "a", "p", "--split", "1"]),
+    Worded::Bad("--workers", &["cm1", "run", "a", "p", "--workers", "1"]),
+    Worded::Bad("help on run", &["cm1", "run", "--help"]),
+    Worded::Bad(
+        "an option before run",
+        &["cm1", "--out", "b", "run", "a", "p"],
     ),
     Worded::Bad("no subcommand", &["cm1"]),
     Worded::Bad("no word at all", &[]),
