@@ -4,4 +4,6 @@
 #[cfg(test)]
 mod reader;
 #[cfg(test)]
+mod refusing;
+#[cfg(test)]
 mod sessions;
