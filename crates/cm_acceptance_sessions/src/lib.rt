@@ -8,4 +8,6 @@ mod gallery;
 #[cfg(test)]
 mod reader;
 #[cfg(test)]
+mod refusing;
+#[cfg(test)]
 mod sessions;

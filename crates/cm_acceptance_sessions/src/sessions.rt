@@ -2,7 +2,8 @@
 
 ghost use Rattle.std.specs.Prelude.{◌<◌, ◌^◌};
 
-use cm_array::{Builder, Plain};
+use crate::refusing::{Lack, Refusing};
+use cm_array::{Builder, Plain, Runner};
 use cm_asm::assemble;
 use cm_bits::doubles::{Bytes, Room};
 use cm_debug::{SessionFault, session};
@@ -35,7 +36,7 @@ const LAST: u64 = u64::MAX >> 1;
 /// The machine, a program text, commands, and what they are answered.
 pub(crate) type Row = (Start, &'static [u8], &'static [u8], &'static [u8]);
 
-const ANSWERED: [Row; 22] = [
+const ANSWERED: [Row; 23] = [
     // a program without acts
     (Start::OneChip, b"", b"run\n", b"end\n"),
     // a carry out of eight bits
@@ -60,6 +61,14 @@ const ANSWERED: [Row; 22] = [
             pokeflag 0 5 3 1\npokeflag 0 6 3 1\npokeflag 0 7 3 1\nrun\nfield 0 0 0 8\nflag 0 0 7\n\
             field 0 8 0 8\nflag 0 8 7\n",
         b"ok\nok\nok\nok\nok\nok\nok\nok\nend\nfield 7\nflag 1\nfield 10\nflag 0\n",
+    ),
+    // other numbers in other processors, and a condition that holds in one of them
+    (
+        Start::OneChip,
+        b"field x 0 8\nfield y 8 8\nconst y 3\nif 3\nsub x y\n",
+        b"poke 0 0 3 1\npoke 0 1 2 1\npokeflag 0 0 3 1\nrun\nfield 0 0 0 8\nflag 0 0 7\nfield 0 1 0 8\n\
+            flag 0 1 7\n",
+        b"ok\nok\nok\nend\nfield 5\nflag 1\nfield 4\nflag 0\n",
     ),
     // a message to the other chip
     (
@@ -246,12 +255,14 @@ struct Told<'a> {
 }
 
 /// What was written, and how the session ended; nothing where the text is refused.
-fn played<const N: usize, const CAP: usize>(
+fn played<const N: usize, const CAP: usize, R: Runner<N, CAP>>(
     alloc: Global,
     clock: u64,
     told: Told<'_>,
+    runner: &mut R,
 ) -> Option<(Room, Result<(), SessionFault>)>
     requires clock { clock < 2 ^ 63 }
+    requires runner { R.ready }
 {
     let program = assemble(alloc, told.text).ok()?;
     let mut machine = Builder::<N, CAP>::start(alloc, clock).ok()?.done().ok()?;
@@ -263,7 +274,7 @@ fn played<const N: usize, const CAP: usize>(
         &program,
         &mut commands,
         &mut answers,
-        &mut Plain,
+        runner,
     );
     Some((answers, end))
 }
@@ -278,7 +289,7 @@ fn ends_so<const N: usize, const CAP: usize>(
 ) -> bool
     requires clock { clock < 2 ^ 63 }
 {
-    match played::<N, CAP>(alloc, clock, told) {
+    match played::<N, CAP, Plain>(alloc, clock, told, &mut Plain) {
         Some((answers, ended)) => answers.taken() == wanted && ended == end,
         None => false,
     }
@@ -324,6 +335,61 @@ fn faults_of_reading_and_writing_end_a_session(rt: HostRuntime) {
             ends_so::<0, 7>(rt.alloc(), 0, told, wanted, end),
             "in row {i}"
         );
+    }
+}
+
+/// With the same program: how many lists of acts the runner runs before it lacks something, what it lacks, the commands,
+/// what was written, and how the session ended.
+const REFUSED: [(usize, Lack, &[u8], &[u8], Result<(), SessionFault>); 6] = [
+    (0, Lack::Thread, b"run\n", b"", Err(SessionFault::NoThread)),
+    (0, Lack::Memory, b"run\n", b"", Err(SessionFault::Memory)),
+    // lines before are answered
+    (
+        0,
+        Lack::Thread,
+        b"flag 0 0 7\nstep\n",
+        b"flag 0\n",
+        Err(SessionFault::NoThread),
+    ),
+    (
+        2,
+        Lack::Thread,
+        b"step\nflag 0 0 7\nstep\nstep\n",
+        b"at 1\nflag 0\nat 2\n",
+        Err(SessionFault::NoThread),
+    ),
+    (
+        1,
+        Lack::Memory,
+        b"step\nrun\nrun\n",
+        b"at 1\n",
+        Err(SessionFault::Memory),
+    ),
+    // where no act is run, no runner is asked
+    (
+        0,
+        Lack::Thread,
+        b"flag 0 0 7\npoke 0 0 0 1\n",
+        b"flag 0\nok\n",
+        Ok(()),
+    ),
+];
+
+#[test]
+fn what_a_runner_lacks_ends_a_session(rt: HostRuntime) {
+    for (i, (left, lack, commands, wanted, end)) in REFUSED.into_iter().enumerate() {
+        let told = Told {
+            text: SUM,
+            commands,
+            good: usize::MAX,
+            room: 100,
+        };
+        let mut runner = Refusing::new(rt.alloc(), left, lack);
+        let is_so = match played::<0, 7, Refusing>(rt.alloc(), 0, told, &mut runner) {
+            Some((answers, ended)) => answers.taken() == wanted && ended == end,
+            None => false,
+        };
+        assert!(rt; is_so, "in row {i}");
     }
 }
 
