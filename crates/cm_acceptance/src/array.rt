@@ -155,13 +155,17 @@ fn the_dimension_is_refused_before_the_room(rt: HostRuntime) {
     assert_eq!(rt; faults, wanted);
 }
 
-const RUN_FAULTS: [(RunFault, &str); 3] = [
+const RUN_FAULTS: [(RunFault, &str); 4] = [
     (
         RunFault::Long,
         "more than 4,096 acts or 64 petit cycles in one stretch",
     ),
     (RunFault::Clock, "more than 2^63 - 1 petit cycles in all"),
     (RunFault::Memory, "out of memory"),
+    (
+        RunFault::NoThread,
+        "a thread was not admitted or not started",
+    ),
 ];
 
 const MACHINE_FAULTS: [(MachineFault, &str); 3] = [

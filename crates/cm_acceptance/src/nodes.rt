@@ -9,7 +9,7 @@ use crate::nodes::Turn::{
 };
 use crate::scenario::{At, Letter, To};
 use cm_bits::{Field, FlagNo, Plane, Proc};
-use cm_element::Chip;
+use cm_element::Run;
 use cm_message::{Event, Message};
 use cm_router::Node;
 use std::alloc::Global;
@@ -201,21 +201,24 @@ impl Case {
     }
 }
 
-/// A node and its chip, of which nothing is told from turn to turn.
+/// The place of the node's chip in a run of two.
+const AT: u16 = 1;
+
+/// A node and the run of its chip, of which nothing is told from turn to turn.
 #[derive(Drop)]
 struct Stage {
     node: Node,
-    chip: Chip,
+    run: Run,
     dims: u8,
 }
 
 impl Stage {
-    /// An empty node with room for so many messages, 1 to 15, and a blank chip.
+    /// An empty node with room for so many messages, 1 to 15, and blank chips.
     fn blank(alloc: Global, room: u8, dims: u8) -> Result<Stage, Fail> {
-        let chip = Chip::blank(alloc)?;
+        let run = Run::blank(alloc, 2)?;
         Ok(Stage {
             node: Node::new(room.max(1).min(15)),
-            chip,
+            run,
             dims: dims.min(12),
         })
     }
@@ -246,16 +249,16 @@ impl Stage {
         let Some(sender) = Proc::new(sender) else {
             return false;
         };
-        put(&mut self.chip, sender, 3968, 16, u64::from(rel))
-            && put(&mut self.chip, sender, 3984, 4, u64::from(receiver))
-            && put(&mut self.chip, sender, 3988, 32, u64::from(payload))
+        put(&mut self.run, sender, 3968, 16, u64::from(rel))
+            && put(&mut self.run, sender, 3984, 4, u64::from(receiver))
+            && put(&mut self.run, sender, 3988, 32, u64::from(payload))
             && self.pokes(SEND, 1 << sender.get())
     }
 
     fn pokes(&mut self, number: u8, plane: Plane) -> bool {
         match FlagNo::new(number) {
-            Some(number) if number.get() != 8 => {
-                self.chip.poke_flag_plane(number, plane);
+            Some(number) if number.get() != 8 && self.run.chips() > usize::from(AT) => {
+                self.run.poke_flag_plane(AT, number, plane);
                 true
             }
             _ => false,
@@ -279,20 +282,30 @@ impl Stage {
     fn injects(&mut self, alloc: Global, birth: u64, letters: &[Letter]) -> Result<bool, Fail> {
         let mut log = Vec::with_capacity(alloc, 4)?;
         let dims = self.dims.min(12);
+        if self.run.chips() <= usize::from(AT) {
+            return Ok(false);
+        }
         self.node
-            .inject(&mut self.chip, HERE, dims, birth, &mut log);
+            .inject(&mut self.run, AT, HERE, dims, birth, &mut log);
         Ok(tell(&log, false, letters))
     }
 
     fn delivers(&mut self, alloc: Global, letters: &[Letter]) -> Result<bool, Fail> {
         let mut log = Vec::with_capacity(alloc, 15)?;
         let _ = self.node.is_full();
-        self.node.deliver(&mut self.chip, HERE, &mut log);
+        if self.run.chips() <= usize::from(AT) {
+            return Ok(false);
+        }
+        self.node.deliver(&mut self.run, AT, HERE, &mut log);
         Ok(tell(&log, true, letters))
     }
 
     /// Whether what a turn tells is seen.
     fn shows(&self, turn: Turn) -> bool {
+        if self.run.chips() <= usize::from(AT) {
+            return false;
+        }
+        let chip = self.run.view(AT);
         match turn {
             Turn::Full(full) => self.node.is_full() == full,
             Turn::Count(count) => self.node.messages().len() == count,
@@ -301,11 +314,11 @@ impl Stage {
                 None => false,
             },
             Turn::Flag(number, plane) => match FlagNo::new(number) {
-                Some(number) => self.chip.flag_plane(number) == plane,
+                Some(number) => chip.flag_plane(number) == plane,
                 None => false,
             },
             Turn::Payload(proc, payload) => match (Proc::new(proc), Field::new(4032, 32)) {
-                (Some(proc), Ok(field)) => self.chip.field(proc, field) == u64::from(payload),
+                (Some(proc), Ok(field)) => chip.field(proc, field) == u64::from(payload),
                 _ => false,
             },
             _ => false,
@@ -314,13 +327,13 @@ impl Stage {
 }
 
 /// Puts a number into a field of one processor.
-fn put(chip: &mut Chip, proc: Proc, at: u16, len: u16, number: u64) -> bool {
+fn put(run: &mut Run, proc: Proc, at: u16, len: u16, number: u64) -> bool {
     match Field::new(at, len) {
-        Ok(field) => {
-            chip.poke_field(proc, field, number);
+        Ok(field) if run.chips() > usize::from(AT) => {
+            run.poke_field(AT, proc, field, number);
             true
         }
-        Err(_) => false,
+        _ => false,
     }
 }
 

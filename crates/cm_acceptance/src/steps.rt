@@ -71,7 +71,7 @@ impl Step {
             Step::Flag(chip, number, plane) => trial.has_flag(chip, number, plane, chips),
             Step::News10(chip, plane) => trial.has_only(chip, plane, chips),
             Step::Wire(bit) => trial.machine.wire() == bit,
-            Step::Drives(chip, bit) => chip < chips && chip_or(trial.machine.chip(chip)) == bit,
+            Step::Drives(chip, bit) => chip < chips && chip_or(&trial.machine.chip(chip)) == bit,
         }
     }
 }

@@ -8,6 +8,8 @@ mod chips;
 #[cfg(test)]
 mod command_lines;
 #[cfg(test)]
+mod examples;
+#[cfg(test)]
 mod fields;
 #[cfg(test)]
 mod grids;

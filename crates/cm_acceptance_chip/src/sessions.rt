@@ -1,6 +1,10 @@
 //! Sessions of one chip, from bytes to bytes.
 
 use crate::cases::{Case, first_not_so};
+use crate::examples::{
+    DAISY_CHAIN_ANSWERS, DAISY_CHAIN_PROGRAM, FULL_ADDER_ANSWERS, FULL_ADDER_PROGRAM,
+    TORUS_ANSWERS, TORUS_PROGRAM,
+};
 use cm_bits::doubles::{Bytes, Room};
 use cm_cli::{AsmFault, AsmKind, ChipFault, chip_session};
 use std::alloc::{AllocError, Global};
@@ -92,7 +96,7 @@ impl Case for Accepted {
 static FULL_ADDER: &[u8] =
     b"nano 0 0 8 0 8 0 0xff 0xff n\nnano 0 1 0 7 8 0 0x96 0xe8 n\nnano 5 0 7 8 8 0 0xaa 0x00 n\n";
 
-static ANSWERED: [Accepted; 7] = [
+static ANSWERED: [Accepted; 5] = [
     Accepted {
         name: "a full adder leaves its carry in flag 7",
         text: b"nano 0 0 8 0 8 0 0xff 0xff n\nnano 0 1 0 7 8 0 0x96 0xe8 n\nnano 5 0 7 8 8 0 0xaa 0x00 n\n",
@@ -125,18 +129,38 @@ static ANSWERED: [Accepted; 7] = [
         flags: &[],
         memory: "plane 4095 ffff\n",
     },
-    Accepted {
-        name: "the chain moves a mark from processor to processor",
-        text: b"nano 0 0 8 11 8 0 0xf0 0xff n\nnano 0 0 11 0 8 0 0xf0 0x55 n\nnano 0 0 0 11 8 0 0xf0 0xaa n\nnano 0 0 11 11 8 0 0xf0 0xaa n\n",
-        flags: &[(0, "0001"), (11, "0004")],
-        memory: "",
-    },
-    Accepted {
-        name: "a mark goes round the torus of one chip",
-        text: b"nano 0 0 8 11 8 0 0xf0 0xff n\nnano 0 0 11 0 8 0 0xf0 0x55 n\nnano 0 0 0 10 8 0 0xf0 0xaa w\nnano 0 0 10 10 8 0 0xf0 0xaa n\nnano 0 0 10 8 8 0 0xaa 0x00 n\n",
-        flags: &[(0, "0001"), (10, "8000"), (11, "fffe")],
-        memory: "plane 0 8000\n",
-    },
+];
+
+/// A text of the folder `examples`, and its answers.
+struct Example(&'static str, &'static [u8], &'static [u8]);
+
+impl Case for Example {
+    fn name(&self) -> &'static str {
+        self.0
+    }
+
+    fn is_so(&self, alloc: Global) -> Result<bool, Fail> {
+        let Example(_, text, answers) = *self;
+        Ok(Ends::whole(text).run(alloc)?.is(Ok(()), answers))
+    }
+}
+
+static EXAMPLES: [Example; 3] = [
+    Example(
+        "a full adder leaves its carry in flag 7, and that in memory",
+        FULL_ADDER_PROGRAM,
+        FULL_ADDER_ANSWERS,
+    ),
+    Example(
+        "the chain moves a mark from processor to processor",
+        DAISY_CHAIN_PROGRAM,
+        DAISY_CHAIN_ANSWERS,
+    ),
+    Example(
+        "a mark goes round the torus of one chip",
+        TORUS_PROGRAM,
+        TORUS_ANSWERS,
+    ),
 ];
 
 /// A text that leaves 1 in flag 0 of all processors, and nothing else.
@@ -447,6 +471,7 @@ fn tells_a_refused_growth(ended: &Ended) -> bool {
 
 #[test]
 fn texts_have_their_answers(rt: HostRuntime) -> Result<(), Fail> {
+    assert_eq!(rt; first_not_so(rt.alloc(), &EXAMPLES)?, None);
     assert_eq!(rt; first_not_so(rt.alloc(), &ANSWERED)?, None);
     assert_eq!(rt; first_not_so(rt.alloc(), &SPELLED)?, None);
     Ok(())

@@ -2,13 +2,13 @@
 
 use crate::cases::{Case, first_not_so};
 use crate::numbers::{flag, processor};
-use cm_element::Chip;
+use cm_element::Run;
 use cm_wire::{chip_or, wire};
 use std::alloc::Global;
 use std::test::Fail;
 
 /// One flag of one processor of two chips, and what each of them gives to the wire.
-struct Driven(&'static str, usize, u8, u8, [bool; 2]);
+struct Driven(&'static str, u16, u8, u8, [bool; 2]);
 
 impl Case for Driven {
     fn name(&self) -> &'static str {
@@ -17,16 +17,15 @@ impl Case for Driven {
 
     fn is_so(&self, alloc: Global) -> Result<bool, Fail> {
         let Driven(_, at, proc, number, ors) = *self;
-        let mut chips = [Chip::blank(alloc)?, Chip::blank(alloc)?];
-        if wire(&chips) {
+        let mut run = Run::blank(alloc, 2)?;
+        if run.chips() != 2 || at >= 2 || wire(&run) {
             return Ok(false);
         }
-        let Some(chip) = chips.get_mut(at) else {
-            return Ok(false);
-        };
-        chip.poke_flag(processor(proc)?, flag(number)?, true)?;
-        let is_so = chip_or(&chips[0]) == ors[0] && chip_or(&chips[1]) == ors[1];
-        Ok(is_so && wire(&chips) == (ors[0] || ors[1]))
+        run.poke_flag(at, processor(proc)?, flag(number)?, true)?;
+        let is_so = run.chips() == 2
+            && chip_or(&run.view(0)) == ors[0]
+            && chip_or(&run.view(1)) == ors[1];
+        Ok(is_so && wire(&run) == (ors[0] || ors[1]))
     }
 }
 
@@ -56,6 +55,7 @@ fn one_processor_drives_the_wire(rt: HostRuntime) -> Result<(), Fail> {
 }
 
 #[test]
-fn no_chip_leaves_the_wire_at_0(rt: HostRuntime) {
-    assert!(rt; !wire(&[]));
+fn no_chip_leaves_the_wire_at_0(rt: HostRuntime) -> Result<(), Fail> {
+    assert!(rt; !wire(&Run::blank(rt.alloc(), 0)?));
+    Ok(())
 }

@@ -5,7 +5,7 @@ ghost use Rattle.std.specs.Prelude.{◌<◌};
 use crate::draws::Draws;
 use cm_array::{Machine, MachineFault, Plain, Runner};
 use cm_bits::{Addr, Field, FlagNo, Proc};
-use cm_element::Chip;
+use cm_element::ChipView;
 use cm_language::{Context, Macro};
 use cm_macros::expand;
 use std::alloc::Global;
@@ -42,7 +42,7 @@ fn drawn_machine(alloc: Global, seed: u32) -> Result<Machine<0, 7>, MachineFault
 }
 
 /// The number in a field.
-fn value(chip: &Chip, number: u8, field: Field) -> u64 {
+fn value(chip: &ChipView<'_>, number: u8, field: Field) -> u64 {
     let mut sum = 0u64;
     for i in 0..field.len() {
         let bit = chip.read(processor(number), address(field.at() + i));
@@ -104,7 +104,7 @@ fn sum(d: Field, a: u64, b: u64) -> Outcome {
 }
 
 /// The outcome of a macro in whole numbers.
-fn wanted_outcome(wanted: &Macro, before: &Chip, number: u8) -> Outcome {
+fn wanted_outcome(wanted: &Macro, before: &ChipView<'_>, number: u8) -> Outcome {
     match *wanted {
         Macro::Add(d, s) => sum(d, value(before, number, d), value(before, number, s)),
         Macro::Sub(d, s) => {
@@ -167,7 +167,7 @@ impl Outcome {
     }
 }
 
-fn is_selected(context: Context, chip: &Chip, number: u8) -> bool {
+fn is_selected(context: Context, chip: &ChipView<'_>, number: u8) -> bool {
     match context {
         Context::Always => true,
         Context::On(f) => chip.flag(processor(number), f),
@@ -176,7 +176,13 @@ fn is_selected(context: Context, chip: &Chip, number: u8) -> bool {
 }
 
 /// All memory bits and flags of one processor are as they should be.
-fn is_right_in(wanted: &Macro, context: Context, before: &Chip, after: &Chip, number: u8) -> bool {
+fn is_right_in(
+    wanted: &Macro,
+    context: Context,
+    before: &ChipView<'_>,
+    after: &ChipView<'_>,
+    number: u8,
+) -> bool {
     let outcome = if is_selected(context, before, number) {
         wanted_outcome(wanted, before, number)
     } else {
@@ -259,7 +265,7 @@ fn goes_right(alloc: Global, seed: u32) -> Result<bool, Fail> {
     expand(&wanted, context, &mut list)?;
     Plain.go(&mut after, list.as_slice())?;
     let (before, after) = (before.chip(0), after.chip(0));
-    Ok((0..16u8).all(|number| is_right_in(&wanted, context, before, after, number)))
+    Ok((0..16u8).all(|number| is_right_in(&wanted, context, &before, &after, number)))
 }
 
 #[test]

@@ -78,11 +78,14 @@ fn cross(alloc: Global, lists: &mut Vec<List>, room: usize, dim: u8) -> Result<(
 }
 
 fn is_same(slots: &Slots, chip: usize, list: &List) -> bool {
-    if chip >= slots.chips() || slots.len(chip) != list.len() {
+    if chip >= slots.chips()
+        || slots.len(chip) != list.len()
+        || slots.ticket(chip, list.len()).is_some()
+    {
         return false;
     }
     for place in 0..list.len() {
-        if slots.ticket(chip, place) != list[place] {
+        if slots.ticket(chip, place) != Some(list[place]) {
             return false;
         }
     }
@@ -98,17 +101,40 @@ fn are_same(slots: &Slots, lists: &[List]) -> bool {
     true
 }
 
-// A drawn ticket comes, if there is room for it.
-fn arrive(slots: &mut Slots, chip: usize, list: &mut List, seed: u64) -> Result<(), Fail> {
-    let ticket = Ticket {
-        rel: (seed >> 20 & ((1 << slots.dims()) - 1)) as u16,
+fn drawn(seed: u64) -> Ticket {
+    Ticket {
+        rel: (seed >> 20 & 65535) as u16,
         number: (seed >> 40 & 65535) as u16,
-    };
-    if chip < slots.chips() && ticket.rel < 4096 && slots.len(chip) < usize::from(slots.room()) {
+    }
+}
+
+// A drawn ticket comes, if there is room for it.
+fn arrive(
+    slots: &mut Slots,
+    room: usize,
+    chip: usize,
+    list: &mut List,
+    seed: u64,
+) -> Result<(), Fail> {
+    let ticket = drawn(seed);
+    if chip < slots.chips() && ticket.number < 65535 && slots.len(chip) < room.min(15) {
         slots.arrive(chip, ticket);
         list.push(ticket)?;
     }
     Ok(())
+}
+
+fn replace(slots: &mut Slots, chip: usize, list: &mut List, seed: u64) {
+    let place = (seed >> 36 & 15) as usize;
+    let ticket = drawn(seed);
+    if chip < slots.chips()
+        && ticket.number < 65535
+        && place < slots.len(chip)
+        && let Some(there) = list.get_mut(place)
+    {
+        slots.replace(chip, place, ticket);
+        *there = ticket;
+    }
 }
 
 fn remove(slots: &mut Slots, chip: usize, list: &mut List, seed: u64) {
@@ -119,44 +145,65 @@ fn remove(slots: &mut Slots, chip: usize, list: &mut List, seed: u64) {
     }
 }
 
-// Some come to each chip, and one may be taken out.
-fn change(slots: &mut Slots, lists: &mut Vec<List>, most: u64, seed: u64) -> Result<u64, Fail> {
+// Some come to each chip, one may be replaced, and one may be taken out.
+fn change(
+    slots: &mut Slots,
+    room: usize,
+    lists: &mut Vec<List>,
+    most: u64,
+    seed: u64,
+) -> Result<u64, Fail> {
     let mut seed = seed;
     for chip in 0..lists.len() {
         if let Some(list) = lists.get_mut(chip) {
             seed = next(seed);
             for _i in 0..(seed >> 33) % most.max(1) + 1 {
                 seed = next(seed);
-                arrive(slots, chip, list, seed)?;
+                arrive(slots, room, chip, list, seed)?;
             }
+            replace(slots, chip, list, seed);
             remove(slots, chip, list, seed);
         }
     }
     Ok(seed)
 }
 
+// The tickets cross, where the chips span so many dimensions and none has more than there is room for.
+fn cross_slots(slots: &mut Slots, span: u8, room: u8, dim: u8) {
+    if span <= 12
+        && slots.chips() == 1 << span
+        && 0 < room
+        && room <= 15
+        && dim < span
+        && slots.is_within(usize::from(room))
+    {
+        slots.cross(span, room, dim);
+    }
+}
+
 // Whether the tickets of all chips stand as the lists do after each step.
 fn go_alike(alloc: Global, case: (u8, u8, u64, u64)) -> Result<bool, Fail> {
     let (dims, room, most, seed) = case;
-    if dims > 12 || room == 0 || room > 15 {
+    let most_there = usize::from(room);
+    let chips = 1 << (dims & 15);
+    if chips > 4096 {
         return Ok(false);
     }
-    let mut slots = Slots::new(alloc, dims, room)?;
-    let mut lists = lists(alloc, slots.chips())?;
+    let mut slots = Slots::new(alloc, chips)?;
+    let mut lists = lists(alloc, chips)?;
     let mut seed = seed;
-    let mut alike = slots.is_quiet() && are_same(&slots, &lists);
+    let mut alike = slots.is_within(0) && are_same(&slots, &lists);
     for _round in 0..ROUNDS {
-        seed = change(&mut slots, &mut lists, most, seed)?;
+        seed = change(&mut slots, most_there, &mut lists, most, seed)?;
         alike = alike && are_same(&slots, &lists);
         for dim in 0..dims {
-            if dim < slots.dims() {
-                slots.cross(dim);
-            }
-            cross(alloc, &mut lists, usize::from(room), dim)?;
+            cross_slots(&mut slots, dims, room, dim);
+            cross(alloc, &mut lists, most_there, dim)?;
             alike = alike && are_same(&slots, &lists);
         }
+        alike = alike && are_same(&slots.copy(alloc)?, &lists);
     }
-    Ok(alike && !slots.is_quiet())
+    Ok(alike && !slots.is_within(0))
 }
 
 #[test]

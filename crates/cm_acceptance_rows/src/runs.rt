@@ -3,7 +3,7 @@
 use cm_bits::{Addr, Dir, Field, FlagNo, NoMemory, Plane, Proc};
 use cm_element::{Chip, Run, WideOutputs, takes_incoming};
 use cm_model::Nano;
-use cm_wire::{run, wire};
+use cm_wire::wire;
 use std::alloc::Global;
 use std::test::Fail;
 
@@ -172,7 +172,7 @@ impl Beside {
                 return false;
             }
         }
-        self.chips.len() == self.run.chips() && run::wire(&self.run) == wire(&self.chips)
+        self.chips.len() == self.run.chips() && wire(&self.run) == any_drives(&self.chips)
     }
 }
 
@@ -182,6 +182,11 @@ fn turn(row: &mut [Plane], sent: &[Plane], turned: Plane) {
             row[c] = sent[c] ^ turned;
         }
     }
+}
+
+/// Whether flag GLOBAL is 1 in some processor.
+fn any_drives(chips: &[Chip]) -> bool {
+    chips.iter().any(|chip| chip.has_flag(FlagNo::GLOBAL))
 }
 
 fn step_chips(chips: &mut [Chip], nano: &Nano, incoming: &[Plane]) {

@@ -12,6 +12,8 @@ const CHIPS: u16 = 4096;
 
 const DIMS: u8 = 12;
 
+const ROOM: usize = 7;
+
 const TIMES: u32 = 200_000;
 
 // The macros' tables for memory and flag, and the flag that is written.
@@ -127,11 +129,11 @@ fn looks(alloc: Global) -> Result<u32, Fail> {
 
 // Three to seven tickets at each chip, where there is room for seven.
 fn filled(alloc: Global) -> Result<Slots, Fail> {
-    let mut slots = Slots::new(alloc, DIMS, 7)?;
+    let mut slots = Slots::new(alloc, usize::from(CHIPS))?;
     for chip in 0..slots.chips() {
         for i in 0..3 + chip % 5 {
             let rel = ((chip * 2654435761 + i * 40503) >> 7 & 4095) as u16;
-            if chip < slots.chips() && rel < 4096 && slots.len(chip) < usize::from(slots.room()) {
+            if chip < slots.chips() && slots.len(chip) < ROOM {
                 slots.arrive(chip, Ticket { rel, number: 0 });
             }
         }
@@ -139,14 +141,14 @@ fn filled(alloc: Global) -> Result<Slots, Fail> {
     Ok(slots)
 }
 
-// The twelve dimensions, a hundredth as many times.
+// The twelve dimensions, a hundredth as many times, with a look before each whether all are within the room.
 fn dimensions(alloc: Global) -> Result<u32, Fail> {
     let mut slots = filled(alloc)?;
     let mut done = 0;
     for i in 0..TIMES / 100 {
         for dim in 0..DIMS {
-            if dim < slots.dims() {
-                slots.cross(dim);
+            if slots.chips() == 4096 && slots.is_within(ROOM) {
+                slots.cross(DIMS, 7, dim);
                 done = i;
             }
         }

@@ -11,3 +11,5 @@ mod reader;
 mod refusing;
 #[cfg(test)]
 mod sessions;
+#[cfg(test)]
+mod speed;

@@ -24,7 +24,7 @@ impl Lack {
     }
 }
 
-/// Runs so many lists of acts as the plain runner does, and then no more.
+/// Runs so many lists of acts as the plain runner does, refuses one, and runs all that follow.
 #[derive(Drop)]
 pub(crate) struct Refusing {
     alloc: Global,
@@ -41,6 +41,8 @@ impl Refusing {
 impl<const N: usize, const CAP: usize> Runner<N, CAP> for Refusing {
     ghost ready = { Unit {0} };
 
+    ghost may_want_thread = { Unit {0} };
+
     fn go(&mut self, machine: &mut Machine<N, CAP>, acts: &[Act]) -> Result<(), RunFault> {
         let Ok(before) = machine.copy(self.alloc) else {
             return Plain.go(machine, acts);
@@ -48,6 +50,7 @@ impl<const N: usize, const CAP: usize> Runner<N, CAP> for Refusing {
         Plain.go(machine, acts)?;
         if self.left == 0 && !acts.is_empty() {
             *machine = before;
+            self.left = usize::MAX;
             return Err(self.lack.fault());
         }
         self.left = self.left.saturating_sub(1);

@@ -340,7 +340,7 @@ fn faults_of_reading_and_writing_end_a_session(rt: HostRuntime) {
 
 /// With the same program: how many lists of acts the runner runs before it lacks something, what it lacks, the commands,
 /// what was written, and how the session ended.
-const REFUSED: [(usize, Lack, &[u8], &[u8], Result<(), SessionFault>); 6] = [
+const REFUSED: [(usize, Lack, &[u8], &[u8], Result<(), SessionFault>); 8] = [
     (0, Lack::Thread, b"run\n", b"", Err(SessionFault::NoThread)),
     (0, Lack::Memory, b"run\n", b"", Err(SessionFault::Memory)),
     // lines before are answered
@@ -364,6 +364,15 @@ const REFUSED: [(usize, Lack, &[u8], &[u8], Result<(), SessionFault>); 6] = [
         b"step\nrun\nrun\n",
         b"at 1\n",
         Err(SessionFault::Memory),
+    ),
+    // acts within which nothing is told and no breakpoint stands are one list
+    (1, Lack::Thread, b"run\n", b"end\n", Ok(())),
+    (
+        2,
+        Lack::Thread,
+        b"break 16\nwire on\nrun\nrun\n",
+        b"break 16\nwire on\nat 16\nend\n",
+        Ok(()),
     ),
     // where no act is run, no runner is asked
     (
@@ -421,18 +430,54 @@ fn commands_have_1048576_bytes_at_most(rt: HostRuntime) -> Result<(), Fail> {
     Ok(())
 }
 
+/// A line of a program, how often it stands there, commands and what they are answered.
+const REPEATED: [(&[u8], usize, &[u8], &[u8]); 2] = [
+    // more petit cycles than a runner takes at once
+    (b"cycle\n", 130, b"run\nevents 0\n", b"end\nevents 0\n"),
+    // more acts
+    (
+        b"nano 0 0 8 0 8 0 0xff 0xff n\n",
+        5000,
+        b"run\nfield 0 0 0 1\n",
+        b"end\nfield 1\n",
+    ),
+];
+
 #[test]
-fn more_petit_cycles_are_run_than_a_runner_takes(rt: HostRuntime) -> Result<(), Fail> {
-    let mut text = Vec::new(rt.alloc());
-    for _ in 0..130 {
-        text.extend_from_slice(b"cycle\n")?;
+fn more_is_run_than_a_runner_takes_at_once(rt: HostRuntime) -> Result<(), Fail> {
+    for (i, (line, count, commands, wanted)) in REPEATED.into_iter().enumerate() {
+        let mut text = Vec::new(rt.alloc());
+        for _ in 0..count {
+            text.extend_from_slice(line)?;
+        }
+        let told = Told {
+            text: text.as_slice(),
+            commands,
+            good: usize::MAX,
+            room: 100,
+        };
+        assert!(rt;
+            ends_so::<0, 7>(rt.alloc(), 0, told, wanted, Ok(())),
+            "in row {i}"
+        );
     }
+    Ok(())
+}
+
+#[test]
+fn a_line_of_commands_may_be_long(rt: HostRuntime) -> Result<(), Fail> {
+    let mut commands = Vec::new(rt.alloc());
+    commands.extend_from_slice(b"run ;")?;
+    for _ in 0..100000 {
+        commands.push(b'x')?;
+    }
+    commands.extend_from_slice(b"\nwire show\n")?;
     let told = Told {
-        text: text.as_slice(),
-        commands: b"run\nevents 0\n",
+        text: SUM,
+        commands: commands.as_slice(),
         good: usize::MAX,
         room: 100,
     };
-    assert!(rt; ends_so::<0, 7>(rt.alloc(), 0, told, b"end\nevents 0\n", Ok(())));
+    assert!(rt; ends_so::<0, 7>(rt.alloc(), 0, told, b"end\nwire 0\n", Ok(())));
     Ok(())
 }

@@ -1,15 +1,14 @@
 -- A machine that is being built stays one.
-use Rattle.std.proofs.Common.{◌≡◌, ℕ, ◌^◌, ◌+◌, ◌<◌, ◌≤◌, List, [], ◌∷◌, ◌++◌, false, length, get_or, set, refl, sym, ap, ◌∙◌, subst, arith}
-use Rattle.std.proofs.lemmas.List.{get_or_read, length-set, length-append}
+use Rattle.std.proofs.Common.{◌≡◌, ℕ, ◌^◌, ◌+◌, ◌<◌, ◌≤◌, List, [], ◌∷◌, ◌++◌, false, length, set, refl, sym, ap, ◌∙◌, subst, arith}
+use Rattle.std.proofs.lemmas.List.{length-set, length-append}
 use Rattle.std.proofs.lemmas.List.Elements.{All-nil, All-cons, All-append}
 use Rattle.std.specs.List.{All}
 use Rattle.std.specs.Prelude.{IsTrue}
-use Rattle.std.specs.Vec.{with_item}
 use Rattle.cm_model.specs.declared.message.Message.{Message}
 use Rattle.cm_model.specs.declared.message.Event.{Event}
 use Rattle.cm_model.specs.Processor.{Processor}
 use Rattle.cm_model.specs.Whole.{IsChip}
-use Rattle.cm_model.specs.Array.{list_at}
+use Rattle.cm_model.specs.Array.{Chips, chip_at, list_at}
 use Rattle.cm_model.specs.Machine.{Machine, blank_machine}
 use Rattle.cm_model.specs.Keeping.{IsMachine, IsMessage, IsEventOf}
 use Rattle.cm_model.specs.Unlogged.{IsUnlogged, standing_messages, has_tag_twice}
@@ -54,37 +53,30 @@ AreUnfinished-blank n cap clock parts h is = record {
   dimension = h.dimension;
   some_room = h.some_room;
   most_room = h.most_room;
-  output_count = h.output_count;
   sent_count = h.sent_count;
+  incoming_count = h.incoming_count;
   clock = h.clock;
   machine = subst (λ (m : Machine). IsUnfinished n cap m) (sym is) (IsUnfinished-blank n cap clock);
 }
 
 -- ---- another chip
 
--- a chip that was read is whole
-pub unfinished_chip_is_whole : (n cap : ℕ) (parts : Parts) (i : ℕ) (chip : List Processor) → AreUnfinished n cap parts
-    → i < 2 ^ n → chip ≡ get_or parts.chips.items i chip → IsChip chip
-unfinished_chip_is_whole n cap parts i chip h below is =
-    let inside : i < length parts.chips.items = omega (arith, h.machine.chip_count) in
-    subst (λ (c : List Processor). IsChip c) (sym (get_or_read parts.chips.items i chip inside is []))
-    (h.machine.whole i below)
-
 -- with another whole chip in its place
-pub AreUnfinished-with_chip : (n cap : ℕ) (parts : Parts) (i : ℕ) (chip : List Processor) → IsChip chip
-    → AreUnfinished n cap parts → AreUnfinished n cap (record parts { chips = with_item parts.chips i chip })
-AreUnfinished-with_chip n cap parts i chip whole h = record {
+pub AreUnfinished-with_chip : (n cap : ℕ) (parts : Parts) (run : Chips) (i : ℕ) (chip : List Processor) → IsChip chip
+    → run ≡ set parts.run i chip → AreUnfinished n cap parts → AreUnfinished n cap (record parts { run = run })
+AreUnfinished-with_chip n cap parts run i chip whole is h = record {
   dimension = h.dimension;
   some_room = h.some_room;
   most_room = h.most_room;
-  output_count = h.output_count;
   sent_count = h.sent_count;
+  incoming_count = h.incoming_count;
   clock = h.clock;
   machine = record {
-    chip_count = length-set parts.chips.items i chip ∙ h.machine.chip_count;
+    chip_count = ap length is ∙ length-set parts.run i chip ∙ h.machine.chip_count;
     buffer_count = h.machine.buffer_count;
-    whole = each_after_set (λ (c : List Processor). IsChip c) parts.chips.items [] i chip
-        (2 ^ n) h.machine.chip_count h.machine.whole whole;
+    whole = subst (λ (chips : Chips). (c : ℕ) → c < 2 ^ n → IsChip (chip_at chips c)) (sym is)
+        (each_after_set (λ (c : List Processor). IsChip c) parts.run [] i chip
+        (2 ^ n) h.machine.chip_count h.machine.whole whole);
     room = h.machine.room;
     messages = h.machine.messages;
     born = h.machine.born;
@@ -126,7 +118,7 @@ pub machine_of-with_message : (parts : Parts) (i : ℕ) (crossing : UnderWay) (m
     → crossing.buffers ≡ set parts.crossing.buffers i (list_at parts.crossing.buffers i ++ m ∷ [])
     → machine_of (record parts { crossing = crossing }) ≡ machine_with_message (machine_of parts) i m
 machine_of-with_message parts i crossing m is =
-    λ j. record { chips = parts.chips.items; buffers = is j; logs = (machine_of parts).logs; clock = parts.clock }
+    λ j. record { chips = parts.run; buffers = is j; logs = (machine_of parts).logs; clock = parts.clock }
 
 pub AreUnfinished-with_message : (n cap : ℕ) (parts : Parts) (i : ℕ) (crossing : UnderWay) (m : Message)
     → AreUnfinished n cap parts → i < 2 ^ n
@@ -138,8 +130,8 @@ AreUnfinished-with_message n cap parts i crossing m h below is room message born
   dimension = h.dimension;
   some_room = h.some_room;
   most_room = h.most_room;
-  output_count = h.output_count;
   sent_count = h.sent_count;
+  incoming_count = h.incoming_count;
   clock = h.clock;
   machine = subst (λ (machine : Machine). IsUnfinished n cap machine)
       (sym (machine_of-with_message parts i crossing m is))
@@ -176,8 +168,8 @@ AreParts-finished n cap parts crossing h same gathered apart = record {
   dimension = h.dimension;
   some_room = h.some_room;
   most_room = h.most_room;
-  output_count = h.output_count;
   sent_count = h.sent_count;
+  incoming_count = h.incoming_count;
   clock = h.clock;
   gathered = gathered;
   machine = subst (λ (m : Machine). IsMachine n cap m) (sym (machine_of-gathered parts crossing same))

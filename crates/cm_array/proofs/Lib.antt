@@ -1,6 +1,5 @@
 mod Lists
-mod Computing
-mod Storing
+mod Instructing
 mod Wholes
 mod Searching
 mod Rooms

@@ -1,5 +1,5 @@
 -- A machine of which a bit was poked is a machine, with the same account.
-use Rattle.std.proofs.Common.{◌≡◌, ◌≢◌, ℕ, ◌<◌, ◌^◌, Bool, List, [], set, refl, ◌∙◌}
+use Rattle.std.proofs.Common.{◌≢◌, ℕ, ◌<◌, ◌^◌, Bool, List, [], set, refl, ◌∙◌}
 use Rattle.std.proofs.lemmas.List.{length-set}
 use Rattle.cm_model.specs.Processor.{Processor, ZERO}
 use Rattle.cm_model.specs.Chip.{with_memory_bit, with_flag}

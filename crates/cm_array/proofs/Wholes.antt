@@ -1,5 +1,5 @@
 -- A poke keeps a chip whole, and so does a plane that is put there.
-use Rattle.std.proofs.Common.{◌≡◌, ◌≢◌, ℕ, ◌<◌, Bool, true, false, List, set, sym, ◌∙◌, subst, arith, ⊎_elim, get_or-set_other, Result, Ok, Err, IsErr, OnOk, OnErr, ◌↔◌, ◌≤◌}
+use Rattle.std.proofs.Common.{◌≡◌, ◌≢◌, ℕ, ◌<◌, Bool, false, List, set, sym, ◌∙◌, subst, arith, ⊎_elim, get_or-set_other, ◌≤◌}
 use Rattle.std.proofs.lemmas.Bool.{cases_lt}
 use Rattle.std.proofs.lemmas.List.{length-set, set_past}
 use Rattle.cm_model.specs.Processor.{Processor}
@@ -27,10 +27,6 @@ IsChip-with_memory_bit chip p at b h =
     with_processor chip p (record (processor_at chip p) { memory = set (processor_at chip p).memory at b }) h
     (λ l. record { memory = length-set (processor_at chip p).memory at b ∙ (h.each p l).memory; flags = (h.each p l).flags; zero = (h.each p l).zero })
 
--- a chip of which a memory bit was put
-pub IsChip-poked_bit : (chip next : List Processor) (p at : ℕ) (b : Bool) → next ≡ with_memory_bit chip p at b → IsChip chip → IsChip next
-IsChip-poked_bit chip next p at b is h = subst (λ (c : List Processor). IsChip c) (sym is) (IsChip-with_memory_bit chip p at b h)
-
 -- a chip with another flag, but not flag 8
 pub IsChip-with_flag : (chip : List Processor) (p number : ℕ) (b : Bool) → (number ≡ 8 → ⊥) → IsChip chip → IsChip (with_flag chip p number b)
 unfolding with_flag
@@ -42,12 +38,6 @@ IsChip-with_flag chip p number b other h =
       zero = get_or-set_other (processor_at chip p).flags number 8 b false (λ e. other (sym e)) ∙ (h.each p l).zero;
     })
 
--- a chip of which a flag was put, or not
-pub IsChip-poked_flag : {X Y : Type 0} (result : Result X Y) (chip next : List Processor) (p number : ℕ) (b : Bool)
-    → (IsErr result ↔ (number ≡ 8)) → OnOk result (next ≡ with_flag chip p number b) → OnErr result (next ≡ chip) → IsChip chip → IsChip next
-IsChip-poked_flag (Ok x) chip next p number b refused ok err h = subst (λ (c : List Processor). IsChip c) (sym ok) (IsChip-with_flag chip p number b (λ e. let wrong : false ≡ true = refused.1 e in cc) h)
-IsChip-poked_flag (Err y) chip next p number b refused ok err h = subst (λ (c : List Processor). IsChip c) (sym err) h
-
 -- ---- planes
 
 -- a chip of whole processors
@@ -58,17 +48,14 @@ IsChip-each f whole = record {
 }
 
 -- a chip with another plane at an address
-IsChip-with_memory_plane : (chip : List Processor) (at : ℕ) (plane : ℕ → Bool) → IsChip chip → IsChip (with_memory_plane chip at plane)
+pub IsChip-with_memory_plane : (chip : List Processor) (at : ℕ) (plane : ℕ → Bool) → IsChip chip → IsChip (with_memory_plane chip at plane)
 unfolding with_memory_plane
 IsChip-with_memory_plane chip at plane h =
     IsChip-each (λ p. record (processor_at chip p) { memory = set (processor_at chip p).memory at (plane p) })
     (λ p l. record { memory = length-set (processor_at chip p).memory at (plane p) ∙ (h.each p l).memory; flags = (h.each p l).flags; zero = (h.each p l).zero })
 
-pub IsChip-put_plane : (chip next : List Processor) (at : ℕ) (plane : ℕ → Bool) → next ≡ with_memory_plane chip at plane → IsChip chip → IsChip next
-IsChip-put_plane chip next at plane is h = subst (λ (c : List Processor). IsChip c) (sym is) (IsChip-with_memory_plane chip at plane h)
-
 -- a chip with another plane in a flag, but not in flag 8
-IsChip-with_flag_plane : (chip : List Processor) (number : ℕ) (plane : ℕ → Bool) → number ≢ 8 → IsChip chip → IsChip (with_flag_plane chip number plane)
+pub IsChip-with_flag_plane : (chip : List Processor) (number : ℕ) (plane : ℕ → Bool) → number ≢ 8 → IsChip chip → IsChip (with_flag_plane chip number plane)
 unfolding with_flag_plane
 IsChip-with_flag_plane chip number plane other h =
     IsChip-each (λ p. record (processor_at chip p) { flags = set (processor_at chip p).flags number (plane p) })
@@ -77,6 +64,3 @@ IsChip-with_flag_plane chip number plane other h =
       flags = length-set (processor_at chip p).flags number (plane p) ∙ (h.each p l).flags;
       zero = get_or-set_other (processor_at chip p).flags number 8 (plane p) false (λ e. other (sym e)) ∙ (h.each p l).zero;
     })
-
-pub IsChip-put_flag_plane : (chip next : List Processor) (number : ℕ) (plane : ℕ → Bool) → next ≡ with_flag_plane chip number plane → number ≢ 8 → IsChip chip → IsChip next
-IsChip-put_flag_plane chip next number plane is other h = subst (λ (c : List Processor). IsChip c) (sym is) (IsChip-with_flag_plane chip number plane other h)

@@ -24,7 +24,7 @@ pub record AreUnfinished (n cap : ℕ) (parts : Parts) : Type 0 where
   pub dimension : n ≤ 12
   pub some_room : 1 ≤ cap
   pub most_room : cap ≤ 15
-  pub output_count : length parts.outputs.items ≡ 2 ^ n
   pub sent_count : length parts.sent.items ≡ 2 ^ n
+  pub incoming_count : length parts.incoming.items ≡ 2 ^ n
   pub clock : parts.clock < 2 ^ 63
   pub machine : IsUnfinished n cap (machine_of parts)

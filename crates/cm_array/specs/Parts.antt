@@ -7,7 +7,7 @@ use Rattle.cm_array.specs.declared.parts.Parts.{Parts}
 
 -- the machine that the parts are
 abbrev pub machine_of : Parts → Machine
-machine_of parts = machine_from parts.chips.items parts.crossing.buffers parts.logs.items parts.clock
+machine_of parts = machine_from parts.run parts.crossing.buffers parts.logs.items parts.clock
 
 -- how many events more each log takes before it has to grow
 abbrev pub log_rooms_of : List Log → List ℕ
@@ -28,20 +28,14 @@ pub record LacksLogRoom (count : ℕ) (log_rooms : List ℕ) : Type 0 where
   pub is_chip : chip < length log_rooms
   pub few : slice_index log_rooms chip < count
 
--- a dimension of a cube, and how many messages a router has room for
-pub record AreSizes (n cap : ℕ) : Type 0 where
-  pub dimension : n ≤ 12
-  pub some_room : 1 ≤ cap
-  pub most_room : cap ≤ 15
-
 -- sizes within bounds, a place in each row of working room for each chip, and a machine:
 -- so between two acts, when the messages of a chip may be kept anywhere
 pub record AreUnderWay (n cap : ℕ) (parts : Parts) : Type 0 where
   pub dimension : n ≤ 12
   pub some_room : 1 ≤ cap
   pub most_room : cap ≤ 15
-  pub output_count : length parts.outputs.items ≡ 2 ^ n
   pub sent_count : length parts.sent.items ≡ 2 ^ n
+  pub incoming_count : length parts.incoming.items ≡ 2 ^ n
   pub clock : parts.clock < 2 ^ 63
   pub machine : IsMachine n cap (machine_of parts)
 
@@ -50,8 +44,8 @@ pub record AreParts (n cap : ℕ) (parts : Parts) : Type 0 where
   pub dimension : n ≤ 12
   pub some_room : 1 ≤ cap
   pub most_room : cap ≤ 15
-  pub output_count : length parts.outputs.items ≡ 2 ^ n
   pub sent_count : length parts.sent.items ≡ 2 ^ n
+  pub incoming_count : length parts.incoming.items ≡ 2 ^ n
   pub clock : parts.clock < 2 ^ 63
   pub gathered : IsTrue parts.crossing.gathered
   pub machine : IsMachine n cap (machine_of parts)

@@ -1,19 +1,21 @@
 //! A machine that is built of planes and messages.
 
-ghost use Rattle.std.specs.Prelude.{◌≡◌, ◌≢◌, ◌^◌, ◌<◌, ◌≤◌, ◌↔◌, IfOk, IfErr, IfSome, IsErrOf, IsOk, IsOkUnless, IsTrue, None, Some, length};
+ghost use Rattle.std.specs.Prelude.{◌≡◌, ◌≢◌, ◌^◌, ◌<◌, ◌≤◌, ◌↔◌, IfOk, IfErr, IfSome, IsErrOf, IsOk};
+ghost use Rattle.std.specs.Prelude.{IsOkUnless, IsTrue, None, Some, length};
 ghost use Rattle.cm_model.specs.Processor.{ZERO};
 ghost use Rattle.cm_model.specs.Array.{list_at};
 ghost use Rattle.cm_model.specs.Machine.{blank_machine};
-ghost use Rattle.cm_model.specs.Keeping.{IsMessage};
+ghost use Rattle.cm_model.specs.Keeping.{IsMessage, AreSizes};
 ghost use Rattle.cm_array.specs.Faults.{size_fault, build_fault};
-ghost use Rattle.cm_array.specs.Parts.{AreSizes};
 ghost use Rattle.cm_array.specs.Pokes.{machine_with_plane, machine_with_flag_plane, machine_with_message};
 
 use crate::machine::{Machine, MachineFault};
 use crate::parts::Parts;
 use crate::tags::has_tag_twice;
 use cm_bits::{Addr, FlagNo, NoMemory, Plane};
-use cm_message::Message;
+use cm_crossing::Crossing;
+use cm_element::NearRun;
+use cm_message::{Event, Message};
 use std::alloc::Global;
 use std::marker::Model;
 use thiserror::Error;
@@ -44,7 +46,12 @@ impl From<NoMemory> for BuildFault {
 /// Contracts see the machine that it is so far.
 #[derive(Debug, Drop)]
 pub struct Builder<const N: usize, const CAP: usize> {
-    parts: Parts,
+    run: NearRun,
+    logs: Vec<Vec<Event>>,
+    clock: u64,
+    sent: Vec<Plane>,
+    incoming: Vec<Plane>,
+    crossing: Crossing,
 }
 
 impl<const N: usize, const CAP: usize> Model for Builder<N, CAP> {
@@ -54,9 +61,23 @@ impl<const N: usize, const CAP: usize> Model for Builder<N, CAP> {
 
     ghost Value = { Machine };
 
-    ghost view = { λ builder. machine_of builder.parts };
+    ghost view = { λ builder. machine_of (record {
+      run = builder.run;
+      logs = builder.logs;
+      clock = builder.clock;
+      sent = builder.sent;
+      incoming = builder.incoming;
+      crossing = builder.crossing;
+    }) };
 
-    ghost invariant = { λ builder. AreUnfinished N CAP builder.parts };
+    ghost invariant = { λ builder. AreUnfinished N CAP (record {
+      run = builder.run;
+      logs = builder.logs;
+      clock = builder.clock;
+      sent = builder.sent;
+      incoming = builder.incoming;
+      crossing = builder.crossing;
+    }) };
 }
 
 impl<const N: usize, const CAP: usize> Builder<N, CAP> {
@@ -70,7 +91,15 @@ impl<const N: usize, const CAP: usize> Builder<N, CAP> {
     {
         let machine = Machine::<N, CAP>::blank_at(alloc, clock)?;
         let parts = machine.into_parts();
-        Ok(Builder { parts })
+        let near = NearRun::of(alloc, parts.run, 1 << N)?;
+        Ok(Builder {
+            run: near,
+            logs: parts.logs,
+            clock: parts.clock,
+            sent: parts.sent,
+            incoming: parts.incoming,
+            crossing: parts.crossing,
+        })
     }
 
     /// Petit cycles so far, before which each message has to be born.
@@ -78,7 +107,7 @@ impl<const N: usize, const CAP: usize> Builder<N, CAP> {
         ensures value { result ≡ self.now.clock }
         ensures within { result < 2 ^ 63 }
     {
-        self.parts.clock
+        self.clock
     }
 
     /// Whether a chip's router has no room for another message.
@@ -86,7 +115,7 @@ impl<const N: usize, const CAP: usize> Builder<N, CAP> {
         requires chip { chip < 2 ^ N }
         ensures value { IsTrue result ↔ (CAP ≤ length (list_at self.now.buffers chip)) }
     {
-        self.parts.crossing.len(usize::from(chip)) >= CAP
+        self.crossing.len(usize::from(chip)) >= CAP
     }
 
     /// Puts a plane at an address of a chip: bit p is that of processor p.
@@ -94,8 +123,7 @@ impl<const N: usize, const CAP: usize> Builder<N, CAP> {
         requires chip { chip < 2 ^ N }
         ensures value { self.new ≡ machine_with_plane self.old chip at plane }
     {
-        let changed = &mut self.parts.chips[usize::from(chip)];
-        changed.poke_plane(at, plane);
+        self.run.poke_plane(chip, at, plane);
     }
 
     /// Puts a plane into a flag of a chip, but not into flag 8.
@@ -104,8 +132,7 @@ impl<const N: usize, const CAP: usize> Builder<N, CAP> {
         requires other { number ≢ ZERO }
         ensures value { self.new ≡ machine_with_flag_plane self.old chip number plane }
     {
-        let changed = &mut self.parts.chips[usize::from(chip)];
-        changed.poke_flag_plane(number, plane);
+        self.run.poke_flag_plane(chip, number, plane);
     }
 
     /// Puts a message behind those that stand in a chip's router.
@@ -118,7 +145,7 @@ impl<const N: usize, const CAP: usize> Builder<N, CAP> {
         ensures value { self.new ≡ machine_with_message self.old chip message }
     {
         look_at::<N>(&message);
-        self.parts.crossing.arrive(usize::from(chip), message);
+        self.crossing.arrive(usize::from(chip), message);
     }
 
     /// The machine that was built, if no two of its messages have one tag.
@@ -127,7 +154,14 @@ impl<const N: usize, const CAP: usize> Builder<N, CAP> {
         ensures ok { IsOk result → build_fault self.entry ≡ None }
         ensures refused { IfErr result (λ fault. fault ≢ BuildFault.Memory → build_fault self.entry ≡ Some fault) }
     {
-        let mut parts = self.parts;
+        let mut parts = Parts {
+            run: self.run.into_run(),
+            logs: self.logs,
+            clock: self.clock,
+            sent: self.sent,
+            incoming: self.incoming,
+            crossing: self.crossing,
+        };
         parts.crossing.gather();
         let alloc = *parts.logs.allocator();
         if has_tag_twice(alloc, &parts.crossing)? {

@@ -14,3 +14,4 @@ pub use builder::{BuildFault, Builder};
 pub use machine::{Machine, MachineFault};
 pub use poke_laws::{flag_pokes_keep_machines, pokes_keep_machines};
 pub use runner::{Plain, RunFault, Runner};
+pub use stepping::step;

@@ -1,24 +1,24 @@
 //! A machine of 2^N chips.
 
-ghost use Rattle.std.specs.Prelude.{◌≡◌, ◌+◌, ◌*◌, ◌^◌, ◌<◌, ◌≤◌, ◌↔◌, IfOk, IfSome, IsErr, IsErrOf, IsOk, IsOkUnless, OnOk, OnErr, None};
-ghost use Rattle.cm_model.specs.Processor.{ZERO};
+ghost use Rattle.std.specs.Prelude.{◌≡◌, ◌+◌, ◌*◌, ◌^◌, ◌<◌, ◌≤◌, ◌↔◌, ℕ, IfOk, IfSome, IsErr, IsErrOf, IsOk};
+ghost use Rattle.std.specs.Prelude.{IsOkUnless, OnOk, OnErr, None, length, slice_index};
+ghost use Rattle.cm_model.specs.Processor.{ZERO, memory_bit};
+ghost use Rattle.cm_model.specs.Chip.{IsPlane, processor_at};
 ghost use Rattle.cm_model.specs.Array.{chip_at, wire, list_at};
 ghost use Rattle.cm_model.specs.Machine.{blank_machine, run_of};
 ghost use Rattle.cm_model.specs.Found.{found_in, IsWhereabouts};
-ghost use Rattle.cm_model.specs.Keeping.{IsMachine};
+ghost use Rattle.cm_model.specs.Keeping.{IsMachine, AreSizes};
+ghost use Rattle.cm_element.specs.Laid.{AreLaid};
 ghost use Rattle.cm_array.specs.Acts.{cycles_in};
 ghost use Rattle.cm_array.specs.Faults.{size_fault};
-ghost use Rattle.cm_array.specs.Parts.{kept_of, AreParts, AreSizes, LacksLogRoom};
+ghost use Rattle.cm_array.specs.Parts.{kept_of, AreParts, LacksLogRoom};
 ghost use Rattle.cm_array.specs.Pokes.{machine_with_memory_bit, machine_with_flag};
 
 use crate::finding::{delivered_to, router_of};
-use crate::parts::{
-    Parts, blank_chips, blank_logs, blank_outputs, blank_planes, copied_chips, copied_logs,
-    reserve, run,
-};
-use cm_bits::{Addr, FlagNo, NoMemory, Proc};
-use cm_crossing::Crossing;
-use cm_element::{Chip, ZeroFlag};
+use crate::parts::{Parts, blank_logs, blank_planes, copied_logs, reserve, run};
+use cm_bits::{Addr, FlagNo, NoMemory, Plane, Proc};
+use cm_crossing::{Crossing, Sizes};
+use cm_element::{ChipView, Run, ZeroFlag};
 use cm_message::{Event, Message, Tag};
 use cm_model::{Act, Found};
 use std::alloc::Global;
@@ -98,18 +98,18 @@ impl<const N: usize, const CAP: usize> Machine<N, CAP> {
             return Err(MachineFault::Cap);
         }
         let count = Self::chip_count();
-        let chips = blank_chips(alloc, count)?;
+        let run = Run::blank(alloc, count as u16)?;
         let logs = blank_logs(alloc, count)?;
-        let outputs = blank_outputs(alloc, count)?;
         let sent = blank_planes(alloc, count)?;
+        let incoming = blank_planes(alloc, count)?;
         let crossing = Crossing::new(alloc, count)?;
         Ok(Machine {
             parts: Parts {
-                chips,
+                run,
                 logs,
                 clock,
-                outputs,
                 sent,
+                incoming,
                 crossing,
             },
         })
@@ -135,31 +135,50 @@ impl<const N: usize, const CAP: usize> Machine<N, CAP> {
     pub fn copy(&self, alloc: Global) -> Result<Self, NoMemory>
         ensures value { IfOk result (λ kept. kept.machine ≡ self.now.machine) }
     {
-        let count = self.parts.chips.len();
-        let chips = copied_chips(alloc, &self.parts.chips)?;
+        let count = self.parts.run.chips();
+        let run = self.parts.run.copy(alloc)?;
         let logs = copied_logs(alloc, &self.parts.logs)?;
-        let outputs = blank_outputs(alloc, count)?;
         let sent = blank_planes(alloc, count)?;
+        let incoming = blank_planes(alloc, count)?;
         let crossing = self.parts.crossing.copy(alloc)?;
         Ok(Machine {
             parts: Parts {
-                chips,
+                run,
                 logs,
                 clock: self.parts.clock,
-                outputs,
                 sent,
+                incoming,
                 crossing,
             },
         })
     }
 
     /// The chip of that number, to be read.
-    pub fn chip(&self, number: u16) -> &Chip
+    pub fn chip(&self, number: u16) -> ChipView<'_>
         requires number { number < 2 ^ N }
-        ensures value { result.now ≡ chip_at self.now.machine.chips number }
+        ensures value { result ≡ chip_at self.now.machine.chips number }
         ensures whole { IsMachine N CAP self.now.machine }
     {
-        &self.parts.chips[usize::from(number)]
+        self.parts.run.view(number)
+    }
+
+    /// The bits of all processors at an address, a plane for each chip in order.
+    pub fn plane_row(&self, at: Addr) -> &[Plane]
+        ensures count { length result.now ≡ 2 ^ N }
+        ensures value { (c : ℕ) → c < 2 ^ N → IsPlane (slice_index result.now c)
+            (λ p. memory_bit (processor_at (chip_at self.now.machine.chips c) p) at) }
+    {
+        self.parts.run.plane_row(at)
+    }
+
+    /// Copies so many chips, from `first` on, to the front of a run: there the planes of a chip lie nearer to
+    /// each other.
+    pub fn lay_out(&self, first: u16, count: u16, to: &mut Run)
+        requires there { first + count ≤ 2 ^ N }
+        requires room { count ≤ length to.old }
+        ensures value { AreLaid 0 first count self.now.machine.chips to.old to.new }
+    {
+        to.lay(0, &self.parts.run, first, count);
     }
 
     /// The messages that stand in a chip's router, in order of arrival.
@@ -210,7 +229,7 @@ impl<const N: usize, const CAP: usize> Machine<N, CAP> {
         ensures value { result ≡ wire self.now.machine.chips }
         ensures whole { IsMachine N CAP self.now.machine }
     {
-        cm_wire::wire(&self.parts.chips)
+        cm_wire::wire(&self.parts.run)
     }
 
     /// Puts a bit into the memory of one processor.
@@ -219,8 +238,7 @@ impl<const N: usize, const CAP: usize> Machine<N, CAP> {
         ensures value { self.new
             ≡ record self.old { machine = machine_with_memory_bit self.old.machine chip proc at bit } }
     {
-        let poked = &mut self.parts.chips[usize::from(chip)];
-        poked.poke(proc, at, bit);
+        self.parts.run.poke(chip, proc, at, bit);
     }
 
     /// Puts a bit into a flag of one processor, but not into flag 8.
@@ -237,8 +255,7 @@ impl<const N: usize, const CAP: usize> Machine<N, CAP> {
             ≡ record self.old { machine = machine_with_flag self.old.machine chip proc number bit }) }
         ensures err { OnErr result (self.new ≡ self.old) }
     {
-        let chip = &mut self.parts.chips[usize::from(chip)];
-        chip.poke_flag(proc, number, bit)
+        self.parts.run.poke_flag(chip, proc, number, bit)
     }
 
     fn chip_count() -> usize
@@ -246,6 +263,20 @@ impl<const N: usize, const CAP: usize> Machine<N, CAP> {
         ensures value { result ≡ 2 ^ N }
     {
         1 << N
+    }
+
+    /// The sizes of a whole machine.
+    fn sizes() -> Sizes
+        requires sizes { AreSizes N CAP }
+        ensures dims { result.dims ≡ N }
+        ensures span { result.span ≡ N }
+        ensures room { result.room ≡ CAP }
+    {
+        Sizes {
+            dims: N as u8,
+            span: N as u8,
+            room: CAP as u8,
+        }
     }
 
     /// Runs acts, so many of them petit cycles, one after another, or none of them.
@@ -259,7 +290,7 @@ impl<const N: usize, const CAP: usize> Machine<N, CAP> {
         ensures err { OnErr result (self.new.machine ≡ self.old.machine) }
     {
         reserve(&mut self.parts.logs, cycles * (MOST_INJECTED + CAP))?;
-        run::<N, CAP>(&mut self.parts, acts);
+        run(Self::sizes(), &mut self.parts, acts);
         Ok(())
     }
 }

@@ -1,7 +1,6 @@
 //! What a machine is kept as, and what acts do to it.
 
 ghost use Rattle.std.specs.Prelude.{◌≡◌, ◌+◌, ◌*◌, ◌/◌, ◌^◌, ◌<◌, ◌≤◌, [], ◌∷◌, IfOk, IsOk, OnErr, OnOk, length, vec_len, vec_capacity};
-ghost use Rattle.cm_model.specs.Chip.{blank_chip};
 ghost use Rattle.cm_model.specs.Each.{each_from};
 ghost use Rattle.cm_model.specs.Array.{after_nano};
 ghost use Rattle.cm_model.specs.Machine.{run_of};
@@ -10,10 +9,10 @@ ghost use Rattle.cm_petit.specs.Routers.{events_of, HasLogRoom, LosesAtMost};
 ghost use Rattle.cm_array.specs.Acts.{cycles_in};
 ghost use Rattle.cm_array.specs.Parts.{machine_of, log_rooms_of, AreParts, AreUnderWay, LacksLogRoom};
 
-use crate::stepping::{compute, step_alone, store_all};
-use cm_bits::{FlagNo, NoMemory, Plane};
-use cm_crossing::Crossing;
-use cm_element::{Chip, Outputs};
+use crate::stepping::step;
+use cm_bits::{NoMemory, Plane};
+use cm_crossing::{Crossing, Sizes};
+use cm_element::Run;
 use cm_message::Event;
 use cm_model::{Act, Nano};
 use cm_petit::cycle;
@@ -23,48 +22,52 @@ use std::alloc::Global;
 /// memory.
 #[derive(Debug, Drop)]
 pub(crate) struct Parts {
-    /// By number.
-    pub(crate) chips: Vec<Chip>,
+    /// The chips, by number.
+    pub(crate) run: Run,
     /// By chip, its events since the machine was made.
     pub(crate) logs: Vec<Vec<Event>>,
     /// Petit cycles so far.
     pub(crate) clock: u64,
-    /// By chip, what it computed of an instruction.
-    pub(crate) outputs: Vec<Outputs>,
-    /// By chip, what it sends over the grid.
+    /// By chip, what it sends over the grid or its chain.
     pub(crate) sent: Vec<Plane>,
+    /// By chip, what comes in there over the grid.
+    pub(crate) incoming: Vec<Plane>,
     /// By chip, the messages that stand in its router; between two lists of acts they are gathered.
     pub(crate) crossing: Crossing,
 }
 
-/// Runs acts one after another, in routers with room for `CAP` messages each, and gathers the messages then.
-pub(crate) fn run<const N: usize, const CAP: usize>(parts: &mut Parts, acts: &[Act])
-    requires parts { AreParts N CAP parts.old }
+/// Runs acts one after another, in a whole machine of these sizes, and gathers the messages then.
+pub(crate) fn run(sizes: Sizes, parts: &mut Parts, acts: &[Act])
+    requires all { sizes.span ≡ sizes.dims }
+    requires parts { AreParts sizes.dims sizes.room parts.old }
     requires clock { parts.old.clock + cycles_in acts.now < 2 ^ 63 }
-    requires log_room { HasLogRoom (cycles_in acts.now * (4 + CAP)) parts.old.logs.items }
-    ensures value { machine_of parts.new ≡ run_of N CAP (machine_of parts.old) acts.now }
-    ensures parts { AreParts N CAP parts.new }
+    requires log_room { HasLogRoom (cycles_in acts.now * (4 + sizes.room)) parts.old.logs.items }
+    ensures value { machine_of parts.new ≡ run_of sizes.dims sizes.room (machine_of parts.old) acts.now }
+    ensures parts { AreParts sizes.dims sizes.room parts.new }
 {
     for act in acts {
-        run_one::<N, CAP>(parts, act);
+        run_one(sizes, parts, act);
     }
     parts.crossing.gather();
 }
 
-fn run_one<const N: usize, const CAP: usize>(parts: &mut Parts, act: &Act)
-    requires parts { AreUnderWay N CAP parts.old }
+fn run_one(sizes: Sizes, parts: &mut Parts, act: &Act)
+    requires all { sizes.span ≡ sizes.dims }
+    requires parts { AreUnderWay sizes.dims sizes.room parts.old }
     requires clock { parts.old.clock + cycles_in (act.now ∷ []) < 2 ^ 63 }
-    requires log_room { HasLogRoom (cycles_in (act.now ∷ []) * (4 + CAP)) parts.old.logs.items }
-    ensures value { machine_of parts.new ≡ after_act N CAP (machine_of parts.old) act.now }
-    ensures parts { AreUnderWay N CAP parts.new }
+    requires log_room { HasLogRoom (cycles_in (act.now ∷ []) * (4 + sizes.room)) parts.old.logs.items }
+    ensures value { machine_of parts.new ≡ after_act sizes.dims sizes.room (machine_of parts.old) act.now }
+    ensures parts { AreUnderWay sizes.dims sizes.room parts.new }
     ensures clock { parts.new.clock ≡ parts.old.clock + cycles_in (act.now ∷ []) }
-    ensures log_room { LosesAtMost (cycles_in (act.now ∷ []) * (4 + CAP)) parts.old.logs.items parts.new.logs.items }
+    ensures log_room { LosesAtMost (cycles_in (act.now ∷ []) * (4 + sizes.room))
+        parts.old.logs.items parts.new.logs.items }
 {
     match act {
-        Act::Nano(nano) => instruct::<N>(parts, nano),
+        Act::Nano(nano) => instruct(sizes.dims, parts, nano),
         Act::Sense => {}
-        Act::Cycle => cycle::<N, CAP>(
-            &mut parts.chips,
+        Act::Cycle => cycle(
+            sizes,
+            &mut parts.run,
             &mut parts.crossing,
             &mut parts.logs,
             &mut parts.clock,
@@ -73,24 +76,25 @@ fn run_one<const N: usize, const CAP: usize>(parts: &mut Parts, act: &Act)
 }
 
 /// One instruction in all chips.
-fn instruct<const N: usize>(parts: &mut Parts, nano: &Nano)
-    requires dimension { N ≤ 12 }
-    requires chip_count { length parts.old.chips.items ≡ 2 ^ N }
-    requires output_count { length parts.old.outputs.items ≡ 2 ^ N }
-    requires sent_count { length parts.old.sent.items ≡ 2 ^ N }
-    ensures chips { parts.new.chips.items ≡ after_nano N nano.now parts.old.chips.items }
+fn instruct(dims: u8, parts: &mut Parts, nano: &Nano)
+    requires dimension { dims ≤ 12 }
+    requires chip_count { length parts.old.run ≡ 2 ^ dims }
+    requires sent_count { length parts.old.sent.items ≡ 2 ^ dims }
+    requires incoming_count { length parts.old.incoming.items ≡ 2 ^ dims }
+    ensures run { parts.new.run ≡ after_nano dims nano.now parts.old.run }
     ensures logs { parts.new.logs ≡ parts.old.logs }
     ensures clock { parts.new.clock ≡ parts.old.clock }
-    ensures output_count { length parts.new.outputs.items ≡ 2 ^ N }
-    ensures sent_count { length parts.new.sent.items ≡ 2 ^ N }
+    ensures sent_count { length parts.new.sent.items ≡ 2 ^ dims }
+    ensures incoming_count { length parts.new.incoming.items ≡ 2 ^ dims }
     ensures crossing { parts.new.crossing ≡ parts.old.crossing }
 {
-    if nano.write == FlagNo::NEWS {
-        compute(&parts.chips, nano, &mut parts.outputs, &mut parts.sent);
-        store_all::<N>(&mut parts.chips, nano, &parts.outputs, &parts.sent);
-    } else {
-        step_alone::<N>(&mut parts.chips, nano);
-    }
+    step(
+        dims,
+        &mut parts.run,
+        nano,
+        &mut parts.sent,
+        &mut parts.incoming,
+    );
 }
 
 /// Makes room in each log for so many events more.
@@ -137,40 +141,16 @@ fn make_room(log: &mut Vec<Event>, more: usize) -> Result<(), NoMemory>
     Ok(())
 }
 
-pub(crate) fn blank_chips(alloc: Global, count: usize) -> Result<Vec<Chip>, NoMemory>
-    ensures value { IfOk result (λ chips. chips.items ≡ each_from 0 count (λ c. blank_chip)) }
-{
-    Ok((0..count).map(|_| Chip::blank(alloc)).try_collect(alloc)?)
-}
-
 pub(crate) fn blank_logs(alloc: Global, count: usize) -> Result<Vec<Vec<Event>>, NoMemory>
     ensures value { IfOk result (λ logs. events_of logs.items ≡ each_from 0 count (λ c. [])) }
 {
     Ok((0..count).map(|_| Vec::new(alloc)).collect(alloc)?)
 }
 
-pub(crate) fn blank_outputs(alloc: Global, count: usize) -> Result<Vec<Outputs>, NoMemory>
-    ensures count { IfOk result (λ outputs. length outputs.items ≡ count) }
-{
-    let none = Outputs {
-        mem: 0,
-        flag: 0,
-        holds: 0,
-    };
-    Ok(vec![in alloc; none; count]?)
-}
-
 pub(crate) fn blank_planes(alloc: Global, count: usize) -> Result<Vec<Plane>, NoMemory>
     ensures count { IfOk result (λ planes. length planes.items ≡ count) }
 {
     Ok(vec![in alloc; 0; count]?)
-}
-
-#[tactic(auto, using(std::proofs::lemmas::List::same_lists))]
-pub(crate) fn copied_chips(alloc: Global, chips: &[Chip]) -> Result<Vec<Chip>, NoMemory>
-    ensures value { IfOk result (λ copies. copies.items ≡ chips.now) }
-{
-    chips.iter().map(|chip| chip.copy(alloc)).try_collect(alloc)
 }
 
 pub(crate) fn copied_logs(alloc: Global, logs: &[Vec<Event>]) -> Result<Vec<Vec<Event>>, NoMemory>

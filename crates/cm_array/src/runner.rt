@@ -46,6 +46,9 @@ pub trait Runner<const N: usize, const CAP: usize> {
     /// What a caller of an unknown runner has to know of its type; of `Plain` it is no condition.
     ghost ready: { Type 0 };
 
+    /// Whether it may want a thread at all; the plain one never does.
+    ghost may_want_thread: { Type 0 };
+
     /// Runs the acts one after another, or none of them. The account has then the lines of what was
     /// injected in addition, and no others.
     fn go(&mut self, machine: &mut Machine<N, CAP>, acts: &[Act]) -> Result<(), RunFault>
@@ -57,6 +60,7 @@ pub trait Runner<const N: usize, const CAP: usize> {
         ensures ok { OnOk result (machine.new.machine ≡ run_of N CAP machine.old.machine acts.now) }
         ensures account { OnOk result (SameLines (account N machine.new.machine)
             (account N machine.old.machine ++ newly_injected N machine.old.machine machine.new.machine)) }
+        ensures threads { IsErrOf result RunFault.NoThread → may_want_thread }
         ensures err { OnErr result (machine.new.machine ≡ machine.old.machine) };
 }
 
@@ -66,6 +70,8 @@ pub struct Plain;
 
 impl<const N: usize, const CAP: usize> Runner<N, CAP> for Plain {
     ghost ready = { Unit {0} };
+
+    ghost may_want_thread = { ⊥ };
 
     /// Takes memory for the logs of all petit cycles in the list, before the first act, and none where
     /// each log has room for them: a petit cycle tells at most 4 + `CAP` events of a chip.

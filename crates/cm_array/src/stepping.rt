@@ -1,68 +1,65 @@
 //! One instruction in all chips: every place reads the old state before any place writes.
-//!
-//! Each loop has a copy of the instruction that no store can change, so that what depends on the
-//! instruction alone is computed once and not for each chip: a run takes half the time.
 
-ghost use Rattle.std.specs.Prelude.{◌≡◌, ◌≢◌, ◌^◌, ◌≤◌, length};
-ghost use Rattle.cm_model.specs.Processor.{NEWS};
+ghost use Rattle.std.specs.Prelude.{◌≡◌, ◌≢◌, ◌^◌, ◌≤◌, false, length};
+ghost use Rattle.cm_model.specs.Processor.{NEWS, DAISY};
+ghost use Rattle.cm_model.specs.Instruction.{takes_incoming};
 ghost use Rattle.cm_model.specs.Array.{after_nano};
-ghost use Rattle.cm_array.specs.Rows.{AreAllOutputs, AreAllSent};
 
-use cm_bits::Plane;
-use cm_daisy::previous;
-use cm_element::{Chip, Outputs};
+use cm_bits::{FlagNo, Plane};
+use cm_daisy::previous_row;
+use cm_element::Run;
 use cm_model::Nano;
-use cm_news::Grid;
+use cm_news::incoming_row;
 
-/// Writes down what every chip computes of an instruction, and what each sends over NEWS.
-pub fn compute(chips: &[Chip], nano: &Nano, outputs: &mut [Outputs], sent: &mut [Plane])
-    requires outputs { length outputs.old ≡ length chips.now }
-    requires sent { length sent.old ≡ length chips.now }
-    ensures outputs { AreAllOutputs nano.now chips.now outputs.new }
-    ensures sent { AreAllSent nano.now chips.now sent.new }
+/// One instruction in all chips of a cube of so many dimensions, which stand in the run by number. The other rows
+/// are working room, one plane for each chip.
+pub fn step(dims: u8, run: &mut Run, nano: &Nano, sent: &mut [Plane], incoming: &mut [Plane])
+    requires dimension { dims ≤ 12 }
+    requires count { length run.old ≡ 2 ^ dims }
+    requires sent_count { length sent.old ≡ 2 ^ dims }
+    requires incoming_count { length incoming.old ≡ 2 ^ dims }
+    ensures value { run.new ≡ after_nano dims nano.now run.old }
 {
-    let nano = *nano;
-    for c in 0..chips.len() {
-        let found = chips[c].outputs(&nano);
-        outputs[c] = found;
-        sent[c] = found.flag;
+    if nano.write == FlagNo::NEWS {
+        step_over_grid(dims, run, nano, sent, incoming);
+    } else if nano.write == FlagNo::DAISY {
+        step_along_chains(dims, run, nano, sent);
+    } else {
+        step_alone(dims, run, nano);
     }
 }
 
-/// Stores in each chip what it computed, with what comes in over NEWS from where it was sent.
-pub fn store_all<const N: usize>(
-    chips: &mut [Chip],
-    nano: &Nano,
-    outputs: &[Outputs],
-    sent: &[Plane],
-)
-    requires dimension { N ≤ 12 }
+/// One instruction that takes in what comes over NEWS: what each chip sends is written down first.
+fn step_over_grid(dims: u8, run: &mut Run, nano: &Nano, sent: &mut [Plane], incoming: &mut [Plane])
+    requires dimension { dims ≤ 12 }
     requires news { nano.now.write ≡ NEWS }
-    requires count { length chips.old ≡ 2 ^ N }
-    requires output_count { length outputs.now ≡ 2 ^ N }
-    requires sent_count { length sent.now ≡ 2 ^ N }
-    requires outputs { AreAllOutputs nano.now chips.old outputs.now }
-    requires sent { AreAllSent nano.now chips.old sent.now }
-    ensures value { chips.new ≡ after_nano N nano.now chips.old }
+    requires count { length run.old ≡ 2 ^ dims }
+    requires sent_count { length sent.old ≡ 2 ^ dims }
+    requires incoming_count { length incoming.old ≡ 2 ^ dims }
+    ensures value { run.new ≡ after_nano dims nano.now run.old }
 {
-    let nano = *nano;
-    for c in 0..chips.len() {
-        let incoming = Grid::<N>::incoming(sent, nano.dir, c as u16);
-        let chip = &mut chips[c];
-        chip.store(&nano, outputs[c], incoming);
-    }
+    run.send(nano, sent);
+    incoming_row(dims, sent, nano.dir, incoming);
+    run.take(nano, incoming);
 }
 
-/// One instruction in all chips, when nothing comes in from one chip at another.
-pub fn step_alone<const N: usize>(chips: &mut [Chip], nano: &Nano)
-    requires alone { nano.now.write ≢ NEWS }
-    requires count { length chips.old ≡ 2 ^ N }
-    ensures value { chips.new ≡ after_nano N nano.now chips.old }
+/// One instruction that takes in what comes along each chip's chain.
+fn step_along_chains(dims: u8, run: &mut Run, nano: &Nano, sent: &mut [Plane])
+    requires daisy { nano.now.write ≡ DAISY }
+    requires count { length run.old ≡ 2 ^ dims }
+    requires sent_count { length sent.old ≡ 2 ^ dims }
+    ensures value { run.new ≡ after_nano dims nano.now run.old }
 {
-    let nano = *nano;
-    for c in 0..chips.len() {
-        let chip = &mut chips[c];
-        let outputs = chip.outputs(&nano);
-        chip.store(&nano, outputs, previous(outputs.flag));
-    }
+    run.send(nano, sent);
+    previous_row(sent);
+    run.take(nano, sent);
+}
+
+/// One instruction that takes in nothing.
+fn step_alone(dims: u8, run: &mut Run, nano: &Nano)
+    requires alone { takes_incoming nano.now ≡ false }
+    requires count { length run.old ≡ 2 ^ dims }
+    ensures value { run.new ≡ after_nano dims nano.now run.old }
+{
+    run.step(nano);
 }

@@ -1,5 +1,6 @@
 -- Fields by their names, as a map keeps them.
-use Rattle.std.proofs.Common.{◌≡◌, ℕ, zero, suc, ◌+◌, Bool, true, false, Vec, List, [], ◌∷◌, ◌++◌, map, drop, Option, Some, None, Result, Ok, Err, refl, ap, ◌∙◌, arith}
+use Rattle.std.proofs.Common.{◌≡◌, ℕ, zero, suc, ◌+◌, Bool, true, false, Vec, List, [], ◌∷◌, ◌++◌, map, drop, Option}
+use Rattle.std.proofs.Common.{Some, None, Result, Ok, Err, refl, ap, ◌∙◌, arith}
 use Rattle.std.specs.Prelude.{bytes_eq, slice_get, if◌then◌else◌}
 use Rattle.std.specs.Option.{option_map}
 use Rattle.std.specs.Result.{OnOk, is_err}
@@ -17,19 +18,24 @@ module _ {Z : Type 0} where
   abbrev pub fields_of : List (Vec ℕ Z × Span) → List NamedField
   fields_of entries = map (λ e. named e.0.items e.1) entries
 
-  pub found : (es : List (Vec ℕ Z × Span)) (name : List ℕ) → lookup (λ k. bytes_eq name k.items) es ≡ field_named (fields_of es) name
+  pub found : (es : List (Vec ℕ Z × Span)) (name : List ℕ)
+      → lookup (λ k. bytes_eq name k.items) es ≡ field_named (fields_of es) name
   found [] name = refl
   found (e ∷ es) name = ap (λ (o : Option Span). if bytes_eq name e.0.items then Some e.1 else o) (found es name)
 
-  pub defined : (es : List (Vec ℕ Z × Span)) (key : Vec ℕ Z) (field : Span) → field_named (fields_of es) key.items ≡ None
-      → fields_of (insert_entry (λ x y. bytes_eq x.items y.items) es key field) ≡ fields_of es ++ named key.items field ∷ []
+  pub defined : (es : List (Vec ℕ Z × Span)) (key : Vec ℕ Z) (field : Span)
+      → field_named (fields_of es) key.items ≡ None
+      → fields_of (insert_entry (λ x y. bytes_eq x.items y.items) es key field)
+      ≡ fields_of es ++ named key.items field ∷ []
   defined [] key field h = refl
   defined (e ∷ es) key field h =
       let parts = here_or_later (bytes_eq key.items e.0.items) e.1 (field_named (fields_of es) key.items) h in
-      ap (λ (b : Bool). fields_of (if b then (e.0, field) ∷ es else e ∷ insert_entry (λ x y. bytes_eq x.items y.items) es key field)) parts.0
+      ap (λ (b : Bool). fields_of
+      (if b then (e.0, field) ∷ es else e ∷ insert_entry (λ x y. bytes_eq x.items y.items) es key field)) parts.0
       ∙ ap (λ fields. named e.0.items e.1 ∷ fields) (defined es key field parts.1)
 
-pub slice_get-map : {X Y : Type 0} (f : X → Y) (xs : List X) (i : ℕ) → slice_get (map f xs) i ≡ option_map f (slice_get xs i)
+pub slice_get-map : {X Y : Type 0} (f : X → Y) (xs : List X) (i : ℕ)
+    → slice_get (map f xs) i ≡ option_map f (slice_get xs i)
 slice_get-map f [] i = refl
 slice_get-map f (x ∷ xs) zero = refl
 slice_get-map f (x ∷ xs) (suc i) = slice_get-map f xs i

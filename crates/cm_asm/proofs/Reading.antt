@@ -1,5 +1,6 @@
 -- Reading a text line by line.
-use Rattle.std.proofs.Common.{◌≡◌, ℕ, ◌+◌, ◌-◌, ◌<◌, ◌≤◌, ◌⊎◌, Bool, true, false, take, drop, drop-drop, get_or, get_or-drop}
+use Rattle.std.proofs.Common.{◌≡◌, ℕ, ◌+◌, ◌-◌, ◌<◌, ◌≤◌, ◌⊎◌, Bool, true, false, take, drop, drop-drop, get_or}
+use Rattle.std.proofs.Common.{get_or-drop}
 use Rattle.std.proofs.Common.{if◌then◌else◌, nat_lt, subst, take-add, length-drop, Result, Ok, Err, List, [], ◌∷◌, ◌++◌}
 use Rattle.std.proofs.Common.{length, length-append, refl, sym, ap, ◌∙◌, arith, inl, inr, ⊎_elim}
 use Rattle.std.specs.List.{slice_split, onto_first}
@@ -18,7 +19,8 @@ new_line : (parts : List (List ℕ)) → length (without_empty_last ([] ∷ part
 new_line [] = omega arith
 new_line (part ∷ parts) = omega arith
 
-longer_line : (byte : ℕ) (parts : List (List ℕ)) → length (without_empty_last (onto_first byte parts)) ≤ length (without_empty_last parts) + 1
+longer_line : (byte : ℕ) (parts : List (List ℕ))
+    → length (without_empty_last (onto_first byte parts)) ≤ length (without_empty_last parts) + 1
 longer_line byte [] = omega arith
 longer_line byte (part ∷ []) = omega arith
 longer_line byte (part ∷ next ∷ parts) = omega arith
@@ -32,9 +34,19 @@ few_lines [] = omega arith
 few_lines (byte ∷ bytes) =
     ⊎_elim
     (λ (e : is_line_end byte ≡ true).
-    omega (arith, ap (λ parts. length (without_empty_last parts)) (slice_split-cons_yes is_line_end byte bytes e), new_line (slice_split is_line_end bytes), few_lines bytes))
+    omega (
+      arith,
+      ap (λ parts. length (without_empty_last parts)) (slice_split-cons_yes is_line_end byte bytes e),
+      new_line (slice_split is_line_end bytes),
+      few_lines bytes,
+    ))
     (λ (e : is_line_end byte ≡ false).
-    omega (arith, ap (λ parts. length (without_empty_last parts)) (slice_split-cons_no is_line_end byte bytes e), longer_line byte (slice_split is_line_end bytes), few_lines bytes))
+    omega (
+      arith,
+      ap (λ parts. length (without_empty_last parts)) (slice_split-cons_no is_line_end byte bytes e),
+      longer_line byte (slice_split is_line_end bytes),
+      few_lines bytes,
+    ))
     (bool_cases (is_line_end byte))
 
 -- ---- one line more
@@ -45,7 +57,8 @@ pub record IsNext (lines : List (List ℕ)) (i : ℕ) (line : List ℕ) (rest : 
   pub before : take (i + 1) lines ≡ take i lines ++ line ∷ []
   pub within : i + 1 ≤ length lines
 
-pub next_line : (lines : List (List ℕ)) (i : ℕ) (line : List ℕ) (rest : List (List ℕ)) → line ∷ rest ≡ drop i lines → IsNext lines i line rest
+pub next_line : (lines : List (List ℕ)) (i : ℕ) (line : List ℕ) (rest : List (List ℕ)) → line ∷ rest ≡ drop i lines
+    → IsNext lines i line rest
 next_line lines i line rest is = record {
   after = ap (drop 1) is ∙ drop-drop 1 i lines;
   before = take-add i 1 lines ∙ ap (λ (xs : List (List ℕ)). take i lines ++ take 1 xs) (sym is);
@@ -53,32 +66,39 @@ next_line lines i line rest is = record {
 }
 
 -- what was read of the lines before and of the next one
-pub one_more : (n : ℕ) (r read next : Reading) (lines : List (List ℕ)) (line : List ℕ) → after_lines r n lines ≡ Ok read → after_words read (words_of line) ≡ Ok next
+pub one_more : (n : ℕ) (r read next : Reading) (lines : List (List ℕ)) (line : List ℕ)
+    → after_lines r n lines ≡ Ok read → after_words read (words_of line) ≡ Ok next
     → after_lines r n (lines ++ line ∷ []) ≡ Ok next
 one_more n r read next [] line h e =
     let same : r ≡ read = cc in
     ap (λ (s : Reading). unless_faulty n (after_words s (words_of line)) (λ r'. after_lines r' (n + 1) [])) same
     ∙ ap (λ (q : Result Reading AsmKind). unless_faulty n q (λ r'. after_lines r' (n + 1) [])) e
 one_more n r read next (first ∷ lines) line h e =
-    (elim (after_words r (words_of first)) as (λ q. unless_faulty n q (λ r'. after_lines r' (n + 1) lines) ≡ Ok read → unless_faulty n q (λ r'. after_lines r' (n + 1) (lines ++ line ∷ [])) ≡ Ok next) [
+    (elim (after_words r (words_of first))
+    as (λ q. unless_faulty n q (λ r'. after_lines r' (n + 1) lines) ≡ Ok read
+    → unless_faulty n q (λ r'. after_lines r' (n + 1) (lines ++ line ∷ [])) ≡ Ok next) [
       | Ok s ↦ λ k. one_more (n + 1) s read next lines line k e
       | Err f ↦ λ k. absurd cc
     ]) h
 
 -- the line that is next stands there
-pub is_there : (lines : List (List ℕ)) (i : ℕ) (line : List ℕ) (rest : List (List ℕ)) → line ∷ rest ≡ drop i lines → get_or lines (i + 1 - 1) [] ≡ line
+pub is_there : (lines : List (List ℕ)) (i : ℕ) (line : List ℕ) (rest : List (List ℕ)) → line ∷ rest ≡ drop i lines
+    → get_or lines (i + 1 - 1) [] ≡ line
 is_there lines i line rest is =
-    ap (λ (n : ℕ). get_or lines n []) (let e : i + 1 - 1 ≡ i + 0 = omega arith in e) ∙ sym (get_or-drop i lines 0 []) ∙ ap (λ (xs : List (List ℕ)). get_or xs 0 []) (sym is)
+    ap (λ (n : ℕ). get_or lines n []) (let e : i + 1 - 1 ≡ i + 0 = omega arith in e) ∙ sym (get_or-drop i lines 0 [])
+    ∙ ap (λ (xs : List (List ℕ)). get_or xs 0 []) (sym is)
 
 -- where memory is wanting
 pub is_grown_for : (text : List ℕ) (i : ℕ) (read : Reading) (line : List ℕ)
     → after_lines nothing_read 1 (take i (lines_of text)) ≡ Ok read → i + 1 ≤ length (lines_of text)
-    → get_or (lines_of text) (i + 1 - 1) [] ≡ line → MayLackMemory read (after_words read (words_of line)) → IsGrownFor text (i + 1)
+    → get_or (lines_of text) (i + 1 - 1) [] ≡ line → MayLackMemory read (after_words read (words_of line))
+    → IsGrownFor text (i + 1)
 is_grown_for text i read line before within there here = record {
   first = omega arith;
   within = within;
   read = read;
-  before = ap (λ (n : ℕ). after_lines nothing_read 1 (take n (lines_of text))) (let e : i + 1 - 1 ≡ i = omega arith in e) ∙ before;
+  before = ap (λ (n : ℕ). after_lines nothing_read 1 (take n (lines_of text))) (let e : i + 1 - 1 ≡ i = omega arith in
+      e) ∙ before;
   here = subst (λ (l : List ℕ). MayLackMemory read (after_words read (words_of l))) (sym there) here;
 }
 

@@ -3,7 +3,8 @@
 ghost use Rattle.std.specs.Prelude.{◌≡◌, ◌+◌, ◌<◌, ◌++◌, ◌∷◌, [], OnOk, flat_map, decimal};
 ghost use Rattle.cm_language.specs.Names.{named};
 ghost use Rattle.cm_bits.specs.Bit.{bit_number};
-ghost use Rattle.cm_language.specs.Listing.{hex_digit, table_word, direction_word, nano_words, act_words, spaced, field_line, act_line, act_lines};
+ghost use Rattle.cm_language.specs.Listing.{hex_digit, table_word, direction_word, nano_words, act_words, spaced};
+ghost use Rattle.cm_language.specs.Listing.{field_line, act_line, act_lines};
 
 use crate::fields::Fields;
 use cm_bits::{Addr, Dir, Field, FlagNo};

@@ -2,7 +2,8 @@
 
 ghost use Rattle.std.specs.Prelude.{◌≡◌, ◌<◌, IfOk, IfErr};
 ghost use Rattle.cm_bits.specs.Text.{words_left};
-ghost use Rattle.cm_language.specs.Lines.{operand_of, number_operand, sense_operand, direction_of, field_operand, no_operand, flag_operand, one_field, two_fields, nano_of};
+ghost use Rattle.cm_language.specs.Lines.{operand_of, number_operand, sense_operand, direction_of, field_operand};
+ghost use Rattle.cm_language.specs.Lines.{no_operand, flag_operand, one_field, two_fields, nano_of};
 ghost use Rattle.cm_language.specs.Program.{IsOwnFault};
 
 use crate::fields::Fields;

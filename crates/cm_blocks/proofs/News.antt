@@ -11,14 +11,14 @@ use Rattle.cm_model.specs.Place.{chip_columns, rows, columns, row_of, column_of,
 use Rattle.cm_model.specs.Processor.{Processor, NEWS}
 use Rattle.cm_model.specs.Instruction.{flag_output}
 use Rattle.cm_model.specs.Chip.{processor_at, chip_after}
-use Rattle.cm_model.specs.Array.{chip_at, processor_of, chain_output, incoming, after_nano}
+use Rattle.cm_model.specs.Array.{chip_at, processor_of, chain_output, incoming, after_nano, output}
 use Rattle.cm_model.specs.Machine.{Machine}
 use Rattle.cm_model.specs.Steps.{Instruct}
 use Rattle.cm_model.proofs.Each.{get_or-each_below}
 use Rattle.cm_model.proofs.Incoming.{same_chip}
 use Rattle.cm_model.proofs.Torus.{columns_some, column_of-lt}
 use Rattle.cm_blocks.specs.Parts.{Part, part, block, size, is_within, chip_in}
-use Rattle.cm_blocks.specs.Parcels.{Parcel, output, edge_row, due, sender_over, sender}
+use Rattle.cm_blocks.specs.Parcels.{Parcel, edge_row, due, sender_over, sender}
 use Rattle.cm_blocks.specs.Steps.{news_in, incoming_in, part_after}
 use Rattle.cm_blocks.proofs.Bands.{band, size-band, rows-band, block-row, row-from, row-below, its_row-from, its_row-below, row_back, row_on}
 use Rattle.cm_blocks.proofs.Cutting.{cut-same, within-part, within-from, within-below}

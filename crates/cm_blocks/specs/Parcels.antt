@@ -1,15 +1,12 @@
 -- Parcels: what a block sends to another at a round, and to which. Ours.
 use Rattle.std.specs.Prelude.{ℕ, ◌+◌, ◌-◌, ◌*◌, ◌/◌, ◌%◌, ◌^◌, Bool, false, List, Option, None, slice_index_or, bit_xor}
-use Rattle.cm_bits.specs.declared.place.Place.{Place}
 use Rattle.cm_bits.specs.declared.plane.Dir.{Dir}
 use Rattle.cm_bits.specs.declared.plane.Dir.TheVariants.{North, East, West, South}
 use Rattle.cm_model.specs.declared.act.Nano.{Nano}
 use Rattle.cm_model.specs.declared.message.Message.{Message}
 use Rattle.cm_model.specs.Each.{each_from}
 use Rattle.cm_model.specs.Place.{chip_columns, columns, place_at}
-use Rattle.cm_model.specs.Processor.{Processor}
-use Rattle.cm_model.specs.Instruction.{flag_output}
-use Rattle.cm_model.specs.Chip.{processor_at}
+use Rattle.cm_model.specs.Array.{output}
 use Rattle.cm_model.specs.Buffers.{outgoing}
 use Rattle.cm_model.specs.Steps.{Step, Instruct, Look, Inject, Cross, Deliver}
 use Rattle.cm_blocks.specs.Parts.{Part, chip_in, buffer_in}
@@ -30,10 +27,6 @@ abbrev pub bit_in : Parcel → ℕ → Bool
 bit_in Blank i = false
 bit_in (Mail lane) i = false
 bit_in (Edge row) i = slice_index_or row i false
-
--- the flag output at a place, where a function reads the chips
-abbrev pub output : Nano → (ℕ → List Processor) → Place → Bool
-output nano read place = flag_output nano (processor_at (read place.chip) place.proc)
 
 -- the row of the grid that a part sends over its edge: northward its first, southward its last
 abbrev pub edge_row : ℕ → Dir → Part → ℕ

@@ -8,12 +8,12 @@ use Rattle.cm_model.specs.Each.{each_from}
 use Rattle.cm_model.specs.Place.{column_of, source, predecessor}
 use Rattle.cm_model.specs.Processor.{NEWS}
 use Rattle.cm_model.specs.Chip.{chip_after}
-use Rattle.cm_model.specs.Array.{chain_output}
+use Rattle.cm_model.specs.Array.{output, chain_output}
 use Rattle.cm_model.specs.Letters.{senders_taken, messages_sent, chip_after_injection, can_receive, chip_after_delivery}
 use Rattle.cm_model.specs.Buffers.{leaving_place, without, outgoing, buffer_after_dimension, delivered, kept}
 use Rattle.cm_model.specs.Steps.{Step, Instruct, Look, Inject, Cross, Deliver}
 use Rattle.cm_blocks.specs.Parts.{Part, is_within, chip_in, buffer_in, log_in}
-use Rattle.cm_blocks.specs.Parcels.{Parcel, Blank, mail_in, bit_in, output}
+use Rattle.cm_blocks.specs.Parcels.{Parcel, Blank, mail_in, bit_in}
 
 -- the bit that comes in over NEWS at a place: from within, or the parcel's of that column
 abbrev pub news_in : ℕ → Nano → Parcel → Part → ℕ → ℕ → Bool

@@ -7,7 +7,8 @@ use Rattle.std.specs.Io.KnownBytes.{Appends}
 use Rattle.cm_cli.specs.Report.{HasFront}
 
 -- only the first bytes of the first part
-pub front_of_first : (held holds : Option (List ℕ)) (first second : List ℕ) → HasFront held holds first → HasFront held holds (first ++ second)
+pub front_of_first : (held holds : Option (List ℕ)) (first second : List ℕ) → HasFront held holds first
+    → HasFront held holds (first ++ second)
 front_of_first held holds first second front = record {
   count = front.count;
   short = omega (arith, length-append first second, front.short);
@@ -15,7 +16,8 @@ front_of_first held holds first second front = record {
 }
 
 -- the first part, and the first bytes of the second
-pub front_of_second : (held between holds : Option (List ℕ)) (first second : List ℕ) → Appends held between first → HasFront between holds second → HasFront held holds (first ++ second)
+pub front_of_second : (held between holds : Option (List ℕ)) (first second : List ℕ) → Appends held between first
+    → HasFront between holds second → HasFront held holds (first ++ second)
 front_of_second held between holds first second whole front = record {
   count = length first + front.count;
   short = omega (arith, length-append first second, front.short);

@@ -1,12 +1,15 @@
 -- Where a session on an image begins: its shape, then its room, then all of it.
-use Rattle.std.proofs.Common.{◌≡◌, ◌≢◌, ℕ, true, false, List, Option, Some, None, Result, Ok, Err, refl, ap, ◌∙◌}
+use Rattle.std.proofs.Common.{◌≡◌, ◌≢◌, ℕ, Bool, true, false, List, Option, Some, None, Result, Ok, Err, length, nat_lt}
+use Rattle.std.proofs.Common.{IfSome, IsErrOf, refl, sym, ap, ◌∙◌, if◌then◌else◌}
+use Rattle.std.specs.Int.{Width, w8, w32, w64, byte_len}
 use Rattle.cm_model.specs.Machine.{Machine}
 use Rattle.cm_image_format.specs.declared.fault.ImageFault.{ImageFault}
 use Rattle.cm_image_format.specs.declared.fault.ImageFault.TheVariants as image
-use Rattle.cm_image_format.specs.Reading.{fault_in}
-use Rattle.cm_image_format.specs.Whole.{read_shape, read_image}
+use Rattle.cm_image_format.specs.Reading.{Read, ◌>>=◌, must, unless, number_at, part, ◌⨾◌, made, fault_in}
+use Rattle.cm_image_format.specs.Image.{is_dimension, is_room, shape_part, clock_part}
+use Rattle.cm_image_format.specs.Whole.{read_shape, read_image, header_fault}
 use Rattle.cm_cli.specs.declared.program_fault.ProgramFault.TheVariants.{Image, Cap}
-use Rattle.cm_cli.specs.Run.{is_own_room, start_of, sized, opened, IsUnopened}
+use Rattle.cm_cli.specs.Opened.{is_own_room, start_of, sized, opened, IsUnopened}
 use Rattle.cm_cli.specs.ProgramFault.{of_image}
 
 -- the whole image, where its shape is one of the program's own
@@ -30,41 +33,124 @@ opened_err bytes n cap fault shape own h =
     opened_as bytes n cap shape own ∙ ap (start_of n cap) (is_fault (read_image n cap bytes) fault h)
 
 -- an image of no shape, or of a room that the program has no machines of
-pub opened_shapeless : (bytes : List ℕ) (fault : ImageFault) → read_shape bytes ≡ Err fault → opened bytes ≡ Err (Image fault)
+pub opened_shapeless : (bytes : List ℕ) (fault : ImageFault) → read_shape bytes ≡ Err fault
+    → opened bytes ≡ Err (Image fault)
 unfolding opened
 opened_shapeless bytes fault shape = ap (sized bytes) shape
 
-pub opened_foreign : (bytes : List ℕ) (n cap : ℕ) → read_shape bytes ≡ Ok (n, cap) → is_own_room cap ≡ false → opened bytes ≡ Err Cap
+pub opened_foreign : (bytes : List ℕ) (n cap : ℕ) → read_shape bytes ≡ Ok (n, cap) → is_own_room cap ≡ false
+    → opened bytes ≡ Err Cap
 unfolding opened
 opened_foreign bytes n cap shape other = ap (sized bytes) shape ∙ rw other refl
 
--- an image that was refused: with its fault, or for want of memory
-pub unopened : (bytes : List ℕ) (n cap : ℕ) (fault : ImageFault) → read_shape bytes ≡ Ok (n, cap)
-    → is_own_room cap ≡ true → (fault ≢ image.Memory → fault_in (read_image n cap bytes) ≡ Some fault)
-    → IsUnopened bytes (of_image fault)
-unopened bytes n cap image.Memory shape own h = tt
-unopened bytes n cap image.Short shape own h =
+-- ---- no header has want of memory for its fault
+
+abbrev NeverMemory : {A : Type 0} → Result A ImageFault → Type 0
+NeverMemory read = fault_in read ≢ Some image.Memory
+
+none_never : ◌≢◌ {A = Option ImageFault} None (Some image.Memory)
+none_never h = absurd (cc)
+
+fault_never : (fault : ImageFault) → fault ≢ image.Memory → ◌≢◌ {A = Option ImageFault} (Some fault) (Some image.Memory)
+fault_never fault other h = other (let same : ◌≡◌ {A = Option ImageFault} (Some fault) (Some image.Memory) = h in cc)
+
+both_never : {A B : Type 0} (r : Result A ImageFault) (f : A → Result B ImageFault) → NeverMemory r
+    → ((x : A) → NeverMemory (f x)) → NeverMemory (r >>= f)
+both_never (Ok x) f first second = second x
+both_never (Err fault) f first second = first
+
+long_enough : {A : Type 0} (short : Bool) (x : A) → NeverMemory (if short then Err image.Short else Ok x)
+long_enough true x = fault_never image.Short (λ e. let wrong : image.Short ≡ image.Memory = e in cc)
+long_enough false x = none_never
+
+number_never : (w : Width) (bytes : List ℕ) → NeverMemory (number_at w bytes)
+unfolding number_at
+number_never w bytes = long_enough (nat_lt (length bytes) (byte_len w)) _
+
+check_never : {A : Type 0} (fault : ImageFault) (b : Bool) (x : A) → fault ≢ image.Memory
+    → NeverMemory (unless (if b then None else Some fault) x)
+check_never fault true x other = none_never
+check_never fault false x other = fault_never fault other
+
+part_never : (w : Width) (fault : ImageFault) (test : ℕ → Bool) (bytes : List ℕ) → fault ≢ image.Memory
+    → NeverMemory (part w (must fault test) bytes)
+part_never w fault test bytes other =
+    both_never (number_at w bytes) (λ n. unless (must fault test n.0) (n.0, n.1)) (number_never w bytes)
+    (λ n. check_never fault (test n.0) (n.0, n.1) other)
+
+next_never : {A B : Type 0} (first : List ℕ → Read A) (second : List ℕ → Read B)
+    → ((bytes : List ℕ) → NeverMemory (first bytes)) → ((bytes : List ℕ) → NeverMemory (second bytes))
+    → (bytes : List ℕ) → NeverMemory ((first ⨾ second) bytes)
+next_never first second one two bytes =
+    both_never (first bytes) (λ a. second a.1 >>= (λ b. Ok ((a.0, b.0), b.1))) (one bytes)
+    (λ a. both_never (second a.1) (λ b. Ok ((a.0, b.0), b.1)) (two a.1) (λ b. none_never))
+
+made_never : {A B : Type 0} (f : A → B) (read : List ℕ → Read A) → ((bytes : List ℕ) → NeverMemory (read bytes))
+    → (bytes : List ℕ) → NeverMemory (made f read bytes)
+made_never f read one bytes =
+    both_never (read bytes) (λ x. Ok (f x.0, x.1)) (one bytes) (λ x. none_never)
+
+shape_never : (dimension room : ℕ → Bool) (bytes : List ℕ) → NeverMemory (shape_part dimension room bytes)
+shape_never dimension room =
+    let magic : image.Magic ≢ image.Memory = λ e. cc in
+    let version : image.Version ≢ image.Memory = λ e. cc in
+    let other : image.Shape ≢ image.Memory = λ e. cc in
+    made_never _ _ (next_never _ _ (λ b. part_never w32 image.Magic _ b magic)
+    (next_never _ _ (λ b. part_never w8 image.Version _ b version)
+    (next_never _ _ (λ b. part_never w8 image.Shape dimension b other)
+    (next_never _ _ (λ b. part_never w8 image.Shape room b other) (λ b. part_never w8 image.Shape _ b other)))))
+
+header_never : (n cap : ℕ) (bytes : List ℕ) → header_fault n cap bytes ≢ Some image.Memory
+header_never n cap bytes =
+    next_never (shape_part _ _) clock_part (shape_never _ _)
+    (λ b. part_never w64 image.Value _ b (λ e. let wrong : image.Value ≡ image.Memory = e in cc)) bytes
+
+no_fault : (A : Type 0) (o : Option ImageFault) → o ≢ Some image.Memory
+    → IfSome o (λ fault. IsErrOf {T = A} (Err image.Memory) fault) → o ≡ None
+no_fault A None never told = refl
+no_fault A (Some fault) never told =
+    let same : image.Memory ≡ fault = cc (told) in absurd (never (ap (λ f. Some f) (sym same)))
+
+-- ---- an image that was refused: with its fault, or for want of memory
+
+pub unopened : (A : Type 0) (bytes : List ℕ) (n cap : ℕ) (fault : ImageFault) → read_shape bytes ≡ Ok (n, cap)
+    → is_own_room cap ≡ true → IfSome (header_fault n cap bytes) (λ first. IsErrOf {T = A} (Err fault) first)
+    → (fault ≢ image.Memory → fault_in (read_image n cap bytes) ≡ Some fault) → IsUnopened bytes (of_image fault)
+unopened A bytes n cap image.Memory shape own first h = record {
+  n = n;
+  cap = cap;
+  shape = shape;
+  own = own;
+  header = no_fault A (header_fault n cap bytes) (header_never n cap bytes) first;
+}
+unopened A bytes n cap image.Short shape own first h =
     opened_err bytes n cap image.Short shape own (h (λ e. let wrong : image.Short ≡ image.Memory = e in cc))
-unopened bytes n cap image.Magic shape own h =
+unopened A bytes n cap image.Magic shape own first h =
     opened_err bytes n cap image.Magic shape own (h (λ e. let wrong : image.Magic ≡ image.Memory = e in cc))
-unopened bytes n cap image.Version shape own h =
+unopened A bytes n cap image.Version shape own first h =
     opened_err bytes n cap image.Version shape own (h (λ e. let wrong : image.Version ≡ image.Memory = e in cc))
-unopened bytes n cap image.Shape shape own h =
+unopened A bytes n cap image.Shape shape own first h =
     opened_err bytes n cap image.Shape shape own (h (λ e. let wrong : image.Shape ≡ image.Memory = e in cc))
-unopened bytes n cap image.Order shape own h =
+unopened A bytes n cap image.Order shape own first h =
     opened_err bytes n cap image.Order shape own (h (λ e. let wrong : image.Order ≡ image.Memory = e in cc))
-unopened bytes n cap image.Count shape own h =
+unopened A bytes n cap image.Count shape own first h =
     opened_err bytes n cap image.Count shape own (h (λ e. let wrong : image.Count ≡ image.Memory = e in cc))
-unopened bytes n cap image.Value shape own h =
+unopened A bytes n cap image.Value shape own first h =
     opened_err bytes n cap image.Value shape own (h (λ e. let wrong : image.Value ≡ image.Memory = e in cc))
-unopened bytes n cap image.TagTwice shape own h =
+unopened A bytes n cap image.TagTwice shape own first h =
     opened_err bytes n cap image.TagTwice shape own (h (λ e. let wrong : image.TagTwice ≡ image.Memory = e in cc))
-unopened bytes n cap image.Extra shape own h =
+unopened A bytes n cap image.Extra shape own first h =
     opened_err bytes n cap image.Extra shape own (h (λ e. let wrong : image.Extra ≡ image.Memory = e in cc))
 
 -- so where its shape is refused
+shaped_never : (bytes : List ℕ) → read_shape bytes ≢ Err image.Memory
+unfolding read_shape
+shaped_never bytes h =
+    both_never (shape_part is_dimension is_room bytes) (λ shape. Ok shape.0) (shape_never is_dimension is_room bytes)
+    (λ shape. none_never) (ap fault_in h)
+
 pub unshaped : (bytes : List ℕ) (fault : ImageFault) → read_shape bytes ≡ Err fault → IsUnopened bytes (of_image fault)
-unshaped bytes image.Memory h = tt
+unshaped bytes image.Memory h = absurd (shaped_never bytes h)
 unshaped bytes image.Short h = opened_shapeless bytes image.Short h
 unshaped bytes image.Magic h = opened_shapeless bytes image.Magic h
 unshaped bytes image.Version h = opened_shapeless bytes image.Version h

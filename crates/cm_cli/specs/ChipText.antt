@@ -1,5 +1,6 @@
 -- What `cm1 chip` prints of a chip. Ours.
-use Rattle.std.specs.Prelude.{ℕ, ◌+◌, ◌/◌, ◌%◌, ◌==◌, nat_lt, if◌then◌else◌, List, [], ◌∷◌, ◌++◌, flat_map, codes, decimal}
+use Rattle.std.specs.Prelude.{ℕ, ◌+◌, ◌/◌, ◌%◌, ◌==◌, nat_lt, if◌then◌else◌, List, [], ◌∷◌, ◌++◌, flat_map, codes}
+use Rattle.std.specs.Prelude.{decimal}
 use Rattle.std.specs.List.{range_with_len}
 use Rattle.cm_model.specs.Processor.{Processor, memory_bit, flag}
 use Rattle.cm_model.specs.Chip.{processor_at, plane_number}
@@ -10,7 +11,9 @@ hex_digit digit = if nat_lt digit 10 then 48 + digit else 87 + digit
 
 -- a plane as four hexadecimal digits
 abbrev pub plane_text : ℕ → List ℕ
-plane_text plane = hex_digit (plane / 4096 % 16) ∷ hex_digit (plane / 256 % 16) ∷ hex_digit (plane / 16 % 16) ∷ hex_digit (plane % 16) ∷ []
+plane_text plane =
+    hex_digit (plane / 4096 % 16) ∷ hex_digit (plane / 256 % 16) ∷ hex_digit (plane / 16 % 16)
+    ∷ hex_digit (plane % 16) ∷ []
 
 -- a line of a name, a number and a plane
 unfoldable pub plane_line : List ℕ → ℕ → ℕ → List ℕ

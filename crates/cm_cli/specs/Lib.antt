@@ -7,4 +7,5 @@ pub mod ProgramFault
 pub mod Listed
 pub mod Fresh
 pub mod Laws
+pub mod Opened
 pub mod Run

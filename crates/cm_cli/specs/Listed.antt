@@ -6,7 +6,8 @@ use Rattle.cm_language.specs.Program.{ProgramText, program_of, IsFaultOf}
 use Rattle.cm_language.specs.Listing.{listing}
 use Rattle.cm_cli.specs.Report.{HasFront}
 use Rattle.cm_cli.specs.declared.program_fault.ProgramFault.{ProgramFault}
-use Rattle.cm_cli.specs.declared.program_fault.ProgramFault.TheVariants.{BadLine, Text, Image, Cap, Read, Write, TooMuch, Memory, NoThread}
+use Rattle.cm_cli.specs.declared.program_fault.ProgramFault.TheVariants.{BadLine, Text, Image, Cap, Read, Write}
+use Rattle.cm_cli.specs.declared.program_fault.ProgramFault.TheVariants.{TooMuch, Memory, NoThread}
 
 -- the most bytes of a program text
 abbrev pub PROGRAM_LIMIT : ℕ

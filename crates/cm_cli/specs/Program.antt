@@ -1,5 +1,6 @@
 -- A program text of one chip, line by line. Ours.
-use Rattle.std.specs.Prelude.{◌≡◌, ℕ, ◌+◌, ◌-◌, take, Option, Some, None, Result, Ok, Err, List, [], ◌∷◌, ◌++◌, codes, bytes_eq, if◌then◌else◌}
+use Rattle.std.specs.Prelude.{◌≡◌, ℕ, ◌+◌, ◌-◌, take, Option, Some, None, Result, Ok, Err, List, [], ◌∷◌, ◌++◌, codes}
+use Rattle.std.specs.Prelude.{bytes_eq, if◌then◌else◌}
 use Rattle.cm_bits.specs.Text.{lines_of, words_of}
 use Rattle.cm_model.specs.declared.act.Nano.{Nano}
 use Rattle.cm_language.specs.declared.fault.AsmKind.{AsmKind}
@@ -11,7 +12,8 @@ use Rattle.cm_language.specs.Program.{MatchKind}
 -- the instruction of the words of a line, none where there are no words: only `nano` may be the first
 abbrev pub instruction_of : List (List ℕ) → Result (Option Nano) AsmKind
 instruction_of [] = Ok None
-instruction_of (word ∷ operands) = if bytes_eq word (codes "nano") then (nano_of operands >>= λ nano. Ok (Some nano)) else Err Word
+instruction_of (word ∷ operands) =
+    if bytes_eq word (codes "nano") then (nano_of operands >>= λ nano. Ok (Some nano)) else Err Word
 
 -- the instruction of a line before those of the lines after it
 abbrev pub with_line : ℕ → Result (Option Nano) AsmKind → Result (List Nano) AsmFault → Result (List Nano) AsmFault
@@ -23,7 +25,8 @@ with_line number (Ok (Some nano)) (Err fault) = Err fault
 -- the instructions of lines that are numbered from here on, or the first line that is faulty
 abbrev pub nanos_of_lines : ℕ → List (List ℕ) → Result (List Nano) AsmFault
 nanos_of_lines number [] = Ok []
-nanos_of_lines number (line ∷ lines) = with_line number (instruction_of (words_of line)) (nanos_of_lines (number + 1) lines)
+nanos_of_lines number (line ∷ lines) =
+    with_line number (instruction_of (words_of line)) (nanos_of_lines (number + 1) lines)
 
 -- the instructions of a text, or its first faulty line, counted from 1
 unfoldable pub nanos_of : List ℕ → Result (List Nano) AsmFault

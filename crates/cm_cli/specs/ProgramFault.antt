@@ -13,7 +13,8 @@ use Rattle.cm_cli.specs.declared.fault.ChipFault.TheVariants as chip
 use Rattle.cm_cli.specs.declared.takes.TakeFault.{TakeFault}
 use Rattle.cm_cli.specs.declared.takes.TakeFault.TheVariants as take
 use Rattle.cm_cli.specs.declared.program_fault.ProgramFault.{ProgramFault}
-use Rattle.cm_cli.specs.declared.program_fault.ProgramFault.TheVariants.{BadLine, Text, Image, Cap, Read, Write, TooMuch, Memory, NoThread}
+use Rattle.cm_cli.specs.declared.program_fault.ProgramFault.TheVariants.{BadLine, Text, Image, Cap, Read, Write}
+use Rattle.cm_cli.specs.declared.program_fault.ProgramFault.TheVariants.{TooMuch, Memory, NoThread}
 
 -- the number of what is wrong with a line
 abbrev pub kind_number : AsmKind → ℕ

@@ -1,5 +1,6 @@
 -- What the program writes on standard error, and the status it ends with, by the number of the fault. Ours.
-use Rattle.std.specs.Prelude.{ℕ, T, ◌-◌, ◌==◌, ◌||◌, ◌&&◌, nat_le, if◌then◌else◌, Option, Some, None, List, [], ◌∷◌, ◌++◌, codes, decimal, ◌<◌, get_or, length, take}
+use Rattle.std.specs.Prelude.{ℕ, T, ◌-◌, ◌==◌, ◌||◌, ◌&&◌, nat_le, if◌then◌else◌, Option, Some, None, List, [], ◌∷◌}
+use Rattle.std.specs.Prelude.{◌++◌, codes, decimal, ◌<◌, get_or, length, take}
 use Rattle.std.specs.Io.KnownBytes.{Appends}
 
 -- the names of the faults, the first of them number 1
@@ -16,6 +17,10 @@ fault_names =
 -- the name of a fault
 abbrev pub name_of : ℕ → List ℕ
 name_of number = get_or fault_names (number - 1) []
+
+-- what is told of a fault: its number and its name
+abbrev pub fault_text : ℕ → List ℕ
+fault_text number = decimal number ++ codes " " ++ name_of number ++ codes "\n"
 
 -- faults of a program text are told with their line
 abbrev pub HasLine : ℕ → Type 0
@@ -34,7 +39,7 @@ BAD_LINE = 38
 abbrev pub message_of : ℕ → Option ℕ → List ℕ
 message_of number line =
     if number == BAD_LINE then codes "cm1: bad command line\n"
-    else codes "cm1: " ++ place_of line ++ (decimal number ++ codes " " ++ name_of number ++ codes "\n")
+    else codes "cm1: " ++ place_of line ++ fault_text number
 
 -- the exit status: 2 for a bad command line, 3 for want of memory or of a thread, 4 for a read or a write, else 1
 abbrev pub status_of : ℕ → ℕ

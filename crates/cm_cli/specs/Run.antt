@@ -1,43 +1,19 @@
--- What `cm1 run` does with an image, a program and commands: the machine of the image, the acts of the program, one session. Ours.
-use Rattle.std.specs.Prelude.{◌≡◌, ℕ, ◌==◌, ◌||◌, ◌⊎◌, Bool, true, false, Option, Some, None, Result, Ok, Err, Vec, List, [], if◌then◌else◌}
+-- What `cm1 run` does with an image, a program and commands: one session on the machine of the image. Ours.
+use Rattle.std.specs.Prelude.{◌≡◌, ℕ, ◌⊎◌, Bool, true, false, Option, Some, None, Result, Ok, Err, Vec, List}
 use Rattle.std.specs.declared.alloc.Global.{Global}
 use Rattle.std.specs.Io.KnownBytes.{Keeps}
 use Rattle.cm_model.specs.declared.act.Act.{Act}
 use Rattle.cm_model.specs.Machine.{Machine}
 use Rattle.cm_language.specs.Program.{ProgramText, program_of, IsFaultOf}
-use Rattle.cm_image_format.specs.declared.fault.ImageFault.{ImageFault}
-use Rattle.cm_image_format.specs.Whole.{text_of, read_shape, read_image}
+use Rattle.cm_image_format.specs.Whole.{text_of}
 use Rattle.cm_session.specs.declared.fault.SessionFault.{SessionFault}
 use Rattle.cm_session.specs.Ends.{Ends}
 use Rattle.cm_cli.specs.declared.takes.TakeFault.{TakeFault}
 use Rattle.cm_cli.specs.declared.program_fault.ProgramFault.{ProgramFault}
-use Rattle.cm_cli.specs.declared.program_fault.ProgramFault.TheVariants.{BadLine, Text, Image, Cap, Read, Write, TooMuch, Memory, NoThread}
+use Rattle.cm_cli.specs.declared.program_fault.ProgramFault.TheVariants.{BadLine, Text, Image, Cap, Read}
+use Rattle.cm_cli.specs.declared.program_fault.ProgramFault.TheVariants.{Write, TooMuch, Memory, NoThread}
 use Rattle.cm_cli.specs.ProgramFault.{of_session, of_take}
-
--- the rooms of the program's own machines
-abbrev pub is_own_room : ℕ → Bool
-is_own_room cap = cap == 1 || cap == 7
-
--- where a session begins: the sizes of a machine, and the machine
-pub record Start : Type 0 where
-  pub n : ℕ
-  pub cap : ℕ
-  pub machine : Machine
-
--- the machine of an image, or the fault of its bytes
-abbrev pub start_of : ℕ → ℕ → Result Machine ImageFault → Result Start ProgramFault
-start_of n cap (Ok machine) = Ok (record { n = n; cap = cap; machine = machine })
-start_of n cap (Err fault) = Err (Image fault)
-
--- of an image of this shape: a machine of another room than the program's own is refused before all of it is read
-abbrev pub sized : List ℕ → Result (ℕ × ℕ) ImageFault → Result Start ProgramFault
-sized bytes (Ok shape) =
-    if is_own_room shape.1 then start_of shape.0 shape.1 (read_image shape.0 shape.1 bytes) else Err Cap
-sized bytes (Err fault) = Err (Image fault)
-
--- where a session on an image begins, or the first fault of the image
-unfoldable pub opened : List ℕ → Result Start ProgramFault
-opened bytes = sized bytes (read_shape bytes)
+use Rattle.cm_cli.specs.Opened.{Start, opened, IsUnopened, IsOpened}
 
 -- a text was read to its end, and is this program
 abbrev pub IsProgramText : Result (Vec ℕ Global) TakeFault → ProgramText → Type 0
@@ -65,38 +41,21 @@ IsToldAs false (Ok done) fault = ⊥
 IsToldAs keeps (Err own) fault = fault ≡ of_session own
 
 -- the session broke off
-pub record HasBrokenOff (start : Start) (acts : List Act) (lines : List ℕ) (rest held holds : Option (List ℕ)) (keeps : Bool)
-    (fault : ProgramFault) : Type 0 where
+pub record HasBrokenOff (start : Start) (acts : List Act) (lines : List ℕ) (rest held holds : Option (List ℕ))
+    (keeps : Bool) (fault : ProgramFault) : Type 0 where
   pub after : Machine
   pub result : Result (Unit {0}) SessionFault
   pub ends : Ends start.n start.cap acts lines rest start.machine held after holds result
   pub told : IsToldAs keeps result fault
 
 -- an image, a program and commands were run to the end
-pub record IsRun (image : List ℕ) (text : Result (Vec ℕ Global) TakeFault) (lines : List ℕ) (rest held holds : Option (List ℕ))
-    (keeps : Bool) (kept : Option (Vec ℕ Global)) : Type 0 where
+pub record IsRun (image : List ℕ) (text : Result (Vec ℕ Global) TakeFault) (lines : List ℕ)
+    (rest held holds : Option (List ℕ)) (keeps : Bool) (kept : Option (Vec ℕ Global)) : Type 0 where
   pub start : Start
   pub begins : opened image ≡ Ok start
   pub program : ProgramText
   pub is : IsProgramText text program
   pub run : HasRun start program.acts lines rest held holds keeps kept
-
--- the image is refused with this fault; want of memory may be told of any
-abbrev pub IsUnopened : List ℕ → ProgramFault → Type 0
-IsUnopened image (Image fault) = opened image ≡ Err (Image fault)
-IsUnopened image Cap = opened image ≡ Err Cap
-IsUnopened image Memory = Unit {0}
-IsUnopened image (Text fault) = ⊥
-IsUnopened image Read = ⊥
-IsUnopened image TooMuch = ⊥
-IsUnopened image BadLine = ⊥
-IsUnopened image Write = ⊥
-IsUnopened image NoThread = ⊥
-
--- the image is one of a machine of the program's own
-pub record IsOpened (image : List ℕ) : Type 0 where
-  pub start : Start
-  pub begins : opened image ≡ Ok start
 
 -- the text is refused with this fault: it was not read to its end, or is no program, or memory ran out
 abbrev pub IsRefusedText : Result (Vec ℕ Global) TakeFault → ProgramFault → Type 0
@@ -116,15 +75,15 @@ abbrev pub IsNotBegun : List ℕ → Result (Vec ℕ Global) TakeFault → Progr
 IsNotBegun image text fault = IsUnopened image fault ⊎ (IsOpened image × IsRefusedText text fault)
 
 -- nothing was read of the commands, and nothing written
-pub record IsRefused (image : List ℕ) (text : Result (Vec ℕ Global) TakeFault) (lines : List ℕ) (rest held holds : Option (List ℕ))
-    (fault : ProgramFault) : Type 0 where
+pub record IsRefused (image : List ℕ) (text : Result (Vec ℕ Global) TakeFault) (lines : List ℕ)
+    (rest held holds : Option (List ℕ)) (fault : ProgramFault) : Type 0 where
   pub why : IsNotBegun image text fault
   pub unread : rest ≡ Some lines
   pub nothing : Keeps held holds
 
 -- the session began, and broke off
-pub record IsBrokenOff (image : List ℕ) (text : Result (Vec ℕ Global) TakeFault) (lines : List ℕ) (rest held holds : Option (List ℕ))
-    (keeps : Bool) (fault : ProgramFault) : Type 0 where
+pub record IsBrokenOff (image : List ℕ) (text : Result (Vec ℕ Global) TakeFault) (lines : List ℕ)
+    (rest held holds : Option (List ℕ)) (keeps : Bool) (fault : ProgramFault) : Type 0 where
   pub start : Start
   pub begins : opened image ≡ Ok start
   pub program : ProgramText
@@ -132,7 +91,13 @@ pub record IsBrokenOff (image : List ℕ) (text : Result (Vec ℕ Global) TakeFa
   pub broken : HasBrokenOff start program.acts lines rest held holds keeps fault
 
 -- why an image, a program and commands were not run to the end
-abbrev pub IsNotRun : List ℕ → Result (Vec ℕ Global) TakeFault → List ℕ → Option (List ℕ) → Option (List ℕ) → Option (List ℕ)
-    → Bool → ProgramFault → Type 0
+abbrev pub IsNotRun : List ℕ → Result (Vec ℕ Global) TakeFault → List ℕ → Option (List ℕ) → Option (List ℕ)
+    → Option (List ℕ) → Bool → ProgramFault → Type 0
 IsNotRun image text lines rest held holds keeps fault =
     IsRefused image text lines rest held holds fault ⊎ IsBrokenOff image text lines rest held holds keeps fault
+
+-- how a run of an image, a program and commands ends
+abbrev pub EndsRun : List ℕ → Result (Vec ℕ Global) TakeFault → List ℕ → Option (List ℕ) → Option (List ℕ)
+    → Option (List ℕ) → Bool → Result (Option (Vec ℕ Global)) ProgramFault → Type 0
+EndsRun image text lines rest held holds keeps (Ok kept) = IsRun image text lines rest held holds keeps kept
+EndsRun image text lines rest held holds keeps (Err fault) = IsNotRun image text lines rest held holds keeps fault

@@ -22,7 +22,8 @@ pub fn list<I: Source, O: Sink>(
 ) -> Result<(), ProgramFault>
     requires reader { I.has_failed source.old ≡ false }
     requires writer { O.has_failed sink.old ≡ false }
-    ensures ends { IfSome (I.left source.old) (λ text. EndsListing text (O.contents sink.old) (O.contents sink.new) result) }
+    ensures ends { IfSome (I.left source.old) (λ text. EndsListing text (O.contents sink.old)
+        (O.contents sink.new) result) }
     ensures end { IsTrue (has_read_all result) → IsAtEnd (I.left source.new) }
     ensures read { (I.has_failed source.new ≡ true) ↔ IsErrOf result ProgramFault.Read }
     ensures read_within { IsErrOf result ProgramFault.Read

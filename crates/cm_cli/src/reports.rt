@@ -2,7 +2,7 @@
 
 ghost use Rattle.std.specs.Prelude.{◌≡◌, ◌≤◌, ◌++◌, ◌==◌, false, codes, decimal, IfOk, OnErr, OnOk, IfSome, is_err};
 ghost use Rattle.std.specs.Io.KnownBytes.{Appends};
-ghost use Rattle.cm_cli.specs.Report.{HasFront, HasLine, name_of, place_of, message_of, status_of};
+ghost use Rattle.cm_cli.specs.Report.{HasFront, HasLine, name_of, fault_text, place_of, message_of, status_of};
 
 use cm_bits::{Failed, Sink, write_all};
 use itoa::Buffer;
@@ -142,8 +142,8 @@ fn write_fault<O: Sink>(sink: &mut O, number: u8) -> Result<(), Failed>
     requires some { 1 ≤ number }
     requires known { number ≤ 38 }
     requires working { O.has_failed sink.old ≡ false }
-    ensures ok { OnOk result (Appends (O.contents sink.old) (O.contents sink.new) (decimal number ++ codes " " ++ name_of number ++ codes "\n")) }
-    ensures err { OnErr result (HasFront (O.contents sink.old) (O.contents sink.new) (decimal number ++ codes " " ++ name_of number ++ codes "\n")) }
+    ensures ok { OnOk result (Appends (O.contents sink.old) (O.contents sink.new) (fault_text number)) }
+    ensures err { OnErr result (HasFront (O.contents sink.old) (O.contents sink.new) (fault_text number)) }
     ensures failed { O.has_failed sink.new ≡ is_err result }
 {
     write_number(sink, u64::from(number))?;

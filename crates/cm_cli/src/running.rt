@@ -2,7 +2,8 @@
 
 ghost use Rattle.std.specs.Prelude.{◌≡◌, ◌≤◌, ◌↔◌, ◌⊎◌, true, false, Ok, Err, IfOk, IfErr, IfSome, IsErrOf};
 ghost use Rattle.cm_image_format.specs.Whole.{read_shape};
-ghost use Rattle.cm_cli.specs.Run.{is_own_room, opened, HasRun, HasBrokenOff, IsRun, IsNotRun, IsUnopened, IsProgramText, IsRefusedText};
+ghost use Rattle.cm_cli.specs.Opened.{is_own_room, opened, IsUnopened};
+ghost use Rattle.cm_cli.specs.Run.{HasRun, HasBrokenOff, EndsRun, IsProgramText, IsRefusedText};
 
 use crate::program_fault::ProgramFault;
 use crate::takes::TakeFault;
@@ -29,13 +30,13 @@ pub fn run_session<I: Source, O: Sink>(
 ) -> Result<Option<Vec<u8>>, ProgramFault>
     requires reader { I.has_failed commands.old ≡ false }
     requires writer { O.has_failed out.old ≡ false }
-    ensures run { IfOk result (λ kept. IfSome (I.left commands.old) (λ lines. IsRun image.items text lines
-        (I.left commands.new) (O.contents out.old) (O.contents out.new) keeps kept)) }
-    ensures fault { IfErr result (λ fault. IfSome (I.left commands.old) (λ lines. IsNotRun image.items text lines
-        (I.left commands.new) (O.contents out.old) (O.contents out.new) keeps fault)) }
+    ensures ends { IfSome (I.left commands.old) (λ lines. EndsRun image.items text lines (I.left commands.new)
+        (O.contents out.old) (O.contents out.new) keeps result) }
     ensures read { I.has_failed commands.new ≡ true → IsErrOf result ProgramFault.Read }
-    ensures unread { IsErrOf result ProgramFault.Read → (I.has_failed commands.new ≡ true) ⊎ (text ≡ Err TakeFault.Read) }
+    ensures unread { IsErrOf result ProgramFault.Read
+        → (I.has_failed commands.new ≡ true) ⊎ (text ≡ Err TakeFault.Read) }
     ensures write { (O.has_failed out.new ≡ true) ↔ IsErrOf result ProgramFault.Write }
+    ensures threads { ¬ IsErrOf result ProgramFault.NoThread }
 {
     let (n, cap) = match shape(&image) {
         Ok(sizes) => sizes,
@@ -63,13 +64,13 @@ fn run_sized<const CAP: usize, I: Source, O: Sink>(
     requires own { is_own_room CAP ≡ true }
     requires reader { I.has_failed commands.old ≡ false }
     requires writer { O.has_failed out.old ≡ false }
-    ensures run { IfOk result (λ kept. IfSome (I.left commands.old) (λ lines. IsRun image.items text lines
-        (I.left commands.new) (O.contents out.old) (O.contents out.new) keeps kept)) }
-    ensures fault { IfErr result (λ fault. IfSome (I.left commands.old) (λ lines. IsNotRun image.items text lines
-        (I.left commands.new) (O.contents out.old) (O.contents out.new) keeps fault)) }
+    ensures ends { IfSome (I.left commands.old) (λ lines. EndsRun image.items text lines (I.left commands.new)
+        (O.contents out.old) (O.contents out.new) keeps result) }
     ensures read { I.has_failed commands.new ≡ true → IsErrOf result ProgramFault.Read }
-    ensures unread { IsErrOf result ProgramFault.Read → (I.has_failed commands.new ≡ true) ⊎ (text ≡ Err TakeFault.Read) }
+    ensures unread { IsErrOf result ProgramFault.Read
+        → (I.has_failed commands.new ≡ true) ⊎ (text ≡ Err TakeFault.Read) }
     ensures write { (O.has_failed out.new ≡ true) ↔ IsErrOf result ProgramFault.Write }
+    ensures threads { ¬ IsErrOf result ProgramFault.NoThread }
 {
     match n {
         0 => run_image::<0, CAP, I, O>(alloc, image, text, commands, out, keeps),
@@ -101,16 +102,16 @@ fn run_image<const N: usize, const CAP: usize, I: Source, O: Sink>(
     requires own { is_own_room CAP ≡ true }
     requires reader { I.has_failed commands.old ≡ false }
     requires writer { O.has_failed out.old ≡ false }
-    ensures run { IfOk result (λ kept. IfSome (I.left commands.old) (λ lines. IsRun image.items text lines
-        (I.left commands.new) (O.contents out.old) (O.contents out.new) keeps kept)) }
-    ensures fault { IfErr result (λ fault. IfSome (I.left commands.old) (λ lines. IsNotRun image.items text lines
-        (I.left commands.new) (O.contents out.old) (O.contents out.new) keeps fault)) }
+    ensures ends { IfSome (I.left commands.old) (λ lines. EndsRun image.items text lines (I.left commands.new)
+        (O.contents out.old) (O.contents out.new) keeps result) }
     ensures read { I.has_failed commands.new ≡ true → IsErrOf result ProgramFault.Read }
-    ensures unread { IsErrOf result ProgramFault.Read → (I.has_failed commands.new ≡ true) ⊎ (text ≡ Err TakeFault.Read) }
+    ensures unread { IsErrOf result ProgramFault.Read
+        → (I.has_failed commands.new ≡ true) ⊎ (text ≡ Err TakeFault.Read) }
     ensures write { (O.has_failed out.new ≡ true) ↔ IsErrOf result ProgramFault.Write }
+    ensures threads { ¬ IsErrOf result ProgramFault.NoThread }
 {
     let mut machine = machine_of::<N, CAP>(alloc, image)?;
-    let program = program_of(alloc, text)?;
+    let program = assembled(alloc, text)?;
     run_machine(alloc, &mut machine, &program, commands, out, keeps)
 }
 
@@ -121,7 +122,8 @@ fn machine_of<const N: usize, const CAP: usize>(
 ) -> Result<Machine<N, CAP>, ProgramFault>
     requires shape { read_shape image.items ≡ Ok (N, CAP) }
     requires own { is_own_room CAP ≡ true }
-    ensures value { IfOk result (λ kept. opened image.items ≡ Ok (record { n = N; cap = CAP; machine = kept.machine })) }
+    ensures value { IfOk result (λ kept. opened image.items
+        ≡ Ok (record { n = N; cap = CAP; machine = kept.machine })) }
     ensures fault { IfErr result (IsUnopened image.items) }
 {
     match load(alloc, &image) {
@@ -131,7 +133,7 @@ fn machine_of<const N: usize, const CAP: usize>(
 }
 
 /// The program of a text that was read.
-fn program_of(alloc: Global, text: Result<Vec<u8>, TakeFault>) -> Result<Program, ProgramFault>
+fn assembled(alloc: Global, text: Result<Vec<u8>, TakeFault>) -> Result<Program, ProgramFault>
     ensures value { IfOk result (IsProgramText text) }
     ensures fault { IfErr result (IsRefusedText text) }
 {
@@ -164,6 +166,7 @@ fn run_machine<const N: usize, const CAP: usize, I: Source, O: Sink>(
         (I.left commands.new) (O.contents out.old) (O.contents out.new) keeps fault)) }
     ensures read { (I.has_failed commands.new ≡ true) ↔ IsErrOf result ProgramFault.Read }
     ensures write { (O.has_failed out.new ≡ true) ↔ IsErrOf result ProgramFault.Write }
+    ensures threads { ¬ IsErrOf result ProgramFault.NoThread }
 {
     match session(alloc, machine, program, commands, out, &mut Plain) {
         Ok(()) => {}

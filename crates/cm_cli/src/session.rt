@@ -58,10 +58,10 @@ fn answer(alloc: Global, text: &[u8]) -> Result<Vec<u8>, ChipFault>
         Ok(nanos) => nanos,
         Err(fault) => return Err(ChipFault::Text(fault)),
     };
-    let Ok(chip) = run_chip(alloc, nanos.as_slice()) else {
+    let Ok(run) = run_chip(alloc, nanos.as_slice()) else {
         return Err(ChipFault::Memory);
     };
-    match chip_text(alloc, &chip) {
+    match chip_text(alloc, &run.view(0)) {
         Ok(bytes) => Ok(bytes),
         Err(_) => Err(ChipFault::Memory),
     }

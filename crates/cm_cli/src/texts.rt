@@ -1,10 +1,11 @@
 //! The text that tells a chip.
 
 ghost use Rattle.std.specs.Prelude.{◌≡◌, ◌<◌, ◌++◌, OnOk, IfOk};
-ghost use Rattle.cm_cli.specs.ChipText.{hex_digit, plane_text, plane_line, flag_plane, memory_plane, flag_line, memory_line, lines_below, chip_text};
+ghost use Rattle.cm_cli.specs.ChipText.{hex_digit, plane_text, plane_line, flag_plane, memory_plane, flag_line};
+ghost use Rattle.cm_cli.specs.ChipText.{memory_line, lines_below, chip_text};
 
 use cm_bits::{Addr, FlagNo, Plane};
-use cm_element::Chip;
+use cm_element::ChipView;
 use itoa::Buffer;
 use std::alloc::{AllocError, Global};
 
@@ -13,7 +14,7 @@ const FLAGS: u8 = 16;
 const ADDRESSES: u16 = 4096;
 
 /// The flag planes, then each plane of memory that is not 0, addresses rising.
-pub fn chip_text(alloc: Global, chip: &Chip) -> Result<Vec<u8>, AllocError>
+pub fn chip_text(alloc: Global, chip: &ChipView<'_>) -> Result<Vec<u8>, AllocError>
     ensures value { IfOk result (λ text. text.items ≡ chip_text chip.now) }
 {
     let mut text = Vec::new(alloc);
@@ -22,7 +23,7 @@ pub fn chip_text(alloc: Global, chip: &Chip) -> Result<Vec<u8>, AllocError>
     Ok(text)
 }
 
-fn push_flags(text: &mut Vec<u8>, chip: &Chip) -> Result<(), AllocError>
+fn push_flags(text: &mut Vec<u8>, chip: &ChipView<'_>) -> Result<(), AllocError>
     ensures ok { OnOk result (text.new.items ≡ text.old.items ++ lines_below 16 (flag_line chip.now)) }
 {
     for index in 0..FLAGS {
@@ -31,7 +32,7 @@ fn push_flags(text: &mut Vec<u8>, chip: &Chip) -> Result<(), AllocError>
     Ok(())
 }
 
-fn push_memory(text: &mut Vec<u8>, chip: &Chip) -> Result<(), AllocError>
+fn push_memory(text: &mut Vec<u8>, chip: &ChipView<'_>) -> Result<(), AllocError>
     ensures ok { OnOk result (text.new.items ≡ text.old.items ++ lines_below 4096 (memory_line chip.now)) }
 {
     for index in 0..ADDRESSES {
@@ -40,14 +41,14 @@ fn push_memory(text: &mut Vec<u8>, chip: &Chip) -> Result<(), AllocError>
     Ok(())
 }
 
-fn push_flag_line(text: &mut Vec<u8>, chip: &Chip, index: u8) -> Result<(), AllocError>
+fn push_flag_line(text: &mut Vec<u8>, chip: &ChipView<'_>, index: u8) -> Result<(), AllocError>
     requires { index < 16 }
     ensures ok { OnOk result (text.new.items ≡ text.old.items ++ flag_line chip.now index) }
 {
     push_line(text, b"flag ", u16::from(index), flag_plane(chip, index))
 }
 
-fn push_memory_line(text: &mut Vec<u8>, chip: &Chip, index: u16) -> Result<(), AllocError>
+fn push_memory_line(text: &mut Vec<u8>, chip: &ChipView<'_>, index: u16) -> Result<(), AllocError>
     requires { index < 4096 }
     ensures ok { OnOk result (text.new.items ≡ text.old.items ++ memory_line chip.now index) }
 {
@@ -58,7 +59,7 @@ fn push_memory_line(text: &mut Vec<u8>, chip: &Chip, index: u16) -> Result<(), A
     push_line(text, b"plane ", index, plane)
 }
 
-fn flag_plane(chip: &Chip, index: u8) -> Plane
+fn flag_plane(chip: &ChipView<'_>, index: u8) -> Plane
     requires { index < 16 }
     ensures value { result ≡ flag_plane chip.now index }
 {
@@ -66,7 +67,7 @@ fn flag_plane(chip: &Chip, index: u8) -> Plane
     chip.flag_plane(number)
 }
 
-fn memory_plane(chip: &Chip, index: u16) -> Plane
+fn memory_plane(chip: &ChipView<'_>, index: u16) -> Plane
     requires { index < 4096 }
     ensures value { result ≡ memory_plane chip.now index }
 {

@@ -9,8 +9,9 @@ use Rattle.std.proofs.lemmas.Option.{slice_get-map}
 use Rattle.cm_model.specs.declared.message.Message.{Message}
 use Rattle.cm_model.specs.Router.{has_to_cross, message_across}
 use Rattle.cm_model.specs.Buffers.{leaving_place, element_at, without, outgoing, buffer_after_dimension}
-use Rattle.cm_crossing.specs.declared.queue.Ticket.{Ticket}
-use Rattle.cm_crossing.specs.Tickets.{has_to_go, ticket_across, place_left, ticket_going, exchanged}
+use Rattle.cm_slots.specs.declared.ticket.Ticket.{Ticket}
+use Rattle.cm_slots.specs.Queues.{place_of_leaver}
+use Rattle.cm_slots.specs.Tickets.{has_to_go, ticket_across, ticket_going, exchanged}
 use Rattle.cm_crossing.specs.Standing.{message_of, standing, AreKept}
 
 -- ---- who leaves
@@ -21,8 +22,8 @@ first_place row d [] = refl
 first_place row d (t ∷ ts) = ap (λ (k : ℕ). cond (not (has_to_go d t)) (1 + k) 0) (first_place row d ts)
 
 pub same_place : (row : List Message) (cap d : ℕ) (ts : List Ticket)
-    → leaving_place cap d (standing row ts) ≡ place_left cap d ts
-unfolding leaving_place place_left
+    → leaving_place cap d (standing row ts) ≡ place_of_leaver (has_to_go d) cap ts
+unfolding leaving_place place_of_leaver
 same_place row cap d ts = rw (length-map ts (message_of row), first_place row d ts) refl
 
 without-standing : (row : List Message) (ts : List Ticket) (o : Option ℕ)
@@ -51,8 +52,8 @@ pub going-standing : (row : List Message) (cap d : ℕ) (ts : List Ticket)
     → outgoing cap d (standing row ts) ≡ option_map (message_of row) (ticket_going cap d ts)
 going-standing row cap d ts =
     ap (λ (o : Option ℕ). option_map (message_across d) (element_at (standing row ts) o)) (same_place row cap d ts)
-    ∙ ap (option_map (message_across d)) (element-standing row ts (place_left cap d ts))
-    ∙ across-standing row d (element_at ts (place_left cap d ts))
+    ∙ ap (option_map (message_across d)) (element-standing row ts (place_of_leaver (has_to_go d) cap ts))
+    ∙ across-standing row d (element_at ts (place_of_leaver (has_to_go d) cap ts))
 
 listed-standing : (row : List Message) (o : Option Ticket)
     → option_to_list (option_map (message_of row) o) ≡ standing row (option_to_list o)
@@ -66,9 +67,9 @@ pub exchanged-standing : (row : List Message) (cap d : ℕ) (here there : List T
 unfolding buffer_after_dimension
 exchanged-standing row cap d here there =
     let f : Ticket → Message = message_of row in
-    map-append f (without here (place_left cap d here)) (option_to_list (ticket_going cap d there))
+    map-append f (without here (place_of_leaver (has_to_go d) cap here)) (option_to_list (ticket_going cap d there))
     ∙ ap (λ (ms : List Message). ms ++ map f (option_to_list (ticket_going cap d there)))
-    (sym (without-standing row here (place_left cap d here)))
+    (sym (without-standing row here (place_of_leaver (has_to_go d) cap here)))
     ∙ ap (λ (o : Option ℕ). without (standing row here) o ++ map f (option_to_list (ticket_going cap d there)))
     (sym (same_place row cap d here))
     ∙ ap (λ (ms : List Message). without (standing row here) (leaving_place cap d (standing row here)) ++ ms)
@@ -94,6 +95,7 @@ going_kept count d (t ∷ ts) (Some (suc i)) h = going_kept count d ts (Some i) 
 pub exchanged_kept : (count cap d : ℕ) (here there : List Ticket) → AreKept count here → AreKept count there
     → AreKept count (exchanged cap d here there)
 exchanged_kept count cap d here there h t =
-    All-append (λ (t : Ticket). t.number < count) (without here (place_left cap d here))
+    All-append (λ (t : Ticket). t.number < count) (without here (place_of_leaver (has_to_go d) cap here))
     (option_to_list (ticket_going cap d there))
-    (without_kept count here (place_left cap d here) h) (going_kept count d there (place_left cap d there) t)
+    (without_kept count here (place_of_leaver (has_to_go d) cap here) h) (going_kept count d there (place_of_leaver
+    (has_to_go d) cap there) t)

@@ -1,14 +1,13 @@
 -- One chip's tickets are written, and the row has more messages.
-use Rattle.std.proofs.Common.{◌≡◌, ◌≢◌, ℕ, Bool, ⊎_elim, get_or-set_same, get_or-set_other, length-set, suc, ◌<◌, ◌≤◌}
+use Rattle.std.proofs.Common.{◌≡◌, ℕ, get_or-set_same, length-set, suc, ◌<◌, ◌≤◌}
 use Rattle.std.proofs.Common.{◌++◌, List, [], ◌∷◌, length, set, get_or, refl, sym, ap, ◌∙◌, arith}
 use Rattle.std.specs.List.{All}
-use Rattle.std.proofs.lemmas.Bool.{cases_eq}
-use Rattle.std.proofs.lemmas.List.{length-append, map-set, get_or-map, get_or_read}
+use Rattle.std.proofs.lemmas.List.{length-append, map-set, set-set, set-get_or, get_or-map}
 use Rattle.std.proofs.lemmas.List.Elements.{All-set}
 use Rattle.cm_model.specs.declared.message.Message.{Message}
 use Rattle.cm_model.specs.Array.{list_at}
-use Rattle.cm_crossing.specs.declared.queue.Ticket.{Ticket}
-use Rattle.cm_crossing.specs.Standing.{standing, all_standing, AreKept, AreQuiet}
+use Rattle.cm_slots.specs.declared.ticket.Ticket.{Ticket}
+use Rattle.cm_crossing.specs.Standing.{standing, all_standing, AreKept, IsWritten}
 use Rattle.cm_crossing.proofs.Keeping.{standing_kept, kept_longer}
 use Rattle.cm_crossing.proofs.Wholes.{messages_within}
 
@@ -44,24 +43,6 @@ pub written_standing : (row : List Message) (queues : List (List Ticket)) (i : �
     → all_standing row (set queues i queue) ≡ set (all_standing row queues) i (standing row queue)
 written_standing row queues i queue = map-set (standing row) queues i queue
 
--- a queue from which tickets were taken out leaves a quiet block quiet
-pub quiet_fewer : (busy : List Bool) (queues : List (List Ticket)) (i : ℕ) (queue : List Ticket)
-    → length queue ≤ length (get_or queues i []) → AreQuiet busy queues → AreQuiet busy (set queues i queue)
-quiet_fewer busy queues i queue fewer quiet c l calm =
-    ⊎_elim
-    (λ (e : c ≡ i).
-    let inside : i < length queues = omega (arith, e, length-set queues i queue) in
-    let none : get_or queues i [] ≡ [] = ap (λ (k : ℕ). get_or queues k []) (sym e)
-    ∙ quiet c (omega (arith, length-set queues i queue)) calm in
-    ap (λ (k : ℕ). get_or (set queues i queue) k []) e ∙ get_or-set_same queues i queue [] inside
-    ∙ empty queue (omega (arith, ap length none)))
-    (λ (e : c ≢ i). get_or-set_other queues i c queue [] e ∙ quiet c (omega (arith, length-set queues i queue)) calm)
-    (cases_eq c i)
-  where
-    empty : (ts : List Ticket) → length ts ≤ 0 → ts ≡ []
-    empty [] h = refl
-    empty (t ∷ ts) h = absurd (omega arith)
-
 -- nowhere more messages than there is room for
 pub changed_within : (cap : ℕ) (row : List Message) (queues : List (List Ticket)) (i : ℕ) (queue : List Ticket)
     → All (λ ts. length ts ≤ cap) queues → length queue ≤ cap
@@ -70,8 +51,27 @@ changed_within cap row queues i queue within few =
     messages_within cap row (set queues i queue)
     (All-set (λ (ts : List Ticket). length ts ≤ cap) queues i queue few within)
 
--- the messages of a chip whose tickets were read
-pub standing_read : (row : List Message) (queues : List (List Ticket)) (i : ℕ) (queue : List Ticket)
-    → i < length queues → queue ≡ get_or queues i queue → standing row queue ≡ list_at (all_standing row queues) i
-standing_read row queues i queue inside read = ap (standing row) (get_or_read queues i queue inside read [])
-    ∙ sym (get_or-map (standing row) queues i [] [] inside)
+-- the messages of a chip are those of its tickets
+pub standing_read : (row : List Message) (queues : List (List Ticket)) (i : ℕ) → i < length queues
+    → standing row (list_at queues i) ≡ list_at (all_standing row queues) i
+standing_read row queues i inside = sym (get_or-map (standing row) queues i [] [] inside)
+
+-- ---- one chip's tickets, written again and again
+
+pub not_written : (i : ℕ) (queues : List (List Ticket)) → IsWritten i queues queues
+not_written i queues = sym (set-get_or queues i [])
+
+-- what stands there then
+pub written_here : (i : ℕ) (old new : List (List Ticket)) (queue : List Ticket) → i < length old
+    → new ≡ set old i queue → list_at new i ≡ queue
+written_here i old new queue inside is =
+    ap (λ (r : List (List Ticket)). list_at r i) is ∙ get_or-set_same old i queue [] inside
+
+pub written_again : (i : ℕ) (first old new : List (List Ticket)) (queue : List Ticket) → i < length old
+    → new ≡ set old i queue → IsWritten i first old → IsWritten i first new
+written_again i first old new queue inside is was =
+    is ∙ ap (λ (r : List (List Ticket)). set r i queue) was ∙ set-set first i (list_at old i) queue
+    ∙ ap (set first i) (sym (written_here i old new queue inside is))
+
+pub written_long : (i : ℕ) (old new : List (List Ticket)) → IsWritten i old new → length new ≡ length old
+written_long i old new is = ap length is ∙ length-set old i (list_at new i)

@@ -1,7 +1,9 @@
 -- Delivery at one chip, ticket by ticket.
 use Rattle.std.proofs.Common.{◌≡◌, ℕ, suc, ◌+◌, ◌<◌, ◌≤◌, true, false, Bool, List, [], ◌∷◌, ◌++◌, length, map, get_or}
-use Rattle.std.proofs.Common.{remove, take, drop, refl, sym, ap, ◌∙◌, arith, append_assoc}
-use Rattle.std.proofs.lemmas.List.{map-append, take-map, drop-map, append-nil, length-append, get_or-map}
+use Rattle.std.proofs.Common.{remove, set, take, drop, Some, refl, sym, ap, ◌∙◌, arith, append_assoc}
+use Rattle.std.specs.List.{slice_get}
+use Rattle.std.proofs.lemmas.Option.{slice_get_within, get_or_from_slice_get}
+use Rattle.std.proofs.lemmas.List.{map-append, take-map, drop-map, append-nil, length-append, get_or-map, set-set}
 use Rattle.std.proofs.lemmas.List.Elements.{All-append, All-take, All-drop}
 use Rattle.cm_model.specs.declared.message.Message.{Message}
 use Rattle.cm_model.specs.declared.message.Event.{Event}
@@ -9,7 +11,7 @@ use Rattle.cm_model.specs.declared.message.Event.TheVariants.{Delivered}
 use Rattle.cm_model.specs.Processor.{Processor}
 use Rattle.cm_model.specs.Letters.{chip_after_delivery}
 use Rattle.cm_router.specs.Delivery.{HasGone, HasHandedOver}
-use Rattle.cm_crossing.specs.declared.queue.Ticket.{Ticket}
+use Rattle.cm_slots.specs.declared.ticket.Ticket.{Ticket}
 use Rattle.cm_crossing.specs.Standing.{message_of, standing, AreKept, delivered_of, kept_of}
 
 -- how far it has come: the messages are those kept of the ones gone through, and then the rest
@@ -166,7 +168,13 @@ remove_kept count ts i h =
     All-append P (take i ts) (drop (suc i) ts) (All-take P i ts h) (All-drop P (suc i) ts h)
 
 -- the message of the ticket that was read
-pub read_standing : (row : List Message) (ts : List Ticket) (i : ℕ) (t : Ticket) → i < length ts → t ≡ get_or ts i t
+pub read_standing : (row : List Message) (ts : List Ticket) (i : ℕ) (t : Ticket) → slice_get ts i ≡ Some t
     → get_or (standing row ts) i (message_of row t) ≡ message_of row t
-read_standing row ts i t inside read = get_or-map (message_of row) ts i t (message_of row t) inside
-    ∙ ap (message_of row) (sym read)
+read_standing row ts i t found = get_or-map (message_of row) ts i t (message_of row t) (slice_get_within ts i t found)
+    ∙ ap (message_of row) (get_or_from_slice_get ts i t t found)
+
+-- of all chips only this one was changed, once more
+pub others_still : (run now next : List (List Processor)) (c : ℕ) → now ≡ set run c (get_or now c [])
+    → next ≡ set now c (get_or next c []) → next ≡ set run c (get_or next c [])
+others_still run now next c was is =
+    is ∙ ap (λ v. set v c (get_or next c [])) was ∙ set-set run c (get_or now c []) (get_or next c [])

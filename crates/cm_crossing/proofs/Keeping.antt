@@ -1,21 +1,21 @@
 -- Tickets and the row of messages that they stand for, as a petit cycle begins and ends.
-use Rattle.std.proofs.Common.{◌≡◌, ◌≢◌, ℕ, suc, ◌+◌, ◌-◌, ◌<◌, ◌≤◌, ◌++◌, Bool, true, false, not, IsTrue, List, []}
-use Rattle.std.proofs.Common.{◌∷◌, length, take, drop, set, get_or, refl, sym, ap, ◌∙◌, subst, arith, ⊎_elim, below_more}
+use Rattle.std.proofs.Common.{◌≡◌, ◌≢◌, ℕ, suc, ◌+◌, ◌-◌, ◌<◌, ◌≤◌, ◌++◌, Some, List, []}
+use Rattle.std.proofs.Common.{◌∷◌, length, take, drop, set, get_or, refl, sym, ap, ◌∙◌, subst, arith, ⊎_elim}
+use Rattle.std.proofs.Common.{below_more}
 use Rattle.std.proofs.Common.{get_or-set_same, get_or-set_other}
-use Rattle.std.specs.Bool.{beq}
-use Rattle.std.specs.List.{IsAnyAnswer, slice_range}
+use Rattle.std.specs.List.{slice_get, slice_range}
 use Rattle.std.proofs.Math.Seq.{drop-append_seam, take-length}
-use Rattle.std.proofs.lemmas.Bool.{cases_lt}
+use Rattle.std.proofs.lemmas.Bool.{cases_eq}
+use Rattle.std.proofs.lemmas.Option.{slice_get_within, get_or_from_slice_get}
 use Rattle.std.proofs.lemmas.List.{length-map, map-append, length-append, append_assoc, length-set, get_or-map}
-use Rattle.std.proofs.lemmas.List.{get_or_append_left, get_or_at, get_or_past, take_more, ext_get_or, drop-append-le}
+use Rattle.std.proofs.lemmas.List.{get_or_append_left, get_or_at, take_more, take_more_set, ext_get_or, drop-append-le}
+use Rattle.std.proofs.lemmas.List.{append-nil, take_all}
 use Rattle.std.proofs.lemmas.List.{take-append-le, length-drop}
 use Rattle.std.proofs.lemmas.List.Elements.{All-append, All-cons, All-nil}
-use Rattle.std.proofs.lemmas.List.FromFn.{map-range_with_len_more}
 use Rattle.cm_model.specs.declared.message.Message.{Message}
-use Rattle.cm_model.specs.Each.{each_from}
-use Rattle.cm_crossing.specs.declared.queue.Ticket.{Ticket}
+use Rattle.cm_slots.specs.declared.ticket.Ticket.{Ticket}
 use Rattle.cm_model.specs.Array.{list_at}
-use Rattle.cm_crossing.specs.Standing.{no_message, message_of, standing, all_standing, AreKept, AreQuiet, start_of}
+use Rattle.cm_crossing.specs.Standing.{no_message, message_of, standing, all_standing, AreKept, no_ticket, start_of}
 use Rattle.cm_crossing.specs.Standing.{AreTogether}
 
 -- ---- a longer row
@@ -104,11 +104,99 @@ together_behind row ms (t ∷ ts) is start =
           ∙ ap (take (length ms)) (drop-append_seam row ms) ∙ take-length ms ∙ sym is;
     }
 
--- the tickets of a chip that is carried over: one more
-pub start_kept : (ts : List Ticket) (t : Ticket) (start : ℕ) → (0 < length ts → start_of ts ≡ start)
-    → (length ts ≡ 0 → t.number ≡ start) → start_of (ts ++ t ∷ []) ≡ start
-start_kept [] t start was new = new refl
-start_kept (x ∷ ts) t start was new = was (omega arith)
+-- so many of a chip's messages have been carried over to the second row, and their tickets tell that
+pub record IsCarried (row begun spare : List Message) (before now : List Ticket) (place : ℕ) : Type 0 where
+  pub items : spare ≡ begun ++ take place (standing row before)
+  pub value : standing spare (take place now) ≡ take place (standing row before)
+  pub start : 0 < place → start_of now ≡ length begun
+  pub kept : AreKept (length spare) (take place now)
+  pub long : length now ≡ length before
+  pub ahead : (j : ℕ) → place ≤ j → get_or now j no_ticket ≡ get_or before j no_ticket
+
+pub none_carried : (row spare : List Message) (ts : List Ticket) → IsCarried row spare spare ts ts 0
+none_carried row spare ts = record {
+  items = sym (append-nil spare);
+  value = refl;
+  start = λ h. absurd (omega arith);
+  kept = All-nil (λ (t : Ticket). t.number < length spare);
+  long = refl;
+  ahead = λ j h. refl;
+}
+
+-- the next ticket still stands for a message
+pub carried_number : (row begun spare : List Message) (before now : List Ticket) (place count : ℕ) (t : Ticket)
+    → slice_get now place ≡ Some t → AreKept count before → IsCarried row begun spare before now place
+    → t.number < count
+carried_number row begun spare before now place count t found kept was =
+    let there : place < length before = omega (arith, slice_get_within now place t found, was.long) in
+    let same : get_or before place no_ticket ≡ t =
+    sym (was.ahead place (omega arith)) ∙ get_or_from_slice_get now place t no_ticket found in
+    omega (arith, kept place no_ticket there, ap (λ (x : Ticket). x.number) same)
+
+pub one_more_carried : (row begun spare : List Message) (before now : List Ticket) (place number : ℕ) (t : Ticket)
+    → slice_get now place ≡ Some t → number ≡ length spare → IsCarried row begun spare before now place
+    → IsCarried row begun (spare ++ message_of row t ∷ []) before
+    (set now place (record { rel = t.rel; number = number })) (place + 1)
+one_more_carried row begun spare before now place number t found is was =
+    let m : Message = message_of row t in
+    let ms : List Message = standing row before in
+    let new : Ticket = record { rel = t.rel; number = number } in
+    let inside : place < length now = slice_get_within now place t found in
+    let there : place < length before = omega (arith, was.long) in
+    let far : place < length ms = omega (arith, length-map before (message_of row)) in
+    let same : get_or before place no_ticket ≡ t =
+    sym (was.ahead place (omega arith)) ∙ get_or_from_slice_get now place t no_ticket found in
+    let read : get_or ms place m ≡ m =
+    get_or-map (message_of row) before place no_ticket m there ∙ ap (message_of row) same in
+    let taken : take (place + 1) (set now place new) ≡ take place now ++ new ∷ [] = take_more_set now place new
+    inside in
+    record {
+      items = ap (λ xs. xs ++ m ∷ []) was.items ∙ append_assoc begun (take place ms) (m ∷ [])
+          ∙ ap (λ xs. begun ++ xs) (ap (λ x. take place ms ++ x ∷ []) (sym read) ∙ sym (take_more ms place m far));
+      value = ap (standing (spare ++ m ∷ [])) taken
+          ∙ entered_more spare (take place now) [] ms place number m is was.kept far (sym read) was.value;
+      start = λ some. ⊎_elim
+          (λ (e : place ≡ 0).
+          let none : take place ms ≡ [] = ap (λ (n : ℕ). take n ms) e in
+          let begins : length spare ≡ length begun =
+          ap length was.items ∙ length-append begun (take place ms) ∙ omega (arith, ap length none) in
+          ap (λ (n : ℕ). start_of (set now n new)) e
+          ∙ ap (λ (x : Ticket). x.number) (get_or-set_same now 0 new no_ticket (omega (arith, e, inside))) ∙ is
+          ∙ begins)
+          (λ (e : place ≢ 0).
+          ap (λ (x : Ticket). x.number) (get_or-set_other now place 0 new no_ticket (λ z. e (sym z)))
+          ∙ was.start (omega (arith, e)))
+          (cases_eq place 0);
+      kept = subst (AreKept (length (spare ++ m ∷ []))) (sym taken)
+          (entered_kept spare (take place now) number m is was.kept);
+      long = length-set now place new ∙ was.long;
+      ahead = λ j h. get_or-set_other now place j new no_ticket (omega arith) ∙ was.ahead j (omega arith);
+    }
+
+-- all of them
+module _ (row begun spare : List Message) (before now : List Ticket) (place : ℕ) (past : length now ≤ place)
+    (was : IsCarried row begun spare before now place) where
+  all_tickets : take place now ≡ now
+  all_tickets = take_all place now past
+
+  all_messages : take place (standing row before) ≡ standing row before
+  all_messages = take_all place (standing row before) (omega (arith, length-map before (message_of row), was.long))
+
+  pub carried_items : spare ≡ begun ++ standing row before
+  carried_items = was.items ∙ ap (λ (ms : List Message). begun ++ ms) all_messages
+
+  pub carried_value : standing spare now ≡ standing row before
+  carried_value = ap (standing spare) (sym all_tickets) ∙ was.value ∙ all_messages
+
+  pub carried_kept : AreKept (length spare) now
+  carried_kept = subst (AreKept (length spare)) all_tickets was.kept
+
+  pub carried_together : AreTogether spare now
+  carried_together =
+      subst (λ (ms : List Message). AreTogether ms now) (sym carried_items)
+      (together_behind begun (standing row before) now
+      (ap (λ (ms : List Message). standing ms now) (sym carried_items) ∙ carried_value)
+      (λ some. was.start (omega arith)))
 
 -- ---- all chips
 
@@ -164,28 +252,6 @@ laid_out_more row spare more before queues i old new inside read is kept togethe
       rest = λ c h. let other : c ≢ i = omega arith in others c other ∙ was.rest c (omega arith);
     }
 
--- where no ticket stands
-pub laid_out_past : (row spare : List Message) (before queues : List (List Ticket)) (i last : ℕ) → i ≤ last
-    → ((c : ℕ) → i ≤ c → c < last → c < length before → list_at before c ≡ [])
-    → AreLaidOut row spare before queues i → AreLaidOut row spare before queues last
-laid_out_past row spare before queues i last ordered none was =
-    let still : (c : ℕ) → i ≤ c → c < last → c < length before → list_at queues c ≡ [] =
-    λ c late h l. was.rest c late ∙ none c late h l in
-    record {
-      long = was.long;
-      value = λ c h l. ⊎_elim (λ (early : c < i). was.value c early l)
-          (λ (late : i ≤ c). ap (standing spare) (still c late h l) ∙ sym (ap (standing row) (none c late h l)))
-          (cases_lt c i);
-      kept = λ c h l. ⊎_elim (λ (early : c < i). was.kept c early l)
-          (λ (late : i ≤ c). subst (AreKept (length spare)) (sym (still c late h l))
-          (All-nil (λ (t : Ticket). t.number < length spare)))
-          (cases_lt c i);
-      together = λ c h l. ⊎_elim (λ (early : c < i). was.together c early l)
-          (λ (late : i ≤ c). subst (AreTogether spare) (sym (still c late h l)) (together_none spare))
-          (cases_lt c i);
-      rest = λ c h. was.rest c (omega arith);
-    }
-
 -- all of them
 pub laid_out_all : (row spare : List Message) (before queues : List (List Ticket)) (last : ℕ) → length before ≤ last
     → AreLaidOut row spare before queues last → all_standing spare queues ≡ all_standing row before
@@ -197,42 +263,3 @@ laid_out_all row spare before queues last all is =
     let there : c < length before = omega (arith, is.long) in
     get_or-map (standing spare) queues c [] [] inside ∙ is.value c (omega arith) there
     ∙ sym (get_or-map (standing row) before c [] [] there))
-
--- no ticket stands where none stood
-pub laid_out_quiet : (row spare : List Message) (busy : List Bool) (before queues : List (List Ticket)) (last : ℕ)
-    → length before ≤ last → AreQuiet busy before → AreLaidOut row spare before queues last → AreQuiet busy queues
-laid_out_quiet row spare busy before queues last all quiet is c l calm =
-    let there : c < length before = omega (arith, is.long) in
-    none_for_none (list_at queues c)
-    (is.value c (omega arith) there ∙ ap (standing row) (quiet c there calm))
-  where
-    none_for_none : (ts : List Ticket) → standing spare ts ≡ [] → ts ≡ []
-    none_for_none [] h = refl
-    none_for_none (t ∷ ts) h = let some : length (standing spare (t ∷ ts)) ≡ 0 = ap length h in absurd (omega arith)
-
--- ---- rows that are made
-
-pub each_from-none : {X : Type 0} (f : ℕ → X) → each_from 0 0 f ≡ []
-unfolding each_from
-each_from-none f = refl
-
-pub each_from-next : {X : Type 0} (f : ℕ → X) (count : ℕ)
-    → each_from 0 (count + 1) f ≡ each_from 0 count f ++ f count ∷ []
-unfolding each_from
-each_from-next f count = map-range_with_len_more f 0 count count (omega arith)
-
--- ---- blocks that are looked at
-
--- where none is true, each reads false, past the end too
-pub none_true : (busy : List Bool) (found : Bool) → IsTrue (not found)
-    → IsAnyAnswer (λ b t. beq b true ≡ t) busy found → (k : ℕ) → get_or busy k false ≡ false
-none_true busy true h answer k = let wrong : false ≡ true = h in absurd cc
-none_true busy false h answer k =
-    ⊎_elim
-    (λ (l : k < length busy). is_false (get_or busy k false) (answer k false (omega arith) l))
-    (λ (l : length busy ≤ k). get_or_past busy k false l)
-    (cases_lt k (length busy))
-  where
-    is_false : (b : Bool) → beq b true ≡ false → b ≡ false
-    is_false true e = absurd cc
-    is_false false e = refl

@@ -1,9 +1,3 @@
-pub mod Leaving
-pub mod Lanes
-pub mod Rows
-pub mod Blocks
-pub mod Pairs
-pub mod Pairing
 pub mod Carrying
 pub mod Keeping
 pub mod Wholes

@@ -1,10 +1,8 @@
 -- The tickets of all chips, and the messages that stand there.
-use Rattle.std.proofs.Common.{◌≡◌, ℕ, ◌<◌, ◌≤◌, ◌^◌, List, [], length, get_or, refl, sym, ap, ◌∙◌, subst, arith}
+use Rattle.std.proofs.Common.{◌≡◌, ℕ, ◌<◌, ◌≤◌, ◌^◌, List, [], ◌∷◌, length, get_or, refl, sym, ap, ◌∙◌, subst, arith}
 use Rattle.std.specs.Prelude.{bit_xor}
 use Rattle.std.specs.List.{All}
-use Rattle.std.specs.Vec.{with_items}
-use Rattle.std.specs.Global.{Vec}
-use Rattle.std.proofs.lemmas.List.{length-map, get_or-map, with_items_is}
+use Rattle.std.proofs.lemmas.List.{length-map, get_or-map}
 use Rattle.std.proofs.lemmas.List.Elements.{All-from_get_or, All-nil}
 use Rattle.cm_model.specs.declared.message.Message.{Message}
 use Rattle.cm_model.specs.Array.{each_chip, list_at}
@@ -12,16 +10,11 @@ use Rattle.cm_model.specs.Buffers.{outgoing, buffer_after_dimension}
 use Rattle.cm_model.specs.Each.{each_from}
 use Rattle.cm_model.proofs.Each.{is_each, length-each_from, get_or-each_below}
 use Rattle.cm_model.proofs.Flips.{across_below}
-use Rattle.cm_crossing.specs.declared.queue.Ticket.{Ticket}
-use Rattle.cm_crossing.specs.Tickets.{exchanged}
+use Rattle.cm_slots.specs.declared.ticket.Ticket.{Ticket}
+use Rattle.cm_slots.specs.Tickets.{exchanged}
 use Rattle.cm_crossing.specs.Standing.{message_of, standing, all_standing, AreKept, AreTogether}
 use Rattle.cm_crossing.proofs.Carrying.{exchanged-standing, exchanged_kept}
 use Rattle.cm_crossing.proofs.Keeping.{together_none}
-
--- a row whose slice was lent whole has what was written to the slice
-pub items-lent : {X : Type 0} (row : Vec X) (now : List X) → length now ≡ length row.items
-    → (with_items row now).items ≡ now
-items-lent row now same = with_items_is row now (same ∙ sym row.ok.0)
 
 -- ---- as many tickets as messages
 
@@ -50,6 +43,11 @@ messages_within cap row queues h k d l =
       length-map ts
           (λ (t : Ticket). message_of row t),
     )
+
+-- no more than none is none
+pub none_where_no_more : {X : Type 0} (xs : List X) → length xs ≤ 0 → xs ≡ []
+none_where_no_more [] h = refl
+none_where_no_more (x ∷ xs) h = absurd (omega arith)
 
 -- ---- a dimension
 

@@ -1,3 +1,1 @@
-pub mod Tickets
-pub mod Rows
 pub mod Standing

@@ -1,13 +1,14 @@
 -- Which messages stand at the chips, where tickets cross in their place. Ours.
-use Rattle.std.specs.Prelude.{◌≡◌, ℕ, ◌+◌, ◌*◌, ◌/◌, ◌<◌, ◌≤◌, Bool, false, IsTrue, List, [], length, map, Vec}
-use Rattle.std.specs.Prelude.{slice_index_or, vec_len, vec_capacity}
+use Rattle.std.specs.Prelude.{◌≡◌, ℕ, ◌+◌, ◌*◌, ◌<◌, ◌≤◌, Bool, IsTrue, List, [], length, map, Vec}
+use Rattle.std.specs.Prelude.{slice_index_or, slice_set, vec_len, vec_capacity}
 use Rattle.std.specs.List.{All, slice_range}
 use Rattle.std.specs.declared.alloc.Global.{Global}
 use Rattle.cm_model.specs.declared.message.Message.{Message}
 use Rattle.cm_model.specs.Processor.{Processor}
 use Rattle.cm_model.specs.Letters.{senders_taken, messages_sent, can_receive}
 use Rattle.cm_model.specs.Buffers.{delivered, kept}
-use Rattle.cm_crossing.specs.declared.queue.Ticket.{Ticket}
+use Rattle.cm_model.specs.Array.{list_at}
+use Rattle.cm_slots.specs.declared.ticket.Ticket.{Ticket}
 
 -- what contracts see of the messages of a run of chips:
 -- those at each chip, in order of arrival, for how many more there are places,
@@ -69,22 +70,19 @@ pub record AreTogether (row : List Message) (ts : List Ticket) : Type 0 where
   pub within : start_of ts + length ts ≤ length row
   pub value : slice_range row (start_of ts) (start_of ts + length ts) ≡ standing row ts
 
--- the chips are looked at in blocks of 64: of a block that is not busy, no chip has a ticket
-abbrev pub AreQuiet : List Bool → List (List Ticket) → Type 0
-AreQuiet busy queues = (c : ℕ) → c < length queues → slice_index_or busy (c / 64) false ≡ false
-    → slice_index_or queues c [] ≡ []
+-- the tickets of one chip were written, and no others
+abbrev pub IsWritten : ℕ → List (List Ticket) → List (List Ticket) → Type 0
+IsWritten here old new = new ≡ slice_set old here (list_at new here)
 
--- at most 4,096 chips in 64 blocks, and 15 places of the row for each, and four more, in two rows in turn;
--- each ticket stands for a message, and there are none in a block that is not busy
-pub record IsCrossing (row spare : Vec Message Global) (places : ℕ) (queues : List (List Ticket)) (busy : List Bool)
-    (gathered : Bool) : Type 0 where
+-- at most 4,096 chips, and 15 places of the row for each, and four more, in two rows in turn;
+-- each ticket stands for a message
+pub record IsCrossing (row spare : Vec Message Global) (places : ℕ) (queues : List (List Ticket)) (gathered : Bool)
+    : Type 0 where
   pub few : length queues ≤ 4096
-  pub blocks : length busy ≡ 64
   pub enough : 15 * length queues + 4 ≤ places
-  pub most : places ≤ 65536
+  pub most : places ≤ 65535
   pub capacity : places ≤ vec_capacity row
   pub spare_capacity : places ≤ vec_capacity spare
   pub filled : vec_len row ≤ places
   pub kept : All (AreKept (length row.items)) queues
-  pub quiet : AreQuiet busy queues
   pub together : IsTrue gathered → All (AreTogether row.items) queues

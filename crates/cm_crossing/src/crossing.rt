@@ -1,32 +1,29 @@
 //! The messages of a run of chips.
 
-ghost use Rattle.std.specs.Prelude.{◌≡◌, ◌+◌, ◌*◌, ◌^◌, ◌<◌, ◌≤◌, ◌++◌, [], ◌∷◌, IfOk, IsTrue, length, map};
+ghost use Rattle.std.specs.Prelude.{◌≡◌, ◌+◌, ◌^◌, ◌<◌, ◌≤◌, ◌++◌, [], ◌∷◌, IfOk, IsTrue, length, map};
 ghost use Rattle.std.specs.Prelude.{slice_set, bit_xor, vec_len, vec_capacity};
 ghost use Rattle.std.specs.List.{All};
 ghost use Rattle.cm_model.specs.declared.message.Event.TheVariants as event;
 ghost use Rattle.cm_model.specs.Letters.{chip_after_injection, chip_after_delivery};
 ghost use Rattle.cm_model.specs.Each.{each_from};
-ghost use Rattle.cm_model.specs.Array.{each_chip, list_at};
+ghost use Rattle.cm_model.specs.Array.{each_chip, chip_at, list_at};
+ghost use Rattle.cm_model.specs.Keeping.{AreSizes};
 ghost use Rattle.cm_model.specs.Buffers.{outgoing, buffer_after_dimension};
 ghost use Rattle.cm_crossing.specs.Standing.{taken_with, sent_with, delivered_of, kept_of};
 
-use crate::exchange::cross_row;
-use crate::marks::{BLOCK, look_again};
-use crate::queue::Queue;
 use crate::row::{give_out, lay_out, read_out, stand};
+use crate::sizes::Sizes;
 use cm_bits::NoMemory;
-use cm_element::Chip;
+use cm_element::Run;
 use cm_message::{Event, Message};
-use cm_router::{Node, may_ask, take_none};
+use cm_router::{Node, chip_asks, take_none};
+use cm_slots::Slots;
 use std::alloc::Global;
 use std::marker::Model;
 use std::mem;
 
-/// As many blocks as the largest machine has.
-const BLOCKS: usize = 64;
-
-/// Most places of the row: a ticket tells one in sixteen bits.
-const MOST_PLACES: usize = 65536;
+/// Most places of the row: as many as tickets can tell.
+const MOST_PLACES: usize = 65535;
 
 /// Most messages that a chip takes in at once.
 const MOST_INJECTED: usize = 4;
@@ -44,9 +41,7 @@ pub struct Crossing {
     /// Most messages that the row may have.
     places: usize,
     /// By chip, the tickets of the messages that stand there.
-    queues: Vec<Queue>,
-    /// By block of chips, whether a ticket may stand there.
-    busy: [bool; BLOCKS],
+    slots: Slots,
     /// Whether nothing has moved since all were gathered.
     gathered: bool,
 }
@@ -58,13 +53,13 @@ impl Model for Crossing {
     ghost Value = { UnderWay };
 
     ghost view = { λ crossing. record {
-      buffers = all_standing crossing.row.items crossing.queues.items;
+      buffers = all_standing crossing.row.items crossing.slots;
       free = crossing.places - vec_len crossing.row;
       gathered = crossing.gathered;
     } };
 
-    ghost invariant = { λ crossing. IsCrossing crossing.row crossing.spare crossing.places crossing.queues.items
-        crossing.busy crossing.gathered };
+    ghost invariant = { λ crossing. IsCrossing crossing.row crossing.spare crossing.places crossing.slots
+        crossing.gathered };
 }
 
 impl Crossing {
@@ -78,13 +73,12 @@ impl Crossing {
         let places = MOST_PLACES.min(32 * chips + MOST_INJECTED);
         let row = Vec::with_capacity(alloc, places)?;
         let spare = Vec::with_capacity(alloc, places)?;
-        let queues = empty_queues(alloc, chips)?;
+        let slots = Slots::new(alloc, chips)?;
         Ok(Crossing {
             row,
             spare,
             places,
-            queues,
-            busy: [false; BLOCKS],
+            slots,
             gathered: true,
         })
     }
@@ -96,13 +90,12 @@ impl Crossing {
         let mut row = Vec::with_capacity(alloc, self.places)?;
         row.extend_from_slice(&self.row)?;
         let spare = Vec::with_capacity(alloc, self.places)?;
-        let queues = copied_queues(alloc, &self.queues)?;
+        let slots = self.slots.copy(alloc)?;
         Ok(Crossing {
             row,
             spare,
             places: self.places,
-            queues,
-            busy: self.busy,
+            slots,
             gathered: self.gathered,
         })
     }
@@ -112,26 +105,26 @@ impl Crossing {
         ensures value { result ≡ length self.now.buffers }
         ensures few { result ≤ 4096 }
     {
-        self.queues.len()
+        self.slots.chips()
     }
 
     /// How many messages stand at a chip.
-    pub fn len(&self, here: usize) -> usize
-        requires here { here < length self.now.buffers }
-        ensures value { result ≡ length (list_at self.now.buffers here) }
+    pub fn len(&self, chip: usize) -> usize
+        requires chip { chip < length self.now.buffers }
+        ensures value { result ≡ length (list_at self.now.buffers chip) }
         ensures most { result ≤ 15 }
         ensures few { length self.now.buffers ≤ 4096 }
     {
-        self.queues[here].len()
+        self.slots.len(chip)
     }
 
     /// The messages that stand at a chip, in order of arrival, where all have been gathered.
-    pub fn buffer(&self, here: usize) -> &[Message]
-        requires here { here < length self.now.buffers }
+    pub fn buffer(&self, chip: usize) -> &[Message]
+        requires chip { chip < length self.now.buffers }
         requires gathered { IsTrue self.now.gathered }
-        ensures value { result.now ≡ list_at self.now.buffers here }
+        ensures value { result.now ≡ list_at self.now.buffers chip }
     {
-        read_out(&self.row, &self.queues[here])
+        read_out(&self.row, &self.slots, chip)
     }
 
     /// Makes of each chip's messages one slice of the row, if anything has moved since they were that.
@@ -150,7 +143,7 @@ impl Crossing {
         ensures gathered { IsTrue self.new.gathered }
         ensures free { 4 ≤ self.new.free }
     {
-        lay_out(&self.row, &mut self.spare, &mut self.queues, &self.busy);
+        lay_out(&self.row, &mut self.spare, &mut self.slots);
         mem::swap(&mut self.row, &mut self.spare);
         self.gathered = true;
     }
@@ -166,36 +159,35 @@ impl Crossing {
     }
 
     /// A message comes to stand last at a chip.
-    pub fn arrive(&mut self, here: usize, message: Message)
-        requires here { here < length self.old.buffers }
-        requires room { length (list_at self.old.buffers here) < 15 }
+    pub fn arrive(&mut self, chip: usize, message: Message)
+        requires chip { chip < length self.old.buffers }
+        requires room { length (list_at self.old.buffers chip) < 15 }
         ensures value { self.new.buffers
-            ≡ slice_set self.old.buffers here (list_at self.old.buffers here ++ message ∷ []) }
+            ≡ slice_set self.old.buffers chip (list_at self.old.buffers chip ++ message ∷ []) }
     {
-        self.stand(here, &[message]);
+        self.stand(chip, &[message]);
     }
 
     /// Messages come to stand last at a chip.
-    fn stand(&mut self, here: usize, messages: &[Message])
-        requires here { here < length self.old.buffers }
+    fn stand(&mut self, chip: usize, messages: &[Message])
+        requires chip { chip < length self.old.buffers }
         requires few { length messages.now ≤ 4 }
-        requires room { length (list_at self.old.buffers here) + length messages.now ≤ 15 }
+        requires room { length (list_at self.old.buffers chip) + length messages.now ≤ 15 }
         ensures value { self.new.buffers
-            ≡ slice_set self.old.buffers here (list_at self.old.buffers here ++ messages.now) }
+            ≡ slice_set self.old.buffers chip (list_at self.old.buffers chip ++ messages.now) }
     {
         self.make_places();
-        self.stand_in_row(here, messages);
+        self.stand_in_row(chip, messages);
     }
 
-    fn stand_in_row(&mut self, here: usize, messages: &[Message])
-        requires here { here < length self.old.buffers }
+    fn stand_in_row(&mut self, chip: usize, messages: &[Message])
+        requires chip { chip < length self.old.buffers }
         requires free { length messages.now ≤ self.old.free }
-        requires room { length (list_at self.old.buffers here) + length messages.now ≤ 15 }
+        requires room { length (list_at self.old.buffers chip) + length messages.now ≤ 15 }
         ensures value { self.new.buffers
-            ≡ slice_set self.old.buffers here (list_at self.old.buffers here ++ messages.now) }
+            ≡ slice_set self.old.buffers chip (list_at self.old.buffers chip ++ messages.now) }
     {
-        stand(&mut self.row, &mut self.queues[here], messages);
-        self.busy[here / BLOCK] = true;
+        stand(&mut self.row, &mut self.slots, chip, messages);
         self.gathered = false;
     }
 
@@ -203,100 +195,88 @@ impl Crossing {
     pub fn is_empty(&self) -> bool
         ensures none { IsTrue result → All (λ ms. ms ≡ []) self.now.buffers }
     {
-        !self.busy.contains(&true)
+        self.slots.is_within(0)
     }
 
     /// At one chip, takes in messages of the processors that ask to send, by number, at most four and
-    /// at most as many as there is room for. The log tells of each.
-    pub fn inject<const N: usize, const CAP: usize>(
+    /// at most as many as there is room for. The log tells of each. The chip stands at place `chip` here and in
+    /// the run; `here` is its number in the machine.
+    pub fn inject(
         &mut self,
-        here: usize,
-        chip: &mut Chip,
+        sizes: Sizes,
+        run: &mut Run,
+        chip: u16,
+        here: u16,
         clock: u64,
         log: &mut Vec<Event>,
     )
-        requires dimension { N ≤ 12 }
-        requires some { 0 < CAP }
-        requires most { CAP ≤ 15 }
-        requires here { here < length self.old.buffers }
-        requires within { All (λ ms. length ms ≤ CAP) self.old.buffers }
+        requires sizes { AreSizes sizes.dims sizes.room }
+        requires chip { chip < length self.old.buffers }
+        requires run { length run.old ≡ length self.old.buffers }
+        requires within { All (λ ms. length ms ≤ sizes.room) self.old.buffers }
         requires room { vec_len log.old + 4 ≤ vec_capacity log.old }
-        ensures value { self.new.buffers ≡ slice_set self.old.buffers here (list_at self.old.buffers here
-            ++ sent_with N CAP clock here (list_at self.old.buffers here) chip.old) }
-        ensures chip { chip.new
-            ≡ chip_after_injection (taken_with CAP (list_at self.old.buffers here) chip.old) chip.old }
-        ensures log { log.new.items ≡ log.old.items
-            ++ map event.Injected (sent_with N CAP clock here (list_at self.old.buffers here) chip.old) }
+        ensures value { self.new.buffers ≡ slice_set self.old.buffers chip (list_at self.old.buffers chip
+            ++ sent_with sizes.dims sizes.room clock here (list_at self.old.buffers chip) (chip_at run.old chip)) }
+        ensures chip { run.new ≡ slice_set run.old chip (chip_after_injection
+            (taken_with sizes.room (list_at self.old.buffers chip) (chip_at run.old chip)) (chip_at run.old chip)) }
+        ensures log { log.new.items ≡ log.old.items ++ map event.Injected
+            (sent_with sizes.dims sizes.room clock here (list_at self.old.buffers chip) (chip_at run.old chip)) }
         ensures told { vec_len log.new ≤ vec_len log.old + 4 }
         ensures log_room { vec_capacity log.old ≤ vec_capacity log.new }
-        ensures within { All (λ ms. length ms ≤ CAP) self.new.buffers }
+        ensures within { All (λ ms. length ms ≤ sizes.room) self.new.buffers }
     {
-        if !may_ask(chip) || self.len(here) == CAP {
-            take_none(chip);
+        let room = usize::from(sizes.room) - self.len(usize::from(chip));
+        if room == 0 || !chip_asks(run, chip) {
+            take_none(run, chip);
             return;
         }
-        let mut taken = Node::new((CAP - self.len(here)) as u8);
-        taken.inject(chip, here as u16, N as u8, clock, log);
-        self.stand(here, taken.messages());
+        let mut taken = Node::new(room as u8);
+        taken.inject(run, chip, here, sizes.dims, clock, log);
+        self.stand(usize::from(chip), taken.messages());
     }
 
-    /// The messages cross a dimension.
-    pub fn cross<const N: usize, const CAP: usize>(&mut self, dim: u8)
-        requires dimension { N ≤ 12 }
-        requires dim { dim < N }
-        requires some { 0 < CAP }
-        requires most { CAP ≤ 15 }
-        requires count { length self.old.buffers ≡ 2 ^ N }
-        requires within { All (λ ms. length ms ≤ CAP) self.old.buffers }
-        ensures value { self.new.buffers ≡ each_chip N (λ c. buffer_after_dimension CAP dim
-            (list_at self.old.buffers c) (outgoing CAP dim (list_at self.old.buffers (bit_xor c (2 ^ dim))))) }
-        ensures count { length self.new.buffers ≡ 2 ^ N }
-        ensures within { All (λ ms. length ms ≤ CAP) self.new.buffers }
+    /// The messages cross a dimension that the chips span.
+    pub fn cross(&mut self, sizes: Sizes, dim: u8)
+        requires sizes { AreSizes sizes.dims sizes.room }
+        requires span { sizes.span ≤ sizes.dims }
+        requires dim { dim < sizes.span }
+        requires count { length self.old.buffers ≡ 2 ^ sizes.span }
+        requires within { All (λ ms. length ms ≤ sizes.room) self.old.buffers }
+        ensures value { self.new.buffers ≡ each_chip sizes.span (λ c. buffer_after_dimension sizes.room dim
+            (list_at self.old.buffers c) (outgoing sizes.room dim (list_at self.old.buffers (bit_xor c (2 ^ dim))))) }
+        ensures count { length self.new.buffers ≡ 2 ^ sizes.span }
+        ensures within { All (λ ms. length ms ≤ sizes.room) self.new.buffers }
     {
-        cross_row::<N>(&mut self.queues, &mut self.busy, CAP as u8, dim);
+        self.slots.cross(sizes.span, sizes.room, dim);
         self.gathered = false;
     }
 
     /// At one chip, delivers what has arrived: each message from the front whose processor can receive,
-    /// at most one to each. The log tells of each.
-    pub fn deliver<const CAP: usize>(&mut self, here: usize, chip: &mut Chip, log: &mut Vec<Event>)
-        requires most { CAP ≤ 15 }
-        requires here { here < length self.old.buffers }
-        requires within { All (λ ms. length ms ≤ CAP) self.old.buffers }
-        requires room { vec_len log.old + CAP ≤ vec_capacity log.old }
-        ensures value { self.new.buffers ≡ slice_set self.old.buffers here
-            (kept_of (list_at self.old.buffers here) chip.old) }
-        ensures chip { chip.new ≡ chip_after_delivery (delivered_of (list_at self.old.buffers here) chip.old) chip.old }
-        ensures log { log.new.items ≡ log.old.items
-            ++ map (λ m. event.Delivered m here) (delivered_of (list_at self.old.buffers here) chip.old) }
-        ensures told { vec_len log.new ≤ vec_len log.old + CAP }
+    /// at most one to each. The log tells of each. Place and number of the chip are as for `inject`.
+    pub fn deliver(
+        &mut self,
+        sizes: Sizes,
+        run: &mut Run,
+        chip: u16,
+        here: u16,
+        log: &mut Vec<Event>,
+    )
+        requires sizes { AreSizes sizes.dims sizes.room }
+        requires chip { chip < length self.old.buffers }
+        requires run { length run.old ≡ length self.old.buffers }
+        requires within { All (λ ms. length ms ≤ sizes.room) self.old.buffers }
+        requires room { vec_len log.old + sizes.room ≤ vec_capacity log.old }
+        ensures value { self.new.buffers ≡ slice_set self.old.buffers chip
+            (kept_of (list_at self.old.buffers chip) (chip_at run.old chip)) }
+        ensures chip { run.new ≡ slice_set run.old chip (chip_after_delivery
+            (delivered_of (list_at self.old.buffers chip) (chip_at run.old chip)) (chip_at run.old chip)) }
+        ensures log { log.new.items ≡ log.old.items ++ map (λ m. event.Delivered m here)
+            (delivered_of (list_at self.old.buffers chip) (chip_at run.old chip)) }
+        ensures told { vec_len log.new ≤ vec_len log.old + sizes.room }
         ensures log_room { vec_capacity log.old ≤ vec_capacity log.new }
-        ensures within { All (λ ms. length ms ≤ CAP) self.new.buffers }
+        ensures within { All (λ ms. length ms ≤ sizes.room) self.new.buffers }
     {
-        give_out(&self.row, &mut self.queues[here], chip, here as u16, log);
+        give_out(&self.row, &mut self.slots, run, chip, here, log);
         self.gathered = false;
     }
-
-    /// Looks again in which blocks messages stand; the chips of the others need no look from here on.
-    pub fn watch(&mut self)
-        ensures value { self.new ≡ self.old }
-    {
-        look_again(&self.queues, &mut self.busy);
-    }
-}
-
-fn empty_queues(alloc: Global, chips: usize) -> Result<Vec<Queue>, NoMemory>
-    ensures value { IfOk result (λ queues. queues.items ≡ each_from 0 chips (λ c. [])) }
-{
-    let mut queues = Vec::with_capacity(alloc, chips)?;
-    for _c in 0..chips {
-        queues.push_reserved(Queue::new());
-    }
-    Ok(queues)
-}
-
-fn copied_queues(alloc: Global, queues: &[Queue]) -> Result<Vec<Queue>, NoMemory>
-    ensures value { IfOk result (λ copies. copies.items ≡ queues.now) }
-{
-    Ok(queues.iter().map(|queue| queue.copy()).collect(alloc)?)
 }

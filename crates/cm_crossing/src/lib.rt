@@ -3,10 +3,8 @@
 #![tactic(auto)]
 
 mod crossing;
-mod exchange;
-mod marks;
-mod queue;
 mod row;
-mod wide;
+mod sizes;
 
 pub use crossing::Crossing;
+pub use sizes::Sizes;

@@ -1,6 +1,7 @@
 //! What a command does and is answered.
 
-ghost use Rattle.std.specs.Prelude.{◌≡◌, ◌≢◌, ◌<◌, ◌^◌, ◌++◌, ◌∷◌, [], length, slice_set, codes, decimal, IfSome, OnOk, OnErr};
+ghost use Rattle.std.specs.Prelude.{◌≡◌, ◌≢◌, ◌<◌, ◌^◌, ◌++◌, ◌∷◌, [], length, slice_set, codes, decimal, IfSome};
+ghost use Rattle.std.specs.Prelude.{IsErrOf, OnOk, OnErr};
 ghost use Rattle.cm_bits.specs.Bit.{bit_number};
 ghost use Rattle.cm_model.specs.Processor.{ZERO, flag, field_value};
 ghost use Rattle.cm_model.specs.Array.{list_at, processor_of, wire};
@@ -42,6 +43,7 @@ pub fn obey<const N: usize, const CAP: usize, R: Runner<N, CAP>>(
     ensures desk { OnOk result (IsDeskOf acts.now desk.new) }
     ensures err { OnErr result (IsOnTheWay N CAP acts.now (session_of machine.old.machine desk.old)
         (obeyed N CAP acts.now (session_of machine.old.machine desk.old) command).session machine.new.machine) }
+    ensures thread { IsErrOf result Want.Thread → R.may_want_thread }
 {
     match command {
         Command::Step => run_on(machine, acts, runner, desk, Stops::Everywhere, text),

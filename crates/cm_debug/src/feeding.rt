@@ -1,6 +1,7 @@
 //! Bytes of commands, as they come.
 
-ghost use Rattle.std.specs.Prelude.{◌≡◌, ◌<◌, ◌≤◌, ◌+◌, ◌*◌, ◌^◌, ◌++◌, ◌∷◌, [], List, ℕ, Option, false, length, OnOk, IfErr};
+ghost use Rattle.std.specs.Prelude.{◌≡◌, ◌<◌, ◌≤◌, ◌+◌, ◌*◌, ◌^◌, ◌++◌, ◌∷◌, [], List, ℕ, Option, false, length};
+ghost use Rattle.std.specs.Prelude.{IsErrOf, OnOk, IfErr};
 ghost use Rattle.cm_bits.specs.Text.{lines_of};
 ghost use Rattle.cm_model.specs.Machine as model;
 ghost use Rattle.cm_session.specs.Ends.{is_write};
@@ -44,6 +45,7 @@ pub fn feed<const N: usize, const CAP: usize, R: Runner<N, CAP>, O: Sink>(
         → Stops N CAP acts.now start held (lines_of (taken ++ (piece.now ++ rest))) machine.new.machine
         (O.contents out.new) fault) }
     ensures failed { O.has_failed out.new ≡ is_write result }
+    ensures thread { IsErrOf result SessionFault.NoThread → R.may_want_thread }
 {
     for byte in piece {
         match take_byte(alloc, machine, acts, runner, desk, *byte, line, out, sent) {
@@ -83,6 +85,7 @@ fn take_byte<const N: usize, const CAP: usize, R: Runner<N, CAP>, O: Sink>(
         → Stops N CAP acts.now start held (lines_of (taken ++ byte ∷ rest)) machine.new.machine
         (O.contents out.new) fault) }
     ensures failed { O.has_failed out.new ≡ is_write result }
+    ensures thread { IsErrOf result SessionFault.NoThread → R.may_want_thread }
 {
     if byte != b'\n' {
         return match line.push(byte) {

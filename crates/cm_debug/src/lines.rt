@@ -1,6 +1,7 @@
 //! Lines, and their answers.
 
-ghost use Rattle.std.specs.Prelude.{◌≡◌, ◌<◌, ◌≤◌, ◌+◌, ◌^◌, ◌++◌, false, length, IfOk, IfSome, OnOk, OnErr, IfErr};
+ghost use Rattle.std.specs.Prelude.{◌≡◌, ◌<◌, ◌≤◌, ◌+◌, ◌^◌, ◌++◌, false, length, IfOk};
+ghost use Rattle.std.specs.Prelude.{IfSome, IsErrOf, OnOk, OnErr, IfErr};
 ghost use Rattle.std.specs.Io.KnownBytes.{Appends};
 ghost use Rattle.cm_session.specs.Bounds.{IsFor};
 ghost use Rattle.cm_session.specs.Session.{after_line, answered};
@@ -45,6 +46,7 @@ pub fn tell_line<const N: usize, const CAP: usize, R: Runner<N, CAP>, O: Sink>(
     ensures err { IfErr result (BreaksOff N CAP acts.now (session_of machine.old.machine desk.old) line.now sent.old
         (O.contents out.old) machine.new.machine (O.contents out.new)) }
     ensures failed { O.has_failed out.new ≡ is_write result }
+    ensures thread { IsErrOf result SessionFault.NoThread → R.may_want_thread }
 {
     let mut text = Vec::new(alloc);
     match answer_line(machine, acts, runner, desk, line, &mut text) {
@@ -81,6 +83,7 @@ fn answer_line<const N: usize, const CAP: usize, R: Runner<N, CAP>>(
     ensures desk { OnOk result (IsDeskOf acts.now desk.new) }
     ensures err { OnErr result (IsOnTheWay N CAP acts.now (session_of machine.old.machine desk.old)
         (after_line N CAP acts.now (session_of machine.old.machine desk.old) line.now).session machine.new.machine) }
+    ensures thread { IsErrOf result Want.Thread → R.may_want_thread }
 {
     machine.clock();
     let asked = read_command(line, N, acts.len());
@@ -106,6 +109,7 @@ fn answer<const N: usize, const CAP: usize, R: Runner<N, CAP>>(
     ensures desk { OnOk result (IsDeskOf acts.now desk.new) }
     ensures err { OnErr result (IsOnTheWay N CAP acts.now (session_of machine.old.machine desk.old)
         (answered N CAP acts.now (session_of machine.old.machine desk.old) asked).session machine.new.machine) }
+    ensures thread { IsErrOf result Want.Thread → R.may_want_thread }
 {
     match asked {
         Ok(None) => Ok(()),

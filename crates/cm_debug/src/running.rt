@@ -1,6 +1,7 @@
 //! Acts that are run until the session stops.
 
-ghost use Rattle.std.specs.Prelude.{◌≡◌, ◌<◌, ◌+◌, ◌-◌, ◌^◌, ◌++◌, ◌&&◌, false, length, take, drop, slice_index_or, IsFalse, OnOk, OnErr};
+ghost use Rattle.std.specs.Prelude.{◌≡◌, ◌<◌, ◌+◌, ◌-◌, ◌^◌, ◌++◌, ◌&&◌, false, length, take, drop, slice_index_or};
+ghost use Rattle.std.specs.Prelude.{IsErrOf, IsFalse, OnOk, OnErr};
 ghost use Rattle.cm_model.specs.Machine.{run_of};
 ghost use Rattle.cm_model.specs.declared.act.Act.TheVariants as act;
 ghost use Rattle.cm_array.specs.Acts.{is_late, is_long};
@@ -36,6 +37,7 @@ pub fn run_on<const N: usize, const CAP: usize, R: Runner<N, CAP>>(
     ensures desk { OnOk result (IsDeskOf acts.now desk.new) }
     ensures err { OnErr result (IsOnTheWay N CAP acts.now (session_of machine.old.machine desk.old)
         (gone N CAP stops machine.old.machine desk.old acts.now).session machine.new.machine) }
+    ensures thread { IsErrOf result Want.Thread → R.may_want_thread }
 {
     while desk.position < acts.len() {
         let rest = &acts[desk.position..];
@@ -85,6 +87,7 @@ fn run_stretch<const N: usize, const CAP: usize, R: Runner<N, CAP>>(
     ensures breaks { desk.new.breaks.items ≡ desk.old.breaks.items }
     ensures report { desk.new.report ≡ desk.old.report }
     ensures err { OnErr result (machine.new.machine ≡ machine.old.machine) }
+    ensures thread { IsErrOf result Want.Thread → R.may_want_thread }
 {
     let rest = &acts[desk.position..];
     let first = &rest[0];
@@ -122,10 +125,12 @@ fn hand_over<const N: usize, const CAP: usize, R: Runner<N, CAP>>(
     requires early { IsFalse (is_late machine.old.machine.clock acts.now) }
     ensures ok { OnOk result (machine.new.machine ≡ run_of N CAP machine.old.machine acts.now) }
     ensures err { OnErr result (machine.new.machine ≡ machine.old.machine) }
+    ensures thread { IsErrOf result Want.Thread → R.may_want_thread }
 {
     match runner.go(machine, acts) {
         Ok(()) => Ok(()),
         Err(RunFault::NoThread) => Err(Want::Thread),
-        Err(_) => Err(Want::Memory),
+        Err(RunFault::Memory) => Err(Want::Memory),
+        Err(RunFault::Long | RunFault::Clock) => unreachable!(),
     }
 }

@@ -38,6 +38,7 @@ pub fn session<const N: usize, const CAP: usize, R: Runner<N, CAP>, I: Source, O
         machine.old.machine (O.contents out.old) machine.new.machine (O.contents out.new) result) }
     ensures read { (I.has_failed commands.new ≡ true) ↔ IsErrOf result SessionFault.Read }
     ensures write { O.has_failed out.new ≡ is_write result }
+    ensures thread { IsErrOf result SessionFault.NoThread → R.may_want_thread }
 {
     answer_all(alloc, machine, program.acts(), commands, out, runner)
 }
@@ -58,6 +59,7 @@ fn answer_all<const N: usize, const CAP: usize, R: Runner<N, CAP>, I: Source, O:
         machine.old.machine (O.contents out.old) machine.new.machine (O.contents out.new) result) }
     ensures read { (I.has_failed commands.new ≡ true) ↔ IsErrOf result SessionFault.Read }
     ensures write { O.has_failed out.new ≡ is_write result }
+    ensures thread { IsErrOf result SessionFault.NoThread → R.may_want_thread }
 {
     let Ok(mut desk) = Desk::new(alloc, acts.len()) else {
         return Err(SessionFault::Memory);

@@ -10,6 +10,11 @@ pub enum Want {
 }
 
 impl From<AllocError> for Want {
+    ghost use Rattle.std.specs.Prelude.{◌≡◌};
+    ghost use Rattle.cm_debug.specs.declared.want.Want.TheVariants.{Memory};
+
+    ghost from_gives = { λ _ want. want ≡ Memory };
+
     fn from(_: AllocError) -> Want {
         Want::Memory
     }

@@ -10,3 +10,4 @@ mod Stepping
 mod Replacing
 mod Storing
 mod Widening
+mod Nearing

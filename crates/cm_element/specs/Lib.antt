@@ -6,3 +6,4 @@ pub mod Steps
 pub mod Laid
 pub mod Flags
 pub mod WideOutputs
+pub mod Near

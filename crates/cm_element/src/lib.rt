@@ -2,12 +2,14 @@
 #![tactic(auto)]
 
 mod chip;
+mod near;
 mod outputs;
 mod run;
 mod wide_outputs;
 
 pub use chip::{Chip, ZeroFlag};
 pub use cm_bits::NoMemory;
+pub use near::NearRun;
 pub use outputs::Outputs;
 pub use run::{ChipView, Run, takes_incoming};
 pub use wide_outputs::WideOutputs;

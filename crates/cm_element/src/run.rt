@@ -17,7 +17,7 @@ mod outputs;
 mod rows;
 mod view;
 
-use crate::run::rows::{look_up_row, step_rows, take_rows, word_at};
+use crate::run::rows::{look_up_row, row, step_rows, take_rows, word_at};
 use cm_bits::{Addr, FlagNo, NoMemory, Plane};
 use cm_model::Nano;
 use std::alloc::Global;
@@ -105,6 +105,16 @@ impl Run {
         ensures value { IsPlane result (λ p. memory_bit (processor_at (chip_at self.now chip) p) at) }
     {
         self.memory_word(chip, usize::from(at.get()))
+    }
+
+    /// The bits of all processors at an address, a plane for each chip in order.
+    pub fn plane_row(&self, at: Addr) -> &[Plane]
+        ensures count { length result.now ≡ length self.now }
+        ensures value { (c : ℕ) → c < length self.now
+            → IsPlane (slice_index result.now c) (λ p. memory_bit (processor_at (chip_at self.now c) p) at) }
+    {
+        let first = row(usize::from(at.get()), ADDRESSES, self.stride);
+        &self.memory[first..first + self.chips]
     }
 
     /// One flag of all processors of a chip: bit p is that of processor p.

@@ -1,5 +1,6 @@
 -- What a dump has written so far, one part more at a time.
-use Rattle.std.proofs.Common.{◌≡◌, ℕ, ◌+◌, ◌==◌, ◌<◌, ◌^◌, not, cond, Bool, true, false, List, [], ◌∷◌, ◌++◌, length, take, get_or, refl, sym, ap, ◌∙◌, arith, append_assoc, if◌then◌else◌}
+use Rattle.std.proofs.Common.{◌≡◌, ℕ, zero, suc, ◌+◌, ◌==◌, ◌<◌, ◌^◌, not, cond, Bool, true, false, List, []}
+use Rattle.std.proofs.Common.{◌∷◌, ◌++◌, length, take, get_or, refl, sym, ap, ◌∙◌, arith, append_assoc, if◌then◌else◌}
 use Rattle.std.specs.Int.{w8, w16, w32, w64}
 use Rattle.std.specs.List.{flat_map}
 use Rattle.std.proofs.lemmas.List.{append-nil, length-append, take_more}
@@ -11,9 +12,9 @@ use Rattle.cm_model.specs.Processor.{Processor}
 use Rattle.cm_model.specs.Array.{chip_at, list_at}
 use Rattle.cm_model.specs.Machine.{Machine}
 use Rattle.cm_message.specs.Bytes.{number, message_text}
-use Rattle.cm_image_format.specs.Image.{MAGIC, Listed, listed_text, chip_text, shape_text}
+use Rattle.cm_image_format.specs.Image.{MAGIC, Listed, ChipImage, listed_text, chip_text, shape_text}
 use Rattle.cm_image_format.specs.Whole.{flag_plane_of, memory_plane_of, image_of_chip, image_text, text_of}
-use Rattle.cm_image.specs.Planes.{flags_text, planes_below, listed_below, listing_of}
+use Rattle.cm_image.specs.Planes.{flags_text, planes_below, listed_below, listing_of, chips_text}
 
 -- ---- what is made of each number
 
@@ -21,14 +22,17 @@ made_zero : {X : Type 0} (g : X → List ℕ) (f : ℕ → X) (text : List ℕ) 
 unfolding each_from
 made_zero g f text = sym (append-nil text)
 
-made_more : {X : Type 0} (g : X → List ℕ) (f : ℕ → X) (n : ℕ) → flat_map g (each_from 0 (n + 1) f) ≡ flat_map g (each_from 0 n f) ++ g (f n)
+made_more : {X : Type 0} (g : X → List ℕ) (f : ℕ → X) (first n j : ℕ) → first + n ≡ j
+    → flat_map g (each_from first (n + 1) f) ≡ flat_map g (each_from first n f) ++ g (f j)
 unfolding each_from
-made_more g f n =
-    ap (flat_map g) (map-range_with_len_more f 0 n n (omega arith))
-    ∙ (flat_map-append g (each_from 0 n f) (f n ∷ []) ∙ ap (λ xs. flat_map g (each_from 0 n f) ++ xs) (append-nil (g (f n))))
+made_more g f first n j is =
+    ap (flat_map g) (map-range_with_len_more f first n j is)
+    ∙ (flat_map-append g (each_from first n f) (f j ∷ [])
+    ∙ ap (λ xs. flat_map g (each_from first n f) ++ xs) (append-nil (g (f j))))
 
 -- one part more behind what there was
-pub grown : (text front part before after : List ℕ) → before ≡ text ++ front → after ≡ before ++ part → after ≡ text ++ (front ++ part)
+pub grown : (text front part before after : List ℕ) → before ≡ text ++ front → after ≡ before ++ part
+    → after ≡ text ++ (front ++ part)
 grown text front part before after is more = more ∙ (ap (λ (xs : List ℕ). xs ++ part) is ∙ append_assoc text front part)
 
 -- ---- the header
@@ -36,11 +40,14 @@ grown text front part before after is more = more ∙ (ap (λ (xs : List ℕ). x
 in_a_row : (t a b c d e : List ℕ) → ((((t ++ a) ++ b) ++ c) ++ d) ++ e ≡ t ++ (a ++ (b ++ (c ++ (d ++ e))))
 in_a_row t a b c d e = simp append_assoc
 
-pub shape_written : (n cap : ℕ) (text a b c d e : List ℕ) → a ≡ text ++ number w32 MAGIC → b ≡ a ++ number w8 1 → c ≡ b ++ number w8 n → d ≡ c ++ number w8 cap → e ≡ d ++ number w8 0
+pub shape_written : (n cap : ℕ) (text a b c d e : List ℕ) → a ≡ text ++ number w32 MAGIC → b ≡ a ++ number w8 1
+    → c ≡ b ++ number w8 n → d ≡ c ++ number w8 cap → e ≡ d ++ number w8 0
     → e ≡ text ++ shape_text n cap
 unfolding shape_text
 shape_written n cap text a b c d e first second third fourth fifth =
-    (λ i. fifth i) ∙ ((λ i. (fourth ∙ (λ j. (third ∙ (λ k. (second ∙ (λ l. first l ++ number w8 1)) k ++ number w8 n)) j ++ number w8 cap)) i ++ number w8 0)
+    (λ i. fifth i) ∙ ((λ i. (fourth
+    ∙ (λ j. (third ∙ (λ k. (second ∙ (λ l. first l ++ number w8 1)) k ++ number w8 n)) j ++ number w8 cap)) i
+    ++ number w8 0)
     ∙ in_a_row text (number w32 MAGIC) (number w8 1) (number w8 n) (number w8 cap) (number w8 0))
 
 -- ---- flags
@@ -49,21 +56,26 @@ pub flags_none : (chip : List Processor) (text : List ℕ) → text ≡ text ++ 
 unfolding flags_text
 flags_none chip text = made_zero (number w16) (flag_plane_of chip) text
 
-pub flags_more : (chip : List Processor) (text before after : List ℕ) (n plane : ℕ) → before ≡ text ++ flags_text chip n → after ≡ before ++ number w16 plane → plane ≡ flag_plane_of chip n
+pub flags_more : (chip : List Processor) (text before after : List ℕ) (n plane : ℕ)
+    → before ≡ text ++ flags_text chip n → after ≡ before ++ number w16 plane → plane ≡ flag_plane_of chip n
     → after ≡ text ++ flags_text chip (n + 1)
 unfolding flags_text
 flags_more chip text before after n plane is more same =
     grown text (flags_text chip n) (number w16 plane) before after is more
-    ∙ ap (λ (xs : List ℕ). text ++ xs) (ap (λ (k : ℕ). flags_text chip n ++ number w16 k) same ∙ sym (made_more (number w16) (flag_plane_of chip) n))
+    ∙ ap (λ (xs : List ℕ). text ++ xs) (ap (λ (k : ℕ). flags_text chip n ++ number w16 k) same
+    ∙ sym (made_more (number w16) (flag_plane_of chip) 0 n n (omega arith)))
 
 -- ---- planes
 
 abbrev plane_entry : List Processor → ℕ → Listed
 plane_entry chip address = record { at = address; plane = memory_plane_of chip address }
 
-planes_more : (chip : List Processor) (n : ℕ) → planes_below chip (n + 1) ≡ planes_below chip n ++ cond (not (memory_plane_of chip n == 0)) (plane_entry chip n ∷ []) []
+planes_more : (chip : List Processor) (n : ℕ)
+    → planes_below chip (n + 1)
+    ≡ planes_below chip n ++ cond (not (memory_plane_of chip n == 0)) (plane_entry chip n ∷ []) []
 unfolding planes_below each_from
-planes_more chip n = filter_of_map_range_with_len_more (λ (x : Listed). not (x.plane == 0)) (plane_entry chip) 0 n n (omega arith)
+planes_more chip n = filter_of_map_range_with_len_more (λ (x : Listed). not (x.plane == 0)) (plane_entry chip) 0 n
+    n (omega arith)
 
 pub planes_none : (chip : List Processor) → 0 ≡ length (planes_below chip 0)
 unfolding planes_below each_from
@@ -73,49 +85,66 @@ one_counted : (b : Bool) (e : Listed) → length (cond (not b) (e ∷ []) []) �
 one_counted true e = refl
 one_counted false e = refl
 
-pub counted_more : (chip : List Processor) (n count more plane : ℕ) → count ≡ length (planes_below chip n) → more ≡ (if plane == 0 then 0 else 1) → plane ≡ memory_plane_of chip n
+pub counted_more : (chip : List Processor) (n count more plane : ℕ) → count ≡ length (planes_below chip n)
+    → more ≡ (if plane == 0 then 0 else 1) → plane ≡ memory_plane_of chip n
     → count + more ≡ length (planes_below chip (n + 1))
 counted_more chip n count more plane is told same =
     let last : length (cond (not (memory_plane_of chip n == 0)) (plane_entry chip n ∷ []) []) ≡ more =
-    one_counted (memory_plane_of chip n == 0) (plane_entry chip n) ∙ sym (told ∙ ap (λ (k : ℕ). if k == 0 then 0 else 1) same) in
-    omega (arith, ap length (planes_more chip n), length-append (planes_below chip n) (cond (not (memory_plane_of chip n == 0)) (plane_entry chip n ∷ []) []))
+    one_counted (memory_plane_of chip n == 0) (plane_entry chip n)
+    ∙ sym (told ∙ ap (λ (k : ℕ). if k == 0 then 0 else 1) same) in
+    omega (
+      arith,
+      ap length (planes_more chip n),
+      length-append (planes_below chip n) (cond (not (memory_plane_of chip n == 0)) (plane_entry chip n ∷ []) []),
+    )
 
 pub listed_none : (chip : List Processor) (text : List ℕ) → text ≡ text ++ listed_below chip 0
 unfolding listed_below planes_below each_from
 listed_none chip text = sym (append-nil text)
 
-one_listed : (b : Bool) (e : Listed) → flat_map listed_text (cond (not b) (e ∷ []) []) ≡ (if b then [] else listed_text e)
+one_listed : (b : Bool) (e : Listed)
+    → flat_map listed_text (cond (not b) (e ∷ []) []) ≡ (if b then [] else listed_text e)
 one_listed true e = refl
 one_listed false e = append-nil (listed_text e)
 
-listed_step : (chip : List Processor) (n : ℕ) → listed_below chip (n + 1) ≡ listed_below chip n ++ listing_of n (memory_plane_of chip n)
+listed_step : (chip : List Processor) (n : ℕ)
+    → listed_below chip (n + 1) ≡ listed_below chip n ++ listing_of n (memory_plane_of chip n)
 unfolding listed_below
 listed_step chip n =
     ap (flat_map listed_text) (planes_more chip n)
-    ∙ (flat_map-append listed_text (planes_below chip n) (cond (not (memory_plane_of chip n == 0)) (plane_entry chip n ∷ []) [])
-    ∙ ap (λ (xs : List ℕ). flat_map listed_text (planes_below chip n) ++ xs) (one_listed (memory_plane_of chip n == 0) (plane_entry chip n)))
+    ∙ (flat_map-append listed_text (planes_below chip n)
+    (cond (not (memory_plane_of chip n == 0)) (plane_entry chip n ∷ []) [])
+    ∙ ap (λ (xs : List ℕ). flat_map listed_text (planes_below chip n) ++ xs)
+    (one_listed (memory_plane_of chip n == 0) (plane_entry chip n)))
 
-pub listed_more : (chip : List Processor) (text before after : List ℕ) (n plane : ℕ) → before ≡ text ++ listed_below chip n → after ≡ before ++ listing_of n plane → plane ≡ memory_plane_of chip n
+pub listed_more : (chip : List Processor) (text before after : List ℕ) (n plane : ℕ)
+    → before ≡ text ++ listed_below chip n → after ≡ before ++ listing_of n plane → plane ≡ memory_plane_of chip n
     → after ≡ text ++ listed_below chip (n + 1)
 listed_more chip text before after n plane is more same =
     grown text (listed_below chip n) (listing_of n plane) before after is more
-    ∙ ap (λ (xs : List ℕ). text ++ xs) (ap (λ (k : ℕ). listed_below chip n ++ listing_of n k) same ∙ sym (listed_step chip n))
+    ∙ ap (λ (xs : List ℕ). text ++ xs) (ap (λ (k : ℕ). listed_below chip n ++ listing_of n k) same
+    ∙ sym (listed_step chip n))
 
 -- ---- messages
 
-pub messages_more : (messages : List Message) (text before after : List ℕ) (i : ℕ) (m : Message) → i < length messages → m ≡ get_or messages i m
-    → before ≡ text ++ flat_map message_text (take i messages) → after ≡ before ++ message_text m → after ≡ text ++ flat_map message_text (take (i + 1) messages)
+pub messages_more : (messages : List Message) (text before after : List ℕ) (i : ℕ) (m : Message) → i < length messages
+    → m ≡ get_or messages i m
+    → before ≡ text ++ flat_map message_text (take i messages) → after ≡ before ++ message_text m
+    → after ≡ text ++ flat_map message_text (take (i + 1) messages)
 messages_more messages text before after i m h read is more =
-    let next : take (i + 1) messages ≡ take i messages ++ m ∷ [] = take_more messages i m h ∙ ap (λ (x : Message). take i messages ++ x ∷ []) (sym read) in
+    let next : take (i + 1) messages ≡ take i messages ++ m ∷ [] = take_more messages i m h
+    ∙ ap (λ (x : Message). take i messages ++ x ∷ []) (sym read) in
     grown text (flat_map message_text (take i messages)) (message_text m) before after is more
     ∙ ap (λ (xs : List ℕ). text ++ xs) (sym (ap (flat_map message_text) next
-    ∙ (flat_map-append message_text (take i messages) (m ∷ []) ∙ ap (λ (xs : List ℕ). flat_map message_text (take i messages) ++ xs) (append-nil (message_text m)))))
+    ∙ (flat_map-append message_text (take i messages) (m ∷ [])
+    ∙ ap (λ (xs : List ℕ). flat_map message_text (take i messages) ++ xs) (append-nil (message_text m)))))
 
 -- ---- a chip
 
 pub chip_text-parts : (chip : List Processor) (buffer : List Message)
     → chip_text (image_of_chip chip buffer)
-    ≡ flags_text chip 16 ++ ((number w16 (length (planes_below chip 4096)) ++ listed_below chip 4096) ++ (number w8 (length buffer) ++ flat_map message_text buffer))
+    ≡ flags_text chip 16 ++ ((number w16 (length (planes_below chip 4096)) ++ listed_below chip 4096)
+    ++ (number w8 (length buffer) ++ flat_map message_text buffer))
 unfolding image_of_chip flags_text planes_below listed_below
 chip_text-parts chip buffer = refl
 
@@ -124,35 +153,68 @@ five t f n p l m = simp append_assoc
 
 -- the five parts of a chip, one behind another
 pub chip_written : (chip : List Processor) (buffer : List Message) (text a b c d e : List ℕ) (count : ℕ)
-    → a ≡ text ++ flags_text chip 16 → b ≡ a ++ number w16 count → count ≡ length (planes_below chip 4096) → c ≡ b ++ listed_below chip 4096 → d ≡ c ++ number w8 (length buffer)
+    → a ≡ text ++ flags_text chip 16 → b ≡ a ++ number w16 count → count ≡ length (planes_below chip 4096)
+    → c ≡ b ++ listed_below chip 4096 → d ≡ c ++ number w8 (length buffer)
     → e ≡ d ++ flat_map message_text buffer → e ≡ text ++ chip_text (image_of_chip chip buffer)
 chip_written chip buffer text a b c d e count first second is third fourth fifth =
     let planes : List ℕ = listed_below chip 4096 in
     let last : List ℕ = flat_map message_text buffer in
     let told : b ≡ text ++ (flags_text chip 16 ++ number w16 (length (planes_below chip 4096))) =
-    grown text (flags_text chip 16) (number w16 count) a b first second ∙ ap (λ (k : ℕ). text ++ (flags_text chip 16 ++ number w16 k)) is in
+    grown text (flags_text chip 16) (number w16 count) a b first second
+    ∙ ap (λ (k : ℕ). text ++ (flags_text chip 16 ++ number w16 k)) is in
     fifth
-    ∙ (ap (λ (xs : List ℕ). xs ++ last) (fourth ∙ ap (λ (xs : List ℕ). xs ++ number w8 (length buffer)) (third ∙ ap (λ (xs : List ℕ). xs ++ planes) told))
-    ∙ (five text (flags_text chip 16) (number w16 (length (planes_below chip 4096))) planes (number w8 (length buffer)) last ∙ ap (λ (xs : List ℕ). text ++ xs) (sym (chip_text-parts chip buffer))))
+    ∙ (ap (λ (xs : List ℕ). xs ++ last) (fourth
+    ∙ ap (λ (xs : List ℕ). xs ++ number w8 (length buffer)) (third ∙ ap (λ (xs : List ℕ). xs ++ planes) told))
+    ∙ (five text (flags_text chip 16) (number w16 (length (planes_below chip 4096))) planes
+    (number w8 (length buffer)) last ∙ ap (λ (xs : List ℕ). text ++ xs) (sym (chip_text-parts chip buffer))))
 
 -- ---- all chips
 
-abbrev pub chips_text : Machine → ℕ → List ℕ
-chips_text machine count = flat_map chip_text (each_from 0 count (λ c. image_of_chip (chip_at machine.chips c) (list_at machine.buffers c)))
+abbrev image_at : Machine → ℕ → ChipImage
+image_at machine c = image_of_chip (chip_at machine.chips c) (list_at machine.buffers c)
 
-pub chips_none : (machine : Machine) (text : List ℕ) → text ≡ text ++ chips_text machine 0
-chips_none machine text = made_zero chip_text (λ c. image_of_chip (chip_at machine.chips c) (list_at machine.buffers c)) text
+pub chips_none : (machine : Machine) (first : ℕ) (text : List ℕ) → text ≡ text ++ chips_text machine first 0
+unfolding each_from
+chips_none machine first text = sym (append-nil text)
 
-pub chips_more : (machine : Machine) (text before after : List ℕ) (c : ℕ) → before ≡ text ++ chips_text machine c
-    → after ≡ before ++ chip_text (image_of_chip (chip_at machine.chips c) (list_at machine.buffers c)) → after ≡ text ++ chips_text machine (c + 1)
-chips_more machine text before after c is more =
-    grown text (chips_text machine c) (chip_text (image_of_chip (chip_at machine.chips c) (list_at machine.buffers c))) before after is more
-    ∙ ap (λ (xs : List ℕ). text ++ xs) (sym (made_more chip_text (λ b. image_of_chip (chip_at machine.chips b) (list_at machine.buffers b)) c))
+pub chips_more : (machine : Machine) (text before after : List ℕ) (first n c : ℕ) → first + n ≡ c
+    → before ≡ text ++ chips_text machine first n → after ≡ before ++ chip_text (image_at machine c)
+    → after ≡ text ++ chips_text machine first (n + 1)
+chips_more machine text before after first n c number is more =
+    grown text (chips_text machine first n) (chip_text (image_at machine c)) before after is more
+    ∙ ap (λ (xs : List ℕ). text ++ xs) (sym (made_more chip_text (image_at machine) first n c number))
+
+-- the chips behind those that were written
+chips_joined : (machine : Machine) (first n : ℕ)
+    → chips_text machine 0 (first + n) ≡ chips_text machine 0 first ++ chips_text machine first n
+chips_joined machine first zero =
+    let none : first + 0 ≡ first = omega arith in
+    ap (λ (k : ℕ). chips_text machine 0 k) none ∙ chips_none machine first (chips_text machine 0 first)
+chips_joined machine first (suc n) =
+    let front : List ℕ = chips_text machine 0 first in
+    let last : List ℕ = chip_text (image_at machine (first + n)) in
+    let one_more : suc n ≡ n + 1 = omega arith in
+    let all : first + suc n ≡ first + n + 1 = omega arith in
+    ap (λ (k : ℕ). chips_text machine 0 k) all
+    ∙ (made_more chip_text (image_at machine) 0 (first + n) (first + n) (omega arith)
+    ∙ (ap (λ (xs : List ℕ). xs ++ last) (chips_joined machine first n)
+    ∙ (append_assoc front (chips_text machine first n) last
+    ∙ (ap (λ (xs : List ℕ). front ++ xs) (sym (made_more chip_text (image_at machine) first n (first + n) refl))
+    ∙ ap (λ (k : ℕ). front ++ chips_text machine first k) (sym one_more)))))
+
+pub tile_more : (machine : Machine) (text before after : List ℕ) (first n : ℕ)
+    → before ≡ text ++ chips_text machine 0 first → after ≡ before ++ chips_text machine first n
+    → after ≡ text ++ chips_text machine 0 (first + n)
+tile_more machine text before after first n is more =
+    grown text (chips_text machine 0 first) (chips_text machine first n) before after is more
+    ∙ ap (λ (xs : List ℕ). text ++ xs) (sym (chips_joined machine first n))
 
 -- header, counter and chips, one behind another
-pub all_written : (n cap clock : ℕ) (machine : Machine) (none first header text : List ℕ) → none ≡ [] → first ≡ none ++ shape_text n cap → header ≡ first ++ number w64 clock → clock ≡ machine.clock
-    → text ≡ header ++ chips_text machine (2 ^ n) → text ≡ text_of n cap machine
+pub all_written : (n cap clock : ℕ) (machine : Machine) (none first header text : List ℕ) → none ≡ []
+    → first ≡ none ++ shape_text n cap → header ≡ first ++ number w64 clock → clock ≡ machine.clock
+    → text ≡ header ++ chips_text machine 0 (2 ^ n) → text ≡ text_of n cap machine
 unfolding image_text
 all_written n cap clock machine none first header text empty shape time is all =
-    all ∙ (ap (λ (xs : List ℕ). xs ++ chips_text machine (2 ^ n)) (time ∙ (λ i. (shape ∙ ap (λ (xs : List ℕ). xs ++ shape_text n cap) empty) i ++ number w64 (is i)))
-    ∙ append_assoc (shape_text n cap) (number w64 machine.clock) (chips_text machine (2 ^ n)))
+    all ∙ (ap (λ (xs : List ℕ). xs ++ chips_text machine 0 (2 ^ n)) (time
+    ∙ (λ i. (shape ∙ ap (λ (xs : List ℕ). xs ++ shape_text n cap) empty) i ++ number w64 (is i)))
+    ∙ append_assoc (shape_text n cap) (number w64 machine.clock) (chips_text machine 0 (2 ^ n)))

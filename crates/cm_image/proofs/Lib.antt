@@ -3,3 +3,5 @@ mod Taking
 mod Building
 mod Loading
 mod Dumping
+mod Lengths
+mod Counting

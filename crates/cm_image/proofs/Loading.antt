@@ -1,5 +1,6 @@
 -- From the parts of an image to the whole, and from its machine to what is answered.
-use Rattle.std.proofs.Common.{◌≡◌, ℕ, zero, suc, ◌+◌, ◌-◌, ◌<◌, ◌≤◌, ◌==◌, ◌&&◌, ◌^◌, Bool, true, false, List, [], ◌∷◌, ◌++◌, map, fold, Result, Ok, Err, length, refl, sym, ap, ◌∙◌, subst, arith, if◌then◌else◌}
+use Rattle.std.proofs.Common.{◌≡◌, ℕ, zero, suc, ◌+◌, ◌-◌, ◌<◌, ◌≤◌, ◌^◌, Bool, true, false, List, [], ◌∷◌, ◌++◌}
+use Rattle.std.proofs.Common.{map, fold, Result, Ok, Err, length, refl, sym, ap, ◌∙◌, subst, arith, if◌then◌else◌}
 use Rattle.std.specs.List.{flat_map}
 use Rattle.std.proofs.lemmas.List.{nil_from_length}
 use Rattle.cm_model.specs.declared.message.Message.{Message}
@@ -7,24 +8,27 @@ use Rattle.cm_model.specs.Machine.{Machine}
 use Rattle.cm_model.specs.Unlogged.{standing_messages, has_tag_twice}
 use Rattle.cm_image_format.specs.declared.fault.ImageFault.{ImageFault}
 use Rattle.cm_image_format.specs.declared.fault.ImageFault.TheVariants.{TagTwice, Extra}
-use Rattle.cm_image_format.specs.Reading.{◌>>=◌, Read, ◌⨾◌, made, many}
-use Rattle.cm_image_format.specs.Image.{ChipImage, is_dimension, is_room, shape_part, clock_part, flags_part, memory_part, messages_part, chip_part}
+use Rattle.cm_image_format.specs.Reading.{◌>>=◌, Read, made, many}
+use Rattle.cm_image_format.specs.Image.{ChipImage, header_part, flags_part, memory_part, messages_part, chip_part}
 use Rattle.cm_image_format.specs.Whole.{Image, machine_from, messages_in, image_part, ended, read_image}
-use Rattle.cm_image.specs.Chips.{with_flags, with_listed, with_message, with_chip_image, IsBlankFrom, blank_at, chips_part, machine_of_chips}
+use Rattle.cm_image.specs.Chips.{with_flags, with_listed, with_message, with_chip_image, IsBlankFrom, blank_at}
+use Rattle.cm_image.specs.Chips.{chips_part, machine_of_chips}
 use Rattle.cm_image.proofs.Filling.{fill, fill_on, fill_err, fill_done, fill_is, many_err}
 use Rattle.cm_image.proofs.Building.{chip_built, blank_from-next, put_chip, machine_built}
 
 -- ---- what a value was made of
 
 -- a step that gave a value, after one that gave one
-bound : {A B : Type 0} (r : Result A ImageFault) (f : A → Result B ImageFault) (y : B) → (r >>= f) ≡ Ok y → (x : A) × (r ≡ Ok x) × (f x ≡ Ok y)
+bound : {A B : Type 0} (r : Result A ImageFault) (f : A → Result B ImageFault) (y : B) → (r >>= f) ≡ Ok y
+    → (x : A) × (r ≡ Ok x) × (f x ≡ Ok y)
 bound (Ok x) f y is = (x, refl, is)
 bound (Err fault) f y is = absurd (cc)
 
 same_ok : {A : Type 0} (x y : A) → ◌≡◌ {A = Result A ImageFault} (Ok x) (Ok y) → x ≡ y
 same_ok x y is = cc
 
-pub made_of : {A B : Type 0} (f : A → B) (read : List ℕ → Read A) (bytes rest : List ℕ) (y : B) → made f read bytes ≡ Ok (y, rest) → (x : A) × (read bytes ≡ Ok (x, rest)) × (f x ≡ y)
+pub made_of : {A B : Type 0} (f : A → B) (read : List ℕ → Read A) (bytes rest : List ℕ) (y : B)
+    → made f read bytes ≡ Ok (y, rest) → (x : A) × (read bytes ≡ Ok (x, rest)) × (f x ≡ y)
 made_of f read bytes rest y is =
     let x = bound (read bytes) (λ x. Ok (f x.0, x.1)) (y, rest) is in
     let same : (f x.0.0, x.0.1) ≡ (y, rest) = same_ok (f x.0.0, x.0.1) (y, rest) x.2 in
@@ -32,15 +36,18 @@ made_of f read bytes rest y is =
 
 -- ---- a chip
 
-pub chip_read : (n cap clock c : ℕ) (m flagged listed whole : Machine) (bytes after more rest : List ℕ) (flags : List ℕ) → c < 2 ^ n → IsBlankFrom n c m
+pub chip_read : (n cap clock c : ℕ) (m flagged listed whole : Machine) (bytes after more rest : List ℕ)
+    (flags : List ℕ) → c < 2 ^ n → IsBlankFrom n c m
     → flags_part bytes ≡ Ok (flags, after) → flagged ≡ with_flags c m flags
     → made (λ xs. fold (with_listed c) flagged xs) memory_part after ≡ Ok (listed, more)
     → made (λ xs. fold (with_message c) listed xs) (messages_part n cap clock) more ≡ Ok (whole, rest)
     → made (with_chip_image c m) (chip_part n cap clock) bytes ≡ Ok (whole, rest)
 unfolding chip_part
-chip_read n cap clock c m flagged listed whole bytes after more rest flags h blank flags_are with_them memory_is messages_are =
+chip_read n cap clock c m flagged listed whole bytes after more rest flags h blank flags_are with_them memory_is
+    messages_are =
     let memory = made_of (λ xs. fold (with_listed c) flagged xs) memory_part after more listed memory_is in
-    let messages = made_of (λ xs. fold (with_message c) listed xs) (messages_part n cap clock) more rest whole messages_are in
+    let messages = made_of (λ xs. fold (with_message c) listed xs) (messages_part n cap clock) more rest whole
+    messages_are in
     let image : ChipImage = record { flags = flags; memory = memory.0; messages = messages.0 } in
     let built : with_chip_image c m image ≡ whole =
     sym (chip_built n c m image h blank)
@@ -48,16 +55,20 @@ chip_read n cap clock c m flagged listed whole bytes after more rest flags h bla
     ∙ (ap (λ (z : Machine). fold (with_message c) z messages.0) memory.2 ∙ messages.2)) in
     rw (flags_are, memory.1, messages.1) (ap (λ (z : Machine). Ok (z, rest)) built)
 
-pub flags_wrong : (n cap clock : ℕ) (bytes : List ℕ) (fault : ImageFault) → flags_part bytes ≡ Err fault → chip_part n cap clock bytes ≡ Err fault
+pub flags_wrong : (n cap clock : ℕ) (bytes : List ℕ) (fault : ImageFault) → flags_part bytes ≡ Err fault
+    → chip_part n cap clock bytes ≡ Err fault
 unfolding chip_part
 flags_wrong n cap clock bytes fault is = rw is refl
 
-pub memory_wrong : (n cap clock : ℕ) (bytes after flags : List ℕ) (fault : ImageFault) → flags_part bytes ≡ Ok (flags, after) → memory_part after ≡ Err fault → chip_part n cap clock bytes ≡ Err fault
+pub memory_wrong : (n cap clock : ℕ) (bytes after flags : List ℕ) (fault : ImageFault)
+    → flags_part bytes ≡ Ok (flags, after) → memory_part after ≡ Err fault → chip_part n cap clock bytes ≡ Err fault
 unfolding chip_part
 memory_wrong n cap clock bytes after flags fault flags_are is = rw (flags_are, is) refl
 
-pub messages_wrong : (n cap clock c : ℕ) (flagged listed : Machine) (bytes after more flags : List ℕ) (fault : ImageFault) → flags_part bytes ≡ Ok (flags, after)
-    → made (λ xs. fold (with_listed c) flagged xs) memory_part after ≡ Ok (listed, more) → messages_part n cap clock more ≡ Err fault → chip_part n cap clock bytes ≡ Err fault
+pub messages_wrong : (n cap clock c : ℕ) (flagged listed : Machine) (bytes after more flags : List ℕ)
+    (fault : ImageFault) → flags_part bytes ≡ Ok (flags, after)
+    → made (λ xs. fold (with_listed c) flagged xs) memory_part after ≡ Ok (listed, more)
+    → messages_part n cap clock more ≡ Err fault → chip_part n cap clock bytes ≡ Err fault
 unfolding chip_part
 messages_wrong n cap clock c flagged listed bytes after more flags fault flags_are memory_is is =
     let memory = made_of (λ xs. fold (with_listed c) flagged xs) memory_part after more listed memory_is in
@@ -65,13 +76,17 @@ messages_wrong n cap clock c flagged listed bytes after more flags fault flags_a
 
 -- ---- all chips
 
-many_count : {A : Type 0} (next : ℕ → A → ℕ) (one : ℕ → List ℕ → Read A) (count s : ℕ) (bytes rest : List ℕ) (xs : List A) → many next one count s bytes ≡ Ok (xs, rest) → length xs ≡ count
+many_count : {A : Type 0} (next : ℕ → A → ℕ) (one : ℕ → List ℕ → Read A) (count s : ℕ) (bytes rest : List ℕ)
+    (xs : List A) → many next one count s bytes ≡ Ok (xs, rest) → length xs ≡ count
 unfolding many
-many_count {A} next one zero s bytes rest xs is = ap (λ (p : List A × List ℕ). length p.0) (sym (same_ok ([], bytes) (xs, rest) is))
+many_count {A} next one zero s bytes rest xs is =
+    ap (λ (p : List A × List ℕ). length p.0) (sym (same_ok ([], bytes) (xs, rest) is))
 many_count {A} next one (suc count) s bytes rest xs is =
-    let a = bound (one s bytes) (λ a. many next one count (next s a.0) a.1 >>= (λ b. Ok (a.0 ∷ b.0, b.1))) (xs, rest) is in
+    let a = bound (one s bytes) (λ a. many next one count (next s a.0) a.1 >>= (λ b. Ok (a.0 ∷ b.0, b.1))) (xs, rest)
+    is in
     let b = bound (many next one count (next s a.0.0) a.0.1) (λ b. Ok (a.0.0 ∷ b.0, b.1)) (xs, rest) a.2 in
-    ap (λ (p : List A × List ℕ). length p.0) (sym (same_ok (a.0.0 ∷ b.0.0, b.0.1) (xs, rest) b.2)) ∙ ap suc (many_count next one count (next s a.0.0) a.0.1 b.0.1 b.0.0 b.1)
+    ap (λ (p : List A × List ℕ). length p.0) (sym (same_ok (a.0.0 ∷ b.0.0, b.0.1) (xs, rest) b.2))
+    ∙ ap suc (many_count next one count (next s a.0.0) a.0.1 b.0.1 b.0.0 b.1)
 
 abbrev pub same_number : ℕ → ChipImage → ℕ
 same_number i chip = i
@@ -80,52 +95,64 @@ same_number i chip = i
 abbrev pub chips_left : ℕ → ℕ → ℕ → ℕ → Machine → List ℕ → Read (Machine × ℕ)
 chips_left n cap clock c m rest = fill same_number (λ i. chip_part n cap clock) put_chip (2 ^ n - c) 0 (m, c) rest
 
-pub chips_on : (n cap clock c : ℕ) (first m whole : Machine) (bytes before after : List ℕ) → c < 2 ^ n → chips_left n cap clock c m before ≡ chips_left n cap clock 0 first bytes
-    → made (with_chip_image c m) (chip_part n cap clock) before ≡ Ok (whole, after) → chips_left n cap clock (c + 1) whole after ≡ chips_left n cap clock 0 first bytes
+pub chips_on : (n cap clock c : ℕ) (first m whole : Machine) (bytes before after : List ℕ) → c < 2 ^ n
+    → chips_left n cap clock c m before ≡ chips_left n cap clock 0 first bytes
+    → made (with_chip_image c m) (chip_part n cap clock) before ≡ Ok (whole, after)
+    → chips_left n cap clock (c + 1) whole after ≡ chips_left n cap clock 0 first bytes
 chips_on n cap clock c first m whole bytes before after h same is =
     let image = made_of (with_chip_image c m) (chip_part n cap clock) before after whole is in
     ap (λ (z : Machine). chips_left n cap clock (c + 1) z after) (sym image.2)
-    ∙ (sym (fill_on same_number (λ i. chip_part n cap clock) put_chip (2 ^ n) c 0 (m, c) before after image.0 h image.1) ∙ same)
+    ∙ (sym (fill_on same_number (λ i. chip_part n cap clock) put_chip (2 ^ n) c 0 (m, c) before after image.0 h
+    image.1) ∙ same)
 
 -- a chip is put in: those behind it are blank still
-pub blank_on : (n cap clock c : ℕ) (m whole : Machine) (before after : List ℕ) → made (with_chip_image c m) (chip_part n cap clock) before ≡ Ok (whole, after) → IsBlankFrom n c m → m.clock ≡ clock
+pub blank_on : (n cap clock c : ℕ) (m whole : Machine) (before after : List ℕ)
+    → made (with_chip_image c m) (chip_part n cap clock) before ≡ Ok (whole, after) → IsBlankFrom n c m
+    → m.clock ≡ clock
     → IsBlankFrom n (c + 1) whole × (whole.clock ≡ clock)
 unfolding with_chip_image
 blank_on n cap clock c m whole before after is blank time =
-    let image = made_of (with_chip_image c m) (chip_part n cap clock) before after whole is in
-    (subst (λ (z : Machine). IsBlankFrom n (c + 1) z) image.2 (blank_from-next n c m image.0 blank), ap (λ (z : Machine). z.clock) (sym image.2) ∙ time)
+    let image = made_of (with_chip_image c m) (chip_part n cap clock) before after whole is in (
+      subst (λ (z : Machine). IsBlankFrom n (c + 1) z) image.2 (blank_from-next n c m image.0 blank),
+      ap (λ (z : Machine). z.clock) (sym image.2) ∙ time,
+    )
 
 from_nothing : (k : ℕ) → k - 0 ≡ k
 from_nothing k = omega arith
 
-pub chips_wrong : (n cap clock c : ℕ) (first m : Machine) (bytes before : List ℕ) (fault : ImageFault) → c < 2 ^ n → chips_left n cap clock c m before ≡ chips_left n cap clock 0 first bytes
+pub chips_wrong : (n cap clock c : ℕ) (first m : Machine) (bytes before : List ℕ) (fault : ImageFault) → c < 2 ^ n
+    → chips_left n cap clock c m before ≡ chips_left n cap clock 0 first bytes
     → chip_part n cap clock before ≡ Err fault → chips_part n cap clock bytes ≡ Err fault
 chips_wrong n cap clock c first m bytes before fault h same is =
     many_err same_number (λ i. chip_part n cap clock) put_chip (2 ^ n) 0 (first, 0) bytes fault
-    (ap (λ (k : ℕ). fill same_number (λ i. chip_part n cap clock) put_chip k 0 (first, 0) bytes) (sym (from_nothing (2 ^ n)))
+    (ap (λ (k : ℕ). fill same_number (λ i. chip_part n cap clock) put_chip k 0 (first, 0) bytes)
+    (sym (from_nothing (2 ^ n)))
     ∙ (sym same ∙ fill_err same_number (λ i. chip_part n cap clock) put_chip (2 ^ n) c 0 (m, c) before fault h is))
 
-pub chips_read : (n cap clock c : ℕ) (m : Machine) (bytes rest : List ℕ) → 2 ^ n ≤ c → chips_left n cap clock c m rest ≡ chips_left n cap clock 0 (blank_at n clock) bytes
+pub chips_read : (n cap clock c : ℕ) (m : Machine) (bytes rest : List ℕ) → 2 ^ n ≤ c
+    → chips_left n cap clock c m rest ≡ chips_left n cap clock 0 (blank_at n clock) bytes
     → made (machine_of_chips clock) (chips_part n cap clock) bytes ≡ Ok (m, rest)
 chips_read n cap clock c m bytes rest h same =
     let one : ℕ → List ℕ → Read ChipImage = λ i. chip_part n cap clock in
     let all : made (λ xs. fold put_chip (blank_at n clock, 0) xs) (chips_part n cap clock) bytes ≡ Ok ((m, c), rest) =
     sym (fill_is same_number one put_chip (2 ^ n) 0 (blank_at n clock, 0) bytes)
-    ∙ (ap (λ (k : ℕ). fill same_number one put_chip k 0 (blank_at n clock, 0) bytes) (sym (from_nothing (2 ^ n))) ∙ (sym same ∙ fill_done same_number one put_chip (2 ^ n) c 0 (m, c) rest h)) in
-    let images = made_of (λ xs. fold put_chip (blank_at n clock, 0) xs) (chips_part n cap clock) bytes rest (m, c) all in
-    let built = sym (machine_built n (record { clock = clock; chips = images.0 }) (many_count same_number one (2 ^ n) 0 bytes rest images.0 images.1)) ∙ images.2 in
+    ∙ (ap (λ (k : ℕ). fill same_number one put_chip k 0 (blank_at n clock, 0) bytes) (sym (from_nothing (2 ^ n)))
+    ∙ (sym same ∙ fill_done same_number one put_chip (2 ^ n) c 0 (m, c) rest h)) in
+    let images = made_of (λ xs. fold put_chip (blank_at n clock, 0) xs) (chips_part n cap clock) bytes rest (m, c)
+    all in
+    let built = sym (machine_built n (record { clock = clock; chips = images.0 })
+    (many_count same_number one (2 ^ n) 0 bytes rest images.0 images.1)) ∙ images.2 in
     rw images.1 (ap (λ (z : Machine). Ok (z, rest)) (ap (λ (p : Machine × ℕ). p.0) built))
 
 -- ---- the whole
 
-abbrev pub header_part : ℕ → ℕ → List ℕ → Read ((ℕ × ℕ) × ℕ)
-header_part n cap = shape_part (λ k. is_dimension k && k == n) (λ k. is_room k && k == cap) ⨾ clock_part
-
-pub header_wrong : (n cap : ℕ) (bytes : List ℕ) (fault : ImageFault) → header_part n cap bytes ≡ Err fault → read_image n cap bytes ≡ Err fault
+pub header_wrong : (n cap : ℕ) (bytes : List ℕ) (fault : ImageFault) → header_part n cap bytes ≡ Err fault
+    → read_image n cap bytes ≡ Err fault
 unfolding read_image image_part
 header_wrong n cap bytes fault is = rw is refl
 
-pub chips_fault : (n cap clock : ℕ) (bytes after : List ℕ) (fault : ImageFault) → header_part n cap bytes ≡ Ok (((n, cap), clock), after) → chips_part n cap clock after ≡ Err fault
+pub chips_fault : (n cap clock : ℕ) (bytes after : List ℕ) (fault : ImageFault)
+    → header_part n cap bytes ≡ Ok (((n, cap), clock), after) → chips_part n cap clock after ≡ Err fault
     → read_image n cap bytes ≡ Err fault
 unfolding read_image image_part
 chips_fault n cap clock bytes after fault header is = rw (header, is) refl
@@ -136,20 +163,30 @@ told true machine rest = Err TagTwice
 told false machine [] = Ok machine
 told false machine (byte ∷ bytes) = Err Extra
 
-flat_map-map : {X Y A : Type 0} (g : Y → List A) (f : X → Y) (xs : List X) → flat_map g (map f xs) ≡ flat_map (λ x. g (f x)) xs
+flat_map-map : {X Y A : Type 0} (g : Y → List A) (f : X → Y) (xs : List X)
+    → flat_map g (map f xs) ≡ flat_map (λ x. g (f x)) xs
 flat_map-map g f [] = refl
 flat_map-map g f (x ∷ xs) = ap (λ z. g (f x) ++ z) (flat_map-map g f xs)
 
 messages_of-machine_from : (image : Image) → standing_messages (machine_from image) ≡ messages_in image.chips
 unfolding machine_from
-messages_of-machine_from image = flat_map-map (λ (buffer : List Message). buffer) (λ (chip : ChipImage). chip.messages) image.chips
+messages_of-machine_from image =
+    flat_map-map (λ (buffer : List Message). buffer) (λ (chip : ChipImage). chip.messages) image.chips
 
-ended_is : (image : Image) (rest : List ℕ) → ended image rest ≡ told (has_tag_twice (messages_in image.chips)) (machine_from image) rest
-ended_is image [] = elim (has_tag_twice (messages_in image.chips)) as (λ (b : Bool). (if b then Err TagTwice else Ok (machine_from image)) ≡ told b (machine_from image) []) [ true ↦ refl | false ↦ refl ]
-ended_is image (byte ∷ bytes) = elim (has_tag_twice (messages_in image.chips)) as (λ (b : Bool). (if b then Err TagTwice else Err Extra) ≡ told b (machine_from image) (byte ∷ bytes)) [ true ↦ refl | false ↦ refl ]
+ended_is : (image : Image) (rest : List ℕ)
+    → ended image rest ≡ told (has_tag_twice (messages_in image.chips)) (machine_from image) rest
+ended_is image [] = elim (has_tag_twice (messages_in image.chips)) as
+    (λ (b : Bool). (if b then Err TagTwice else Ok (machine_from image))
+    ≡ told b (machine_from image) []) [ true ↦ refl | false ↦ refl ]
+ended_is image (byte ∷ bytes) =
+    elim (has_tag_twice (messages_in image.chips)) as
+    (λ (b : Bool). (if b then Err TagTwice else Err Extra)
+    ≡ told b (machine_from image) (byte ∷ bytes)) [ true ↦ refl | false ↦ refl ]
 
-image_told : (n cap clock : ℕ) (bytes after rest : List ℕ) (machine : Machine) → header_part n cap bytes ≡ Ok (((n, cap), clock), after)
-    → made (machine_of_chips clock) (chips_part n cap clock) after ≡ Ok (machine, rest) → read_image n cap bytes ≡ told (has_tag_twice (standing_messages machine)) machine rest
+image_told : (n cap clock : ℕ) (bytes after rest : List ℕ) (machine : Machine)
+    → header_part n cap bytes ≡ Ok (((n, cap), clock), after)
+    → made (machine_of_chips clock) (chips_part n cap clock) after ≡ Ok (machine, rest)
+    → read_image n cap bytes ≡ told (has_tag_twice (standing_messages machine)) machine rest
 unfolding read_image image_part
 image_told n cap clock bytes after rest machine header chips =
     let images = made_of (machine_of_chips clock) (chips_part n cap clock) after rest machine chips in
@@ -158,13 +195,18 @@ image_told n cap clock bytes after rest machine header chips =
     ap has_tag_twice (sym (messages_of-machine_from image) ∙ ap standing_messages images.2) in
     rw (header, images.1) (ended_is image rest ∙ (λ i. told (twice i) (images.2 i) rest))
 
-pub loaded : (n cap clock : ℕ) (bytes after rest : List ℕ) (machine : Machine) → header_part n cap bytes ≡ Ok (((n, cap), clock), after)
-    → made (machine_of_chips clock) (chips_part n cap clock) after ≡ Ok (machine, rest) → has_tag_twice (standing_messages machine) ≡ false → length rest ≡ 0 → read_image n cap bytes ≡ Ok machine
+pub loaded : (n cap clock : ℕ) (bytes after rest : List ℕ) (machine : Machine)
+    → header_part n cap bytes ≡ Ok (((n, cap), clock), after)
+    → made (machine_of_chips clock) (chips_part n cap clock) after ≡ Ok (machine, rest)
+    → has_tag_twice (standing_messages machine) ≡ false → length rest ≡ 0 → read_image n cap bytes ≡ Ok machine
 loaded n cap clock bytes after rest machine header chips once none =
-    image_told n cap clock bytes after rest machine header chips ∙ (λ i. told (once i) machine (nil_from_length rest none i))
+    image_told n cap clock bytes after rest machine header chips
+    ∙ (λ i. told (once i) machine (nil_from_length rest none i))
 
-pub twice : (n cap clock : ℕ) (bytes after rest : List ℕ) (machine : Machine) → header_part n cap bytes ≡ Ok (((n, cap), clock), after)
-    → made (machine_of_chips clock) (chips_part n cap clock) after ≡ Ok (machine, rest) → has_tag_twice (standing_messages machine) ≡ true → read_image n cap bytes ≡ Err TagTwice
+pub twice : (n cap clock : ℕ) (bytes after rest : List ℕ) (machine : Machine)
+    → header_part n cap bytes ≡ Ok (((n, cap), clock), after)
+    → made (machine_of_chips clock) (chips_part n cap clock) after ≡ Ok (machine, rest)
+    → has_tag_twice (standing_messages machine) ≡ true → read_image n cap bytes ≡ Err TagTwice
 twice n cap clock bytes after rest machine header chips two =
     image_told n cap clock bytes after rest machine header chips ∙ (λ i. told (two i) machine rest)
 
@@ -172,7 +214,10 @@ told_extra : (machine : Machine) (rest : List ℕ) → (length rest ≡ 0 → �
 told_extra machine [] some = absurd (some refl)
 told_extra machine (byte ∷ bytes) some = refl
 
-pub extra : (n cap clock : ℕ) (bytes after rest : List ℕ) (machine : Machine) → header_part n cap bytes ≡ Ok (((n, cap), clock), after)
-    → made (machine_of_chips clock) (chips_part n cap clock) after ≡ Ok (machine, rest) → has_tag_twice (standing_messages machine) ≡ false → (length rest ≡ 0 → ⊥) → read_image n cap bytes ≡ Err Extra
+pub extra : (n cap clock : ℕ) (bytes after rest : List ℕ) (machine : Machine)
+    → header_part n cap bytes ≡ Ok (((n, cap), clock), after)
+    → made (machine_of_chips clock) (chips_part n cap clock) after ≡ Ok (machine, rest)
+    → has_tag_twice (standing_messages machine) ≡ false → (length rest ≡ 0 → ⊥) → read_image n cap bytes ≡ Err Extra
 extra n cap clock bytes after rest machine header chips once some =
-    image_told n cap clock bytes after rest machine header chips ∙ ((λ i. told (once i) machine rest) ∙ told_extra machine rest some)
+    image_told n cap clock bytes after rest machine header chips
+    ∙ ((λ i. told (once i) machine rest) ∙ told_extra machine rest some)

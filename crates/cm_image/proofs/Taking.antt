@@ -1,5 +1,6 @@
 -- The flag planes, the memory planes and the messages of a chip: a turn of the loop, a fault, and the end.
-use Rattle.std.proofs.Common.{◌≡◌, ℕ, ◌+◌, ◌-◌, ◌<◌, ◌≤◌, ◌^◌, List, [], ◌∷◌, ◌++◌, length, take, set, get_or, fold, None, Ok, Err, refl, sym, ap, ◌∙◌, subst, ⊎_elim, arith, nat_le}
+use Rattle.std.proofs.Common.{◌≡◌, ℕ, ◌+◌, ◌-◌, ◌<◌, ◌≤◌, ◌^◌, List, [], ◌∷◌, ◌++◌, length, take, set, get_or, fold}
+use Rattle.std.proofs.Common.{None, Ok, Err, refl, sym, ap, ◌∙◌, subst, ⊎_elim, arith, nat_le}
 use Rattle.std.specs.Int.{w8, w16}
 use Rattle.std.proofs.lemmas.Bool.{le-leb, cases_eq}
 use Rattle.std.proofs.lemmas.List.{take_more_set, take_all, length-set, length_push, get_or-set_same, get_or-set_other}
@@ -10,9 +11,11 @@ use Rattle.cm_array.specs.Pokes.{machine_with_plane, machine_with_message}
 use Rattle.cm_image_format.specs.declared.fault.ImageFault.{ImageFault}
 use Rattle.cm_image_format.specs.declared.fault.ImageFault.TheVariants.{Count}
 use Rattle.cm_image_format.specs.Reading.{must, number_at, made}
-use Rattle.cm_image_format.specs.Image.{Listed, flag_part, listed_part, message_part, flags_part, memory_part, messages_part}
+use Rattle.cm_image_format.specs.Image.{Listed, flag_part, listed_part, message_part, flags_part, memory_part}
+use Rattle.cm_image_format.specs.Image.{messages_part}
 use Rattle.cm_image.specs.Chips.{with_listed, with_message}
-use Rattle.cm_image.proofs.Filling.{fill, fill_on, fill_err, fill_done, many_err, push, pushed_is, counted_err, counted_all}
+use Rattle.cm_image.proofs.Filling.{fill, fill_on, fill_err, fill_done, many_err, push, pushed_is, counted_err}
+use Rattle.cm_image.proofs.Filling.{counted_all}
 
 -- ---- flags
 
@@ -25,28 +28,37 @@ pub record IsFilling (f : ℕ) (flags rest bytes : List ℕ) : Type 0 where
   pub zero : 8 < f → get_or flags 8 0 ≡ 0
   pub same : fill next_flag flag_part push (16 - f) f (take f flags) rest ≡ fill next_flag flag_part push 16 0 [] bytes
 
-pub flags_on : (f : ℕ) (flags rest after bytes : List ℕ) (plane : ℕ) → f < 16 → IsFilling f flags rest bytes → flag_part f rest ≡ Ok (plane, after)
-    → fill next_flag flag_part push (16 - (f + 1)) (f + 1) (take (f + 1) (set flags f plane)) after ≡ fill next_flag flag_part push 16 0 [] bytes
+pub flags_on : (f : ℕ) (flags rest after bytes : List ℕ) (plane : ℕ) → f < 16 → IsFilling f flags rest bytes
+    → flag_part f rest ≡ Ok (plane, after)
+    → fill next_flag flag_part push (16 - (f + 1)) (f + 1) (take (f + 1) (set flags f plane)) after
+    ≡ fill next_flag flag_part push 16 0 [] bytes
 flags_on f flags rest after bytes plane h filling is =
-    ap (λ (into : List ℕ). fill next_flag flag_part push (16 - (f + 1)) (f + 1) into after) (take_more_set flags f plane (omega (arith, filling.long)))
+    ap (λ (into : List ℕ). fill next_flag flag_part push (16 - (f + 1)) (f + 1) into after)
+    (take_more_set flags f plane (omega (arith, filling.long)))
     ∙ (sym (fill_on next_flag flag_part push 16 f f (take f flags) rest after plane h is) ∙ filling.same)
 
 -- flag plane 8 is 0 once it was read
-pub zero_on : (f : ℕ) (flags rest bytes : List ℕ) (plane : ℕ) → f < 16 → IsFilling f flags rest bytes → (f ≡ 8 → plane ≡ 0) → 8 < f + 1 → get_or (set flags f plane) 8 0 ≡ 0
+pub zero_on : (f : ℕ) (flags rest bytes : List ℕ) (plane : ℕ) → f < 16 → IsFilling f flags rest bytes
+    → (f ≡ 8 → plane ≡ 0) → 8 < f + 1 → get_or (set flags f plane) 8 0 ≡ 0
 zero_on f flags rest bytes plane h filling is l =
     ⊎_elim
-    (λ (s : f ≡ 8). subst (λ (k : ℕ). get_or (set flags k plane) 8 0 ≡ 0) (sym s) (get_or-set_same flags 8 plane 0 (omega (arith, filling.long)) ∙ is s))
+    (λ (s : f ≡ 8). subst (λ (k : ℕ). get_or (set flags k plane) 8 0 ≡ 0) (sym s)
+    (get_or-set_same flags 8 plane 0 (omega (arith, filling.long)) ∙ is s))
     (λ (s : f ≡ 8 → ⊥). get_or-set_other flags f 8 plane 0 (λ e. s (sym e)) ∙ filling.zero (omega (arith, s)))
     (cases_eq f 8)
 
-pub flags_err : (f : ℕ) (flags rest bytes : List ℕ) (fault : ImageFault) → f < 16 → IsFilling f flags rest bytes → flag_part f rest ≡ Err fault → flags_part bytes ≡ Err fault
+pub flags_err : (f : ℕ) (flags rest bytes : List ℕ) (fault : ImageFault) → f < 16 → IsFilling f flags rest bytes
+    → flag_part f rest ≡ Err fault → flags_part bytes ≡ Err fault
 flags_err f flags rest bytes fault h filling is =
-    many_err next_flag flag_part push 16 0 [] bytes fault (sym filling.same ∙ fill_err next_flag flag_part push 16 f f (take f flags) rest fault h is)
+    many_err next_flag flag_part push 16 0 [] bytes fault (sym filling.same
+    ∙ fill_err next_flag flag_part push 16 f f (take f flags) rest fault h is)
 
-pub flags_all : (f : ℕ) (flags rest bytes : List ℕ) → 16 ≤ f → IsFilling f flags rest bytes → flags_part bytes ≡ Ok (flags, rest)
+pub flags_all : (f : ℕ) (flags rest bytes : List ℕ) → 16 ≤ f → IsFilling f flags rest bytes
+    → flags_part bytes ≡ Ok (flags, rest)
 flags_all f flags rest bytes h filling =
     sym (pushed_is next_flag flag_part 16 0 bytes)
-    ∙ (sym filling.same ∙ (fill_done next_flag flag_part push 16 f f (take f flags) rest h ∙ ap (λ (xs : List ℕ). Ok (xs, rest)) (take_all f flags (omega (arith, filling.long)))))
+    ∙ (sym filling.same ∙ (fill_done next_flag flag_part push 16 f f (take f flags) rest h
+    ∙ ap (λ (xs : List ℕ). Ok (xs, rest)) (take_all f flags (omega (arith, filling.long)))))
 
 -- ---- memory
 
@@ -54,8 +66,10 @@ abbrev pub next_address : ℕ → Listed → ℕ
 next_address least x = x.at + 1
 
 -- the loop from here on, with this machine, gives what it gave at the start, and the buffers are what they were
-pub record IsListing (c count i least : ℕ) (machine : Machine) (rest : List ℕ) (first : Machine) (bytes : List ℕ) : Type 0 where
-  pub same : fill next_address listed_part (with_listed c) (count - i) least machine rest ≡ fill next_address listed_part (with_listed c) count 0 first bytes
+pub record IsListing (c count i least : ℕ) (machine : Machine) (rest : List ℕ) (first : Machine)
+    (bytes : List ℕ) : Type 0 where
+  pub same : fill next_address listed_part (with_listed c) (count - i) least machine rest
+      ≡ fill next_address listed_part (with_listed c) count 0 first bytes
   pub buffers : machine.buffers ≡ first.buffers
   pub clock : machine.clock ≡ first.clock
 
@@ -64,29 +78,39 @@ few count h = rw (le-leb count 4096 h) refl
 
 pub memory_start : (c count : ℕ) (machine : Machine) (rest : List ℕ) → IsListing c count 0 0 machine rest machine rest
 memory_start c count machine rest = record {
-  same = let all : count - 0 ≡ count = omega arith in ap (λ (k : ℕ). fill next_address listed_part (with_listed c) k 0 machine rest) all;
+  same = let all : count - 0 ≡ count = omega arith in
+      ap (λ (k : ℕ). fill next_address listed_part (with_listed c) k 0 machine rest) all;
   buffers = refl;
   clock = refl;
 }
 
-pub memory_on : (c count i least at plane : ℕ) (machine after_one first : Machine) (rest after bytes : List ℕ) → i < count → IsListing c count i least machine rest first bytes
-    → listed_part least rest ≡ Ok (record { at = at; plane = plane }, after) → after_one ≡ machine_with_plane machine c at plane → IsListing c count (i + 1) (at + 1) after_one after first bytes
+pub memory_on : (c count i least at plane : ℕ) (machine after_one first : Machine) (rest after bytes : List ℕ)
+    → i < count → IsListing c count i least machine rest first bytes
+    → listed_part least rest ≡ Ok (record { at = at; plane = plane }, after)
+    → after_one ≡ machine_with_plane machine c at plane → IsListing c count (i + 1) (at + 1) after_one after first bytes
 memory_on c count i least at plane machine after_one first rest after bytes h listing is put =
     subst (λ (m : Machine). IsListing c count (i + 1) (at + 1) m after first bytes) (sym put) (record {
-      same = sym (fill_on next_address listed_part (with_listed c) count i least machine rest after (record { at = at; plane = plane }) h is) ∙ listing.same;
+      same = sym (fill_on next_address listed_part (with_listed c) count i least machine rest after
+          (record { at = at; plane = plane }) h is) ∙ listing.same;
       buffers = listing.buffers;
       clock = listing.clock;
     })
 
-pub memory_err : (c count i least : ℕ) (machine first : Machine) (rest after bytes : List ℕ) (fault : ImageFault) → i < count → count ≤ 4096 → number_at w16 bytes ≡ Ok (count, after)
-    → IsListing c count i least machine rest first after → listed_part least rest ≡ Err fault → memory_part bytes ≡ Err fault
+pub memory_err : (c count i least : ℕ) (machine first : Machine) (rest after bytes : List ℕ) (fault : ImageFault)
+    → i < count → count ≤ 4096 → number_at w16 bytes ≡ Ok (count, after)
+    → IsListing c count i least machine rest first after → listed_part least rest ≡ Err fault
+    → memory_part bytes ≡ Err fault
 memory_err c count i least machine first rest after bytes fault h most is listing wrong =
-    counted_err w16 (must Count (λ k. nat_le k 4096)) next_address listed_part (with_listed c) count i least 0 machine first rest after bytes fault h (few count most) is listing.same wrong
+    counted_err w16 (must Count (λ k. nat_le k 4096)) next_address listed_part
+    (with_listed c) count i least 0 machine first rest after bytes fault h (few count most) is listing.same wrong
 
-pub memory_all : (c count i least : ℕ) (machine first : Machine) (rest after bytes : List ℕ) → count ≤ i → count ≤ 4096 → number_at w16 bytes ≡ Ok (count, after)
-    → IsListing c count i least machine rest first after → made (λ listed. fold (with_listed c) first listed) memory_part bytes ≡ Ok (machine, rest)
+pub memory_all : (c count i least : ℕ) (machine first : Machine) (rest after bytes : List ℕ) → count ≤ i
+    → count ≤ 4096 → number_at w16 bytes ≡ Ok (count, after)
+    → IsListing c count i least machine rest first after
+    → made (λ listed. fold (with_listed c) first listed) memory_part bytes ≡ Ok (machine, rest)
 memory_all c count i least machine first rest after bytes h most is listing =
-    counted_all w16 (must Count (λ k. nat_le k 4096)) next_address listed_part (with_listed c) count i least 0 machine first rest after bytes h (few count most) is listing.same
+    counted_all w16 (must Count (λ k. nat_le k 4096)) next_address listed_part
+    (with_listed c) count i least 0 machine first rest after bytes h (few count most) is listing.same
 
 -- ---- messages
 
@@ -94,8 +118,10 @@ abbrev pub same_place : ℕ → Message → ℕ
 same_place i m = i
 
 -- the loop from here on, with this machine, gives what it gave at the start, and so many messages stand at the chip
-pub record IsStanding (n c clock count i : ℕ) (machine : Machine) (rest : List ℕ) (first : Machine) (bytes : List ℕ) : Type 0 where
-  pub same : fill same_place (λ k. message_part n clock) (with_message c) (count - i) 0 machine rest ≡ fill same_place (λ k. message_part n clock) (with_message c) count 0 first bytes
+pub record IsStanding (n c clock count i : ℕ) (machine : Machine) (rest : List ℕ) (first : Machine)
+    (bytes : List ℕ) : Type 0 where
+  pub same : fill same_place (λ k. message_part n clock) (with_message c) (count - i) 0 machine rest
+      ≡ fill same_place (λ k. message_part n clock) (with_message c) count 0 first bytes
   pub buffer_count : length machine.buffers ≡ 2 ^ n
   pub standing : length (list_at machine.buffers c) ≡ i
   pub counter : machine.clock ≡ clock
@@ -103,32 +129,44 @@ pub record IsStanding (n c clock count i : ℕ) (machine : Machine) (rest : List
 no_more : (cap count : ℕ) → count ≤ cap → must Count (λ k. nat_le k cap) count ≡ None
 no_more cap count h = rw (le-leb count cap h) refl
 
-pub messages_start : (n c clock count : ℕ) (machine : Machine) (rest : List ℕ) → length machine.buffers ≡ 2 ^ n → list_at machine.buffers c ≡ [] → machine.clock ≡ clock
+pub messages_start : (n c clock count : ℕ) (machine : Machine) (rest : List ℕ) → length machine.buffers ≡ 2 ^ n
+    → list_at machine.buffers c ≡ [] → machine.clock ≡ clock
     → IsStanding n c clock count 0 machine rest machine rest
 messages_start n c clock count machine rest long none time = record {
-  same = let all : count - 0 ≡ count = omega arith in ap (λ (k : ℕ). fill same_place (λ j. message_part n clock) (with_message c) k 0 machine rest) all;
+  same = let all : count - 0 ≡ count = omega arith in
+      ap (λ (k : ℕ). fill same_place (λ j. message_part n clock) (with_message c) k 0 machine rest) all;
   buffer_count = long;
   standing = ap length none;
   counter = time;
 }
 
-pub messages_on : (n c clock count i : ℕ) (m : Message) (machine after_one first : Machine) (rest after bytes : List ℕ) → c < 2 ^ n → i < count → IsStanding n c clock count i machine rest first bytes
-    → message_part n clock rest ≡ Ok (m, after) → after_one ≡ machine_with_message machine c m → IsStanding n c clock count (i + 1) after_one after first bytes
+pub messages_on : (n c clock count i : ℕ) (m : Message) (machine after_one first : Machine)
+    (rest after bytes : List ℕ) → c < 2 ^ n → i < count → IsStanding n c clock count i machine rest first bytes
+    → message_part n clock rest ≡ Ok (m, after) → after_one ≡ machine_with_message machine c m
+    → IsStanding n c clock count (i + 1) after_one after first bytes
 messages_on n c clock count i m machine after_one first rest after bytes below h standing is put =
     let buffer : List Message = list_at machine.buffers c in
     subst (λ (z : Machine). IsStanding n c clock count (i + 1) z after first bytes) (sym put) (record {
-      same = sym (fill_on same_place (λ k. message_part n clock) (with_message c) count i 0 machine rest after m h is) ∙ standing.same;
+      same = sym (fill_on same_place (λ k. message_part n clock) (with_message c) count i 0 machine rest after m h is)
+          ∙ standing.same;
       buffer_count = length-set machine.buffers c (buffer ++ m ∷ []) ∙ standing.buffer_count;
-      standing = ap length (get_or-set_same machine.buffers c (buffer ++ m ∷ []) [] (omega (arith, standing.buffer_count))) ∙ (length_push buffer m ∙ ap (λ (k : ℕ). k + 1) standing.standing);
+      standing = ap length (get_or-set_same machine.buffers c (buffer ++ m ∷ []) []
+          (omega (arith, standing.buffer_count))) ∙ (length_push buffer m ∙ ap (λ (k : ℕ). k + 1) standing.standing);
       counter = standing.counter;
     })
 
-pub messages_err : (n cap c clock count i : ℕ) (machine first : Machine) (rest after bytes : List ℕ) (fault : ImageFault) → i < count → count ≤ cap → number_at w8 bytes ≡ Ok (count, after)
-    → IsStanding n c clock count i machine rest first after → message_part n clock rest ≡ Err fault → messages_part n cap clock bytes ≡ Err fault
+pub messages_err : (n cap c clock count i : ℕ) (machine first : Machine) (rest after bytes : List ℕ)
+    (fault : ImageFault) → i < count → count ≤ cap → number_at w8 bytes ≡ Ok (count, after)
+    → IsStanding n c clock count i machine rest first after → message_part n clock rest ≡ Err fault
+    → messages_part n cap clock bytes ≡ Err fault
 messages_err n cap c clock count i machine first rest after bytes fault h most is standing wrong =
-    counted_err w8 (must Count (λ k. nat_le k cap)) same_place (λ k. message_part n clock) (with_message c) count i 0 0 machine first rest after bytes fault h (no_more cap count most) is standing.same wrong
+    counted_err w8 (must Count (λ k. nat_le k cap)) same_place (λ k. message_part n clock)
+    (with_message c) count i 0 0 machine first rest after bytes fault h (no_more cap count most) is standing.same wrong
 
-pub messages_all : (n cap c clock count i : ℕ) (machine first : Machine) (rest after bytes : List ℕ) → count ≤ i → count ≤ cap → number_at w8 bytes ≡ Ok (count, after)
-    → IsStanding n c clock count i machine rest first after → made (λ messages. fold (with_message c) first messages) (messages_part n cap clock) bytes ≡ Ok (machine, rest)
+pub messages_all : (n cap c clock count i : ℕ) (machine first : Machine) (rest after bytes : List ℕ) → count ≤ i
+    → count ≤ cap → number_at w8 bytes ≡ Ok (count, after)
+    → IsStanding n c clock count i machine rest first after
+    → made (λ messages. fold (with_message c) first messages) (messages_part n cap clock) bytes ≡ Ok (machine, rest)
 messages_all n cap c clock count i machine first rest after bytes h most is standing =
-    counted_all w8 (must Count (λ k. nat_le k cap)) same_place (λ k. message_part n clock) (with_message c) count i 0 0 machine first rest after bytes h (no_more cap count most) is standing.same
+    counted_all w8 (must Count (λ k. nat_le k cap)) same_place (λ k. message_part n clock)
+    (with_message c) count i 0 0 machine first rest after bytes h (no_more cap count most) is standing.same

@@ -1,12 +1,14 @@
 -- Planes by address, and the part of an image that tells the planes below a number: ours.
-use Rattle.std.specs.Prelude.{ℕ, ◌==◌, List, [], slice_set, if◌then◌else◌}
+use Rattle.std.specs.Prelude.{◌≡◌, ℕ, ◌<◌, ◌==◌, List, [], length, slice_index, slice_set, if◌then◌else◌}
 use Rattle.std.specs.List.{flat_map}
 use Rattle.std.specs.Int.{w16}
 use Rattle.cm_model.specs.Each.{each_from}
 use Rattle.cm_model.specs.Processor.{Processor}
+use Rattle.cm_model.specs.Array.{Chips, chip_at, list_at}
+use Rattle.cm_model.specs.Machine.{Machine}
 use Rattle.cm_message.specs.Bytes.{number}
-use Rattle.cm_image_format.specs.Image.{Listed, listed_text}
-use Rattle.cm_image_format.specs.Whole.{without_zeros, flag_plane_of, memory_plane_of}
+use Rattle.cm_image_format.specs.Image.{Listed, listed_text, chip_text}
+use Rattle.cm_image_format.specs.Whole.{without_zeros, flag_plane_of, memory_plane_of, image_of_chip}
 
 -- the planes with the one that is listed at its address
 abbrev pub put_plane : List ℕ → Listed → List ℕ
@@ -27,3 +29,14 @@ listed_below chip count = flat_map listed_text (planes_below chip count)
 
 abbrev pub listing_of : ℕ → ℕ → List ℕ
 listing_of address plane = if plane == 0 then [] else listed_text (record { at = address; plane = plane })
+
+-- by chip, how many planes below an address are listed
+pub record AreCounted (count : ℕ) (chips : Chips) (below : ℕ) (counts : List ℕ) : Type 0 where
+  pub long : length counts ≡ count
+  pub each : (c : ℕ) → c < count → slice_index counts c ≡ length (planes_below (chip_at chips c) below)
+
+-- what an image has of so many chips of a machine, from the first on
+abbrev pub chips_text : Machine → ℕ → ℕ → List ℕ
+chips_text machine first count =
+    flat_map chip_text
+    (each_from first count (λ c. image_of_chip (chip_at machine.chips c) (list_at machine.buffers c)))

@@ -1,19 +1,23 @@
 //! Writing the bytes of a machine.
 
-ghost use Rattle.std.specs.Prelude.{◌≡◌, ◌==◌, ◌++◌, ◌^◌, ◌<◌, ◌≤◌, length, IfOk, Ok, OnOk, if◌then◌else◌};
+ghost use Rattle.std.specs.Prelude.{◌≡◌, ℕ, ◌==◌, ◌+◌, ◌++◌, ◌^◌, ◌<◌, ◌≤◌, List, length, IfOk, Ok, OnOk};
+ghost use Rattle.std.specs.Prelude.{if◌then◌else◌};
 ghost use Rattle.std.specs.List.{flat_map};
 ghost use Rattle.std.specs.Int.{w8, w16, w32, w64};
+ghost use Rattle.cm_model.specs.Processor.{Processor};
+ghost use Rattle.cm_model.specs.Array.{chip_at};
 ghost use Rattle.cm_message.specs.Bytes.{number, message_text};
 ghost use Rattle.cm_image_format.specs.Image.{chip_text, shape_text};
 ghost use Rattle.cm_image_format.specs.Whole.{flag_plane_of, memory_plane_of, image_of_chip, image_of, text_of};
 ghost use Rattle.cm_image_format.specs.Whole.{read_image};
 ghost use Rattle.cm_image_format.specs.Laws.{without_logs};
-ghost use Rattle.cm_image.specs.Planes.{flags_text, listing_of, listed_below, planes_below};
+ghost use Rattle.cm_image.specs.Planes.{AreCounted, chips_text, flags_text, listing_of, listed_below, planes_below};
 
+use crate::counts::listed_planes;
 use crate::numbers::chip_count;
 use cm_array::Machine;
 use cm_bits::{Addr, FlagNo, NoMemory, Plane};
-use cm_element::Chip;
+use cm_element::{ChipView, Run};
 use cm_image_format::texts_leave_out_logs;
 use cm_message::{Message, bytes};
 use std::alloc::Global;
@@ -34,6 +38,9 @@ const LISTED_LEN: usize = 4;
 
 const MESSAGE_LEN: usize = 18;
 
+/// So many chips at a time are laid out near: 256 KB, which a cache holds while they are written.
+const TILE: u16 = 32;
+
 /// The image of a machine: its one text. Its logs are not in it.
 pub fn dump<const N: usize, const CAP: usize>(
     alloc: Global,
@@ -44,47 +51,87 @@ pub fn dump<const N: usize, const CAP: usize>(
 {
     let cycles = machine.clock();
     texts_leave_out_logs();
-    let mut text = Vec::with_capacity(alloc, text_len(machine))?;
+    let counts = listed_planes(alloc, machine)?;
+    let mut text = Vec::with_capacity(alloc, text_len(machine, &counts))?;
+    let mut tile = Run::blank(alloc, TILE)?;
     push_shape(&mut text, N, CAP)?;
     push_u64(&mut text, cycles)?;
-    push_chips(&mut text, machine)?;
+    push_chips(&mut text, machine, &counts, &mut tile)?;
     Ok(text)
 }
 
 /// How many bytes the image has, so that its list need not grow.
-fn text_len<const N: usize, const CAP: usize>(machine: &Machine<N, CAP>) -> usize
+fn text_len<const N: usize, const CAP: usize>(machine: &Machine<N, CAP>, counts: &[u16]) -> usize
     requires dimension { N ≤ 12 }
+    requires room { CAP ≤ 15 }
+    requires counts { AreCounted (2 ^ N) machine.now.machine.chips 4096 counts.now }
+    ensures value { result ≡ length (text_of N CAP machine.now.machine) }
 {
-    let mut len: usize = HEADER_LEN;
+    let mut len = HEADER_LEN;
     let count = chip_count::<N>();
     for c in 0..count {
-        len = len.saturating_add(chip_len(machine.chip(c), machine.buffer(c)));
+        len += chip_len(counts[usize::from(c)], machine.buffer(c));
     }
     len
 }
 
-/// How many bytes it has of a chip with this buffer.
-fn chip_len(chip: &Chip, buffer: &[Message]) -> usize {
-    let planes = usize::from(count_planes(chip)).saturating_mul(LISTED_LEN);
-    let messages = buffer.len().saturating_mul(MESSAGE_LEN);
-    BLANK_CHIP_LEN
-        .saturating_add(planes)
-        .saturating_add(messages)
+/// How many bytes it has of a chip with so many listed planes and this buffer.
+fn chip_len(planes: u16, buffer: &[Message]) -> usize
+    requires few { length buffer.now < 256 }
+    ensures value { (chip : List Processor) → planes ≡ length (planes_below chip 4096)
+        → result ≡ length (chip_text (image_of_chip chip buffer.now)) }
+    ensures within { result ≤ 300000 }
+{
+    BLANK_CHIP_LEN + usize::from(planes) * LISTED_LEN + buffer.len() * MESSAGE_LEN
 }
 
-/// What an image has of each chip, by number.
+/// What an image has of each chip, by number: some chips at a time are laid out near.
 fn push_chips<const N: usize, const CAP: usize>(
     text: &mut Vec<u8>,
     machine: &Machine<N, CAP>,
+    counts: &[u16],
+    tile: &mut Run,
 ) -> Result<(), NoMemory>
     requires dimension { N ≤ 12 }
     requires room { CAP ≤ 15 }
+    requires counts { AreCounted (2 ^ N) machine.now.machine.chips 4096 counts.now }
+    requires tile { length tile.old ≡ 32 }
     ensures ok { OnOk result (text.new.items
         ≡ text.old.items ++ flat_map chip_text (image_of N machine.now.machine).chips) }
 {
     let count = chip_count::<N>();
-    for c in 0..count {
-        push_chip(text, machine.chip(c), machine.buffer(c))?;
+    let mut first = 0;
+    while first < count {
+        let some = TILE.min(count - first);
+        machine.lay_out(first, some, tile);
+        push_tile(text, machine, counts, tile, first, some)?;
+        first += some;
+    }
+    Ok(())
+}
+
+/// What it has of so many chips, from `first` on, which lie at the front of a tile.
+fn push_tile<const N: usize, const CAP: usize>(
+    text: &mut Vec<u8>,
+    machine: &Machine<N, CAP>,
+    counts: &[u16],
+    tile: &Run,
+    first: u16,
+    some: u16,
+) -> Result<(), NoMemory>
+    requires room { CAP ≤ 15 }
+    requires counts { AreCounted (2 ^ N) machine.now.machine.chips 4096 counts.now }
+    requires chips { first + some ≤ 2 ^ N }
+    requires within { first + some < 65536 }
+    requires few { some ≤ length tile.now }
+    requires tile { (c : ℕ) → c < some → chip_at tile.now c ≡ chip_at machine.now.machine.chips (first + c) }
+    ensures ok { OnOk result (text.new.items ≡ text.old.items ++ chips_text machine.now.machine first some) }
+{
+    for c in 0..some {
+        let number = first + c;
+        let buffer = machine.buffer(number);
+        let planes = counts[usize::from(number)];
+        push_chip(text, &tile.view(c), planes, buffer)?;
     }
     Ok(())
 }
@@ -138,20 +185,26 @@ fn push_shape(text: &mut Vec<u8>, n: usize, cap: usize) -> Result<(), NoMemory>
     Ok(())
 }
 
-/// What an image has of a chip with this buffer.
-fn push_chip(text: &mut Vec<u8>, chip: &Chip, buffer: &[Message]) -> Result<(), NoMemory>
+/// What an image has of a chip with so many listed planes and this buffer.
+fn push_chip(
+    text: &mut Vec<u8>,
+    chip: &ChipView<'_>,
+    planes: u16,
+    buffer: &[Message],
+) -> Result<(), NoMemory>
+    requires planes { planes ≡ length (planes_below chip.now 4096) }
     requires few { length buffer.now < 256 }
     ensures ok { OnOk result (text.new.items ≡ text.old.items ++ chip_text (image_of_chip chip.now buffer.now)) }
 {
     push_flags(text, chip)?;
-    push_u16(text, count_planes(chip))?;
+    push_u16(text, planes)?;
     push_planes(text, chip)?;
     push_u8(text, buffer.len() as u8)?;
     push_messages(text, buffer)?;
     Ok(())
 }
 
-fn push_flags(text: &mut Vec<u8>, chip: &Chip) -> Result<(), NoMemory>
+fn push_flags(text: &mut Vec<u8>, chip: &ChipView<'_>) -> Result<(), NoMemory>
     ensures ok { OnOk result (text.new.items ≡ text.old.items ++ flags_text chip.now 16) }
 {
     for f in 0..FLAGS {
@@ -160,26 +213,7 @@ fn push_flags(text: &mut Vec<u8>, chip: &Chip) -> Result<(), NoMemory>
     Ok(())
 }
 
-/// How many memory planes are not 0.
-fn count_planes(chip: &Chip) -> u16
-    ensures value { result ≡ length (planes_below chip.now 4096) }
-{
-    let mut count = 0;
-    for at in 0..ADDRESSES {
-        count += count_listings(memory_plane(chip, at));
-    }
-    count
-}
-
-/// Whether a plane is listed, as a number.
-fn count_listings(plane: Plane) -> u16
-    ensures value { result ≡ (if plane == 0 then 0 else 1) }
-    ensures within { result ≤ 1 }
-{
-    if plane == 0 { 0 } else { 1 }
-}
-
-fn push_planes(text: &mut Vec<u8>, chip: &Chip) -> Result<(), NoMemory>
+fn push_planes(text: &mut Vec<u8>, chip: &ChipView<'_>) -> Result<(), NoMemory>
     ensures ok { OnOk result (text.new.items ≡ text.old.items ++ listed_below chip.now 4096) }
 {
     for at in 0..ADDRESSES {
@@ -210,7 +244,7 @@ fn push_messages(text: &mut Vec<u8>, messages: &[Message]) -> Result<(), NoMemor
     Ok(())
 }
 
-fn flag_plane(chip: &Chip, f: u8) -> Plane
+fn flag_plane(chip: &ChipView<'_>, f: u8) -> Plane
     requires flag { f < 16 }
     ensures value { result ≡ flag_plane_of chip.now f }
 {
@@ -218,7 +252,7 @@ fn flag_plane(chip: &Chip, f: u8) -> Plane
     chip.flag_plane(number)
 }
 
-fn memory_plane(chip: &Chip, address: u16) -> Plane
+fn memory_plane(chip: &ChipView<'_>, address: u16) -> Plane
     requires address { address < 4096 }
     ensures value { result ≡ memory_plane_of chip.now address }
 {

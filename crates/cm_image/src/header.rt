@@ -1,9 +1,9 @@
 //! The first parts of an image: its shape, and the counter.
 
-ghost use Rattle.std.specs.Prelude.{◌<◌, ◌≤◌, ◌^◌, ◌==◌, ◌&&◌, IfOk, IsOk};
-ghost use Rattle.cm_array.specs.Parts.{AreSizes};
-ghost use Rattle.cm_image_format.specs.Reading.{Gives, ◌⨾◌};
-ghost use Rattle.cm_image_format.specs.Image.{is_dimension, is_room, shape_part, clock_part};
+ghost use Rattle.std.specs.Prelude.{◌<◌, ◌≤◌, ◌^◌, IfOk, IsOk};
+ghost use Rattle.cm_model.specs.Keeping.{AreSizes};
+ghost use Rattle.cm_image_format.specs.Reading.{Gives};
+ghost use Rattle.cm_image_format.specs.Image.{header_part};
 ghost use Rattle.cm_image_format.specs.Whole.{read_shape};
 
 use crate::numbers::{take_u8, take_u32, take_u64};
@@ -47,7 +47,7 @@ pub fn shape(bytes: &[u8]) -> Result<(u8, u8), ImageFault>
 /// The counter of an image of this dimension and room, and the bytes after its header.
 pub(crate) fn take_header(n: usize, cap: usize, bytes: &[u8]) -> Result<(u64, &[u8]), ImageFault>
     ensures value { Gives (λ x. (((n, cap), x.0), x.1.now)) result
-        ((shape_part (λ k. is_dimension k && k == n) (λ k. is_room k && k == cap) ⨾ clock_part) bytes.now) }
+        (header_part n cap bytes.now) }
     ensures sizes { IsOk result → AreSizes n cap }
     ensures early { IfOk result (λ x. x.0 < 2 ^ 63) }
 {

@@ -2,6 +2,7 @@
 #![tactic(auto)]
 
 mod chips;
+mod counts;
 mod dumps;
 mod header;
 mod loads;

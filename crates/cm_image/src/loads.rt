@@ -1,8 +1,9 @@
 //! Reading the bytes of a machine.
 
-ghost use Rattle.std.specs.Prelude.{◌≡◌, ◌≢◌, None, Some, Ok, IfOk, IfErr, IsOk, IsOkUnless, true, false};
+ghost use Rattle.std.specs.Prelude.{◌≡◌, ◌≢◌, None, Some, Ok, IfOk, IfErr, IfSome, IsOk, IsErrOf, IsOkUnless};
+ghost use Rattle.std.specs.Prelude.{true, false};
 ghost use Rattle.cm_model.specs.Unlogged.{standing_messages, has_tag_twice};
-ghost use Rattle.cm_image_format.specs.Whole.{read_image, image_fault};
+ghost use Rattle.cm_image_format.specs.Whole.{read_image, image_fault, header_fault};
 
 use crate::chips::take_chips;
 use crate::header::take_header;
@@ -11,12 +12,13 @@ use cm_image_format::ImageFault;
 use std::alloc::Global;
 
 /// The machine whose image these bytes are, with no event, or the first fault of the bytes in reading order. A
-/// growth of memory may be refused before that fault is reached.
+/// growth of memory may be refused before a fault of the chips is reached.
 pub fn load<const N: usize, const CAP: usize>(
     alloc: Global,
     bytes: &[u8],
 ) -> Result<Machine<N, CAP>, ImageFault>
     ensures value { IfOk result (λ kept. read_image N CAP bytes.now ≡ Ok kept.machine) }
+    ensures header { IfSome (header_fault N CAP bytes.now) (λ fault. IsErrOf result fault) }
     ensures refused { IfErr result (λ fault. fault ≢ ImageFault.Memory → image_fault N CAP bytes.now ≡ Some fault) }
     ensures otherwise { image_fault N CAP bytes.now ≡ None → IsOkUnless result ImageFault.Memory }
 {

@@ -9,16 +9,20 @@ use Rattle.cm_model.proofs.Unlogged.{standing}
 use Rattle.cm_image_format.specs.Image.{ChipImage}
 use Rattle.cm_image_format.specs.Whole.{image_of_chip, image_of, messages_in}
 
-messages-image_of_chip : (machine : Machine) (c : ℕ) → (image_of_chip (chip_at machine.chips c) (list_at machine.buffers c)).messages ≡ list_at machine.buffers c
+messages-image_of_chip : (machine : Machine) (c : ℕ)
+    → (image_of_chip (chip_at machine.chips c) (list_at machine.buffers c)).messages ≡ list_at machine.buffers c
 unfolding image_of_chip
 messages-image_of_chip machine c = refl
 
-gathered_same : {X : Type 0} (f g : ℕ → List X) (first count : ℕ) → ((c : ℕ) → f c ≡ g c) → flat_map f (range_with_len first count) ≡ flat_map g (range_with_len first count)
+gathered_same : {X : Type 0} (f g : ℕ → List X) (first count : ℕ) → ((c : ℕ) → f c ≡ g c)
+    → flat_map f (range_with_len first count) ≡ flat_map g (range_with_len first count)
 gathered_same f g first zero same = refl
 gathered_same f g first (suc count) same = λ i. same first i ++ gathered_same f g (first + 1) count same i
 
 pub messages_in-image_of : (n : ℕ) (machine : Machine) → messages_in (image_of n machine).chips ≡ standing n machine
 unfolding each_from
 messages_in-image_of n machine =
-    flat_map-map (λ (chip : ChipImage). chip.messages) (λ c. image_of_chip (chip_at machine.chips c) (list_at machine.buffers c)) (range_with_len 0 (2 ^ n))
-    ∙ gathered_same (λ c. (image_of_chip (chip_at machine.chips c) (list_at machine.buffers c)).messages) (λ c. list_at machine.buffers c) 0 (2 ^ n) (messages-image_of_chip machine)
+    flat_map-map (λ (chip : ChipImage). chip.messages)
+    (λ c. image_of_chip (chip_at machine.chips c) (list_at machine.buffers c)) (range_with_len 0 (2 ^ n))
+    ∙ gathered_same (λ c. (image_of_chip (chip_at machine.chips c) (list_at machine.buffers c)).messages)
+    (λ c. list_at machine.buffers c) 0 (2 ^ n) (messages-image_of_chip machine)

@@ -1,5 +1,6 @@
 -- A machine and its image, both ways.
-use Rattle.std.proofs.Common.{◌≡◌, ℕ, ◌<◌, ◌≤◌, ◌^◌, false, List, [], length, get_or, map, refl, sym, ap, ◌∙◌, subst, arith, nat_le}
+use Rattle.std.proofs.Common.{◌≡◌, ℕ, ◌<◌, ◌≤◌, ◌^◌, false, List, [], length, get_or, map, refl, sym, ap, ◌∙◌, subst}
+use Rattle.std.proofs.Common.{arith, nat_le}
 use Rattle.std.proofs.lemmas.Bool.{leb-true}
 use Rattle.std.proofs.lemmas.List.{length-map, get_or-map}
 use Rattle.std.proofs.lemmas.List.Elements.{All-nil, All-get_or, All-from_get_or}
@@ -23,10 +24,12 @@ use Rattle.cm_image_format.specs.Laws.{IsStored}
 use Rattle.cm_image_format.proofs.Forms.{must_hold}
 use Rattle.cm_image_format.proofs.Parts.{IsStoredMessage, IsChipImage}
 use Rattle.cm_image_format.proofs.Images.{IsImage}
-use Rattle.cm_image_format.proofs.Chips.{chip_from-image_of_chip, image_of_chip-chip_from, AllFrom-All, All-AllFrom, AreMessages-buffer, IsChipImage-image_of_chip, IsChip-chip_from}
+use Rattle.cm_image_format.proofs.Chips.{chip_from-image_of_chip, image_of_chip-chip_from, AllFrom-All, All-AllFrom}
+use Rattle.cm_image_format.proofs.Chips.{AreMessages-buffer, IsChipImage-image_of_chip, IsChip-chip_from}
 use Rattle.cm_image_format.proofs.Accounts.{messages_in-image_of}
 
-map-each_from : {X Y : Type 0} (h : X → Y) (first count : ℕ) (f : ℕ → X) → map h (each_from first count f) ≡ each_from first count (λ k. h (f k))
+map-each_from : {X Y : Type 0} (h : X → Y) (first count : ℕ) (f : ℕ → X)
+    → map h (each_from first count f) ≡ each_from first count (λ k. h (f k))
 unfolding each_from
 map-each_from h first count f = map-map h f (range_with_len first count)
 
@@ -39,7 +42,8 @@ buffer_again machine c = refl
 
 -- ---- a machine is made again of its image
 
-pub machine_from-image_of : (n cap : ℕ) (machine : Machine) → IsStored n cap machine → machine_from (image_of n machine) ≡ machine
+pub machine_from-image_of : (n cap : ℕ) (machine : Machine) → IsStored n cap machine
+    → machine_from (image_of n machine) ≡ machine
 unfolding machine_from
 machine_from-image_of n cap machine is =
     let whole = is.whole in
@@ -49,7 +53,8 @@ machine_from-image_of n cap machine is =
     (λ c h. sym (chip_from-image_of_chip (chip_at machine.chips c) (list_at machine.buffers c) (whole.whole c h)))) in
     let buffers : map (λ (chip : ChipImage). chip.messages) (each_chip n (chip_image machine)) ≡ machine.buffers =
     map-each_from (λ (chip : ChipImage). chip.messages) 0 (2 ^ n) (chip_image machine)
-    ∙ sym (is_each [] (2 ^ n) (λ c. (chip_image machine c).messages) machine.buffers whole.buffer_count (λ c h. sym (buffer_again machine c))) in
+    ∙ sym (is_each [] (2 ^ n) (λ c. (chip_image machine c).messages) machine.buffers whole.buffer_count
+    (λ c h. sym (buffer_again machine c))) in
     let logs : map (λ (chip : ChipImage). []) (each_chip n (chip_image machine)) ≡ machine.logs =
     map-each_from (λ (chip : ChipImage). []) 0 (2 ^ n) (chip_image machine) ∙ sym is.unlogged in
     λ i. record { chips = chips i; buffers = buffers i; logs = logs i; clock = machine.clock }
@@ -59,11 +64,13 @@ machine_from-image_of n cap machine is =
 abbrev no_image : ChipImage
 no_image = record { flags = []; memory = []; messages = [] }
 
-chip_made : (image : Image) (c : ℕ) → c < length image.chips → chip_at (machine_from image).chips c ≡ chip_from (get_or image.chips c no_image)
+chip_made : (image : Image) (c : ℕ) → c < length image.chips
+    → chip_at (machine_from image).chips c ≡ chip_from (get_or image.chips c no_image)
 unfolding machine_from
 chip_made image c h = get_or-map chip_from image.chips c no_image [] h
 
-buffer_made : (image : Image) (c : ℕ) → c < length image.chips → list_at (machine_from image).buffers c ≡ (get_or image.chips c no_image).messages
+buffer_made : (image : Image) (c : ℕ) → c < length image.chips
+    → list_at (machine_from image).buffers c ≡ (get_or image.chips c no_image).messages
 unfolding machine_from
 buffer_made image c h = get_or-map (λ (chip : ChipImage). chip.messages) image.chips c no_image [] h
 
@@ -71,21 +78,25 @@ clock_made : (image : Image) → (machine_from image).clock ≡ image.clock
 unfolding machine_from
 clock_made image = refl
 
-each_is : (n cap : ℕ) (image : Image) (c : ℕ) → IsImage n cap image → c < 2 ^ n → IsChipImage n cap image.clock (get_or image.chips c no_image)
+each_is : (n cap : ℕ) (image : Image) (c : ℕ) → IsImage n cap image → c < 2 ^ n
+    → IsChipImage n cap image.clock (get_or image.chips c no_image)
 each_is n cap image c is h =
-    All-get_or (IsChipImage n cap image.clock) image.chips c no_image (omega (arith, is.count)) (All-AllFrom (IsChipImage n cap image.clock) 0 image.chips is.each)
+    All-get_or (IsChipImage n cap image.clock) image.chips c no_image (omega (arith, is.count))
+    (All-AllFrom (IsChipImage n cap image.clock) 0 image.chips is.each)
 
 pub image_of-machine_from : (n cap : ℕ) (image : Image) → IsImage n cap image → image_of n (machine_from image) ≡ image
 image_of-machine_from n cap image is =
     let chips : each_chip n (chip_image (machine_from image)) ≡ image.chips =
     sym (is_each no_image (2 ^ n) (chip_image (machine_from image)) image.chips is.count
-    (λ c h. sym ((λ i. image_of_chip (chip_made image c (omega (arith, is.count)) i) (buffer_made image c (omega (arith, is.count)) i))
+    (λ c h. sym ((λ i. image_of_chip (chip_made image c (omega (arith, is.count)) i)
+    (buffer_made image c (omega (arith, is.count)) i))
     ∙ image_of_chip-chip_from n cap image.clock (get_or image.chips c no_image) (each_is n cap image c is h)))) in
     λ i. record { clock = clock_made image i; chips = chips i }
 
 -- ---- a machine has an image
 
-stored_messages : (n clock : ℕ) (ms : List Message) → All (IsMessage n) ms → All (IsBorn clock) ms → All (IsStoredMessage n clock) ms
+stored_messages : (n clock : ℕ) (ms : List Message) → All (IsMessage n) ms → All (IsBorn clock) ms
+    → All (IsStoredMessage n clock) ms
 stored_messages n clock ms are born = λ k d h. record { message = are k d h; birth = born k d h }
 
 pub IsImage-image_of : (n cap : ℕ) (machine : Machine) → IsStored n cap machine → IsImage n cap (image_of n machine)
@@ -101,10 +112,13 @@ IsImage-image_of n cap machine is =
       each = AllFrom-All (IsChipImage n cap machine.clock) 0 chips
           (All-from_get_or (IsChipImage n cap machine.clock) chips no_image
           (λ c h. let below : c < 2 ^ n = omega (arith, length-each_from 0 (2 ^ n) (chip_image machine)) in
-          subst (λ (chip : ChipImage). IsChipImage n cap machine.clock chip) (sym (get_or-each_below (2 ^ n) (chip_image machine) c no_image below))
-          (IsChipImage-image_of_chip n cap machine.clock (chip_at machine.chips c) (list_at machine.buffers c) (whole.whole c below)
+          subst (λ (chip : ChipImage). IsChipImage n cap machine.clock chip)
+          (sym (get_or-each_below (2 ^ n) (chip_image machine) c no_image below))
+          (IsChipImage-image_of_chip n cap
+          machine.clock (chip_at machine.chips c) (list_at machine.buffers c) (whole.whole c below)
           (AreMessages-buffer n cap machine.clock (list_at machine.buffers c) is.most_room (whole.room c below)
-          (stored_messages n machine.clock (list_at machine.buffers c) (whole.messages c below) (born_at n machine c whole.births below))))));
+          (stored_messages n machine.clock (list_at machine.buffers c) (whole.messages c below)
+          (born_at n machine c whole.births below))))));
     }
 
 -- ---- what is made of an image is a machine
@@ -112,20 +126,31 @@ IsImage-image_of n cap machine is =
 unlogged : (n cap : ℕ) (image : Image) → IsImage n cap image → IsUnlogged n (machine_from image)
 unfolding machine_from
 unlogged n cap image is =
-    is_each [] (2 ^ n) (λ c. []) (map (λ (chip : ChipImage). []) image.chips) (length-map image.chips (λ (chip : ChipImage). []) ∙ is.count)
+    is_each [] (2 ^ n) (λ c. []) (map (λ (chip : ChipImage). []) image.chips)
+    (length-map image.chips (λ (chip : ChipImage). []) ∙ is.count)
     (λ c h. get_or-map (λ (chip : ChipImage). []) image.chips c no_image [] (omega (arith, is.count)))
 
-counts : (n cap : ℕ) (image : Image) → IsImage n cap image → (length (machine_from image).chips ≡ 2 ^ n) × (length (machine_from image).buffers ≡ 2 ^ n) × (length (machine_from image).logs ≡ 2 ^ n)
+counts : (n cap : ℕ) (image : Image) → IsImage n cap image
+    → (length (machine_from image).chips ≡ 2 ^ n) × (length (machine_from image).buffers ≡ 2 ^ n)
+    × (length (machine_from image).logs ≡ 2 ^ n)
 unfolding machine_from
-counts n cap image is =
-    (length-map image.chips chip_from ∙ is.count, length-map image.chips (λ (chip : ChipImage). chip.messages) ∙ is.count, length-map image.chips (λ (chip : ChipImage). []) ∙ is.count)
+counts n cap image is = (
+  length-map image.chips chip_from ∙ is.count,
+  length-map image.chips (λ (chip : ChipImage). chip.messages)
+      ∙ is.count,
+  length-map image.chips (λ (chip : ChipImage). []) ∙ is.count,
+)
 
-stored_at : (n cap : ℕ) (image : Image) (c : ℕ) → IsImage n cap image → c < 2 ^ n → All (IsStoredMessage n image.clock) (list_at (machine_from image).buffers c)
+stored_at : (n cap : ℕ) (image : Image) (c : ℕ) → IsImage n cap image → c < 2 ^ n
+    → All (IsStoredMessage n image.clock) (list_at (machine_from image).buffers c)
 stored_at n cap image c is h =
-    subst (λ (ms : List Message). All (IsStoredMessage n image.clock) ms) (sym (buffer_made image c (omega (arith, is.count))))
-    (All-AllFrom (IsStoredMessage n image.clock) 0 (get_or image.chips c no_image).messages (each_is n cap image c is h).messages.1)
+    subst (λ (ms : List Message). All (IsStoredMessage n image.clock) ms)
+    (sym (buffer_made image c (omega (arith, is.count))))
+    (All-AllFrom (IsStoredMessage n image.clock)
+    0 (get_or image.chips c no_image).messages (each_is n cap image c is h).messages.1)
 
-pub IsStored-machine_from : (n cap : ℕ) (image : Image) → IsImage n cap image → has_tag_twice (messages_in image.chips) ≡ false → IsStored n cap (machine_from image)
+pub IsStored-machine_from : (n cap : ℕ) (image : Image) → IsImage n cap image
+    → has_tag_twice (messages_in image.chips) ≡ false → IsStored n cap (machine_from image)
 IsStored-machine_from n cap image is apart =
     let m : Machine = machine_from image in
     let long = counts n cap image is in
@@ -133,7 +158,8 @@ IsStored-machine_from n cap image is apart =
     let clock : (machine_from image).clock ≡ image.clock = clock_made image in
     let early : image.clock < 2 ^ 63 = is.clock in
     let once : has_tag_twice (standing n (machine_from image)) ≡ false =
-    ap has_tag_twice (sym (messages_in-image_of n (machine_from image)) ∙ ap (λ (im : Image). messages_in im.chips) (image_of-machine_from n cap image is)) ∙ apart in
+    ap has_tag_twice (sym (messages_in-image_of n (machine_from image))
+    ∙ ap (λ (im : Image). messages_in im.chips) (image_of-machine_from n cap image is)) ∙ apart in
     record {
       dimension = is.dimension;
       some_room = is.some_room;
@@ -144,15 +170,22 @@ IsStored-machine_from n cap image is apart =
         chip_count = long.0;
         buffer_count = long.1;
         log_count = long.2;
-        whole = λ c h. subst (λ (chip : List Processor). IsChip chip) (sym (chip_made image c (omega (arith, is.count)))) (IsChip-chip_from (get_or image.chips c no_image) (each_is n cap image c is h).flags);
+        whole = λ c h. subst (λ (chip : List Processor). IsChip chip)
+            (sym (chip_made image c (omega (arith, is.count))))
+            (IsChip-chip_from (get_or image.chips c no_image) (each_is n cap image c is h).flags);
         room = λ c h.
             let here : length (get_or image.chips c no_image).messages ≤ cap =
-            leb-true (length (get_or image.chips c no_image).messages) cap (must_hold Count (nat_le (length (get_or image.chips c no_image).messages) cap) (each_is n cap image c is h).messages.0.1) in
+            leb-true (length (get_or image.chips c no_image).messages) cap
+            (must_hold Count (nat_le (length (get_or image.chips c no_image).messages) cap)
+            (each_is n cap image c is h).messages.0.1) in
             subst (λ (ms : List Message). length ms ≤ cap) (sym (buffer_made image c (omega (arith, is.count)))) here;
         messages = λ c h. λ k d l. (stored_at n cap image c is h k d l).message;
         events = λ c h. subst (λ (log : List Event). All (IsEventOf n c) log)
-            (sym (ap (λ (logs : List (List Event)). list_at logs c) none ∙ get_or-each_below (2 ^ n) (λ b. []) c [] h)) (All-nil (IsEventOf n c));
-        births = BornBefore-buffers n (machine_from image) none (λ c h. λ k d l. subst (λ (t : ℕ). (get_or (list_at (machine_from image).buffers c) k d).tag.birth < t) (sym clock) (stored_at n cap image c is h k d l).birth);
+            (sym (ap (λ (logs : List (List Event)). list_at logs c) none
+            ∙ get_or-each_below (2 ^ n) (λ b. []) c [] h)) (All-nil (IsEventOf n c));
+        births = BornBefore-buffers n (machine_from image) none
+            (λ c h. λ k d l. subst (λ (t : ℕ). (get_or (list_at (machine_from image).buffers c) k d).tag.birth < t)
+            (sym clock) (stored_at n cap image c is h k d l).birth);
         tags = HasTagsOnce-standing n (machine_from image) none once;
         injected = none_injected n (machine_from image) none;
       };

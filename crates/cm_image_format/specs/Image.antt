@@ -48,6 +48,10 @@ shape_part dimension room =
 abbrev pub clock_part : List ℕ → Read ℕ
 clock_part = part w64 (must Value (λ k. nat_lt k (2 ^ 63)))
 
+-- the header of a machine of these sizes: its shape, then the counter
+abbrev pub header_part : ℕ → ℕ → List ℕ → Read ((ℕ × ℕ) × ℕ)
+header_part n cap = shape_part (λ k. is_dimension k && k == n) (λ k. is_room k && k == cap) ⨾ clock_part
+
 -- ---- a chip
 
 abbrev pub flag_part : ℕ → List ℕ → Read ℕ

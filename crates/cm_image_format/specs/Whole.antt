@@ -1,5 +1,5 @@
 -- The image of a machine: its text, and what bytes are read as. Ours.
-use Rattle.std.specs.Prelude.{ℕ, ◌^◌, ◌==◌, ◌&&◌, not, List, [], ◌∷◌, ◌++◌, map, fold, Option, Result, Ok, Err, if◌then◌else◌}
+use Rattle.std.specs.Prelude.{ℕ, ◌^◌, ◌==◌, not, List, [], ◌∷◌, ◌++◌, map, fold, Option, Result, Ok, Err, if◌then◌else◌}
 use Rattle.std.specs.List.{flat_map, filter}
 use Rattle.std.specs.Int.{w64}
 use Rattle.cm_bits.specs.Bit.{bit}
@@ -13,8 +13,9 @@ pub use Rattle.cm_model.specs.Unlogged.{has_tag_twice}
 use Rattle.cm_message.specs.Bytes.{number}
 use Rattle.cm_image_format.specs.declared.fault.ImageFault.{ImageFault}
 use Rattle.cm_image_format.specs.declared.fault.ImageFault.TheVariants.{TagTwice, Extra}
-use Rattle.cm_image_format.specs.Reading.{Read, ◌>>=◌, followed, ◌⨾◌, made, many, fault_in}
-use Rattle.cm_image_format.specs.Image.{Listed, ChipImage, is_dimension, is_room, shape_text, shape_part, clock_part, chip_text, chip_part}
+use Rattle.cm_image_format.specs.Reading.{Read, ◌>>=◌, followed, made, many, fault_in}
+use Rattle.cm_image_format.specs.Image.{Listed, ChipImage, is_dimension, is_room, shape_text, shape_part, header_part}
+use Rattle.cm_image_format.specs.Image.{chip_text, chip_part}
 
 -- ---- a chip
 
@@ -64,7 +65,10 @@ pub record Image : Type 0 where
   pub chips : List ChipImage
 
 abbrev pub image_of : ℕ → Machine → Image
-image_of n machine = record { clock = machine.clock; chips = each_chip n (λ c. image_of_chip (chip_at machine.chips c) (list_at machine.buffers c)) }
+image_of n machine = record {
+  clock = machine.clock;
+  chips = each_chip n (λ c. image_of_chip (chip_at machine.chips c) (list_at machine.buffers c));
+}
 
 unfoldable pub image_text : ℕ → ℕ → Image → List ℕ
 image_text n cap image = shape_text n cap ++ (number w64 image.clock ++ flat_map chip_text image.chips)
@@ -90,8 +94,7 @@ messages_in chips = flat_map (λ chip. chip.messages) chips
 unfoldable pub image_part : ℕ → ℕ → List ℕ → Read Image
 image_part n cap =
     made (λ x. record { clock = x.0.1; chips = x.1 })
-    (followed (shape_part (λ k. is_dimension k && k == n) (λ k. is_room k && k == cap) ⨾ clock_part)
-    (λ header. many (λ i chip. i) (λ i. chip_part n cap header.1) (2 ^ n) 0))
+    (followed (header_part n cap) (λ header. many (λ i chip. i) (λ i. chip_part n cap header.1) (2 ^ n) 0))
 
 -- what comes after the last chip: tags, and the end
 abbrev pub ended : Image → List ℕ → Result Machine ImageFault
@@ -107,6 +110,10 @@ read_image n cap bytes = do
 -- the earliest fault of bytes, if there is one
 abbrev pub image_fault : ℕ → ℕ → List ℕ → Option ImageFault
 image_fault n cap bytes = fault_in (read_image n cap bytes)
+
+-- the fault of the header alone, if it has one
+abbrev pub header_fault : ℕ → ℕ → List ℕ → Option ImageFault
+header_fault n cap bytes = fault_in (header_part n cap bytes)
 
 -- dimension and room as they stand in the first five parts
 unfoldable pub read_shape : List ℕ → Result (ℕ × ℕ) ImageFault

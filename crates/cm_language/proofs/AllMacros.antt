@@ -1,5 +1,7 @@
 -- All macros: in one processor, and in all at once.
-use Rattle.std.proofs.Common.{◌≡◌, ℕ, ◌+◌, ◌-◌, ◌<◌, ◌≤◌, ◌⊎◌, ◌&&◌, ◌||◌, Bool, true, false, not, eqb, leb, [], ◌∷◌, ◌++◌, length, map, Option, Some, None, refl, sym, ◌∙◌, arith, inl, inr, ⊎_elim, length-append}
+use Rattle.std.proofs.Common.{◌≡◌, ℕ, ◌+◌, ◌-◌, ◌<◌, ◌≤◌, ◌⊎◌, ◌&&◌, ◌||◌, Bool, true, false, not, eqb, leb, [], ◌∷◌}
+use Rattle.std.proofs.Common.{◌++◌, length, map, Option, Some, None, refl, sym, ◌∙◌, arith, inl, inr, ⊎_elim}
+use Rattle.std.proofs.Common.{length-append}
 use Rattle.std.specs.Prelude.{if◌then◌else◌}
 use Rattle.std.specs.List.{range_with_len}
 use Rattle.std.proofs.lemmas.Bool.Decides.{nat_tests}
@@ -18,18 +20,23 @@ use Rattle.cm_model.specs.Keeping.{IsMachine}
 use Rattle.cm_model.proofs.Each.{length-each_from}
 use Rattle.cm_model.proofs.Runs.{run_of-acted}
 use Rattle.cm_language.specs.declared.macros.Macro.{Macro}
-use Rattle.cm_language.specs.declared.macros.Macro.TheVariants.{Add, Sub, Less, Equal, Move, Select, Const, Shift, Mul, Set, Clear}
+use Rattle.cm_language.specs.declared.macros.Macro.TheVariants.{Add, Sub, Less, Equal, Move, Select, Const, Shift, Mul}
+use Rattle.cm_language.specs.declared.macros.Macro.TheVariants.{Set, Clear}
 use Rattle.cm_language.specs.declared.macros.Context.{Context}
 use Rattle.cm_language.specs.declared.macros.Context.TheVariants.{Always, On, Off}
 use Rattle.cm_language.specs.declared.fault.MacroFault.{MacroFault}
 use Rattle.cm_language.specs.declared.fault.MacroFault.TheVariants as fault
 use Rattle.cm_language.specs.Effect.{selected, assigned, effect}
-use Rattle.cm_language.specs.Acts.{nano, nanos, acts_of, clear_flag, each_bit, number_bits, product, product_round, above, lowest}
-use Rattle.cm_language.specs.Faults.{is_partly, is_apart, overlaps, misfits, writes, writes_condition, names_fixed, is_fixed, is_conditional, is_conditional_product, first_fault}
+use Rattle.cm_language.specs.Acts.{nano, nanos, acts_of, clear_flag, each_bit, number_bits, product, product_round}
+use Rattle.cm_language.specs.Acts.{above, lowest}
+use Rattle.cm_language.specs.Faults.{is_partly, is_apart, overlaps, misfits, writes, writes_condition, names_fixed}
+use Rattle.cm_language.specs.Faults.{is_fixed, is_conditional, is_conditional_product, first_fault}
 use Rattle.cm_language.specs.Laws.{HasFields, machine_after_macro}
-use Rattle.cm_language.proofs.Steps.{run, Free, AllUnder, AllHome, under-each, home-each, home-append, home-flat_map, run-unselected}
+use Rattle.cm_language.proofs.Steps.{run, Free, AllUnder, AllHome, under-each, home-each, home-append, home-flat_map}
+use Rattle.cm_language.proofs.Steps.{run-unselected}
 use Rattle.cm_language.proofs.Loops.{IsBehind}
-use Rattle.cm_language.proofs.Selected.{Whole, Pair, add_is, sub_is, less_is, equal_is, move_is, select_is, const_is, shift_is, set_step, clear_step}
+use Rattle.cm_language.proofs.Selected.{Whole, Pair, add_is, sub_is, less_is, equal_is, move_is, select_is, const_is}
+use Rattle.cm_language.proofs.Selected.{shift_is, set_step, clear_step}
 use Rattle.cm_language.proofs.Products.{AreApart, Factors, mul_is}
 use Rattle.cm_language.proofs.Lifting.{each_place, same_places, with_chips, lifted}
 
@@ -46,7 +53,9 @@ pub record Accepted (m : Macro) (c : Context) : Type 0 where
 -- the first of the causes that are there
 abbrev chosen_fault : Bool → Bool → Bool → Bool → Option MacroFault
 chosen_fault a b s x =
-    if a then Some fault.Overlap else (if b then Some fault.Lengths else (if s then Some fault.Scratch else (if x then Some fault.Context else None)))
+    if a then Some fault.Overlap
+    else (if b then Some fault.Lengths
+    else (if s then Some fault.Scratch else (if x then Some fault.Context else None)))
 
 record AllFalse (a b s x : Bool) : Type 0 where
   first : a ≡ false
@@ -91,7 +100,8 @@ same_number : (a b : ℕ) → not (eqb a b) ≡ false → a ≡ b
 same_number a b h = grind (arith, nat_tests, not_false (eqb a b) h)
 
 -- where two tests say how fields meet, one of them holds
-some_holds : (t u : Bool) → is_partly (if t then Same else (if u then Apart else Partly)) ≡ false → (t ≡ true) ⊎ (u ≡ true)
+some_holds : (t u : Bool) → is_partly (if t then Same else (if u then Apart else Partly)) ≡ false
+    → (t ≡ true) ⊎ (u ≡ true)
 some_holds true u h = inl refl
 some_holds false true h = inr refl
 some_holds false false h = absurd cc
@@ -117,7 +127,8 @@ eqb_is a b h = grind (arith, nat_tests, h)
 
 apart_is : (d s : Span) → (leb (d.at + d.len) s.at || leb (s.at + s.len) d.at) ≡ true → AreApart d s
 apart_is d s h =
-    ⊎_elim (λ (e : leb (d.at + d.len) s.at ≡ true). inl (leb_is (d.at + d.len) s.at e)) (λ (e : leb (s.at + s.len) d.at ≡ true). inr (leb_is (s.at + s.len) d.at e))
+    ⊎_elim (λ (e : leb (d.at + d.len) s.at ≡ true). inl (leb_is (d.at + d.len) s.at e))
+    (λ (e : leb (s.at + s.len) d.at ≡ true). inr (leb_is (s.at + s.len) d.at e))
     (or_cases (leb (d.at + d.len) s.at) (leb (s.at + s.len) d.at) h)
 
 behind_is : (d s : Span) → d.len ≡ s.len → is_partly (meeting d s) ≡ false → IsBehind d.at s.at d.len
@@ -126,18 +137,22 @@ behind_is d s same h =
     (λ (e : (eqb d.at s.at && eqb d.len s.len) ≡ true).
     let at : d.at ≡ s.at = eqb_is d.at s.at (and_first (eqb d.at s.at) (eqb d.len s.len) e) in inl (omega (arith, at)))
     (λ (e : (leb (d.at + d.len) s.at || leb (s.at + s.len) d.at) ≡ true).
-    ⊎_elim (λ (a : d.at + d.len ≤ s.at). inl (omega arith)) (λ (b : s.at + s.len ≤ d.at). inr (omega (arith, same))) (apart_is d s e))
+    ⊎_elim (λ (a : d.at + d.len ≤ s.at). inl (omega arith)) (λ (b : s.at + s.len ≤ d.at). inr (omega (arith, same)))
+    (apart_is d s e))
     (some_holds (eqb d.at s.at && eqb d.len s.len) (leb (d.at + d.len) s.at || leb (s.at + s.len) d.at) h)
 
-pair_is : (d s : Span) → IsField d → IsField s → not (eqb d.len s.len) ≡ false → is_partly (meeting d s) ≡ false → Pair d s
+pair_is : (d s : Span) → IsField d → IsField s → not (eqb d.len s.len) ≡ false → is_partly (meeting d s) ≡ false
+    → Pair d s
 pair_is d s hd hs fits meets =
     let same : d.len ≡ s.len = same_number d.len s.len fits in
     record { first = hd.within; second = hs.within; same = same; behind = behind_is d s same meets }
 
 fields_apart : (d s : Span) → not (is_apart (meeting d s)) ≡ false → AreApart d s
-fields_apart d s h = apart_is d s (second_holds (eqb d.at s.at && eqb d.len s.len) (leb (d.at + d.len) s.at || leb (s.at + s.len) d.at) h)
+fields_apart d s h = apart_is d
+    s (second_holds (eqb d.at s.at && eqb d.len s.len) (leb (d.at + d.len) s.at || leb (s.at + s.len) d.at) h)
 
-factors_are : (d x y : Span) → IsField d → IsField x → IsField y → overlaps (Mul d x y) ≡ false → misfits (Mul d x y) ≡ false → Factors d x y
+factors_are : (d x y : Span) → IsField d → IsField x → IsField y → overlaps (Mul d x y) ≡ false
+    → misfits (Mul d x y) ≡ false → Factors d x y
 factors_are d x y hd hx hy meets fits =
     let one : (not (is_apart (meeting d x)) || not (is_apart (meeting d y))) ≡ false =
     or_first (not (is_apart (meeting d x)) || not (is_apart (meeting d y))) (is_partly (meeting x y)) meets in
@@ -167,16 +182,22 @@ fixed_10 f h = or_second (eqb f 8) (eqb f 10) (or_first (eqb f 8 || eqb f 10) (e
 fixed_11 : (f : ℕ) → is_fixed f ≡ false → eqb f 11 ≡ false
 fixed_11 f h = or_second (eqb f 8 || eqb f 10) (eqb f 11) h
 
-product_is : (c : Context) (d x y : Span) (p : Processor) → is_conditional c ≡ false → Whole c p → Factors d x y → run (nanos (Mul d x y) c) p ≡ assigned (Mul d x y) p
+product_is : (c : Context) (d x y : Span) (p : Processor) → is_conditional c ≡ false → Whole c p → Factors d x y
+    → run (nanos (Mul d x y) c) p ≡ assigned (Mul d x y) p
 product_is Always d x y p e h fields = mul_is d x y p h fields
 product_is (On f) d x y p e h fields = absurd cc
 product_is (Off f) d x y p e h fields = absurd cc
 
-selected_is : (m : Macro) (c : Context) (p : Processor) → HasFields m → Accepted m c → Whole c p → run (nanos m c) p ≡ assigned m p
-selected_is (Add d s) c p f a h = add_is c d s p h (pair_is d s f.0 f.1 a.fits a.meets) (free_carry c (Add d s) (λ g. refl) a.condition)
-selected_is (Sub d s) c p f a h = sub_is c d s p h (pair_is d s f.0 f.1 a.fits a.meets) (free_carry c (Sub d s) (λ g. refl) a.condition)
-selected_is (Less x y) c p f a h = less_is c x y p h (pair_is x y f.0 f.1 a.fits a.meets) (free_carry c (Less x y) (λ g. refl) a.condition)
-selected_is (Equal x y) c p f a h = equal_is c x y p h (pair_is x y f.0 f.1 a.fits a.meets) (free_carry c (Equal x y) (λ g. refl) a.condition)
+selected_is : (m : Macro) (c : Context) (p : Processor) → HasFields m → Accepted m c → Whole c p
+    → run (nanos m c) p ≡ assigned m p
+selected_is (Add d s) c p f a h =
+    add_is c d s p h (pair_is d s f.0 f.1 a.fits a.meets) (free_carry c (Add d s) (λ g. refl) a.condition)
+selected_is (Sub d s) c p f a h =
+    sub_is c d s p h (pair_is d s f.0 f.1 a.fits a.meets) (free_carry c (Sub d s) (λ g. refl) a.condition)
+selected_is (Less x y) c p f a h =
+    less_is c x y p h (pair_is x y f.0 f.1 a.fits a.meets) (free_carry c (Less x y) (λ g. refl) a.condition)
+selected_is (Equal x y) c p f a h =
+    equal_is c x y p h (pair_is x y f.0 f.1 a.fits a.meets) (free_carry c (Equal x y) (λ g. refl) a.condition)
 selected_is (Move d s) c p f a h = move_is c d s p h (pair_is d s f.0 f.1 a.fits a.meets)
 selected_is (Select d s g) c p f a h = select_is c d s g p h (pair_is d s f.0 f.1 a.fits a.meets)
 selected_is (Const d v) c p f a h = const_is c d v p h f.within
@@ -195,7 +216,8 @@ under_number : (c : Context) (d : Span) (v : ℕ) → AllUnder c (number_bits c 
 unfolding each_from
 under_number c d v = under-each c _ (λ i. refl) (λ i. refl) 0 d.len
 
-all_under : (m : Macro) (c : Context) → is_conditional_product m c ≡ false → (p : Processor) → selected c p ≡ false → AllUnder c (nanos m c)
+all_under : (m : Macro) (c : Context) → is_conditional_product m c ≡ false → (p : Processor) → selected c p ≡ false
+    → AllUnder c (nanos m c)
 all_under (Add d s) c e p h = (refl, (refl, under_bits c d s 7 7 0x96 0xe8))
 all_under (Sub d s) c e p h = (refl, (refl, under_bits c d s 7 7 0x69 0xb2))
 all_under (Less x y) c e p h = (refl, (refl, under_bits c x y 7 7 0xf0 0x8e))
@@ -210,7 +232,8 @@ all_under (Mul d x y) (Off f) e p h = absurd cc
 all_under (Set f) c e p h = (refl, (refl, tt))
 all_under (Clear f) c e p h = (refl, (refl, tt))
 
-effect_selected : (m : Macro) (c : Context) (p q : Processor) → selected c p ≡ true → q ≡ assigned m p → q ≡ effect m c p
+effect_selected : (m : Macro) (c : Context) (p q : Processor) → selected c p ≡ true → q ≡ assigned m p
+    → q ≡ effect m c p
 unfolding effect
 effect_selected m c p q h e = rw h e
 
@@ -222,11 +245,13 @@ bool_cases : (b : Bool) → (b ≡ true) ⊎ (b ≡ false)
 bool_cases true = inl refl
 bool_cases false = inr refl
 
-in_processor : (m : Macro) (c : Context) (p : Processor) → HasFields m → Accepted m c → IsProcessor p → run (nanos m c) p ≡ effect m c p
+in_processor : (m : Macro) (c : Context) (p : Processor) → HasFields m → Accepted m c → IsProcessor p
+    → run (nanos m c) p ≡ effect m c p
 in_processor m c p f a h =
     ⊎_elim
     (λ (e : selected c p ≡ true). effect_selected m c p (run (nanos m c) p) e
-    (selected_is m c p f a (record { ready = record { here = e; zero_flag = h.zero; long = h.flags }; memory = h.memory })))
+    (selected_is m c p f a (record
+    { ready = record { here = e; zero_flag = h.zero; long = h.flags }; memory = h.memory })))
     (λ (e : selected c p ≡ false). effect_unselected m c p (run (nanos m c) p) e
     (run-unselected c (nanos m c) p (all_under m c a.context p e) h.zero e))
     (bool_cases (selected c p))
@@ -263,7 +288,8 @@ all_home (Const d v) c e = home_number c d v
 all_home (Shift d) c e = (refl, home_bits c d d 7 0xaa 0xf0)
 all_home (Mul d x y) c e =
     home-append (number_bits c d 0) (product d x y ++ clear_flag c 6 ∷ clear_flag c 7 ∷ []) (home_number c d 0)
-    (home-append (product d x y) (clear_flag c 6 ∷ clear_flag c 7 ∷ []) (home-flat_map (product_round d x y) (home_round d x y) (range_with_len 0 d.len)) (refl, (refl, tt)))
+    (home-append (product d x y) (clear_flag c 6 ∷ clear_flag c 7 ∷ [])
+    (home-flat_map (product_round d x y) (home_round d x y) (range_with_len 0 d.len)) (refl, (refl, tt)))
 all_home (Set f) c e = (free_of_others f e, tt)
 all_home (Clear f) c e = (free_of_others f e, tt)
 
@@ -280,11 +306,17 @@ some_acts (Select d s g) c f = some_bits d.len _ f.0.some
 some_acts (Const d v) c f = some_bits d.len _ f.some
 some_acts (Shift d) c f = omega arith
 some_acts (Mul d x y) c f =
-    omega (arith, some_bits d.len (λ i. nano c (d.at + i) (d.at + i) 8 8 0x00 0x00) f.0.some, length-append (number_bits c d 0) (product d x y ++ clear_flag c 6 ∷ clear_flag c 7 ∷ []), length-append (product d x y) (clear_flag c 6 ∷ clear_flag c 7 ∷ []))
+    omega (
+      arith,
+      some_bits d.len (λ i. nano c (d.at + i) (d.at + i) 8 8 0x00 0x00) f.0.some,
+      length-append (number_bits c d 0) (product d x y ++ clear_flag c 6 ∷ clear_flag c 7 ∷ []),
+      length-append (product d x y) (clear_flag c 6 ∷ clear_flag c 7 ∷ []),
+    )
 some_acts (Set g) c f = omega arith
 some_acts (Clear g) c f = omega arith
 
-pub macros_are_right : (n cap : ℕ) (m : Macro) (c : Context) (machine : Machine) → IsMachine n cap machine → HasFields m → first_fault m c ≡ None
+pub macros_are_right : (n cap : ℕ) (m : Macro) (c : Context) (machine : Machine) → IsMachine n cap machine
+    → HasFields m → first_fault m c ≡ None
     → run_of n cap machine (acts_of m c) ≡ machine_after_macro n m c machine
 unfolding machine_after_macro each_place
 macros_are_right n cap m c machine h f e =

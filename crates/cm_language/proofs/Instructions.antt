@@ -1,5 +1,6 @@
 -- Lists of instructions under a context have numbers in their ranges.
-use Rattle.std.proofs.Common.{◌≡◌, ℕ, zero, suc, ◌+◌, ◌-◌, ◌<◌, ◌≤◌, Bool, true, false, ◌&&◌, if◌then◌else◌, List, [], ◌∷◌, ◌++◌, map, refl, arith}
+use Rattle.std.proofs.Common.{◌≡◌, ℕ, zero, suc, ◌+◌, ◌-◌, ◌<◌, ◌≤◌, Bool, true, false, ◌&&◌, if◌then◌else◌, List, []}
+use Rattle.std.proofs.Common.{◌∷◌, ◌++◌, map, refl, arith}
 use Rattle.std.specs.Prelude.{nat_lt}
 use Rattle.std.specs.List.{flat_map, range_with_len}
 use Rattle.std.proofs.lemmas.Bool.Decides.{nat_tests}
@@ -10,7 +11,8 @@ use Rattle.cm_model.specs.declared.act.Act.TheVariants as act
 use Rattle.cm_model.specs.Each.{each_from}
 use Rattle.cm_language.specs.declared.macros.Context.{Context}
 use Rattle.cm_language.specs.declared.macros.Context.TheVariants.{Always, On, Off}
-use Rattle.cm_language.specs.Acts.{nano, cond_of, set_flag, clear_flag, each_bit, number_bits, product_round, above, lowest}
+use Rattle.cm_language.specs.Acts.{nano, cond_of, set_flag, clear_flag, each_bit, number_bits, product_round, above}
+use Rattle.cm_language.specs.Acts.{lowest}
 use Rattle.cm_language.specs.Whole.{IsInstruction, AreProgramActs}
 use Rattle.cm_language.proofs.ProgramParts.{HasFlag}
 

@@ -16,44 +16,60 @@ unfoldable pub each_place : ℕ → (Processor → Processor) → Chips → Chip
 each_place n f chips = each_chip n (λ c. each_processor (λ p. f (processor_at (chip_at chips c) p)))
 
 -- two functions that do the same to each processor
-pub same_places : (n : ℕ) (f g : Processor → Processor) (chips : Chips) → ((c p : ℕ) → c < 2 ^ n → p < 16 → f (processor_at (chip_at chips c) p) ≡ g (processor_at (chip_at chips c) p))
+pub same_places : (n : ℕ) (f g : Processor → Processor) (chips : Chips)
+    → ((c p : ℕ) → c < 2 ^ n → p < 16 → f (processor_at (chip_at chips c) p) ≡ g (processor_at (chip_at chips c) p))
     → each_place n f chips ≡ each_place n g chips
 unfolding each_place
 same_places n f g chips same =
-    same_each_below [] (2 ^ n) (λ c. each_processor (λ p. f (processor_at (chip_at chips c) p))) (λ c. each_processor (λ p. g (processor_at (chip_at chips c) p)))
-    (λ c l. same_each_below no_processor 16 (λ p. f (processor_at (chip_at chips c) p)) (λ p. g (processor_at (chip_at chips c) p)) (λ p k. same c p l k))
+    same_each_below [] (2 ^ n) (λ c. each_processor (λ p. f (processor_at (chip_at chips c) p)))
+    (λ c. each_processor (λ p. g (processor_at (chip_at chips c) p)))
+    (λ c l. same_each_below no_processor
+    16 (λ p. f (processor_at (chip_at chips c) p)) (λ p. g (processor_at (chip_at chips c) p)) (λ p k. same c p l k))
 
 -- one after the other
-each_place-each_place : (n : ℕ) (f g : Processor → Processor) (chips : Chips) → each_place n g (each_place n f chips) ≡ each_place n (λ p. g (f p)) chips
+each_place-each_place : (n : ℕ) (f g : Processor → Processor) (chips : Chips)
+    → each_place n g (each_place n f chips) ≡ each_place n (λ p. g (f p)) chips
 unfolding each_place
 each_place-each_place n f g chips =
     let made : ℕ → List Processor = λ c. each_processor (λ p. f (processor_at (chip_at chips c) p)) in
-    same_each_below [] (2 ^ n) (λ c. each_processor (λ p. g (processor_at (chip_at (each_chip n made) c) p))) (λ c. each_processor (λ p. g (f (processor_at (chip_at chips c) p))))
-    (λ c l. same_each_below no_processor 16 (λ p. g (processor_at (chip_at (each_chip n made) c) p)) (λ p. g (f (processor_at (chip_at chips c) p)))
-    (λ p k. ap g (ap (λ chip. processor_at chip p) (get_or-each_below (2 ^ n) made c [] l) ∙ get_or-each_below 16 (λ q. f (processor_at (chip_at chips c) q)) p no_processor k)))
+    same_each_below [] (2 ^ n) (λ c. each_processor (λ p. g (processor_at (chip_at (each_chip n made) c) p)))
+    (λ c. each_processor (λ p. g (f (processor_at (chip_at chips c) p))))
+    (λ c l. same_each_below no_processor
+    16 (λ p. g (processor_at (chip_at (each_chip n made) c) p)) (λ p. g (f (processor_at (chip_at chips c) p)))
+    (λ p k. ap g (ap (λ chip. processor_at chip p) (get_or-each_below (2 ^ n) made c [] l)
+    ∙ get_or-each_below 16 (λ q. f (processor_at (chip_at chips c) q)) p no_processor k)))
 
 -- what comes in does not matter to an instruction that does not take it
-nothing_comes_in : (i : Nano) (b : Bool) (p : Processor) → takes_incoming i ≡ false → processor_after i b p ≡ processor_after i false p
+nothing_comes_in : (i : Nano) (b : Bool) (p : Processor) → takes_incoming i ≡ false
+    → processor_after i b p ≡ processor_after i false p
 unfolding processor_after
 nothing_comes_in i b p home = rw (home) refl
 
-one_place : (n : ℕ) (i : Nano) (chips : Chips) → takes_incoming i ≡ false → after_nano n i chips ≡ each_place n (processor_after i false) chips
+one_place : (n : ℕ) (i : Nano) (chips : Chips) → takes_incoming i ≡ false
+    → after_nano n i chips ≡ each_place n (processor_after i false) chips
 unfolding after_nano chip_after each_place
 one_place n i chips home =
-    same_each_below [] (2 ^ n) (λ c. each_processor (λ p. processor_after i (incoming n i chips c p) (processor_at (chip_at chips c) p))) (λ c. each_processor (λ p. processor_after i false (processor_at (chip_at chips c) p)))
-    (λ c l. same_each_below no_processor 16 (λ p. processor_after i (incoming n i chips c p) (processor_at (chip_at chips c) p)) (λ p. processor_after i false (processor_at (chip_at chips c) p))
+    same_each_below [] (2 ^ n)
+    (λ c. each_processor (λ p. processor_after i (incoming n i chips c p) (processor_at (chip_at chips c) p)))
+    (λ c. each_processor (λ p. processor_after i false (processor_at (chip_at chips c) p)))
+    (λ c l. same_each_below no_processor
+    16 (λ p. processor_after i (incoming n i chips c p) (processor_at (chip_at chips c) p))
+    (λ p. processor_after i false (processor_at (chip_at chips c) p))
     (λ p k. nothing_comes_in i (incoming n i chips c p) (processor_at (chip_at chips c) p) home))
 
 -- the machine with other chips
 abbrev pub with_chips : Machine → Chips → Machine
-with_chips machine chips = record { chips = chips; buffers = machine.buffers; logs = machine.logs; clock = machine.clock }
+with_chips machine chips =
+    record { chips = chips; buffers = machine.buffers; logs = machine.logs; clock = machine.clock }
 
 lifted_from : (n cap : ℕ) (i : Nano) (is : List Nano) (machine : Machine) → AllHome (i ∷ is)
     → after_acts n cap machine (map act.Nano (i ∷ is)) ≡ with_chips machine (each_place n (run (i ∷ is)) machine.chips)
 lifted_from n cap i [] machine home = λ k. with_chips machine (one_place n i machine.chips home.0 k)
 lifted_from n cap i (j ∷ js) machine home =
     lifted_from n cap j js (with_chips machine (after_nano n i machine.chips)) home.1
-    ∙ (λ k. with_chips machine ((ap (each_place n (run (j ∷ js))) (one_place n i machine.chips home.0) ∙ each_place-each_place n (processor_after i false) (run (j ∷ js)) machine.chips) k))
+    ∙ (λ k. with_chips machine
+    ((ap (each_place n (run (j ∷ js))) (one_place n i machine.chips home.0)
+    ∙ each_place-each_place n (processor_after i false) (run (j ∷ js)) machine.chips) k))
 
 pub lifted : (n cap : ℕ) (is : List Nano) (machine : Machine) → 0 < length is → AllHome is
     → after_acts n cap machine (map act.Nano is) ≡ with_chips machine (each_place n (run is) machine.chips)

@@ -1,5 +1,6 @@
 -- Each line of a listing is read as what it tells.
-use Rattle.std.proofs.Common.{◌≡◌, ℕ, ◌+◌, ◌^◌, ◌<◌, ◌≤◌, Bool, true, false, not, ◌||◌, eqb, None, Some, Result, Ok, Err, List, [], ◌∷◌, ◌++◌, refl, ap, ◌∙◌, arith}
+use Rattle.std.proofs.Common.{◌≡◌, ℕ, ◌+◌, ◌^◌, ◌<◌, ◌≤◌, Bool, true, false, not, ◌||◌, eqb, None, Some, Result, Ok}
+use Rattle.std.proofs.Common.{Err, List, [], ◌∷◌, ◌++◌, refl, ap, ◌∙◌, arith}
 use Rattle.std.specs.Prelude.{if◌then◌else◌, decimal, nat_lt}
 use Rattle.std.specs.Option.{is_some}
 use Rattle.std.proofs.lemmas.Bool.Decides.{nat_tests}
@@ -15,7 +16,8 @@ use Rattle.cm_language.specs.declared.statement.Statement.TheVariants as stateme
 use Rattle.cm_language.specs.declared.fault.AsmKind.{AsmKind}
 use Rattle.cm_language.specs.declared.fault.AsmKind.TheVariants.{Number, Name, Twice}
 use Rattle.cm_language.specs.Names.{NamedField, is_name, field_named}
-use Rattle.cm_language.specs.Lines.{◌>>=◌, number_below, operand_of, sense_operand, direction_of, nano_of, new_name, field_unless, definition_of}
+use Rattle.cm_language.specs.Lines.{◌>>=◌, number_below, operand_of, sense_operand, direction_of, nano_of, new_name}
+use Rattle.cm_language.specs.Lines.{field_unless, definition_of}
 use Rattle.cm_language.specs.Listing.{table_word, direction_word, act_words, field_words}
 use Rattle.cm_language.specs.Program.{Reading, after_statement, after_words, with_acts}
 use Rattle.cm_language.specs.Whole.{IsInstruction, IsProgramAct, IsNext}

@@ -1,5 +1,6 @@
 -- A listing is read line by line as the fields and acts that it tells.
-use Rattle.std.proofs.Common.{◌≡◌, ℕ, ◌+◌, ◌<◌, ◌≤◌, ◌^◌, Bool, false, Result, Ok, Err, List, [], ◌∷◌, ◌++◌, flat_map, length, refl, sym, ap, ◌∙◌, arith, append_assoc, append-nil, length-append}
+use Rattle.std.proofs.Common.{◌≡◌, ℕ, ◌+◌, ◌<◌, ◌≤◌, ◌^◌, Bool, false, Result, Ok, Err, List, [], ◌∷◌, ◌++◌, flat_map}
+use Rattle.std.proofs.Common.{length, refl, sym, ap, ◌∙◌, arith, append_assoc, append-nil, length-append}
 use Rattle.std.specs.Prelude.{if◌then◌else◌, decimal, nat_lt}
 use Rattle.std.proofs.lemmas.Bool.Decides.{nat_tests}
 use Rattle.std.proofs.lemmas.List.Elements.{All-cons, All-append}
@@ -11,10 +12,12 @@ use Rattle.cm_language.specs.declared.fault.AsmKind.TheVariants as kind
 use Rattle.cm_language.specs.Names.{NamedField}
 use Rattle.cm_language.specs.Laws.{ProgramsAreListed}
 use Rattle.cm_language.specs.Listing.{spaced, act_words, field_words, field_line, act_line, act_lines, listing}
-use Rattle.cm_language.specs.Program.{MOST_ACTS, Reading, nothing_read, within_length, after_words, unless_faulty, after_lines, program_read, program_of}
+use Rattle.cm_language.specs.Program.{MOST_ACTS, Reading, nothing_read, within_length, after_words, unless_faulty}
+use Rattle.cm_language.specs.Program.{after_lines, program_read, program_of}
 use Rattle.cm_language.specs.Whole.{IsProgramAct, AreProgramActs, AreNext}
 use Rattle.cm_language.proofs.Numerals.{word-decimal}
-use Rattle.cm_language.proofs.Spaced.{NonePass, plain_spared, spaced_spared, spares_line_end, words_of-spaced, words_of-commented, lines_of-first}
+use Rattle.cm_language.proofs.Spaced.{NonePass, plain_spared, spaced_spared, spares_line_end, words_of-spaced}
+use Rattle.cm_language.proofs.Spaced.{words_of-commented, lines_of-first}
 use Rattle.cm_language.proofs.ListedLines.{after_words-act, after_words-field}
 use Rattle.cm_language.proofs.ListedWords.{words-act, words-field}
 

@@ -3,7 +3,8 @@ use Rattle.std.proofs.Common.{◌≡◌, ℕ, ◌+◌, ◌≤◌, Bool, true, fa
 use Rattle.std.proofs.lemmas.Bool.Decides.{nat_tests}
 use Rattle.cm_bits.specs.Span.{Span, IsField}
 use Rattle.cm_language.specs.declared.macros.Macro.{Macro}
-use Rattle.cm_language.specs.declared.macros.Macro.TheVariants.{Add, Sub, Less, Equal, Move, Select, Const, Shift, Mul, Set, Clear}
+use Rattle.cm_language.specs.declared.macros.Macro.TheVariants.{Add, Sub, Less, Equal, Move, Select, Const, Shift, Mul}
+use Rattle.cm_language.specs.declared.macros.Macro.TheVariants.{Set, Clear}
 use Rattle.cm_language.specs.declared.macros.Context.{Context}
 use Rattle.cm_language.specs.Acts.{nanos, acts_of, clear_flag, each_bit, number_bits, product, product_round}
 use Rattle.cm_language.specs.Faults.{misfits, lengths_differ, first_fault}
@@ -11,7 +12,8 @@ use Rattle.cm_language.specs.Laws.{HasFields}
 use Rattle.cm_language.specs.Whole.{AreProgramActs}
 use Rattle.cm_language.proofs.ProgramParts.{HasFlag, NamesFlags}
 use Rattle.cm_language.proofs.AllMacros.{accepted}
-use Rattle.cm_language.proofs.Instructions.{AreInstructions, as_acts, are-append, are-flat_map, is_set, is_clear, are_bits, are_number_bits, are_round, AreSmall, small_by_test}
+use Rattle.cm_language.proofs.Instructions.{AreInstructions, as_acts, are-append, are-flat_map, is_set, is_clear}
+use Rattle.cm_language.proofs.Instructions.{are_bits, are_number_bits, are_round, AreSmall, small_by_test}
 
 -- ---- macros
 

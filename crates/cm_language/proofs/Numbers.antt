@@ -1,5 +1,6 @@
 -- Fields and numbers: what runs of bits in a field are worth.
-use Rattle.std.proofs.Common.{◌≡◌, ℕ, zero, suc, ◌+◌, ◌*◌, ◌%◌, ◌^◌, ◌<◌, ◌≤◌, Bool, true, false, leb, List, [], ◌∷◌, ◌++◌, length, take, drop, map, refl, sym, ap, ◌∙◌, arith}
+use Rattle.std.proofs.Common.{◌≡◌, ℕ, zero, suc, ◌+◌, ◌*◌, ◌%◌, ◌^◌, ◌<◌, ◌≤◌, Bool, true, false, leb, List, [], ◌∷◌}
+use Rattle.std.proofs.Common.{◌++◌, length, take, drop, map, refl, sym, ap, ◌∙◌, arith}
 use Rattle.std.proofs.Math.Nat.{mod-eq_of_lt, div-one}
 use Rattle.std.specs.List.{range_with_len}
 use Rattle.std.specs.Prelude.{if◌then◌else◌}
@@ -11,7 +12,8 @@ use Rattle.cm_model.proofs.Values.{value-bits}
 use Rattle.cm_model.proofs.Wholes.{length-bits_of}
 use Rattle.cm_language.specs.Effect.{value_of}
 use Rattle.cm_language.proofs.Bits.{reads, writes, reads-is, writes-is}
-use Rattle.cm_language.proofs.Sums.{outs, carried, total, Adds, sum-outs, length-outs, value_below, low_part, high_part, table_0, table_1}
+use Rattle.cm_language.proofs.Sums.{outs, carried, total, Adds, sum-outs, length-outs, value_below, low_part, high_part}
+use Rattle.cm_language.proofs.Sums.{table_0, table_1}
 use Rattle.cm_language.proofs.Loops.{choices}
 
 -- ---- a number tells its bits
@@ -31,12 +33,14 @@ value-bits_of n v = value-bits n 0 v ∙ ap (λ (q : ℕ). q % 2 ^ n) (div-one v
 pub bits_of-value : (bs : List Bool) (n : ℕ) → length bs ≡ n → bs ≡ bits_of n (value bs)
 bits_of-value bs n long =
     let below : value bs < 2 ^ n = rw long at (value_below bs) in
-    same_bits bs (bits_of n (value bs)) (long ∙ sym (length-bits_of n (value bs))) (sym (value-bits_of n (value bs) ∙ mod-eq_of_lt below))
+    same_bits bs (bits_of n (value bs)) (long ∙ sym (length-bits_of n (value bs)))
+    (sym (value-bits_of n (value bs) ∙ mod-eq_of_lt below))
 
 -- ---- a field
 
 -- a number that is written bit by bit
-pub writes-bits_of : (m : List Bool) (at len v : ℕ) → at + len ≤ length m → writes m at (bits_of len v) ≡ with_field m at len v
+pub writes-bits_of : (m : List Bool) (at len v : ℕ) → at + len ≤ length m
+    → writes m at (bits_of len v) ≡ with_field m at len v
 unfolding with_field
 writes-bits_of m at len v fits =
     let long : length (bits_of len v) ≡ len = length-bits_of len v in
@@ -44,12 +48,14 @@ writes-bits_of m at len v fits =
     writes-is m at (bits_of len v) room ∙ ap (λ (k : ℕ). take at m ++ (bits_of len v ++ drop (at + k) m)) long
 
 -- bits that are written are their value
-pub stored : (m : List Bool) (at len : ℕ) (bs : List Bool) (v : ℕ) → at + len ≤ length m → length bs ≡ len → value bs ≡ v → writes m at bs ≡ with_field m at len v
+pub stored : (m : List Bool) (at len : ℕ) (bs : List Bool) (v : ℕ) → at + len ≤ length m → length bs ≡ len
+    → value bs ≡ v → writes m at bs ≡ with_field m at len v
 stored m at len bs v fits long is =
     ap (writes m at) (bits_of-value bs len long ∙ ap (bits_of len) is) ∙ writes-bits_of m at len v fits
 
 -- the number in a field is worth its bits
-pub read_value : (p : Processor) (f : Span) → f.at + f.len ≤ length p.memory → value_of p f ≡ value (reads p.memory f.at f.len)
+pub read_value : (p : Processor) (f : Span) → f.at + f.len ≤ length p.memory
+    → value_of p f ≡ value (reads p.memory f.at f.len)
 unfolding field_value
 read_value p f fits = sym (ap value (reads-is p.memory f.at f.len fits))
 
@@ -61,13 +67,15 @@ pub record IsSum (n s : ℕ) (bs : List Bool) (c : Bool) : Type 0 where
   pub low : value bs ≡ s % 2 ^ n
   pub high : c ≡ leb (2 ^ n) s
 
-pub is_sum : (tm tf : ℕ) (g : Bool → Bool → ℕ) → Adds tm tf g → (z : Bool) (xs ys : List Bool) (n s : ℕ) → length xs ≡ n → length ys ≡ n
+pub is_sum : (tm tf : ℕ) (g : Bool → Bool → ℕ) → Adds tm tf g → (z : Bool) (xs ys : List Bool) (n s : ℕ)
+    → length xs ≡ n → length ys ≡ n
     → total g xs ys + bit_number z ≡ s → IsSum n s (outs tm tf z xs ys) (carried tf z xs ys)
 is_sum tm tf g adds z xs ys n s hx hy is =
     let same : length xs ≡ length ys = hx ∙ sym hy in
     let long : length (outs tm tf z xs ys) ≡ n = length-outs tm tf z xs ys same ∙ hx in
     let small : value (outs tm tf z xs ys) < 2 ^ n = rw long at (value_below (outs tm tf z xs ys)) in
-    let all : value (outs tm tf z xs ys) + 2 ^ n * bit_number (carried tf z xs ys) ≡ s = (rw hx at (sum-outs tm tf g adds z xs ys same)) ∙ is in
+    let all : value (outs tm tf z xs ys) + 2 ^ n * bit_number (carried tf z xs ys) ≡ s =
+    (rw hx at (sum-outs tm tf g adds z xs ys same)) ∙ is in
     record {
       long = long;
       low = low_part (2 ^ n) (value (outs tm tf z xs ys)) (bit_number (carried tf z xs ys)) s small all;
@@ -89,13 +97,15 @@ choices-number v z j (suc n) (x ∷ xs) [] hx hy = absurd (omega (arith, hy))
 choices-number v z j (suc n) (x ∷ xs) (y ∷ ys) hx hy =
     λ i. table_of_bit (bit v j) x y z i ∷ choices-number v z (j + 1) n xs ys (omega (arith, hx)) (omega (arith, hy)) i
 
-pub choices-second : (t : ℕ) (z : Bool) → ((x y : Bool) → entry t x y z ≡ y) → (j : ℕ) (xs ys : List Bool) → length xs ≡ length ys → choices (λ i. t) z j xs ys ≡ ys
+pub choices-second : (t : ℕ) (z : Bool) → ((x y : Bool) → entry t x y z ≡ y) → (j : ℕ) (xs ys : List Bool)
+    → length xs ≡ length ys → choices (λ i. t) z j xs ys ≡ ys
 choices-second t z h j [] [] e = refl
 choices-second t z h j [] (y ∷ ys) e = absurd (omega (arith, e))
 choices-second t z h j (x ∷ xs) [] e = absurd (omega (arith, e))
 choices-second t z h j (x ∷ xs) (y ∷ ys) e = λ i. h x y i ∷ choices-second t z h (j + 1) xs ys (omega (arith, e)) i
 
-pub choices-first : (t : ℕ) (z : Bool) → ((x y : Bool) → entry t x y z ≡ x) → (j : ℕ) (xs ys : List Bool) → length xs ≡ length ys → choices (λ i. t) z j xs ys ≡ xs
+pub choices-first : (t : ℕ) (z : Bool) → ((x y : Bool) → entry t x y z ≡ x) → (j : ℕ) (xs ys : List Bool)
+    → length xs ≡ length ys → choices (λ i. t) z j xs ys ≡ xs
 choices-first t z h j [] ys e = refl
 choices-first t z h j (x ∷ xs) [] e = absurd (omega (arith, e))
 choices-first t z h j (x ∷ xs) (y ∷ ys) e = λ i. h x y i ∷ choices-first t z h (j + 1) xs ys (omega (arith, e)) i

@@ -1,5 +1,6 @@
 -- What the operands of a line are read as is in its range.
-use Rattle.std.proofs.Common.{◌≡◌, ℕ, ◌<◌, Bool, true, false, Option, None, Some, Result, Ok, Err, List, [], ◌∷◌, refl, arith}
+use Rattle.std.proofs.Common.{◌≡◌, ℕ, ◌<◌, Bool, true, false, Option, None, Some, Result, Ok, Err, List, [], ◌∷◌, refl}
+use Rattle.std.proofs.Common.{arith}
 use Rattle.std.specs.Prelude.{if◌then◌else◌, bytes_eq, nat_lt}
 use Rattle.std.specs.Option.{ok_or}
 use Rattle.std.specs.Result.{IfOk}
@@ -12,7 +13,9 @@ use Rattle.cm_language.specs.declared.fault.AsmKind.{AsmKind}
 use Rattle.cm_language.specs.declared.fault.AsmKind.TheVariants.{Number, Name}
 use Rattle.cm_language.specs.Laws.{HasFields}
 use Rattle.cm_language.specs.Names.{NamedField, field_named}
-use Rattle.cm_language.specs.Lines.{◌>>=◌, number_below, operand_of, number_operand, sense_operand, direction_of, field_operand, flag_operand, one_field, two_fields, choice_of, constant_of, product_of, nano_of}
+use Rattle.cm_language.specs.Lines.{◌>>=◌, number_below, operand_of, number_operand, sense_operand, direction_of}
+use Rattle.cm_language.specs.Lines.{field_operand, flag_operand, one_field, two_fields, choice_of, constant_of}
+use Rattle.cm_language.specs.Lines.{product_of, nano_of}
 use Rattle.cm_language.specs.Whole.{IsInstruction, IsProgramAct}
 use Rattle.cm_language.proofs.ProgramParts.{AreFields, HasFlag, NamesFlags}
 

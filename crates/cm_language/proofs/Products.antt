@@ -1,8 +1,11 @@
 -- The product: after each round the field is worth the rounds so far, and what was dropped.
-use Rattle.std.proofs.Common.{◌≡◌, ℕ, zero, suc, ◌+◌, ◌-◌, ◌*◌, ◌%◌, ◌^◌, ◌<◌, ◌≤◌, ◌⊎◌, Bool, true, false, List, [], ◌∷◌, ◌++◌, length, get_or, set, take, drop, refl, sym, ap, ◌∙◌, subst, arith, inl, inr, ⊎_elim}
+use Rattle.std.proofs.Common.{◌≡◌, ℕ, zero, suc, ◌+◌, ◌-◌, ◌*◌, ◌%◌, ◌^◌, ◌<◌, ◌≤◌, ◌⊎◌, Bool, true, false, List, []}
+use Rattle.std.proofs.Common.{◌∷◌, ◌++◌, length, get_or, set, take, drop, refl, sym, ap, ◌∙◌, subst, arith, inl, inr}
+use Rattle.std.proofs.Common.{⊎_elim}
 use Rattle.std.proofs.Math.Nat.{mul-one, mul-zero, zero-mul, mul-add, add-mul, zero-mod}
 use Rattle.std.specs.List.{range_with_len, flat_map}
-use Rattle.std.proofs.lemmas.List.{set-set, set_comm, set-get_or, get_or-set_same, get_or-set_other, length-set, length-take-le, length-drop, length-append, take-append-drop}
+use Rattle.std.proofs.lemmas.List.{set-set, set_comm, set-get_or, get_or-set_same, get_or-set_other, length-set}
+use Rattle.std.proofs.lemmas.List.{length-take-le, length-drop, length-append, take-append-drop}
 use Rattle.cm_bits.specs.Bit.{bit_number}
 use Rattle.cm_bits.specs.Span.{Span}
 use Rattle.cm_model.specs.declared.act.Nano.{Nano}
@@ -14,9 +17,12 @@ use Rattle.cm_model.proofs.Wholes.{length-bits_of}
 use Rattle.cm_language.specs.declared.macros.Context.TheVariants.{Always, On}
 use Rattle.cm_language.specs.declared.macros.Macro.TheVariants.{Mul}
 use Rattle.cm_language.specs.Effect.{assigned, value_of}
-use Rattle.cm_language.specs.Acts.{nano, nanos, clear_flag, each_bit, above, lowest, number_bits, product, product_round}
-use Rattle.cm_language.proofs.Bits.{reads, writes, length-reads, get_or-writes, reads-writes_apart, reads-writes_above, writes-append, writes-over, reads_more, take-reads}
-use Rattle.cm_language.proofs.Sums.{outs, carried, sum-outs, length-outs, value_below, value-append, low_part, total as weighed, both, total-both, twice_power, adds_sum, table_a}
+use Rattle.cm_language.specs.Acts.{nano, nanos, clear_flag, each_bit, above, lowest, number_bits, product}
+use Rattle.cm_language.specs.Acts.{product_round}
+use Rattle.cm_language.proofs.Bits.{reads, writes, length-reads, get_or-writes, reads-writes_apart, reads-writes_above}
+use Rattle.cm_language.proofs.Bits.{writes-append, writes-over, reads_more, take-reads}
+use Rattle.cm_language.proofs.Sums.{outs, carried, sum-outs, length-outs, value_below, value-append, low_part}
+use Rattle.cm_language.proofs.Sums.{total as weighed, both, total-both, twice_power, adds_sum, table_a}
 use Rattle.cm_language.proofs.Steps.{run, run-append, Ready, AllUnder, run-unselected, under-each, ready-flag, one_flag}
 use Rattle.cm_language.proofs.Numbers.{stored, read_value, value-bits_of}
 use Rattle.cm_language.proofs.Selected.{Whole, clear_step, begun_ripple, numbered}
@@ -79,7 +85,8 @@ added big step high u h o l r c over total sum one ec er =
 
 -- the factor's bit goes into flag 6
 factor_step : (p : Processor) (x j : ℕ) → Ready Always p
-    → processor_after (nano Always (x + j) (x + j) 8 6 0xf0 0xf0) false p ≡ record { memory = p.memory; flags = set p.flags 6 (get_or p.memory (x + j) false) }
+    → processor_after (nano Always (x + j) (x + j) 8 6 0xf0 0xf0) false p
+    ≡ record { memory = p.memory; flags = set p.flags 6 (get_or p.memory (x + j) false) }
 factor_step p x j h =
     let b : Bool = get_or p.memory (x + j) false in
     let z : Bool = get_or p.flags 8 false in
@@ -90,7 +97,8 @@ factor_step p x j h =
     })
 
 -- where it is 0 nothing else happens
-round_of_0 : (p q : Processor) (d x y : Span) (j total : ℕ) → Ready Always q → get_or q.memory (x.at + j) false ≡ false → Sofar p d total q
+round_of_0 : (p q : Processor) (d x y : Span) (j total : ℕ) → Ready Always q
+    → get_or q.memory (x.at + j) false ≡ false → Sofar p d total q
     → Sofar p d total (run (product_round d x y j) q)
 unfolding product_round each_from
 round_of_0 p q d x y j total h zero_bit s =
@@ -98,11 +106,22 @@ round_of_0 p q d x y j total h zero_bit s =
     let left : Processor = record { memory = q.memory; flags = fs } in
     let rest : List Nano = clear_flag (On 6) 7 ∷ each_bit (On 6) (above d j) (lowest y (d.len - j)) 7 7 0x96 0xe8 in
     let first : processor_after (nano Always (x.at + j) (x.at + j) 8 6 0xf0 0xf0) false q ≡ left =
-    factor_step q x.at j h ∙ ap (λ (b : Bool). let r : Processor = record { memory = q.memory; flags = set q.flags 6 b } in r) zero_bit in
-    let under : AllUnder (On 6) rest = (refl, (refl, under-each (On 6) (λ i. nano (On 6) (d.at + j + i) (y.at + i) 7 7 0x96 0xe8) (λ i. refl) (λ i. refl) 0 (d.len - j))) in
-    let off : get_or fs 6 false ≡ false = get_or-set_same q.flags 6 false false (let long : length q.flags ≡ 16 = h.long in omega (arith, long)) in
-    let zero_flag : get_or fs 8 false ≡ false = get_or-set_other q.flags 6 8 false false (λ e. omega (arith, e)) ∙ h.zero_flag in
-    let done : run (product_round d x y j) q ≡ left = ap (run rest) first ∙ run-unselected (On 6) rest left under zero_flag off in
+    factor_step q x.at j h ∙ ap (λ (b : Bool). let r : Processor =
+    record { memory = q.memory; flags = set q.flags 6 b } in r) zero_bit in
+    let under : AllUnder (On 6) rest = (
+      refl,
+      (
+        refl,
+        under-each (On 6) (λ i. nano (On 6) (d.at + j + i) (y.at + i) 7 7 0x96 0xe8) (λ i. refl) (λ i. refl)
+            0 (d.len - j),
+      ),
+    ) in
+    let off : get_or fs 6 false ≡ false =
+    get_or-set_same q.flags 6 false false (let long : length q.flags ≡ 16 = h.long in omega (arith, long)) in
+    let zero_flag : get_or fs 8 false ≡ false = get_or-set_other q.flags 6 8 false false (λ e. omega (arith, e))
+    ∙ h.zero_flag in
+    let done : run (product_round d x y j) q ≡ left = ap (run rest) first
+    ∙ run-unselected (On 6) rest left under zero_flag off in
     record {
       bits = s.bits;
       long = s.long;
@@ -110,26 +129,36 @@ round_of_0 p q d x y j total h zero_bit s =
       carry = s.carry;
       dropped = s.dropped;
       state = done ∙ (λ i. record { memory = (s.state i).memory; flags = set (s.state i).flags 6 false })
-          ∙ (λ i. record { memory = writes p.memory d.at s.bits; flags = flags_again p.flags s.factor s.carry false i });
+          ∙ (λ i. record {
+            memory = writes p.memory d.at s.bits;
+            flags =
+                flags_again p.flags s.factor s.carry false i;
+          });
       sum = s.sum;
     }
 
 -- y is apart from the part of d that is written
-apart_above : (d y : Span) (j : ℕ) → j < d.len → y.len ≡ d.len → AreApart d y → (d.at + j ≤ y.at) ⊎ (y.at + (d.len - j) ≤ d.at + j)
-apart_above d y j l e h = ⊎_elim (λ (a : d.at + d.len ≤ y.at). inl (omega arith)) (λ (b : y.at + y.len ≤ d.at). inr (omega (arith, e))) h
+apart_above : (d y : Span) (j : ℕ) → j < d.len → y.len ≡ d.len → AreApart d y
+    → (d.at + j ≤ y.at) ⊎ (y.at + (d.len - j) ≤ d.at + j)
+apart_above d y j l e h =
+    ⊎_elim (λ (a : d.at + d.len ≤ y.at). inl (omega arith)) (λ (b : y.at + y.len ≤ d.at). inr (omega (arith, e))) h
 
 -- the bits of y that are added, and the others
-low_and_high : (m : List Bool) (y j k n : ℕ) → j + k ≡ n → (r : ℕ) × (value (reads m y n) ≡ value (reads m y k) + 2 ^ k * r)
+low_and_high : (m : List Bool) (y j k n : ℕ) → j + k ≡ n
+    → (r : ℕ) × (value (reads m y n) ≡ value (reads m y k) + 2 ^ k * r)
 low_and_high m y j k n e =
     let whole : n ≡ k + j = omega (arith, e) in
     let parts : reads m y n ≡ reads m y k ++ drop k (reads m y n) =
-    sym (take-append-drop k (reads m y n)) ∙ ap (λ front. front ++ drop k (reads m y n)) (ap (λ (z : ℕ). take k (reads m y z)) whole ∙ take-reads m y k j) in (
+    sym (take-append-drop k (reads m y n))
+    ∙ ap (λ front. front ++ drop k (reads m y n)) (ap (λ (z : ℕ). take k (reads m y z)) whole ∙ take-reads m y k j) in (
       value (drop k (reads m y n)),
-      ap value parts ∙ value-append (reads m y k) (drop k (reads m y n)) ∙ ap (λ (z : ℕ). value (reads m y k) + 2 ^ z * value (drop k (reads m y n))) (length-reads m y k),
+      ap value parts ∙ value-append (reads m y k) (drop k (reads m y n))
+          ∙ ap (λ (z : ℕ). value (reads m y k) + 2 ^ z * value (drop k (reads m y n))) (length-reads m y k),
     )
 
 -- where it is 1, y is added
-round_of_1 : (p q : Processor) (d x y : Span) (j total : ℕ) → j < d.len → Ready Always q → length p.memory ≡ 4096 → Factors d x y
+round_of_1 : (p q : Processor) (d x y : Span) (j total : ℕ) → j < d.len → Ready Always q → length p.memory ≡ 4096
+    → Factors d x y
     → get_or q.memory (x.at + j) false ≡ true → Sofar p d total q
     → Sofar p d (total + 2 ^ j * value (reads p.memory y.at d.len)) (run (product_round d x y j) q)
 unfolding product_round
@@ -142,7 +171,8 @@ round_of_1 p q d x y j total l h wide fields one_bit s =
     let left : Processor = record { memory = q.memory; flags = fs } in
     let rest : List Nano = clear_flag (On 6) 7 ∷ each_bit (On 6) (above d j) (lowest y k) 7 7 0x96 0xe8 in
     let first : processor_after (nano Always (x.at + j) (x.at + j) 8 6 0xf0 0xf0) false q ≡ left =
-    factor_step q x.at j h ∙ ap (λ (b : Bool). let r : Processor = record { memory = q.memory; flags = set q.flags 6 b } in r) one_bit in
+    factor_step q x.at j h ∙ ap (λ (b : Bool). let r : Processor =
+    record { memory = q.memory; flags = set q.flags 6 b } in r) one_bit in
     let ready : Ready (On 6) left = record {
       here = get_or-set_same q.flags 6 true false (let f : length q.flags ≡ 16 = h.long in omega (arith, f));
       zero_flag = get_or-set_other q.flags 6 8 true false (λ e. omega (arith, e)) ∙ h.zero_flag;
@@ -155,14 +185,18 @@ round_of_1 p q d x y j total l h wide fields one_bit s =
     let lows : List Bool = take j s.bits in
     let addend : List Bool = reads p.memory y.at k in
     let low_long : length lows ≡ j = length-take-le j s.bits (omega (arith, long, l)) in
-    let high_long : length highs ≡ k = length-drop j s.bits ∙ (let z : length s.bits - j ≡ k = omega (arith, long) in z) in
+    let high_long : length highs ≡ k = length-drop j s.bits
+    ∙ (let z : length s.bits - j ≡ k = omega (arith, long) in z) in
     let addend_long : length addend ≡ k = length-reads p.memory y.at k in
     let room : d.at + length s.bits ≤ length p.memory = omega (arith, long, wide, whole) in
     let xs : reads q.memory (d.at + j) k ≡ highs =
     ap (λ mem. reads mem (d.at + j) k) memory_is ∙ reads-writes_above p.memory d.at s.bits j k room (long ∙ sym all) in
     let beside : (d.at + length s.bits ≤ y.at) ⊎ (y.at + k ≤ d.at) =
-    ⊎_elim (λ (a : d.at + d.len ≤ y.at). inl (omega (arith, long))) (λ (b : y.at + y.len ≤ d.at). inr (let e : y.len ≡ d.len = fields.second_len in omega (arith, e))) fields.second_apart in
-    let ys : reads q.memory y.at k ≡ addend = ap (λ mem. reads mem y.at k) memory_is ∙ reads-writes_apart p.memory d.at s.bits y.at k beside in
+    ⊎_elim (λ (a : d.at + d.len ≤ y.at). inl (omega (arith, long)))
+    (λ (b : y.at + y.len ≤ d.at). inr (let e : y.len ≡ d.len = fields.second_len in omega (arith, e)))
+    fields.second_apart in
+    let ys : reads q.memory y.at k ≡ addend = ap (λ mem. reads mem y.at k) memory_is
+    ∙ reads-writes_apart p.memory d.at s.bits y.at k beside in
     let rippled_is : run rest left ≡ record {
       memory = writes q.memory (d.at + j) (outs 0x96 0xe8 false (reads q.memory (d.at + j) k) (reads q.memory y.at k));
       flags = set fs 7 (carried 0xe8 false (reads q.memory (d.at + j) k) (reads q.memory y.at k));
@@ -175,30 +209,49 @@ round_of_1 p q d x y j total l h wide fields one_bit s =
     let joined : lows ++ highs ≡ s.bits = take-append-drop j s.bits in
     let over : writes m (d.at + j) sums ≡ writes p.memory d.at (lows ++ sums) =
     ap (λ bs. writes (writes p.memory d.at bs) (d.at + j) sums) (sym joined)
-    ∙ ap (λ mem. writes mem (d.at + j) sums) (writes-append p.memory d.at lows highs ∙ ap (λ (z : ℕ). writes (writes p.memory d.at lows) (d.at + z) highs) low_long)
+    ∙ ap (λ mem. writes mem (d.at + j) sums) (writes-append p.memory d.at lows highs
+    ∙ ap (λ (z : ℕ). writes (writes p.memory d.at lows) (d.at + z) highs) low_long)
     ∙ writes-over (writes p.memory d.at lows) (d.at + j) highs sums (high_long ∙ sym sums_long)
-    ∙ sym (writes-append p.memory d.at lows sums ∙ ap (λ (z : ℕ). writes (writes p.memory d.at lows) (d.at + z) sums) low_long) in
-    let y_parts : (r : ℕ) × (value (reads p.memory y.at d.len) ≡ value addend + 2 ^ k * r) = low_and_high p.memory y.at j k d.len all in
+    ∙ sym (writes-append p.memory d.at lows sums
+    ∙ ap (λ (z : ℕ). writes (writes p.memory d.at lows) (d.at + z) sums) low_long) in
+    let y_parts : (r : ℕ) × (value (reads p.memory y.at d.len) ≡ value addend + 2 ^ k * r) =
+    low_and_high p.memory y.at j k d.len all in
     let before : value s.bits ≡ value lows + 2 ^ j * value highs =
     ap value (sym joined) ∙ value-append lows highs ∙ ap (λ (z : ℕ). value lows + 2 ^ z * value highs) low_long in
-    let after : value (lows ++ sums) ≡ value lows + 2 ^ j * value sums = value-append lows sums ∙ ap (λ (z : ℕ). value lows + 2 ^ z * value sums) low_long in
+    let after : value (lows ++ sums) ≡ value lows + 2 ^ j * value sums = value-append lows sums
+    ∙ ap (λ (z : ℕ). value lows + 2 ^ z * value sums) low_long in
     let one : value sums + 2 ^ k * bit_number out ≡ value highs + value addend =
-    ap (λ (z : ℕ). value sums + 2 ^ z * bit_number out) (sym high_long) ∙ sum-outs 0x96 0xe8 both adds_sum false highs addend same
-    ∙ (let t : weighed both highs addend + 0 ≡ value highs + value addend = omega (arith, total-both highs addend same) in t) in
-    let worth : (value lows + 2 ^ j * value sums) + 2 ^ d.len * (s.dropped + (y_parts.0 + bit_number out)) ≡ total + 2 ^ j * (value addend + 2 ^ k * y_parts.0) =
-    added (2 ^ d.len) (2 ^ j) (2 ^ k) (value lows) (value highs) (value sums) (value addend) y_parts.0 (bit_number out) s.dropped total
-    (ap (λ (v : ℕ). v + 2 ^ d.len * s.dropped) (sym before) ∙ s.sum) one (shifted j k d.len (bit_number out) all) (shifted j k d.len y_parts.0 all) in
+    ap (λ (z : ℕ). value sums + 2 ^ z * bit_number out) (sym high_long)
+    ∙ sum-outs 0x96 0xe8 both adds_sum false highs addend same
+    ∙ (let t : weighed both highs addend + 0 ≡ value highs + value addend =
+    omega (arith, total-both highs addend same) in t) in
+    let worth : (value lows + 2 ^ j * value sums) + 2 ^ d.len * (s.dropped + (y_parts.0 + bit_number out))
+    ≡ total + 2 ^ j * (value addend + 2 ^ k * y_parts.0) =
+    added (2 ^ d.len) (2 ^ j) (2 ^ k) (value lows) (value highs) (value sums) (value addend)
+    y_parts.0 (bit_number out) s.dropped total
+    (ap (λ (v : ℕ). v + 2 ^ d.len * s.dropped) (sym before) ∙ s.sum)
+    one (shifted j k d.len (bit_number out) all) (shifted j k d.len y_parts.0 all) in
     record {
       bits = lows ++ sums;
-      long = length-append lows sums ∙ (let z : length lows + length sums ≡ d.len = omega (arith, low_long, sums_long, all) in z);
+      long = length-append lows sums
+          ∙ (let z : length lows + length sums ≡ d.len = omega (arith, low_long, sums_long, all) in z);
       factor = true;
       carry = out;
       dropped = s.dropped + (y_parts.0 + bit_number out);
       state = ap (run rest) first ∙ rippled_is
-          ∙ (λ i. record { memory = writes (memory_is i) (d.at + j) (outs 0x96 0xe8 false (xs i) (ys i)); flags = set (set (flags_are i) 6 true) 7 (carried 0xe8 false (xs i) (ys i)) })
+          ∙ (λ i. record {
+            memory = writes (memory_is i) (d.at + j) (outs 0x96 0xe8 false (xs i) (ys i));
+            flags =
+                set (set (flags_are i) 6 true) 7 (carried 0xe8 false (xs i) (ys i));
+          })
           ∙ (λ i. record { memory = over i; flags = set (flags_again p.flags s.factor s.carry true i) 7 out })
-          ∙ (λ i. record { memory = writes p.memory d.at (lows ++ sums); flags = set-set (set p.flags 6 true) 7 s.carry out i });
-      sum = ap (λ (v : ℕ). v + 2 ^ d.len * (s.dropped + (y_parts.0 + bit_number out))) after ∙ worth ∙ ap (λ (v : ℕ). total + 2 ^ j * v) (sym y_parts.1);
+          ∙ (λ i. record {
+            memory = writes p.memory d.at (lows ++ sums);
+            flags =
+                set-set (set p.flags 6 true) 7 s.carry out i;
+          });
+      sum = ap (λ (v : ℕ). v + 2 ^ d.len * (s.dropped + (y_parts.0 + bit_number out))) after ∙ worth
+          ∙ ap (λ (v : ℕ). total + 2 ^ j * v) (sym y_parts.1);
     }
 
 -- a processor after some rounds is as whole as it was
@@ -207,21 +260,26 @@ sofar_ready p q d total h s =
     let fs : q.flags ≡ set (set p.flags 6 s.factor) 7 s.carry = (λ i. (s.state i).flags) in
     record {
       here = refl;
-      zero_flag = ap (λ flags. get_or flags 8 false) fs ∙ get_or-set_other (set p.flags 6 s.factor) 7 8 s.carry false (λ e. omega (arith, e))
+      zero_flag = ap (λ flags. get_or flags 8 false) fs
+          ∙ get_or-set_other (set p.flags 6 s.factor) 7 8 s.carry false (λ e. omega (arith, e))
           ∙ get_or-set_other p.flags 6 8 s.factor false (λ e. omega (arith, e)) ∙ h.zero_flag;
       long = ap length fs ∙ length-set (set p.flags 6 s.factor) 7 s.carry ∙ length-set p.flags 6 s.factor ∙ h.long;
     }
 
 -- the factor's bit is the old one
-factor_bit : (p q : Processor) (d x : Span) (j total : ℕ) → j < d.len → x.len ≡ d.len → AreApart d x → Sofar p d total q → get_or q.memory (x.at + j) false ≡ get_or p.memory (x.at + j) false
+factor_bit : (p q : Processor) (d x : Span) (j total : ℕ) → j < d.len → x.len ≡ d.len → AreApart d x
+    → Sofar p d total q → get_or q.memory (x.at + j) false ≡ get_or p.memory (x.at + j) false
 factor_bit p q d x j total l same apart s =
     let long : length s.bits ≡ d.len = s.long in
     let beside : (x.at + j < d.at) ⊎ (d.at + length s.bits ≤ x.at + j) =
-    ⊎_elim (λ (a : d.at + d.len ≤ x.at). inr (omega (arith, long))) (λ (b : x.at + x.len ≤ d.at). inl (omega (arith, same))) apart in
-    ap (λ (r : Processor). get_or r.memory (x.at + j) false) s.state ∙ get_or-writes p.memory d.at s.bits (x.at + j) beside
+    ⊎_elim (λ (a : d.at + d.len ≤ x.at). inr (omega (arith, long)))
+    (λ (b : x.at + x.len ≤ d.at). inl (omega (arith, same))) apart in
+    ap (λ (r : Processor). get_or r.memory (x.at + j) false) s.state
+    ∙ get_or-writes p.memory d.at s.bits (x.at + j) beside
 
 -- one bit more of the factor is worth as much more
-factor_more : (m : List Bool) (a j : ℕ) (b : Bool) → get_or m (a + j) false ≡ b → value (reads m a (j + 1)) ≡ value (reads m a j) + 2 ^ j * bit_number b
+factor_more : (m : List Bool) (a j : ℕ) (b : Bool) → get_or m (a + j) false ≡ b
+    → value (reads m a (j + 1)) ≡ value (reads m a j) + 2 ^ j * bit_number b
 factor_more m a j b is =
     ap value (reads_more m a j) ∙ value-append (reads m a j) (get_or m (a + j) false ∷ [])
     ∙ (λ i. value (reads m a j) + 2 ^ (length-reads m a j i) * (bit_number (is i) + 2 * 0))
@@ -231,18 +289,24 @@ factor_more m a j b is =
 abbrev pub worth : Processor → Span → Span → Span → ℕ → ℕ
 worth p d x y j = value (reads p.memory x.at j) * value (reads p.memory y.at d.len)
 
-worth_of_0 : (p : Processor) (d x y : Span) (j : ℕ) → get_or p.memory (x.at + j) false ≡ false → worth p d x y j ≡ worth p d x y (j + 1)
+worth_of_0 : (p : Processor) (d x y : Span) (j : ℕ) → get_or p.memory (x.at + j) false ≡ false
+    → worth p d x y j ≡ worth p d x y (j + 1)
 worth_of_0 p d x y j is =
-    let more : value (reads p.memory x.at (j + 1)) ≡ value (reads p.memory x.at j) + 2 ^ j * 0 = factor_more p.memory x.at j false is in
-    let same : value (reads p.memory x.at j) ≡ value (reads p.memory x.at (j + 1)) = omega (arith, more, mul-zero (2 ^ j)) in
+    let more : value (reads p.memory x.at (j + 1)) ≡ value (reads p.memory x.at j) + 2 ^ j * 0 =
+    factor_more p.memory x.at j false is in
+    let same : value (reads p.memory x.at j) ≡ value (reads p.memory x.at (j + 1)) =
+    omega (arith, more, mul-zero (2 ^ j)) in
     ap (λ (v : ℕ). v * value (reads p.memory y.at d.len)) same
 
 worth_of_1 : (p : Processor) (d x y : Span) (j : ℕ) → get_or p.memory (x.at + j) false ≡ true
     → worth p d x y j + 2 ^ j * value (reads p.memory y.at d.len) ≡ worth p d x y (j + 1)
 worth_of_1 p d x y j is =
-    let more : value (reads p.memory x.at (j + 1)) ≡ value (reads p.memory x.at j) + 2 ^ j * 1 = factor_more p.memory x.at j true is in
-    let same : value (reads p.memory x.at (j + 1)) ≡ value (reads p.memory x.at j) + 2 ^ j = omega (arith, more, mul-one (2 ^ j)) in
-    sym (ap (λ (v : ℕ). v * value (reads p.memory y.at d.len)) same ∙ add-mul (value (reads p.memory x.at j)) (2 ^ j) (value (reads p.memory y.at d.len)))
+    let more : value (reads p.memory x.at (j + 1)) ≡ value (reads p.memory x.at j) + 2 ^ j * 1 =
+    factor_more p.memory x.at j true is in
+    let same : value (reads p.memory x.at (j + 1)) ≡ value (reads p.memory x.at j) + 2 ^ j =
+    omega (arith, more, mul-one (2 ^ j)) in
+    sym (ap (λ (v : ℕ). v * value (reads p.memory y.at d.len)) same
+    ∙ add-mul (value (reads p.memory x.at j)) (2 ^ j) (value (reads p.memory y.at d.len)))
 
 bool_cases : (b : Bool) → (b ≡ false) ⊎ (b ≡ true)
 bool_cases true = inr refl
@@ -253,20 +317,28 @@ round : (p q : Processor) (d x y : Span) (j : ℕ) → j < d.len → Ready Alway
     → Sofar p d (worth p d x y j) q → Sofar p d (worth p d x y (j + 1)) (run (product_round d x y j) q)
 round p q d x y j l h wide fields s =
     let ready : Ready Always q = sofar_ready p q d (worth p d x y j) h s in
-    let kept : get_or q.memory (x.at + j) false ≡ get_or p.memory (x.at + j) false = factor_bit p q d x j (worth p d x y j) l fields.first_len fields.first_apart s in
+    let kept : get_or q.memory (x.at + j) false ≡ get_or p.memory (x.at + j) false =
+    factor_bit p q d x j (worth p d x y j) l fields.first_len fields.first_apart s in
     ⊎_elim
     (λ (e : get_or p.memory (x.at + j) false ≡ false).
-    subst (λ (t : ℕ). Sofar p d t (run (product_round d x y j) q)) (worth_of_0 p d x y j e) (round_of_0 p q d x y j (worth p d x y j) ready (kept ∙ e) s))
+    subst (λ (t : ℕ). Sofar p d t (run (product_round d x y j) q)) (worth_of_0 p d x y j e)
+    (round_of_0 p q d x y j (worth p d x y j) ready (kept ∙ e) s))
     (λ (e : get_or p.memory (x.at + j) false ≡ true).
-    subst (λ (t : ℕ). Sofar p d t (run (product_round d x y j) q)) (worth_of_1 p d x y j e) (round_of_1 p q d x y j (worth p d x y j) l ready wide fields (kept ∙ e) s))
+    subst (λ (t : ℕ). Sofar p d t (run (product_round d x y j) q)) (worth_of_1 p d x y j e)
+    (round_of_1 p q d x y j (worth p d x y j) l ready wide fields (kept ∙ e) s))
     (bool_cases (get_or p.memory (x.at + j) false))
 
-rounds : (p : Processor) (d x y : Span) → Ready Always p → length p.memory ≡ 4096 → Factors d x y → (n j : ℕ) (q : Processor) → j + n ≡ d.len
-    → Sofar p d (worth p d x y j) q → Sofar p d (worth p d x y d.len) (run (flat_map (product_round d x y) (range_with_len j n)) q)
-rounds p d x y h wide fields zero j q e s = let all : j ≡ d.len = omega (arith, e) in subst (λ (k : ℕ). Sofar p d (worth p d x y k) q) all s
+rounds : (p : Processor) (d x y : Span) → Ready Always p → length p.memory ≡ 4096 → Factors d x y
+    → (n j : ℕ) (q : Processor) → j + n ≡ d.len
+    → Sofar p d (worth p d x y j) q
+    → Sofar p d (worth p d x y d.len) (run (flat_map (product_round d x y) (range_with_len j n)) q)
+rounds p d x y h wide fields zero j q e s = let all : j ≡ d.len = omega (arith, e) in
+    subst (λ (k : ℕ). Sofar p d (worth p d x y k) q) all s
 rounds p d x y h wide fields (suc n) j q e s =
-    subst (λ (r : Processor). Sofar p d (worth p d x y d.len) r) (sym (run-append (product_round d x y j) (flat_map (product_round d x y) (range_with_len (j + 1) n)) q))
-    (rounds p d x y h wide fields n (j + 1) (run (product_round d x y j) q) (omega (arith, e)) (round p q d x y j (omega (arith, e)) h wide fields s))
+    subst (λ (r : Processor). Sofar p d (worth p d x y d.len) r)
+    (sym (run-append (product_round d x y j) (flat_map (product_round d x y) (range_with_len (j + 1) n)) q))
+    (rounds p d x y h wide fields
+    n (j + 1) (run (product_round d x y j) q) (omega (arith, e)) (round p q d x y j (omega (arith, e)) h wide fields s))
 
 -- ---- all of it
 
@@ -291,8 +363,14 @@ begun p d x y h =
     }
 
 -- both flags are cleared
-ended : (p q : Processor) (d : Span) (product : ℕ) → d.at + d.len ≤ 4096 → length p.memory ≡ 4096 → Ready Always p → Sofar p d product q
-    → run (clear_flag Always 6 ∷ clear_flag Always 7 ∷ []) q ≡ record { memory = with_field p.memory d.at d.len (product % 2 ^ d.len); flags = set (set p.flags 6 false) 7 false }
+ended : (p q : Processor) (d : Span) (product : ℕ) → d.at + d.len ≤ 4096 → length p.memory ≡ 4096 → Ready Always p
+    → Sofar p d product q
+    → run (clear_flag Always 6 ∷ clear_flag Always 7 ∷ []) q
+    ≡ record {
+      memory = with_field p.memory d.at d.len (product % 2 ^ d.len);
+      flags =
+          set (set p.flags 6 false) 7 false;
+    }
 ended p q d product whole wide h s =
     let ready : Ready Always q = sofar_ready p q d product h s in
     let r : Processor = record { memory = q.memory; flags = set q.flags 6 false } in
@@ -300,14 +378,18 @@ ended p q d product whole wide h s =
     let long : length s.bits ≡ d.len = s.long in
     let fits : d.at + d.len ≤ length p.memory = omega (arith, wide, whole) in
     let small : value s.bits < 2 ^ d.len = rw long at (value_below s.bits) in
-    ap (run (clear_flag Always 7 ∷ [])) (clear_step Always 6 q ready refl refl refl) ∙ clear_step Always 7 r ready_r refl refl refl
+    ap (run (clear_flag Always 7 ∷ [])) (clear_step Always 6 q ready refl refl refl)
+    ∙ clear_step Always 7 r ready_r refl refl refl
     ∙ (λ i. record { memory = (s.state i).memory; flags = set (set (s.state i).flags 6 false) 7 false })
     ∙ (λ i. record {
-      memory = stored p.memory d.at d.len s.bits (product % 2 ^ d.len) fits long (low_part (2 ^ d.len) (value s.bits) s.dropped product small s.sum) i;
-      flags = (ap (λ flags. set flags 7 false) (flags_again p.flags s.factor s.carry false) ∙ set-set (set p.flags 6 false) 7 s.carry false) i;
+      memory = stored p.memory d.at d.len s.bits (product % 2 ^ d.len) fits
+          long (low_part (2 ^ d.len) (value s.bits) s.dropped product small s.sum) i;
+      flags = (ap (λ flags. set flags 7 false) (flags_again p.flags s.factor s.carry false)
+          ∙ set-set (set p.flags 6 false) 7 s.carry false) i;
     })
 
-pub mul_is : (d x y : Span) (p : Processor) → Whole Always p → Factors d x y → run (nanos (Mul d x y) Always) p ≡ assigned (Mul d x y) p
+pub mul_is : (d x y : Span) (p : Processor) → Whole Always p → Factors d x y
+    → run (nanos (Mul d x y) Always) p ≡ assigned (Mul d x y) p
 mul_is d x y p h fields =
     let begin : Processor = run (number_bits Always d 0) p in
     let wide : length p.memory ≡ 4096 = h.memory in
@@ -315,9 +397,15 @@ mul_is d x y p h fields =
     let all : Sofar p d (worth p d x y d.len) (run (product d x y) begin) =
     rounds p d x y h.ready wide fields d.len 0 begin (omega arith) (begun p d x y h.ready) in
     let factor : value (reads p.memory x.at d.len) ≡ value_of p x =
-    ap (λ (n : ℕ). value (reads p.memory x.at n)) (sym fields.first_len) ∙ sym (read_value p x (let f : x.at + x.len ≤ 4096 = fields.first in omega (arith, wide, f))) in
+    ap (λ (n : ℕ). value (reads p.memory x.at n)) (sym fields.first_len)
+    ∙ sym (read_value p x (let f : x.at + x.len ≤ 4096 = fields.first in omega (arith, wide, f))) in
     let other : value (reads p.memory y.at d.len) ≡ value_of p y =
-    ap (λ (n : ℕ). value (reads p.memory y.at n)) (sym fields.second_len) ∙ sym (read_value p y (let f : y.at + y.len ≤ 4096 = fields.second in omega (arith, wide, f))) in
+    ap (λ (n : ℕ). value (reads p.memory y.at n)) (sym fields.second_len)
+    ∙ sym (read_value p y (let f : y.at + y.len ≤ 4096 = fields.second in omega (arith, wide, f))) in
     run-append (number_bits Always d 0) (product d x y ++ last) p ∙ run-append (product d x y) last begin
     ∙ ended p (run (product d x y) begin) d (worth p d x y d.len) fields.whole wide h.ready all
-    ∙ (λ i. record { memory = with_field p.memory d.at d.len (factor i * other i % 2 ^ d.len); flags = set (set p.flags 6 false) 7 false })
+    ∙ (λ i. record {
+      memory = with_field p.memory d.at d.len (factor i * other i % 2 ^ d.len);
+      flags =
+          set (set p.flags 6 false) 7 false;
+    })

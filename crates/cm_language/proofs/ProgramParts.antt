@@ -3,7 +3,8 @@ use Rattle.std.proofs.Common.{◌<◌, List, [], ◌∷◌, ◌++◌, sym, subst
 use Rattle.cm_bits.specs.Span.{IsField}
 use Rattle.cm_model.specs.declared.act.Act.{Act}
 use Rattle.cm_language.specs.declared.macros.Macro.{Macro}
-use Rattle.cm_language.specs.declared.macros.Macro.TheVariants.{Add, Sub, Less, Equal, Move, Select, Const, Shift, Mul, Set, Clear}
+use Rattle.cm_language.specs.declared.macros.Macro.TheVariants.{Add, Sub, Less, Equal, Move, Select, Const, Shift, Mul}
+use Rattle.cm_language.specs.declared.macros.Macro.TheVariants.{Set, Clear}
 use Rattle.cm_language.specs.declared.macros.Context.{Context}
 use Rattle.cm_language.specs.declared.macros.Context.TheVariants.{Always, On, Off}
 use Rattle.cm_language.specs.Names.{NamedField}

@@ -1,10 +1,12 @@
 -- The words of a listing's line are read from it, and its lines from the text.
-use Rattle.std.proofs.Common.{◌≡◌, ℕ, suc, ◌+◌, ◌<◌, Bool, true, false, not, cond, List, [], ◌∷◌, ◌++◌, length, take, refl, sym, ap, ◌∙◌, arith, append_assoc}
+use Rattle.std.proofs.Common.{◌≡◌, ℕ, suc, ◌+◌, ◌<◌, Bool, true, false, not, cond, List, [], ◌∷◌, ◌++◌, length, take}
+use Rattle.std.proofs.Common.{refl, sym, ap, ◌∙◌, arith, append_assoc}
 use Rattle.std.specs.List.{All, before_first, filter, position_or_len, slice_split}
 use Rattle.std.proofs.lemmas.Bool.Decides.{nat_tests}
 use Rattle.std.proofs.lemmas.List.Elements.{All-nil, All-cons, All-head, All-tail, All-append}
 use Rattle.std.proofs.lemmas.List.Splits.{slice_split_none, slice_split_at, length-slice_split}
-use Rattle.cm_bits.specs.Text.{has_bytes, is_blank, is_comment_start, is_line_end, lines_of, words_in, words_of, without_empty_last}
+use Rattle.cm_bits.specs.Text.{has_bytes, is_blank, is_comment_start, is_line_end, lines_of, words_in, words_of}
+use Rattle.cm_bits.specs.Text.{without_empty_last}
 use Rattle.cm_bits.proofs.TextLemmas.{without_empty_last-cons}
 use Rattle.cm_language.specs.Listing.{spaced}
 use Rattle.cm_language.proofs.Numerals.{IsPlain, ArePlain, IsWord}

@@ -1,5 +1,6 @@
 -- Numbers by their bits: what runs of truth tables add up to.
-use Rattle.std.proofs.Common.{◌≡◌, ℕ, suc, ◌+◌, ◌*◌, ◌%◌, ◌^◌, ◌<◌, ◌&&◌, Bool, true, false, not, eqb, ltb, leb, List, [], ◌∷◌, ◌++◌, length, map, refl, sym, ap, ◌∙◌, arith, pow-suc}
+use Rattle.std.proofs.Common.{◌≡◌, ℕ, suc, ◌+◌, ◌*◌, ◌%◌, ◌^◌, ◌<◌, ◌&&◌, Bool, true, false, not, eqb, ltb, leb, List}
+use Rattle.std.proofs.Common.{[], ◌∷◌, ◌++◌, length, map, refl, sym, ap, ◌∙◌, arith, pow-suc}
 use Rattle.std.proofs.Math.Nat.{mul_comm, mul_assoc, add_comm, mul-one, mul-zero}
 use Rattle.std.proofs.lemmas.Nat.{mod-mul-add}
 use Rattle.std.proofs.lemmas.Bool.Decides.{nat_tests}
@@ -19,7 +20,8 @@ carried tf z [] ys = z
 carried tf z (x ∷ xs) [] = z
 carried tf z (x ∷ xs) (y ∷ ys) = carried tf (entry tf x y z) xs ys
 
-pub length-outs : (tm tf : ℕ) (z : Bool) (xs ys : List Bool) → length xs ≡ length ys → length (outs tm tf z xs ys) ≡ length xs
+pub length-outs : (tm tf : ℕ) (z : Bool) (xs ys : List Bool) → length xs ≡ length ys
+    → length (outs tm tf z xs ys) ≡ length xs
 length-outs tm tf z [] ys h = refl
 length-outs tm tf z (x ∷ xs) [] h = absurd (omega (arith, h))
 length-outs tm tf z (x ∷ xs) (y ∷ ys) h = ap suc (length-outs tm tf (entry tf x y z) xs ys (omega (arith, h)))
@@ -44,7 +46,8 @@ pub sum-outs : (tm tf : ℕ) (g : Bool → Bool → ℕ) → Adds tm tf g → (z
 sum-outs tm tf g adds z [] ys h = omega arith
 sum-outs tm tf g adds z (x ∷ xs) [] h = absurd (omega (arith, h))
 sum-outs tm tf g adds z (x ∷ xs) (y ∷ ys) h =
-    let rest : value (outs tm tf (entry tf x y z) xs ys) + 2 ^ length xs * bit_number (carried tf (entry tf x y z) xs ys) ≡ total g xs ys + bit_number (entry tf x y z) =
+    let rest : value (outs tm tf (entry tf x y z) xs ys)
+    + 2 ^ length xs * bit_number (carried tf (entry tf x y z) xs ys) ≡ total g xs ys + bit_number (entry tf x y z) =
     sum-outs tm tf g adds (entry tf x y z) xs ys (omega (arith, h)) in
     omega (arith, rest, adds x y z, twice_power (length xs) (bit_number (carried tf (entry tf x y z) xs ys)))
 
@@ -67,7 +70,8 @@ value-not (false ∷ bs) = omega (arith, value-not bs, pow-suc 2 (length bs))
 
 -- the number below a power and the multiple of it
 pub low_part : (n v c s : ℕ) → v < n → v + n * c ≡ s → v ≡ s % n
-low_part n v c s h e = sym (ap (λ (k : ℕ). k % n) (sym e ∙ add_comm v (n * c)) ∙ ap (λ (k : ℕ). (k + v) % n) (mul_comm n c) ∙ mod-mul-add c n v h)
+low_part n v c s h e = sym (ap (λ (k : ℕ). k % n) (sym e ∙ add_comm v (n * c))
+    ∙ ap (λ (k : ℕ). (k + v) % n) (mul_comm n c) ∙ mod-mul-add c n v h)
 
 pub high_part : (n v s : ℕ) (c : Bool) → v < n → v + n * bit_number c ≡ s → c ≡ leb n s
 high_part n v s true h e = grind (arith, nat_tests, e, mul-one n)
@@ -87,7 +91,8 @@ total-both (x ∷ xs) (y ∷ ys) h = omega (arith, total-both xs ys (omega (arit
 abbrev pub first_but_second : Bool → Bool → ℕ
 first_but_second x y = bit_number x + bit_number (not y)
 
-pub total-first_but_second : (xs ys : List Bool) → length xs ≡ length ys → total first_but_second xs ys ≡ value xs + value (map not ys)
+pub total-first_but_second : (xs ys : List Bool) → length xs ≡ length ys
+    → total first_but_second xs ys ≡ value xs + value (map not ys)
 total-first_but_second [] [] h = refl
 total-first_but_second [] (y ∷ ys) h = absurd (omega (arith, h))
 total-first_but_second (x ∷ xs) [] h = absurd (omega (arith, h))
@@ -135,7 +140,8 @@ adds_twice false false false = refl
 -- ---- comparisons
 
 -- a borrow, and the difference's bit beside it
-borrows : (x y z : Bool) → bit_number (entry 0x96 x y z) + bit_number y + bit_number z ≡ bit_number x + 2 * bit_number (entry 0x8e x y z)
+borrows : (x y z : Bool)
+    → bit_number (entry 0x96 x y z) + bit_number y + bit_number z ≡ bit_number x + 2 * bit_number (entry 0x8e x y z)
 borrows true true true = refl
 borrows true true false = refl
 borrows true false true = refl
@@ -146,12 +152,14 @@ borrows false false true = refl
 borrows false false false = refl
 
 sum-borrows : (z : Bool) (xs ys : List Bool) → length xs ≡ length ys
-    → value (outs 0x96 0x8e z xs ys) + value ys + bit_number z ≡ value xs + 2 ^ length xs * bit_number (carried 0x8e z xs ys)
+    → value (outs 0x96 0x8e z xs ys) + value ys + bit_number z
+    ≡ value xs + 2 ^ length xs * bit_number (carried 0x8e z xs ys)
 sum-borrows z [] [] h = omega arith
 sum-borrows z [] (y ∷ ys) h = absurd (omega (arith, h))
 sum-borrows z (x ∷ xs) [] h = absurd (omega (arith, h))
 sum-borrows z (x ∷ xs) (y ∷ ys) h =
-    let rest : value (outs 0x96 0x8e (entry 0x8e x y z) xs ys) + value ys + bit_number (entry 0x8e x y z) ≡ value xs + 2 ^ length xs * bit_number (carried 0x8e (entry 0x8e x y z) xs ys) =
+    let rest : value (outs 0x96 0x8e (entry 0x8e x y z) xs ys) + value ys + bit_number (entry 0x8e x y z)
+    ≡ value xs + 2 ^ length xs * bit_number (carried 0x8e (entry 0x8e x y z) xs ys) =
     sum-borrows (entry 0x8e x y z) xs ys (omega (arith, h)) in
     omega (arith, rest, borrows x y z, twice_power (length xs) (bit_number (carried 0x8e (entry 0x8e x y z) xs ys)))
 
@@ -163,9 +171,11 @@ pub carried-less : (xs ys : List Bool) → length xs ≡ length ys → carried 0
 carried-less xs ys h =
     let small : value (outs 0x96 0x8e false xs ys) < 2 ^ length xs =
     (let e : length (outs 0x96 0x8e false xs ys) ≡ length xs = length-outs 0x96 0x8e false xs ys h in
-    let b : value (outs 0x96 0x8e false xs ys) < 2 ^ length (outs 0x96 0x8e false xs ys) = value_below (outs 0x96 0x8e false xs ys) in
+    let b : value (outs 0x96 0x8e false xs ys) < 2 ^ length (outs 0x96 0x8e false xs ys) =
+    value_below (outs 0x96 0x8e false xs ys) in
     rw e at b) in
-    less_part (2 ^ length xs) (value (outs 0x96 0x8e false xs ys)) (value xs) (value ys) (carried 0x8e false xs ys) small (sum-borrows false xs ys h)
+    less_part (2 ^ length xs) (value (outs 0x96 0x8e false xs ys)) (value xs) (value ys) (carried 0x8e false xs ys)
+    small (sum-borrows false xs ys h)
 
 eqb-bits : (x y : Bool) (m n : ℕ) → eqb (bit_number x + 2 * m) (bit_number y + 2 * n) ≡ (beq x y && eqb m n)
 eqb-bits true true m n = grind (arith, nat_tests)
@@ -183,7 +193,8 @@ equal_step false true false r = refl
 equal_step false false true r = refl
 equal_step false false false r = refl
 
-carried-equal : (z : Bool) (xs ys : List Bool) → length xs ≡ length ys → carried 0x82 z xs ys ≡ (z && eqb (value xs) (value ys))
+carried-equal : (z : Bool) (xs ys : List Bool) → length xs ≡ length ys
+    → carried 0x82 z xs ys ≡ (z && eqb (value xs) (value ys))
 carried-equal true [] [] h = refl
 carried-equal false [] [] h = refl
 carried-equal z [] (y ∷ ys) h = absurd (omega (arith, h))
@@ -192,7 +203,8 @@ carried-equal z (x ∷ xs) (y ∷ ys) h =
     carried-equal (entry 0x82 x y z) xs ys (omega (arith, h)) ∙ equal_step x y z (eqb (value xs) (value ys))
     ∙ ap (λ (r : Bool). z && r) (sym (eqb-bits x y (value xs) (value ys)))
 
-pub carried-equal_all : (xs ys : List Bool) → length xs ≡ length ys → carried 0x82 true xs ys ≡ eqb (value xs) (value ys)
+pub carried-equal_all : (xs ys : List Bool) → length xs ≡ length ys
+    → carried 0x82 true xs ys ≡ eqb (value xs) (value ys)
 carried-equal_all xs ys h = carried-equal true xs ys h
 
 -- ---- tables of one bit

@@ -1,5 +1,6 @@
 -- What a text has said, line by line, is a program.
-use Rattle.std.proofs.Common.{◌≡◌, ℕ, ◌+◌, ◌≤◌, Bool, true, false, Option, None, Some, Result, Ok, Err, List, [], ◌∷◌, ◌++◌, length, refl, arith}
+use Rattle.std.proofs.Common.{◌≡◌, ℕ, ◌+◌, ◌≤◌, Bool, true, false, Option, None, Some, Result, Ok, Err, List, [], ◌∷◌}
+use Rattle.std.proofs.Common.{◌++◌, length, refl, arith}
 use Rattle.std.specs.Prelude.{if◌then◌else◌, codes, bytes_eq, nat_lt}
 use Rattle.std.specs.Option.{ok_or}
 use Rattle.std.specs.Result.{IfOk}
@@ -17,7 +18,8 @@ use Rattle.cm_language.specs.Acts.{acts_of}
 use Rattle.cm_language.specs.Faults.{first_fault}
 use Rattle.cm_language.specs.Laws.{HasFields}
 use Rattle.cm_language.specs.Lines.{◌>>=◌, verb_of, statement_of, definition_of}
-use Rattle.cm_language.specs.Program.{MOST_ACTS, Reading, within_length, with_acts, with_macro, after_statement, after_definition, after_words, unless_faulty, after_lines}
+use Rattle.cm_language.specs.Program.{MOST_ACTS, Reading, within_length, with_acts, with_macro, after_statement}
+use Rattle.cm_language.specs.Program.{after_definition, after_words, unless_faulty, after_lines}
 use Rattle.cm_language.specs.Whole.{AreProgramActs, IsNext, AreNext}
 use Rattle.cm_language.proofs.ProgramParts.{HasFlag, NamesFlags, are_fields, next-append, acts-append}
 use Rattle.cm_language.proofs.MacroActs.{acts_of-program}

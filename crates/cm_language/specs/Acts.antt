@@ -10,7 +10,8 @@ use Rattle.cm_model.specs.declared.act.Act.TheVariants as act
 use Rattle.cm_model.specs.Processor.{ZERO}
 use Rattle.cm_model.specs.Each.{each_from}
 use Rattle.cm_language.specs.declared.macros.Macro.{Macro}
-use Rattle.cm_language.specs.declared.macros.Macro.TheVariants.{Add, Sub, Less, Equal, Move, Select, Const, Shift, Mul, Set, Clear}
+use Rattle.cm_language.specs.declared.macros.Macro.TheVariants.{Add, Sub, Less, Equal, Move, Select, Const, Shift, Mul}
+use Rattle.cm_language.specs.declared.macros.Macro.TheVariants.{Set, Clear}
 use Rattle.cm_language.specs.declared.macros.Context.{Context}
 use Rattle.cm_language.specs.declared.macros.Context.TheVariants.{Always, On, Off}
 use Rattle.cm_language.specs.Effect.{CARRY, FACTOR}
@@ -101,7 +102,9 @@ each_bit context x y read write mem_table flag_table =
 
 -- the bits of a number into a field
 abbrev pub number_bits : Context → Span → ℕ → List Nano
-number_bits context d v = each_from 0 d.len (λ i. nano context (d.at + i) (d.at + i) ZERO ZERO (if bit v i then ALWAYS_1 else ALWAYS_0) ALWAYS_0)
+number_bits context d v =
+    each_from 0 d.len
+    (λ i. nano context (d.at + i) (d.at + i) ZERO ZERO (if bit v i then ALWAYS_1 else ALWAYS_0) ALWAYS_0)
 
 -- the field without its lowest bits, so many
 abbrev pub above : Span → ℕ → Span

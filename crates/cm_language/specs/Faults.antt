@@ -1,12 +1,14 @@
 -- Why a macro is refused: ours.
-use Rattle.std.specs.Prelude.{◌≡◌, ℕ, ◌^◌, ◌==◌, ◌||◌, Bool, true, false, not, nat_le, Option, Some, None, if◌then◌else◌}
+use Rattle.std.specs.Prelude.{◌≡◌, ℕ, ◌^◌, ◌==◌, ◌||◌, Bool, true, false, not, nat_le, Option, Some, None}
+use Rattle.std.specs.Prelude.{if◌then◌else◌}
 use Rattle.cm_bits.specs.Span.{Span}
 use Rattle.cm_bits.specs.Field.{meeting}
 use Rattle.cm_bits.specs.declared.field.Meets.{Meets}
 use Rattle.cm_bits.specs.declared.field.Meets.TheVariants.{Same, Apart, Partly}
 use Rattle.cm_model.specs.Processor.{ZERO, NEWS, DAISY}
 use Rattle.cm_language.specs.declared.macros.Macro.{Macro}
-use Rattle.cm_language.specs.declared.macros.Macro.TheVariants.{Add, Sub, Less, Equal, Move, Select, Const, Shift, Mul, Set, Clear}
+use Rattle.cm_language.specs.declared.macros.Macro.TheVariants.{Add, Sub, Less, Equal, Move, Select, Const, Shift, Mul}
+use Rattle.cm_language.specs.declared.macros.Macro.TheVariants.{Set, Clear}
 use Rattle.cm_language.specs.declared.macros.Context as declared
 use Rattle.cm_language.specs.declared.macros.Context.TheVariants.{Always, On, Off}
 use Rattle.cm_language.specs.declared.fault.MacroFault.{MacroFault}

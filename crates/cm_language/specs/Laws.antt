@@ -9,7 +9,8 @@ use Rattle.cm_model.specs.Machine.{Machine, run_of}
 use Rattle.cm_model.specs.Keeping.{IsMachine}
 use Rattle.cm_model.specs.Whole.{IsProcessor}
 use Rattle.cm_language.specs.declared.macros.Macro.{Macro}
-use Rattle.cm_language.specs.declared.macros.Macro.TheVariants.{Add, Sub, Less, Equal, Move, Select, Const, Shift, Mul, Set, Clear}
+use Rattle.cm_language.specs.declared.macros.Macro.TheVariants.{Add, Sub, Less, Equal, Move, Select, Const, Shift, Mul}
+use Rattle.cm_language.specs.declared.macros.Macro.TheVariants.{Set, Clear}
 use Rattle.cm_language.specs.declared.macros.Context.{Context}
 use Rattle.cm_language.specs.Effect.{selected, value_of, size, with_value, effect}
 use Rattle.cm_language.specs.Acts.{acts_of}
@@ -40,8 +41,9 @@ machine_after_macro n m c machine = record machine {
 
 -- the acts of a macro that is not refused are its effect, on every machine
 abbrev pub MacrosAreRight : Type 0
-MacrosAreRight = (n cap : ℕ) (m : Macro) (c : Context) (machine : Machine) → IsMachine n cap machine → HasFields m → first_fault m c ≡ None →
-    run_of n cap machine (acts_of m c) ≡ machine_after_macro n m c machine
+MacrosAreRight =
+    (n cap : ℕ) (m : Macro) (c : Context) (machine : Machine) → IsMachine n cap machine → HasFields m
+    → first_fault m c ≡ None → run_of n cap machine (acts_of m c) ≡ machine_after_macro n m c machine
 
 -- a field reads the number that was put into it, cut to its bits
 abbrev pub NumbersReadBack : Type 0
@@ -70,8 +72,11 @@ pub record IsLeftAlone (m : Macro) (c : Context) (before after : Processor) : Ty
 
 -- the acts of a macro that is not refused leave all else alone, in each processor of every machine
 abbrev pub MacrosLeaveTheRest : Type 0
-MacrosLeaveTheRest = (n cap : ℕ) (m : Macro) (c : Context) (machine : Machine) (chip p : ℕ) → IsMachine n cap machine → HasFields m → first_fault m c ≡ None →
-    chip < 2 ^ n → p < 16 → IsLeftAlone m c (processor_at (chip_at machine.chips chip) p) (processor_at (chip_at (run_of n cap machine (acts_of m c)).chips chip) p)
+MacrosLeaveTheRest =
+    (n cap : ℕ) (m : Macro) (c : Context) (machine : Machine) (chip p : ℕ) → IsMachine n cap machine → HasFields m
+    → first_fault m c ≡ None → chip < 2 ^ n → p < 16
+    → IsLeftAlone m c (processor_at (chip_at machine.chips chip) p)
+    (processor_at (chip_at (run_of n cap machine (acts_of m c)).chips chip) p)
 
 -- the program of every text is made as `IsProgram` says
 abbrev pub ProgramsAreWhole : Type 0

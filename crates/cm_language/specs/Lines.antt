@@ -1,5 +1,6 @@
 -- A line of a program text, by its words: ours.
-use Rattle.std.specs.Prelude.{ℕ, ◌==◌, Bool, not, nat_lt, if◌then◌else◌, Option, Some, None, Result, Ok, Err, List, [], ◌∷◌, codes, bytes_eq}
+use Rattle.std.specs.Prelude.{ℕ, ◌==◌, Bool, not, nat_lt, if◌then◌else◌, Option, Some, None, Result, Ok, Err, List, []}
+use Rattle.std.specs.Prelude.{◌∷◌, codes, bytes_eq}
 use Rattle.std.specs.Option.{is_some, ok_or}
 use Rattle.cm_bits.specs.Span.{Span}
 use Rattle.cm_bits.specs.Field.{field_fault}
@@ -89,7 +90,8 @@ choice_of fields _ = Err Operands
 
 -- the operands of `const`
 abbrev pub constant_of : List NamedField → List (List ℕ) → Result Statement AsmKind
-constant_of fields (d ∷ v ∷ []) = field_operand fields d >>= λ d'. number_operand v >>= λ v'. Ok (statement.Macro (macro.Const d' v'))
+constant_of fields (d ∷ v ∷ []) =
+    field_operand fields d >>= λ d'. number_operand v >>= λ v'. Ok (statement.Macro (macro.Const d' v'))
 constant_of fields _ = Err Operands
 
 -- the operands of `mul`
@@ -100,16 +102,29 @@ product_of fields (d ∷ x ∷ y ∷ []) =
 product_of fields _ = Err Operands
 
 -- the instruction of nine operands: the first that is faulty, from left to right, names the fault
-abbrev pub nano_of_nine : List ℕ → List ℕ → List ℕ → List ℕ → List ℕ → List ℕ → List ℕ → List ℕ → List ℕ → Result Nano AsmKind
+abbrev pub nano_of_nine : List ℕ → List ℕ → List ℕ → List ℕ → List ℕ → List ℕ → List ℕ → List ℕ → List ℕ
+    → Result Nano AsmKind
 nano_of_nine a b read write cond sense mem_table flag_table dir =
     operand_of 4096 a >>= λ a'. operand_of 4096 b >>= λ b'.
-    operand_of 16 read >>= λ read'. operand_of 16 write >>= λ write'. operand_of 16 cond >>= λ cond'. sense_operand sense >>= λ sense'.
+    operand_of 16 read >>= λ read'. operand_of 16 write >>= λ write'. operand_of 16 cond >>= λ cond'.
+    sense_operand sense >>= λ sense'.
     operand_of 256 mem_table >>= λ mem'. operand_of 256 flag_table >>= λ flag'. direction_of dir >>= λ dir'.
-    Ok (record { a = a'; b = b'; read = read'; write = write'; cond = cond'; sense = sense'; mem_table = mem'; flag_table = flag'; dir = dir' })
+    Ok (record {
+      a = a';
+      b = b';
+      read = read';
+      write = write';
+      cond = cond';
+      sense = sense';
+      mem_table = mem';
+      flag_table = flag';
+      dir = dir';
+    })
 
 -- the instruction of the words after `nano`
 abbrev pub nano_of : List (List ℕ) → Result Nano AsmKind
-nano_of (a ∷ b ∷ read ∷ write ∷ cond ∷ sense ∷ mem_table ∷ flag_table ∷ dir ∷ []) = nano_of_nine a b read write cond sense mem_table flag_table dir
+nano_of (a ∷ b ∷ read ∷ write ∷ cond ∷ sense ∷ mem_table ∷ flag_table ∷ dir ∷ []) =
+    nano_of_nine a b read write cond sense mem_table flag_table dir
 nano_of _ = Err Operands
 
 -- ---- a line
@@ -141,9 +156,12 @@ abbrev pub statement_of : List NamedField → Verb → List (List ℕ) → Resul
 statement_of fields verb.Nano words = nano_of words >>= λ nano. Ok (statement.Act (act.Nano nano))
 statement_of fields verb.Add words = two_fields fields words >>= λ both. Ok (statement.Macro (macro.Add both.0 both.1))
 statement_of fields verb.Sub words = two_fields fields words >>= λ both. Ok (statement.Macro (macro.Sub both.0 both.1))
-statement_of fields verb.Less words = two_fields fields words >>= λ both. Ok (statement.Macro (macro.Less both.0 both.1))
-statement_of fields verb.Equal words = two_fields fields words >>= λ both. Ok (statement.Macro (macro.Equal both.0 both.1))
-statement_of fields verb.Move words = two_fields fields words >>= λ both. Ok (statement.Macro (macro.Move both.0 both.1))
+statement_of fields verb.Less words =
+    two_fields fields words >>= λ both. Ok (statement.Macro (macro.Less both.0 both.1))
+statement_of fields verb.Equal words =
+    two_fields fields words >>= λ both. Ok (statement.Macro (macro.Equal both.0 both.1))
+statement_of fields verb.Move words =
+    two_fields fields words >>= λ both. Ok (statement.Macro (macro.Move both.0 both.1))
 statement_of fields verb.Select words = choice_of fields words
 statement_of fields verb.Const words = constant_of fields words
 statement_of fields verb.Shift words = one_field fields words >>= λ d. Ok (statement.Macro (macro.Shift d))
@@ -160,7 +178,9 @@ statement_of fields verb.Sense words = no_operand words >>= λ nothing. Ok (stat
 
 -- a name that is not taken
 abbrev pub new_name : List NamedField → List ℕ → Result (List ℕ) AsmKind
-new_name fields word = if not (is_name word) then Err Name else (if is_some (field_named fields word) then Err Twice else Ok word)
+new_name fields word =
+    if not (is_name word) then Err Name
+    else (if is_some (field_named fields word) then Err Twice else Ok word)
 
 -- a field's fault as the kind of a faulty line
 abbrev pub kind_of_field : FieldFault → AsmKind

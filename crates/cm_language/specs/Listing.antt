@@ -1,5 +1,6 @@
 -- The listing of a program, which is itself a program text: ours.
-use Rattle.std.specs.Prelude.{ℕ, ◌+◌, ◌/◌, ◌%◌, nat_lt, if◌then◌else◌, Result, Ok, Err, List, [], ◌∷◌, ◌++◌, flat_map, codes, decimal}
+use Rattle.std.specs.Prelude.{ℕ, ◌+◌, ◌/◌, ◌%◌, nat_lt, if◌then◌else◌, Result, Ok, Err, List, [], ◌∷◌, ◌++◌, flat_map}
+use Rattle.std.specs.Prelude.{codes, decimal}
 use Rattle.cm_bits.specs.Bit.{bit_number}
 use Rattle.cm_bits.specs.declared.plane.Dir.{Dir}
 use Rattle.cm_bits.specs.declared.plane.Dir.TheVariants.{North, East, West, South}
@@ -28,8 +29,9 @@ direction_word South = codes "s"
 -- the words of an instruction
 abbrev pub nano_words : Nano → List (List ℕ)
 nano_words nano =
-    codes "nano" ∷ decimal nano.a ∷ decimal nano.b ∷ decimal nano.read ∷ decimal nano.write ∷ decimal nano.cond ∷ decimal (bit_number nano.sense)
-    ∷ table_word nano.mem_table ∷ table_word nano.flag_table ∷ direction_word nano.dir ∷ []
+    codes "nano" ∷ decimal nano.a ∷ decimal nano.b ∷ decimal nano.read ∷ decimal nano.write ∷ decimal nano.cond
+    ∷ decimal (bit_number nano.sense) ∷ table_word nano.mem_table ∷ table_word nano.flag_table
+    ∷ direction_word nano.dir ∷ []
 
 -- the words of an act
 abbrev pub act_words : Act → List (List ℕ)

@@ -1,5 +1,6 @@
 -- Names of fields, and the fields that a text has defined so far: ours.
-use Rattle.std.specs.Prelude.{ℕ, ◌&&◌, ◌||◌, ◌==◌, Bool, false, Option, Some, None, List, [], ◌∷◌, bytes_eq, if◌then◌else◌}
+use Rattle.std.specs.Prelude.{ℕ, ◌&&◌, ◌||◌, ◌==◌, Bool, false, Option, Some, None, List, [], ◌∷◌, bytes_eq}
+use Rattle.std.specs.Prelude.{if◌then◌else◌}
 use Rattle.std.specs.List.{list_all}
 use Rattle.std.specs.Char.{is_ascii_alphabetic, is_ascii_alphanumeric}
 use Rattle.cm_bits.specs.Span.{Span}

@@ -1,5 +1,6 @@
 -- A program text, line by line: ours.
-use Rattle.std.specs.Prelude.{◌≡◌, ℕ, ◌+◌, ◌-◌, ◌<◌, ◌≤◌, nat_lt, if◌then◌else◌, Option, Some, None, Result, Ok, Err, List, [], ◌∷◌, ◌++◌, length, take, get_or, codes, bytes_eq}
+use Rattle.std.specs.Prelude.{◌≡◌, ℕ, ◌+◌, ◌-◌, ◌<◌, ◌≤◌, nat_lt, if◌then◌else◌, Option, Some, None, Result, Ok, Err}
+use Rattle.std.specs.Prelude.{List, [], ◌∷◌, ◌++◌, length, take, get_or, codes, bytes_eq}
 use Rattle.std.specs.Option.{ok_or}
 use Rattle.cm_bits.specs.Text.{lines_of, words_of}
 use Rattle.cm_model.specs.declared.act.Act.{Act}
@@ -55,7 +56,8 @@ after_statement r (statement.Act a) = with_acts r (a ∷ [])
 -- a definition more, by the words after `field`
 abbrev pub after_definition : Reading → List (List ℕ) → Result Reading AsmKind
 after_definition r operands =
-    definition_of r.fields operands >>= λ defined. Ok (record { fields = r.fields ++ defined ∷ []; context = r.context; acts = r.acts })
+    definition_of r.fields operands
+    >>= λ defined. Ok (record { fields = r.fields ++ defined ∷ []; context = r.context; acts = r.acts })
 
 -- one line more, by its words
 abbrev pub after_words : Reading → List (List ℕ) → Result Reading AsmKind
@@ -73,7 +75,8 @@ unless_faulty number (Err kind) after = Err (record { line = number; kind = kind
 -- what is read when these lines, numbered from here on, were read too, or the first that is faulty
 abbrev pub after_lines : Reading → ℕ → List (List ℕ) → Result Reading AsmFault
 after_lines r number [] = Ok r
-after_lines r number (line ∷ lines) = unless_faulty number (after_words r (words_of line)) (λ r'. after_lines r' (number + 1) lines)
+after_lines r number (line ∷ lines) =
+    unless_faulty number (after_words r (words_of line)) (λ r'. after_lines r' (number + 1) lines)
 
 -- what a program is: its fields in order of definition, and its acts
 pub record ProgramText : Type 0 where

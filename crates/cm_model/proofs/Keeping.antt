@@ -17,7 +17,7 @@ use Rattle.cm_model.specs.Steps.{Step, Instruct, Look, Inject, Cross, Deliver, I
 use Rattle.cm_model.specs.Machine.{Machine, run_of}
 use Rattle.cm_model.specs.Buffers.{taken_in, sent_in, machine_after_injection, outgoing, buffer_after_dimension, machine_after_dimension, kept, delivered_in, machine_after_delivery, after_step, after_steps, after_act, after_acts}
 use Rattle.cm_model.specs.Account.{account, all_injected, HasLines}
-use Rattle.cm_model.specs.Keeping.{IsMessage, IsEventOf, HasRoom, HasMessages, HasEvents, BornBefore, HasTagsOnce, IsSound, IsMachine}
+use Rattle.cm_model.specs.Keeping.{IsMessage, IsEventOf, BornBefore, HasTagsOnce, IsSound, IsMachine}
 use Rattle.cm_model.proofs.Each.{length-each_from, get_or-each_below}
 use Rattle.cm_model.proofs.Flips.{across_below}
 use Rattle.cm_model.proofs.Injecting.{AllBelow-taken}

@@ -29,6 +29,10 @@ chip_at chips c = slice_index_or chips c []
 abbrev pub processor_of : Chips → Place → Processor
 processor_of chips place = processor_at (chip_at chips place.chip) place.proc
 
+-- the flag output at a place, where a function reads the chips by number
+abbrev pub output : Nano → (ℕ → List Processor) → Place → Bool
+output nano read place = flag_output nano (processor_at (read place.chip) place.proc)
+
 -- the flag output along a chip's chain: that of the predecessor, or 0 where there is none
 abbrev pub chain_output : Nano → List Processor → Option ℕ → Bool
 chain_output nano chip None = false
@@ -38,7 +42,7 @@ chain_output nano chip (Some p) = flag_output nano (processor_at chip p)
 unfoldable pub incoming : ℕ → Nano → Chips → ℕ → ℕ → Bool
 incoming n nano chips c p =
     if nano.write == NEWS
-    then flag_output nano (processor_of chips (source n nano.dir (record { chip = c; proc = p })))
+    then output nano (chip_at chips) (source n nano.dir (record { chip = c; proc = p }))
     else chain_output nano (chip_at chips c) (predecessor p)
 
 -- all chips after the instruction: every place at once, from the old state

@@ -11,6 +11,12 @@ use Rattle.cm_model.specs.Machine.{Machine}
 use Rattle.cm_model.specs.Account.{account, all_injected, HasLines}
 use Rattle.cm_model.specs.Found.{same_tag}
 
+-- a dimension of a cube, and how many messages a router has room for
+pub record AreSizes (n cap : ℕ) : Type 0 where
+  pub dimension : n ≤ 12
+  pub some_room : 1 ≤ cap
+  pub most_room : cap ≤ 15
+
 -- a message of a cube of n dimensions
 pub record IsMessage (n : ℕ) (m : Message) : Type 0 where
   pub rel : m.rel < 2 ^ n

@@ -1,10 +1,10 @@
 -- Rows that a loop makes anew, one element after another, each from the old row.
 use Rattle.std.proofs.Common.{◌≡◌, ◌≢◌, ℕ, ◌+◌, ◌<◌, ◌≤◌, List, length, map, set, get_or, refl, sym, ap, ◌∙◌, subst}
-use Rattle.std.proofs.Common.{arith, ⊎_elim, below_more, get_or-set_same, get_or-set_other}
+use Rattle.std.proofs.Common.{arith, ⊎_elim, below_more, get_or-set_same, get_or-set_other, ext_get_or}
 use Rattle.std.proofs.lemmas.Bool.{cases_lt}
 use Rattle.std.proofs.lemmas.List.{length-set, length-map, map-set, get_or-map, get_or_read}
 use Rattle.cm_model.specs.Each.{each_from}
-use Rattle.cm_model.proofs.Each.{is_each}
+use Rattle.cm_model.proofs.Each.{is_each, length-each_from, get_or-each_from}
 use Rattle.cm_petit.specs.Routers.{Log, free_places, free_at}
 
 -- so many elements are what the function gives for their number, and the others are as before
@@ -42,6 +42,15 @@ pub made_all : {X : Type 0} (d : X) (f : ℕ → X) (before now : List X) (count
     → count ≤ last → AreMade d f before now last → now ≡ each_from 0 count f
 made_all d f before now count last long all was =
     is_each d count f now (was.long ∙ long) (λ c h. was.done c (omega arith))
+
+-- where the function's numbers begin at another than 0
+pub made_all_from : {X : Type 0} (d : X) (f : ℕ → X) (before now : List X) (first count last : ℕ)
+    → length before ≡ count → count ≤ last → AreMade d (λ i. f (first + i)) before now last
+    → now ≡ each_from first count f
+made_all_from d f before now first count last long all was =
+    let as_long : length now ≡ count = was.long ∙ long in
+    ext_get_or d now (each_from first count f) (as_long ∙ sym (length-each_from first count f))
+    (λ i h. was.done i (omega arith) ∙ sym (get_or-each_from first count f i d (omega arith)))
 
 -- ---- the free places of logs
 

@@ -1,16 +1,16 @@
 -- A petit cycle of a router without messages.
-use Rattle.std.proofs.Common.{◌≡◌, ℕ, zero, suc, ◌+◌, ◌<◌, ◌≤◌, ◌^◌, ◌++◌, List, [], length, map, Option, Some, None}
+use Rattle.std.proofs.Common.{◌≡◌, ℕ, zero, suc, ◌+◌, ◌-◌, ◌<◌, ◌≤◌, ◌^◌, ◌++◌, List, [], length, map, Option, Some, None}
 use Rattle.std.proofs.Common.{refl, sym, ap, ◌∙◌, arith}
 use Rattle.std.specs.Prelude.{bit_xor}
 use Rattle.std.specs.Option.{option_map}
 use Rattle.std.proofs.lemmas.List.{append-nil}
 use Rattle.cm_model.specs.declared.message.Message.{Message}
-use Rattle.cm_model.specs.declared.message.Event.TheVariants.{Delivered}
+use Rattle.cm_model.specs.declared.message.Event.TheVariants.{Injected, Delivered}
 use Rattle.cm_model.specs.Processor.{Processor}
 use Rattle.cm_model.specs.Chip.{processor_at, no_processor}
-use Rattle.cm_model.specs.Array.{chip_at, list_at}
+use Rattle.cm_model.specs.Array.{Chips, chip_at, list_at}
 use Rattle.cm_model.specs.Router.{message_across}
-use Rattle.cm_model.specs.Letters.{can_receive, chip_after_delivery}
+use Rattle.cm_model.specs.Letters.{chip_after_injection, can_receive, chip_after_delivery}
 use Rattle.cm_model.specs.Machine.{Machine}
 use Rattle.cm_model.specs.Buffers.{leaving_place, element_at, without, outgoing, buffer_after_dimension}
 use Rattle.cm_model.specs.Buffers.{machine_after_dimension, delivered_in, kept, machine_after_delivery}
@@ -18,6 +18,14 @@ use Rattle.cm_model.proofs.Each.{is_each}
 use Rattle.cm_model.proofs.Flips.{across_below}
 use Rattle.cm_model.proofs.Leaving.{remove_past}
 use Rattle.cm_model.proofs.Cycles.{after_crossings, after_crossings-more}
+use Rattle.cm_router.specs.Idle.{IsIdle}
+use Rattle.cm_model.specs.Steps.{Inject}
+use Rattle.cm_blocks.specs.Parts.{Part, chip_in, buffer_in, log_in}
+use Rattle.cm_blocks.specs.Parcels.{Blank}
+use Rattle.cm_blocks.specs.Steps.{taken_of, sent_of, part_after}
+use Rattle.cm_petit.specs.Routers.{Log, events_of, part_of, AreRouters}
+use Rattle.cm_petit.proofs.Made.{made_all_from}
+use Rattle.std.proofs.lemmas.List.{length-map}
 
 -- a machine of a cube of n dimensions in which no message stands
 pub record IsQuiet (n : ℕ) (machine : Machine) : Type 0 where
@@ -85,3 +93,47 @@ pub rest_is_quiet : (n cap : ℕ) (machine : Machine) → IsQuiet n machine
     → machine_after_delivery n (after_crossings n cap machine n) ≡ record machine { clock = machine.clock + 1 }
 rest_is_quiet n cap machine h = ap (machine_after_delivery n) (crossings_of_nothing n cap n machine (omega arith) h)
     ∙ delivery_of_nothing n machine h
+
+-- ---- injection
+
+-- where each chip of a part is idle
+pub injection_of_nothing : (n cap first span clock : ℕ) (chips : Chips) (buffers : List (List Message)) (logs : List Log)
+    → AreRouters span cap chips buffers logs → ((c : ℕ) → c < 2 ^ span → IsIdle (chip_at chips c))
+    → part_of first (2 ^ span) chips buffers logs clock
+    ≡ part_after n cap Inject Blank (part_of first (2 ^ span) chips buffers logs clock)
+unfolding part_after
+injection_of_nothing n cap first span clock chips buffers logs are idle =
+    let s : Part = part_of first (2 ^ span) chips buffers logs clock in
+    let place : (i : ℕ) → first + i - first ≡ i = λ i. omega arith in
+    let nobody : (i : ℕ) → i < 2 ^ span → taken_of cap s (first + i) ≡ [] =
+    λ i l. rw (place i) ((idle i l).nobody cap (length (list_at buffers i))) in
+    let chips_are = made_all_from []
+    (λ c. chip_after_injection (taken_of cap s c) (chip_in s c)) chips chips first (2 ^ span) (2 ^ span) are.chip_count
+    (omega arith) (record {
+      long = refl;
+      done = λ i l. rw (nobody i l, place i) (idle i l).same;
+      rest = λ i l. refl;
+    }) in
+    let buffers_are = made_all_from []
+    (λ c. buffer_in s c ++ sent_of n cap s c) buffers buffers first (2 ^ span) (2 ^ span) are.buffer_count
+    (omega arith) (record {
+      long = refl;
+      done = λ i l. rw (nobody i l, place i) (sym (append-nil (list_at buffers i)));
+      rest = λ i l. refl;
+    }) in
+    let logs_are = made_all_from []
+    (λ c. log_in s c ++ map Injected (sent_of n cap s c)) (events_of logs) (events_of logs) first (2 ^ span) (2 ^ span)
+    (length-map logs (λ (log : Log). log.items) ∙ are.log_count)
+    (omega arith) (record {
+      long = refl;
+      done = λ i l. rw (nobody i l, place i) (sym (append-nil (list_at (events_of logs) i)));
+      rest = λ i l. refl;
+    }) in
+    λ k. record {
+      first = first;
+      count = 2 ^ span;
+      chips = chips_are k;
+      buffers = buffers_are k;
+      logs = logs_are k;
+      clock = clock;
+    }

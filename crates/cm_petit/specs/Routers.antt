@@ -7,6 +7,7 @@ use Rattle.cm_model.specs.declared.message.Message.{Message}
 use Rattle.cm_model.specs.declared.message.Event.{Event}
 use Rattle.cm_model.specs.Array.{Chips}
 use Rattle.cm_model.specs.Machine.{Machine}
+use Rattle.cm_blocks.specs.Parts.{Part}
 
 -- the log of one chip
 abbrev pub Log : Type 0
@@ -19,6 +20,17 @@ events_of logs = map (λ log. log.items) logs
 -- the machine that these are at a count of petit cycles
 abbrev pub machine_of : Chips → List (List Message) → List Log → ℕ → Machine
 machine_of chips buffers logs clock = record { chips = chips; buffers = buffers; logs = events_of logs; clock = clock }
+
+-- the part of a machine that these are: so many chips, of which the first has this number
+abbrev pub part_of : ℕ → ℕ → Chips → List (List Message) → List Log → ℕ → Part
+part_of first count chips buffers logs clock = record {
+  first = first;
+  count = count;
+  chips = chips;
+  buffers = buffers;
+  logs = events_of logs;
+  clock = clock;
+}
 
 -- one chip, at most cap messages and one log for each number of a cube of n dimensions
 pub record AreRouters (n cap : ℕ) (chips : Chips) (buffers : List (List Message)) (logs : List Log) : Type 0 where

@@ -3,4 +3,4 @@
 
 mod phases;
 
-pub use phases::cycle;
+pub use phases::{cycle, deliver, inject};

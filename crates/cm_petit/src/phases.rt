@@ -2,84 +2,100 @@
 
 ghost use Rattle.std.specs.Prelude.{◌≡◌, ℕ, ◌+◌, ◌^◌, ◌<◌, ◌≤◌};
 ghost use Rattle.cm_model.specs.declared.act.Act.TheVariants as act;
-ghost use Rattle.cm_model.specs.Buffers.{machine_after_injection, machine_after_delivery, after_act};
-ghost use Rattle.cm_petit.specs.Routers.{machine_of, AreRouters, HasLogRoom, LosesAtMost};
+ghost use Rattle.cm_model.specs.Steps.{Inject, Deliver};
+ghost use Rattle.cm_model.specs.Buffers.{after_act};
+ghost use Rattle.cm_model.specs.Keeping.{AreSizes};
+ghost use Rattle.cm_blocks.specs.Parcels.{Blank};
+ghost use Rattle.cm_blocks.specs.Steps.{part_after};
+ghost use Rattle.cm_petit.specs.Routers.{machine_of, part_of, AreRouters, HasLogRoom, LosesAtMost};
 
-use cm_crossing::Crossing;
-use cm_element::Chip;
+use cm_crossing::{Crossing, Sizes};
+use cm_element::Run;
 use cm_message::Event;
+use cm_router::is_idle;
 
 /// One petit cycle: every router takes messages in, they cross each dimension, from the lowest on,
 /// and those that have arrived go to their processors (a dimension at a time: Hillis 1985; the order:
 /// ours). The counter is one more then.
-pub fn cycle<const N: usize, const CAP: usize>(
-    chips: &mut [Chip],
+pub fn cycle(
+    sizes: Sizes,
+    run: &mut Run,
     crossing: &mut Crossing,
     logs: &mut [Vec<Event>],
     clock: &mut u64,
 )
-    requires dimension { N ≤ 12 }
-    requires some { 0 < CAP }
-    requires most { CAP ≤ 15 }
-    requires routers { AreRouters N CAP chips.old crossing.old.buffers logs.old }
-    requires log_room { HasLogRoom (4 + CAP) logs.old }
+    requires sizes { AreSizes sizes.dims sizes.room }
+    requires all { sizes.span ≡ sizes.dims }
+    requires routers { AreRouters sizes.dims sizes.room run.old crossing.old.buffers logs.old }
+    requires log_room { HasLogRoom (4 + sizes.room) logs.old }
     requires counter { clock.old < 2 ^ 63 }
-    ensures value { machine_of chips.new crossing.new.buffers logs.new clock.new
-        ≡ after_act N CAP (machine_of chips.old crossing.old.buffers logs.old clock.old) act.Cycle }
+    ensures value { machine_of run.new crossing.new.buffers logs.new clock.new
+        ≡ after_act sizes.dims sizes.room (machine_of run.old crossing.old.buffers logs.old clock.old) act.Cycle }
     ensures counter { clock.new ≡ clock.old + 1 }
-    ensures routers { AreRouters N CAP chips.new crossing.new.buffers logs.new }
-    ensures log_room { LosesAtMost (4 + CAP) logs.old logs.new }
+    ensures routers { AreRouters sizes.dims sizes.room run.new crossing.new.buffers logs.new }
+    ensures log_room { LosesAtMost (4 + sizes.room) logs.old logs.new }
 {
-    inject::<N, CAP>(chips, crossing, logs, *clock);
+    inject(sizes, 0, run, crossing, logs, *clock);
     *clock += 1;
     if crossing.is_empty() {
         return;
     }
-    for dim in 0..N {
-        crossing.cross::<N, CAP>(dim as u8);
+    for dim in 0..sizes.span {
+        crossing.cross(sizes, dim);
     }
-    deliver::<N, CAP>(chips, crossing, logs);
-    crossing.watch();
+    deliver(sizes, 0, run, crossing, logs);
 }
 
-/// Every router takes in messages of its chip's processors.
-fn inject<const N: usize, const CAP: usize>(
-    chips: &mut [Chip],
+/// Every router of a run of chips takes in messages of its chip's processors. The run begins at chip `first` of
+/// the machine.
+pub fn inject(
+    sizes: Sizes,
+    first: u16,
+    run: &mut Run,
     crossing: &mut Crossing,
     logs: &mut [Vec<Event>],
     clock: u64,
 )
-    requires dimension { N ≤ 12 }
-    requires some { 0 < CAP }
-    requires most { CAP ≤ 15 }
-    requires routers { AreRouters N CAP chips.old crossing.old.buffers logs.old }
+    requires sizes { AreSizes sizes.dims sizes.room }
+    requires band { first + 2 ^ sizes.span ≤ 2 ^ sizes.dims }
+    requires routers { AreRouters sizes.span sizes.room run.old crossing.old.buffers logs.old }
     requires log_room { HasLogRoom 4 logs.old }
-    ensures value { machine_of chips.new crossing.new.buffers logs.new clock
-        ≡ machine_after_injection N CAP (machine_of chips.old crossing.old.buffers logs.old clock) }
-    ensures routers { AreRouters N CAP chips.new crossing.new.buffers logs.new }
+    ensures value { part_of first (2 ^ sizes.span) run.new crossing.new.buffers logs.new clock
+        ≡ part_after sizes.dims sizes.room Inject Blank
+        (part_of first (2 ^ sizes.span) run.old crossing.old.buffers logs.old clock) }
+    ensures routers { AreRouters sizes.span sizes.room run.new crossing.new.buffers logs.new }
     ensures log_room { LosesAtMost 4 logs.old logs.new }
 {
-    for c in 0..chips.len() {
-        crossing.inject::<N, CAP>(c, &mut chips[c], clock, &mut logs[c]);
+    if is_idle(run) {
+        return;
+    }
+    for c in 0..logs.len() {
+        let chip = c as u16;
+        crossing.inject(sizes, run, chip, first + chip, clock, &mut logs[c]);
     }
 }
 
-/// Messages that have arrived go to their processors.
-fn deliver<const N: usize, const CAP: usize>(
-    chips: &mut [Chip],
+/// Messages of a run of chips that have arrived go to their processors. The run begins at chip `first` of the
+/// machine.
+pub fn deliver(
+    sizes: Sizes,
+    first: u16,
+    run: &mut Run,
     crossing: &mut Crossing,
     logs: &mut [Vec<Event>],
 )
-    requires dimension { N ≤ 12 }
-    requires most { CAP ≤ 15 }
-    requires routers { AreRouters N CAP chips.old crossing.old.buffers logs.old }
-    requires log_room { HasLogRoom CAP logs.old }
-    ensures value { (clock : ℕ) → machine_of chips.new crossing.new.buffers logs.new (clock + 1)
-        ≡ machine_after_delivery N (machine_of chips.old crossing.old.buffers logs.old clock) }
-    ensures routers { AreRouters N CAP chips.new crossing.new.buffers logs.new }
-    ensures log_room { LosesAtMost CAP logs.old logs.new }
+    requires sizes { AreSizes sizes.dims sizes.room }
+    requires band { first + 2 ^ sizes.span ≤ 2 ^ sizes.dims }
+    requires routers { AreRouters sizes.span sizes.room run.old crossing.old.buffers logs.old }
+    requires log_room { HasLogRoom sizes.room logs.old }
+    ensures value { (clock : ℕ) → part_of first (2 ^ sizes.span) run.new crossing.new.buffers logs.new (clock + 1)
+        ≡ part_after sizes.dims sizes.room Deliver Blank
+        (part_of first (2 ^ sizes.span) run.old crossing.old.buffers logs.old clock) }
+    ensures routers { AreRouters sizes.span sizes.room run.new crossing.new.buffers logs.new }
+    ensures log_room { LosesAtMost sizes.room logs.old logs.new }
 {
-    for c in 0..chips.len() {
-        crossing.deliver::<CAP>(c, &mut chips[c], &mut logs[c]);
+    for c in 0..logs.len() {
+        let chip = c as u16;
+        crossing.deliver(sizes, run, chip, first + chip, &mut logs[c]);
     }
 }

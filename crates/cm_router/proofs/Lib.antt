@@ -2,3 +2,4 @@ pub mod Scanning
 pub mod Delivering
 pub mod Taking
 mod Replaced
+mod Idling

@@ -19,3 +19,14 @@ changed_again run now c chip f here is =
 -- one message delivered
 pub one_delivered : (m : Message) (chip : List Processor) → IsChip chip → m.proc < 16 → after_one m chip ≡ chip_after_delivery (m ∷ []) chip
 one_delivered m chip whole below = ap (after_one m) (nobody_yet chip whole) ∙ delivered_one_more [] m chip below refl
+
+-- the chip that was put there
+pub read_again : (run now : List (List Processor)) (c : ℕ) (chip : List Processor) → c < length run → now ≡ set run c chip
+    → get_or now c [] ≡ chip
+read_again run now c chip here is = ap (λ v. get_or v c []) is ∙ get_or-set_same run c chip [] here
+
+-- only it was changed, once more
+pub others_still : (run now next : List (List Processor)) (c : ℕ) → now ≡ set run c (get_or now c [])
+    → next ≡ set now c (get_or next c []) → next ≡ set run c (get_or next c [])
+others_still run now next c was is =
+    is ∙ ap (λ v. set v c (get_or next c [])) was ∙ set-set run c (get_or now c []) (get_or next c [])

@@ -6,12 +6,12 @@ use Rattle.std.proofs.lemmas.Bool.{cases_Bool, eqb-true, eqb-false}
 use Rattle.std.proofs.lemmas.List.{append-nil, map-append, take-append-le, take_all, length-append, length-take}
 use Rattle.std.proofs.lemmas.List.{set-get_or}
 use Rattle.std.proofs.lemmas.List.Elements.{filter-append}
-use Rattle.std.proofs.lemmas.List.Folds.{list_any-append}
+use Rattle.std.proofs.lemmas.List.Folds.{list_any-append, list_any_at}
 use Rattle.std.proofs.lemmas.Nat.{one_shl}
 use Rattle.std.proofs.lemmas.Nat.Bits.{bit_at-pow_same, bit_at-pow_other}
 use Rattle.std.proofs.lemmas.Grind.{common_steps}
 use Rattle.std.specs.Ordering.{ord_min}
-use Rattle.std.specs.List.{filter, range_with_len}
+use Rattle.std.specs.List.{filter, list_any, range_with_len}
 use Rattle.cm_bits.specs.Bit.{bit}
 use Rattle.cm_model.specs.declared.message.Message.{Message}
 use Rattle.cm_model.specs.declared.message.Event.{Event}
@@ -132,6 +132,22 @@ nobody_below most chip quiet (suc i) h =
     ap (taken_below most chip) (sym (add-one i))
     ∙ taken_none_more most chip i (sym (quiet i (omega arith)) ∙ bit-zero i)
     ∙ nobody_below most chip quiet i (omega arith)
+
+-- of a chip of which no processor has a flag, none has it
+pub no_flag : (number : ℕ) (chip : List Processor) → length chip ≡ 16
+    → list_any (λ processor. flag processor number) chip ≡ false
+    → (p : ℕ) → p < 16 → flag (processor_at chip p) number ≡ false
+no_flag number chip long none p below =
+    ⊎_elim (λ (e : flag (processor_at chip p) number ≡ true).
+    let some : true ≡ false =
+    sym (list_any_at (λ processor. flag processor number) chip p no_processor (omega arith) e) ∙ none in absurd cc)
+    (λ (e : flag (processor_at chip p) number ≡ false). e)
+    (cases_Bool (flag (processor_at chip p) number))
+
+-- of one of which no processor has SEND, the plane of who asks is 0
+pub nobody_has : (chip : List Processor) → length chip ≡ 16 → list_any (λ processor. flag processor SEND) chip ≡ false
+    → IsPlane 0 (asks chip)
+nobody_has chip long none p below = bit-zero p ∙ sym (no_flag SEND chip long none p below)
 
 -- where nobody asks nobody is taken
 pub nobody_taken : (buffer : Buffer) (chip : List Processor) → IsPlane 0 (asks chip) → taken_by buffer chip ≡ []

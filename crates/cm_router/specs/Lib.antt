@@ -1,2 +1,3 @@
 pub mod Buffer
 pub mod Delivery
+pub mod Idle

@@ -1,28 +1,56 @@
-//! What the router takes from a chip's processors, and what it leaves there.
+//! What the router takes from the processors of a chip, and what it leaves there.
 
-ghost use Rattle.std.specs.Prelude.{◌≡◌, ℕ, ◌+◌, ◌^◌, ◌<◌, ◌≤◌, Some, List, [], ◌∷◌, ◌++◌, length, not, IsFalse};
-ghost use Rattle.std.specs.Prelude.{slice_set, vec_len, vec_capacity};
+ghost use Rattle.std.specs.Prelude.{◌≡◌, ℕ, ◌+◌, ◌^◌, ◌<◌, ◌≤◌, ◌&&◌, not, IsFalse, IsTrue, List, [], ◌∷◌, ◌++◌, length, slice_set, vec_len, vec_capacity};
 ghost use Rattle.cm_bits.specs.Bit.{bit};
-ghost use Rattle.cm_model.specs.Processor.{SEND, RECV, flag, field_value};
+ghost use Rattle.std.specs.List.{list_any};
+ghost use Rattle.cm_element.specs.Flags.{has_flag};
+ghost use Rattle.cm_model.specs.Processor.{SEND, ACK, RECV, flag, field_value};
 ghost use Rattle.cm_model.specs.Chip.{IsPlane, processor_at};
+ghost use Rattle.cm_model.specs.Array.{chip_at};
 ghost use Rattle.cm_model.specs.Whole.{IsChip};
-ghost use Rattle.cm_model.specs.Letters.{senders_taken, is_among, message_sent, chip_after_injection};
-ghost use Rattle.cm_model.specs.Letters.{processor_after_delivery};
+ghost use Rattle.cm_model.specs.Letters.{senders_taken, is_among, message_sent, chip_after_injection, chip_after_delivery};
+ghost use Rattle.cm_router.specs.Idle.{IsIdle};
 
 use cm_bits::{Field, FlagNo, Plane, Proc};
-use cm_element::Chip;
+use cm_element::{ChipView, Run};
 use cm_message::{Event, Message, Tag};
 use cm_model::{RECEIVED_PAYLOAD, SENT_PAYLOAD, SENT_PROC, SENT_REL};
 
-/// Flag SEND of all processors.
-pub(crate) fn asking(chip: &Chip) -> Plane
-    ensures value { IsPlane result (λ p. flag (processor_at chip.now p) SEND) }
+/// Whether some processor asks to send, found by words of one row.
+pub fn may_ask(run: &Run) -> bool
+    ensures value { result ≡ list_any (has_flag SEND) run.now }
 {
-    chip.flag_plane(FlagNo::SEND)
+    run.has_flag(FlagNo::SEND)
 }
 
-/// The message that a processor's record asks to send.
-pub(crate) fn message_sent(chip: &Chip, proc: Proc, here: u16, dims: u8, clock: u64) -> Message
+/// Whether an injection changes nothing in any chip: nobody asks to send, and nobody is acknowledged. Found by
+/// words of two rows.
+pub fn is_idle(run: &Run) -> bool
+    ensures value { result ≡ (not (list_any (has_flag SEND) run.now) && not (list_any (has_flag ACK) run.now)) }
+    ensures idle { IsTrue result → (c : ℕ) → c < length run.now → IsIdle (chip_at run.now c) }
+{
+    !may_ask(run) && !run.has_flag(FlagNo::ACK)
+}
+
+/// Whether some processor of a chip asks to send.
+pub fn chip_asks(run: &Run, chip: u16) -> bool
+    requires chip { chip < length run.now }
+    ensures value { result ≡ has_flag SEND (chip_at run.now chip) }
+    ensures none { IsFalse result → (cap standing : ℕ) → senders_taken cap standing (chip_at run.now chip) ≡ [] }
+{
+    run.chip_has_flag(chip, FlagNo::SEND)
+}
+
+/// Flag SEND of all processors of a chip: who asks to send.
+pub fn asking(run: &Run, chip: u16) -> Plane
+    requires chip { chip < length run.now }
+    ensures value { IsPlane result (λ p. flag (processor_at (chip_at run.now chip) p) SEND) }
+{
+    run.flag_plane(chip, FlagNo::SEND)
+}
+
+/// The message that a processor's record asks to send, from chip `here` of a cube of `dims` dimensions.
+pub fn message_sent(chip: &ChipView<'_>, proc: Proc, here: u16, dims: u8, clock: u64) -> Message
     requires dims { dims ≤ 12 }
     ensures value { result ≡ message_sent dims clock here chip.now proc }
 {
@@ -41,41 +69,54 @@ pub(crate) fn message_sent(chip: &Chip, proc: Proc, here: u16, dims: u8, clock: 
     }
 }
 
-/// False only where no processor asks to send.
-pub fn may_ask(chip: &Chip) -> bool
-    ensures none { IsFalse result → (cap standing : ℕ) → senders_taken cap standing chip.now ≡ [] }
+/// Takes in no message: whoever asks to send goes on asking, and ACK is 0 everywhere on the chip.
+/// Where it is so already, nothing is written.
+pub fn take_none(run: &mut Run, chip: u16)
+    requires chip { chip < length run.old }
+    ensures value { run.new ≡ slice_set run.old chip (chip_after_injection [] (chip_at run.old chip)) }
 {
-    asking(chip) != 0
-}
-
-/// Takes in no message: whoever asks to send goes on asking, and ACK is 0 everywhere. Where it is so
-/// already, this costs a look at ACK.
-pub fn take_none(chip: &mut Chip)
-    ensures value { chip.new ≡ chip_after_injection [] chip.old }
-{
-    let told = chip.flag_plane(FlagNo::ACK);
-    if told != 0 {
-        let asking = asking(chip);
-        acknowledge(chip, asking, 0);
+    if run.flag_plane(chip, FlagNo::ACK) != 0 {
+        let asking = asking(run, chip);
+        acknowledge(run, chip, asking, 0);
     }
 }
 
-/// Tells the processors whose messages were taken: their SEND falls, and ACK is 1 for them alone.
-pub(crate) fn acknowledge(chip: &mut Chip, asking: Plane, taken: Plane)
-    requires asking { IsPlane asking (λ p. flag (processor_at chip.old p) SEND) }
+/// Tells the processors of a chip whose messages were taken: their SEND falls, and ACK is 1 for them
+/// alone.
+pub fn acknowledge(run: &mut Run, chip: u16, asking: Plane, taken: Plane)
+    requires chip { chip < length run.old }
+    requires asking { IsPlane asking (λ p. flag (processor_at (chip_at run.old chip) p) SEND) }
     ensures value { (ps : List ℕ) → IsPlane taken (λ p. is_among p ps)
-        → chip.new ≡ chip_after_injection ps chip.old }
+        → run.new ≡ slice_set run.old chip (chip_after_injection ps (chip_at run.old chip)) }
 {
-    chip.poke_flag_plane(FlagNo::SEND, asking & !taken);
-    chip.poke_flag_plane(FlagNo::ACK, taken);
+    run.poke_flag_plane(chip, FlagNo::SEND, asking & !taken);
+    run.poke_flag_plane(chip, FlagNo::ACK, taken);
 }
 
-/// Flag RECV of all processors.
-pub(crate) fn received(chip: &Chip) -> Plane
-    ensures value { IsPlane result (λ p. flag (processor_at chip.now p) RECV) }
-    ensures whole { IsChip chip.now }
+/// Flag RECV of all processors of a chip.
+pub(crate) fn received(run: &Run, chip: u16) -> Plane
+    requires chip { chip < length run.now }
+    ensures value { IsPlane result (λ p. flag (processor_at (chip_at run.now chip) p) RECV) }
+    ensures whole { IsChip (chip_at run.now chip) }
 {
-    chip.flag_plane(FlagNo::RECV)
+    run.flag_plane(chip, FlagNo::RECV)
+}
+
+/// Leaves the payload at the processor that the message is for.
+pub(crate) fn receive(run: &mut Run, chip: u16, message: &Message)
+    requires chip { chip < length run.old }
+    requires whole { IsChip (chip_at run.old chip) }
+    requires there { message.now.proc < 16 }
+    ensures value { run.new ≡ slice_set run.old chip (chip_after_delivery (message.now ∷ []) (chip_at run.old chip)) }
+{
+    run.poke_field(
+        chip,
+        message.proc,
+        payload_field(),
+        u64::from(message.payload),
+    );
+    run.poke_flag(chip, message.proc, FlagNo::RECV, true)
+        .unwrap();
 }
 
 /// Whether the bit of a processor is 1 in a plane.
@@ -84,16 +125,6 @@ pub(crate) fn is_one(plane: Plane, proc: Proc) -> bool
     ensures in_range { proc < 16 }
 {
     plane >> proc.get() & 1 == 1
-}
-
-/// Leaves the payload at the processor that the message is for.
-pub(crate) fn receive(chip: &mut Chip, message: &Message)
-    requires there { message.now.proc < length chip.old }
-    ensures value { chip.new ≡ slice_set chip.old message.now.proc
-        (processor_after_delivery (Some message.now) (processor_at chip.old message.now.proc)) }
-{
-    chip.poke_field(message.proc, payload_field(), u64::from(message.payload));
-    chip.poke_flag(message.proc, FlagNo::RECV, true).unwrap();
 }
 
 pub(crate) fn tell_injected(log: &mut Vec<Event>, message: &Message)
@@ -118,7 +149,7 @@ pub(crate) fn tell_delivered(log: &mut Vec<Event>, message: &Message, here: u16)
     .unwrap();
 }
 
-fn field_value(chip: &Chip, proc: Proc, at: u16, len: u16) -> u64
+fn field_value(chip: &ChipView<'_>, proc: Proc, at: u16, len: u16) -> u64
     requires some { 1 ≤ len }
     requires narrow { len ≤ 64 }
     requires within { at + len ≤ 4096 }

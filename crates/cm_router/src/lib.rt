@@ -4,9 +4,8 @@
 mod delivery;
 mod letters;
 mod node;
-pub mod run;
 
 pub use cm_message::{Event, Message, Tag};
 pub use delivery::{begin, hand_over};
-pub use letters::{may_ask, take_none};
+pub use letters::{acknowledge, asking, chip_asks, is_idle, may_ask, message_sent, take_none};
 pub use node::Node;

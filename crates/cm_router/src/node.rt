@@ -1,9 +1,10 @@
 //! The node of one chip: a buffer of messages.
 
-ghost use Rattle.std.specs.Prelude.{◌≡◌, ◌<◌, ◌≤◌, ◌==◌, ◌-◌, [], ◌∷◌, ◌++◌, ◌+◌, length, map, position, IfSome};
+ghost use Rattle.std.specs.Prelude.{◌≡◌, ◌<◌, ◌≤◌, ◌==◌, ◌-◌, [], ◌∷◌, ◌++◌, ◌+◌, length, map, position, slice_set, IfSome};
 ghost use Rattle.std.specs.Prelude.{vec_len, vec_capacity};
 ghost use Rattle.cm_model.specs.Processor.{SEND, flag};
 ghost use Rattle.cm_model.specs.Chip.{IsPlane, processor_at};
+ghost use Rattle.cm_model.specs.Array.{chip_at};
 ghost use Rattle.cm_model.specs.Router.{has_to_cross, message_across};
 ghost use Rattle.cm_model.specs.Letters.{is_among, chip_after_injection, chip_after_delivery};
 ghost use Rattle.cm_model.specs.Buffers.{leaving_place, outgoing, without};
@@ -14,7 +15,7 @@ use crate::letters;
 use crate::letters::{acknowledge, is_one, message_sent, take_none, tell_injected};
 use arrayvec::ArrayVec;
 use cm_bits::{Plane, Proc};
-use cm_element::Chip;
+use cm_element::{ChipView, Run};
 use cm_message::{Event, Message};
 use std::marker::Model;
 
@@ -131,31 +132,42 @@ impl Node {
     }
 
     /// Takes in messages of the processors that ask to send, by number, at most four and at most as
-    /// many as there is room for. The log tells of each.
-    pub fn inject(&mut self, chip: &mut Chip, here: u16, dims: u8, clock: u64, log: &mut Vec<Event>)
+    /// many as there is room for. The log tells of each. The chip stands at place `chip` of the run, and its
+    /// number in the machine, of a cube of `dims` dimensions, is `here`.
+    pub fn inject(
+        &mut self,
+        run: &mut Run,
+        chip: u16,
+        here: u16,
+        dims: u8,
+        clock: u64,
+        log: &mut Vec<Event>,
+    )
+        requires chip { chip < length run.old }
         requires dims { dims ≤ 12 }
         requires room { vec_len log.old + 4 ≤ vec_capacity log.old }
         ensures messages { self.new ≡ holding self.old
-            (self.old.messages ++ sent_to self.old dims clock here chip.old) }
-        ensures chip { chip.new ≡ chip_after_injection (taken_by self.old chip.old) chip.old }
+            (self.old.messages ++ sent_to self.old dims clock here (chip_at run.old chip)) }
+        ensures chip { run.new ≡ slice_set run.old chip
+            (chip_after_injection (taken_by self.old (chip_at run.old chip)) (chip_at run.old chip)) }
         ensures log { log.new.items
-            ≡ log.old.items ++ map Event.Injected (sent_to self.old dims clock here chip.old) }
+            ≡ log.old.items ++ map Event.Injected (sent_to self.old dims clock here (chip_at run.old chip)) }
         ensures within { vec_len log.new ≤ vec_len log.old + 4 }
         ensures log_room { vec_capacity log.old ≤ vec_capacity log.new }
     {
-        let asking = letters::asking(chip);
+        let asking = letters::asking(run, chip);
         if asking == 0 {
-            take_none(chip);
+            take_none(run, chip);
             return;
         }
-        let taken = self.take_in(chip, asking, here, dims, clock, log);
-        acknowledge(chip, asking, taken);
+        let taken = self.take_in(&run.view(chip), asking, here, dims, clock, log);
+        acknowledge(run, chip, asking, taken);
     }
 
     /// Takes the messages in, and tells in a plane whose they are.
     fn take_in(
         &mut self,
-        chip: &Chip,
+        chip: &ChipView<'_>,
         asking: Plane,
         here: u16,
         dims: u8,
@@ -189,21 +201,23 @@ impl Node {
     }
 
     /// Delivers what has arrived: each message from the front whose processor can receive, at most
-    /// one to each. The log tells of each.
-    pub fn deliver(&mut self, chip: &mut Chip, here: u16, log: &mut Vec<Event>)
+    /// one to each. The log tells of each. Place and number of the chip are as for `inject`.
+    pub fn deliver(&mut self, run: &mut Run, chip: u16, here: u16, log: &mut Vec<Event>)
+        requires chip { chip < length run.old }
         requires room { vec_len log.old + self.old.room ≤ vec_capacity log.old }
-        ensures stays { self.new ≡ holding self.old (kept_by self.old chip.old) }
-        ensures chip { chip.new ≡ chip_after_delivery (delivered_by self.old chip.old) chip.old }
+        ensures stays { self.new ≡ holding self.old (kept_by self.old (chip_at run.old chip)) }
+        ensures chip { run.new ≡ slice_set run.old chip
+            (chip_after_delivery (delivered_by self.old (chip_at run.old chip)) (chip_at run.old chip)) }
         ensures log { log.new.items
-            ≡ log.old.items ++ map (λ m. Event.Delivered m here) (delivered_by self.old chip.old) }
+            ≡ log.old.items ++ map (λ m. Event.Delivered m here) (delivered_by self.old (chip_at run.old chip)) }
         ensures within { vec_len log.new ≤ vec_len log.old + self.old.room }
         ensures log_room { vec_capacity log.old ≤ vec_capacity log.new }
     {
-        begin(chip);
+        begin(run, chip);
         let mut place = 0;
         while place < self.messages.len() {
             let message = self.messages[place];
-            if hand_over(chip, &message, here, log) {
+            if hand_over(run, chip, &message, here, log) {
                 self.messages.remove(place);
             } else {
                 place += 1;

@@ -1,5 +1,6 @@
 -- The two passes over rows of slots, as far as a number of rows.
-use Rattle.std.proofs.Common.{◌≡◌, ◌≢◌, ℕ, zero, suc, ◌<◌, ◌≤◌, ◌==◌, Bool, true, false, if◌then◌else◌, List, [], length}
+use Rattle.std.proofs.Common.{◌≡◌, ◌≢◌, ℕ, zero, suc, ◌<◌, ◌≤◌, ◌==◌, Bool, true, false, if◌then◌else◌, List, []}
+use Rattle.std.proofs.Common.{length}
 use Rattle.std.proofs.Common.{set, get_or, refl, sym, ◌∙◌, ap, ⊎_elim, arith}
 use Rattle.std.specs.List.{All}
 use Rattle.std.proofs.lemmas.Bool.{cases_eq, cases_lt, cases_Bool, eq-eqb, ne_eqb}
@@ -130,6 +131,7 @@ pub record IsPassedBack (count : ℕ) (first_old : List ℕ) (rest_old : List (L
   pub past : (i len : ℕ) → i < 64 → IsFilled count len (slot_behind rest_old i)
       → (j : ℕ) → k ≤ j → j < count → len ≤ j → slot_behind rest i j ≡ 0
   pub ahead : (j : ℕ) → j < k → get_or rest j [] ≡ get_or rest_old j []
+  pub others : (j : ℕ) → count ≤ j → get_or rest j [] ≡ get_or rest_old j []
 
 pub none_passed_back : (count : ℕ) (first : List ℕ) (rest : List (List ℕ)) → length first ≡ 64 → All IsWide rest
     → IsPassedBack count first rest first rest count
@@ -142,6 +144,7 @@ none_passed_back count first rest long wide = record {
   there = λ i len h f j l m. absurd (omega arith);
   past = λ i len h f j l m. absurd (omega arith);
   ahead = λ j h. refl;
+  others = λ j h. refl;
 }
 
 pub one_more_passed_back : (count : ℕ) (first_old : List ℕ) (rest_old : List (List ℕ)) (first : List ℕ)
@@ -184,6 +187,7 @@ one_more_passed_back count first_old rest_old first rest k carried row inside fe
           rw s (row_at i ∙ row_is i h ∙ rw e refl))
           (λ (s : j ≢ k). other_at i j s ∙ was.past i len h f j (omega (arith, s)) m n) (cases_eq j k);
       ahead = λ j h. get_or-set_other rest k j row [] (omega arith) ∙ was.ahead j (omega arith);
+      others = λ j h. get_or-set_other rest k j row [] (omega arith) ∙ was.others j h;
     }
 
 -- all rows passed: what stood there is in front of what came

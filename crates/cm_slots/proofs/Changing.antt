@@ -1,14 +1,14 @@
 -- A tile of which one chip changes.
-use Rattle.std.proofs.Common.{◌≡◌, ◌≢◌, ℕ, suc, ◌+◌, ◌-◌, ◌<◌, ◌≤◌, ◌++◌, true, List, [], ◌∷◌, length, get_or}
+use Rattle.std.proofs.Common.{◌≡◌, ◌≢◌, ℕ, suc, ◌+◌, ◌-◌, ◌<◌, ◌≤◌, ◌++◌, true, List, [], ◌∷◌, length, get_or, set}
 use Rattle.std.proofs.Common.{remove, refl, sym, ◌∙◌, ap, subst, ⊎_elim, arith}
 use Rattle.std.proofs.lemmas.Bool.{cases_eq, cases_lt}
-use Rattle.std.proofs.lemmas.List.{length-append, get_or_past}
+use Rattle.std.proofs.lemmas.List.{length-append, length-set, get_or-set_same, get_or-set_other, get_or_past}
 use Rattle.std.proofs.lemmas.List.{get_or_append_left, get_or_push}
 use Rattle.std.proofs.lemmas.List.Edits.{length-remove, get_or-remove_below, get_or-remove_above}
 use Rattle.cm_slots.specs.declared.tile.Tile.{Tile}
 use Rattle.cm_slots.specs.Slots.{is_taken, AreSlots}
 use Rattle.cm_slots.specs.Tiles.{slots_of, standing_at, IsShaped, IsTile, IsPut, HasChanged}
-use Rattle.cm_slots.proofs.Standing.{taken_some, nobody, same_slots, standing_is}
+use Rattle.cm_slots.proofs.Standing.{taken_some, same_slots, standing_is}
 
 -- ---- how many stand there
 
@@ -28,47 +28,49 @@ counted room len slots xs are within some none =
 
 -- ---- one chip changes
 
-pub changed_whole : (room place : ℕ) (numbers : List ℕ) (old new : Tile) → IsTile room old
-    → HasChanged room place numbers old new → IsTile room new
-changed_whole room place numbers old new whole changed = record {
+pub changed_whole : (place : ℕ) (numbers : List ℕ) (old new : Tile) → IsTile old
+    → HasChanged place numbers old new → IsTile new
+changed_whole place numbers old new whole changed = record {
   shape = changed.shape;
   queues = λ i h.
       ⊎_elim
       (λ (e : i ≡ place).
-      rw e (subst (AreSlots room (slots_of new place)) (sym (standing_is room (slots_of new place) numbers changed.here))
+      rw e (subst (AreSlots 15 (slots_of new place)) (sym (standing_is 15 (slots_of new place) numbers changed.here))
       changed.here))
       (λ (e : i ≢ place).
-      let are : AreSlots room (slots_of new i) (standing_at room old i) =
-      same_slots room (slots_of old i) (slots_of new i) (standing_at room old i) (λ j l. changed.others i j e)
+      let are : AreSlots 15 (slots_of new i) (standing_at old i) =
+      same_slots 15 (slots_of old i) (slots_of new i) (standing_at old i) (λ j l. changed.others i j e)
       (whole.queues i h) in
-      subst (AreSlots room (slots_of new i)) (sym (standing_is room (slots_of new i) (standing_at room old i) are)) are)
+      subst (AreSlots 15 (slots_of new i)) (sym (standing_is 15 (slots_of new i) (standing_at old i) are)) are)
       (cases_eq i place);
+  quiet = λ asleep. absurd (cc (changed.awake, asleep));
 }
 
-pub changed_here : (room place : ℕ) (numbers : List ℕ) (old new : Tile)
-    → HasChanged room place numbers old new → standing_at room new place ≡ numbers
-changed_here room place numbers old new changed = standing_is room (slots_of new place) numbers changed.here
+pub changed_here : (place : ℕ) (numbers : List ℕ) (old new : Tile)
+    → HasChanged place numbers old new → standing_at new place ≡ numbers
+changed_here place numbers old new changed = standing_is 15 (slots_of new place) numbers changed.here
 
-pub changed_others : (room place : ℕ) (numbers : List ℕ) (old new : Tile) (i : ℕ) → IsTile room old → i < 64 → i ≢ place
-    → HasChanged room place numbers old new → standing_at room new i ≡ standing_at room old i
-changed_others room place numbers old new i whole h e changed =
-    standing_is room (slots_of new i) (standing_at room old i)
-    (same_slots room (slots_of old i) (slots_of new i) (standing_at room old i) (λ j l. changed.others i j e)
+pub changed_others : (place : ℕ) (numbers : List ℕ) (old new : Tile) (i : ℕ) → IsTile old → i < 64 → i ≢ place
+    → HasChanged place numbers old new → standing_at new i ≡ standing_at old i
+changed_others place numbers old new i whole h e changed =
+    standing_is 15 (slots_of new i) (standing_at old i)
+    (same_slots 15 (slots_of old i) (slots_of new i) (standing_at old i) (λ j l. changed.others i j e)
     (whole.queues i h))
 
 -- ---- who arrives
 
-pub arrived : (room place number : ℕ) (old new : Tile) → place < 64 → IsTile room old
-    → length (standing_at room old place) < room → is_taken number ≡ true
-    → IsPut place (length (standing_at room old place)) number old new
-    → HasChanged room place (standing_at room old place ++ number ∷ []) old new
-arrived room place number old new inside whole space taken put =
-    let xs : List ℕ = standing_at room old place in
-    let are : AreSlots room (slots_of old place) xs = whole.queues place inside in
+pub arrived : (place number : ℕ) (old new : Tile) → place < 64 → IsTile old
+    → length (standing_at old place) < 15 → is_taken number ≡ true
+    → IsPut place (length (standing_at old place)) number old new
+    → HasChanged place (standing_at old place ++ number ∷ []) old new
+arrived place number old new inside whole space taken put =
+    let xs : List ℕ = standing_at old place in
+    let are : AreSlots 15 (slots_of old place) xs = whole.queues place inside in
     let long : length (xs ++ number ∷ []) ≡ length xs + 1 = length-append xs (number ∷ []) in
     let last : get_or (xs ++ number ∷ []) (length xs) 0 ≡ number = get_or_push xs number 0 (length xs) refl in
     record {
       shape = put.shape;
+      awake = put.awake;
       here = record {
         fits = omega (arith, long);
         each = λ j h. ⊎_elim
@@ -120,29 +122,42 @@ one_more_closed place slot later number old now new order is put was = record {
   others = λ i j h. put.others i j h ∙ was.others i j h;
 }
 
-pub taken_out : (room place slot : ℕ) (old now new : Tile) → place < 64 → IsTile room old
-    → slot < length (standing_at room old place) → IsClosing place slot room old now
-    → IsPut place (room - 1) 0 now new → HasChanged room place (remove (standing_at room old place) slot) old new
-taken_out room place slot old now new inside whole there was put =
-    let xs : List ℕ = standing_at room old place in
-    let are : AreSlots room (slots_of old place) xs = whole.queues place inside in
+-- so far closed up, and 0 behind, where nothing stood further on
+pub taken_out : (place slot at : ℕ) (old now new : Tile) → place < 64 → IsTile old
+    → slot < length (standing_at old place) → slot < at → at ≤ 15 → IsClosing place slot at old now
+    → IsPut place (at - 1) 0 now new → length (standing_at old place) ≤ at
+    → HasChanged place (remove (standing_at old place) slot) old new
+taken_out place slot at old now new inside whole there low high was put behind =
+    let xs : List ℕ = standing_at old place in
+    let are : AreSlots 15 (slots_of old place) xs = whole.queues place inside in
     let long : length (remove xs slot) + 1 ≡ length xs = omega (arith, length-remove xs slot there) in
     record {
       shape = put.shape;
+      awake = put.awake;
       here = record {
         fits = omega (arith, long, are.fits);
         each = λ j h. ⊎_elim
-            (λ (l : j < slot). put.earlier j (omega (arith, are.fits)) ∙ was.earlier j l ∙ are.each j h
+            (λ (l : j < slot). put.earlier j (omega arith) ∙ was.earlier j l ∙ are.each j h
             ∙ sym (get_or-remove_below xs slot 0 j l there))
             (λ (l : slot ≤ j). ⊎_elim
-            (λ (e : j ≡ room - 1). ap (slots_of new place) e ∙ put.here
-            ∙ sym (get_or_past (remove xs slot) j 0 (omega (arith, long, are.fits))))
-            (λ (e : j ≢ room - 1). put.earlier j (omega (arith, e)) ∙ was.closed j l (omega (arith, e))
-            ∙ are.each (suc j) (omega (arith, e))
+            (λ (m : j < at - 1). put.earlier j m ∙ was.closed j l (omega arith)
+            ∙ are.each (suc j) (omega arith)
             ∙ sym (get_or-remove_above xs slot 0 j l there ∙ ap (λ (k : ℕ). get_or xs k 0) (omega arith)))
-            (cases_eq j (room - 1))) (cases_lt j slot);
+            (λ (m : at - 1 ≤ j).
+            let none : get_or (remove xs slot) j 0 ≡ 0 = get_or_past (remove xs slot) j 0 (omega (
+              arith,
+              long,
+              behind,
+            )) in
+            ⊎_elim
+            (λ (e : j ≡ at - 1). ap (slots_of new place) e ∙ put.here ∙ sym none)
+            (λ (e : j ≢ at - 1). put.later j (omega (arith, e)) ∙ was.ahead j (omega arith) ∙ are.each j h
+            ∙ get_or_past xs j 0 (omega (arith, e, behind)) ∙ sym none)
+            (cases_eq j (at - 1)))
+            (cases_lt j (at - 1))) (cases_lt j slot);
         taken = λ j h. ⊎_elim
-            (λ (l : j < slot). ap is_taken (get_or-remove_below xs slot 0 j l there) ∙ are.taken j (omega (arith, long)))
+            (λ (l : j < slot). ap is_taken (get_or-remove_below xs slot 0 j l there)
+            ∙ are.taken j (omega (arith, long)))
             (λ (l : slot ≤ j). ap is_taken (get_or-remove_above xs slot 0 j l there)
             ∙ are.taken (j + 1) (omega (arith, long)))
             (cases_lt j slot);
@@ -150,9 +165,48 @@ taken_out room place slot old now new inside whole there was put =
       others = λ i j h. put.others i j h ∙ was.others i j h;
     }
 
--- ---- nobody
+-- where nothing stands in a slot, nothing stands behind
+pub ends_at : (count at : ℕ) (slots : ℕ → ℕ) (xs : List ℕ) → AreSlots count slots xs → at < count → slots at ≡ 0
+    → length xs ≤ at
+ends_at count at slots xs are inside none =
+    ⊎_elim (λ (l : at < length xs).
+    absurd (taken_some (get_or xs at 0) (are.taken at l) (sym (are.each at inside) ∙ none)))
+    (λ (l : length xs ≤ at). l) (cases_lt at (length xs))
 
-pub quiet : (room : ℕ) (tile : Tile) → IsTile room tile → ((i : ℕ) → i < 64 → get_or tile.first i 0 ≡ 0)
-    → (i : ℕ) → i < 64 → standing_at room tile i ≡ []
-quiet room tile whole blank i h =
-    nobody room (slots_of tile i) (standing_at room tile i) (whole.queues i h) (λ l. blank i h)
+-- ---- who is put in another's place
+
+pub replaced : (place slot number : ℕ) (old new : Tile) → place < 64 → IsTile old
+    → slot < length (standing_at old place) → is_taken number ≡ true → IsPut place slot number old new
+    → HasChanged place (set (standing_at old place) slot number) old new
+replaced place slot number old new inside whole there taken put =
+    let xs : List ℕ = standing_at old place in
+    let are : AreSlots 15 (slots_of old place) xs = whole.queues place inside in
+    let long : length (set xs slot number) ≡ length xs = length-set xs slot number in
+    let last : get_or (set xs slot number) slot 0 ≡ number = get_or-set_same xs slot number 0 there in
+    record {
+      shape = put.shape;
+      awake = put.awake;
+      here = record {
+        fits = omega (arith, long, are.fits);
+        each = λ j h. ⊎_elim
+            (λ (e : j ≡ slot). rw e (put.here ∙ sym last))
+            (λ (e : j ≢ slot). ⊎_elim
+            (λ (l : j < slot). put.earlier j l ∙ are.each j h ∙ sym (get_or-set_other xs slot j number 0 e))
+            (λ (l : slot ≤ j). put.later j (omega (arith, e)) ∙ are.each j h
+            ∙ sym (get_or-set_other xs slot j number 0 e))
+            (cases_lt j slot)) (cases_eq j slot);
+        taken = λ j h. ⊎_elim
+            (λ (e : j ≡ slot). rw e (ap is_taken last ∙ taken))
+            (λ (e : j ≢ slot). ap is_taken (get_or-set_other xs slot j number 0 e) ∙ are.taken j (omega (arith, long)))
+            (cases_eq j slot);
+      };
+      others = put.others;
+    }
+
+-- ---- how many at most
+
+-- where a row is blank, nobody stands there or behind
+pub ends_blank : (room : ℕ) (tile : Tile) → IsTile tile → room < 15
+    → ((i : ℕ) → i < 64 → slots_of tile i room ≡ 0) → (i : ℕ) → i < 64 → length (standing_at tile i) ≤ room
+ends_blank room tile whole inside blank i h =
+    ends_at 15 room (slots_of tile i) (standing_at tile i) (whole.queues i h) inside (blank i h)

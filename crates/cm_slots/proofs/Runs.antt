@@ -1,66 +1,78 @@
 -- All tiles of a run after each of the two passes, and after both.
-use Rattle.std.proofs.Common.{◌≡◌, ◌≢◌, ℕ, ◌+◌, ◌-◌, ◌*◌, ◌/◌, ◌%◌, ◌^◌, ◌<◌, ◌≤◌, ◌++◌, true, List, [], length, map, set}
+use Rattle.std.proofs.Common.{◌≡◌, ◌≢◌, ℕ, ◌+◌, ◌-◌, ◌*◌, ◌/◌, ◌%◌, ◌^◌, ◌<◌, ◌≤◌, ◌++◌, true, List, [], length, map}
+use Rattle.std.proofs.Common.{set}
+use Rattle.std.proofs.Common.{Option, None}
 use Rattle.std.proofs.Common.{sym, ◌∙◌, ap, subst, ⊎_elim, arith}
-use Rattle.std.specs.Prelude.{bit_xor}
+use Rattle.std.specs.Prelude.{bit_xor, IfSome}
+use Rattle.std.specs.Int.Bits.{xor_zero_r}
 use Rattle.std.specs.List.{All}
 use Rattle.std.specs.Global.{Vec}
 use Rattle.std.specs.Vec.{with_items}
 use Rattle.std.specs.Option.{option_map, option_to_list, unwrap_or}
 use Rattle.std.proofs.lemmas.Bool.{cases_eq, cases_lt}
-use Rattle.std.proofs.lemmas.List.{length-set, get_or-set_same, get_or-set_other, with_items_is}
+use Rattle.std.proofs.lemmas.List.{length-append, length-map, length-set, get_or-set_same, get_or-set_other}
+use Rattle.std.proofs.lemmas.List.{with_items_is}
 use Rattle.std.proofs.lemmas.List.Elements.{All-from_get_or}
 use Rattle.std.proofs.lemmas.Nat.{pow-add, pow_below, pow_pos, shl-shr, xor_lt, xor_shr, xor_mod}
 use Rattle.cm_model.specs.Array.{each_chip, list_at}
 use Rattle.cm_model.proofs.Each.{get_or-each_below, same_each_below}
 use Rattle.cm_model.proofs.Flips.{across_below}
-use Rattle.cm_slots.specs.declared.ticket.Ticket.{Ticket}
 use Rattle.cm_slots.specs.declared.tile.Tile.{Tile}
 use Rattle.cm_slots.specs.Queues.{leaver_of, stayers_of}
-use Rattle.cm_slots.specs.Tickets.{ticket_of, ticket_going, queue_after_dimension}
-use Rattle.cm_slots.specs.Slots.{is_taken, crosses, slot_across, comers, AreSlots}
-use Rattle.cm_slots.specs.Tiles.{no_tile, tile_at, row_at, tile_across, place_across, arriving, slots_of, standing_at}
-use Rattle.cm_slots.specs.Tiles.{tickets_of, queues_in, IsShaped, IsTile, HasLeft, HasTakenIn}
-use Rattle.cm_slots.proofs.Numbers.{flip, leaver_comes, leaver_is_taken, exchanged}
+use Rattle.cm_slots.specs.Tickets.{ticket_of, exchanged}
+use Rattle.cm_slots.specs.Slots.{is_taken, crosses, slot_across, comers, leaver_at, AreSlots}
+use Rattle.cm_slots.specs.Tiles.{no_tile, tile_at, leavers_at, tile_across, place_across, arriving, slots_of}
+use Rattle.cm_slots.specs.Tiles.{standing_at}
+use Rattle.cm_slots.specs.Tiles.{tickets_of, queues_in, IsShaped, IsQuiet, IsTile, HasLeft, HasTakenIn}
+use Rattle.cm_slots.proofs.Numbers.{flip, leaver_comes, leaver_is_taken, comers-few, exchanged-tickets}
 use Rattle.cm_slots.proofs.Standing.{standing_is}
+use Rattle.cm_slots.proofs.Tiles.{IsWithin, stays_quiet}
 
 -- what was lent as a slice has what was written to the slice
 pub items-lent : {X : Type 0} (row : Vec X) (now : List X) → length now ≡ length row.items
     → (with_items row now).items ≡ now
 items-lent row now same = with_items_is row now (same ∙ sym row.ok.0)
 
+-- of a tile's leavers there is a row of 64, or none
+abbrev pub IsLong : Option (List ℕ) → Type 0
+IsLong leavers = IfSome leavers (λ row. length row ≡ 64)
+
 -- who leaves has been taken out of the first so many tiles
-pub record AreLeft (room d : ℕ) (old now : List Tile) (leaving : List (List ℕ)) (count : ℕ) : Type 0 where
+pub record AreLeft (room d : ℕ) (old now : List Tile) (leaving : List (Option (List ℕ))) (count : ℕ) : Type 0 where
   pub long : length now ≡ length old
   pub rows : length leaving ≡ length old
-  pub done : (t : ℕ) → t < count → HasLeft room d (tile_at old t) (tile_at now t) (row_at leaving t)
+  pub done : (t : ℕ) → t < count → HasLeft room d (tile_at old t) (tile_at now t) (leavers_at leaving t)
   pub ahead : (t : ℕ) → count ≤ t → tile_at now t ≡ tile_at old t
 
-pub one_more_left : (room d : ℕ) (old now : List Tile) (leaving : List (List ℕ)) (count : ℕ) (tile : Tile)
-    (row : List ℕ) → count < length old → HasLeft room d (tile_at now count) tile row
-    → AreLeft room d old now leaving count → AreLeft room d old (set now count tile) (set leaving count row) (count + 1)
-one_more_left room d old now leaving count tile row inside step was =
+pub one_more_left : (room d : ℕ) (old now : List Tile) (leaving : List (Option (List ℕ))) (count : ℕ) (tile : Tile)
+    (leavers : Option (List ℕ)) → count < length old → HasLeft room d (tile_at now count) tile leavers
+    → AreLeft room d old now leaving count
+    → AreLeft room d old (set now count tile) (set leaving count leavers) (count + 1)
+one_more_left room d old now leaving count tile leavers inside step was =
     let here : tile_at (set now count tile) count ≡ tile =
     get_or-set_same now count tile no_tile (omega (arith, was.long)) in
-    let there : row_at (set leaving count row) count ≡ row =
-    get_or-set_same leaving count row [] (omega (arith, was.rows)) in
+    let there : leavers_at (set leaving count leavers) count ≡ leavers =
+    get_or-set_same leaving count leavers None (omega (arith, was.rows)) in
     record {
       long = length-set now count tile ∙ was.long;
-      rows = length-set leaving count row ∙ was.rows;
+      rows = length-set leaving count leavers ∙ was.rows;
       done = λ t h. ⊎_elim
           (λ (e : t ≡ count). rw (e, here, there) (rw (was.ahead count (omega arith)) at step))
-          (λ (e : t ≢ count). rw (get_or-set_other now count t tile no_tile e, get_or-set_other leaving count t row [] e)
-          (was.done t (omega (arith, e))))
+          (λ (e : t ≢ count). rw (
+            get_or-set_other now count t tile no_tile e,
+            get_or-set_other leaving count t leavers None e,
+          ) (was.done t (omega (arith, e))))
           (cases_eq t count);
       ahead = λ t h. get_or-set_other now count t tile no_tile (omega arith) ∙ was.ahead t (omega arith);
     }
 
 -- who comes has been taken in at the first so many tiles
-pub record AreTakenIn (room d : ℕ) (leaving : List (List ℕ)) (old now : List Tile) (count : ℕ) : Type 0 where
+pub record AreTakenIn (room d : ℕ) (leaving : List (Option (List ℕ))) (old now : List Tile) (count : ℕ) : Type 0 where
   pub long : length now ≡ length old
   pub done : (t : ℕ) → t < count → HasTakenIn room (arriving d leaving t) (tile_at old t) (tile_at now t)
   pub ahead : (t : ℕ) → count ≤ t → tile_at now t ≡ tile_at old t
 
-pub one_more_taken_in : (room d : ℕ) (leaving : List (List ℕ)) (old now : List Tile) (count : ℕ) (tile : Tile)
+pub one_more_taken_in : (room d : ℕ) (leaving : List (Option (List ℕ))) (old now : List Tile) (count : ℕ) (tile : Tile)
     → count < length old → HasTakenIn room (arriving d leaving count) (tile_at now count) tile
     → AreTakenIn room d leaving old now count → AreTakenIn room d leaving old (set now count tile) (count + 1)
 one_more_taken_in room d leaving old now count tile inside step was =
@@ -75,13 +87,33 @@ one_more_taken_in room d leaving old now count tile inside step was =
       ahead = λ t h. get_or-set_other now count t tile no_tile (omega arith) ∙ was.ahead t (omega arith);
     }
 
+-- where nobody stood and nobody comes, that is done already
+pub one_more_quiet : (room d : ℕ) (leaving : List (Option (List ℕ))) (old now : List Tile) (count : ℕ)
+    → count < length old → All IsShaped old
+    → IsQuiet (tile_at old count)
+    → leavers_at leaving (tile_across d count) ≡ None
+    → AreTakenIn room d leaving old now count → AreTakenIn room d leaving old now (count + 1)
+one_more_quiet room d leaving old now count inside shape zeros none was =
+    let stays : HasTakenIn room (arriving d leaving count) (tile_at old count) (tile_at old count) =
+    stays_quiet room (arriving d leaving count) (tile_at old count) (shape count no_tile inside) zeros
+    (λ i h. ap (λ (leavers : Option (List ℕ)). leaver_at leavers (place_across d i)) none) in
+    record {
+      long = was.long;
+      done = λ t h. ⊎_elim
+          (λ (e : t ≡ count). rw (e, was.ahead count (omega arith)) stays)
+          (λ (e : t ≢ count). was.done t (omega (arith, e)))
+          (cases_eq t count);
+      ahead = λ t h. was.ahead t (omega arith);
+    }
+
 -- ---- which tile and which place
 
-pub tile_of_chip : (dims c : ℕ) → c < 2 ^ dims → c / 64 < 2 ^ (dims - 6)
-tile_of_chip dims c h =
+-- as many tiles as a cube of chips fills
+pub tiles_of_cube : (dims : ℕ) → (2 ^ dims + 63) / 64 ≡ 2 ^ (dims - 6)
+tiles_of_cube dims =
     ⊎_elim
     (λ (l : dims < 6). let small : 2 ^ dims < 2 ^ 6 = pow_below dims 6 l in
-    let one : dims - 6 ≡ 0 = omega arith in rw one (omega arith))
+    let one : dims - 6 ≡ 0 = omega arith in rw one (omega (arith, small, pow_pos dims)))
     (λ (l : 6 ≤ dims). let split : dims ≡ (dims - 6) + 6 = omega arith in
     let power : 2 ^ dims ≡ 2 ^ (dims - 6) * 64 = ap (λ (n : ℕ). 2 ^ n) split ∙ pow-add 2 (dims - 6) 6 in
     omega (arith, power))
@@ -99,84 +131,122 @@ across_in dims d t h l =
     omega (arith, power, pow_below (d - 6) (dims - 6) (omega arith)))
     (cases_lt d 6))
 
+-- beyond the width of a tile the place is the same
+pub place-far : (d i : ℕ) → 6 ≤ d → place_across d i ≡ i
+place-far d i h =
+    let split : d ≡ (d - 6) + 6 = omega arith in
+    let none : 2 ^ d % 64 ≡ 0 =
+    ap (λ (n : ℕ). 2 ^ n % 64) split ∙ ap (λ (n : ℕ). n % 64) (pow-add 2 (d - 6) 6) ∙ omega arith in
+    ap (bit_xor i) none ∙ xor_zero_r i
+
 place_in : (d i : ℕ) → i < 64 → place_across d i < 64
 place_in d i h = xor_lt 6 i (2 ^ d % 64) h (omega arith)
+
+-- the chips within are those at the places of the tiles
+pub tiles_within : (room : ℕ) (tiles : List Tile)
+    → ((c : ℕ) → c / 64 < length tiles → length (tickets_of tiles c) ≤ room)
+    → (t : ℕ) → t < length tiles → IsWithin room (tile_at tiles t)
+tiles_within room tiles within t h i l =
+    let tile : (t * 64 + i) / 64 ≡ t = omega arith in
+    let place : (t * 64 + i) % 64 ≡ i = omega arith in
+    let few : length (tickets_of tiles (t * 64 + i)) ≤ room = within (t * 64 + i) (omega (arith, tile)) in
+    omega (arith, rw (tile, place) at few, length-map (standing_at (tile_at tiles t) i) ticket_of)
 
 -- ---- both passes
 
 -- who leaves the tiles may be taken in across
-module _ (room d count : ℕ) (old left : List Tile) (leaving : List (List ℕ)) (small : d < 12)
+module _ (room d count : ℕ) (old left : List Tile) (leaving : List (Option (List ℕ)))
     (long : length old ≡ count) (long_left : length left ≡ count) (rows : length leaving ≡ count)
-    (whole : All (IsTile room) old)
-    (gone : (t : ℕ) → t < count → HasLeft room d (tile_at old t) (tile_at left t) (row_at leaving t))
+    (whole : All IsTile old)
+    (gone : (t : ℕ) → t < count → HasLeft room d (tile_at old t) (tile_at left t) (leavers_at leaving t))
     (across : (t : ℕ) → t < count → tile_across d t < count) where
   pub left_shaped : All IsShaped left
   left_shaped = All-from_get_or IsShaped left no_tile (λ t h. (gone t (omega (arith, long_left))).shape)
 
-  pub leaving_long : All (λ row. length row ≡ 64) leaving
-  leaving_long = All-from_get_or (λ row. length row ≡ 64) leaving [] (λ t h. (gone t (omega (arith, rows))).long)
+  pub leaving_long : All IsLong leaving
+  leaving_long = All-from_get_or IsLong leaving None (λ t h. (gone t (omega (arith, rows))).long)
 
   arriving_is : (t i : ℕ) → t < count → i < 64 → arriving d leaving t i ≡ slot_across d
-      (unwrap_or (leaver_of (crosses d) room (standing_at room (tile_at old (tile_across d t)) (place_across d i))) 0)
-  arriving_is t i h l =
-      ap (slot_across d) ((gone (tile_across d t) (across t h)).going (place_across d i) (place_in d i l))
+      (unwrap_or (leaver_of (crosses d) room (standing_at (tile_at old (tile_across d t)) (place_across d i))) 0)
+  arriving_is t i h l = (gone (tile_across d t) (across t h)).going (place_across d i) (place_in d i l)
 
   slots_are : (t i : ℕ) → t < count → i < 64
-      → AreSlots room (slots_of (tile_at old t) i) (standing_at room (tile_at old t) i)
+      → AreSlots 15 (slots_of (tile_at old t) i) (standing_at (tile_at old t) i)
   slots_are t i h l = (whole t no_tile (omega (arith, long))).queues i l
 
   pub arriving_taken : (t i : ℕ) → t < count → i < 64 → arriving d leaving t i ≢ 0
       → is_taken (arriving d leaving t i) ≡ true
   arriving_taken t i h l =
       subst (λ (x : ℕ). x ≢ 0 → is_taken x ≡ true) (sym (arriving_is t i h l))
-      (leaver_is_taken d room room (slots_of (tile_at old (tile_across d t)) (place_across d i))
-      (standing_at room (tile_at old (tile_across d t)) (place_across d i)) small
+      (leaver_is_taken d 15 room (slots_of (tile_at old (tile_across d t)) (place_across d i))
+      (standing_at (tile_at old (tile_across d t)) (place_across d i))
       (slots_are (tile_across d t) (place_across d i) (across t h) (place_in d i l)))
 
   module _ (new : List Tile) (long_new : length new ≡ count)
       (come : (t : ℕ) → t < count → HasTakenIn room (arriving d leaving t) (tile_at left t) (tile_at new t)) where
     -- what stands at a chip then
     after : ℕ → ℕ → List ℕ
-    after t i = stayers_of (crosses d) room (standing_at room (tile_at old t) i) ++ comers (arriving d leaving t i)
+    after t i = stayers_of (crosses d) room (standing_at (tile_at old t) i) ++ comers (arriving d leaving t i)
 
-    slots_after : (t i : ℕ) → t < count → i < 64 → AreSlots room (slots_of (tile_at new t) i) (after t i)
+    slots_after : (t i : ℕ) → t < count → i < 64 → AreSlots 15 (slots_of (tile_at new t) i) (after t i)
     unfolding after
-    slots_after t i h l = (come t h).came i (stayers_of (crosses d) room (standing_at room (tile_at old t) i)) l
-        ((gone t h).stay i l)
+    slots_after t i h l = (come t h).came i (stayers_of (crosses d) room (standing_at (tile_at old t) i)) l
+        ((gone t h).few i l) ((gone t h).stay i l)
 
-    standing_after : (t i : ℕ) → t < count → i < 64 → standing_at room (tile_at new t) i ≡ after t i
-    standing_after t i h l = standing_is room (slots_of (tile_at new t) i) (after t i) (slots_after t i h l)
+    standing_after : (t i : ℕ) → t < count → i < 64 → standing_at (tile_at new t) i ≡ after t i
+    standing_after t i h l = standing_is 15 (slots_of (tile_at new t) i) (after t i) (slots_after t i h l)
 
-    pub whole_after : All (IsTile room) new
-    whole_after = All-from_get_or (IsTile room) new no_tile (λ t h.
+    pub whole_after : All IsTile new
+    whole_after = All-from_get_or IsTile new no_tile (λ t h.
         let inside : t < count = omega (arith, long_new) in
         record {
           shape = (come t inside).shape;
-          queues = λ i l. subst (AreSlots room (slots_of (tile_at new t) i)) (sym (standing_after t i inside l))
+          queues = λ i l. subst (AreSlots 15 (slots_of (tile_at new t) i)) (sym (standing_after t i inside l))
               (slots_after t i inside l);
+          quiet = (come t inside).quiet;
         })
 
+    -- no more than there is room for
+    few_after : (t i : ℕ) → t < count → i < 64 → length (after t i) ≤ room
+    unfolding after
+    few_after t i h l =
+        let stayers : List ℕ = stayers_of (crosses d) room (standing_at (tile_at old t) i) in
+        omega (
+          arith,
+          length-append stayers (comers (arriving d leaving t i)),
+          (gone t h).few i l,
+          comers-few (arriving d leaving t i),
+        )
+
+    pub within_after : (c : ℕ) → c / 64 < count → length (tickets_of new c) ≤ room
+    within_after c h =
+        let xs : List ℕ = standing_at (tile_at new (c / 64)) (c % 64) in
+        omega (
+          arith,
+          length-map xs ticket_of,
+          ap length (standing_after (c / 64) (c % 64) h (omega arith)),
+          few_after (c / 64) (c % 64) h (omega arith),
+        )
+
     tickets_after : (t i : ℕ) → t < count → i < 64
-        → map ticket_of (standing_at room (tile_at new t) i)
-        ≡ queue_after_dimension room d (map ticket_of (standing_at room (tile_at old t) i))
-        (ticket_going room d
-        (map ticket_of (standing_at room (tile_at old (tile_across d t)) (place_across d i))))
+        → map ticket_of (standing_at (tile_at new t) i)
+        ≡ exchanged room d (map ticket_of (standing_at (tile_at old t) i))
+        (map ticket_of (standing_at (tile_at old (tile_across d t)) (place_across d i)))
     unfolding after
     tickets_after t i h l =
-        let xs : List ℕ = standing_at room (tile_at old t) i in
-        let ys : List ℕ = standing_at room (tile_at old (tile_across d t)) (place_across d i) in
-        let comes : comers (arriving d leaving t i) ≡ option_to_list (option_map (flip d) (leaver_of (crosses d) room ys)) =
+        let xs : List ℕ = standing_at (tile_at old t) i in
+        let ys : List ℕ = standing_at (tile_at old (tile_across d t)) (place_across d i) in
+        let comes : comers (arriving d leaving t i) ≡ option_to_list (option_map (flip d) (leaver_of (crosses d) room
+        ys)) =
         ap comers (arriving_is t i h l)
-        ∙ leaver_comes d room room (slots_of (tile_at old (tile_across d t)) (place_across d i)) ys small
+        ∙ leaver_comes d 15 room (slots_of (tile_at old (tile_across d t)) (place_across d i)) ys
         (slots_are (tile_across d t) (place_across d i) (across t h) (place_in d i l)) in
         ap (map ticket_of) (standing_after t i h l
         ∙ ap (λ (zs : List ℕ). stayers_of (crosses d) room xs ++ zs) comes)
-        ∙ exchanged d room xs ys small
+        ∙ exchanged-tickets d room xs ys
 
     pub chip_after : (c : ℕ) → c / 64 < count
-        → tickets_of room new c
-        ≡ queue_after_dimension room d (tickets_of room old c)
-        (ticket_going room d (tickets_of room old (bit_xor c (2 ^ d))))
+        → tickets_of new c ≡ exchanged room d (tickets_of old c) (tickets_of old (bit_xor c (2 ^ d)))
     chip_after c h =
         let tile : bit_xor c (2 ^ d) / 64 ≡ tile_across d (c / 64) = xor_shr c (2 ^ d) 6 in
         let place : bit_xor c (2 ^ d) % 64 ≡ place_across d (c % 64) = xor_mod c (2 ^ d) 6 in
@@ -184,24 +254,18 @@ module _ (room d count : ℕ) (old left : List Tile) (leaving : List (List ℕ))
 
 -- the queues of all chips
 pub crossed : (dims room d : ℕ) (old new : List Tile) → d < dims
-    → ((c : ℕ) → c < 2 ^ dims → tickets_of room new c
-    ≡ queue_after_dimension room d (tickets_of room old c)
-    (ticket_going room d (tickets_of room old (bit_xor c (2 ^ d)))))
-    → queues_in dims room new
-    ≡ record (queues_in dims room old) {
-      tickets = each_chip dims
-          (λ c. queue_after_dimension room d (list_at (each_chip dims (tickets_of room old)) c)
-          (ticket_going room d (list_at (each_chip dims (tickets_of room old)) (bit_xor c (2 ^ d)))));
-    }
+    → ((c : ℕ) → c < 2 ^ dims
+    → tickets_of new c ≡ exchanged room d (tickets_of old c) (tickets_of old (bit_xor c (2 ^ d))))
+    → queues_in (2 ^ dims) new
+    ≡ each_chip dims (λ c. exchanged room d (list_at (queues_in (2 ^ dims) old) c)
+    (list_at (queues_in (2 ^ dims) old) (bit_xor c (2 ^ d))))
 crossed dims room d old new below each =
-    ap (λ (tickets : List (List Ticket)). record { dims = dims; room = room; tickets = tickets })
-    (same_each_below [] (2 ^ dims) (tickets_of room new)
-    (λ c. queue_after_dimension room d (list_at (each_chip dims (tickets_of room old)) c)
-    (ticket_going room d (list_at (each_chip dims (tickets_of room old)) (bit_xor c (2 ^ d)))))
+    same_each_below [] (2 ^ dims) (tickets_of new)
+    (λ c. exchanged room d (list_at (queues_in (2 ^ dims) old) c)
+    (list_at (queues_in (2 ^ dims) old) (bit_xor c (2 ^ d))))
     (λ c h.
-    let here : list_at (each_chip dims (tickets_of room old)) c ≡ tickets_of room old c =
-    get_or-each_below (2 ^ dims) (tickets_of room old) c [] h in
-    let there : list_at (each_chip dims (tickets_of room old)) (bit_xor c (2 ^ d))
-    ≡ tickets_of room old (bit_xor c (2 ^ d)) =
-    get_or-each_below (2 ^ dims) (tickets_of room old) (bit_xor c (2 ^ d)) [] (across_below dims d c below h) in
-    rw (here, there) (each c h)))
+    let here : list_at (queues_in (2 ^ dims) old) c ≡ tickets_of old c =
+    get_or-each_below (2 ^ dims) (tickets_of old) c [] h in
+    let there : list_at (queues_in (2 ^ dims) old) (bit_xor c (2 ^ d)) ≡ tickets_of old (bit_xor c (2 ^ d)) =
+    get_or-each_below (2 ^ dims) (tickets_of old) (bit_xor c (2 ^ d)) [] (across_below dims d c below h) in
+    rw (here, there) (each c h))

@@ -9,12 +9,11 @@ use Rattle.std.proofs.lemmas.List.Elements.{filter-append}
 use Rattle.std.proofs.Math.Seq.{get_or-append_right}
 use Rattle.cm_model.specs.Each.{each_from}
 use Rattle.cm_model.proofs.Each.{is_each}
-use Rattle.cm_model.proofs.Bits.{bit-zero}
 use Rattle.cm_slots.specs.Slots.{is_taken, comers, AreSlots, IsFilled, IsBehind, standing_in}
 
 -- at a slot that is taken stands something
 pub taken_some : (slot : ℕ) → is_taken slot ≡ true → slot ≢ 0
-taken_some slot taken none = let blank : is_taken slot ≡ false = ap is_taken none ∙ bit-zero 31 in cc (taken, blank)
+taken_some slot taken none = let blank : is_taken slot ≡ false = ap is_taken none in cc (taken, blank)
 
 -- ---- one list
 
@@ -69,6 +68,29 @@ pub same_slots : (count : ℕ) (slots others : ℕ → ℕ) (xs : List ℕ) → 
     → AreSlots count slots xs → AreSlots count others xs
 same_slots count slots others xs same are =
     record { fits = are.fits; each = λ j h. same j h ∙ are.each j h; taken = are.taken }
+
+-- the same stands in fewer slots, if it fits
+pub narrower : (room count : ℕ) (slots : ℕ → ℕ) (xs : List ℕ) → room ≤ count → length xs ≤ room
+    → AreSlots count slots xs → AreSlots room slots xs
+narrower room count slots xs less fits are =
+    record { fits = fits; each = λ j h. are.each j (omega (arith, less)); taken = are.taken }
+
+-- and in more, if the others are 0
+pub wider : (room count : ℕ) (slots : ℕ → ℕ) (xs : List ℕ) → room ≤ count
+    → ((j : ℕ) → room ≤ j → j < count → slots j ≡ 0) → AreSlots room slots xs → AreSlots count slots xs
+wider room count slots xs more blank are = record {
+  fits = omega (arith, are.fits);
+  each = λ j h. ⊎_elim (λ (l : j < room). are.each j l)
+      (λ (l : room ≤ j). blank j l h ∙ sym (get_or_past xs j 0 (omega (arith, are.fits)))) (cases_lt j room);
+  taken = are.taken;
+}
+
+-- where something stands in a slot, that is taken
+pub standing_taken : (count : ℕ) (slots : ℕ → ℕ) (xs : List ℕ) (j : ℕ) → j < count → slots j ≢ 0
+    → AreSlots count slots xs → is_taken (slots j) ≡ true
+standing_taken count slots xs j h some are =
+    ⊎_elim (λ (l : j < length xs). ap is_taken (are.each j h) ∙ are.taken j l)
+    (λ (l : length xs ≤ j). absurd (some (are.each j h ∙ get_or_past xs j 0 l))) (cases_lt j (length xs))
 
 -- ---- who comes
 

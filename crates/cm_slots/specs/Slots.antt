@@ -1,17 +1,16 @@
 -- A chip's tickets in slots, the first that came in slot 0: who is carried on and who stays. Ours.
-use Rattle.std.specs.Prelude.{ℕ, zero, suc, ◌+◌, ◌^◌, ◌<◌, ◌≤◌, ◌≡◌, ◌≢◌, ◌==◌, true, Bool, List, [], ◌∷◌, length, bit_xor, map}
+use Rattle.std.specs.Prelude.{ℕ, zero, suc, ◌+◌, ◌^◌, ◌<◌, ◌≤◌, ◌≡◌, ◌≢◌, ◌==◌, ◌%◌, true, false, Bool}
+use Rattle.std.specs.Prelude.{List, [], ◌∷◌, length, bit_xor, Option, Some, None}
 use Rattle.std.specs.Prelude.{slice_index, slice_index_or, if◌then◌else◌}
 use Rattle.std.specs.List.{filter}
 use Rattle.cm_bits.specs.Bit.{bit}
 use Rattle.cm_model.specs.Each.{each_from}
-use Rattle.cm_slots.specs.declared.ticket.Ticket.{Ticket}
-use Rattle.cm_slots.specs.Tickets.{ticket_of}
 
 -- ---- one slot
 
--- a ticket stands there
+-- a ticket stands there: then the lower sixteen bits are not all 0
 abbrev pub is_taken : ℕ → Bool
-is_taken slot = bit slot 31
+is_taken slot = if slot % 65536 == 0 then false else true
 
 -- a ticket stands there whose message has to cross dimension d
 abbrev pub crosses : ℕ → ℕ → Bool
@@ -24,6 +23,11 @@ slot_across d slot = if slot == 0 then 0 else bit_xor slot (2 ^ (16 + d))
 -- who comes with a slot, if anyone does
 abbrev pub comers : ℕ → List ℕ
 comers slot = if slot == 0 then [] else slot ∷ []
+
+-- of who leaves a tile, each as it arrives across, who leaves the chip at place i; 0 where nobody does
+abbrev pub leaver_at : Option (List ℕ) → ℕ → ℕ
+leaver_at None i = 0
+leaver_at (Some row) i = slice_index row i
 
 -- ---- the slots of a chip
 
@@ -79,7 +83,3 @@ IsBlank row = (i : ℕ) → i < 64 → slice_index row i ≡ 0
 -- what stands in so many slots
 abbrev pub standing_in : ℕ → (ℕ → ℕ) → List ℕ
 standing_in count slots = filter is_taken (each_from 0 count slots)
-
--- the tickets in so many slots
-abbrev pub tickets_in : ℕ → (ℕ → ℕ) → List Ticket
-tickets_in count slots = map ticket_of (standing_in count slots)

@@ -1,7 +1,7 @@
-//! What arrives across a dimension.
+//! What crosses a dimension, from a tile to the one across.
 
-ghost use Rattle.std.specs.Prelude.{◌≡◌, ℕ, ◌%◌, ◌^◌, ◌<◌, length, slice_index};
-ghost use Rattle.cm_slots.specs.Slots.{slot_across};
+ghost use Rattle.std.specs.Prelude.{◌≡◌, ℕ, ◌%◌, ◌^◌, ◌<◌, length, slice_index, bit_xor, IfSome};
+ghost use Rattle.cm_slots.specs.Slots.{slot_across, leaver_at};
 ghost use Rattle.cm_slots.specs.Tiles.{tile_across, place_across};
 
 use crate::rows::{Row, WIDTH};
@@ -14,26 +14,64 @@ pub(crate) fn tile_across(tile: usize, dim: u8) -> usize
     tile ^ (1 << dim) / WIDTH
 }
 
-/// What arrives at a tile, of what leaves the one across.
-pub(crate) fn arrivals(leaving: &Row, dim: u8) -> Row
+/// Who leaves, as they arrive: the bit that is crossed has flipped.
+#[inline(never)]
+pub(crate) fn flipped(row: &Row, dim: u8) -> Row
     requires dimension { dim < 12 }
-    requires long { length leaving.now ≡ 64 }
-    ensures value { (i : ℕ) → i < 64
-        → slice_index result i ≡ slot_across dim (slice_index leaving.now (place_across dim i)) }
+    requires long { length row.now ≡ 64 }
+    ensures value { (i : ℕ) → i < 64 → slice_index result i ≡ slot_across dim (slice_index row.now i) }
     ensures long { length result ≡ 64 }
 {
-    let near = (1 << dim) % WIDTH;
-    let mut coming = [0; WIDTH];
+    let mut going = [0; WIDTH];
     for i in 0..WIDTH {
-        coming[i] = slot_across(leaving[i ^ near], dim);
+        let slot = row[i];
+        going[i] = if slot == 0 { 0 } else { slot ^ 1 << (16 + dim) };
     }
-    coming
+    going
 }
 
-/// What arrives of a slot: the bit that is crossed has flipped.
-fn slot_across(slot: u32, dim: u8) -> u32
+/// What arrives at a tile, of what leaves the one across.
+pub(crate) fn arrivals(leavers: &Option<Row>, dim: u8) -> Row
     requires dimension { dim < 12 }
-    ensures value { result ≡ slot_across dim slot }
+    requires long { IfSome leavers.now (λ row. length row ≡ 64) }
+    ensures value { (i : ℕ) → i < 64 → slice_index result i ≡ leaver_at leavers.now (place_across dim i) }
+    ensures long { length result ≡ 64 }
 {
-    if slot == 0 { 0 } else { slot ^ 1 << (16 + dim) }
+    match leavers {
+        Some(row) => moved(row, dim),
+        None => [0; WIDTH],
+    }
+}
+
+/// A row of which each lane stands at the place across.
+fn moved(row: &Row, dim: u8) -> Row
+    requires dimension { dim < 12 }
+    requires long { length row.now ≡ 64 }
+    ensures value { (i : ℕ) → i < 64 → slice_index result i ≡ slice_index row.now (place_across dim i) }
+    ensures long { length result ≡ 64 }
+{
+    match dim {
+        0 => swapped::<1>(row),
+        1 => swapped::<2>(row),
+        2 => swapped::<4>(row),
+        3 => swapped::<8>(row),
+        4 => swapped::<16>(row),
+        5 => swapped::<32>(row),
+        _ => *row,
+    }
+}
+
+/// A row of which the lanes whose numbers differ in this bit have changed places.
+#[inline(never)]
+fn swapped<const BIT: usize>(row: &Row) -> Row
+    requires bit { BIT < 64 }
+    requires long { length row.now ≡ 64 }
+    ensures value { (i : ℕ) → i < 64 → slice_index result i ≡ slice_index row.now (bit_xor i BIT) }
+    ensures long { length result ≡ 64 }
+{
+    let mut lanes = [0; WIDTH];
+    for i in 0..WIDTH {
+        lanes[i] = row[i ^ BIT];
+    }
+    lanes
 }

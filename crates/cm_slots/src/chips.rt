@@ -1,64 +1,81 @@
 //! One chip of a row of tiles: what stands there, and who comes or goes there.
 
-ghost use Rattle.std.specs.Prelude.{◌≡◌, ℕ, ◌/◌, ◌^◌, ◌<◌, ◌≤◌, ◌++◌, [], ◌∷◌, IsTrue, length, remove, slice_index_or};
-ghost use Rattle.std.specs.List.{All};
+ghost use Rattle.std.specs.Prelude.{◌≡◌, ℕ, ◌/◌, ◌<◌, ◌≤◌, ◌++◌, [], ◌∷◌, IfSome, IsTrue, length, remove};
+ghost use Rattle.std.specs.Prelude.{slice_set};
+ghost use Rattle.std.specs.List.{All, slice_get};
 ghost use Rattle.cm_slots.specs.Tiles.{IsTile, IsChanged, tickets_of};
 
-use crate::rows::WIDTH;
+use crate::rows::{ROOM, WIDTH};
 use crate::ticket::{Ticket, slot_with, ticket_at};
 use crate::tile::Tile;
 
 /// How many tickets stand at a chip.
-pub(crate) fn len(tiles: &[Tile], room: usize, chip: usize) -> usize
-    requires most { room ≤ 15 }
+pub(crate) fn len(tiles: &[Tile], chip: usize) -> usize
     requires chip { chip / 64 < length tiles.now }
-    requires whole { All (IsTile room) tiles.now }
-    ensures value { result ≡ length (tickets_of room tiles.now chip) }
+    requires whole { All IsTile tiles.now }
+    ensures value { result ≡ length (tickets_of tiles.now chip) }
 {
-    tiles[chip / WIDTH].len(room, chip % WIDTH)
+    tiles[chip / WIDTH].len(chip % WIDTH)
 }
 
-/// The ticket at a place of a chip.
-pub(crate) fn ticket(tiles: &[Tile], room: usize, chip: usize, place: usize) -> Ticket
-    requires most { room ≤ 15 }
+/// The ticket at a place of a chip, if one stands there.
+pub(crate) fn ticket(tiles: &[Tile], chip: usize, place: usize) -> Option<Ticket>
     requires chip { chip / 64 < length tiles.now }
-    requires whole { All (IsTile room) tiles.now }
-    requires place { place < length (tickets_of room tiles.now chip) }
-    ensures value { result ≡ slice_index_or (tickets_of room tiles.now chip) place result }
+    requires whole { All IsTile tiles.now }
+    ensures value { result ≡ slice_get (tickets_of tiles.now chip) place }
+    ensures most { IfSome result (λ t. place < 15) }
 {
-    ticket_at(tiles[chip / WIDTH].slot(chip % WIDTH, place))
+    if place >= ROOM {
+        return None;
+    }
+    let slot = tiles[chip / WIDTH].slot(chip % WIDTH, place);
+    if slot == 0 {
+        None
+    } else {
+        Some(ticket_at(slot))
+    }
 }
 
 /// Takes in a ticket at a chip, where it stands last.
-pub(crate) fn arrive(tiles: &mut [Tile], room: usize, chip: usize, ticket: Ticket)
-    requires most { room ≤ 15 }
+pub(crate) fn arrive(tiles: &mut [Tile], chip: usize, ticket: Ticket)
     requires chip { chip / 64 < length tiles.old }
-    requires whole { All (IsTile room) tiles.old }
-    requires rel { ticket.rel < 2 ^ 12 }
-    requires space { length (tickets_of room tiles.old chip) < room }
-    ensures value { IsChanged room chip (tickets_of room tiles.old chip ++ ticket ∷ []) tiles.old tiles.new }
+    requires whole { All IsTile tiles.old }
+    requires number { ticket.number < 65535 }
+    requires space { length (tickets_of tiles.old chip) < 15 }
+    ensures value { IsChanged chip (tickets_of tiles.old chip ++ ticket ∷ []) tiles.old tiles.new }
 {
-    tiles[chip / WIDTH].arrive(room, chip % WIDTH, slot_with(ticket));
+    tiles[chip / WIDTH].arrive(chip % WIDTH, slot_with(ticket));
+}
+
+/// Puts a ticket in the place of one of a chip.
+pub(crate) fn replace(tiles: &mut [Tile], chip: usize, place: usize, ticket: Ticket)
+    requires chip { chip / 64 < length tiles.old }
+    requires whole { All IsTile tiles.old }
+    requires number { ticket.number < 65535 }
+    requires place { place < length (tickets_of tiles.old chip) }
+    ensures value { IsChanged chip (slice_set (tickets_of tiles.old chip) place ticket) tiles.old tiles.new }
+{
+    tiles[chip / WIDTH].replace(chip % WIDTH, place, slot_with(ticket));
 }
 
 /// Takes out the ticket at a place of a chip.
-pub(crate) fn remove(tiles: &mut [Tile], room: usize, chip: usize, place: usize)
-    requires most { room ≤ 15 }
+pub(crate) fn remove(tiles: &mut [Tile], chip: usize, place: usize)
     requires chip { chip / 64 < length tiles.old }
-    requires whole { All (IsTile room) tiles.old }
-    requires place { place < length (tickets_of room tiles.old chip) }
-    ensures value { IsChanged room chip (remove (tickets_of room tiles.old chip) place) tiles.old tiles.new }
+    requires whole { All IsTile tiles.old }
+    requires place { place < length (tickets_of tiles.old chip) }
+    ensures value { IsChanged chip (remove (tickets_of tiles.old chip) place) tiles.old tiles.new }
 {
-    tiles[chip / WIDTH].remove(room, chip % WIDTH, place);
+    tiles[chip / WIDTH].remove(chip % WIDTH, place);
 }
 
-/// True only where no ticket stands at any chip.
-pub(crate) fn are_quiet(tiles: &[Tile], room: usize) -> bool
-    requires whole { All (IsTile room) tiles.now }
-    ensures none { IsTrue result → (c : ℕ) → c / 64 < length tiles.now → tickets_of room tiles.now c ≡ [] }
+/// True only where no chip has more tickets than this.
+pub(crate) fn are_within(tiles: &[Tile], room: usize) -> bool
+    requires whole { All IsTile tiles.now }
+    ensures within { IsTrue result
+        → (c : ℕ) → c / 64 < length tiles.now → length (tickets_of tiles.now c) ≤ room }
 {
     for tile in tiles {
-        if !tile.is_quiet(room) {
+        if !tile.is_within(room) {
             return false;
         }
     }

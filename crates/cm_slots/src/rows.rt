@@ -1,13 +1,17 @@
 //! Rows of slots: the same slot of 64 chips that stand side by side. A step does the same at each of them,
 //! whatever stands there, so that it takes several at once.
 
-ghost use Rattle.std.specs.Prelude.{◌≡◌, ℕ, ◌+◌, ◌<◌, ◌≤◌, ◌==◌, IsTrue, length, slice_index, if◌then◌else◌};
+ghost use Rattle.std.specs.Prelude.{◌≡◌, ℕ, ◌+◌, ◌<◌, ◌≤◌, ◌==◌, IsTrue, [], length, slice_index, slice_index_or};
+ghost use Rattle.std.specs.Prelude.{if◌then◌else◌};
 ghost use Rattle.std.specs.List.{All};
 ghost use Rattle.cm_slots.specs.Slots.{crosses, slot_in, slot_behind, leaver_in, IsWithout, IsFilled, IsBehind};
 ghost use Rattle.cm_slots.specs.Slots.{IsBlank};
 
 /// So many chips stand side by side.
 pub(crate) const WIDTH: usize = 64;
+
+/// Most tickets of a chip: so many slots has each.
+pub(crate) const ROOM: usize = 15;
 
 /// One slot of each of them.
 pub(crate) type Row = [u32; WIDTH];
@@ -23,6 +27,7 @@ pub(crate) fn leave(first: &mut Row, rest: &mut [Row], count: usize, dim: u8)
         ≡ slot_in first.old rest.old i (leaver_in dim count (slot_in first.old rest.old i)) }
     ensures stay { (i : ℕ) → i < 64 → IsWithout count (leaver_in dim count (slot_in first.old rest.old i))
         (slot_in first.old rest.old i) (slot_behind rest.new i) }
+    ensures others { (j : ℕ) → count ≤ j → slice_index_or rest.new j [] ≡ slice_index_or rest.old j [] }
     ensures long { length first.new ≡ 64 }
     ensures wide { All (λ row. length row ≡ 64) rest.new }
 {
@@ -38,6 +43,7 @@ pub(crate) fn take_in(first: &mut Row, rest: &mut [Row], count: usize)
     requires wide { All (λ row. length row ≡ 64) rest.old }
     ensures taken { (i len : ℕ) → i < 64 → IsFilled count len (slot_behind rest.old i)
         → IsBehind count len (slice_index first.old i) (slot_behind rest.old i) (slot_in first.new rest.new i) }
+    ensures others { (j : ℕ) → count ≤ j → slice_index_or rest.new j [] ≡ slice_index_or rest.old j [] }
     ensures long { length first.new ≡ 64 }
     ensures wide { All (λ row. length row ≡ 64) rest.new }
 {

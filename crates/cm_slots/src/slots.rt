@@ -1,11 +1,12 @@
 //! The queues of a run of chips.
 
-ghost use Rattle.std.specs.Prelude.{◌≡◌, ◌^◌, ◌<◌, ◌≤◌, ◌++◌, [], ◌∷◌, IfOk, IsTrue, bit_xor, length, remove};
-ghost use Rattle.std.specs.Prelude.{slice_index_or, slice_set};
-ghost use Rattle.std.specs.List.{All};
+ghost use Rattle.std.specs.Prelude.{◌≡◌, ◌^◌, ◌<◌, ◌≤◌, ◌++◌, [], ◌∷◌, IfOk, IfSome, IsTrue, bit_xor, length};
+ghost use Rattle.std.specs.Prelude.{remove, slice_set};
+ghost use Rattle.std.specs.List.{All, slice_get};
+ghost use Rattle.cm_model.specs.Each.{each_from};
 ghost use Rattle.cm_model.specs.Array.{each_chip, list_at};
 ghost use Rattle.cm_slots.specs.Tiles.{AreEmpty};
-ghost use Rattle.cm_slots.specs.Tickets.{queue_after_dimension, ticket_going};
+ghost use Rattle.cm_slots.specs.Tickets.{exchanged};
 
 use crate::chips;
 use crate::passes::cross;
@@ -16,137 +17,136 @@ use cm_bits::NoMemory;
 use std::alloc::Global;
 use std::marker::Model;
 
-/// The tickets of the chips of a cube, slot by slot: 64 chips that stand side by side make a tile, in
-/// which a step does the same at each of them. Of a cube of fewer chips the tile has places that are
-/// never read as chips.
-#[derive(Drop)]
+/// The tickets of a run of chips, slot by slot: 64 chips that stand side by side make a tile, in which a
+/// step does the same at each of them. Behind the last chip the last tile may have places that are never
+/// read as chips.
+#[derive(Debug, Drop)]
 pub struct Slots {
-    /// Of how many dimensions the cube is.
-    dims: u8,
-    /// Most tickets of a chip.
-    room: u8,
+    /// How many chips there are.
+    chips: usize,
     /// Chip c stands at place c % 64 of tile c / 64.
     tiles: Vec<Tile>,
     /// Between the two passes of a dimension, who leaves each tile; else anything.
-    leaving: Vec<Row>,
+    leaving: Vec<Option<Row>>,
 }
 
 impl Model for Slots {
-    ghost use Rattle.cm_slots.specs.Tickets.{Queues};
+    ghost use Rattle.std.specs.Prelude.{List};
+    ghost use Rattle.cm_slots.specs.declared.ticket.Ticket.{Ticket};
     ghost use Rattle.cm_slots.specs.Tiles.{queues_in, AreTiles};
 
-    ghost Value = { Queues };
+    ghost Value = { List (List Ticket) };
 
-    ghost view = { λ slots. queues_in slots.dims slots.room slots.tiles.items };
+    ghost view = { λ slots. queues_in slots.chips slots.tiles.items };
 
-    ghost invariant = { λ slots. AreTiles slots.dims slots.room slots.tiles.items slots.leaving.items };
+    ghost invariant = { λ slots. AreTiles slots.chips slots.tiles.items slots.leaving.items };
 }
 
 impl Slots {
-    /// Room for so many tickets at each chip of a cube of so many dimensions. None stands there.
-    pub fn new(alloc: Global, dims: u8, room: u8) -> Result<Slots, NoMemory>
-        requires few { dims ≤ 12 }
-        requires some { 0 < room }
-        requires most { room ≤ 15 }
-        ensures value { IfOk result (λ slots. slots
-            ≡ record { dims = dims; room = room; tickets = each_chip dims (λ c. []) }) }
+    /// Slots for so many chips, at which no ticket stands.
+    pub fn new(alloc: Global, chips: usize) -> Result<Slots, NoMemory>
+        requires few { chips ≤ 4096 }
+        ensures value { IfOk result (λ slots. slots ≡ each_from 0 chips (λ c. [])) }
     {
-        let count = 1 << dims.saturating_sub(6);
+        let count = (chips + 63) / WIDTH;
         let tiles = empty_tiles(alloc, count)?;
-        let leaving = empty_rows(alloc, count)?;
+        let leaving = no_leavers(alloc, count)?;
         Ok(Slots {
-            dims,
-            room,
+            chips,
             tiles,
             leaving,
         })
     }
 
-    /// Of how many dimensions the cube is.
-    pub fn dims(&self) -> u8
-        ensures value { result ≡ self.now.dims }
-        ensures most { result ≤ 12 }
+    /// A second one, with the tickets of this one.
+    pub fn copy(&self, alloc: Global) -> Result<Slots, NoMemory>
+        ensures value { IfOk result (λ slots. slots ≡ self.now) }
     {
-        self.dims
+        let tiles = copied_tiles(alloc, &self.tiles)?;
+        let leaving = no_leavers(alloc, self.tiles.len())?;
+        Ok(Slots {
+            chips: self.chips,
+            tiles,
+            leaving,
+        })
     }
 
-    /// How many chips it has.
+    /// How many chips there are.
     pub fn chips(&self) -> usize
-        ensures value { result ≡ 2 ^ self.now.dims }
+        ensures value { result ≡ length self.now }
+        ensures few { result ≤ 4096 }
     {
-        1 << self.dims
-    }
-
-    /// Most tickets of a chip.
-    pub fn room(&self) -> u8
-        ensures value { result ≡ self.now.room }
-        ensures most { result ≤ 15 }
-    {
-        self.room
+        self.chips
     }
 
     /// How many tickets stand at a chip.
     pub fn len(&self, chip: usize) -> usize
-        requires chip { chip < 2 ^ self.now.dims }
-        ensures value { result ≡ length (list_at self.now.tickets chip) }
+        requires chip { chip < length self.now }
+        ensures value { result ≡ length (list_at self.now chip) }
+        ensures most { result ≤ 15 }
     {
-        chips::len(&self.tiles, usize::from(self.room), chip)
+        chips::len(&self.tiles, chip)
     }
 
-    /// The ticket at a place of a chip, 0 the first that came.
-    pub fn ticket(&self, chip: usize, place: usize) -> Ticket
-        requires chip { chip < 2 ^ self.now.dims }
-        requires place { place < length (list_at self.now.tickets chip) }
-        ensures value { result ≡ slice_index_or (list_at self.now.tickets chip) place result }
+    /// The ticket at a place of a chip, if one stands there; at place 0 the first that came.
+    pub fn ticket(&self, chip: usize, place: usize) -> Option<Ticket>
+        requires chip { chip < length self.now }
+        ensures value { result ≡ slice_get (list_at self.now chip) place }
+        ensures most { IfSome result (λ t. place < 15) }
     {
-        chips::ticket(&self.tiles, usize::from(self.room), chip, place)
+        chips::ticket(&self.tiles, chip, place)
     }
 
     /// Takes in a ticket at a chip, where it stands last.
     pub fn arrive(&mut self, chip: usize, ticket: Ticket)
-        requires chip { chip < 2 ^ self.old.dims }
-        requires rel { ticket.rel < 2 ^ 12 }
-        requires room { length (list_at self.old.tickets chip) < self.old.room }
-        ensures value { self.new ≡ record self.old {
-          tickets = slice_set self.old.tickets chip (list_at self.old.tickets chip ++ ticket ∷ []);
-        } }
+        requires chip { chip < length self.old }
+        requires number { ticket.number < 65535 }
+        requires room { length (list_at self.old chip) < 15 }
+        ensures value { self.new ≡ slice_set self.old chip (list_at self.old chip ++ ticket ∷ []) }
     {
-        chips::arrive(&mut self.tiles, usize::from(self.room), chip, ticket);
+        chips::arrive(&mut self.tiles, chip, ticket);
+    }
+
+    /// Puts a ticket in the place of one of a chip.
+    pub fn replace(&mut self, chip: usize, place: usize, ticket: Ticket)
+        requires chip { chip < length self.old }
+        requires number { ticket.number < 65535 }
+        requires place { place < length (list_at self.old chip) }
+        ensures value { self.new ≡ slice_set self.old chip (slice_set (list_at self.old chip) place ticket) }
+    {
+        chips::replace(&mut self.tiles, chip, place, ticket);
     }
 
     /// Takes out the ticket at a place of a chip; the later ones stand one place nearer the front.
     pub fn remove(&mut self, chip: usize, place: usize)
-        requires chip { chip < 2 ^ self.old.dims }
-        requires place { place < length (list_at self.old.tickets chip) }
-        ensures value { self.new ≡ record self.old {
-          tickets = slice_set self.old.tickets chip (remove (list_at self.old.tickets chip) place);
-        } }
+        requires chip { chip < length self.old }
+        requires place { place < length (list_at self.old chip) }
+        ensures value { self.new ≡ slice_set self.old chip (remove (list_at self.old chip) place) }
     {
-        chips::remove(&mut self.tiles, usize::from(self.room), chip, place);
+        chips::remove(&mut self.tiles, chip, place);
     }
 
-    /// True only where no ticket stands at any chip.
-    pub fn is_quiet(&self) -> bool
-        ensures none { IsTrue result → All (λ ts. ts ≡ []) self.now.tickets }
+    /// True only where no chip has more tickets than this; with 0, where none stands anywhere.
+    pub fn is_within(&self, room: usize) -> bool
+        ensures within { IsTrue result → All (λ ts. length ts ≤ room) self.now }
     {
-        chips::are_quiet(&self.tiles, usize::from(self.room))
+        chips::are_within(&self.tiles, room)
     }
 
-    /// The tickets cross a dimension: all leave before any comes.
-    pub fn cross(&mut self, dim: u8)
-        requires dim { dim < self.old.dims }
-        ensures value { self.new ≡ record self.old {
-          tickets = each_chip self.old.dims
-              (λ c. queue_after_dimension self.old.room dim (list_at self.old.tickets c)
-              (ticket_going self.old.room dim (list_at self.old.tickets (bit_xor c (2 ^ dim)))));
-        } }
+    /// The tickets of chips that span so many dimensions, with room for so many at each, cross one of them: all
+    /// leave before any comes.
+    pub fn cross(&mut self, span: u8, room: u8, dim: u8)
+        requires dimension { span ≤ 12 }
+        requires dim { dim < span }
+        requires some { 0 < room }
+        requires most { room ≤ 15 }
+        requires count { length self.old ≡ 2 ^ span }
+        requires within { All (λ ts. length ts ≤ room) self.old }
+        ensures value { self.new ≡ each_chip span
+            (λ c. exchanged room dim (list_at self.old c) (list_at self.old (bit_xor c (2 ^ dim)))) }
+        ensures within { All (λ ts. length ts ≤ room) self.new }
     {
-        cross(
-            &mut self.tiles,
-            &mut self.leaving,
-            usize::from(self.room),
-            dim,
-        );
+        cross(&mut self.tiles, &mut self.leaving, usize::from(room), dim);
     }
 }
 
@@ -161,13 +161,19 @@ fn empty_tiles(alloc: Global, count: usize) -> Result<Vec<Tile>, NoMemory>
     Ok(tiles)
 }
 
-/// So many rows.
-fn empty_rows(alloc: Global, count: usize) -> Result<Vec<Row>, NoMemory>
-    ensures count { IfOk result (λ rows. length rows.items ≡ count) }
+fn copied_tiles(alloc: Global, tiles: &[Tile]) -> Result<Vec<Tile>, NoMemory>
+    ensures value { IfOk result (λ copies. copies.items ≡ tiles.now) }
 {
-    let mut rows = Vec::with_capacity(alloc, count)?;
+    Ok(tiles.iter().map(|tile| tile.copy()).collect(alloc)?)
+}
+
+/// Room for who leaves so many tiles.
+fn no_leavers(alloc: Global, count: usize) -> Result<Vec<Option<Row>>, NoMemory>
+    ensures count { IfOk result (λ leaving. length leaving.items ≡ count) }
+{
+    let mut leaving = Vec::with_capacity(alloc, count)?;
     for _t in 0..count {
-        rows.push_reserved([0; WIDTH]);
+        leaving.push_reserved(None);
     }
-    Ok(rows)
+    Ok(leaving)
 }

@@ -1,7 +1,7 @@
 //! What crosses in the place of a message, and the number that stands for it in a slot.
 
-ghost use Rattle.std.specs.Prelude.{◌≡◌, ◌<◌, ◌^◌, true};
-ghost use Rattle.cm_bits.specs.Bit.{bit};
+ghost use Rattle.std.specs.Prelude.{◌≡◌, ◌<◌, true};
+ghost use Rattle.cm_slots.specs.Slots.{is_taken};
 ghost use Rattle.cm_slots.specs.Tickets.{ticket_of, slot_of};
 
 /// Crosses in the place of a message: which dimensions that has still to cross, and where it is kept.
@@ -13,25 +13,23 @@ pub struct Ticket {
     pub number: u16,
 }
 
-/// Set in every slot at which a ticket stands: the other slots are 0.
-const TAKEN: u32 = 1 << 31;
-
 /// The ticket that stands at a slot.
 pub(crate) fn ticket_at(slot: u32) -> Ticket
+    requires some { is_taken slot ≡ true }
     ensures value { result ≡ ticket_of slot }
 {
     Ticket {
-        rel: (slot / 65536 % 32768) as u16,
-        number: (slot % 65536) as u16,
+        rel: (slot / 65536) as u16,
+        number: (slot % 65536 - 1) as u16,
     }
 }
 
 /// The slot at which a ticket stands.
 pub(crate) fn slot_with(ticket: Ticket) -> u32
-    requires few { ticket.rel < 2 ^ 12 }
+    requires number { ticket.number < 65535 }
     ensures value { result ≡ slot_of ticket }
-    ensures taken { bit result 31 ≡ true }
+    ensures taken { is_taken result ≡ true }
     ensures back { ticket_of result ≡ ticket }
 {
-    TAKEN + u32::from(ticket.rel) * 65536 + u32::from(ticket.number)
+    u32::from(ticket.rel) * 65536 + (u32::from(ticket.number) + 1)
 }

@@ -1,19 +1,23 @@
 //! Tiles of chips.
 
 ghost use Rattle.std.specs.Prelude.{◌≡◌, ◌≢◌, ℕ, ◌<◌, ◌≤◌, ◌++◌, [], ◌∷◌, IsTrue, true, length, remove, slice_index};
+ghost use Rattle.std.specs.Prelude.{slice_set};
 ghost use Rattle.cm_slots.specs.Slots.{is_taken};
-ghost use Rattle.cm_slots.specs.Tiles.{slots_of, standing_at, IsShaped, IsTile, HasLeft, HasTakenIn};
-ghost use Rattle.cm_slots.specs.Tiles.{IsPut, HasChanged};
+ghost use Rattle.cm_slots.specs.Tiles.{slots_of, standing_at, IsShaped, IsQuiet, IsTile, HasLeft};
+ghost use Rattle.cm_slots.specs.Tiles.{HasTakenIn, IsPut, HasChanged};
 
-use crate::rows::{Row, WIDTH, is_blank, leave, take_in};
+use crate::across::flipped;
+use crate::rows::{ROOM, Row, WIDTH, is_blank, leave, take_in};
 
 /// 64 chips that stand side by side, and their tickets slot by slot: the one that came first in slot 0.
-#[derive(Drop)]
+#[derive(Debug, Drop)]
 pub(crate) struct Tile {
     /// Slot 0 of each chip.
     first: Row,
-    /// The other slots: as many as there is room for, less one, count.
+    /// The other slots.
     rest: [Row; 14],
+    /// Whether a ticket may stand there.
+    awake: bool,
 }
 
 impl Tile {
@@ -25,22 +29,39 @@ impl Tile {
         Tile {
             first: [0; WIDTH],
             rest: [[0; WIDTH]; 14],
+            awake: false,
         }
     }
 
-    /// Takes out of each chip, where there is room for so many tickets, who leaves in a dimension. The
-    /// slots hold nothing that counts until who comes has been taken in.
-    pub fn leave(&mut self, room: usize, dim: u8) -> Row
+    /// A second one, with the tickets of this one.
+    pub fn copy(&self) -> Tile
+        ensures value { result ≡ self.now }
+    {
+        Tile {
+            first: self.first,
+            rest: self.rest,
+            awake: self.awake,
+        }
+    }
+
+    /// Takes out of each chip, where there is room for so many tickets, who leaves in a dimension, and
+    /// puts them down as they arrive across; of a tile at which nobody stands, none. The slots hold nothing
+    /// that counts until who comes has been taken in.
+    pub fn leave(&mut self, leavers: &mut Option<Row>, room: usize, dim: u8)
         requires dimension { dim < 12 }
         requires some { 0 < room }
         requires most { room ≤ 15 }
-        requires whole { IsTile room self.old }
-        ensures value { HasLeft room dim self.old self.new result }
+        requires whole { IsTile self.old }
+        requires within { (i : ℕ) → i < 64 → length (standing_at self.old i) ≤ room }
+        ensures value { HasLeft room dim self.old self.new leavers.new }
     {
-        if !is_blank(&self.first) {
-            leave(&mut self.first, &mut self.rest[..], room - 1, dim);
+        *leavers = None;
+        if self.is_quiet() {
+            self.awake = false;
+            return;
         }
-        self.first
+        leave(&mut self.first, &mut self.rest[..], room - 1, dim);
+        *leavers = Some(flipped(&self.first, dim));
     }
 
     /// Takes in at each chip who comes.
@@ -54,28 +75,42 @@ impl Tile {
         ensures value { HasTakenIn room (λ i. slice_index coming.now i) self.old self.new }
     {
         self.first = *coming;
+        self.awake = true;
         if !is_blank(coming) || !is_blank(&self.rest[0]) {
             take_in(&mut self.first, &mut self.rest[..], room - 1);
         }
     }
 
-    /// True only where no ticket stands: the first slots are filled first.
-    pub fn is_quiet(&self, room: usize) -> bool
-        requires whole { IsTile room self.now }
-        ensures none { IsTrue result → (i : ℕ) → i < 64 → standing_at room self.now i ≡ [] }
+    /// True only where no ticket stands: the slots are filled from the first on.
+    fn is_quiet(&self) -> bool
+        requires whole { IsTile self.now }
+        ensures none { IsTrue result → IsQuiet self.now }
     {
-        is_blank(&self.first)
+        !self.awake || is_blank(&self.first)
+    }
+
+    /// True only where no chip has more tickets than this.
+    pub fn is_within(&self, room: usize) -> bool
+        requires whole { IsTile self.now }
+        ensures within { IsTrue result → (i : ℕ) → i < 64 → length (standing_at self.now i) ≤ room }
+    {
+        if room == 0 {
+            self.is_quiet()
+        } else if room < ROOM {
+            is_blank(&self.rest[room - 1])
+        } else {
+            true
+        }
     }
 
     /// How many tickets stand at a chip.
-    pub fn len(&self, room: usize, place: usize) -> usize
-        requires most { room ≤ 15 }
+    pub fn len(&self, place: usize) -> usize
         requires place { place < 64 }
-        requires whole { IsTile room self.now }
-        ensures value { result ≡ length (standing_at room self.now place) }
+        requires whole { IsTile self.now }
+        ensures value { result ≡ length (standing_at self.now place) }
     {
         let mut len = 0;
-        while len < room && self.slot(place, len) != 0 {
+        while len < ROOM && self.slot(place, len) != 0 {
             len += 1;
         }
         len
@@ -96,31 +131,43 @@ impl Tile {
     }
 
     /// Puts a ticket's number behind those of a chip.
-    pub fn arrive(&mut self, room: usize, place: usize, number: u32)
-        requires most { room ≤ 15 }
+    pub fn arrive(&mut self, place: usize, number: u32)
         requires place { place < 64 }
-        requires whole { IsTile room self.old }
-        requires space { length (standing_at room self.old place) < room }
+        requires whole { IsTile self.old }
+        requires space { length (standing_at self.old place) < 15 }
         requires taken { is_taken number ≡ true }
-        ensures value { HasChanged room place (standing_at room self.old place ++ number ∷ []) self.old self.new }
+        ensures value { HasChanged place (standing_at self.old place ++ number ∷ []) self.old self.new }
     {
-        let len = self.len(room, place);
+        let len = self.len(place);
         self.put(place, len, number);
     }
 
-    /// Takes one out of a chip's slots; the later ones close up.
-    pub fn remove(&mut self, room: usize, place: usize, slot: usize)
-        requires most { room ≤ 15 }
+    /// Puts a ticket's number in the place of one of a chip.
+    pub fn replace(&mut self, place: usize, slot: usize, number: u32)
         requires place { place < 64 }
-        requires whole { IsTile room self.old }
-        requires there { slot < length (standing_at room self.old place) }
-        ensures value { HasChanged room place (remove (standing_at room self.old place) slot) self.old self.new }
+        requires whole { IsTile self.old }
+        requires there { slot < length (standing_at self.old place) }
+        requires taken { is_taken number ≡ true }
+        ensures value { HasChanged place (slice_set (standing_at self.old place) slot number) self.old self.new }
     {
-        for later in slot + 1..room {
+        self.put(place, slot, number);
+    }
+
+    /// Takes one out of a chip's slots; the later ones close up.
+    pub fn remove(&mut self, place: usize, slot: usize)
+        requires place { place < 64 }
+        requires whole { IsTile self.old }
+        requires there { slot < length (standing_at self.old place) }
+        ensures value { HasChanged place (remove (standing_at self.old place) slot) self.old self.new }
+    {
+        for later in slot + 1..ROOM {
             let next = self.slot(place, later);
             self.put(place, later - 1, next);
+            if next == 0 {
+                return;
+            }
         }
-        self.put(place, room - 1, 0);
+        self.put(place, ROOM - 1, 0);
     }
 
     fn put(&mut self, place: usize, slot: usize, number: u32)
@@ -134,5 +181,6 @@ impl Tile {
         } else {
             self.rest[slot - 1][place] = number;
         }
+        self.awake = true;
     }
 }

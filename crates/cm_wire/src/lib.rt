@@ -2,6 +2,5 @@
 #![tactic(auto)]
 
 mod global;
-pub mod run;
 
 pub use global::{chip_or, wire};

@@ -6,7 +6,7 @@ ghost use Rattle.cm_model.specs.Processor.{ZERO, memory_bit, flag, field_value};
 ghost use Rattle.cm_model.specs.Chip.{processor_at, with_memory_bit, with_flag};
 ghost use Rattle.cm_model.specs.Array.{chip_at};
 ghost use Rattle.cm_model.specs.Whole.{IsChip};
-ghost use Rattle.cm_element.specs.Wide.{with_memory_field, with_flag_plane};
+ghost use Rattle.cm_element.specs.Wide.{with_memory_field, with_flag_plane, with_memory_plane};
 
 use super::{ADDRESSES, FLAGS, Run};
 use crate::chip::wide::bit_of;
@@ -97,6 +97,16 @@ impl Run {
     {
         let here = word_at(usize::from(number.get()), FLAGS, self.stride, chip);
         self.flags[here] = plane;
+    }
+
+    /// Puts a plane at an address of all processors of a chip: bit p is that of processor p.
+    pub fn poke_plane(&mut self, chip: u16, at: Addr, plane: Plane)
+        requires chip { chip < length self.old }
+        ensures value { self.new
+            ≡ slice_set self.old chip (with_memory_plane (chip_at self.old chip) at (bit plane)) }
+    {
+        let here = word_at(usize::from(at.get()), ADDRESSES, self.stride, chip);
+        self.memory[here] = plane;
     }
 
     /// Puts a bit into the memory of one processor.

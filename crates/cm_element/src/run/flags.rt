@@ -27,6 +27,7 @@ impl Run {
     /// Whether a flag is 1 in some processor of some chip.
     pub fn has_flag(&self, number: FlagNo) -> bool
         ensures value { result ≡ list_any (has_flag number) self.now }
+        ensures whole { (c : ℕ) → c < length self.now → IsChip (chip_at self.now c) }
     {
         let row = self.flag_row(number);
         has_ones(row)
@@ -36,6 +37,7 @@ impl Run {
     pub fn chip_has_flag(&self, chip: u16, number: FlagNo) -> bool
         requires chip { chip < length self.now }
         ensures value { result ≡ has_flag number (chip_at self.now chip) }
+        ensures whole { IsChip (chip_at self.now chip) }
     {
         self.flag_plane(chip, number) != 0
     }

@@ -5,6 +5,7 @@ ghost use Rattle.cm_model.specs.Processor.{memory_bit, flag, field_value};
 ghost use Rattle.cm_model.specs.Chip.{IsPlane, processor_at};
 ghost use Rattle.cm_model.specs.Array.{chip_at};
 ghost use Rattle.cm_model.specs.Whole.{IsChip};
+ghost use Rattle.cm_element.specs.Flags.{has_flag};
 
 use super::Run;
 use cm_bits::{Addr, Field, FlagNo, Plane, Proc};
@@ -75,5 +76,12 @@ impl<'a> ChipView<'a> {
         ensures whole { IsChip self.now }
     {
         self.run.flag_plane(self.chip, number)
+    }
+
+    /// Whether a flag is 1 in some processor.
+    pub fn has_flag(&self, number: FlagNo) -> bool
+        ensures value { result ≡ has_flag number self.now }
+    {
+        self.run.chip_has_flag(self.chip, number)
     }
 }

@@ -12,25 +12,25 @@ use Rattle.cm_array.proofs.Rooms.{HasLogRoom-left, LosesAtMost-more, cycles_in-m
 use Rattle.cm_array.proofs.parts.run.Goals as goal
 
 pub loop-act-init : goal.loop-act-init
-loop-act-init g c = record {
-  ran = sym (run_of-nil g.row.N g.row.CAP (machine_of c.args.parts.now) c.requires.parts.machine.buffer_count);
-  parts = AreUnderWay-parts g.row.N g.row.CAP c.args.parts.now c.requires.parts;
+loop-act-init c = record {
+  ran = sym (run_of-nil c.args.sizes.dims c.args.sizes.room (machine_of c.args.parts.now) c.requires.parts.machine.buffer_count);
+  parts = AreUnderWay-parts c.args.sizes.dims c.args.sizes.room c.args.parts.now c.requires.parts;
   clock = omega arith;
   room = λ k. omega arith;
 }
 
 pub run_one-requires-clause-log_room : goal.run_one-requires-clause-log_room
-run_one-requires-clause-log_room g c =
+run_one-requires-clause-log_room c =
     let acts = c.args.acts.now in
     let i = c.loop-act.act-index in
     let more = cycles_in-more acts i c.act-item.result c.loop-act-test.true c.act-item.is in
     let fits : cycles_in (take i acts) + cycles_in (c.act-item.result ∷ []) ≤ cycles_in acts = omega (arith, more, cycles_in-part acts (i + 1)) in
-    HasLogRoom-left (cycles_in acts) (cycles_in (take i acts)) (cycles_in (c.act-item.result ∷ [])) (4 + g.row.CAP) c.args.parts.now.logs.items c.loop-act.parts.logs.items fits
-    (length-logs g.row.N g.row.CAP c.loop-act.parts c.loop-act.invariant.parts ∙ sym (length-logs g.row.N g.row.CAP c.args.parts.now (AreUnderWay-parts g.row.N g.row.CAP c.args.parts.now c.requires.parts)))
+    HasLogRoom-left (cycles_in acts) (cycles_in (take i acts)) (cycles_in (c.act-item.result ∷ [])) (4 + c.args.sizes.room) c.args.parts.now.logs.items c.loop-act.parts.logs.items fits
+    (length-logs c.args.sizes.dims c.args.sizes.room c.loop-act.parts c.loop-act.invariant.parts ∙ sym (length-logs c.args.sizes.dims c.args.sizes.room c.args.parts.now (AreUnderWay-parts c.args.sizes.dims c.args.sizes.room c.args.parts.now c.requires.parts)))
     c.requires.log_room c.loop-act.invariant.room
 
 pub loop-act-preserved : goal.loop-act-preserved
-loop-act-preserved g c =
+loop-act-preserved c =
     let acts = c.args.acts.now in
     let i = c.loop-act.act-index in
     let a = c.act-item.result in
@@ -39,25 +39,25 @@ loop-act-preserved g c =
     let more = cycles_in-more acts i a c.loop-act-test.true c.act-item.is in
     record {
       ran = c.run_one.ensures.value
-          ∙ ap (λ (m : Machine). after_act g.row.N g.row.CAP m a) c.loop-act.invariant.ran
-          ∙ sym (run_of_more g.row.N g.row.CAP (machine_of before) first a)
-          ∙ ap (run_of g.row.N g.row.CAP (machine_of before))
+          ∙ ap (λ (m : Machine). after_act c.args.sizes.dims c.args.sizes.room m a) c.loop-act.invariant.ran
+          ∙ sym (run_of_more c.args.sizes.dims c.args.sizes.room (machine_of before) first a)
+          ∙ ap (run_of c.args.sizes.dims c.args.sizes.room (machine_of before))
           (ap (λ (x : Act). first ++ x ∷ []) c.act-item.is ∙ sym (take_more acts i a c.loop-act-test.true));
       parts = c.run_one.ensures.parts;
       clock = omega (arith, c.run_one.ensures.clock, c.loop-act.invariant.clock, more);
-      room = subst (λ (count : ℕ). LosesAtMost (count * (4 + g.row.CAP)) before.logs.items c.run_one.new.parts.logs.items) (sym more)
-          (LosesAtMost-more (cycles_in first) (cycles_in (a ∷ [])) (4 + g.row.CAP) before.logs.items c.loop-act.parts.logs.items c.run_one.new.parts.logs.items
+      room = subst (λ (count : ℕ). LosesAtMost (count * (4 + c.args.sizes.room)) before.logs.items c.run_one.new.parts.logs.items) (sym more)
+          (LosesAtMost-more (cycles_in first) (cycles_in (a ∷ [])) (4 + c.args.sizes.room) before.logs.items c.loop-act.parts.logs.items c.run_one.new.parts.logs.items
           c.loop-act.invariant.room c.run_one.ensures.log_room);
     }
 
 pub returns : goal.returns
-returns g c =
+returns c =
     let acts = c.args.acts.now in
     let all = take_all c.loop-act.act-index acts c.loop-act-test.false in
     record {
       value = machine_of-gathered c.loop-act.parts c.gather.new.self c.gather.ensures.value
           ∙ c.loop-act.invariant.ran
-          ∙ ap (run_of g.row.N g.row.CAP (machine_of c.args.parts.now)) all;
-      parts = AreParts-gathered g.row.N g.row.CAP c.loop-act.parts c.gather.new.self c.gather.ensures.value
+          ∙ ap (run_of c.args.sizes.dims c.args.sizes.room (machine_of c.args.parts.now)) all;
+      parts = AreParts-gathered c.args.sizes.dims c.args.sizes.room c.loop-act.parts c.gather.new.self c.gather.ensures.value
           c.gather.ensures.gathered c.loop-act.invariant.parts;
     }

@@ -1,8 +1,6 @@
 use Rattle.std.proofs.Common.{ℕ, ◌+◌, ◌^◌, ◌<◌, List, [], ◌∷◌, length, sym, ap, ◌∙◌, refl, subst, arith}
-use Rattle.std.specs.Vec.{with_items}
 use Rattle.cm_model.specs.declared.act.Act.{Act}
 use Rattle.cm_model.specs.declared.act.Act.TheVariants.{Cycle}
-use Rattle.cm_model.specs.Array.{Chips}
 use Rattle.cm_model.specs.Machine.{Machine}
 use Rattle.cm_model.specs.Buffers.{after_act}
 use Rattle.cm_petit.specs.Routers.{Log, machine_of as machine_from, AreRouters}
@@ -12,31 +10,30 @@ use Rattle.cm_array.proofs.Machines.{AreUnderWay-instructed, AreUnderWay-after_a
 use Rattle.cm_array.proofs.parts.run_one.Goals as goal
 
 pub returns-in-Nano-clause-parts : goal.returns-in-Nano-clause-parts
-returns-in-Nano-clause-parts g c =
-    AreUnderWay-instructed g.row.N g.row.CAP c.in-Nano.nano c.args.parts.now c.instruct.new.parts c.requires.parts c.instruct.ensures.chips c.instruct.ensures.logs
-    c.instruct.ensures.clock c.instruct.ensures.output_count c.instruct.ensures.sent_count c.instruct.ensures.crossing
+returns-in-Nano-clause-parts c =
+    AreUnderWay-instructed c.args.sizes.dims c.args.sizes.room c.in-Nano.nano c.args.parts.now c.instruct.new.parts
+    c.requires.parts c.instruct.ensures.run c.instruct.ensures.logs c.instruct.ensures.clock
+    c.instruct.ensures.sent_count c.instruct.ensures.incoming_count c.instruct.ensures.crossing
 
 pub cycle-requires-clause-routers : goal.cycle-requires-clause-routers
-cycle-requires-clause-routers g c =
+cycle-requires-clause-routers c =
     let before = c.args.parts.now in
-    subst (λ (cs : Chips). AreRouters g.row.N g.row.CAP cs before.crossing.buffers c.deref_mut-in-Cycle.result.now) (sym c.deref_mut.ensures.value)
-    (subst (λ (ls : List Log). AreRouters g.row.N g.row.CAP before.chips.items before.crossing.buffers ls) (sym c.deref_mut-in-Cycle.ensures.value)
-    (AreRouters-parts g.row.N g.row.CAP before c.requires.parts))
+    subst (λ (ls : List Log). AreRouters c.args.sizes.dims c.args.sizes.room before.run before.crossing.buffers ls)
+    (sym c.deref_mut.ensures.value) (AreRouters-parts c.args.sizes.dims c.args.sizes.room before c.requires.parts)
 
 pub returns-in-Cycle-clause-parts : goal.returns-in-Cycle-clause-parts
-returns-in-Cycle-clause-parts g c =
+returns-in-Cycle-clause-parts c =
     let before = c.args.parts.now in
-    let chips = c.cycle.new.chips in
+    let run = c.cycle.new.run in
     let logs = c.cycle.new.logs in
-    let chips_back = items-lent before.chips chips (c.cycle.auto.chips ∙ ap length c.deref_mut.ensures.value) in
-    let logs_back = items-lent before.logs logs (c.cycle.auto.logs ∙ ap length c.deref_mut-in-Cycle.ensures.value) in
+    let logs_back = items-lent before.logs logs (c.cycle.auto.logs ∙ ap length c.deref_mut.ensures.value) in
     let next : ℕ = c.cycle.new.clock in
-    let was : Machine → Machine = λ m. after_act g.row.N g.row.CAP m Cycle in
-    let counted : before.clock + cycles_in (Cycle ∷ []) < 2 ^ 63 = subst (λ (a : Act). before.clock + cycles_in (a ∷ []) < 2 ^ 63) c.in-Cycle.is c.requires.clock in
-    AreUnderWay-after_act g.row.N g.row.CAP Cycle before _ c.requires.parts
-    (ap (λ (cs : Chips). machine_from cs c.cycle.new.crossing.buffers (with_items before.logs logs).items next) chips_back
-    ∙ ap (λ (ls : List Log). machine_from chips c.cycle.new.crossing.buffers ls next) logs_back
+    let was : Machine → Machine = λ m. after_act c.args.sizes.dims c.args.sizes.room m Cycle in
+    let counted : before.clock + cycles_in (Cycle ∷ []) < 2 ^ 63 =
+    subst (λ (a : Act). before.clock + cycles_in (a ∷ []) < 2 ^ 63) c.in-Cycle.is c.requires.clock in
+    AreUnderWay-after_act c.args.sizes.dims c.args.sizes.room Cycle before _ c.requires.parts
+    (ap (λ (ls : List Log). machine_from run c.cycle.new.crossing.buffers ls next) logs_back
     ∙ c.cycle.ensures.value
-    ∙ ap (λ (cs : Chips). was (machine_from cs before.crossing.buffers c.deref_mut-in-Cycle.result.now before.clock)) c.deref_mut.ensures.value
-    ∙ ap (λ (ls : List Log). was (machine_from before.chips.items before.crossing.buffers ls before.clock)) c.deref_mut-in-Cycle.ensures.value)
+    ∙ ap (λ (ls : List Log). was (machine_from before.run before.crossing.buffers ls before.clock))
+    c.deref_mut.ensures.value)
     refl refl (omega (arith, counted, c.cycle.ensures.counter))

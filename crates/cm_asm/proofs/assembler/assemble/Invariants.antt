@@ -8,5 +8,6 @@ invariant-loop-bytes l = record {
   counted : l.line + length (lines_left l.bytes-iterator) ≤ length l.fn.text;
   left : lines_left l.bytes-iterator ≡ drop l.line (lines_of l.fn.text);
   before : after_lines nothing_read 1 (take l.line (lines_of l.fn.text)) ≡ Ok l.reader;
-  read : after_lines l.reader (l.line + 1) (lines_left l.bytes-iterator) ≡ after_lines nothing_read 1 (lines_of l.fn.text);
+  read : after_lines l.reader (l.line + 1) (lines_left l.bytes-iterator)
+      ≡ after_lines nothing_read 1 (lines_of l.fn.text);
 }

@@ -14,7 +14,8 @@ pub returns-in_err-write_text-clause-err : goal.returns-in_err-write_text-clause
 returns-in_err-write_text-clause-err g c = on_err c.from_residual-in_err-write_text.result
     (front_of_first _ _ (decimal c.args.number ++ codes " " ++ name_of c.args.number) (codes "\n")
     (front_of_first _ _ (decimal c.args.number ++ codes " ") (name_of c.args.number)
-    (front_of_second _ _ _ (decimal c.args.number) (codes " ") (rw c.from.ensures at c.in_ok-write_number.ensures.ok) c.in_err-write_text.ensures.err)))
+    (front_of_second _ _ _ (decimal c.args.number) (codes " ") (rw c.from.ensures at c.in_ok-write_number.ensures.ok)
+    c.in_err-write_text.ensures.err)))
 
 pub returns-in_err-write_text-2-clause-err : goal.returns-in_err-write_text-2-clause-err
 returns-in_err-write_text-2-clause-err g c = on_err c.from_residual-in_err-write_text-2.result

@@ -2,13 +2,13 @@ use Rattle.std.proofs.Common.{◌≡◌, false, Ok, inl, arith}
 use Rattle.std.proofs.lemmas.Bool.Decides.{nat_tests}
 use Rattle.std.proofs.KnownBytes.{Keeps-refl}
 use Rattle.cm_image_format.specs.Whole.{read_shape}
-use Rattle.cm_cli.specs.Run.{is_own_room}
+use Rattle.cm_cli.specs.Opened.{is_own_room}
 use Rattle.cm_cli.proofs.Lifting.{where_known}
 use Rattle.cm_cli.proofs.Opening.{opened_foreign}
 use Rattle.cm_cli.proofs.running.run_session.Goals as goal
 
-pub returns-in_default-clause-fault : goal.returns-in_default-clause-fault
-returns-in_default-clause-fault g c =
+pub returns-in_default-clause-ends : goal.returns-in_default-clause-ends
+returns-in_default-clause-ends g c =
     let same = c.deref.ensures.value in
     let is = c.in-Ok.ensures.value in
     let shape : read_shape c.args.image.items ≡ Ok (c.in-Ok.sizes.0, c.in-Ok.sizes.1) = cc in

@@ -15,6 +15,15 @@ consumes-more (Some xs0) (Some bs) (Some cs) xs ys p q = p ∙ ap (λ t. xs ++ t
 pub returns-then-is_err-clause-memory_within : goal.returns-then-is_err-clause-memory_within
 returns-then-is_err-clause-memory_within g c = λ _. record {
   bytes = c.loop-count.taken.items ++ take c.in-Ok.count c.read.new.buf;
-  few = omega (arith, length-append c.loop-count.taken.items (take c.in-Ok.count c.read.new.buf), length-take-le c.in-Ok.count c.read.new.buf, length-take c.in-Ok.count c.read.new.buf, c.if-count-limit.false, c.loop-count.invariant.within, c.loop-count.taken.ok, c.len.ensures);
+  few = omega (
+    arith,
+    length-append c.loop-count.taken.items (take c.in-Ok.count c.read.new.buf),
+    length-take-le c.in-Ok.count c.read.new.buf,
+    length-take c.in-Ok.count c.read.new.buf,
+    c.if-count-limit.false,
+    c.loop-count.invariant.within,
+    c.loop-count.taken.ok,
+    c.len.ensures,
+  );
   consumed = consumes-more _ _ _ _ _ c.loop-count.invariant.consumed c.in-Ok.ensures.bytes.0;
 }

@@ -4,4 +4,7 @@ use Rattle.cm_cli.proofs.texts.chip_text.Goals as goal
 
 pub returns : goal.returns
 unfolding chip_text
-returns c = record { value = rw (c.in_ok-push_memory.ensures.ok, c.in_ok-push_flags.ensures.ok, c.new-text.ensures.items) refl }
+returns c = record {
+  value =
+      rw (c.in_ok-push_memory.ensures.ok, c.in_ok-push_flags.ensures.ok, c.new-text.ensures.items) refl;
+}

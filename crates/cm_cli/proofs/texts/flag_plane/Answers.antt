@@ -8,6 +8,7 @@ pub returns : goal.returns
 returns c =
     let number_is : c.unwrap-number.result ≡ c.args.index = rw c.unwrap-number.ensures at c.new.ensures.value in
     record {
-      value = plane_number-is c.flag_plane.result (λ p. flag (processor_at c.args.chip.now p) c.unwrap-number.result) c.flag_plane.type_inv c.flag_plane.ensures.value
+      value = plane_number-is c.flag_plane.result (λ p. flag (processor_at c.args.chip.now p) c.unwrap-number.result)
+          c.flag_plane.type_inv c.flag_plane.ensures.value
           ∙ ap (λ (n : ℕ). plane_number (λ p. flag (processor_at c.args.chip.now p) n)) number_is;
     }

@@ -8,6 +8,7 @@ pub returns : goal.returns
 returns c =
     let number_is : c.unwrap-at.result ≡ c.args.index = rw c.unwrap-at.ensures at c.new.ensures.value in
     record {
-      value = plane_number-is c.plane.result (λ p. memory_bit (processor_at c.args.chip.now p) c.unwrap-at.result) c.plane.type_inv c.plane.ensures.value
+      value = plane_number-is c.plane.result (λ p. memory_bit (processor_at c.args.chip.now p) c.unwrap-at.result)
+          c.plane.type_inv c.plane.ensures.value
           ∙ ap (λ (n : ℕ). plane_number (λ p. memory_bit (processor_at c.args.chip.now p) n)) number_is;
     }

@@ -8,5 +8,6 @@ loop-index-init c = lines_below-zero c.args.text.now.items (flag_line c.args.chi
 
 pub loop-index-preserved : goal.loop-index-preserved
 loop-index-preserved c =
-    c.in_ok-push_flag_line.ensures.ok ∙ ap (λ (xs : List ℕ). xs ++ flag_line c.args.chip.now c.loop-index.index) c.loop-index.invariant
+    c.in_ok-push_flag_line.ensures.ok
+    ∙ ap (λ (xs : List ℕ). xs ++ flag_line c.args.chip.now c.loop-index.index) c.loop-index.invariant
     ∙ lines_below-more c.args.text.now.items c.loop-index.index (flag_line c.args.chip.now)

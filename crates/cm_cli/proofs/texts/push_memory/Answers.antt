@@ -8,5 +8,6 @@ loop-index-init c = lines_below-zero c.args.text.now.items (memory_line c.args.c
 
 pub loop-index-preserved : goal.loop-index-preserved
 loop-index-preserved c =
-    c.in_ok-push_memory_line.ensures.ok ∙ ap (λ (xs : List ℕ). xs ++ memory_line c.args.chip.now c.loop-index.index) c.loop-index.invariant
+    c.in_ok-push_memory_line.ensures.ok
+    ∙ ap (λ (xs : List ℕ). xs ++ memory_line c.args.chip.now c.loop-index.index) c.loop-index.invariant
     ∙ lines_below-more c.args.text.now.items c.loop-index.index (memory_line c.args.chip.now)

@@ -8,5 +8,6 @@ abbrev pub invariant-loop-chip : goal.invariant-loop-chip
 invariant-loop-chip g l = record {
   blank : IsBlankFrom g.row.N l.chip l.builder;
   clock : l.builder.clock ≡ l.clock;
-  same : chips_left g.row.N g.row.CAP l.clock l.chip l.builder l.rest ≡ chips_left g.row.N g.row.CAP l.clock 0 l.initial.builder l.initial.rest;
+  same : chips_left g.row.N g.row.CAP l.clock l.chip l.builder l.rest
+      ≡ chips_left g.row.N g.row.CAP l.clock 0 l.initial.builder l.initial.rest;
 }

@@ -3,6 +3,7 @@ use Rattle.cm_image.proofs.dumps.push_chip.Goals as goal
 
 pub returns : goal.returns
 returns c = record {
-  ok = chip_written c.args.chip.now c.args.buffer.now c.args.text.now.items _ _ _ _ _ c.count_planes.result c.in_ok-push_flags.ensures.ok c.in_ok-push_u16.ensures.ok c.count_planes.ensures.value
+  ok = chip_written c.args.chip.now c.args.buffer.now c.args.text.now.items _ _ _ _ _ c.args.planes
+      c.in_ok-push_flags.ensures.ok c.in_ok-push_u16.ensures.ok c.requires.planes
       c.in_ok-push_planes.ensures.ok c.in_ok-push_u8.ensures.ok c.in_ok-push_messages.ensures.ok;
 }

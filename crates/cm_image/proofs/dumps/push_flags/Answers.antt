@@ -6,4 +6,5 @@ loop-f-init c = flags_none c.args.chip.now c.args.text.now.items
 
 pub loop-f-preserved : goal.loop-f-preserved
 loop-f-preserved c =
-    flags_more c.args.chip.now c.args.text.now.items _ _ c.loop-f.f c.flag_plane.result c.loop-f.invariant c.in_ok-push_u16.ensures.ok c.flag_plane.ensures.value
+    flags_more c.args.chip.now c.args.text.now.items _ _ c.loop-f.f c.flag_plane.result c.loop-f.invariant
+    c.in_ok-push_u16.ensures.ok c.flag_plane.ensures.value

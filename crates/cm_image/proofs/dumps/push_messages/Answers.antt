@@ -8,5 +8,6 @@ loop-message-init c = sym (append-nil c.args.text.now.items)
 
 pub loop-message-preserved : goal.loop-message-preserved
 loop-message-preserved c =
-    messages_more c.args.messages.now c.args.text.now.items _ _ c.loop-message.message-index c.message-item.result (omega arith) c.message-item.is c.loop-message.invariant
+    messages_more c.args.messages.now c.args.text.now.items _ _ c.loop-message.message-index c.message-item.result
+    (omega arith) c.message-item.is c.loop-message.invariant
     (c.in_ok-push.ensures.ok ∙ ap (λ (xs : List ℕ). c.loop-message.text.items ++ xs) c.bytes.ensures.value)

@@ -1,4 +1,5 @@
-use Rattle.std.proofs.Common.{◌≡◌, ℕ, ◌==◌, Bool, true, false, List, Option, None, Some, Ok, Err, length, refl, sym, ap, ◌∙◌}
+use Rattle.std.proofs.Common.{◌≡◌, ℕ, ◌==◌, Bool, true, false, List, Option, None, Some, Ok, Err, length, refl, sym, ap}
+use Rattle.std.proofs.Common.{◌∙◌}
 use Rattle.std.proofs.lemmas.Bool.{eqb-true, eq-eqb}
 use Rattle.std.proofs.lemmas.Result.{err_from_is_err_and}
 use Rattle.cm_model.specs.Machine.{Machine}
@@ -6,11 +7,13 @@ use Rattle.cm_model.specs.Unlogged.{standing_messages, has_tag_twice}
 use Rattle.cm_image_format.specs.declared.fault.ImageFault.{ImageFault}
 use Rattle.cm_image_format.specs.Reading.{fault_in}
 use Rattle.cm_image_format.specs.Whole.{read_image, image_fault}
-use Rattle.cm_image.proofs.Loading.{header_part, header_wrong, chips_fault, loaded, twice, extra}
+use Rattle.cm_image_format.specs.Image.{header_part}
+use Rattle.cm_image.proofs.Loading.{header_wrong, chips_fault, loaded, twice, extra}
 use Rattle.cm_image.proofs.loads.load.Goals as goal
 
 -- what is read as a fault has that fault
-faulty : (n cap : ℕ) (bytes : List ℕ) (fault : ImageFault) → read_image n cap bytes ≡ Err fault → image_fault n cap bytes ≡ Some fault
+faulty : (n cap : ℕ) (bytes : List ℕ) (fault : ImageFault) → read_image n cap bytes ≡ Err fault
+    → image_fault n cap bytes ≡ Some fault
 faulty n cap bytes fault is = ap fault_in is
 
 not_both : {A : Type 0} (o : Option ImageFault) (fault : ImageFault) → o ≡ Some fault → o ≡ None → A
@@ -23,43 +26,55 @@ not_true false h = refl
 pub returns-in_err-clock-clause-refused : goal.returns-in_err-clock-clause-refused
 returns-in_err-clock-clause-refused g c =
     let p = err_from_is_err_and c.from_residual.result c.from_residual.ensures.1 in
-    rw (p.1, p.2) (λ m. faulty g.row.N g.row.CAP c.args.bytes.now _ (header_wrong g.row.N g.row.CAP c.args.bytes.now _ c.in_err-clock.ensures.value))
+    rw (p.1, p.2) (λ m. faulty g.row.N g.row.CAP c.args.bytes.now _
+    (header_wrong g.row.N g.row.CAP c.args.bytes.now _ c.in_err-clock.ensures.value))
 
 pub returns-in_err-clock-clause-otherwise : goal.returns-in_err-clock-clause-otherwise
 returns-in_err-clock-clause-otherwise g c = λ none.
-    not_both _ _ (faulty g.row.N g.row.CAP c.args.bytes.now _ (header_wrong g.row.N g.row.CAP c.args.bytes.now _ c.in_err-clock.ensures.value)) none
+    not_both _ _ (faulty g.row.N g.row.CAP c.args.bytes.now _
+    (header_wrong g.row.N g.row.CAP c.args.bytes.now _ c.in_err-clock.ensures.value)) none
 
 pub returns-in_err-rest-clause-refused : goal.returns-in_err-rest-clause-refused
 returns-in_err-rest-clause-refused g c =
     let p = err_from_is_err_and c.from_residual-in_err-rest.result c.from_residual-in_err-rest.ensures.1 in
-    let header : header_part g.row.N g.row.CAP c.args.bytes.now ≡ Ok (((g.row.N, g.row.CAP), c.in_ok-clock.clock), c.in_ok-clock.rest.now) = cc (c.in_ok-clock.ensures.value) in
+    let header : header_part g.row.N g.row.CAP c.args.bytes.now
+    ≡ Ok (((g.row.N, g.row.CAP), c.in_ok-clock.clock), c.in_ok-clock.rest.now) = cc (c.in_ok-clock.ensures.value) in
     rw (p.1, p.2)
-    (λ m. faulty g.row.N g.row.CAP c.args.bytes.now _ (chips_fault g.row.N g.row.CAP c.in_ok-clock.clock c.args.bytes.now c.in_ok-clock.rest.now _ header c.in_err-rest.ensures.refused))
+    (λ m. faulty g.row.N g.row.CAP c.args.bytes.now _
+    (chips_fault g.row.N g.row.CAP c.in_ok-clock.clock c.args.bytes.now c.in_ok-clock.rest.now _ header
+    c.in_err-rest.ensures.refused))
 
 pub returns-in_err-rest-clause-otherwise : goal.returns-in_err-rest-clause-otherwise
 returns-in_err-rest-clause-otherwise g c = λ none.
-    let header : header_part g.row.N g.row.CAP c.args.bytes.now ≡ Ok (((g.row.N, g.row.CAP), c.in_ok-clock.clock), c.in_ok-clock.rest.now) = cc (c.in_ok-clock.ensures.value) in
-    not_both _ _ (faulty g.row.N g.row.CAP c.args.bytes.now _ (chips_fault g.row.N g.row.CAP c.in_ok-clock.clock c.args.bytes.now c.in_ok-clock.rest.now _ header c.in_err-rest.ensures.refused)) none
+    let header : header_part g.row.N g.row.CAP c.args.bytes.now
+    ≡ Ok (((g.row.N, g.row.CAP), c.in_ok-clock.clock), c.in_ok-clock.rest.now) = cc (c.in_ok-clock.ensures.value) in
+    not_both _ _ (faulty g.row.N g.row.CAP c.args.bytes.now _
+    (chips_fault g.row.N g.row.CAP c.in_ok-clock.clock c.args.bytes.now c.in_ok-clock.rest.now _ header
+    c.in_err-rest.ensures.refused)) none
 
 pub returns-in_err-machine-clause-refused : goal.returns-in_err-machine-clause-refused
 returns-in_err-machine-clause-refused g c =
     let p = err_from_is_err_and c.from_residual-in_err-machine.result c.from_residual-in_err-machine.ensures.1 in
-    let header : header_part g.row.N g.row.CAP c.args.bytes.now ≡ Ok (((g.row.N, g.row.CAP), c.in_ok-clock.clock), c.in_ok-clock.rest.now) = cc (c.in_ok-clock.ensures.value) in
+    let header : header_part g.row.N g.row.CAP c.args.bytes.now
+    ≡ Ok (((g.row.N, g.row.CAP), c.in_ok-clock.clock), c.in_ok-clock.rest.now) = cc (c.in_ok-clock.ensures.value) in
     rw (p.1, p.2)
     (λ m. let told = c.in_err-machine.ensures.twice m in
     faulty g.row.N g.row.CAP c.args.bytes.now _
-    (twice g.row.N g.row.CAP c.in_ok-clock.clock c.args.bytes.now c.in_ok-clock.rest.now c.in_ok-rest.rest.now c.take_chips.new.builder header c.in_ok-rest.ensures.ok told.1)
+    (twice g.row.N g.row.CAP c.in_ok-clock.clock c.args.bytes.now c.in_ok-clock.rest.now c.in_ok-rest.rest.now
+    c.take_chips.new.builder header c.in_ok-rest.ensures.ok told.1)
     ∙ ap (λ (fault : ImageFault). Some fault) (sym told.0))
 
 pub returns-in_err-machine-clause-otherwise : goal.returns-in_err-machine-clause-otherwise
 returns-in_err-machine-clause-otherwise g c = λ none.
     let p = err_from_is_err_and c.from_residual-in_err-machine.result c.from_residual-in_err-machine.ensures.1 in
-    let header : header_part g.row.N g.row.CAP c.args.bytes.now ≡ Ok (((g.row.N, g.row.CAP), c.in_ok-clock.clock), c.in_ok-clock.rest.now) = cc (c.in_ok-clock.ensures.value) in
+    let header : header_part g.row.N g.row.CAP c.args.bytes.now
+    ≡ Ok (((g.row.N, g.row.CAP), c.in_ok-clock.clock), c.in_ok-clock.rest.now) = cc (c.in_ok-clock.ensures.value) in
     let once : has_tag_twice (standing_messages c.take_chips.new.builder) ≡ false =
     not_true (has_tag_twice (standing_messages c.take_chips.new.builder))
     (λ two. not_both _ _
     (faulty g.row.N g.row.CAP c.args.bytes.now _
-    (twice g.row.N g.row.CAP c.in_ok-clock.clock c.args.bytes.now c.in_ok-clock.rest.now c.in_ok-rest.rest.now c.take_chips.new.builder header c.in_ok-rest.ensures.ok two)) none) in
+    (twice g.row.N g.row.CAP c.in_ok-clock.clock c.args.bytes.now c.in_ok-clock.rest.now c.in_ok-rest.rest.now
+    c.take_chips.new.builder header c.in_ok-rest.ensures.ok two)) none) in
     rw (p.1, p.2) (c.in_err-machine.ensures.otherwise once)
 
 some_left : (k : ℕ) → false ≡ (k == 0) → k ≡ 0 → ⊥
@@ -67,22 +82,28 @@ some_left k some none = let wrong : ◌≡◌ {A = Bool} false true = some ∙ e
 
 pub returns-then-not-is_empty-clause-refused : goal.returns-then-not-is_empty-clause-refused
 returns-then-not-is_empty-clause-refused g c = λ m.
-    let header : header_part g.row.N g.row.CAP c.args.bytes.now ≡ Ok (((g.row.N, g.row.CAP), c.in_ok-clock.clock), c.in_ok-clock.rest.now) = cc (c.in_ok-clock.ensures.value) in
+    let header : header_part g.row.N g.row.CAP c.args.bytes.now
+    ≡ Ok (((g.row.N, g.row.CAP), c.in_ok-clock.clock), c.in_ok-clock.rest.now) = cc (c.in_ok-clock.ensures.value) in
     faulty g.row.N g.row.CAP c.args.bytes.now _
-    (extra g.row.N g.row.CAP c.in_ok-clock.clock c.args.bytes.now c.in_ok-clock.rest.now c.in_ok-rest.rest.now c.take_chips.new.builder header c.in_ok-rest.ensures.ok
+    (extra g.row.N g.row.CAP c.in_ok-clock.clock c.args.bytes.now c.in_ok-clock.rest.now c.in_ok-rest.rest.now
+    c.take_chips.new.builder header c.in_ok-rest.ensures.ok
     (c.in_ok-machine.ensures.once refl) (some_left (length c.in_ok-rest.rest.now) c.if-not-is_empty.ensures))
 
 pub returns-then-not-is_empty-clause-otherwise : goal.returns-then-not-is_empty-clause-otherwise
 returns-then-not-is_empty-clause-otherwise g c = λ none.
-    let header : header_part g.row.N g.row.CAP c.args.bytes.now ≡ Ok (((g.row.N, g.row.CAP), c.in_ok-clock.clock), c.in_ok-clock.rest.now) = cc (c.in_ok-clock.ensures.value) in
+    let header : header_part g.row.N g.row.CAP c.args.bytes.now
+    ≡ Ok (((g.row.N, g.row.CAP), c.in_ok-clock.clock), c.in_ok-clock.rest.now) = cc (c.in_ok-clock.ensures.value) in
     not_both _ _
     (faulty g.row.N g.row.CAP c.args.bytes.now _
-    (extra g.row.N g.row.CAP c.in_ok-clock.clock c.args.bytes.now c.in_ok-clock.rest.now c.in_ok-rest.rest.now c.take_chips.new.builder header c.in_ok-rest.ensures.ok
+    (extra g.row.N g.row.CAP c.in_ok-clock.clock c.args.bytes.now c.in_ok-clock.rest.now c.in_ok-rest.rest.now
+    c.take_chips.new.builder header c.in_ok-rest.ensures.ok
     (c.in_ok-machine.ensures.once refl) (some_left (length c.in_ok-rest.rest.now) c.if-not-is_empty.ensures))) none
 
 pub returns-clause-value : goal.returns-clause-value
 returns-clause-value g c =
-    let header : header_part g.row.N g.row.CAP c.args.bytes.now ≡ Ok (((g.row.N, g.row.CAP), c.in_ok-clock.clock), c.in_ok-clock.rest.now) = cc (c.in_ok-clock.ensures.value) in
-    loaded g.row.N g.row.CAP c.in_ok-clock.clock c.args.bytes.now c.in_ok-clock.rest.now c.in_ok-rest.rest.now c.take_chips.new.builder header c.in_ok-rest.ensures.ok
+    let header : header_part g.row.N g.row.CAP c.args.bytes.now
+    ≡ Ok (((g.row.N, g.row.CAP), c.in_ok-clock.clock), c.in_ok-clock.rest.now) = cc (c.in_ok-clock.ensures.value) in
+    loaded g.row.N g.row.CAP c.in_ok-clock.clock c.args.bytes.now c.in_ok-clock.rest.now c.in_ok-rest.rest.now
+    c.take_chips.new.builder header c.in_ok-rest.ensures.ok
     (c.in_ok-machine.ensures.once refl) (eqb-true (length c.in_ok-rest.rest.now) 0 (sym c.if-not-is_empty.ensures))
     ∙ ap (λ (m : Machine). Ok m) (sym c.in_ok-machine.ensures.value)

@@ -1,57 +1,69 @@
 use Rattle.std.proofs.Common.{◌+◌, ◌≡◌, [], length, sym, ap, ◌∙◌, arith}
 use Rattle.std.proofs.lemmas.List.{length-map}
 use Rattle.cm_model.specs.Array.{chip_at}
-use Rattle.cm_petit.proofs.Injecting.{sixteen_after_injection}
+use Rattle.cm_petit.proofs.Injecting.{sixteen_after_injection, injected_whole}
+use Rattle.cm_petit.proofs.Delivering.{delivered_whole}
 use Rattle.cm_petit.proofs.Quiet.{IsQuiet, rest_is_quiet}
 use Rattle.cm_model.specs.Machine.{Machine}
 use Rattle.cm_model.specs.Buffers.{machine_after_injection, machine_after_dimension, machine_after_delivery}
 use Rattle.cm_model.proofs.Cycles.{after_crossings, after_crossings-more, after_cycle-is}
-use Rattle.cm_crossing.specs.Standing.{UnderWay}
 use Rattle.cm_petit.specs.Routers.{Log, AreRouters, machine_of}
 use Rattle.cm_petit.proofs.Dimensions.{crossed_machine}
 use Rattle.cm_petit.proofs.phases.cycle.Goals as goal
 
 pub loop-dim-preserved : goal.loop-dim-preserved
-loop-dim-preserved g c =
-    let begun : Machine = machine_after_injection g.row.N g.row.CAP
-    (machine_of c.args.chips.now c.args.crossing.now.buffers c.args.logs.now c.args.clock.now) in
+loop-dim-preserved c =
+    let begun : Machine = machine_after_injection c.args.sizes.dims c.args.sizes.room
+    (machine_of c.args.run.now c.args.crossing.now.buffers c.args.logs.now c.args.clock.now) in
     record {
-      crossed = crossed_machine g.row.N g.row.CAP c.loop-dim.dim c.inject.new.chips c.loop-dim.crossing.buffers
-          c.cross.new.self.buffers c.inject.new.logs c.args.clock.now c.cross.ensures.value
-          ∙ ap (machine_after_dimension g.row.N g.row.CAP c.loop-dim.dim) c.loop-dim.invariant.crossed
-          ∙ sym (after_crossings-more g.row.N g.row.CAP begun c.loop-dim.dim);
-      count = c.cross.ensures.count;
+      crossed = crossed_machine c.args.sizes.dims c.args.sizes.room c.loop-dim.dim c.inject.new.run c.loop-dim.crossing.buffers
+          c.cross.new.self.buffers c.inject.new.logs c.args.clock.now (rw c.requires.all at c.cross.ensures.value)
+          ∙ ap (machine_after_dimension c.args.sizes.dims c.args.sizes.room c.loop-dim.dim) c.loop-dim.invariant.crossed
+          ∙ sym (after_crossings-more c.args.sizes.dims c.args.sizes.room begun c.loop-dim.dim);
+      count = rw c.requires.all at c.cross.ensures.count;
       within = c.cross.ensures.within;
     }
 
 pub returns-then-is_empty-clause-value : goal.returns-then-is_empty-clause-value
-returns-then-is_empty-clause-value g c =
-    let before : Machine = machine_of c.args.chips.now c.args.crossing.now.buffers c.args.logs.now c.args.clock.now in
+returns-then-is_empty-clause-value c =
+    let before : Machine = machine_of c.args.run.now c.args.crossing.now.buffers c.args.logs.now c.args.clock.now in
     let after : Machine =
-    machine_of c.inject.new.chips c.inject.new.crossing.buffers c.inject.new.logs c.args.clock.now in
-    let are : AreRouters g.row.N g.row.CAP c.inject.new.chips c.inject.new.crossing.buffers c.inject.new.logs =
-    c.inject.ensures.routers in
-    let quiet : IsQuiet g.row.N after = record {
+    machine_of c.inject.new.run c.inject.new.crossing.buffers c.inject.new.logs c.args.clock.now in
+    let are : AreRouters c.args.sizes.dims c.args.sizes.room c.inject.new.run c.inject.new.crossing.buffers
+    c.inject.new.logs = rw c.requires.all at c.inject.ensures.routers in
+    let begun = injected_whole c.args.sizes.dims c.args.sizes.room c.args.sizes.span c.args.clock.now c.args.run.now
+    c.args.crossing.now.buffers c.args.logs.now c.inject.new.run c.inject.new.crossing.buffers c.inject.new.logs
+    c.requires.all c.inject.ensures.value in
+    let quiet : IsQuiet c.args.sizes.dims after = record {
       chip_count = are.chip_count;
       buffer_count = are.buffer_count;
       log_count = length-map c.inject.new.logs (λ (l : Log). l.items) ∙ are.log_count;
-      sixteen = λ k l. ap (λ (m : Machine). length (chip_at m.chips k)) c.inject.ensures.value
-          ∙ sixteen_after_injection g.row.N g.row.CAP before k l;
+      sixteen = λ k l. ap (λ (m : Machine). length (chip_at m.chips k)) begun
+          ∙ sixteen_after_injection c.args.sizes.dims c.args.sizes.room before k l;
       empty = λ k l. c.is_empty.ensures.none c.if-is_empty.true k [] (omega (arith, are.buffer_count));
     } in
-    sym (rest_is_quiet g.row.N g.row.CAP after quiet)
-    ∙ ap (λ (m : Machine). machine_after_delivery g.row.N (after_crossings g.row.N g.row.CAP m g.row.N))
-    c.inject.ensures.value
-    ∙ sym (after_cycle-is g.row.N g.row.CAP before)
+    sym (rest_is_quiet c.args.sizes.dims c.args.sizes.room after quiet)
+    ∙ ap (λ (m : Machine). machine_after_delivery c.args.sizes.dims (after_crossings c.args.sizes.dims c.args.sizes.room m c.args.sizes.dims))
+    begun
+    ∙ sym (after_cycle-is c.args.sizes.dims c.args.sizes.room before)
 
 pub returns-clause-value : goal.returns-clause-value
-returns-clause-value g c =
-    let before : Machine = machine_of c.args.chips.now c.args.crossing.now.buffers c.args.logs.now c.args.clock.now in
-    let begun : Machine = machine_after_injection g.row.N g.row.CAP before in
-    let all : c.loop-dim.dim ≡ g.row.N = omega arith in
-    ap (λ (u : UnderWay). machine_of c.deliver.new.chips u.buffers c.deliver.new.logs (c.args.clock.now + 1))
-    c.watch.ensures.value
-    ∙ c.deliver.ensures.value c.args.clock.now
-    ∙ ap (machine_after_delivery g.row.N)
-    (c.loop-dim.invariant.crossed ∙ ap (after_crossings g.row.N g.row.CAP begun) all)
-    ∙ sym (after_cycle-is g.row.N g.row.CAP before)
+returns-clause-value c =
+    let before : Machine = machine_of c.args.run.now c.args.crossing.now.buffers c.args.logs.now c.args.clock.now in
+    let begun : Machine = machine_after_injection c.args.sizes.dims c.args.sizes.room before in
+    let all : c.loop-dim.dim ≡ c.args.sizes.dims = omega arith in
+    delivered_whole c.args.sizes.dims c.args.sizes.room c.args.sizes.span c.args.clock.now c.inject.new.run
+    c.loop-dim.crossing.buffers c.inject.new.logs c.deliver.new.run c.deliver.new.crossing.buffers c.deliver.new.logs
+    c.requires.all (c.deliver.ensures.value c.args.clock.now)
+    ∙ ap (machine_after_delivery c.args.sizes.dims)
+    (c.loop-dim.invariant.crossed ∙ ap (after_crossings c.args.sizes.dims c.args.sizes.room begun) all)
+    ∙ sym (after_cycle-is c.args.sizes.dims c.args.sizes.room before)
+
+pub loop-dim-init : goal.loop-dim-init
+loop-dim-init c = record {
+  crossed = injected_whole c.args.sizes.dims c.args.sizes.room c.args.sizes.span c.args.clock.now c.args.run.now
+      c.args.crossing.now.buffers c.args.logs.now c.inject.new.run c.inject.new.crossing.buffers c.inject.new.logs
+      c.requires.all c.inject.ensures.value;
+  count = rw c.requires.all at c.inject.ensures.routers.buffer_count;
+  within = c.inject.ensures.routers.within;
+}

@@ -6,10 +6,10 @@ use Rattle.cm_petit.specs.Routers.{machine_of}
 use Rattle.cm_petit.proofs.phases.cycle.Given as goal
 
 abbrev pub invariant-loop-dim : goal.invariant-loop-dim
-invariant-loop-dim g l = record {
-  crossed : machine_of l.chips l.crossing.buffers l.logs l.fn.clock
-      ≡ after_crossings g.row.N g.row.CAP (machine_after_injection g.row.N g.row.CAP
-      (machine_of l.fn.chips l.fn.crossing.buffers l.fn.logs l.fn.clock)) l.dim;
-  count : length l.crossing.buffers ≡ 2 ^ g.row.N;
-  within : All (λ ms. length ms ≤ g.row.CAP) l.crossing.buffers;
+invariant-loop-dim l = record {
+  crossed : machine_of l.run l.crossing.buffers l.logs l.fn.clock
+      ≡ after_crossings l.sizes.dims l.sizes.room (machine_after_injection l.sizes.dims l.sizes.room
+      (machine_of l.fn.run l.fn.crossing.buffers l.fn.logs l.fn.clock)) l.dim;
+  count : length l.crossing.buffers ≡ 2 ^ l.sizes.dims;
+  within : All (λ ms. length ms ≤ l.sizes.room) l.crossing.buffers;
 }

@@ -31,3 +31,6 @@ returns-clause-going c = (all_passed c).carried
 
 pub returns-clause-stay : goal.returns-clause-stay
 returns-clause-stay c = (all_passed c).passed
+
+pub returns-clause-others : goal.returns-clause-others
+returns-clause-others c = (all_passed c).ahead

@@ -5,6 +5,8 @@ use Rattle.cm_slots.proofs.rows.pass_on.Given as goal
 
 abbrev pub invariant-loop-i : goal.invariant-loop-i
 invariant-loop-i l = record {
-  carried : AreDone (λ i. if crosses l.dim (slice_index l.initial.carried i) then slice_index l.initial.carried i else slice_index l.initial.row i) l.initial.carried l.carried l.i;
-  row : AreDone (λ i. if crosses l.dim (slice_index l.initial.carried i) then slice_index l.initial.row i else slice_index l.initial.carried i) l.initial.row l.row l.i;
+  carried : AreDone (λ i. if crosses l.dim (slice_index l.initial.carried i) then slice_index l.initial.carried i
+      else slice_index l.initial.row i) l.initial.carried l.carried l.i;
+  row : AreDone (λ i. if crosses l.dim (slice_index l.initial.carried i) then slice_index l.initial.row i else
+      slice_index l.initial.carried i) l.initial.row l.row l.i;
 }

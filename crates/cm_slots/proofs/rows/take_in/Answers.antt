@@ -29,3 +29,6 @@ returns-clause-taken c =
     all_passed_back c.args.count c.args.first.now c.args.rest.now c.loop-k.first c.loop-k.rest
     (subst (IsPassedBack c.args.count c.args.first.now c.args.rest.now c.loop-k.first c.loop-k.rest) last
     c.loop-k.invariant)
+
+pub returns-clause-others : goal.returns-clause-others
+returns-clause-others c = c.loop-k.invariant.others

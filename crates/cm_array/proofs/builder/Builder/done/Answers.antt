@@ -1,19 +1,33 @@
-use Rattle.std.proofs.Common.{◌≡◌, false, List, sym, ap, ◌∙◌, lit<}
+use Rattle.std.proofs.Common.{◌≡◌, false, List, sym, ap, subst, ◌∙◌, lit<}
 use Rattle.std.specs.List.{flat_map}
 use Rattle.cm_model.specs.declared.message.Message.{Message}
+use Rattle.cm_model.specs.Array.{Chips}
 use Rattle.cm_model.specs.Unlogged.{standing_messages, has_tag_twice}
+use Rattle.cm_array.specs.declared.parts.Parts.{Parts}
 use Rattle.cm_array.specs.Parts.{machine_of}
+use Rattle.cm_array.specs.Building.{AreUnfinished}
 use Rattle.cm_array.proofs.Building.{AreParts-finished}
 use Rattle.cm_array.proofs.builder.Builder.done.Goals as goal
 
 pub of_parts-requires : goal.of_parts-requires
 of_parts-requires g c =
-    let parts = c.self.inside.parts in
+    let b = c.self.inside in
+    let parts : Parts = record {
+      run = c.into_run.result;
+      logs = b.logs;
+      clock = b.clock;
+      sent = b.sent;
+      incoming = b.incoming;
+      crossing = b.crossing;
+    } in
+    let same : c.into_run.result ≡ b.run = c.into_run.ensures.value in
+    let unfinished : AreUnfinished g.row.N g.row.CAP parts =
+    subst (λ (run : Chips). AreUnfinished g.row.N g.row.CAP (record parts { run = run })) (sym same) c.self.invariant in
     let apart : has_tag_twice (standing_messages (machine_of parts)) ≡ false =
     ap (λ (buffers : List (List Message)). has_tag_twice (flat_map (λ buffer. buffer) buffers))
     (sym c.gather.ensures.value)
     ∙ (sym c.in_ok-has_tag_twice.ensures.value ∙ c.if-branch.false) in (
       lit< tt,
-      AreParts-finished g.row.N g.row.CAP parts c.gather.new.self c.self.invariant c.gather.ensures.value
+      AreParts-finished g.row.N g.row.CAP parts c.gather.new.self unfinished c.gather.ensures.value
           c.gather.ensures.gathered apart,
     )

@@ -1,16 +1,24 @@
-use Rattle.std.proofs.Common.{◌<◌, ◌^◌, arith}
-use Rattle.cm_model.specs.Whole.{IsChip}
-use Rattle.cm_array.proofs.Wholes.{IsChip-put_flag_plane}
-use Rattle.cm_array.proofs.Building.{unfinished_chip_is_whole, AreUnfinished-with_chip}
+use Rattle.std.proofs.Common.{[], get_or}
+use Rattle.cm_bits.specs.Bit.{bit}
+use Rattle.cm_element.specs.Wide.{with_flag_plane}
+use Rattle.cm_array.specs.declared.parts.Parts.{Parts}
+use Rattle.cm_array.proofs.Wholes.{IsChip-with_flag_plane}
+use Rattle.cm_array.proofs.Building.{AreUnfinished-with_chip}
 use Rattle.cm_array.proofs.builder.Builder.flag_plane.Goals as goal
 
 pub invariant_of-self : goal.invariant_of-self
 invariant_of-self g c =
-    let parts = c.self.inside.parts in
-    let below : c.from.result < 2 ^ g.row.N = omega arith in
-    let was : IsChip c.index_mut-changed.result.now =
-    unfinished_chip_is_whole g.row.N g.row.CAP parts c.from.result c.index_mut-changed.result.now c.self.invariant
-    below c.index_mut-changed.ensures.value in
-    AreUnfinished-with_chip g.row.N g.row.CAP parts c.from.result c.poke_flag_plane.new.self
-    (IsChip-put_flag_plane c.index_mut-changed.result.now c.poke_flag_plane.new.self _ _
-    c.poke_flag_plane.ensures.value c.requires.other was) c.self.invariant
+    let b = c.self.inside in
+    let parts : Parts = record {
+      run = b.run;
+      logs = b.logs;
+      clock = b.clock;
+      sent = b.sent;
+      incoming = b.incoming;
+      crossing = b.crossing;
+    } in
+    let chip = get_or parts.run c.args.chip [] in
+    AreUnfinished-with_chip g.row.N g.row.CAP parts c.poke_flag_plane.new.self c.args.chip
+    (with_flag_plane chip c.args.number (bit c.args.plane))
+    (IsChip-with_flag_plane chip c.args.number (bit c.args.plane) c.requires.other
+    (c.self.invariant.machine.whole c.args.chip c.requires.chip)) c.poke_flag_plane.ensures.value c.self.invariant

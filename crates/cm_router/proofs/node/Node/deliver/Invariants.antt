@@ -1,11 +1,13 @@
-use Rattle.std.proofs.Common.{◌≡◌, ◌+◌, ◌-◌, ◌<◌, ◌≤◌, length, vec_len, vec_capacity}
+use Rattle.std.proofs.Common.{◌≡◌, ◌+◌, ◌-◌, ◌<◌, ◌≤◌, length, set, vec_len, vec_capacity}
+use Rattle.cm_model.specs.Array.{chip_at}
 use Rattle.cm_router.proofs.Delivering.{Scan}
 use Rattle.cm_router.proofs.node.Node.deliver.Given as goal
 
 abbrev pub invariant-loop-place : goal.invariant-loop-place
 invariant-loop-place l = record {
-  scan : Scan l.fn.chip l.fn.self.messages l.fn.log.items l.here l.chip l.self-inside.messages.items l.place
-      l.log.items;
+  scan : Scan (chip_at l.fn.run l.chip) l.fn.self.messages l.fn.log.items l.here (chip_at l.run l.chip)
+      l.self-inside.messages.items l.place l.log.items;
+  others : l.run ≡ set l.fn.run l.chip (chip_at l.run l.chip);
   log_room : vec_len l.log + (length l.self-inside.messages.items - l.place) ≤ vec_capacity l.log;
   log_len : vec_len l.log + (length l.self-inside.messages.items - l.place) ≤ vec_len l.fn.log + l.fn.self.room;
   capacity : vec_capacity l.fn.log ≤ vec_capacity l.log;

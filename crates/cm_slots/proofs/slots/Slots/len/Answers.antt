@@ -1,15 +1,24 @@
-use Rattle.std.proofs.Common.{length, ap, ◌∙◌}
-use Rattle.cm_slots.proofs.Single.{chip_lent, tickets_lent}
+use Rattle.std.proofs.Common.{length, ap, ◌∙◌, arith}
+use Rattle.cm_slots.proofs.Single.{chip_lent, tickets_lent, few_tickets}
 use Rattle.cm_slots.proofs.slots.Slots.len.Goals as goal
 
 pub len-requires-clause-chip : goal.len-requires-clause-chip
-len-requires-clause-chip c = chip_lent c.self.inside.dims c.self.inside.room c.self.inside.tiles c.self.inside.leaving.items c.args.self.now
-    c.deref.result.now c.from.result c.args.chip c.self.invariant c.self.view_is c.deref.ensures.value c.from.ensures
-    c.requires.chip
+len-requires-clause-chip c = chip_lent c.self.inside.chips c.self.inside.tiles c.self.inside.leaving.items
+    c.args.self.now
+    c.deref.result.now c.args.chip c.self.invariant c.self.view_is c.deref.ensures.value c.requires.chip
 
 pub returns : goal.returns
-returns c = record {
-  value = c.len.ensures.value ∙ ap length (tickets_lent c.self.inside.dims c.self.inside.room c.self.inside.tiles c.self.inside.leaving.items c.args.self.now
-      c.deref.result.now c.from.result c.args.chip c.self.invariant c.self.view_is c.deref.ensures.value c.from.ensures
-      c.requires.chip);
-}
+returns c =
+    let same = tickets_lent c.self.inside.chips c.self.inside.tiles c.self.inside.leaving.items c.args.self.now
+    c.deref.result.now c.args.chip c.self.invariant c.self.view_is c.deref.ensures.value c.requires.chip in
+    let inside = chip_lent c.self.inside.chips c.self.inside.tiles c.self.inside.leaving.items c.args.self.now
+    c.deref.result.now c.args.chip c.self.invariant c.self.view_is c.deref.ensures.value c.requires.chip in
+    record {
+      value = c.len.ensures.value ∙ ap length same;
+      most = omega (
+        arith,
+        c.len.ensures.value,
+        few_tickets c.args.chip c.deref.result.now inside
+            (rw c.deref.ensures.value c.self.invariant.whole),
+      );
+    }

@@ -1,19 +1,19 @@
+use Rattle.std.proofs.Common.{List, ap, ◌∙◌}
+use Rattle.std.specs.List.{slice_get}
+use Rattle.cm_slots.specs.declared.ticket.Ticket.{Ticket}
 use Rattle.cm_slots.proofs.Single.{chip_lent, tickets_lent}
 use Rattle.cm_slots.proofs.slots.Slots.ticket.Goals as goal
 
 pub ticket-requires-clause-chip : goal.ticket-requires-clause-chip
-ticket-requires-clause-chip c = chip_lent c.self.inside.dims c.self.inside.room c.self.inside.tiles c.self.inside.leaving.items c.args.self.now
-    c.deref.result.now c.from.result c.args.chip c.self.invariant c.self.view_is c.deref.ensures.value c.from.ensures
-    c.requires.chip
-
-pub ticket-requires-clause-place : goal.ticket-requires-clause-place
-ticket-requires-clause-place c = rw (tickets_lent c.self.inside.dims c.self.inside.room c.self.inside.tiles c.self.inside.leaving.items c.args.self.now
-    c.deref.result.now c.from.result c.args.chip c.self.invariant c.self.view_is c.deref.ensures.value c.from.ensures
-    c.requires.chip) c.requires.place
+ticket-requires-clause-chip c = chip_lent c.self.inside.chips c.self.inside.tiles c.self.inside.leaving.items
+    c.args.self.now
+    c.deref.result.now c.args.chip c.self.invariant c.self.view_is c.deref.ensures.value c.requires.chip
 
 pub returns : goal.returns
 returns c = record {
-  value = rw (tickets_lent c.self.inside.dims c.self.inside.room c.self.inside.tiles c.self.inside.leaving.items c.args.self.now
-      c.deref.result.now c.from.result c.args.chip c.self.invariant c.self.view_is c.deref.ensures.value c.from.ensures
-      c.requires.chip) at c.ticket.ensures.value;
+  value = c.ticket.ensures.value
+      ∙ ap (λ (ts : List Ticket). slice_get ts c.args.place) (tickets_lent c.self.inside.chips c.self.inside.tiles
+      c.self.inside.leaving.items c.args.self.now
+      c.deref.result.now c.args.chip c.self.invariant c.self.view_is c.deref.ensures.value c.requires.chip);
+  most = c.ticket.ensures.most;
 }

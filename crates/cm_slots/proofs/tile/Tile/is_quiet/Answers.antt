@@ -1,7 +1,7 @@
-use Rattle.cm_slots.proofs.Changing.{quiet}
+use Rattle.cm_slots.proofs.Tiles.{blank_is_quiet}
 use Rattle.cm_slots.proofs.tile.Tile.is_quiet.Goals as goal
 
-pub returns : goal.returns
-returns c = record {
-  none = λ yes. quiet c.args.room c.args.self.now c.requires.whole (c.is_blank.ensures.none yes);
+pub returns-else-not-self : goal.returns-else-not-self
+returns-else-not-self c = record {
+  none = λ yes. blank_is_quiet c.args.self.now c.requires.whole (c.is_blank.ensures.none yes);
 }

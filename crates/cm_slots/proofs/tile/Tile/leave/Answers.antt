@@ -1,22 +1,37 @@
-use Rattle.std.proofs.Common.{◌∙◌}
+use Rattle.std.proofs.Common.{◌∙◌, false, ap, refl}
+use Rattle.cm_slots.specs.Slots.{slot_across}
 use Rattle.cm_slots.proofs.Tiles.{left, none_left}
 use Rattle.cm_slots.proofs.tile.Tile.leave.Goals as goal
-use Rattle.cm_slots.proofs.tile.Tile.leave.Goals.{then-not-is_blank, else-not-is_blank}
+
+pub returns-then-is_quiet : goal.returns-then-is_quiet
+returns-then-is_quiet c =
+    let old = c.args.self.now in
+    let quiet = c.is_quiet.ensures.none c.if-is_quiet.true in
+    record {
+      value = none_left c.args.room c.args.dim old (record { first = old.first; rest = old.rest; awake = false })
+          c.requires.some c.requires.most c.requires.whole c.requires.within quiet
+          (record {
+            long = c.requires.whole.shape.long;
+            tall = c.requires.whole.shape.tall;
+            wide = c.requires.whole.shape.wide;
+          })
+          quiet (λ j h. refl);
+    }
 
 pub returns : goal.returns
 returns c = record {
-  value = elim c.if-not-is_blank.branch [
-    | then-not-is_blank w ↦ rw w.self-is
-        (left c.args.room c.args.dim c.args.self.now (record { first = w.leave.new.first; rest = w.leave.new.rest })
-        w.leave.new.first c.requires.some c.requires.whole
-        (record {
-          long = w.leave.ensures.long;
-          tall = w.leave.auto.rest ∙ c.requires.whole.shape.tall;
-          wide = w.leave.ensures.wide;
-        })
-        w.leave.ensures.long w.leave.ensures.going w.leave.ensures.stay)
-    | else-not-is_blank w ↦ rw w.self-is
-        (none_left c.args.room c.args.dim c.args.self.now c.requires.some c.requires.whole
-        (c.is_blank.ensures.none w.if-not-is_blank.false))
-  ];
+  value = left c.args.room c.args.dim c.args.self.now (record {
+    first = c.leave.new.first;
+    rest = c.leave.new.rest;
+    awake = c.args.self.now.awake;
+  })
+      c.flipped.result c.requires.some c.requires.most c.requires.whole c.requires.within
+      (record {
+        long = c.leave.ensures.long;
+        tall = c.leave.auto.rest ∙ c.requires.whole.shape.tall;
+        wide = c.leave.ensures.wide;
+      })
+      c.flipped.ensures.long
+      (λ i h. c.flipped.ensures.value i h ∙ ap (slot_across c.args.dim) (c.leave.ensures.going i h))
+      c.leave.ensures.stay c.leave.ensures.others;
 }

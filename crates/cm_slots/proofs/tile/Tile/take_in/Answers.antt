@@ -1,23 +1,24 @@
-use Rattle.std.proofs.Common.{◌∙◌}
+use Rattle.std.proofs.Common.{◌∙◌, true, refl}
 use Rattle.cm_slots.proofs.Tiles.{taken_in, none_taken_in}
 use Rattle.cm_slots.proofs.tile.Tile.take_in.Goals as goal
 
 pub returns-then-not-is_blank : goal.returns-then-not-is_blank
 returns-then-not-is_blank c = record {
   value = taken_in c.args.room c.args.coming.now c.args.self.now
-      (record { first = c.take_in.new.first; rest = c.take_in.new.rest }) c.requires.some
+      (record { first = c.take_in.new.first; rest = c.take_in.new.rest; awake = true }) c.requires.some c.requires.most
       (record {
         long = c.take_in.ensures.long;
         tall = c.take_in.auto.rest ∙ c.requires.shape.tall;
         wide = c.take_in.ensures.wide;
       })
-      c.requires.taken c.take_in.ensures.taken;
+      refl
+      c.requires.taken c.take_in.ensures.taken c.take_in.ensures.others;
 }
 
 pub returns-else-not-is_blank-2 : goal.returns-else-not-is_blank-2
 returns-else-not-is_blank-2 c = record {
   value = none_taken_in c.args.room c.args.coming.now c.args.self.now
       (c.is_blank.ensures.none c.if-not-is_blank.false)
-      (c.is_blank-else-not-is_blank.ensures.none c.if-not-is_blank-2.false) c.requires.some
+      (c.is_blank-else-not-is_blank.ensures.none c.if-not-is_blank-2.false) c.requires.some c.requires.most
       (record { long = c.requires.long; tall = c.requires.shape.tall; wide = c.requires.shape.wide });
 }

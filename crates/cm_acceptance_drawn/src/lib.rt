@@ -1,0 +1,17 @@
+//! Drawn debugger sessions beside a plain program; it has no code of its own.
+#![tactic(auto)]
+
+#[cfg(test)]
+mod asked;
+#[cfg(test)]
+mod draws;
+#[cfg(test)]
+mod images;
+#[cfg(test)]
+mod plain;
+#[cfg(test)]
+mod sessions;
+#[cfg(test)]
+mod texts;
+#[cfg(test)]
+mod told;

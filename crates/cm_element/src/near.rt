@@ -1,0 +1,124 @@
+//! A run that is filled chip by chip.
+
+ghost use Rattle.std.specs.Prelude.{◌≡◌, ◌≢◌, ◌+◌, ◌<◌, ◌≤◌, IfOk, length, slice_set};
+ghost use Rattle.cm_bits.specs.Bit.{bit};
+ghost use Rattle.cm_model.specs.Processor.{ZERO};
+ghost use Rattle.cm_model.specs.Array.{chip_at};
+ghost use Rattle.cm_element.specs.Near.{AreNear, with_near};
+ghost use Rattle.cm_element.specs.Wide.{with_memory_plane, with_flag_plane};
+
+use crate::run::Run;
+use cm_bits::{Addr, FlagNo, NoMemory, Plane};
+use std::alloc::Global;
+use std::marker::Model;
+
+/// So many chips are near: 256 KB, which a cache holds while they are filled.
+const WIDTH: u16 = 32;
+
+/// A run that is filled chip by chip. In a large run the planes of one chip lie far apart, so some chips are
+/// kept in a small run of their own, and go back when another chip is filled.
+///
+/// Contracts see the list of the chips, as of a run.
+#[derive(Debug, Drop)]
+pub struct NearRun {
+    far: Run,
+    near: Run,
+    first: u16,
+    width: u16,
+    chips: u16,
+}
+
+impl Model for NearRun {
+    ghost use Rattle.std.specs.Prelude.{List};
+    ghost use Rattle.cm_model.specs.Processor.{Processor};
+    ghost use Rattle.cm_element.specs.Near.{AreNear, with_near};
+
+    ghost Value = { List (List Processor) };
+
+    ghost view = { λ run. with_near run.far run.near run.first };
+
+    ghost invariant = { λ run. AreNear run.far run.near run.first run.width run.chips };
+}
+
+impl NearRun {
+    /// The same chips, to be filled. Memory is taken twice.
+    pub fn of(alloc: Global, far: Run, chips: u16) -> Result<NearRun, NoMemory>
+        requires chips { length far ≡ chips }
+        ensures value { IfOk result (λ run. run ≡ far) }
+    {
+        let width = chips.min(WIDTH);
+        let mut near = Run::blank(alloc, width)?;
+        near.lay(0, &far, 0, width);
+        Ok(NearRun {
+            far,
+            near,
+            first: 0,
+            width,
+            chips,
+        })
+    }
+
+    /// The run that was filled.
+    pub fn into_run(self) -> Run
+        ensures value { result ≡ self }
+    {
+        let mut far = self.far;
+        far.lay(self.first, &self.near, 0, self.width);
+        far
+    }
+
+    /// Puts a plane at an address of a chip: bit p is that of processor p.
+    pub fn poke_plane(&mut self, chip: u16, at: Addr, plane: Plane)
+        requires chip { chip < length self.old }
+        ensures value { self.new
+            ≡ slice_set self.old chip (with_memory_plane (chip_at self.old chip) at (bit plane)) }
+    {
+        let first = come_near(
+            &mut self.far,
+            &mut self.near,
+            self.first,
+            self.width,
+            self.chips,
+            chip,
+        );
+        self.first = first;
+        self.near.poke_plane(chip - first, at, plane);
+    }
+
+    /// Puts a plane into a flag of a chip, but not into flag 8.
+    pub fn poke_flag_plane(&mut self, chip: u16, number: FlagNo, plane: Plane)
+        requires chip { chip < length self.old }
+        requires other { number ≢ ZERO }
+        ensures value { self.new
+            ≡ slice_set self.old chip (with_flag_plane (chip_at self.old chip) number (bit plane)) }
+    {
+        let first = come_near(
+            &mut self.far,
+            &mut self.near,
+            self.first,
+            self.width,
+            self.chips,
+            chip,
+        );
+        self.first = first;
+        self.near.poke_flag_plane(chip - first, number, plane);
+    }
+}
+
+/// The first of the chips that are near, when this chip is among them.
+fn come_near(far: &mut Run, near: &mut Run, first: u16, width: u16, chips: u16, chip: u16) -> u16
+    requires near { AreNear far.old near.old first width chips }
+    requires chip { chip < chips }
+    ensures near { AreNear far.new near.new result width chips }
+    ensures value { with_near far.new near.new result ≡ with_near far.old near.old first }
+    ensures below { result ≤ chip }
+    ensures above { chip < result + width }
+{
+    if first <= chip && chip - first < width {
+        return first;
+    }
+    far.lay(first, near, 0, width);
+    let first = chip.min(chips - width);
+    near.lay(0, far, first, width);
+    first
+}

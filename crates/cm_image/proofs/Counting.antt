@@ -1,0 +1,45 @@
+-- How many planes of each chip are listed, one address more at a time.
+use Rattle.std.proofs.Common.{◌≡◌, ℕ, ◌+◌, ◌<◌, ◌≤◌, ◌==◌, Bool, true, false, List, length, get_or}
+use Rattle.std.proofs.Common.{replicate, refl, ap, ◌∙◌, if◌then◌else◌, arith}
+use Rattle.std.proofs.lemmas.Simd.{length-replicate}
+use Rattle.std.proofs.lemmas.List.{get_or-replicate}
+use Rattle.cm_model.specs.Array.{Chips, chip_at}
+use Rattle.cm_image_format.specs.Whole.{memory_plane_of}
+use Rattle.cm_image.specs.Planes.{AreCounted}
+use Rattle.cm_image.proofs.Dumping.{planes_none, counted_more}
+
+-- the planes below an address are counted, and so are no more than there are addresses
+pub record AreSoFar (count : ℕ) (chips : Chips) (at : ℕ) (counts : List ℕ) : Type 0 where
+  pub counted : AreCounted count chips at counts
+  pub few : (c : ℕ) → c < count → get_or counts c 0 ≤ at
+
+pub none_counted : (count : ℕ) (chips : Chips) (counts : List ℕ) → counts ≡ replicate count 0
+    → AreSoFar count chips 0 counts
+none_counted count chips counts is = record {
+  counted = record {
+    long = ap length is ∙ length-replicate count 0;
+    each = λ c h. zero_at c h ∙ planes_none (chip_at chips c);
+  };
+  few = λ c h. omega (arith, zero_at c h);
+} where
+  zero_at : (c : ℕ) → c < count → get_or counts c 0 ≡ 0
+  zero_at c h = ap (λ (ns : List ℕ). get_or ns c 0) is ∙ get_or-replicate count c 0 0 h
+
+one_at_most : (b : Bool) → (if b then 0 else 1) ≤ 1
+one_at_most true = omega arith
+one_at_most false = omega arith
+
+pub row_counted : (count at : ℕ) (chips : Chips) (counts new row : List ℕ) → AreSoFar count chips at counts
+    → length new ≡ count
+    → ((c : ℕ) → c < count → get_or new c 0 ≡ get_or counts c 0 + (if get_or row c 0 == 0 then 0 else 1))
+    → ((c : ℕ) → c < count → get_or row c 0 ≡ memory_plane_of (chip_at chips c) at)
+    → AreSoFar count chips (at + 1) new
+row_counted count at chips counts new row before long more planes = record {
+  counted = record {
+    long = long;
+    each = λ c h. more c h
+        ∙ counted_more (chip_at chips c) at (get_or counts c 0) (if get_or row c 0 == 0 then 0 else 1) (get_or row c 0)
+        (before.counted.each c h) refl (planes c h);
+  };
+  few = λ c h. omega (arith, more c h, before.few c h, one_at_most (get_or row c 0 == 0));
+}

@@ -1,0 +1,105 @@
+-- How many bytes a dump has: of each part, of a chip, of all.
+use Rattle.std.proofs.Common.{◌≡◌, ℕ, ◌+◌, ◌*◌, ◌^◌, List, [], ◌∷◌, ◌++◌, length, refl, sym, ap, ◌∙◌, arith}
+use Rattle.std.specs.Int.{w8, w16, w64}
+use Rattle.std.specs.List.{flat_map}
+use Rattle.std.proofs.lemmas.List.{length-append}
+use Rattle.std.proofs.lemmas.List.FromFn.{length-map-range_with_len}
+use Rattle.cm_model.specs.declared.message.Message.{Message}
+use Rattle.cm_model.specs.Each.{each_from}
+use Rattle.cm_model.specs.Processor.{Processor}
+use Rattle.cm_model.specs.Array.{chip_at, list_at}
+use Rattle.cm_model.specs.Machine.{Machine}
+use Rattle.cm_message.specs.Bytes.{number, message_text}
+use Rattle.cm_image_format.specs.Image.{Listed, listed_text, chip_text, shape_text}
+use Rattle.cm_image_format.specs.Whole.{flag_plane_of, image_of_chip, image_text, text_of}
+use Rattle.cm_image.specs.Planes.{flags_text, planes_below, listed_below, chips_text}
+use Rattle.cm_image.proofs.Dumping.{chip_text-parts, chips_none, chips_more}
+
+-- pieces of one length
+length-flat_map_same : {X : Type 0} (g : X → List ℕ) (k : ℕ) (xs : List X) → ((x : X) → length (g x) ≡ k)
+    → length (flat_map g xs) ≡ length xs * k
+length-flat_map_same g k [] same = omega arith
+length-flat_map_same g k (x ∷ xs) same =
+    omega (arith, length-append (g x) (flat_map g xs), same x, length-flat_map_same g k xs same)
+
+two : (n : ℕ) → length (number w16 n) ≡ 2
+unfolding number
+two n = refl
+
+listed_four : (x : Listed) → length (listed_text x) ≡ 4
+unfolding number
+listed_four x = refl
+
+message_eighteen : (m : Message) → length (message_text m) ≡ 18
+unfolding number
+message_eighteen m = refl
+
+shape_eight : (n cap : ℕ) → length (shape_text n cap) ≡ 8
+unfolding shape_text number
+shape_eight n cap = refl
+
+clock_eight : (n : ℕ) → length (number w64 n) ≡ 8
+unfolding number
+clock_eight n = refl
+
+one : (n : ℕ) → length (number w8 n) ≡ 1
+unfolding number
+one n = refl
+
+flags_thirty_two : (chip : List Processor) → length (flags_text chip 16) ≡ 32
+unfolding flags_text each_from
+flags_thirty_two chip =
+    length-flat_map_same (number w16) 2 (each_from 0 16 (flag_plane_of chip)) two
+    ∙ ap (λ k. k * 2) (length-map-range_with_len (flag_plane_of chip) 0 16)
+
+listed_fours : (chip : List Processor) → length (listed_below chip 4096) ≡ length (planes_below chip 4096) * 4
+unfolding listed_below
+listed_fours chip = length-flat_map_same listed_text 4 (planes_below chip 4096) listed_four
+
+pub length-chip_text : (chip : List Processor) (buffer : List Message)
+    → length (chip_text (image_of_chip chip buffer))
+    ≡ 35 + length (planes_below chip 4096) * 4 + length buffer * 18
+length-chip_text chip buffer =
+    let flags : List ℕ = flags_text chip 16 in
+    let count : List ℕ = number w16 (length (planes_below chip 4096)) in
+    let listed : List ℕ = listed_below chip 4096 in
+    let few : List ℕ = number w8 (length buffer) in
+    let messages : List ℕ = flat_map message_text buffer in
+    ap length (chip_text-parts chip buffer)
+    ∙ omega (
+      arith,
+      length-append flags ((count ++ listed) ++ (few ++ messages)),
+      length-append (count ++ listed) (few ++ messages),
+      length-append count listed,
+      length-append few messages,
+      flags_thirty_two chip,
+      two (length (planes_below chip 4096)),
+      listed_fours chip,
+      one (length buffer),
+      length-flat_map_same message_text 18 buffer message_eighteen,
+    )
+
+pub length-chips_none : (machine : Machine) → length (chips_text machine 0 0) ≡ 0
+length-chips_none machine = ap length (sym (chips_none machine 0 []))
+
+pub length-chips_more : (machine : Machine) (c : ℕ) → length (chips_text machine 0 (c + 1))
+    ≡ length (chips_text machine 0 c)
+    + length (chip_text (image_of_chip (chip_at machine.chips c) (list_at machine.buffers c)))
+length-chips_more machine c =
+    let last : List ℕ = chip_text (image_of_chip (chip_at machine.chips c) (list_at machine.buffers c)) in
+    ap length (sym (chips_more machine [] (chips_text machine 0 c) (chips_text machine 0 c ++ last) 0 c c
+    (omega arith) refl refl))
+    ∙ length-append (chips_text machine 0 c) last
+
+pub length-text_of : (n cap : ℕ) (machine : Machine)
+    → length (text_of n cap machine) ≡ 16 + length (chips_text machine 0 (2 ^ n))
+unfolding image_text
+length-text_of n cap machine =
+    let chips : List ℕ = chips_text machine 0 (2 ^ n) in
+    omega (
+      arith,
+      length-append (shape_text n cap) (number w64 machine.clock ++ chips),
+      length-append (number w64 machine.clock) chips,
+      shape_eight n cap,
+      clock_eight machine.clock,
+    )

@@ -1,0 +1,42 @@
+use Rattle.std.proofs.Common.{◌≡◌, ◌<◌, ◌≤◌, ◌+◌, ◌++◌, ◌^◌, ℕ, length, get_or, refl, sym, ap, ◌∙◌, arith}
+use Rattle.cm_model.specs.Array.{chip_at, list_at}
+use Rattle.cm_image_format.specs.Image.{chip_text}
+use Rattle.cm_image_format.specs.Whole.{image_of_chip}
+use Rattle.cm_image.specs.Planes.{chips_text, planes_below}
+use Rattle.cm_image.proofs.Dumping.{chips_none, chips_more}
+use Rattle.cm_image.proofs.dumps.push_tile.Goals as goal
+
+pub loop-c-init : goal.loop-c-init
+loop-c-init g c = chips_none c.args.machine.now.machine c.args.first c.args.text.now.items
+
+pub push_chip-requires : goal.push_chip-requires
+push_chip-requires g c =
+    let number : ℕ = c.args.first + c.loop-c.c in
+    let below : number < 2 ^ g.row.N = omega (arith, c.requires.chips, c.loop-c-test.true) in
+    let room : length (list_at c.args.machine.now.machine.buffers number) ≤ g.row.CAP =
+    c.buffer-buffer.ensures.whole.room number below in
+    let same : c.view.result ≡ chip_at c.args.machine.now.machine.chips number =
+    c.view.ensures.value ∙ c.requires.tile c.loop-c.c c.loop-c-test.true in
+    record {
+      planes = ap (λ (k : ℕ). get_or c.args.counts.now k 0) c.from.ensures
+          ∙ (c.requires.counts.each number below ∙ sym (λ i. length (planes_below (same i) 4096)));
+      few = rw c.buffer-buffer.ensures.value (omega (arith, room, c.requires.room));
+    }
+
+pub loop-c-preserved : goal.loop-c-preserved
+loop-c-preserved g c =
+    let number : ℕ = c.args.first + c.loop-c.c in
+    let same : c.view.result ≡ chip_at c.args.machine.now.machine.chips number =
+    c.view.ensures.value ∙ c.requires.tile c.loop-c.c c.loop-c-test.true in
+    chips_more c.args.machine.now.machine c.args.text.now.items _ _ c.args.first c.loop-c.c number refl
+    c.loop-c.invariant
+    (c.in_ok-push_chip.ensures.ok
+    ∙ (λ i. c.loop-c.text.items ++ chip_text (image_of_chip (same i) (c.buffer-buffer.ensures.value i))))
+
+pub returns : goal.returns
+returns g c =
+    let all : c.loop-c.c ≡ c.args.some = omega arith in
+    record {
+      ok = c.loop-c.invariant
+          ∙ ap (λ (k : ℕ). c.args.text.now.items ++ chips_text c.args.machine.now.machine c.args.first k) all;
+    }

@@ -1,0 +1,9 @@
+-- A chip at which an injection changes nothing. Ours.
+use Rattle.std.specs.Prelude.{◌≡◌, ℕ, List, []}
+use Rattle.cm_model.specs.Processor.{Processor}
+use Rattle.cm_model.specs.Letters.{senders_taken, chip_after_injection}
+
+-- nobody's message is taken, whatever room there is, and nobody was acknowledged
+pub record IsIdle (chip : List Processor) : Type 0 where
+  pub nobody : (cap standing : ℕ) → senders_taken cap standing chip ≡ []
+  pub same : chip ≡ chip_after_injection [] chip

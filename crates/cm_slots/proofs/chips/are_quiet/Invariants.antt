@@ -1,6 +1,0 @@
-use Rattle.std.proofs.Common.{◌≡◌, ◌<◌, ℕ, []}
-use Rattle.cm_slots.specs.Tiles.{tile_at, standing_at}
-use Rattle.cm_slots.proofs.chips.are_quiet.Given as goal
-
-abbrev pub invariant-loop-tile : goal.invariant-loop-tile
-invariant-loop-tile l = (t i : ℕ) → t < l.tile-index → i < 64 → standing_at l.room (tile_at l.tiles t) i ≡ []

@@ -1,0 +1,6 @@
+use Rattle.std.proofs.Common.{◌<◌, ◌≤◌, ℕ, length}
+use Rattle.cm_slots.specs.Tiles.{tile_at, standing_at}
+use Rattle.cm_slots.proofs.chips.are_within.Given as goal
+
+abbrev pub invariant-loop-tile : goal.invariant-loop-tile
+invariant-loop-tile l = (t i : ℕ) → t < l.tile-index → i < 64 → length (standing_at (tile_at l.tiles t) i) ≤ l.room
