@@ -17,7 +17,7 @@ push_chips-requires g c =
           sizes.most_room,
           (
             subst (λ (counts : List ℕ). AreCounted (2 ^ g.row.N) c.args.machine.now.machine.chips 4096 counts)
-            (sym same)
+                (sym same)
                 c.in_ok-counts.ensures.value,
             ap length c.in_ok-tile.ensures.value ∙ length-each_from 0 32 (λ k. blank_chip),
           ),
