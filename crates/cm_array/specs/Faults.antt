@@ -1,11 +1,14 @@
--- Why a machine of given sizes cannot be, and why what was built is none: ours.
-use Rattle.std.specs.Prelude.{ℕ, ◌==◌, ◌||◌, ltb, Option, Some, None, if◌then◌else◌}
+-- Why a machine of given sizes cannot be, why what was built is none, and whether acts were refused for want of a thread: ours.
+use Rattle.std.specs.Prelude.{ℕ, Bool, true, false, ◌==◌, ◌||◌, ltb, Option, Some, None, if◌then◌else◌}
 use Rattle.cm_model.specs.Machine.{Machine}
 use Rattle.cm_model.specs.Unlogged.{standing_messages, has_tag_twice}
 use Rattle.cm_array.specs.declared.machine.MachineFault.{MachineFault}
 use Rattle.cm_array.specs.declared.machine.MachineFault.TheVariants.{Dim, Cap}
 use Rattle.cm_array.specs.declared.builder.BuildFault.{BuildFault}
 use Rattle.cm_array.specs.declared.builder.BuildFault.TheVariants.{TagTwice}
+use Rattle.cm_array.specs.declared.runner.Plain.{Plain}
+use Rattle.cm_array.specs.declared.runner.RunFault.{RunFault}
+use Rattle.cm_array.specs.declared.runner.RunFault.TheVariants.{Long, Clock, Memory, NoThread}
 
 -- the dimension is looked at first
 abbrev pub size_fault : ℕ → ℕ → Option MachineFault
@@ -14,3 +17,14 @@ size_fault n cap = if ltb 12 n then Some Dim else if cap == 0 || ltb 15 cap then
 -- two messages that were put into it have one tag
 abbrev pub build_fault : Machine → Option BuildFault
 build_fault machine = if has_tag_twice (standing_messages machine) then Some TagTwice else None
+
+-- a thread was wanting
+abbrev pub is_no_thread : RunFault → Bool
+is_no_thread Long = false
+is_no_thread Clock = false
+is_no_thread Memory = false
+is_no_thread NoThread = true
+
+-- whether one was wanting so far, of the runner that starts none
+abbrev pub plain_has_lacked_thread : Plain → Bool
+plain_has_lacked_thread runner = false

@@ -1,9 +1,11 @@
 //! What makes a machine go through a list of acts, and the plain one, of one thread.
 
-ghost use Rattle.std.specs.Prelude.{◌≡◌, ◌↔◌, ◌+◌, ◌*◌, ◌++◌, IsErrOf, IsFalse, IsOk, IsTrue, OnOk, OnErr, []};
+ghost use Rattle.std.specs.Prelude.{◌≡◌, ◌↔◌, ◌+◌, ◌*◌, ◌++◌, ◌||◌, Bool, IsErrOf, IsFalse, IsOk, IsTrue};
+ghost use Rattle.std.specs.Prelude.{MatchResult, OnOk, OnErr, []};
 ghost use Rattle.cm_model.specs.Machine.{run_of};
 ghost use Rattle.cm_model.specs.Account.{account, newly_injected, SameLines};
 ghost use Rattle.cm_array.specs.Acts.{cycles_in, is_cycle, is_late, is_long};
+ghost use Rattle.cm_array.specs.Faults.{is_no_thread, plain_has_lacked_thread};
 ghost use Rattle.cm_array.specs.Parts.{LacksLogRoom};
 
 use crate::machine::Machine;
@@ -46,8 +48,8 @@ pub trait Runner<const N: usize, const CAP: usize> {
     /// What a caller of an unknown runner has to know of its type; of `Plain` it is no condition.
     ghost ready: { Type 0 };
 
-    /// Whether it may want a thread at all; the plain one never does.
-    ghost may_want_thread: { Type 0 };
+    /// Whether it has refused a list for want of a thread; the plain one never does.
+    ghost has_lacked_thread: { Self → Bool };
 
     /// Runs the acts one after another, or none of them. The account has then the lines of what was
     /// injected in addition, and no others.
@@ -60,7 +62,9 @@ pub trait Runner<const N: usize, const CAP: usize> {
         ensures ok { OnOk result (machine.new.machine ≡ run_of N CAP machine.old.machine acts.now) }
         ensures account { OnOk result (SameLines (account N machine.new.machine)
             (account N machine.old.machine ++ newly_injected N machine.old.machine machine.new.machine)) }
-        ensures threads { IsErrOf result RunFault.NoThread → may_want_thread }
+        ensures threads { MatchResult result
+            (λ _. has_lacked_thread self.new ≡ has_lacked_thread self.old)
+            (λ fault. has_lacked_thread self.new ≡ (is_no_thread fault || has_lacked_thread self.old)) }
         ensures err { OnErr result (machine.new.machine ≡ machine.old.machine) };
 }
 
@@ -71,7 +75,7 @@ pub struct Plain;
 impl<const N: usize, const CAP: usize> Runner<N, CAP> for Plain {
     ghost ready = { Unit {0} };
 
-    ghost may_want_thread = { ⊥ };
+    ghost has_lacked_thread = { plain_has_lacked_thread };
 
     /// Takes memory for the logs of all petit cycles in the list, before the first act, and none where
     /// each log has room for them: a petit cycle tells at most 4 + `CAP` events of a chip.
@@ -83,7 +87,10 @@ impl<const N: usize, const CAP: usize> Runner<N, CAP> for Plain {
         ensures no_cycles { cycles_in acts.now ≡ 0 → IsFalse (is_long acts.now) → IsOk result }
         ensures memory { IsErrOf result RunFault.Memory
             → LacksLogRoom (cycles_in acts.now * (4 + CAP)) machine.old.log_rooms }
-        ensures threads { ¬ IsErrOf result RunFault.NoThread }
+        ensures no_thread { ¬ IsErrOf result RunFault.NoThread }
+        ensures threads { MatchResult result
+            (λ _. plain_has_lacked_thread self.new ≡ plain_has_lacked_thread self.old)
+            (λ fault. plain_has_lacked_thread self.new ≡ (is_no_thread fault || plain_has_lacked_thread self.old)) }
         ensures ok { OnOk result (machine.new.machine ≡ run_of N CAP machine.old.machine acts.now) }
         ensures account { OnOk result (SameLines (account N machine.new.machine)
             (account N machine.old.machine ++ newly_injected N machine.old.machine machine.new.machine)) }

@@ -9,8 +9,8 @@ use Rattle.cm_model.specs.Machine.{Machine}
 use Rattle.cm_session.specs.declared.fault.SessionFault.{SessionFault}
 use Rattle.cm_session.specs.declared.fault.SessionFault.TheVariants.{Read, Write, TooMuch, Memory, NoThread}
 use Rattle.cm_session.specs.Session.{Session, Answered, told, preceded_by, opening, after_line, after_lines, answers}
-use Rattle.cm_session.specs.Ends.{ended_lines, open_line, session_after, IsBeforeOrAmid, IsStopped, IsStoppedSomewhere, IsAnswered}
-use Rattle.cm_session.proofs.Lines.{after_lines-append, ended_lines-end, open_line-end, ended_lines-more, open_line-more, lines_of-open, lines_of-append, lines_after}
+use Rattle.cm_session.specs.Ends.{ended_lines, open_line, session_after, IsBeforeOrAmid, IsStopped, IsBrokenOff, IsAnswered}
+use Rattle.cm_session.proofs.Lines.{after_lines-append, ended_lines-end, open_line-end, ended_lines-more, open_line-more, lines_of-open, ended_lines-append, ended_after}
 use Rattle.cm_debug.specs.Telling.{IsTold, IsCutShort, IsGivenUp, BreaksOff, Stops}
 
 -- ---- one line more
@@ -88,26 +88,6 @@ answers_begin : (n cap : ℕ) (acts : List Act) (start : Machine) (lines more : 
     → answers n cap start acts (lines ++ more) ≡ answers n cap start acts lines ++ (after_lines n cap acts (session_after n cap acts start lines) more).answer
 answers_begin n cap acts start lines more = ap (λ (a : Answered). a.answer) (after_lines-append n cap acts (opening start (length acts)) lines more)
 
--- before a line, or in its midst
-stopped_before : (n cap : ℕ) (acts : List Act) (start : Machine) (held : Option (List ℕ)) (done undone : List (List ℕ)) (session : Session)
-    (machine : Machine) (holds : Option (List ℕ)) → Appends held holds (answers n cap start acts done) → session ≡ session_after n cap acts start done
-    → IsBeforeOrAmid n cap acts session undone machine
-    → IsStopped n cap acts start held (done ++ undone) machine holds (length (answers n cap start acts done))
-stopped_before n cap acts start held done undone session machine holds wrote is on_the_way =
-    let whole = answers_begin n cap acts start done undone in
-    let long : length (answers n cap start acts (done ++ undone)) ≡ length (answers n cap start acts done)
-    + length (after_lines n cap acts (session_after n cap acts start done) undone).answer =
-    ap length whole ∙ length-append (answers n cap start acts done) _ in
-    record {
-      within = omega (arith, long);
-      written = subst (Appends held holds) (sym (ap (take (length (answers n cap start acts done))) whole
-          ∙ take_front (answers n cap start acts done) _ (length (answers n cap start acts done)) (omega arith) ∙ all_of (answers n cap start acts done))) wrote;
-      done = done;
-      undone = undone;
-      lines_are = refl;
-      machine_is = subst (λ (s : Session). IsBeforeOrAmid n cap acts s undone machine) is on_the_way;
-    }
-
 unmoved : (n cap : ℕ) (acts : List Act) (session : Session) (lines : List (List ℕ)) (machine : Machine) → machine ≡ session.machine
     → IsBeforeOrAmid n cap acts session lines machine
 unmoved n cap acts session [] machine is = is
@@ -155,12 +135,48 @@ stopped_short n cap acts start held done more line session sent machine holds on
 given_up : (n cap : ℕ) (acts : List Act) (start : Machine) (held : Option (List ℕ)) (done more : List (List ℕ)) (line : List ℕ) (session : Session)
     (machine : Machine) (holds on : Option (List ℕ)) → Appends held holds (answers n cap start acts done)
     → session ≡ session_after n cap acts start done → IsGivenUp n cap acts session line holds machine on
-    → IsStoppedSomewhere n cap acts start held (done ++ line ∷ more) machine on
+    → IsBrokenOff n cap acts start held (done ++ line ∷ more) machine on
 given_up n cap acts start held done more line session machine holds on wrote is up = record {
-  count = length (answers n cap start acts done);
-  stopped = stopped_before n cap acts start held done (line ∷ more) session machine on
-      (subst (Appends held on) (append-nil (answers n cap start acts done)) (Appends-trans held holds on _ _ wrote up.kept)) is up.on_the_way;
+  done = done;
+  undone = line ∷ more;
+  lines_are = refl;
+  written = subst (Appends held on) (append-nil (answers n cap start acts done)) (Appends-trans held holds on _ _ wrote up.kept);
+  machine_is = subst (λ (s : Session). IsBeforeOrAmid n cap acts s (line ∷ more) machine) is up.on_the_way;
 }
+
+-- what stops in the first lines stops in all
+further : (n cap : ℕ) (acts : List Act) (session : Session) (lines more : List (List ℕ)) (machine : Machine)
+    → IsBeforeOrAmid n cap acts session lines machine → IsBeforeOrAmid n cap acts session (lines ++ more) machine
+further n cap acts session [] more machine is = unmoved n cap acts session more machine is
+further n cap acts session (line ∷ lines) more machine is = is
+
+broken_further : (n cap : ℕ) (acts : List Act) (start : Machine) (held : Option (List ℕ)) (lines more : List (List ℕ)) (machine : Machine)
+    (on : Option (List ℕ)) → IsBrokenOff n cap acts start held lines machine on → IsBrokenOff n cap acts start held (lines ++ more) machine on
+broken_further n cap acts start held lines more machine on broken = record {
+  done = broken.done;
+  undone = broken.undone ++ more;
+  lines_are = ap (λ (ls : List (List ℕ)). ls ++ more) broken.lines_are ∙ append_assoc broken.done broken.undone more;
+  written = broken.written;
+  machine_is = further n cap acts (session_after n cap acts start broken.done) broken.undone more machine broken.machine_is;
+}
+
+pub stops_further : (n cap : ℕ) (acts : List Act) (start : Machine) (held : Option (List ℕ)) (lines more : List (List ℕ)) (machine : Machine)
+    (on : Option (List ℕ)) (fault : SessionFault) → Stops n cap acts start held lines machine on fault
+    → Stops n cap acts start held (lines ++ more) machine on fault
+stops_further n cap acts start held lines more machine on (Write count) stops =
+    let whole = answers_begin n cap acts start lines more in
+    record {
+      within = omega (arith, stops.within, ap length whole ∙ length-append (answers n cap start acts lines) _);
+      written = subst (Appends held on) (sym (ap (take count) whole ∙ take_front (answers n cap start acts lines) _ count stops.within)) stops.written;
+      done = stops.done;
+      undone = stops.undone ++ more;
+      lines_are = ap (λ (ls : List (List ℕ)). ls ++ more) stops.lines_are ∙ append_assoc stops.done stops.undone more;
+      machine_is = further n cap acts (session_after n cap acts start stops.done) stops.undone more machine stops.machine_is;
+    }
+stops_further n cap acts start held lines more machine on Memory stops = broken_further n cap acts start held lines more machine on stops
+stops_further n cap acts start held lines more machine on NoThread stops = broken_further n cap acts start held lines more machine on stops
+stops_further n cap acts start held lines more machine on Read stops = absurd stops
+stops_further n cap acts start held lines more machine on TooMuch stops = absurd stops
 
 -- in a line
 pub stops_in_line : (n cap : ℕ) (acts : List Act) (start : Machine) (held : Option (List ℕ)) (taken : List ℕ) (session : Session)
@@ -171,38 +187,45 @@ stops_in_line n cap acts start held taken session holds on sent line machine (Wr
     subst (λ (ls : List (List ℕ)). IsStopped n cap acts start held ls machine on count) (sym are)
     (stopped_short n cap acts start held (ended_lines taken) more line session sent machine holds on count told'.written told'.session_is told'.sent_is breaks)
 stops_in_line n cap acts start held taken session holds on sent line machine Memory lines more told' breaks are =
-    subst (λ (ls : List (List ℕ)). IsStoppedSomewhere n cap acts start held ls machine on) (sym are)
+    subst (λ (ls : List (List ℕ)). IsBrokenOff n cap acts start held ls machine on) (sym are)
     (given_up n cap acts start held (ended_lines taken) more line session machine holds on told'.written told'.session_is breaks)
 stops_in_line n cap acts start held taken session holds on sent line machine NoThread lines more told' breaks are =
-    subst (λ (ls : List (List ℕ)). IsStoppedSomewhere n cap acts start held ls machine on) (sym are)
+    subst (λ (ls : List (List ℕ)). IsBrokenOff n cap acts start held ls machine on) (sym are)
     (given_up n cap acts start held (ended_lines taken) more line session machine holds on told'.written told'.session_is breaks)
 stops_in_line n cap acts start held taken session holds on sent line machine Read lines more told' breaks are = absurd breaks
 stops_in_line n cap acts start held taken session holds on sent line machine TooMuch lines more told' breaks are = absurd breaks
 
--- at the end of a line that stands in a text
-pub stops_at_end : (n cap : ℕ) (acts : List Act) (start : Machine) (held : Option (List ℕ)) (taken rest : List ℕ) (session : Session)
+-- at the end of a line
+pub stops_at_end : (n cap : ℕ) (acts : List Act) (start : Machine) (held : Option (List ℕ)) (taken : List ℕ) (session : Session)
     (holds on : Option (List ℕ)) (sent : ℕ) (line : List ℕ) (machine : Machine) (fault : SessionFault)
     → IsTold n cap acts start held taken session holds sent line → BreaksOff n cap acts session line sent holds machine on fault
-    → Stops n cap acts start held (lines_of (taken ++ 10 ∷ rest)) machine on fault
-stops_at_end n cap acts start held taken rest session holds on sent line machine fault told' breaks =
-    let text : taken ++ 10 ∷ rest ≡ (taken ++ 10 ∷ []) ++ rest = sym (append_assoc taken (10 ∷ []) rest) in
-    let lines : lines_of (taken ++ 10 ∷ rest) ≡ ended_lines taken ++ line ∷ lines_after (taken ++ 10 ∷ []) rest =
-    ap lines_of text ∙ lines_of-append (taken ++ 10 ∷ []) rest
-    ∙ ap (λ (ls : List (List ℕ)). ls ++ lines_after (taken ++ 10 ∷ []) rest) (ended_lines-end taken)
-    ∙ append_assoc (ended_lines taken) (open_line taken ∷ []) (lines_after (taken ++ 10 ∷ []) rest)
-    ∙ ap (λ (l : List ℕ). ended_lines taken ++ l ∷ lines_after (taken ++ 10 ∷ []) rest) (sym told'.line_is) in
-    stops_in_line n cap acts start held taken session holds on sent line machine fault _ _ told' breaks lines
+    → Stops n cap acts start held (ended_lines (taken ++ 10 ∷ [])) machine on fault
+stops_at_end n cap acts start held taken session holds on sent line machine fault told' breaks =
+    stops_in_line n cap acts start held taken session holds on sent line machine fault _ [] told' breaks
+    (ended_lines-end taken ∙ ap (λ (l : List ℕ). ended_lines taken ++ l ∷ []) (sym told'.line_is))
 
--- between two bytes, for want of memory
-pub stops_between : (n cap : ℕ) (acts : List Act) (start : Machine) (held : Option (List ℕ)) (taken rest : List ℕ) (session : Session)
-    (holds : Option (List ℕ)) (sent : ℕ) (line : List ℕ) → IsTold n cap acts start held taken session holds sent line
-    → IsStoppedSomewhere n cap acts start held (lines_of (taken ++ rest)) session.machine holds
-stops_between n cap acts start held taken rest session holds sent line told' = record {
-  count = length (answers n cap start acts (ended_lines taken));
-  stopped = subst (λ (ls : List (List ℕ)). IsStopped n cap acts start held ls session.machine holds (length (answers n cap start acts (ended_lines taken))))
-      (sym (lines_of-append taken rest))
-      (stopped_before n cap acts start held (ended_lines taken) (lines_after taken rest) session session.machine holds told'.written told'.session_is
-      (unmoved n cap acts session (lines_after taken rest) session.machine refl));
+-- before a byte is kept, for want of memory
+pub stops_at_byte : (n cap : ℕ) (acts : List Act) (start : Machine) (held : Option (List ℕ)) (taken : List ℕ) (session : Session)
+    (holds : Option (List ℕ)) (sent : ℕ) (line : List ℕ) (byte : ℕ) → is_line_end byte ≡ false → IsTold n cap acts start held taken session holds sent line
+    → IsBrokenOff n cap acts start held (ended_lines (taken ++ byte ∷ [])) session.machine holds
+stops_at_byte n cap acts start held taken session holds sent line byte other told' = record {
+  done = ended_lines taken;
+  undone = [];
+  lines_are = ended_lines-more taken byte other ∙ sym (append-nil (ended_lines taken));
+  written = told'.written;
+  machine_is = ap (λ (s : Session). s.machine) told'.session_is;
+}
+
+-- before the first line
+pub stops_first : (n cap : ℕ) (acts : List Act) (start : Machine) (held : Option (List ℕ)) (lines : List (List ℕ))
+    → IsBrokenOff n cap acts start held lines start held
+unfolding after_lines
+stops_first n cap acts start held lines = record {
+  done = [];
+  undone = lines;
+  lines_are = refl;
+  written = Appends-nil held;
+  machine_is = unmoved n cap acts (opening start (length acts)) lines start refl;
 }
 
 -- ---- the end of a text
@@ -258,20 +281,7 @@ nothing_told n cap acts start held = record { written = Appends-nil held; sessio
 
 -- ---- bytes one by one
 
-cut : (piece : List ℕ) (i byte : ℕ) → i < length piece → byte ≡ get_or piece i 0 → piece ≡ take i piece ++ byte ∷ drop (i + 1) piece
-cut piece i byte inside is =
-    let after : drop i piece ≡ get_or piece i 0 ∷ drop (i + 1) piece = grind (arith, common_steps) in
-    sym (take-append-drop i piece) ∙ ap (λ (xs : List ℕ). take i piece ++ xs) (after ∙ ap (λ (b : ℕ). b ∷ drop (i + 1) piece) (sym is))
-
--- a text cut at a byte
-pub cut_at : (taken piece rest : List ℕ) (i byte : ℕ) → i < length piece → byte ≡ get_or piece i 0
-    → (taken ++ take i piece) ++ byte ∷ (drop (i + 1) piece ++ rest) ≡ taken ++ (piece ++ rest)
-cut_at taken piece rest i byte inside is =
-    append_assoc taken (take i piece) (byte ∷ (drop (i + 1) piece ++ rest))
-    ∙ ap (λ (xs : List ℕ). taken ++ xs) (sym (append_assoc (take i piece) (byte ∷ drop (i + 1) piece) rest)
-    ∙ ap (λ (xs : List ℕ). xs ++ rest) (sym (cut piece i byte inside is)))
-
--- and one byte on
+-- a text one byte on
 pub one_on : (taken piece : List ℕ) (i byte : ℕ) → i < length piece → byte ≡ get_or piece i 0
     → (taken ++ take i piece) ++ byte ∷ [] ≡ taken ++ take (i + 1) piece
 one_on taken piece i byte inside is =
@@ -279,7 +289,16 @@ one_on taken piece i byte inside is =
     append_assoc taken (take i piece) (byte ∷ [])
     ∙ ap (λ (xs : List ℕ). taken ++ xs) (ap (λ (b : ℕ). take i piece ++ b ∷ []) is ∙ sym more)
 
-pub rest_at : (taken piece rest : List ℕ) (i : ℕ) → (taken ++ take i piece) ++ (drop i piece ++ rest) ≡ taken ++ (piece ++ rest)
-rest_at taken piece rest i =
-    append_assoc taken (take i piece) (drop i piece ++ rest)
-    ∙ ap (λ (xs : List ℕ). taken ++ xs) (sym (append_assoc (take i piece) (drop i piece) rest) ∙ ap (λ (xs : List ℕ). xs ++ rest) (take-append-drop i piece))
+-- what stops at a byte of a piece stops in it
+pub stops_in_piece : (n cap : ℕ) (acts : List Act) (start : Machine) (held : Option (List ℕ)) (taken piece : List ℕ) (i byte : ℕ) (machine : Machine)
+    (on : Option (List ℕ)) (fault : SessionFault) → i < length piece → byte ≡ get_or piece i 0
+    → Stops n cap acts start held (ended_lines ((taken ++ take i piece) ++ byte ∷ [])) machine on fault
+    → Stops n cap acts start held (ended_lines (taken ++ piece)) machine on fault
+stops_in_piece n cap acts start held taken piece i byte machine on fault inside is stops =
+    let front : List ℕ = taken ++ take (i + 1) piece in
+    let whole : taken ++ piece ≡ front ++ drop (i + 1) piece =
+    ap (λ (xs : List ℕ). taken ++ xs) (sym (take-append-drop (i + 1) piece)) ∙ sym (append_assoc taken (take (i + 1) piece) (drop (i + 1) piece)) in
+    subst (λ (ls : List (List ℕ)). Stops n cap acts start held ls machine on fault)
+    (sym (ap ended_lines whole ∙ ended_lines-append front (drop (i + 1) piece)))
+    (stops_further n cap acts start held (ended_lines front) (ended_after front (drop (i + 1) piece)) machine on fault
+    (subst (λ (t : List ℕ). Stops n cap acts start held (ended_lines t) machine on fault) (one_on taken piece i byte inside is) stops))

@@ -10,27 +10,29 @@ use Rattle.cm_model.specs.Machine.{Machine}
 use Rattle.cm_session.specs.declared.fault.SessionFault.{SessionFault}
 use Rattle.cm_session.specs.declared.fault.SessionFault.TheVariants.{Read, Write, TooMuch, Memory, NoThread}
 use Rattle.cm_session.specs.Session.{Session, opening, after_line}
-use Rattle.cm_session.specs.Ends.{LIMIT, ended_lines, IsAnswered, Ends}
+use Rattle.cm_session.specs.Ends.{LIMIT, ended_lines, heard_lines, IsAnswered, Ends}
+use Rattle.cm_session.proofs.Lines.{heard_first, heard_whole}
 use Rattle.cm_debug.specs.declared.desk.Desk.{Desk}
 use Rattle.cm_debug.specs.Desk.{session_of, IsDeskOf}
 use Rattle.cm_debug.specs.Telling.{IsTold, BreaksOff, Stops}
-use Rattle.cm_debug.proofs.Breaking.{all_told, closed_told, last_told, nothing_told, stops_at_last, stops_between}
+use Rattle.cm_debug.proofs.Breaking.{all_told, closed_told, last_told, nothing_told, stops_at_last, stops_first, stops_further}
 
 -- by a read
 pub ends_read : (n cap : ℕ) (acts : List Act) (start : Machine) (held : Option (List ℕ)) (before now after : Option (List ℕ)) (taken : List ℕ)
-    (session : Session) (holds : Option (List ℕ)) (sent : ℕ) (line : List ℕ) → Consumes before now taken → Keeps now after
+    (session : Session) (holds : Option (List ℕ)) (sent : ℕ) (line : List ℕ) → Consumes before now taken → Keeps now after → length taken ≤ LIMIT
     → IsTold n cap acts start held taken session holds sent line
     → IfSome before (λ text. Ends n cap acts text after start held session.machine holds (Err Read))
-ends_read n cap acts start held None now after taken session holds sent line consumed kept told' = tt
-ends_read n cap acts start held (Some text) now after taken session holds sent line consumed kept told' = record {
+ends_read n cap acts start held None now after taken session holds sent line consumed kept few told' = tt
+ends_read n cap acts start held (Some text) now after taken session holds sent line consumed kept few told' = record {
   taken = taken;
   consumed = Consumes-kept (Some text) now after taken consumed kept;
+  within = few;
   answered = all_told n cap acts start held taken session holds sent line told';
 }
 
 -- what stops is an end
 stop_ends : (n cap : ℕ) (acts : List Act) (text : List ℕ) (rest : Option (List ℕ)) (start : Machine) (held : Option (List ℕ)) (machine : Machine)
-    (holds : Option (List ℕ)) (fault : SessionFault) → Stops n cap acts start held (lines_of text) machine holds fault
+    (holds : Option (List ℕ)) (fault : SessionFault) → Stops n cap acts start held (heard_lines text) machine holds fault
     → Ends n cap acts text rest start held machine holds (Err fault)
 stop_ends n cap acts text rest start held machine holds (Write count) stops = stops
 stop_ends n cap acts text rest start held machine holds Memory stops = stops
@@ -38,20 +40,28 @@ stop_ends n cap acts text rest start held machine holds NoThread stops = stops
 stop_ends n cap acts text rest start held machine holds Read stops = absurd stops
 stop_ends n cap acts text rest start held machine holds TooMuch stops = absurd stops
 
+-- a text whose front was taken, and then a piece of which a part was fed
+parted_text : (text left rest taken piece fed more : List ℕ) → text ≡ taken ++ left → left ≡ piece ++ rest → piece ≡ fed ++ more
+    → text ≡ (taken ++ fed) ++ (more ++ rest)
+parted_text text left rest taken piece fed more first second is =
+    first ∙ ap (λ (xs : List ℕ). taken ++ xs) (second ∙ ap (λ (xs : List ℕ). xs ++ rest) is ∙ append_assoc fed more rest)
+    ∙ sym (append_assoc taken fed (more ++ rest))
+
 -- in the midst of what was read
 pub ends_within : (n cap : ℕ) (acts : List Act) (start : Machine) (held : Option (List ℕ)) (before now after : Option (List ℕ))
     (taken piece fed more : List ℕ) (machine : Machine) (holds : Option (List ℕ)) (fault : SessionFault) → Consumes before now taken
-    → Consumes now after piece → piece ≡ fed ++ more
-    → ((rest : List ℕ) → Stops n cap acts start held (lines_of (taken ++ (fed ++ rest))) machine holds fault)
+    → Consumes now after piece → piece ≡ fed ++ more → length (taken ++ fed) ≤ LIMIT
+    → Stops n cap acts start held (ended_lines (taken ++ fed)) machine holds fault
     → IfSome before (λ text. Ends n cap acts text after start held machine holds (Err fault))
-ends_within n cap acts start held None now after taken piece fed more machine holds fault first second is stops = tt
-ends_within n cap acts start held (Some text) None after taken piece fed more machine holds fault first second is stops = absurd first
-ends_within n cap acts start held (Some text) (Some left) None taken piece fed more machine holds fault first second is stops = absurd second
-ends_within n cap acts start held (Some text) (Some left) (Some rest) taken piece fed more machine holds fault first second is stops =
-    let whole : text ≡ taken ++ (fed ++ (more ++ rest)) =
-    first ∙ ap (λ (xs : List ℕ). taken ++ xs) (second ∙ ap (λ (xs : List ℕ). xs ++ rest) is ∙ append_assoc fed more rest) in
+ends_within n cap acts start held None now after taken piece fed more machine holds fault first second is few stops = tt
+ends_within n cap acts start held (Some text) None after taken piece fed more machine holds fault first second is few stops = absurd first
+ends_within n cap acts start held (Some text) (Some left) None taken piece fed more machine holds fault first second is few stops = absurd second
+ends_within n cap acts start held (Some text) (Some left) (Some rest) taken piece fed more machine holds fault first second is few stops =
+    let begins = heard_first (taken ++ fed) (more ++ rest) few in
     stop_ends n cap acts text (Some rest) start held machine holds fault
-    (subst (λ (t : List ℕ). Stops n cap acts start held (lines_of t) machine holds fault) (sym whole) (stops (more ++ rest)))
+    (subst (λ (ls : List (List ℕ)). Stops n cap acts start held ls machine holds fault)
+    (sym (ap heard_lines (parted_text text left rest taken piece fed more first second is) ∙ begins.is))
+    (stops_further n cap acts start held (ended_lines (taken ++ fed)) begins.more machine holds fault stops))
 
 take_all : (xs ys : List ℕ) (k : ℕ) → k ≡ length xs → take k (xs ++ ys) ≡ xs
 take_all xs ys k is = grind (arith, common_steps)
@@ -66,9 +76,7 @@ ends_too_much n cap acts start held None now after taken piece fed more session 
 ends_too_much n cap acts start held (Some text) None after taken piece fed more session holds sent line first second is full some told' = absurd first
 ends_too_much n cap acts start held (Some text) (Some left) None taken piece fed more session holds sent line first second is full some told' = absurd second
 ends_too_much n cap acts start held (Some text) (Some left) (Some rest) taken piece fed more session holds sent line first second is full some told' =
-    let whole : text ≡ (taken ++ fed) ++ (more ++ rest) =
-    first ∙ ap (λ (xs : List ℕ). taken ++ xs) (second ∙ ap (λ (xs : List ℕ). xs ++ rest) is ∙ append_assoc fed more rest)
-    ∙ sym (append_assoc taken fed (more ++ rest)) in
+    let whole : text ≡ (taken ++ fed) ++ (more ++ rest) = parted_text text left rest taken piece fed more first second is in
     let long : LIMIT ≡ length (taken ++ fed) = sym full ∙ sym (length-append taken fed) in
     let front : take LIMIT text ≡ taken ++ fed = ap (take LIMIT) whole ∙ take_all (taken ++ fed) (more ++ rest) LIMIT long in (
       omega (arith, ap length whole, length-append (taken ++ fed) (more ++ rest), length-append more rest, long, some),
@@ -92,15 +100,15 @@ ends_at_end n cap acts start held (Some text) (Some left) (Some rest) taken mach
 
 pub breaks_at_end : (n cap : ℕ) (acts : List Act) (start : Machine) (held : Option (List ℕ)) (before now after : Option (List ℕ))
     (taken : List ℕ) (machine : Machine) (holds : Option (List ℕ)) (fault : SessionFault) → Consumes before now taken → Consumes now after []
-    → IsAtEnd after → Stops n cap acts start held (lines_of taken) machine holds fault
+    → IsAtEnd after → length taken ≤ LIMIT → Stops n cap acts start held (lines_of taken) machine holds fault
     → IfSome before (λ text. Ends n cap acts text after start held machine holds (Err fault))
-breaks_at_end n cap acts start held None now after taken machine holds fault first second end stops = tt
-breaks_at_end n cap acts start held (Some text) None after taken machine holds fault first second end stops = absurd first
-breaks_at_end n cap acts start held (Some text) (Some left) None taken machine holds fault first second end stops = absurd second
-breaks_at_end n cap acts start held (Some text) (Some left) (Some rest) taken machine holds fault first second end stops =
+breaks_at_end n cap acts start held None now after taken machine holds fault first second end few stops = tt
+breaks_at_end n cap acts start held (Some text) None after taken machine holds fault first second end few stops = absurd first
+breaks_at_end n cap acts start held (Some text) (Some left) None taken machine holds fault first second end few stops = absurd second
+breaks_at_end n cap acts start held (Some text) (Some left) (Some rest) taken machine holds fault first second end few stops =
     let whole : taken ≡ text = sym (first ∙ ap (λ (xs : List ℕ). taken ++ xs) (second ∙ end) ∙ append-nil taken) in
     stop_ends n cap acts text (Some rest) start held machine holds fault
-    (subst (λ (t : List ℕ). Stops n cap acts start held (lines_of t) machine holds fault) whole stops)
+    (subst (λ (ls : List (List ℕ)). Stops n cap acts start held ls machine holds fault) (sym (heard_whole taken few) ∙ ap heard_lines whole) stops)
 
 -- ---- before the first byte
 
@@ -109,7 +117,7 @@ pub ends_first : (n cap : ℕ) (acts : List Act) (start : Machine) (held : Optio
     → IfSome before (λ text. Ends n cap acts text before start held start held (Err Memory))
 ends_first n cap acts start held None = tt
 ends_first n cap acts start held (Some text) =
-    stops_between n cap acts start held [] text (opening start (length acts)) held 0 [] (nothing_told n cap acts start held)
+    stops_first n cap acts start held (heard_lines text)
 
 -- nothing is told
 pub told_first : (n cap : ℕ) (acts : List Act) (start : Machine) (held : Option (List ℕ)) (desk : Desk) (line : List ℕ) → desk.position ≡ 0
@@ -130,13 +138,17 @@ front_and_rest buf room count within =
 
 -- the first bytes that it gave broke off
 pub ends_in_read : (n cap : ℕ) (acts : List Act) (start : Machine) (held : Option (List ℕ)) (before now after : Option (List ℕ))
-    (taken buf : List ℕ) (count room : ℕ) (machine : Machine) (holds : Option (List ℕ)) (fault : SessionFault) → room ≤ count
+    (taken buf : List ℕ) (count room used : ℕ) (machine : Machine) (holds : Option (List ℕ)) (fault : SessionFault)
+    → room ≡ min count (LIMIT - used) → used ≡ length taken → used ≤ LIMIT
     → Consumes before now taken → Consumes now after (take count buf)
-    → ((rest : List ℕ) → Stops n cap acts start held (lines_of (taken ++ (take room buf ++ rest))) machine holds fault)
+    → Stops n cap acts start held (ended_lines (taken ++ take room buf)) machine holds fault
     → IfSome before (λ text. Ends n cap acts text after start held machine holds (Err fault))
-ends_in_read n cap acts start held before now after taken buf count room machine holds fault within first second stops =
+ends_in_read n cap acts start held before now after taken buf count room used machine holds fault is so few first second stops =
     ends_within n cap acts start held before now after taken (take count buf) (take room buf) (drop room (take count buf)) machine holds fault
-    first second (front_and_rest buf room count within) stops
+    first second (front_and_rest buf room count (omega (arith, is)))
+    (omega (arith, is, so, few, length-append taken (take room buf), short room buf)) stops where
+      short : (k : ℕ) (xs : List ℕ) → length (take k xs) ≤ k
+      short k xs = grind (arith, common_steps)
 
 -- it gave more than there was room for
 pub ends_over : (n cap : ℕ) (acts : List Act) (start : Machine) (held : Option (List ℕ)) (before now after : Option (List ℕ))
@@ -180,13 +192,13 @@ ends_answered n cap acts start held before now after taken buf count used sessio
 
 -- and the line that is open breaks off
 pub ends_broken : (n cap : ℕ) (acts : List Act) (start : Machine) (held : Option (List ℕ)) (before now after : Option (List ℕ))
-    (taken buf : List ℕ) (count : ℕ) (session : Session) (holds gone : Option (List ℕ)) (sent : ℕ) (line : List ℕ) (machine : Machine)
-    (fault : SessionFault) → count ≡ 0 → Consumes before now taken → Consumes now after (take count buf) → IsAtEnd after → 0 < length line
+    (taken buf : List ℕ) (count used : ℕ) (session : Session) (holds gone : Option (List ℕ)) (sent : ℕ) (line : List ℕ) (machine : Machine)
+    (fault : SessionFault) → count ≡ 0 → used ≡ length taken → used ≤ LIMIT → Consumes before now taken → Consumes now after (take count buf) → IsAtEnd after → 0 < length line
     → IsTold n cap acts start held taken session holds sent line → BreaksOff n cap acts session line sent holds machine gone fault
     → IfSome before (λ text. Ends n cap acts text after start held machine gone (Err fault))
-ends_broken n cap acts start held before now after taken buf count session holds gone sent line machine fault none first second end some told' breaks =
+ends_broken n cap acts start held before now after taken buf count used session holds gone sent line machine fault none so few first second end some told' breaks =
     breaks_at_end n cap acts start held before now after taken machine gone fault first (nothing_read now after buf count none second) end
-    (stops_at_last n cap acts start held taken session holds gone sent line machine fault some told' breaks)
+    (omega (arith, so, few)) (stops_at_last n cap acts start held taken session holds gone sent line machine fault some told' breaks)
 
 -- a desk for so many acts
 pub desk_first : (acts : List Act) (desk : Desk) → desk.position ≡ 0 → desk.breaks.items ≡ replicate (length acts) false → IsDeskOf acts desk

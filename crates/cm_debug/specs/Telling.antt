@@ -1,12 +1,14 @@
 -- What stands between two bytes of a session's commands, and how it breaks off there. Ours.
-use Rattle.std.specs.Prelude.{◌≡◌, ℕ, ◌+◌, ◌≤◌, Option, List, [], length, take}
+use Rattle.std.specs.Prelude.{◌≡◌, ℕ, ◌+◌, ◌≤◌, Bool, true, false, Option, List, [], length, take}
 use Rattle.std.specs.Io.KnownBytes.{Appends}
 use Rattle.cm_model.specs.declared.act.Act.{Act}
 use Rattle.cm_model.specs.Machine.{Machine}
 use Rattle.cm_session.specs.declared.fault.SessionFault.{SessionFault}
 use Rattle.cm_session.specs.declared.fault.SessionFault.TheVariants.{Read, Write, TooMuch, Memory, NoThread}
 use Rattle.cm_session.specs.Session.{Session, after_line, answers}
-use Rattle.cm_session.specs.Ends.{ended_lines, open_line, session_after, IsOnTheWay, IsStopped, IsStoppedSomewhere}
+use Rattle.cm_debug.specs.declared.want.Want.{Want}
+use Rattle.cm_debug.specs.declared.want.Want.TheVariants as want
+use Rattle.cm_session.specs.Ends.{ended_lines, open_line, session_after, IsOnTheWay, IsStopped, IsBrokenOff}
 
 -- the lines that ended in what was taken are answered, by so many bytes, and the line that is open is kept
 pub record IsTold (n cap : ℕ) (acts : List Act) (start : Machine) (held : Option (List ℕ)) (taken : List ℕ) (session : Session)
@@ -42,7 +44,12 @@ BreaksOff n cap acts before line sent held machine holds TooMuch = ⊥
 -- how lines break off
 abbrev pub Stops : ℕ → ℕ → List Act → Machine → Option (List ℕ) → List (List ℕ) → Machine → Option (List ℕ) → SessionFault → Type 0
 Stops n cap acts start held lines machine holds (Write count) = IsStopped n cap acts start held lines machine holds count
-Stops n cap acts start held lines machine holds Memory = IsStoppedSomewhere n cap acts start held lines machine holds
-Stops n cap acts start held lines machine holds NoThread = IsStoppedSomewhere n cap acts start held lines machine holds
+Stops n cap acts start held lines machine holds Memory = IsBrokenOff n cap acts start held lines machine holds
+Stops n cap acts start held lines machine holds NoThread = IsBrokenOff n cap acts start held lines machine holds
 Stops n cap acts start held lines machine holds Read = ⊥
 Stops n cap acts start held lines machine holds TooMuch = ⊥
+
+-- a thread is wanting
+abbrev pub is_thread : Want → Bool
+is_thread want.Memory = false
+is_thread want.Thread = true

@@ -1,7 +1,7 @@
 //! What a command does and is answered.
 
 ghost use Rattle.std.specs.Prelude.{◌≡◌, ◌≢◌, ◌<◌, ◌^◌, ◌++◌, ◌∷◌, [], length, slice_set, codes, decimal, IfSome};
-ghost use Rattle.std.specs.Prelude.{IsErrOf, OnOk, OnErr};
+ghost use Rattle.std.specs.Prelude.{◌||◌, MatchResult, OnOk, OnErr};
 ghost use Rattle.cm_bits.specs.Bit.{bit_number};
 ghost use Rattle.cm_model.specs.Processor.{ZERO, flag, field_value};
 ghost use Rattle.cm_model.specs.Array.{list_at, processor_of, wire};
@@ -12,6 +12,7 @@ ghost use Rattle.cm_session.specs.Bounds.{IsFor};
 ghost use Rattle.cm_session.specs.Session.{obeyed};
 ghost use Rattle.cm_session.specs.Ends.{IsOnTheWay};
 ghost use Rattle.cm_debug.specs.Desk.{session_of, IsDeskOf};
+ghost use Rattle.cm_debug.specs.Telling.{is_thread};
 
 use crate::answers::{push_bit, push_buffer, push_found, push_log, push_number, push_word};
 use crate::desk::{Desk, Stops};
@@ -43,7 +44,9 @@ pub fn obey<const N: usize, const CAP: usize, R: Runner<N, CAP>>(
     ensures desk { OnOk result (IsDeskOf acts.now desk.new) }
     ensures err { OnErr result (IsOnTheWay N CAP acts.now (session_of machine.old.machine desk.old)
         (obeyed N CAP acts.now (session_of machine.old.machine desk.old) command).session machine.new.machine) }
-    ensures thread { IsErrOf result Want.Thread → R.may_want_thread }
+    ensures thread { MatchResult result
+        (λ _. R.has_lacked_thread runner.new ≡ R.has_lacked_thread runner.old)
+        (λ want. R.has_lacked_thread runner.new ≡ (is_thread want || R.has_lacked_thread runner.old)) }
 {
     match command {
         Command::Step => run_on(machine, acts, runner, desk, Stops::Everywhere, text),

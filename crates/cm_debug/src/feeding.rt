@@ -1,10 +1,9 @@
 //! Bytes of commands, as they come.
 
 ghost use Rattle.std.specs.Prelude.{◌≡◌, ◌<◌, ◌≤◌, ◌+◌, ◌*◌, ◌^◌, ◌++◌, ◌∷◌, [], List, ℕ, Option, false, length};
-ghost use Rattle.std.specs.Prelude.{IsErrOf, OnOk, IfErr};
-ghost use Rattle.cm_bits.specs.Text.{lines_of};
+ghost use Rattle.std.specs.Prelude.{◌||◌, MatchResult, OnOk, IfErr};
 ghost use Rattle.cm_model.specs.Machine as model;
-ghost use Rattle.cm_session.specs.Ends.{is_write};
+ghost use Rattle.cm_session.specs.Ends.{ended_lines, is_no_thread, is_write};
 ghost use Rattle.cm_debug.specs.Desk.{session_of, IsDeskOf};
 ghost use Rattle.cm_debug.specs.Telling.{IsTold, Stops};
 
@@ -39,13 +38,15 @@ pub fn feed<const N: usize, const CAP: usize, R: Runner<N, CAP>, O: Sink>(
         (O.contents out.new) sent.new line.new.items) }
     ensures desk { OnOk result (IsDeskOf acts.now desk.new) }
     ensures few { OnOk result (sent.new ≤ sent.old + length piece.now * 2 ^ 64) }
-    ensures err { IfErr result (λ fault. (start : model.Machine) (held : Option (List ℕ)) (taken rest : List ℕ)
+    ensures err { IfErr result (λ fault. (start : model.Machine) (held : Option (List ℕ)) (taken : List ℕ)
         → IsTold N CAP acts.now start held taken (session_of machine.old.machine desk.old) (O.contents out.old)
         sent.old line.old.items
-        → Stops N CAP acts.now start held (lines_of (taken ++ (piece.now ++ rest))) machine.new.machine
+        → Stops N CAP acts.now start held (ended_lines (taken ++ piece.now)) machine.new.machine
         (O.contents out.new) fault) }
     ensures failed { O.has_failed out.new ≡ is_write result }
-    ensures thread { IsErrOf result SessionFault.NoThread → R.may_want_thread }
+    ensures thread { MatchResult result
+        (λ _. R.has_lacked_thread runner.new ≡ R.has_lacked_thread runner.old)
+        (λ fault. R.has_lacked_thread runner.new ≡ (is_no_thread fault || R.has_lacked_thread runner.old)) }
 {
     for byte in piece {
         match take_byte(alloc, machine, acts, runner, desk, *byte, line, out, sent) {
@@ -79,13 +80,15 @@ fn take_byte<const N: usize, const CAP: usize, R: Runner<N, CAP>, O: Sink>(
         (O.contents out.new) sent.new line.new.items) }
     ensures desk { OnOk result (IsDeskOf acts.now desk.new) }
     ensures few { OnOk result (sent.new ≤ sent.old + 2 ^ 64) }
-    ensures err { IfErr result (λ fault. (start : model.Machine) (held : Option (List ℕ)) (taken rest : List ℕ)
+    ensures err { IfErr result (λ fault. (start : model.Machine) (held : Option (List ℕ)) (taken : List ℕ)
         → IsTold N CAP acts.now start held taken (session_of machine.old.machine desk.old) (O.contents out.old)
         sent.old line.old.items
-        → Stops N CAP acts.now start held (lines_of (taken ++ byte ∷ rest)) machine.new.machine
+        → Stops N CAP acts.now start held (ended_lines (taken ++ byte ∷ [])) machine.new.machine
         (O.contents out.new) fault) }
     ensures failed { O.has_failed out.new ≡ is_write result }
-    ensures thread { IsErrOf result SessionFault.NoThread → R.may_want_thread }
+    ensures thread { MatchResult result
+        (λ _. R.has_lacked_thread runner.new ≡ R.has_lacked_thread runner.old)
+        (λ fault. R.has_lacked_thread runner.new ≡ (is_no_thread fault || R.has_lacked_thread runner.old)) }
 {
     if byte != b'\n' {
         return match line.push(byte) {

@@ -1,13 +1,13 @@
 //! Lines, and their answers.
 
 ghost use Rattle.std.specs.Prelude.{◌≡◌, ◌<◌, ◌≤◌, ◌+◌, ◌^◌, ◌++◌, false, length, IfOk};
-ghost use Rattle.std.specs.Prelude.{IfSome, IsErrOf, OnOk, OnErr, IfErr};
+ghost use Rattle.std.specs.Prelude.{◌||◌, IfSome, MatchResult, OnOk, OnErr, IfErr};
 ghost use Rattle.std.specs.Io.KnownBytes.{Appends};
 ghost use Rattle.cm_session.specs.Bounds.{IsFor};
 ghost use Rattle.cm_session.specs.Session.{after_line, answered};
-ghost use Rattle.cm_session.specs.Ends.{is_write, IsOnTheWay};
+ghost use Rattle.cm_session.specs.Ends.{is_no_thread, is_write, IsOnTheWay};
 ghost use Rattle.cm_debug.specs.Desk.{session_of, IsDeskOf};
-ghost use Rattle.cm_debug.specs.Telling.{BreaksOff};
+ghost use Rattle.cm_debug.specs.Telling.{is_thread, BreaksOff};
 
 use crate::answers::push_number;
 use crate::commands::obey;
@@ -46,7 +46,9 @@ pub fn tell_line<const N: usize, const CAP: usize, R: Runner<N, CAP>, O: Sink>(
     ensures err { IfErr result (BreaksOff N CAP acts.now (session_of machine.old.machine desk.old) line.now sent.old
         (O.contents out.old) machine.new.machine (O.contents out.new)) }
     ensures failed { O.has_failed out.new ≡ is_write result }
-    ensures thread { IsErrOf result SessionFault.NoThread → R.may_want_thread }
+    ensures thread { MatchResult result
+        (λ _. R.has_lacked_thread runner.new ≡ R.has_lacked_thread runner.old)
+        (λ fault. R.has_lacked_thread runner.new ≡ (is_no_thread fault || R.has_lacked_thread runner.old)) }
 {
     let mut text = Vec::new(alloc);
     match answer_line(machine, acts, runner, desk, line, &mut text) {
@@ -83,7 +85,9 @@ fn answer_line<const N: usize, const CAP: usize, R: Runner<N, CAP>>(
     ensures desk { OnOk result (IsDeskOf acts.now desk.new) }
     ensures err { OnErr result (IsOnTheWay N CAP acts.now (session_of machine.old.machine desk.old)
         (after_line N CAP acts.now (session_of machine.old.machine desk.old) line.now).session machine.new.machine) }
-    ensures thread { IsErrOf result Want.Thread → R.may_want_thread }
+    ensures thread { MatchResult result
+        (λ _. R.has_lacked_thread runner.new ≡ R.has_lacked_thread runner.old)
+        (λ want. R.has_lacked_thread runner.new ≡ (is_thread want || R.has_lacked_thread runner.old)) }
 {
     machine.clock();
     let asked = read_command(line, N, acts.len());
@@ -109,7 +113,9 @@ fn answer<const N: usize, const CAP: usize, R: Runner<N, CAP>>(
     ensures desk { OnOk result (IsDeskOf acts.now desk.new) }
     ensures err { OnErr result (IsOnTheWay N CAP acts.now (session_of machine.old.machine desk.old)
         (answered N CAP acts.now (session_of machine.old.machine desk.old) asked).session machine.new.machine) }
-    ensures thread { IsErrOf result Want.Thread → R.may_want_thread }
+    ensures thread { MatchResult result
+        (λ _. R.has_lacked_thread runner.new ≡ R.has_lacked_thread runner.old)
+        (λ want. R.has_lacked_thread runner.new ≡ (is_thread want || R.has_lacked_thread runner.old)) }
 {
     match asked {
         Ok(None) => Ok(()),

@@ -1,13 +1,14 @@
 //! Acts that are run until the session stops.
 
 ghost use Rattle.std.specs.Prelude.{◌≡◌, ◌<◌, ◌+◌, ◌-◌, ◌^◌, ◌++◌, ◌&&◌, false, length, take, drop, slice_index_or};
-ghost use Rattle.std.specs.Prelude.{IsErrOf, IsFalse, OnOk, OnErr};
+ghost use Rattle.std.specs.Prelude.{◌||◌, IsFalse, MatchResult, OnOk, OnErr};
 ghost use Rattle.cm_model.specs.Machine.{run_of};
 ghost use Rattle.cm_model.specs.declared.act.Act.TheVariants as act;
 ghost use Rattle.cm_array.specs.Acts.{is_late, is_long};
 ghost use Rattle.cm_session.specs.Session.{has_acts, lacks_room, told_by};
 ghost use Rattle.cm_session.specs.Ends.{IsOnTheWay};
 ghost use Rattle.cm_debug.specs.Desk.{come, gone, session_of, stops_at, IsDeskOf};
+ghost use Rattle.cm_debug.specs.Telling.{is_thread};
 
 use crate::answers::{push_number, push_sense, push_word};
 use crate::desk::{Desk, Stops};
@@ -37,7 +38,9 @@ pub fn run_on<const N: usize, const CAP: usize, R: Runner<N, CAP>>(
     ensures desk { OnOk result (IsDeskOf acts.now desk.new) }
     ensures err { OnErr result (IsOnTheWay N CAP acts.now (session_of machine.old.machine desk.old)
         (gone N CAP stops machine.old.machine desk.old acts.now).session machine.new.machine) }
-    ensures thread { IsErrOf result Want.Thread → R.may_want_thread }
+    ensures thread { MatchResult result
+        (λ _. R.has_lacked_thread runner.new ≡ R.has_lacked_thread runner.old)
+        (λ want. R.has_lacked_thread runner.new ≡ (is_thread want || R.has_lacked_thread runner.old)) }
 {
     while desk.position < acts.len() {
         let rest = &acts[desk.position..];
@@ -87,7 +90,9 @@ fn run_stretch<const N: usize, const CAP: usize, R: Runner<N, CAP>>(
     ensures breaks { desk.new.breaks.items ≡ desk.old.breaks.items }
     ensures report { desk.new.report ≡ desk.old.report }
     ensures err { OnErr result (machine.new.machine ≡ machine.old.machine) }
-    ensures thread { IsErrOf result Want.Thread → R.may_want_thread }
+    ensures thread { MatchResult result
+        (λ _. R.has_lacked_thread runner.new ≡ R.has_lacked_thread runner.old)
+        (λ want. R.has_lacked_thread runner.new ≡ (is_thread want || R.has_lacked_thread runner.old)) }
 {
     let rest = &acts[desk.position..];
     let first = &rest[0];
@@ -125,7 +130,9 @@ fn hand_over<const N: usize, const CAP: usize, R: Runner<N, CAP>>(
     requires early { IsFalse (is_late machine.old.machine.clock acts.now) }
     ensures ok { OnOk result (machine.new.machine ≡ run_of N CAP machine.old.machine acts.now) }
     ensures err { OnErr result (machine.new.machine ≡ machine.old.machine) }
-    ensures thread { IsErrOf result Want.Thread → R.may_want_thread }
+    ensures thread { MatchResult result
+        (λ _. R.has_lacked_thread runner.new ≡ R.has_lacked_thread runner.old)
+        (λ want. R.has_lacked_thread runner.new ≡ (is_thread want || R.has_lacked_thread runner.old)) }
 {
     match runner.go(machine, acts) {
         Ok(()) => Ok(()),

@@ -1,7 +1,7 @@
 //! A session, from the bytes of a source to those of a sink.
 
-ghost use Rattle.std.specs.Prelude.{◌≡◌, ◌↔◌, true, false, IfSome, IsErrOf};
-ghost use Rattle.cm_session.specs.Ends.{Ends, is_write};
+ghost use Rattle.std.specs.Prelude.{◌≡◌, ◌↔◌, ◌||◌, true, false, IfSome, IsErrOf, MatchResult};
+ghost use Rattle.cm_session.specs.Ends.{Ends, is_no_thread, is_write};
 
 use crate::desk::Desk;
 use crate::feeding::feed;
@@ -38,7 +38,9 @@ pub fn session<const N: usize, const CAP: usize, R: Runner<N, CAP>, I: Source, O
         machine.old.machine (O.contents out.old) machine.new.machine (O.contents out.new) result) }
     ensures read { (I.has_failed commands.new ≡ true) ↔ IsErrOf result SessionFault.Read }
     ensures write { O.has_failed out.new ≡ is_write result }
-    ensures thread { IsErrOf result SessionFault.NoThread → R.may_want_thread }
+    ensures thread { MatchResult result
+        (λ _. R.has_lacked_thread runner.new ≡ R.has_lacked_thread runner.old)
+        (λ fault. R.has_lacked_thread runner.new ≡ (is_no_thread fault || R.has_lacked_thread runner.old)) }
 {
     answer_all(alloc, machine, program.acts(), commands, out, runner)
 }
@@ -59,7 +61,9 @@ fn answer_all<const N: usize, const CAP: usize, R: Runner<N, CAP>, I: Source, O:
         machine.old.machine (O.contents out.old) machine.new.machine (O.contents out.new) result) }
     ensures read { (I.has_failed commands.new ≡ true) ↔ IsErrOf result SessionFault.Read }
     ensures write { O.has_failed out.new ≡ is_write result }
-    ensures thread { IsErrOf result SessionFault.NoThread → R.may_want_thread }
+    ensures thread { MatchResult result
+        (λ _. R.has_lacked_thread runner.new ≡ R.has_lacked_thread runner.old)
+        (λ fault. R.has_lacked_thread runner.new ≡ (is_no_thread fault || R.has_lacked_thread runner.old)) }
 {
     let Ok(mut desk) = Desk::new(alloc, acts.len()) else {
         return Err(SessionFault::Memory);

@@ -1,11 +1,14 @@
 -- Lines in two parts, and a text as its lines that have ended and what follows them.
-use Rattle.std.proofs.Common.{◌≡◌, ℕ, ◌<◌, Bool, true, false, cond, List, [], ◌∷◌, ◌++◌, length, refl, ap, ◌∙◌, sym, arith, append_assoc, append-nil}
+use Rattle.std.proofs.Common.{◌≡◌, ℕ, ◌+◌, ◌-◌, ◌<◌, ◌≤◌, Bool, true, false, cond, nat_le, List, [], ◌∷◌, ◌++◌, length, take, refl, ap, ◌∙◌, sym, arith, append_assoc, append-nil}
+use Rattle.std.proofs.lemmas.Bool.{le-leb}
+use Rattle.std.proofs.Math.Seq.{take-append-add}
 use Rattle.std.specs.List.{onto_first, slice_split}
 use Rattle.std.proofs.lemmas.List.Splits.{slice_split-cons_no, length-slice_split}
 use Rattle.cm_bits.specs.Text.{is_line_end, without_empty_last, lines_of}
 use Rattle.cm_model.specs.declared.act.Act.{Act}
 use Rattle.cm_session.specs.Session.{Session, Answered, told, preceded_by, after_line, after_lines}
-use Rattle.cm_session.specs.Ends.{but_last, last_of, ended_lines, open_line}
+use Rattle.cm_session.specs.Ends.{LIMIT, but_last, last_of, ended_lines, open_line, heard_lines}
+use Rattle.cm_session.specs.Laws.{BeginsWith}
 
 -- ---- lines
 
@@ -149,3 +152,40 @@ unfolding ended_lines open_line lines_after
 lines_of-append text more =
     let parts : List (List ℕ) = slice_split is_line_end text in
     ap without_empty_last (split-append text more) ∙ onto_some (last_of parts) (but_last parts) (slice_split is_line_end more)
+
+-- the lines of a text and more that end in what is more
+unfoldable pub ended_after : List ℕ → List ℕ → List (List ℕ)
+ended_after text more = but_last (onto_first_part (open_line text) (slice_split is_line_end more))
+
+onto_ended : (bytes : List ℕ) (parts more : List (List ℕ)) → but_last (parts ++ onto_first_part bytes more) ≡ parts ++ but_last (onto_first_part bytes more)
+onto_ended bytes parts [] = but_last-append parts bytes []
+onto_ended bytes parts (part ∷ more) = but_last-append parts (bytes ++ part) more
+
+pub ended_lines-append : (text more : List ℕ) → ended_lines (text ++ more) ≡ ended_lines text ++ ended_after text more
+unfolding ended_lines open_line ended_after
+ended_lines-append text more =
+    let parts : List (List ℕ) = slice_split is_line_end text in
+    ap but_last (split-append text more) ∙ onto_ended (last_of parts) (but_last parts) (slice_split is_line_end more)
+
+-- ---- the lines that are answered
+
+-- of a text within the limit, all
+pub heard_whole : (text : List ℕ) → length text ≤ LIMIT → heard_lines text ≡ lines_of text
+heard_whole text within = ap (λ (b : Bool). cond b (lines_of text) (ended_lines (take LIMIT text))) (le-leb (length text) LIMIT within)
+
+-- those that ended in a front within the limit come first
+pub heard_first : (front more : List ℕ) → length front ≤ LIMIT → BeginsWith (heard_lines (front ++ more)) (ended_lines front)
+heard_first front more within = by (nat_le (length (front ++ more)) LIMIT) where
+  rest : ℕ
+  rest = LIMIT - length front
+
+  long : LIMIT ≡ length front + rest
+  long = omega (arith, within)
+
+  by : (b : Bool) → BeginsWith (cond b (lines_of (front ++ more)) (ended_lines (take LIMIT (front ++ more)))) (ended_lines front)
+  by true = record { more = lines_after front more; is = lines_of-append front more }
+  by false = record {
+    more = ended_after front (take rest more);
+    is = ap (λ (k : ℕ). ended_lines (take k (front ++ more))) long
+        ∙ ap ended_lines (take-append-add front more rest) ∙ ended_lines-append front (take rest more);
+  }

@@ -1,5 +1,5 @@
 -- How a session ends: what it wrote and the machine that it left, after each of its faults too. Ours.
-use Rattle.std.specs.Prelude.{◌≡◌, ℕ, ◌+◌, ◌<◌, ◌≤◌, ◌⊎◌, Bool, true, false, Option, Some, Result, Ok, Err, List, [], ◌∷◌, ◌++◌, length, take, drop}
+use Rattle.std.specs.Prelude.{◌≡◌, ℕ, ◌+◌, ◌<◌, ◌≤◌, ◌⊎◌, Bool, true, false, if◌then◌else◌, nat_le, Option, Some, Result, Ok, Err, List, [], ◌∷◌, ◌++◌, length, take, drop}
 use Rattle.std.specs.List.{slice_split}
 use Rattle.std.specs.Io.KnownBytes.{Appends, Consumes}
 use Rattle.cm_bits.specs.Text.{is_line_end, lines_of}
@@ -68,18 +68,26 @@ pub record IsStopped (n cap : ℕ) (acts : List Act) (start : Machine) (held : O
   pub lines_are : lines ≡ done ++ undone
   pub machine_is : IsBeforeOrAmid n cap acts (session_after n cap acts start done) undone machine
 
--- a source that has this text gave these bytes, and the lines that ended in them are all answered
+-- a source that has this text gave these bytes, not more than the most, and the lines that ended in them are all answered
 pub record IsAnsweredSoFar (n cap : ℕ) (acts : List Act) (text : List ℕ) (rest : Option (List ℕ)) (start : Machine) (held : Option (List ℕ))
     (machine : Machine) (holds : Option (List ℕ)) : Type 0 where
   pub taken : List ℕ
   pub consumed : Consumes (Some text) rest taken
+  pub within : length taken ≤ LIMIT
   pub answered : IsAnswered n cap acts start held (ended_lines taken) machine holds
 
--- so many bytes of the answers, and some count of them
-pub record IsStoppedSomewhere (n cap : ℕ) (acts : List Act) (start : Machine) (held : Option (List ℕ)) (lines : List (List ℕ)) (machine : Machine)
+-- some of these lines are done and their answers written, no byte more; and perhaps some acts of the next are run
+pub record IsBrokenOff (n cap : ℕ) (acts : List Act) (start : Machine) (held : Option (List ℕ)) (lines : List (List ℕ)) (machine : Machine)
     (holds : Option (List ℕ)) : Type 0 where
-  pub count : ℕ
-  pub stopped : IsStopped n cap acts start held lines machine holds count
+  pub done : List (List ℕ)
+  pub undone : List (List ℕ)
+  pub lines_are : lines ≡ done ++ undone
+  pub written : Appends held holds (answers n cap start acts done)
+  pub machine_is : IsBeforeOrAmid n cap acts (session_after n cap acts start done) undone machine
+
+-- the lines of a text that are answered: all of them, or those that end within the most bytes
+abbrev pub heard_lines : List ℕ → List (List ℕ)
+heard_lines text = if nat_le (length text) LIMIT then lines_of text else ended_lines (take LIMIT text)
 
 -- how a session ends whose source has this text, and has that left
 abbrev pub Ends : ℕ → ℕ → List Act → List ℕ → Option (List ℕ) → Machine → Option (List ℕ) → Machine → Option (List ℕ)
@@ -87,11 +95,11 @@ abbrev pub Ends : ℕ → ℕ → List Act → List ℕ → Option (List ℕ) �
 Ends n cap acts text rest start held machine holds (Ok done) =
     (length text ≤ LIMIT) × IsAnswered n cap acts start held (lines_of text) machine holds
 Ends n cap acts text rest start held machine holds (Err Read) = IsAnsweredSoFar n cap acts text rest start held machine holds
-Ends n cap acts text rest start held machine holds (Err (Write count)) = IsStopped n cap acts start held (lines_of text) machine holds count
+Ends n cap acts text rest start held machine holds (Err (Write count)) = IsStopped n cap acts start held (heard_lines text) machine holds count
 Ends n cap acts text rest start held machine holds (Err TooMuch) =
     (LIMIT < length text) × IsAnswered n cap acts start held (ended_lines (take LIMIT text)) machine holds
-Ends n cap acts text rest start held machine holds (Err Memory) = IsStoppedSomewhere n cap acts start held (lines_of text) machine holds
-Ends n cap acts text rest start held machine holds (Err NoThread) = IsStoppedSomewhere n cap acts start held (lines_of text) machine holds
+Ends n cap acts text rest start held machine holds (Err Memory) = IsBrokenOff n cap acts start held (heard_lines text) machine holds
+Ends n cap acts text rest start held machine holds (Err NoThread) = IsBrokenOff n cap acts start held (heard_lines text) machine holds
 
 -- it ended by a write
 abbrev pub is_write : Result (Unit {0}) SessionFault → Bool
@@ -101,3 +109,11 @@ is_write (Err (Write count)) = true
 is_write (Err TooMuch) = false
 is_write (Err Memory) = false
 is_write (Err NoThread) = false
+
+-- a thread was wanting
+abbrev pub is_no_thread : SessionFault → Bool
+is_no_thread Read = false
+is_no_thread (Write count) = false
+is_no_thread TooMuch = false
+is_no_thread Memory = false
+is_no_thread NoThread = true

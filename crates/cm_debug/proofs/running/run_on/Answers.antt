@@ -47,6 +47,7 @@ loop-desk-preserved g c =
       };
       breaks = st.breaks ∙ inv.breaks;
       report = st.report ∙ inv.report;
+      threads = st.thread ∙ inv.threads;
       rises = omega (arith, inv.rises, st.further);
       come = comes g.row.N g.row.CAP c.args.acts.now c.args.machine.now.machine c.args.desk.now.position c.loop-desk.desk.position c.run_stretch.new.desk.position
           c.loop-desk.machine.machine c.run_stretch.new.machine.machine inv.rises (omega (arith, st.further)) inv.come st.machine;

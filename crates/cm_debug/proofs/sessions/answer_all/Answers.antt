@@ -21,6 +21,7 @@ loop-count-init g c = record {
   few = omega arith;
   reading = c.requires.reader;
   writing = c.requires.writer;
+  threads = refl;
 }
 
 pub returns-in-Err-clause-ends : goal.returns-in-Err-clause-ends
@@ -28,9 +29,9 @@ returns-in-Err-clause-ends g c =
     let so = c.loop-count.invariant in
     ends_in_read g.row.N g.row.CAP c.args.acts.now c.args.machine.now.machine (g.O.Sink.contents c.args.out.now)
     (g.I.Source.left c.args.commands.now) (g.I.Source.left c.loop-count.commands) (g.I.Source.left c.read.new.self)
-    so.text c.read.new.buf c.in-Ok-read.count c.min-room.result c.feed.new.machine.machine (g.O.Sink.contents c.feed.new.out) c.in-Err.fault
-    (omega (arith, c.min-room.ensures)) so.consumed c.in-Ok-read.ensures.bytes.0
-    (λ rest. c.in-Err.ensures.err c.args.machine.now.machine (g.O.Sink.contents c.args.out.now) so.text rest so.told)
+    so.text c.read.new.buf c.in-Ok-read.count c.min-room.result c.loop-count.taken c.feed.new.machine.machine (g.O.Sink.contents c.feed.new.out) c.in-Err.fault
+    c.min-room.ensures so.count so.within so.consumed c.in-Ok-read.ensures.bytes.0
+    (c.in-Err.ensures.err c.args.machine.now.machine (g.O.Sink.contents c.args.out.now) so.text so.told)
 
 pub returns-then-room-count-clause-ends : goal.returns-then-room-count-clause-ends
 returns-then-room-count-clause-ends g c =
@@ -73,9 +74,9 @@ returns-clause-ends g c =
     let so = c.loop-count.invariant in
     ends_broken g.row.N g.row.CAP c.args.acts.now c.args.machine.now.machine (g.O.Sink.contents c.args.out.now)
     (g.I.Source.left c.args.commands.now) (g.I.Source.left c.loop-count.commands) (g.I.Source.left c.read.new.self)
-    so.text c.read.new.buf c.in-Ok-read.count (session_of c.loop-count.machine.machine c.loop-count.desk)
+    so.text c.read.new.buf c.in-Ok-read.count c.loop-count.taken (session_of c.loop-count.machine.machine c.loop-count.desk)
     (g.O.Sink.contents c.loop-count.out) (g.O.Sink.contents c.tell_line.new.out)
-    c.loop-count.sent c.as_slice.result.now c.tell_line.new.machine.machine c.in-Err-tell_line.fault c.if-count-eq0.true so.consumed c.in-Ok-read.ensures.bytes.0
+    c.loop-count.sent c.as_slice.result.now c.tell_line.new.machine.machine c.in-Err-tell_line.fault c.if-count-eq0.true so.count so.within so.consumed c.in-Ok-read.ensures.bytes.0
     (c.in-Ok-read.ensures.bytes.1 c.if-count-eq0.true (omega arith))
     (has_some c.loop-count.line.items c.as_slice.result.now c.loop-count.line.len c.is_empty.result (omega (arith, c.loop-count.line.ok.0))
     c.is_empty.ensures c.if-is_empty.false c.as_slice.ensures.value)
