@@ -1,7 +1,5 @@
 //! A runner that has no memory or no thread left.
 
-ghost use Rattle.std.specs.Prelude.{◌≢◌};
-
 use cm_array::{Machine, Plain, RunFault, Runner};
 use cm_model::Act;
 use std::alloc::Global;
@@ -13,16 +11,6 @@ pub(crate) enum Lack {
     Thread,
 }
 
-impl Lack {
-    fn fault(self) -> RunFault
-        ensures lacks { (result ≢ RunFault.Long) × (result ≢ RunFault.Clock) }
-    {
-        match self {
-            Lack::Memory => RunFault::Memory,
-            Lack::Thread => RunFault::NoThread,
-        }
-    }
-}
 
 /// Runs so many lists of acts as the plain runner does, refuses one, and runs all that follow.
 #[derive(Drop)]
@@ -30,18 +18,24 @@ pub(crate) struct Refusing {
     alloc: Global,
     left: usize,
     lack: Lack,
+    lacked_thread: bool,
 }
 
 impl Refusing {
     pub(crate) fn new(alloc: Global, left: usize, lack: Lack) -> Refusing {
-        Refusing { alloc, left, lack }
+        Refusing {
+            alloc,
+            left,
+            lack,
+            lacked_thread: false,
+        }
     }
 }
 
 impl<const N: usize, const CAP: usize> Runner<N, CAP> for Refusing {
     ghost ready = { Unit {0} };
 
-    ghost may_want_thread = { Unit {0} };
+    ghost has_lacked_thread = { λ runner. runner.lacked_thread };
 
     fn go(&mut self, machine: &mut Machine<N, CAP>, acts: &[Act]) -> Result<(), RunFault> {
         let Ok(before) = machine.copy(self.alloc) else {
@@ -51,7 +45,13 @@ impl<const N: usize, const CAP: usize> Runner<N, CAP> for Refusing {
         if self.left == 0 && !acts.is_empty() {
             *machine = before;
             self.left = usize::MAX;
-            return Err(self.lack.fault());
+            return match self.lack {
+                Lack::Memory => Err(RunFault::Memory),
+                Lack::Thread => {
+                    self.lacked_thread = true;
+                    Err(RunFault::NoThread)
+                }
+            };
         }
         self.left = self.left.saturating_sub(1);
         Ok(())

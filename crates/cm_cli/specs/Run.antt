@@ -20,6 +20,12 @@ abbrev pub IsProgramText : Result (Vec ℕ Global) TakeFault → ProgramText →
 IsProgramText (Ok text) program = program_of text.items ≡ Ok program
 IsProgramText (Err fault) program = ⊥
 
+-- what a text may give is this program
+pub record GivesProgram (gives : Result (Vec ℕ Global) TakeFault → Type 0) (program : ProgramText) : Type 0 where
+  pub text : Result (Vec ℕ Global) TakeFault
+  pub given : gives text
+  pub is : IsProgramText text program
+
 -- the image that is kept of a machine, if one is to be kept
 abbrev pub IsKept : ℕ → ℕ → Machine → Bool → Option (Vec ℕ Global) → Type 0
 IsKept n cap machine true (Some image) = image.items ≡ text_of n cap machine
@@ -49,12 +55,12 @@ pub record HasBrokenOff (start : Start) (acts : List Act) (lines : List ℕ) (re
   pub told : IsToldAs keeps result fault
 
 -- an image, a program and commands were run to the end
-pub record IsRun (image : List ℕ) (text : Result (Vec ℕ Global) TakeFault) (lines : List ℕ)
+pub record IsRun (image : List ℕ) (gives : Result (Vec ℕ Global) TakeFault → Type 0) (lines : List ℕ)
     (rest held holds : Option (List ℕ)) (keeps : Bool) (kept : Option (Vec ℕ Global)) : Type 0 where
   pub start : Start
   pub begins : opened image ≡ Ok start
   pub program : ProgramText
-  pub is : IsProgramText text program
+  pub is : GivesProgram gives program
   pub run : HasRun start program.acts lines rest held holds keeps kept
 
 -- the text is refused with this fault: it was not read to its end, or is no program, or memory ran out
@@ -70,34 +76,40 @@ IsRefusedText (Ok text) Write = ⊥
 IsRefusedText (Ok text) NoThread = ⊥
 IsRefusedText (Err own) fault = fault ≡ of_take own
 
+-- what a text may give is refused with this fault
+pub record GivesRefused (gives : Result (Vec ℕ Global) TakeFault → Type 0) (fault : ProgramFault) : Type 0 where
+  pub text : Result (Vec ℕ Global) TakeFault
+  pub given : gives text
+  pub is : IsRefusedText text fault
+
 -- why no session began: for the image, or else for the text
-abbrev pub IsNotBegun : List ℕ → Result (Vec ℕ Global) TakeFault → ProgramFault → Type 0
-IsNotBegun image text fault = IsUnopened image fault ⊎ (IsOpened image × IsRefusedText text fault)
+abbrev pub IsNotBegun : List ℕ → (Result (Vec ℕ Global) TakeFault → Type 0) → ProgramFault → Type 0
+IsNotBegun image gives fault = IsUnopened image fault ⊎ (IsOpened image × GivesRefused gives fault)
 
 -- nothing was read of the commands, and nothing written
-pub record IsRefused (image : List ℕ) (text : Result (Vec ℕ Global) TakeFault) (lines : List ℕ)
+pub record IsRefused (image : List ℕ) (gives : Result (Vec ℕ Global) TakeFault → Type 0) (lines : List ℕ)
     (rest held holds : Option (List ℕ)) (fault : ProgramFault) : Type 0 where
-  pub why : IsNotBegun image text fault
+  pub why : IsNotBegun image gives fault
   pub unread : rest ≡ Some lines
   pub nothing : Keeps held holds
 
 -- the session began, and broke off
-pub record IsBrokenOff (image : List ℕ) (text : Result (Vec ℕ Global) TakeFault) (lines : List ℕ)
+pub record IsBrokenOff (image : List ℕ) (gives : Result (Vec ℕ Global) TakeFault → Type 0) (lines : List ℕ)
     (rest held holds : Option (List ℕ)) (keeps : Bool) (fault : ProgramFault) : Type 0 where
   pub start : Start
   pub begins : opened image ≡ Ok start
   pub program : ProgramText
-  pub is : IsProgramText text program
+  pub is : GivesProgram gives program
   pub broken : HasBrokenOff start program.acts lines rest held holds keeps fault
 
 -- why an image, a program and commands were not run to the end
-abbrev pub IsNotRun : List ℕ → Result (Vec ℕ Global) TakeFault → List ℕ → Option (List ℕ) → Option (List ℕ)
+abbrev pub IsNotRun : List ℕ → (Result (Vec ℕ Global) TakeFault → Type 0) → List ℕ → Option (List ℕ) → Option (List ℕ)
     → Option (List ℕ) → Bool → ProgramFault → Type 0
-IsNotRun image text lines rest held holds keeps fault =
-    IsRefused image text lines rest held holds fault ⊎ IsBrokenOff image text lines rest held holds keeps fault
+IsNotRun image gives lines rest held holds keeps fault =
+    IsRefused image gives lines rest held holds fault ⊎ IsBrokenOff image gives lines rest held holds keeps fault
 
--- how a run of an image, a program and commands ends
-abbrev pub EndsRun : List ℕ → Result (Vec ℕ Global) TakeFault → List ℕ → Option (List ℕ) → Option (List ℕ)
+-- how a run of an image, of a text that may give this, and of commands ends
+abbrev pub EndsRun : List ℕ → (Result (Vec ℕ Global) TakeFault → Type 0) → List ℕ → Option (List ℕ) → Option (List ℕ)
     → Option (List ℕ) → Bool → Result (Option (Vec ℕ Global)) ProgramFault → Type 0
-EndsRun image text lines rest held holds keeps (Ok kept) = IsRun image text lines rest held holds keeps kept
-EndsRun image text lines rest held holds keeps (Err fault) = IsNotRun image text lines rest held holds keeps fault
+EndsRun image gives lines rest held holds keeps (Ok kept) = IsRun image gives lines rest held holds keeps kept
+EndsRun image gives lines rest held holds keeps (Err fault) = IsNotRun image gives lines rest held holds keeps fault

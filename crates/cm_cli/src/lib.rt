@@ -13,6 +13,7 @@ mod reports;
 mod running;
 mod session;
 mod takes;
+mod text;
 mod texts;
 
 pub use blanks::fresh;
@@ -26,3 +27,4 @@ pub use reports::report;
 pub use running::run_session;
 pub use session::chip_session;
 pub use takes::{TakeFault, take};
+pub use text::Text;

@@ -6,7 +6,7 @@ use Rattle.cm_cli.proofs.running.run_image.Goals as goal
 pub returns-clause-ends : goal.returns-clause-ends
 returns-clause-ends g c =
     some_either (g.I.Source.left c.args.commands.now) c.run_machine.result
-    (λ lines result. EndsRun c.args.image.items c.args.text lines (g.I.Source.left c.run_machine.new.commands)
+    (λ lines result. EndsRun c.args.image.items (g.T.Text.gives c.args.text) lines (g.I.Source.left c.run_machine.new.commands)
     (g.O.Sink.contents c.args.out.now) (g.O.Sink.contents c.run_machine.new.out) c.args.keeps result)
     (lift_ok c.run_machine.result
     (λ kept. lift_some (g.I.Source.left c.args.commands.now) (λ lines h. record {
