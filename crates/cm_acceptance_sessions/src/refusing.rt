@@ -11,7 +11,6 @@ pub(crate) enum Lack {
     Thread,
 }
 
-
 /// Runs so many lists of acts as the plain runner does, refuses one, and runs all that follow.
 #[derive(Drop)]
 pub(crate) struct Refusing {
