@@ -18,6 +18,7 @@ mod rows;
 mod view;
 
 use crate::run::rows::{look_up_row, row, step_rows, take_rows, word_at};
+pub use bits::ZeroFlag;
 use cm_bits::{Addr, FlagNo, NoMemory, Plane};
 use cm_model::Nano;
 use std::alloc::Global;

@@ -9,7 +9,7 @@ ghost use Rattle.cm_model.specs.Array.{chip_at};
 ghost use Rattle.cm_element.specs.Runs.{AreRows, chips_of};
 ghost use Rattle.cm_element.specs.Steps.{ArePlaces, AreMerged, AreLookedUp};
 
-use crate::chip::{chosen, holding};
+use crate::word::{chosen, holding};
 use cm_bits::{FlagNo, Plane};
 use cm_model::Nano;
 use cm_rows::{Places, compute, compute_memory};
