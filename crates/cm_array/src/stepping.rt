@@ -1,12 +1,10 @@
 //! One instruction in all chips: every place reads the old state before any place writes.
 
-ghost use Rattle.std.specs.Prelude.{◌≡◌, ◌≢◌, ◌^◌, ◌≤◌, false, length};
-ghost use Rattle.cm_model.specs.Processor.{NEWS, DAISY};
-ghost use Rattle.cm_model.specs.Instruction.{takes_incoming};
+ghost use Rattle.std.specs.Prelude.{◌≡◌, ◌≢◌, ◌^◌, ◌≤◌, length};
+ghost use Rattle.cm_model.specs.Processor.{NEWS};
 ghost use Rattle.cm_model.specs.Array.{after_nano};
 
 use cm_bits::{FlagNo, Plane};
-use cm_daisy::previous_row;
 use cm_element::Run;
 use cm_model::Nano;
 use cm_news::incoming_row;
@@ -22,10 +20,8 @@ pub fn step(dims: u8, run: &mut Run, nano: &Nano, sent: &mut [Plane], incoming: 
 {
     if nano.write == FlagNo::NEWS {
         step_over_grid(dims, run, nano, sent, incoming);
-    } else if nano.write == FlagNo::DAISY {
-        step_along_chains(dims, run, nano, sent);
     } else {
-        step_alone(dims, run, nano);
+        step_apart(dims, run, nano);
     }
 }
 
@@ -43,21 +39,9 @@ fn step_over_grid(dims: u8, run: &mut Run, nano: &Nano, sent: &mut [Plane], inco
     run.take(nano, incoming);
 }
 
-/// One instruction that takes in what comes along each chip's chain.
-fn step_along_chains(dims: u8, run: &mut Run, nano: &Nano, sent: &mut [Plane])
-    requires daisy { nano.now.write ≡ DAISY }
-    requires count { length run.old ≡ 2 ^ dims }
-    requires sent_count { length sent.old ≡ 2 ^ dims }
-    ensures value { run.new ≡ after_nano dims nano.now run.old }
-{
-    run.send(nano, sent);
-    previous_row(sent);
-    run.take(nano, sent);
-}
-
-/// One instruction that takes in nothing.
-fn step_alone(dims: u8, run: &mut Run, nano: &Nano)
-    requires alone { takes_incoming nano.now ≡ false }
+/// One instruction in which no chip takes in anything of another.
+fn step_apart(dims: u8, run: &mut Run, nano: &Nano)
+    requires apart { nano.now.write ≢ NEWS }
     requires count { length run.old ≡ 2 ^ dims }
     ensures value { run.new ≡ after_nano dims nano.now run.old }
 {

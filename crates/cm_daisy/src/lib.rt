@@ -1,11 +1,12 @@
 //! The daisy chain: each processor of a chip gets the bit of the one before it.
 #![tactic(auto)]
 
-ghost use Rattle.std.specs.Prelude.{ℕ, ◌<◌, length, slice_index};
+ghost use Rattle.std.specs.Prelude.{◌≡◌, ℕ, ◌<◌, length, slice_index};
 ghost use Rattle.cm_model.specs.Chip.{IsPlane, plane_bit};
 ghost use Rattle.cm_model.specs.Place.{predecessor};
 
 use cm_bits::Plane;
+use std::simd::prelude::*;
 
 /// What comes in over a chip's chain when each of its processors sends its bit of the plane (Hillis 1985).
 pub fn previous(plane: Plane) -> Plane
@@ -14,12 +15,14 @@ pub fn previous(plane: Plane) -> Plane
     plane << 1
 }
 
-/// The same at each of many chips: in the place of its plane stands then what comes in there.
-pub fn previous_row(planes: &mut [Plane])
-    ensures value { (c : ℕ) → c < length planes.old
-        → IsPlane (slice_index planes.new c) (λ p. plane_bit (slice_index planes.old c) (predecessor p)) }
+/// The same at each of thirty-two chips: lane k is the plane of chip k.
+#[inline(always)]
+pub fn previous_lanes(planes: u16x32) -> u16x32
+    requires planes { length planes ≡ 32 }
+    ensures count { length result ≡ 32 }
+    ensures value { (k : ℕ) → k < 32
+        → IsPlane (slice_index result k) (λ p. plane_bit (slice_index planes k) (predecessor p)) }
 {
-    for c in 0..planes.len() {
-        planes[c] = previous(planes[c]);
-    }
+    // A shift by one place: the sum of a lane with itself, without its carry.
+    planes + planes
 }

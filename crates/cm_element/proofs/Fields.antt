@@ -1,16 +1,14 @@
 -- The value of a memory field, from its top bit down, or sixteen bits at once.
-use Rattle.std.proofs.Common.{◌≡◌, ℕ, ◌+◌, ◌-◌, ◌*◌, ◌^◌, ◌<◌, ◌≤◌, zero, suc, Bool, true, false, List, [], ◌∷◌, length, map, take, drop, refl, ap, ◌∙◌, arith, add-one, pow-suc, lit<}
+use Rattle.std.proofs.Common.{◌≡◌, ℕ, ◌+◌, ◌-◌, ◌*◌, ◌^◌, ◌<◌, ◌≤◌, zero, suc, Bool, true, false, List, [], ◌∷◌, length, map, take, drop, get_or, refl, sym, ap, ◌∙◌, arith, add-one, pow-suc, lit<, ext_get_or, length-drop}
 use Rattle.std.proofs.Math.Nat.{mul-zero, mul_comm, mul_assoc}
 use Rattle.std.proofs.Math.Seq.{drop-cons, drop-drop}
-use Rattle.std.proofs.lemmas.List.{take-map, drop-map}
+use Rattle.std.proofs.lemmas.List.{length-map, length-take-le, get_or-take, get_or-drop}
 use Rattle.std.proofs.Math.Pow.{pow_mono}
 use mir.Val.{bool_byte}
 use Rattle.cm_bits.specs.Bit.{bit, bit_number}
 use Rattle.cm_model.specs.Processor.{Processor, memory_bit, value, field_value}
-use Rattle.cm_model.specs.Chip.{processor_at}
 use Rattle.cm_model.proofs.Messages.{field_value-lt}
-use Rattle.cm_element.specs.Planes.{chip_of}
-use Rattle.cm_element.proofs.Planes.{processor_at-chip_of}
+use Rattle.cm_element.proofs.Planes.{bit_in_row}
 
 -- a field's lowest bit and the field of the others
 field-lowest : (processor : Processor) (a n : ℕ) → a < length processor.memory
@@ -55,14 +53,20 @@ field_below processor at len most number is few =
     let more : 2 ^ len ≤ 2 ^ most = pow_mono few in
     omega (arith, is, field_value-lt processor at len, more)
 
--- a field as it stands in the planes
-pub field_value-chip_of : (memory flags : List ℕ) (p at len : ℕ) → p < 16
-    → field_value (processor_at (chip_of memory flags) p) at len ≡ value (map (λ plane. bit plane p) (take len (drop at memory)))
+-- sixteen bits of a field, as they stand in the planes
+pub sixteen_planes : (processor : Processor) (planes : List ℕ) (p at : ℕ) → length planes ≡ 16 → at + 16 ≤ length processor.memory
+    → ((k : ℕ) → k < 16 → bit (get_or planes k 0) p ≡ memory_bit processor (at + k))
+    → value (map (λ plane. bit plane p) planes) ≡ field_value processor at 16
 unfolding field_value
-field_value-chip_of memory flags p at len h =
-    ap (λ (v : Processor). value (take len (drop at v.memory))) (processor_at-chip_of memory flags p h)
-    ∙ ap (λ bits. value (take len bits)) (drop-map (λ plane. bit plane p) at memory)
-    ∙ ap value (take-map (λ plane. bit plane p) len (drop at memory))
+sixteen_planes processor planes p at long inside are =
+    let bits : List Bool = map (λ plane. bit plane p) planes in
+    let field : List Bool = take 16 (drop at processor.memory) in
+    let count : length field ≡ 16 = length-take-le 16 (drop at processor.memory) (omega (arith, inside, length-drop at processor.memory)) in
+    let bits_long : length bits ≡ 16 = length-map planes (λ plane. bit plane p) ∙ long in
+    ap value (ext_get_or false bits field (bits_long ∙ sym count)
+    (λ k h. let below : k < 16 = omega (arith, bits_long) in
+    bit_in_row planes k p ∙ are k below
+    ∙ sym (get_or-take 16 (drop at processor.memory) k false below ∙ get_or-drop at processor.memory k false)))
 
 -- one more bit below the topmost bits of a field
 pub field-one_lower : (processor : Processor) (at len n top number : ℕ) → n < len → at + len ≤ length processor.memory

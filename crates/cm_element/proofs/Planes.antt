@@ -1,14 +1,14 @@
 -- What the processors of a chip of planes read, and that such a chip is whole.
-use Rattle.std.proofs.Common.{◌≡◌, ℕ, ◌<◌, false, List, length, map, get_or, replicate, zero, suc, ◌∷◌, refl, sym, ap, ◌∙◌, arith}
+use Rattle.std.proofs.Common.{◌≡◌, ℕ, ◌<◌, false, List, length, map, get_or, replicate, zero, suc, ◌∷◌, refl, sym, ap, ◌∙◌}
 use Rattle.std.proofs.Math.ListN.{get_or-map}
-use Rattle.std.proofs.lemmas.List.{length-map, get_or_read}
+use Rattle.std.proofs.lemmas.List.{length-map}
 use Rattle.cm_bits.specs.Bit.{bit}
 use Rattle.cm_model.specs.Processor.{ZERO, memory_bit, flag, blank_processor}
 use Rattle.cm_model.specs.Chip.{processor_at, no_processor, blank_chip}
 use Rattle.cm_model.specs.Whole.{IsChip}
 use Rattle.cm_model.proofs.Bits.{bit-zero}
 use Rattle.cm_model.proofs.Each.{get_or-each_below, length-each_from, same_each_below}
-use Rattle.cm_element.specs.Planes.{processor_in, chip_of, ArePlanes}
+use Rattle.cm_element.specs.Planes.{processor_in, chip_of}
 
 pub processor_at-chip_of : (memory flags : List ℕ) (p : ℕ) → p < 16 → processor_at (chip_of memory flags) p ≡ processor_in memory flags p
 unfolding chip_of
@@ -25,6 +25,12 @@ memory_bit-chip_of memory flags p a h = ap (λ v. memory_bit v a) (processor_at-
 pub flag-chip_of : (memory flags : List ℕ) (p f : ℕ) → p < 16 → flag (processor_at (chip_of memory flags) p) f ≡ bit (get_or flags f 0) p
 flag-chip_of memory flags p f h = ap (λ v. flag v f) (processor_at-chip_of memory flags p h) ∙ bit_in_row flags f p
 
+-- a plane for each address and for each flag, and that of flag ZERO is 0
+pub record ArePlanes (memory flags : List ℕ) : Type 0 where
+  pub memory_planes : length memory ≡ 4096
+  pub flag_planes : length flags ≡ 16
+  pub zero : get_or flags ZERO 0 ≡ 0
+
 pub planes_are_whole : (memory flags : List ℕ) → ArePlanes memory flags → IsChip (chip_of memory flags)
 unfolding chip_of
 planes_are_whole memory flags planes = record {
@@ -35,25 +41,6 @@ planes_are_whole memory flags planes = record {
     zero = bit_in_row flags ZERO p ∙ ap (λ (w : ℕ). bit w p) planes.zero ∙ bit-zero p;
   });
 }
-
--- the plane that was read at an address
-pub plane_at : (memory flags : List ℕ) → ArePlanes memory flags → (at got index word : ℕ) → index ≡ got → got ≡ at → got < 4096
-    → word ≡ get_or memory index word → word ≡ get_or memory at 0
-plane_at memory flags planes at got index word index_is got_is below read =
-    let inside : index < length memory = omega (arith, planes.memory_planes) in
-    get_or_read memory index word inside read 0 ∙ ap (λ (i : ℕ). get_or memory i 0) (index_is ∙ got_is)
-
--- what was read of the planes of memory at an address
-pub plane_read : (memory flags : List ℕ) → ArePlanes memory flags → (at got index word : ℕ) → index ≡ got → got ≡ at → got < 4096
-    → word ≡ get_or memory index word → (p : ℕ) → p < 16 → bit word p ≡ memory_bit (processor_at (chip_of memory flags) p) at
-plane_read memory flags planes at got index word index_is got_is below read p h =
-    ap (λ (w : ℕ). bit w p) (plane_at memory flags planes at got index word index_is got_is below read) ∙ sym (memory_bit-chip_of memory flags p at h)
-
--- what was read of the planes of the flags at a number
-pub flag_read : (memory flags : List ℕ) (number got index : ℕ) → index ≡ got → got ≡ number
-    → (p : ℕ) → p < 16 → bit (get_or flags index 0) p ≡ flag (processor_at (chip_of memory flags) p) number
-flag_read memory flags number got index index_is got_is p h =
-    ap (λ (i : ℕ). bit (get_or flags i 0) p) (index_is ∙ got_is) ∙ sym (flag-chip_of memory flags p number h)
 
 zeros : (n p : ℕ) → map (λ plane. bit plane p) (replicate n 0) ≡ replicate n false
 zeros zero p = refl

@@ -1,7 +1,7 @@
 -- A chip that is kept as planes: bit p of each plane is that of processor p. Our own choice.
-use Rattle.std.specs.Prelude.{◌≡◌, ℕ, List, length, map, slice_index_or}
+use Rattle.std.specs.Prelude.{ℕ, List, map}
 use Rattle.cm_bits.specs.Bit.{bit}
-use Rattle.cm_model.specs.Processor.{Processor, ZERO}
+use Rattle.cm_model.specs.Processor.{Processor}
 use Rattle.cm_model.specs.Chip.{each_processor}
 
 -- what processor p has of the planes of memory and of the flags
@@ -11,9 +11,3 @@ processor_in memory flags p = record { memory = map (λ plane. bit plane p) memo
 -- the chip whose planes these are
 unfoldable pub chip_of : List ℕ → List ℕ → List Processor
 chip_of memory flags = each_processor (processor_in memory flags)
-
--- a plane for each address and for each flag, and that of flag ZERO is 0
-pub record ArePlanes (memory flags : List ℕ) : Type 0 where
-  pub memory_planes : length memory ≡ 4096
-  pub flag_planes : length flags ≡ 16
-  pub zero : slice_index_or flags ZERO 0 ≡ 0

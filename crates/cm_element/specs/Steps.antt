@@ -4,10 +4,11 @@ use Rattle.std.specs.Bool.{beq}
 use Rattle.cm_bits.specs.Bit.{bit}
 use Rattle.cm_rows.specs.declared.places.Places.{Places}
 use Rattle.cm_model.specs.declared.act.Nano.{Nano}
-use Rattle.cm_model.specs.Processor.{memory_bit, flag, entry}
+use Rattle.cm_model.specs.Processor.{Processor, memory_bit, flag, entry}
 use Rattle.cm_model.specs.Instruction.{flag_output, holds}
 use Rattle.cm_model.specs.Chip.{IsPlane, processor_at}
-use Rattle.cm_model.specs.Array.{Chips, chip_at}
+use Rattle.cm_model.specs.Place.{predecessor}
+use Rattle.cm_model.specs.Array.{Chips, chip_at, chain_output}
 
 -- each row begins as many strides on as its number says, which is that of an address or a flag
 pub record ArePlaces (nano : Nano) (stride : ℕ) (at : Places) : Type 0 where
@@ -21,6 +22,10 @@ pub record ArePlaces (nano : Nano) (stride : ℕ) (at : Places) : Type 0 where
   pub read_below : nano.read < 16
   pub write_below : nano.write < 16
   pub cond_below : nano.cond < 16
+
+-- what comes in at each processor along the chain of its chip
+abbrev pub along_chain : Nano → List Processor → ℕ → Bool
+along_chain nano chip p = chain_output nano chip (predecessor p)
 
 -- at each chip's number stands the plane of what a table gives its processors
 pub record AreLookedUp (table : ℕ) (nano : Nano) (chips : Chips) (planes : List ℕ) : Type 0 where

@@ -1,14 +1,8 @@
 -- Many bits of a chip put at once: ours.
-use Rattle.std.specs.Prelude.{◌≡◌, ◌<◌, ◌==◌, if◌then◌else◌, ℕ, Bool, List, length, slice_index, slice_set}
-use Rattle.cm_bits.specs.Bit.{bit}
+use Rattle.std.specs.Prelude.{ℕ, Bool, List, slice_set}
 use Rattle.cm_model.specs.Processor.{Processor}
-use Rattle.cm_model.specs.Chip.{each_processor, processor_at, IsPlane}
+use Rattle.cm_model.specs.Chip.{each_processor, processor_at}
 use Rattle.cm_model.specs.Letters.{with_field}
-
--- the planes after the lowest bits of a number were put into them for a processor, one into each
-pub record ArePut (p number : ℕ) (old new : List ℕ) : Type 0 where
-  pub count : length new ≡ length old
-  pub each : (i : ℕ) → i < length old → IsPlane (slice_index new i) (λ q. if q == p then bit number i else bit (slice_index old i) q)
 
 -- the chip with a number in a memory field of a processor
 unfoldable pub with_memory_field : List Processor → ℕ → ℕ → ℕ → ℕ → List Processor

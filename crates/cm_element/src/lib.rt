@@ -6,10 +6,11 @@ mod near;
 mod outputs;
 mod run;
 mod wide_outputs;
+mod word;
 
-pub use chip::{Chip, ZeroFlag};
+pub use chip::Chip;
 pub use cm_bits::NoMemory;
 pub use near::NearRun;
 pub use outputs::Outputs;
-pub use run::{ChipView, Run, takes_incoming};
+pub use run::{ChipView, Run, ZeroFlag, takes_incoming};
 pub use wide_outputs::WideOutputs;

@@ -1,14 +1,14 @@
 //! A run of chips as rows: one row of planes for each address and for each flag.
 
-ghost use Rattle.std.specs.Prelude.{◌≡◌, ℕ, ◌<◌, ◌≤◌, Bool, false, true, length, slice_index, IfOk};
+ghost use Rattle.std.specs.Prelude.{◌≡◌, ◌≢◌, ℕ, ◌<◌, ◌≤◌, Bool, false, true, length, slice_index, IfOk};
 ghost use Rattle.cm_bits.specs.Bit.{bit};
 ghost use Rattle.cm_model.specs.Each.{each_from};
-ghost use Rattle.cm_model.specs.Processor.{memory_bit, flag};
+ghost use Rattle.cm_model.specs.Processor.{NEWS, memory_bit, flag};
 ghost use Rattle.cm_model.specs.Instruction.{takes_incoming};
 ghost use Rattle.cm_model.specs.Chip.{IsPlane, processor_at, blank_chip, chip_after};
 ghost use Rattle.cm_model.specs.Array.{chip_at};
 ghost use Rattle.cm_model.specs.Whole.{IsChip};
-ghost use Rattle.cm_element.specs.Steps.{AreSent};
+ghost use Rattle.cm_element.specs.Steps.{AreSent, along_chain};
 
 mod bits;
 mod flags;
@@ -18,6 +18,7 @@ mod rows;
 mod view;
 
 use crate::run::rows::{look_up_row, row, step_rows, take_rows, word_at};
+pub use bits::ZeroFlag;
 use cm_bits::{Addr, FlagNo, NoMemory, Plane};
 use cm_model::Nano;
 use std::alloc::Global;
@@ -138,10 +139,13 @@ impl Run {
         self.memory[here]
     }
 
-    /// One instruction in all chips, when nothing comes in over NEWS or DAISY.
+    /// One instruction in all chips, in one pass, unless it writes NEWS. What comes in over DAISY goes
+    /// along the chain of each chip; nothing else comes in.
     pub fn step(&mut self, nano: &Nano)
-        requires alone { takes_incoming nano.now ≡ false }
-        ensures value { (incoming : ℕ → ℕ → Bool)
+        requires apart { nano.now.write ≢ NEWS }
+        ensures value { self.new ≡ each_from 0 (length self.old)
+            (λ c. chip_after nano.now (along_chain nano.now (chip_at self.old c)) (chip_at self.old c)) }
+        ensures alone { takes_incoming nano.now ≡ false → (incoming : ℕ → ℕ → Bool)
             → self.new ≡ each_from 0 (length self.old) (λ c. chip_after nano.now (incoming c) (chip_at self.old c)) }
     {
         step_rows(

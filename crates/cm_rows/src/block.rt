@@ -5,9 +5,10 @@
 ghost use Rattle.std.specs.Prelude.{◌≡◌, ℕ, ◌+◌, ◌<◌, ◌≤◌, Bool, cond, length, slice_index};
 ghost use Rattle.cm_bits.specs.Bit.{bit};
 ghost use Rattle.cm_model.specs.Chip.{IsPlane};
-ghost use Rattle.cm_rows.specs.Rows.{stores, IsKept};
+ghost use Rattle.cm_rows.specs.Rows.{stores, output, IsKept};
 
 use cm_bits::Plane;
+use cm_daisy::{previous, previous_lanes};
 use cm_truth::{apply, apply_lanes};
 use std::simd::prelude::*;
 
@@ -37,6 +38,7 @@ pub(crate) fn put(words: &mut [Plane], at: usize, lanes: u16x32)
 #[inline(always)]
 pub(crate) fn kept_lanes(
     table: u8,
+    chained: bool,
     choice: u16x32,
     a: u16x32,
     b: u16x32,
@@ -49,11 +51,26 @@ pub(crate) fn kept_lanes(
     requires f { length f ≡ 32 }
     requires old { length old ≡ 32 }
     ensures count { length result ≡ 32 }
-    ensures value { (k : ℕ) → k < 32 → IsKept table (bit (slice_index choice k)) (slice_index a k) (slice_index b k)
+    ensures value { (k : ℕ) → k < 32 → IsKept table chained (bit (slice_index choice k)) (slice_index a k) (slice_index b k)
         (slice_index f k) (slice_index old k) (slice_index result k) }
 {
-    let output = apply_lanes(table, a, b, f);
+    let output = output_lanes(table, chained, a, b, f);
     old ^ (choice & (old ^ output))
+}
+
+/// What the processors of thirty-two words are to store: the outputs of a table, each processor's
+/// own, or where they go along the chain that of the one before it.
+#[inline(always)]
+fn output_lanes(table: u8, chained: bool, a: u16x32, b: u16x32, f: u16x32) -> u16x32
+    requires a { length a ≡ 32 }
+    requires b { length b ≡ 32 }
+    requires f { length f ≡ 32 }
+    ensures count { length result ≡ 32 }
+    ensures value { (k : ℕ) → k < 32 → IsPlane (slice_index result k)
+        (output table chained (slice_index a k) (slice_index b k) (slice_index f k)) }
+{
+    let own = apply_lanes(table, a, b, f);
+    if chained { previous_lanes(own) } else { own }
 }
 
 /// Where an instruction stores, in thirty-two words of its condition flag.
@@ -93,8 +110,25 @@ fn turned(sense: bool) -> Plane
 
 /// The output of a table where the instruction stores, else what was there, in one word.
 #[inline(always)]
-pub(crate) fn kept(table: u8, choice: Plane, a: Plane, b: Plane, f: Plane, old: Plane) -> Plane
-    ensures value { IsKept table (bit choice) a b f old result }
+pub(crate) fn kept(
+    table: u8,
+    chained: bool,
+    choice: Plane,
+    a: Plane,
+    b: Plane,
+    f: Plane,
+    old: Plane,
+) -> Plane
+    ensures value { IsKept table chained (bit choice) a b f old result }
 {
-    old ^ (choice & (old ^ apply(table, a, b, f)))
+    old ^ (choice & (old ^ output(table, chained, a, b, f)))
+}
+
+/// What the processors of one word are to store.
+#[inline(always)]
+fn output(table: u8, chained: bool, a: Plane, b: Plane, f: Plane) -> Plane
+    ensures value { IsPlane result (output table chained a b f) }
+{
+    let own = apply(table, a, b, f);
+    if chained { previous(own) } else { own }
 }

@@ -13,23 +13,25 @@ const LANES: usize = 32;
 macro_rules! by_tables {
     ($always:literal, $tables:ident, $sense:ident, $memory:ident, $flags:ident, $at:ident, $whole:ident) => {
         match $tables {
-            (0x96, 0xe8) => compute_blocks((0x96, 0xe8), $always, $sense, $memory, $flags, $at, $whole),
-            (0x69, 0xb2) => compute_blocks((0x69, 0xb2), $always, $sense, $memory, $flags, $at, $whole),
-            (0xf0, 0x8e) => compute_blocks((0xf0, 0x8e), $always, $sense, $memory, $flags, $at, $whole),
-            (0xf0, 0x82) => compute_blocks((0xf0, 0x82), $always, $sense, $memory, $flags, $at, $whole),
-            (0xaa, 0xf0) => compute_blocks((0xaa, 0xf0), $always, $sense, $memory, $flags, $at, $whole),
-            (0xf0, 0xff) => compute_blocks((0xf0, 0xff), $always, $sense, $memory, $flags, $at, $whole),
-            (0xf0, 0x00) => compute_blocks((0xf0, 0x00), $always, $sense, $memory, $flags, $at, $whole),
-            (0xf0, 0xf0) => compute_blocks((0xf0, 0xf0), $always, $sense, $memory, $flags, $at, $whole),
-            other => compute_blocks(other, $always, $sense, $memory, $flags, $at, $whole),
+            (0x96, 0xe8) => compute_blocks((0x96, 0xe8), false, $always, $sense, $memory, $flags, $at, $whole),
+            (0x69, 0xb2) => compute_blocks((0x69, 0xb2), false, $always, $sense, $memory, $flags, $at, $whole),
+            (0xf0, 0x8e) => compute_blocks((0xf0, 0x8e), false, $always, $sense, $memory, $flags, $at, $whole),
+            (0xf0, 0x82) => compute_blocks((0xf0, 0x82), false, $always, $sense, $memory, $flags, $at, $whole),
+            (0xaa, 0xf0) => compute_blocks((0xaa, 0xf0), false, $always, $sense, $memory, $flags, $at, $whole),
+            (0xf0, 0xff) => compute_blocks((0xf0, 0xff), false, $always, $sense, $memory, $flags, $at, $whole),
+            (0xf0, 0x00) => compute_blocks((0xf0, 0x00), false, $always, $sense, $memory, $flags, $at, $whole),
+            (0xf0, 0xf0) => compute_blocks((0xf0, 0xf0), false, $always, $sense, $memory, $flags, $at, $whole),
+            other => compute_blocks(other, false, $always, $sense, $memory, $flags, $at, $whole),
         }
     };
 }
 
 /// Puts both outputs of an instruction into the first `count` words of its rows, where the condition
-/// holds. Under `always` the condition flag is not read.
+/// holds. Those for the flag are the processors' own, or they go along the chain of each word. Under
+/// `always` the condition flag is not read.
 pub fn compute(
     tables: (u8, u8),
+    chained: bool,
     always: bool,
     sense: bool,
     memory: &mut [Plane],
@@ -45,13 +47,14 @@ pub fn compute(
     requires b_apart { IsApart at.a at.b count }
     requires read_apart { IsApart at.write at.read count }
     requires cond_apart { IsApart at.write at.cond count }
-    ensures memory { IsComputed tables.0 always sense at at.a 0 count memory.old flags.old memory.old memory.new }
-    ensures flags { IsComputed tables.1 always sense at at.write 0 count memory.old flags.old flags.old flags.new }
+    ensures memory { IsComputed tables.0 false always sense at at.a 0 count memory.old flags.old memory.old memory.new }
+    ensures flags { IsComputed tables.1 chained always sense at at.write 0 count memory.old flags.old flags.old flags.new }
 {
     let whole = count / LANES;
-    all_blocks(tables, always, sense, memory, flags, at, whole);
+    all_blocks(tables, chained, always, sense, memory, flags, at, whole);
     compute_words(
         tables,
+        chained,
         always,
         sense,
         memory,
@@ -65,6 +68,7 @@ pub fn compute(
 /// The words of whole blocks.
 fn all_blocks(
     tables: (u8, u8),
+    chained: bool,
     always: bool,
     sense: bool,
     memory: &mut [Plane],
@@ -80,10 +84,12 @@ fn all_blocks(
     requires b_apart { IsApart at.a at.b (32 * whole) }
     requires read_apart { IsApart at.write at.read (32 * whole) }
     requires cond_apart { IsApart at.write at.cond (32 * whole) }
-    ensures memory { IsComputed tables.0 always sense at at.a 0 (32 * whole) memory.old flags.old memory.old memory.new }
-    ensures flags { IsComputed tables.1 always sense at at.write 0 (32 * whole) memory.old flags.old flags.old flags.new }
+    ensures memory { IsComputed tables.0 false always sense at at.a 0 (32 * whole) memory.old flags.old memory.old memory.new }
+    ensures flags { IsComputed tables.1 chained always sense at at.write 0 (32 * whole) memory.old flags.old flags.old flags.new }
 {
-    if always {
+    if chained {
+        compute_blocks(tables, true, always, sense, memory, flags, at, whole);
+    } else if always {
         blocks_always(tables, sense, memory, flags, at, whole);
     } else {
         blocks_under_condition(tables, sense, memory, flags, at, whole);
@@ -107,8 +113,8 @@ fn blocks_always(
     requires b_apart { IsApart at.a at.b (32 * whole) }
     requires read_apart { IsApart at.write at.read (32 * whole) }
     requires cond_apart { IsApart at.write at.cond (32 * whole) }
-    ensures memory { IsComputed tables.0 true sense at at.a 0 (32 * whole) memory.old flags.old memory.old memory.new }
-    ensures flags { IsComputed tables.1 true sense at at.write 0 (32 * whole) memory.old flags.old flags.old flags.new }
+    ensures memory { IsComputed tables.0 false true sense at at.a 0 (32 * whole) memory.old flags.old memory.old memory.new }
+    ensures flags { IsComputed tables.1 false true sense at at.write 0 (32 * whole) memory.old flags.old flags.old flags.new }
 {
     by_tables!(true, tables, sense, memory, flags, at, whole)
 }
@@ -130,8 +136,8 @@ fn blocks_under_condition(
     requires b_apart { IsApart at.a at.b (32 * whole) }
     requires read_apart { IsApart at.write at.read (32 * whole) }
     requires cond_apart { IsApart at.write at.cond (32 * whole) }
-    ensures memory { IsComputed tables.0 false sense at at.a 0 (32 * whole) memory.old flags.old memory.old memory.new }
-    ensures flags { IsComputed tables.1 false sense at at.write 0 (32 * whole) memory.old flags.old flags.old flags.new }
+    ensures memory { IsComputed tables.0 false false sense at at.a 0 (32 * whole) memory.old flags.old memory.old memory.new }
+    ensures flags { IsComputed tables.1 false false sense at at.write 0 (32 * whole) memory.old flags.old flags.old flags.new }
 {
     by_tables!(false, tables, sense, memory, flags, at, whole)
 }
@@ -140,6 +146,7 @@ fn blocks_under_condition(
 #[inline(always)]
 fn compute_blocks(
     tables: (u8, u8),
+    chained: bool,
     always: bool,
     sense: bool,
     memory: &mut [Plane],
@@ -155,17 +162,18 @@ fn compute_blocks(
     requires b_apart { IsApart at.a at.b (32 * whole) }
     requires read_apart { IsApart at.write at.read (32 * whole) }
     requires cond_apart { IsApart at.write at.cond (32 * whole) }
-    ensures memory { IsComputed tables.0 always sense at at.a 0 (32 * whole) memory.old flags.old memory.old memory.new }
-    ensures flags { IsComputed tables.1 always sense at at.write 0 (32 * whole) memory.old flags.old flags.old flags.new }
+    ensures memory { IsComputed tables.0 false always sense at at.a 0 (32 * whole) memory.old flags.old memory.old memory.new }
+    ensures flags { IsComputed tables.1 chained always sense at at.write 0 (32 * whole) memory.old flags.old flags.old flags.new }
 {
     for t in 0..whole {
-        block(tables, always, sense, memory, flags, at, LANES * t);
+        block(tables, chained, always, sense, memory, flags, at, LANES * t);
     }
 }
 
 /// The words that follow, one by one.
 fn compute_words(
     tables: (u8, u8),
+    chained: bool,
     always: bool,
     sense: bool,
     memory: &mut [Plane],
@@ -183,11 +191,11 @@ fn compute_words(
     requires b_apart { IsApart at.a at.b to }
     requires read_apart { IsApart at.write at.read to }
     requires cond_apart { IsApart at.write at.cond to }
-    ensures memory { IsComputed tables.0 always sense at at.a from to memory.old flags.old memory.old memory.new }
-    ensures flags { IsComputed tables.1 always sense at at.write from to memory.old flags.old flags.old flags.new }
+    ensures memory { IsComputed tables.0 false always sense at at.a from to memory.old flags.old memory.old memory.new }
+    ensures flags { IsComputed tables.1 chained always sense at at.write from to memory.old flags.old flags.old flags.new }
 {
     for k in from..to {
-        word(tables, always, sense, memory, flags, at, k);
+        word(tables, chained, always, sense, memory, flags, at, k);
     }
 }
 
@@ -195,6 +203,7 @@ fn compute_words(
 #[inline(always)]
 fn block(
     tables: (u8, u8),
+    chained: bool,
     always: bool,
     sense: bool,
     memory: &mut [Plane],
@@ -207,8 +216,8 @@ fn block(
     requires read { at.read + from + 32 ≤ length flags.old }
     requires write { at.write + from + 32 ≤ length flags.old }
     requires cond { at.cond + from + 32 ≤ length flags.old }
-    ensures memory { IsComputed tables.0 always sense at at.a from (from + 32) memory.old flags.old memory.old memory.new }
-    ensures flags { IsComputed tables.1 always sense at at.write from (from + 32) memory.old flags.old flags.old flags.new }
+    ensures memory { IsComputed tables.0 false always sense at at.a from (from + 32) memory.old flags.old memory.old memory.new }
+    ensures flags { IsComputed tables.1 chained always sense at at.write from (from + 32) memory.old flags.old flags.old flags.new }
 {
     let a = load(memory, at.a + from);
     let b = load(memory, at.b + from);
@@ -216,8 +225,8 @@ fn block(
     let old = load(flags, at.write + from);
     let condition = load(flags, at.cond + from);
     let choice = choice_lanes(always, sense, condition);
-    let word = kept_lanes(tables.0, choice, a, b, f, a);
-    let flag = kept_lanes(tables.1, choice, a, b, f, old);
+    let word = kept_lanes(tables.0, false, choice, a, b, f, a);
+    let flag = kept_lanes(tables.1, chained, choice, a, b, f, old);
     put(memory, at.a + from, word);
     put(flags, at.write + from, flag);
 }
@@ -225,6 +234,7 @@ fn block(
 /// One word.
 fn word(
     tables: (u8, u8),
+    chained: bool,
     always: bool,
     sense: bool,
     memory: &mut [Plane],
@@ -237,14 +247,14 @@ fn word(
     requires read { at.read + from + 1 ≤ length flags.old }
     requires write { at.write + from + 1 ≤ length flags.old }
     requires cond { at.cond + from + 1 ≤ length flags.old }
-    ensures memory { IsComputed tables.0 always sense at at.a from (from + 1) memory.old flags.old memory.old memory.new }
-    ensures flags { IsComputed tables.1 always sense at at.write from (from + 1) memory.old flags.old flags.old flags.new }
+    ensures memory { IsComputed tables.0 false always sense at at.a from (from + 1) memory.old flags.old memory.old memory.new }
+    ensures flags { IsComputed tables.1 chained always sense at at.write from (from + 1) memory.old flags.old flags.old flags.new }
 {
     let a = memory[at.a + from];
     let b = memory[at.b + from];
     let f = flags[at.read + from];
     let old = flags[at.write + from];
     let choice = choice_of(always, sense, flags[at.cond + from]);
-    memory[at.a + from] = kept(tables.0, choice, a, b, f, a);
-    flags[at.write + from] = kept(tables.1, choice, a, b, f, old);
+    memory[at.a + from] = kept(tables.0, false, choice, a, b, f, a);
+    flags[at.write + from] = kept(tables.1, chained, choice, a, b, f, old);
 }

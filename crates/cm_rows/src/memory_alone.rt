@@ -38,7 +38,7 @@ pub fn compute_memory(
     requires read { at.read + count ≤ length flags.now }
     requires cond { at.cond + count ≤ length flags.now }
     requires b_apart { IsApart at.a at.b count }
-    ensures memory { IsComputed table always sense at at.a 0 count memory.old flags.now memory.old memory.new }
+    ensures memory { IsComputed table false always sense at at.a 0 count memory.old flags.now memory.old memory.new }
 {
     let whole = count / LANES;
     all_blocks(table, always, sense, memory, flags, at, whole);
@@ -69,7 +69,7 @@ fn all_blocks(
     requires read { at.read + 32 * whole ≤ length flags.now }
     requires cond { at.cond + 32 * whole ≤ length flags.now }
     requires b_apart { IsApart at.a at.b (32 * whole) }
-    ensures memory { IsComputed table always sense at at.a 0 (32 * whole) memory.old flags.now memory.old memory.new }
+    ensures memory { IsComputed table false always sense at at.a 0 (32 * whole) memory.old flags.now memory.old memory.new }
 {
     if always {
         blocks_always(table, sense, memory, flags, at, whole);
@@ -92,7 +92,7 @@ fn blocks_always(
     requires read { at.read + 32 * whole ≤ length flags.now }
     requires cond { at.cond + 32 * whole ≤ length flags.now }
     requires b_apart { IsApart at.a at.b (32 * whole) }
-    ensures memory { IsComputed table true sense at at.a 0 (32 * whole) memory.old flags.now memory.old memory.new }
+    ensures memory { IsComputed table false true sense at at.a 0 (32 * whole) memory.old flags.now memory.old memory.new }
 {
     by_table!(true, table, sense, memory, flags, at, whole)
 }
@@ -111,7 +111,7 @@ fn blocks_under_condition(
     requires read { at.read + 32 * whole ≤ length flags.now }
     requires cond { at.cond + 32 * whole ≤ length flags.now }
     requires b_apart { IsApart at.a at.b (32 * whole) }
-    ensures memory { IsComputed table false sense at at.a 0 (32 * whole) memory.old flags.now memory.old memory.new }
+    ensures memory { IsComputed table false false sense at at.a 0 (32 * whole) memory.old flags.now memory.old memory.new }
 {
     by_table!(false, table, sense, memory, flags, at, whole)
 }
@@ -132,7 +132,7 @@ fn compute_blocks(
     requires read { at.read + 32 * whole ≤ length flags.now }
     requires cond { at.cond + 32 * whole ≤ length flags.now }
     requires b_apart { IsApart at.a at.b (32 * whole) }
-    ensures memory { IsComputed table always sense at at.a 0 (32 * whole) memory.old flags.now memory.old memory.new }
+    ensures memory { IsComputed table false always sense at at.a 0 (32 * whole) memory.old flags.now memory.old memory.new }
 {
     for t in 0..whole {
         block(table, always, sense, memory, flags, at, LANES * t);
@@ -156,7 +156,7 @@ fn compute_words(
     requires read { at.read + to ≤ length flags.now }
     requires cond { at.cond + to ≤ length flags.now }
     requires b_apart { IsApart at.a at.b to }
-    ensures memory { IsComputed table always sense at at.a from to memory.old flags.now memory.old memory.new }
+    ensures memory { IsComputed table false always sense at at.a from to memory.old flags.now memory.old memory.new }
 {
     for k in from..to {
         word(table, always, sense, memory, flags, at, k);
@@ -178,14 +178,14 @@ fn block(
     requires b { at.b + from + 32 ≤ length memory.old }
     requires read { at.read + from + 32 ≤ length flags.now }
     requires cond { at.cond + from + 32 ≤ length flags.now }
-    ensures memory { IsComputed table always sense at at.a from (from + 32) memory.old flags.now memory.old memory.new }
+    ensures memory { IsComputed table false always sense at at.a from (from + 32) memory.old flags.now memory.old memory.new }
 {
     let a = load(memory, at.a + from);
     let b = load(memory, at.b + from);
     let f = load(flags, at.read + from);
     let condition = load(flags, at.cond + from);
     let choice = choice_lanes(always, sense, condition);
-    let word = kept_lanes(table, choice, a, b, f, a);
+    let word = kept_lanes(table, false, choice, a, b, f, a);
     put(memory, at.a + from, word);
 }
 
@@ -203,11 +203,11 @@ fn word(
     requires b { at.b + from + 1 ≤ length memory.old }
     requires read { at.read + from + 1 ≤ length flags.now }
     requires cond { at.cond + from + 1 ≤ length flags.now }
-    ensures memory { IsComputed table always sense at at.a from (from + 1) memory.old flags.now memory.old memory.new }
+    ensures memory { IsComputed table false always sense at at.a from (from + 1) memory.old flags.now memory.old memory.new }
 {
     let a = memory[at.a + from];
     let b = memory[at.b + from];
     let f = flags[at.read + from];
     let choice = choice_of(always, sense, flags[at.cond + from]);
-    memory[at.a + from] = kept(table, choice, a, b, f, a);
+    memory[at.a + from] = kept(table, false, choice, a, b, f, a);
 }

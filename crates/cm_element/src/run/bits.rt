@@ -1,6 +1,6 @@
 //! The bits and flags of the processors of one chip of a run.
 
-ghost use Rattle.std.specs.Prelude.{◌≡◌, ◌≢◌, ◌<◌, ◌↔◌, length, slice_set, IsErr, OnOk, OnErr};
+ghost use Rattle.std.specs.Prelude.{◌≡◌, ◌≢◌, ◌+◌, ◌<◌, ◌≤◌, ◌↔◌, length, slice_set, IsErr, OnOk, OnErr};
 ghost use Rattle.cm_bits.specs.Bit.{bit};
 ghost use Rattle.cm_model.specs.Processor.{ZERO, memory_bit, flag, field_value};
 ghost use Rattle.cm_model.specs.Chip.{processor_at, with_memory_bit, with_flag};
@@ -9,10 +9,17 @@ ghost use Rattle.cm_model.specs.Whole.{IsChip};
 ghost use Rattle.cm_element.specs.Wide.{with_memory_field, with_flag_plane, with_memory_plane};
 
 use super::{ADDRESSES, FLAGS, Run};
-use crate::chip::wide::bit_of;
-use crate::chip::{ZeroFlag, is_one, with_bit};
 use crate::run::rows::word_at;
+use crate::word::{bit_of, bits_in, is_one, with_bit};
 use cm_bits::{Addr, Field, FlagNo, Plane, Proc};
+use thiserror::Error;
+
+const SIXTEEN: usize = 16;
+
+/// Flag 8 cannot be poked: it always reads 0.
+#[derive(Clone, Copy, Debug, PartialEq, Eq, Error)]
+#[error("flag 8 is always 0")]
+pub struct ZeroFlag;
 
 impl Run {
     pub fn read(&self, chip: u16, proc: Proc, at: Addr) -> bool
@@ -29,12 +36,41 @@ impl Run {
     {
         let at = usize::from(field.at());
         let len = usize::from(field.len());
+        let sixteens = len / 16;
+        let mut value = self.few_bits(chip, proc, at + sixteens * 16, len % 16);
+        for below_top in 0..sixteens {
+            let lower = at + (sixteens - 1 - below_top) * 16;
+            value = value * 65536 + self.sixteen_bits(chip, proc, lower);
+        }
+        value
+    }
+
+    /// The value of fewer than sixteen memory bits from an address up, which are read one by one.
+    fn few_bits(&self, chip: u16, proc: Proc, at: usize, len: usize) -> u64
+        requires chip { chip < length self.now }
+        requires few { len < 16 }
+        requires within { at + len ≤ 4096 }
+        ensures value { result ≡ field_value (processor_at (chip_at self.now chip) proc) at len }
+    {
         let mut value: u64 = 0;
         for below_top in 0..len {
             let plane = self.memory_word(chip, at + (len - 1 - below_top));
             value = value * 2 + u64::from(is_one(plane, proc));
         }
         value
+    }
+
+    /// The value of sixteen memory bits from an address up: their planes are looked at all at once.
+    fn sixteen_bits(&self, chip: u16, proc: Proc, at: usize) -> u64
+        requires chip { chip < length self.now }
+        requires within { at + 16 ≤ 4096 }
+        ensures value { result ≡ field_value (processor_at (chip_at self.now chip) proc) at 16 }
+    {
+        let mut planes: [Plane; SIXTEEN] = [0; SIXTEEN];
+        for i in 0..SIXTEEN {
+            planes[i] = self.memory_word(chip, at + i);
+        }
+        bits_in(&planes, proc)
     }
 
     pub fn flag(&self, chip: u16, proc: Proc, number: FlagNo) -> bool

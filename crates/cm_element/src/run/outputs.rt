@@ -1,22 +1,60 @@
 //! An instruction in two halves: what all chips compute, and what they store of it.
 
-ghost use Rattle.std.specs.Prelude.{◌≡◌, ℕ, ◌+◌, ◌<◌, ◌≤◌, length, slice_index};
+ghost use Rattle.std.specs.Prelude.{◌≡◌, ℕ, ◌+◌, ◌<◌, ◌≤◌, if◌then◌else◌, length, slice_index, slice_set};
 ghost use Rattle.cm_bits.specs.Bit.{bit};
 ghost use Rattle.cm_model.specs.Each.{each_from};
+ghost use Rattle.cm_model.specs.Instruction.{takes_incoming};
 ghost use Rattle.cm_model.specs.Chip.{chip_after};
 ghost use Rattle.cm_model.specs.Array.{chip_at};
+ghost use Rattle.cm_element.specs.Outputs.{AreOutputs};
 ghost use Rattle.cm_element.specs.Runs.{AreRows, chips_of};
 ghost use Rattle.cm_element.specs.Steps.{AreHolding, IsStored};
 ghost use Rattle.cm_element.specs.WideOutputs.{HaveRoomFor, AreWideOutputs};
 
 use super::{Run, takes_incoming};
-use crate::chip::{chosen, holding};
+use crate::outputs::Outputs;
 use crate::run::rows::{look_up_row, places};
 use crate::wide_outputs::WideOutputs;
+use crate::word::{chosen, holding};
 use cm_bits::{FlagNo, Plane};
 use cm_model::Nano;
+use cm_truth::apply;
 
 impl Run {
+    /// What every processor of a chip computes of an instruction, whatever its own condition, from
+    /// the bits as they are.
+    pub fn chip_outputs(&self, chip: u16, nano: &Nano) -> Outputs
+        requires chip { chip < length self.now }
+        ensures value { AreOutputs nano.now (chip_at self.now chip) result }
+    {
+        let a = self.plane(chip, nano.a);
+        let b = self.plane(chip, nano.b);
+        let f = self.flag_plane(chip, nano.read);
+        let condition = self.flag_plane(chip, nano.cond);
+        Outputs {
+            mem: apply(nano.mem_table, a, b, f),
+            flag: apply(nano.flag_table, a, b, f),
+            holds: holding(condition, nano.sense),
+        }
+    }
+
+    /// Stores the outputs of a chip where the condition holds. `incoming` has the bits that come in over
+    /// NEWS or DAISY, and counts only where the instruction writes one of these.
+    pub fn chip_store(&mut self, chip: u16, nano: &Nano, outputs: Outputs, incoming: Plane)
+        requires chip { chip < length self.old }
+        requires outputs { AreOutputs nano.now (chip_at self.old chip) outputs }
+        ensures value { self.new
+            ≡ slice_set self.old chip (chip_after nano.now (bit incoming) (chip_at self.old chip)) }
+    {
+        let memory = chosen(outputs.holds, outputs.mem, self.plane(chip, nano.a));
+        let own = self.flag_plane(chip, nano.write);
+        self.poke_plane(chip, nano.a, memory);
+        if nano.write != FlagNo::ZERO {
+            let stored = stored_plane(nano, outputs.flag, incoming);
+            self.poke_flag_plane(chip, nano.write, chosen(outputs.holds, stored, own));
+        }
+    }
+
     /// Writes down what every processor of every chip computes of an instruction, whatever its own
     /// condition, from the bits as they are.
     pub fn outputs(&self, nano: &Nano, outputs: &mut WideOutputs)
@@ -71,6 +109,13 @@ impl Run {
             incoming,
         );
     }
+}
+
+/// What a store into a flag takes: the processors' own outputs, or what comes in.
+fn stored_plane(nano: &Nano, own: Plane, incoming: Plane) -> Plane
+    ensures value { result ≡ (if takes_incoming nano.now then incoming else own) }
+{
+    if takes_incoming(nano) { incoming } else { own }
 }
 
 /// Writes down where the condition of an instruction holds.

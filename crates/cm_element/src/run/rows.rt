@@ -1,15 +1,16 @@
 //! One instruction over the rows of a run.
 
-ghost use Rattle.std.specs.Prelude.{◌≡◌, ℕ, ◌+◌, ◌*◌, ◌<◌, ◌≤◌, ◌^◌, Bool, false, true, length, slice_index};
+ghost use Rattle.std.specs.Prelude.{◌≡◌, ◌≢◌, ℕ, ◌+◌, ◌*◌, ◌<◌, ◌≤◌, ◌^◌, false, true, length, slice_index};
 ghost use Rattle.cm_bits.specs.Bit.{bit};
 ghost use Rattle.cm_model.specs.Each.{each_from};
+ghost use Rattle.cm_model.specs.Processor.{NEWS};
 ghost use Rattle.cm_model.specs.Instruction.{takes_incoming};
 ghost use Rattle.cm_model.specs.Chip.{chip_after};
 ghost use Rattle.cm_model.specs.Array.{chip_at};
 ghost use Rattle.cm_element.specs.Runs.{AreRows, chips_of};
-ghost use Rattle.cm_element.specs.Steps.{ArePlaces, AreMerged, AreLookedUp};
+ghost use Rattle.cm_element.specs.Steps.{ArePlaces, AreMerged, AreLookedUp, along_chain};
 
-use crate::chip::{chosen, holding};
+use crate::word::{chosen, holding};
 use cm_bits::{FlagNo, Plane};
 use cm_model::Nano;
 use cm_rows::{Places, compute, compute_memory};
@@ -42,7 +43,7 @@ pub(crate) fn word_at(number: usize, rows: usize, stride: usize, chip: u16) -> u
     row(number, rows, stride) + usize::from(chip)
 }
 
-/// One instruction in all chips of the rows, when nothing comes in over NEWS or DAISY.
+/// One instruction in all chips of the rows, in place, when nothing comes in over NEWS.
 pub(crate) fn step_rows(
     memory: &mut [Plane],
     flags: &mut [Plane],
@@ -51,10 +52,11 @@ pub(crate) fn step_rows(
     chips: usize,
 )
     requires rows { AreRows memory.old flags.old stride chips }
-    requires alone { takes_incoming nano.now ≡ false }
+    requires apart { nano.now.write ≢ NEWS }
     ensures rows { AreRows memory.new flags.new stride chips }
-    ensures value { (incoming : ℕ → ℕ → Bool) → chips_of memory.new flags.new stride chips
-        ≡ each_from 0 chips (λ c. chip_after nano.now (incoming c) (chip_at (chips_of memory.old flags.old stride chips) c)) }
+    ensures value { chips_of memory.new flags.new stride chips ≡ each_from 0 chips (λ c. chip_after nano.now
+        (along_chain nano.now (chip_at (chips_of memory.old flags.old stride chips) c))
+        (chip_at (chips_of memory.old flags.old stride chips) c)) }
 {
     let at = places(nano, stride);
     let always = is_always(nano);
@@ -63,6 +65,7 @@ pub(crate) fn step_rows(
     } else {
         compute(
             (nano.mem_table, nano.flag_table),
+            nano.write == FlagNo::DAISY,
             always,
             nano.sense,
             memory,

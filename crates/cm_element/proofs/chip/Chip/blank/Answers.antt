@@ -1,9 +1,13 @@
-use Rattle.std.proofs.Common.{refl, [], ◌∷◌}
-use Rattle.cm_element.proofs.Planes.{blank_planes}
+use Rattle.std.proofs.Common.{[], length, ap, ◌∙◌, lit<}
+use Rattle.cm_model.specs.Chip.{blank_chip}
+use Rattle.cm_model.specs.Array.{chip_at}
+use Rattle.cm_model.proofs.Each.{length-each_from, get_or-each_below}
 use Rattle.cm_element.proofs.chip.Chip.blank.Goals as goal
+
+pub invariant_of-result : goal.invariant_of-result
+invariant_of-result c = ap length c.in_ok-run.ensures.value ∙ length-each_from 0 1 (λ k. blank_chip)
 
 pub returns : goal.returns
 returns c = record {
-  value = blank_planes c.in-Ok.memory.items (0 ∷ 0 ∷ 0 ∷ 0 ∷ 0 ∷ 0 ∷ 0 ∷ 0 ∷ 0 ∷ 0 ∷ 0 ∷ 0 ∷ 0 ∷ 0 ∷ 0 ∷ 0 ∷ [])
-      (c.in-Ok.ensures.items_if_clones_equal (λ y same. same)) refl;
+  value = ap (λ run. chip_at run 0) c.in_ok-run.ensures.value ∙ get_or-each_below 1 (λ k. blank_chip) 0 [] (lit< tt);
 }

@@ -1,26 +1,34 @@
-use Rattle.std.proofs.Common.{◌≡◌, ◌+◌, ◌-◌, [], get_or, refl, ap, ◌∙◌, lit<, arith}
-use Rattle.cm_bits.specs.Bit.{bit_number}
-use Rattle.cm_model.specs.Processor.{Processor, field_value, memory_bit}
+use Rattle.std.proofs.Common.{◌≡◌, ℕ, ◌+◌, ◌-◌, ◌*◌, ◌/◌, ◌%◌, ◌^◌, ◌<◌, ap, ◌∙◌, arith}
+use Rattle.cm_model.specs.Processor.{Processor, field_value}
 use Rattle.cm_model.specs.Chip.{processor_at}
-use Rattle.cm_element.proofs.Fields.{field-one_lower, one_more_bit, bit_number-lt, bool_byte-is}
+use Rattle.cm_model.specs.Array.{chip_at}
+use Rattle.cm_element.proofs.Fields.{field-sixteen_lower, field_below}
 use Rattle.cm_element.proofs.run.Run.field.Goals as goal
 
-pub loop-below_top-init : goal.loop-below_top-init
-unfolding field_value
-loop-below_top-init c = record { value = refl; below = lit< tt }
+pub overflow_mul-value : goal.overflow_mul-value
+overflow_mul-value c =
+    let processor : Processor = processor_at (chip_at c.args.self.now c.args.chip) c.args.proc in
+    let below : c.loop-below_top.value < 2 ^ 48 = field_below processor _ _ 48 _ c.loop-below_top.invariant (omega arith) in
+    record { fits = omega arith }
+
+pub overflow_add-value : goal.overflow_add-value
+overflow_add-value c =
+    let processor : Processor = processor_at (chip_at c.args.self.now c.args.chip) c.args.proc in
+    let below : c.loop-below_top.value < 2 ^ 48 = field_below processor _ _ 48 _ c.loop-below_top.invariant (omega arith) in
+    let low : c.sixteen_bits.result < 2 ^ 16 = field_below processor _ 16 16 _ c.sixteen_bits.ensures.value (omega arith) in
+    record { fits = omega arith }
 
 pub loop-below_top-preserved : goal.loop-below_top-preserved
 loop-below_top-preserved c =
+    let processor : Processor = processor_at (chip_at c.args.self.now c.args.chip) c.args.proc in
     let at = c.from-at.result in
     let len = c.from-len.result in
     let n = c.loop-below_top.below_top in
-    let p = c.args.proc in
-    let processor : Processor = processor_at (get_or c.args.self.now c.args.chip []) p in
-    let lowest : at + (len - 1 - n) ≡ at + (len - (n + 1)) = omega arith in
-    let number_is : c.from.result ≡ bit_number (memory_bit processor (at + (len - (n + 1)))) =
-    c.from.ensures ∙ bool_byte-is c.is_one.result ∙ ap bit_number (c.is_one.ensures.value ∙ c.memory_word-plane.ensures.value p c.is_one.ensures.in_range ∙ ap (memory_bit processor) lowest) in
-    let whole = (c.memory_word-plane.ensures.whole.each p c.is_one.ensures.in_range).memory in
-    record {
-      value = field-one_lower processor at len n c.loop-below_top.value c.from.result c.loop-below_top-test.true (omega arith) c.loop-below_top.invariant.value number_is;
-      below = one_more_bit c.loop-below_top.value c.from.result n c.loop-below_top.invariant.below (rw number_is (bit_number-lt (memory_bit processor (at + (len - (n + 1))))));
-    }
+    let lower : ℕ = at + (len / 16 - 1 - n) * 16 in
+    let next : at + (len / 16 - n) * 16 ≡ lower + 16 = omega arith in
+    let here : lower ≡ at + (len / 16 - (n + 1)) * 16 = omega arith in
+    let more : 16 + (n * 16 + len % 16) ≡ (n + 1) * 16 + len % 16 = omega arith in
+    field-sixteen_lower processor lower (n * 16 + len % 16) c.loop-below_top.value c.sixteen_bits.result
+    (c.loop-below_top.invariant ∙ ap (λ (a : ℕ). field_value processor a (n * 16 + len % 16)) next) c.sixteen_bits.ensures.value
+    ∙ ap (λ (a : ℕ). field_value processor a (16 + (n * 16 + len % 16))) here
+    ∙ ap (field_value processor (at + (len / 16 - (n + 1)) * 16)) more

@@ -1,4 +1,4 @@
-use Rattle.std.proofs.Common.{◌≡◌, ◌+◌, ◌-◌, ◌<◌, ◌^◌}
+use Rattle.std.proofs.Common.{◌≡◌, ◌+◌, ◌-◌, ◌*◌, ◌%◌}
 use Rattle.cm_model.specs.Processor.{field_value}
 use Rattle.cm_model.specs.Chip.{processor_at}
 use Rattle.cm_model.specs.Array.{chip_at}
@@ -6,7 +6,5 @@ use Rattle.cm_element.proofs.run.Run.field.Given as goal
 
 -- the value of the field's topmost bits
 abbrev pub invariant-loop-below_top : goal.invariant-loop-below_top
-invariant-loop-below_top l = record {
-  value : l.value ≡ field_value (processor_at (chip_at l.self l.chip) l.proc) (l.at + (l.len - l.below_top)) l.below_top;
-  below : l.value < 2 ^ l.below_top;
-}
+invariant-loop-below_top l =
+    l.value ≡ field_value (processor_at (chip_at l.self l.chip) l.proc) (l.at + (l.sixteens - l.below_top) * 16) (l.below_top * 16 + l.len % 16)

@@ -1,7 +1,10 @@
 use Rattle.std.proofs.Common.{◌≡◌, ◌≢◌, true, false, sym, ◌∙◌, arith, ◌==◌}
-use Rattle.std.proofs.lemmas.Bool.{eqb-false}
+use Rattle.std.proofs.lemmas.Bool.{eqb-false, ne_eqb}
+use Rattle.cm_model.specs.Instruction.{takes_incoming}
+use Rattle.cm_element.specs.Runs.{chip_in}
+use Rattle.cm_element.specs.Steps.{along_chain}
 use Rattle.cm_element.proofs.Columns.{apart_at}
-use Rattle.cm_element.proofs.Stepping.{rows_stepped, chip_stepped, chip_stepped_alone, row_changed, zero_kept}
+use Rattle.cm_element.proofs.Stepping.{rows_stepped_along, chip_stepped, chip_stepped_alone, row_changed, zero_kept}
 use Rattle.cm_element.proofs.run.rows.step_rows.Goals as goal
 
 pub compute_memory-requires-clause-b_apart : goal.compute_memory-requires-clause-b_apart
@@ -21,18 +24,21 @@ compute-requires-clause-cond_apart c =
     apart_at c.args.nano.now.write c.args.nano.now.cond c.args.stride c.args.chips c.places-at.result.write c.places-at.result.cond c.places-at.ensures.value.write c.places-at.ensures.value.cond c.requires.rows.within
 
 pub returns-then-eq-clause-value : goal.returns-then-eq-clause-value
-returns-then-eq-clause-value c = λ incoming.
+returns-then-eq-clause-value c =
     let nano = c.args.nano.now in
+    let memory = c.args.memory.now in
+    let flags = c.args.flags.now in
     let zero_flag : (nano.write == 8) ≡ true = sym c.eq.ensures ∙ c.if-eq.true in
-    rows_stepped nano c.args.memory.now c.args.flags.now c.compute_memory.new.memory c.args.flags.now c.args.stride c.args.chips incoming
-    (λ chip h. chip_stepped_alone nano c.is_always-always.result c.args.memory.now c.args.flags.now c.compute_memory.new.memory c.args.stride c.args.chips chip c.places-at.result (incoming chip)
+    rows_stepped_along nano memory flags c.compute_memory.new.memory flags c.args.stride c.args.chips
+    (λ chip h. chip_stepped_alone nano c.is_always-always.result memory flags c.compute_memory.new.memory c.args.stride c.args.chips chip c.places-at.result
+    (along_chain nano (chip_in memory flags c.args.stride chip))
     (record {
       rows = c.requires.rows;
       places = c.places-at.ensures.value;
       here = h;
       everywhere = c.is_always-always.ensures.value;
       stored = c.compute_memory.ensures.memory;
-    }) c.requires.alone zero_flag)
+    }) zero_flag)
 
 pub returns-else-eq-clause-rows : goal.returns-else-eq-clause-rows
 returns-else-eq-clause-rows c =
@@ -44,20 +50,22 @@ returns-else-eq-clause-rows c =
       within = c.requires.rows.within;
       few = c.requires.rows.few;
       zero = zero_kept nano c.args.stride c.args.chips c.args.memory.now c.args.flags.now c.compute.new.flags c.requires.rows other
-          (row_changed nano.flag_table c.is_always-always.result nano.sense c.places-at.result c.places-at.result.write nano.write c.args.stride c.args.chips c.args.memory.now c.args.flags.now c.args.flags.now c.compute.new.flags
+          (row_changed nano.flag_table c.eq-else-eq.result c.is_always-always.result nano.sense c.places-at.result c.places-at.result.write nano.write c.args.stride c.args.chips c.args.memory.now c.args.flags.now c.args.flags.now c.compute.new.flags
           c.places-at.ensures.value.write c.compute.ensures.flags);
     }
 
 pub returns-else-eq-clause-value : goal.returns-else-eq-clause-value
-returns-else-eq-clause-value c = λ incoming.
+returns-else-eq-clause-value c =
     let nano = c.args.nano.now in
     let other : (nano.write == 8) ≡ false = sym c.eq.ensures ∙ c.if-eq.false in
-    rows_stepped nano c.args.memory.now c.args.flags.now c.compute.new.memory c.compute.new.flags c.args.stride c.args.chips incoming
-    (λ chip h. chip_stepped nano c.is_always-always.result c.args.memory.now c.args.flags.now c.compute.new.memory c.compute.new.flags c.args.stride c.args.chips chip c.places-at.result (incoming chip)
+    let apart : (nano.write == 10) ≡ false = ne_eqb nano.write 10 c.requires.apart in
+    let taken : takes_incoming nano ≡ c.eq-else-eq.result = rw apart (sym c.eq-else-eq.ensures) in
+    rows_stepped_along nano c.args.memory.now c.args.flags.now c.compute.new.memory c.compute.new.flags c.args.stride c.args.chips
+    (λ chip h. chip_stepped nano c.is_always-always.result c.eq-else-eq.result c.args.memory.now c.args.flags.now c.compute.new.memory c.compute.new.flags c.args.stride c.args.chips chip c.places-at.result
     (record {
       rows = c.requires.rows;
       places = c.places-at.ensures.value;
       here = h;
       everywhere = c.is_always-always.ensures.value;
       stored = c.compute.ensures.memory;
-    }) c.requires.alone other c.compute.ensures.flags)
+    }) taken other c.compute.ensures.flags)

@@ -1,9 +1,0 @@
-use Rattle.std.proofs.Common.{◌≡◌, ◌+◌, ◌-◌, ◌*◌, ◌%◌}
-use Rattle.cm_model.specs.Processor.{field_value}
-use Rattle.cm_model.specs.Chip.{processor_at}
-use Rattle.cm_element.proofs.chip.Chip.field.Given as goal
-
--- the value of the field's topmost bits
-abbrev pub invariant-loop-below_top : goal.invariant-loop-below_top
-invariant-loop-below_top l =
-    l.value ≡ field_value (processor_at l.self l.proc) (l.at + (l.sixteens - l.below_top) * 16) (l.below_top * 16 + l.len % 16)
