@@ -205,6 +205,13 @@ impl Crossing {
         self.slots.is_within(0)
     }
 
+    /// True only where at no chip stand more messages than this.
+    pub fn is_within(&self, room: u8) -> bool
+        ensures within { IsTrue result → All (λ ms. length ms ≤ room) self.now.buffers }
+    {
+        self.slots.is_within(usize::from(room))
+    }
+
     /// At one chip, takes in messages of the processors that ask to send, by number, at most four and
     /// at most as many as there is room for. The log tells of each. The chip stands at place `chip` here and in
     /// the run; `here` is its number in the machine.

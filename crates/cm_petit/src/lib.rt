@@ -3,6 +3,8 @@
 
 mod halves;
 mod phases;
+mod ready;
 
 pub use halves::{cross, leave, take_in};
 pub use phases::{cycle, deliver, inject};
+pub use ready::{are_routers, has_log_room};
