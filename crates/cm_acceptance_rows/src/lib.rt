@@ -1,4 +1,4 @@
-//! Tests of rows of planes, of a run of chips beside single chips, of tickets beside plain lists, and of the grid's row;
+//! Tests of rows of planes, of a run of chips beside single chips and beside a plain machine, of tickets beside plain lists, and of the grid's row;
 //! it has no code of its own.
 #![tactic(auto)]
 
@@ -6,6 +6,8 @@
 mod grids;
 #[cfg(test)]
 mod laid;
+#[cfg(test)]
+mod plain;
 #[cfg(test)]
 mod queues;
 #[cfg(test)]

@@ -1,7 +1,8 @@
 //! A run of chips takes the steps of as many single chips.
 
 use cm_bits::{Addr, Dir, Field, FlagNo, NoMemory, Plane, Proc};
-use cm_element::{Chip, Run, WideOutputs, takes_incoming};
+use cm_daisy::previous;
+use cm_element::{Chip, Run, WideOutputs};
 use cm_model::Nano;
 use cm_wire::wire;
 use std::alloc::Global;
@@ -91,9 +92,9 @@ impl Beside {
         if self.row.len() != self.run.chips() {
             return false;
         }
-        if !takes_incoming(nano) {
+        if nano.write != FlagNo::NEWS {
             self.run.step(nano);
-            step_chips(&mut self.chips, nano, &self.row);
+            step_along_chains(&mut self.chips, nano);
             return true;
         }
         self.run.send(nano, &mut self.row);
@@ -195,6 +196,14 @@ fn step_chips(chips: &mut [Chip], nano: &Nano, incoming: &[Plane]) {
             let outputs = chips[c].outputs(nano);
             chips[c].store(nano, outputs, incoming[c]);
         }
+    }
+}
+
+// Over DAISY each chip's processors get what those before them send.
+fn step_along_chains(chips: &mut [Chip], nano: &Nano) {
+    for chip in chips.iter_mut() {
+        let outputs = chip.outputs(nano);
+        chip.store(nano, outputs, previous(outputs.flag));
     }
 }
 

@@ -32,6 +32,22 @@ const MACROS: [(u8, u8, u8); 12] = [
     (0xf0, 0xf0, 2),
 ];
 
+// DAISY is written, with the tables of two macros and others.
+const CHAINS: [(u8, u8, u8); 12] = [
+    (0x96, 0xe8, 11),
+    (0xf0, 0xf0, 11),
+    (0x17, 0x2b, 11),
+    (0x3c, 0x99, 11),
+    (0xf0, 0xaa, 11),
+    (0xf0, 0xcc, 11),
+    (0x71, 0x1e, 11),
+    (0x5a, 0xc3, 11),
+    (0xaa, 0xf0, 11),
+    (0xd8, 0xaa, 11),
+    (0xcc, 0xaa, 11),
+    (0x00, 0xaa, 11),
+];
+
 const OTHERS: [(u8, u8, u8); 12] = [
     (0x17, 0x2b, 1),
     (0x3c, 0x99, 2),
@@ -80,7 +96,7 @@ fn steps(alloc: Global, tables: &[(u8, u8, u8); 12]) -> Result<u32, Fail> {
         let nano = nano(tables[i as usize % 12], (i & 63) as u16, Dir::North).ok_or(
             "no instruction",
         )?;
-        if !takes_incoming(&nano) {
+        if nano.write != FlagNo::NEWS {
             run.step(&nano);
             done = i;
         }
@@ -171,6 +187,12 @@ fn steps_of_the_macros(rt: HostRuntime) -> Result<(), Fail> {
 #[test]
 fn steps_of_other_tables(rt: HostRuntime) -> Result<(), Fail> {
     assert_eq!(rt; steps(rt.alloc(), &OTHERS)?, TIMES - 1);
+    Ok(())
+}
+
+#[test]
+fn steps_along_the_chains(rt: HostRuntime) -> Result<(), Fail> {
+    assert_eq!(rt; steps(rt.alloc(), &CHAINS)?, TIMES - 1);
     Ok(())
 }
 

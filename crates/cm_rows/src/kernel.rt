@@ -87,6 +87,9 @@ fn all_blocks(
     ensures memory { IsComputed tables.0 false always sense at at.a 0 (32 * whole) memory.old flags.old memory.old memory.new }
     ensures flags { IsComputed tables.1 chained always sense at at.write 0 (32 * whole) memory.old flags.old flags.old flags.new }
 {
+    if whole == 0 {
+        return;
+    }
     if chained {
         compute_blocks(tables, true, always, sense, memory, flags, at, whole);
     } else if always {
@@ -255,6 +258,8 @@ fn word(
     let f = flags[at.read + from];
     let old = flags[at.write + from];
     let choice = choice_of(always, sense, flags[at.cond + from]);
-    memory[at.a + from] = kept(tables.0, false, choice, a, b, f, a);
-    flags[at.write + from] = kept(tables.1, chained, choice, a, b, f, old);
+    let word = kept(tables.0, false, choice, a, b, f, a);
+    let flag = kept(tables.1, chained, choice, a, b, f, old);
+    memory[at.a + from] = word;
+    flags[at.write + from] = flag;
 }
