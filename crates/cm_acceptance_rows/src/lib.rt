@@ -1,7 +1,10 @@
-//! Tests of rows of planes, of a run of chips beside single chips and beside a plain machine, of tickets beside plain lists, and of the grid's row;
+//! Tests of rows of planes, of a run of chips beside single chips and beside a plain machine, of tickets beside plain
+//! lists, of runs that begin at any chip of a machine, and of the grid's row;
 //! it has no code of its own.
 #![tactic(auto)]
 
+#[cfg(test)]
+mod bands;
 #[cfg(test)]
 mod grids;
 #[cfg(test)]

@@ -1,6 +1,6 @@
 //! The messages of a run of chips.
 
-ghost use Rattle.std.specs.Prelude.{◌≡◌, ◌+◌, ◌^◌, ◌<◌, ◌≤◌, ◌++◌, [], ◌∷◌, IfOk, IsTrue, length, map, None};
+ghost use Rattle.std.specs.Prelude.{◌≡◌, ℕ, ◌+◌, ◌^◌, ◌<◌, ◌≤◌, ◌++◌, [], ◌∷◌, IfOk, IsTrue, length, map, None};
 ghost use Rattle.std.specs.Prelude.{slice_set, slice_index_or, bit_xor, vec_len, vec_capacity};
 ghost use Rattle.std.specs.List.{All};
 ghost use Rattle.std.specs.Option.{option_to_list};
@@ -123,6 +123,16 @@ impl Crossing {
         ensures few { length self.now.buffers ≤ 4096 }
     {
         self.slots.len(chip)
+    }
+
+    /// The first chip from this one on at which a message stands; as many as there are, if there is none.
+    pub fn next_occupied(&self, from: usize) -> usize
+        requires from { from ≤ length self.now.buffers }
+        ensures none { (c : ℕ) → from ≤ c → c < result → list_at self.now.buffers c ≡ [] }
+        ensures from { from ≤ result }
+        ensures most { result ≤ length self.now.buffers }
+    {
+        self.slots.next_occupied(from)
     }
 
     /// The messages that stand at a chip, in order of arrival, where all have been gathered.

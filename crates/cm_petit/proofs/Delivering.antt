@@ -1,7 +1,7 @@
 -- Delivery, chip after chip.
 use Rattle.std.proofs.Common.{◌≡◌, ℕ, ◌+◌, ◌-◌, ◌^◌, ◌<◌, ◌≤◌, ◌++◌, List, [], length, map, set, get_or, refl, sym, ap, subst, ◌∙◌, arith}
 use Rattle.std.proofs.Common.{vec_len, vec_capacity}
-use Rattle.std.proofs.lemmas.List.{length-map}
+use Rattle.std.proofs.lemmas.List.{append-nil, length-map}
 use Rattle.cm_model.specs.declared.message.Message.{Message}
 use Rattle.cm_model.specs.declared.message.Event.{Event}
 use Rattle.cm_model.specs.declared.message.Event.TheVariants.{Delivered}
@@ -17,7 +17,7 @@ use Rattle.cm_blocks.specs.Parts.{Part, chip_in, buffer_in, log_in}
 use Rattle.cm_blocks.specs.Parcels.{Blank}
 use Rattle.cm_blocks.specs.Steps.{part_after, delivered_of as delivered_to}
 use Rattle.cm_petit.specs.Routers.{Log, free_at, events_of, machine_of, part_of, AreRouters, HasLogRoom}
-use Rattle.cm_petit.proofs.Made.{AreMade, HaveLost, made_begins, lost_begins, made_more, made_more_of}
+use Rattle.cm_petit.proofs.Made.{AreMade, HaveLost, made_begins, lost_begins, made_more, made_more_of, made_past, lost_past}
 use Rattle.cm_petit.proofs.Made.{not_yet_made_of, made_all_from, lost_more, free_read}
 
 -- what delivery makes of the chip at a place of a part, of its buffer and its log
@@ -63,6 +63,30 @@ room_to_deliver cap first span chips_before buffers_before logs_before chips buf
     log_read held was =
     let enough : cap ≤ free_at logs_before i = has i (omega (arith, are.log_count)) in
     rw (← log_read) (omega (arith, enough, was.lost.rest i (omega arith), free_read logs i log in_logs log_read, held))
+
+-- chips at which nobody stands are passed over
+pub delivered_past : (cap first span : ℕ) (chips_before : Chips) (buffers_before : List (List Message))
+    (logs_before : List Log) (chips : Chips) (buffers : List (List Message)) (logs : List Log) (i j : ℕ)
+    → ((c : ℕ) → c < j → chip_at chips_before c ≡ chip_after_delivery [] (chip_at chips_before c))
+    → i ≤ j → ((c : ℕ) → i ≤ c → c < j → list_at buffers c ≡ [])
+    → IsDelivered cap (part_of first (2 ^ span) chips_before buffers_before logs_before 0) logs_before chips buffers
+    logs i
+    → IsDelivered cap (part_of first (2 ^ span) chips_before buffers_before logs_before 0) logs_before chips buffers
+    logs j
+delivered_past cap first span chips_before buffers_before logs_before chips buffers logs i j same on none was =
+    let s : Part = part_of first (2 ^ span) chips_before buffers_before logs_before 0 in
+    let place : (c : ℕ) → first + c - first ≡ c = λ c. omega arith in
+    let empty : (c : ℕ) → i ≤ c → c < j → list_at buffers_before c ≡ [] =
+    λ c from below. sym (was.buffers_made.rest c from) ∙ none c from below in
+    record {
+      chips_made = made_past [] (λ k. delivered_chip s (s.first + k)) s.chips chips i j on
+          (λ c from below. rw (place c, empty c from below) (same c below)) was.chips_made;
+      buffers_made = made_past [] (λ k. delivered_buffer s (s.first + k)) s.buffers buffers i j on
+          (λ c from below. rw (place c, empty c from below) refl) was.buffers_made;
+      logs_made = made_past [] (λ k. delivered_log s (s.first + k)) s.logs (events_of logs) i j on
+          (λ c from below. rw (place c, empty c from below) (sym (append-nil (list_at s.logs c)))) was.logs_made;
+      lost = lost_past cap logs_before logs i j on was.lost;
+    }
 
 -- one more
 pub delivered_more : (cap first span : ℕ) (chips_before : Chips) (buffers_before : List (List Message))

@@ -30,6 +30,15 @@ made_more d f before now i x inside is was =
       rest = λ c h. let other : c ≢ i = omega arith in get_or-set_other now i c x d other ∙ was.rest c (omega arith);
     }
 
+-- some more, of which the function gives what they were
+pub made_past : {X : Type 0} (d : X) (f : ℕ → X) (before now : List X) (i j : ℕ) → i ≤ j
+    → ((c : ℕ) → i ≤ c → c < j → get_or before c d ≡ f c) → AreMade d f before now i → AreMade d f before now j
+made_past d f before now i j on same was = record {
+  long = was.long;
+  done = λ c h. ⊎_elim (λ (l : c < i). was.done c l) (λ (l : i ≤ c). was.rest c l ∙ same c l h) (cases_lt c i);
+  rest = λ c h. was.rest c (omega arith);
+}
+
 -- the next element is still the old one
 pub not_yet_made : {X : Type 0} (d : X) (f : ℕ → X) (before now : List X) (i : ℕ) (x : X) → i < length before
     → x ≡ get_or now i x → AreMade d f before now i → x ≡ get_or before i d
@@ -66,6 +75,13 @@ lost_begins most logs = record { done = λ c h. absurd (omega arith); rest = λ 
 pub free_read : (logs : List Log) (i : ℕ) (log : Log) → i < length logs → log ≡ get_or logs i log
     → free_at logs i ≡ free_places log
 free_read logs i log inside read = get_or-map free_places logs i log 0 inside ∙ ap free_places (sym read)
+
+pub lost_past : (most : ℕ) (before now : List Log) (i j : ℕ) → i ≤ j → HaveLost most before now i
+    → HaveLost most before now j
+lost_past most before now i j on was = record {
+  done = λ c h. ⊎_elim (λ (l : c < i). was.done c l) (λ (l : i ≤ c). omega (arith, was.rest c l)) (cases_lt c i);
+  rest = λ c h. was.rest c (omega arith);
+}
 
 pub lost_more : (most : ℕ) (before now : List Log) (i : ℕ) (log after : Log) → i < length now → log ≡ get_or now i log
     → free_places log ≤ free_places after + most → HaveLost most before now i

@@ -12,7 +12,7 @@ ghost use Rattle.cm_petit.specs.Routers.{machine_of, part_of, AreRouters, HasLog
 use cm_crossing::{Crossing, Sizes};
 use cm_element::Run;
 use cm_message::Event;
-use cm_router::is_idle;
+use cm_router::{is_idle, pass_over};
 
 /// One petit cycle: every router takes messages in, they cross each dimension, from the lowest on,
 /// and those that have arrived go to their processors (a dimension at a time: Hillis 1985; the order:
@@ -76,7 +76,7 @@ pub fn inject(
 }
 
 /// Messages of a run of chips that have arrived go to their processors. The run begins at chip `first` of the
-/// machine.
+/// machine. A chip at which none stands is passed over.
 pub fn deliver(
     sizes: Sizes,
     first: u16,
@@ -94,8 +94,11 @@ pub fn deliver(
     ensures routers { AreRouters sizes.span sizes.room run.new crossing.new.buffers logs.new }
     ensures log_room { LosesAtMost sizes.room logs.old logs.new }
 {
-    for c in 0..logs.len() {
+    pass_over(run);
+    let mut c = crossing.next_occupied(0);
+    while c < logs.len() {
         let chip = c as u16;
         crossing.deliver(sizes, run, chip, first + chip, &mut logs[c]);
+        c = crossing.next_occupied(c + 1);
     }
 }

@@ -1,14 +1,15 @@
 //! Delivery of one message, wherever it stands.
 
-ghost use Rattle.std.specs.Prelude.{◌≡◌, ◌<◌, ◌≤◌, ◌+◌, ◌&&◌, List, [], ◌∷◌, ◌++◌, IsFalse, length, slice_set};
+ghost use Rattle.std.specs.Prelude.{◌≡◌, ℕ, ◌<◌, ◌≤◌, ◌+◌, ◌&&◌, List, [], ◌∷◌, ◌++◌, IsFalse, length, slice_set};
 ghost use Rattle.std.specs.Prelude.{if◌then◌else◌, vec_len, vec_capacity};
 ghost use Rattle.cm_model.specs.declared.message.Message.{Message};
 ghost use Rattle.cm_model.specs.Processor.{Processor};
 ghost use Rattle.cm_model.specs.Array.{chip_at};
-ghost use Rattle.cm_model.specs.Letters.{has_arrived, can_receive};
+ghost use Rattle.cm_model.specs.Letters.{has_arrived, can_receive, chip_after_delivery};
 ghost use Rattle.cm_router.specs.Delivery.{HasGone, HasHandedOver};
 
 use crate::letters::{is_one, receive, received, tell_delivered};
+use cm_bits::FlagNo;
 use cm_element::Run;
 use cm_message::{Event, Message};
 
@@ -19,6 +20,14 @@ pub fn begin(run: &Run, chip: u16)
     ensures gone { HasGone (chip_at run.now chip) [] (chip_at run.now chip) }
 {
     let _ = received(run, chip);
+}
+
+/// Nothing is done: a chip to which nothing is delivered stays as it is.
+pub fn pass_over(run: &Run)
+    ensures same { (c : ℕ) → c < length run.now
+        → chip_at run.now c ≡ chip_after_delivery [] (chip_at run.now c) }
+{
+    let _ = run.flag_row(FlagNo::RECV);
 }
 
 /// Delivers a message of a chip's buffer, if it has arrived and its processor can receive: the payload stands

@@ -17,11 +17,11 @@ use Rattle.cm_model.proofs.Leaving.{map-without}
 use Rattle.cm_slots.specs.declared.ticket.Ticket.{Ticket}
 use Rattle.cm_slots.specs.declared.tile.Tile.{Tile}
 use Rattle.cm_slots.specs.Tickets.{ticket_of}
-use Rattle.cm_slots.specs.Tiles.{no_tile, tile_at, tickets_of, queues_in, standing_at, slots_of, IsTile, AreTiles}
+use Rattle.cm_slots.specs.Tiles.{no_tile, tile_at, tickets_of, queues_in, standing_at, slots_of, IsQuiet, IsTile, AreTiles}
 use Rattle.cm_slots.specs.Tiles.{HasChanged, IsChanged}
 use Rattle.cm_slots.proofs.Runs.{items-lent}
 use Rattle.cm_slots.specs.Slots.{is_taken}
-use Rattle.cm_slots.proofs.Standing.{standing_taken}
+use Rattle.cm_slots.proofs.Standing.{nobody, standing_taken}
 use Rattle.cm_slots.proofs.Changing.{changed_whole, changed_here, changed_others, ends_at}
 
 -- what is told of a tile's chip is told of the chip
@@ -173,3 +173,17 @@ within_view chips room tiles q view few =
     subst (λ (r : List (List Ticket)). All (λ ts. length ts ≤ room) r) view
     (λ k d h. let low : k < chips = omega (arith, length-each_from 0 chips (tickets_of tiles)) in
     omega (arith, ap length (get_or-each_below chips (tickets_of tiles) k d low), few k low))
+
+-- where the first slot is 0 nobody stands at the chip
+pub nobody_there : (chip : ℕ) (tiles : List Tile) → chip / 64 < length tiles → All IsTile tiles
+    → slots_of (tile_at tiles (chip / 64)) (chip % 64) 0 ≡ 0 → tickets_of tiles chip ≡ []
+nobody_there chip tiles inside whole blank =
+    let are = (whole (chip / 64) no_tile inside).queues (chip % 64) (omega arith) in
+    ap (map ticket_of) (nobody 15 (slots_of (tile_at tiles (chip / 64)) (chip % 64))
+    (standing_at (tile_at tiles (chip / 64)) (chip % 64)) are (λ some. blank))
+
+-- nor at any of a tile at which nobody stands
+pub nobody_in_tile : (chip : ℕ) (tiles : List Tile) → chip / 64 < length tiles → All IsTile tiles
+    → IsQuiet (tile_at tiles (chip / 64)) → tickets_of tiles chip ≡ []
+nobody_in_tile chip tiles inside whole quiet =
+    nobody_there chip tiles inside whole (quiet (chip % 64) 0 (omega arith) (omega arith))

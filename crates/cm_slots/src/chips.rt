@@ -68,6 +68,27 @@ pub(crate) fn remove(tiles: &mut [Tile], chip: usize, place: usize)
     tiles[chip / WIDTH].remove(chip % WIDTH, place);
 }
 
+/// The first chip from this one on at which a ticket stands, or one behind all of them. A tile at which no
+/// ticket may stand is passed over.
+pub(crate) fn next_occupied(tiles: &[Tile], from: usize) -> usize
+    requires whole { All IsTile tiles.now }
+    ensures none { (c : ℕ) → from ≤ c → c < result → c / 64 < length tiles.now → tickets_of tiles.now c ≡ [] }
+    ensures from { from ≤ result }
+{
+    let mut chip = from;
+    while chip / WIDTH < tiles.len() {
+        let tile = &tiles[chip / WIDTH];
+        if !tile.is_awake() {
+            chip = (chip / WIDTH + 1) * WIDTH;
+        } else if tile.slot(chip % WIDTH, 0) == 0 {
+            chip += 1;
+        } else {
+            return chip;
+        }
+    }
+    chip
+}
+
 /// True only where no chip has more tickets than this.
 pub(crate) fn are_within(tiles: &[Tile], room: usize) -> bool
     requires whole { All IsTile tiles.now }

@@ -1,6 +1,6 @@
 //! The queues of a run of chips.
 
-ghost use Rattle.std.specs.Prelude.{◌≡◌, ◌^◌, ◌<◌, ◌≤◌, ◌++◌, [], ◌∷◌, IfOk, IfSome, IsTrue, bit_xor, length};
+ghost use Rattle.std.specs.Prelude.{◌≡◌, ℕ, ◌^◌, ◌<◌, ◌≤◌, ◌++◌, [], ◌∷◌, IfOk, IfSome, IsTrue, bit_xor, length};
 ghost use Rattle.std.specs.Prelude.{map, remove, slice_set};
 ghost use Rattle.std.specs.List.{All, slice_get};
 ghost use Rattle.cm_model.specs.Each.{each_from};
@@ -126,6 +126,16 @@ impl Slots {
         ensures value { self.new ≡ slice_set self.old chip (remove (list_at self.old chip) place) }
     {
         chips::remove(&mut self.tiles, chip, place);
+    }
+
+    /// The first chip from this one on at which a ticket stands; as many as there are, if there is none.
+    pub fn next_occupied(&self, from: usize) -> usize
+        requires from { from ≤ length self.now }
+        ensures none { (c : ℕ) → from ≤ c → c < result → list_at self.now c ≡ [] }
+        ensures from { from ≤ result }
+        ensures most { result ≤ length self.now }
+    {
+        self.chips.min(chips::next_occupied(&self.tiles, from))
     }
 
     /// True only where no chip has more tickets than this; with 0, where none stands anywhere.

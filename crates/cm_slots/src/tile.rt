@@ -1,6 +1,7 @@
 //! Tiles of chips.
 
-ghost use Rattle.std.specs.Prelude.{◌≡◌, ◌≢◌, ℕ, ◌<◌, ◌≤◌, ◌++◌, [], ◌∷◌, IsTrue, true, length, remove, slice_index};
+ghost use Rattle.std.specs.Prelude.{◌≡◌, ◌≢◌, ℕ, ◌<◌, ◌≤◌, ◌++◌, [], ◌∷◌, IsFalse, IsTrue, true, length, remove};
+ghost use Rattle.std.specs.Prelude.{slice_index};
 ghost use Rattle.std.specs.Prelude.{slice_set};
 ghost use Rattle.cm_slots.specs.Slots.{is_taken};
 ghost use Rattle.cm_slots.specs.Tiles.{slots_of, standing_at, IsShaped, IsQuiet, IsTile, HasLeft};
@@ -87,6 +88,14 @@ impl Tile {
         ensures none { IsTrue result → IsQuiet self.now }
     {
         !self.awake || is_blank(&self.first)
+    }
+
+    /// Whether a ticket may stand there.
+    pub fn is_awake(&self) -> bool
+        requires whole { IsTile self.now }
+        ensures none { IsFalse result → IsQuiet self.now }
+    {
+        self.awake
     }
 
     /// True only where no chip has more tickets than this.

@@ -1,0 +1,427 @@
+//! Runs of chips that begin at any chip of a machine: they go through petit cycles as the whole does there.
+
+ghost use Rattle.std.specs.Prelude.{◌+◌, ◌^◌, ◌≤◌, IsTrue};
+ghost use Rattle.cm_model.specs.Keeping.{AreSizes};
+
+use cm_bits::{Addr, Field, FlagNo, Proc};
+use cm_crossing::{Crossing, Sizes};
+use cm_element::Run;
+use cm_message::{Event, Message, Tag};
+use cm_petit::{are_routers, cross, cycle, deliver, has_log_room, inject, leave, take_in};
+use std::alloc::Global;
+use std::test::Fail;
+
+// Room of a router, and where the drawing starts.
+const CASES: [(u8, u64); 4] = [(1, 21), (2, 22), (7, 23), (15, 24)];
+
+const CYCLES: u64 = 6;
+
+// Where the drawing starts, with room for fifteen messages, of which none is referred.
+const ALONE: [u64; 3] = [31, 32, 33];
+
+const LOG_ROOM: usize = 512;
+
+fn next(seed: u64) -> u64 {
+    let mixed = seed
+        .wrapping_mul(6364136223846793005)
+        .wrapping_add(1442695040888963407);
+    mixed ^ mixed >> 29
+}
+
+// A run of chips with its messages and logs, of which no contract tells anything.
+#[derive(Drop)]
+struct Band {
+    sizes: Sizes,
+    first: u16,
+    run: Run,
+    crossing: Crossing,
+    logs: Vec<Vec<Event>>,
+    clock: u64,
+}
+
+// Whether these are sizes of a machine, in which a run may begin at this chip.
+fn are_sizes(sizes: Sizes, first: u16) -> bool
+    ensures sizes { IsTrue result → AreSizes sizes.dims sizes.room }
+    ensures span { IsTrue result → sizes.span ≤ sizes.dims }
+    ensures band { IsTrue result → first + 2 ^ sizes.span ≤ 2 ^ sizes.dims }
+{
+    sizes.dims <= 12
+        && 1 <= sizes.room
+        && sizes.room <= 15
+        && sizes.span <= sizes.dims
+        && usize::from(first) + (1 << sizes.span) <= 1 << sizes.dims
+}
+
+// Puts a number into a field of one processor.
+fn put(run: &mut Run, chip: u16, proc: Proc, at: u16, len: u16, value: u64) {
+    if usize::from(chip) < run.chips()
+        && let Ok(field) = Field::new(at, len)
+    {
+        run.poke_field(chip, proc, field, value);
+    }
+}
+
+fn put_flag(run: &mut Run, chip: u16, proc: Proc, number: FlagNo, bit: bool) {
+    if usize::from(chip) < run.chips() {
+        let _ = run.poke_flag(chip, proc, number, bit);
+    }
+}
+
+// A drawn processor of a chip asks to send; another can receive again.
+fn ask(run: &mut Run, chip: u16, seed: u64, most: u64) {
+    let sender = Proc::new((seed & 15) as u8).unwrap();
+    let receiver = Proc::new((seed >> 4 & 15) as u8).unwrap();
+    put(run, chip, sender, 3968, 16, seed >> 8 & most);
+    put(run, chip, sender, 3984, 4, seed >> 24 & 15);
+    put(run, chip, sender, 3988, 32, seed >> 28);
+    put_flag(run, chip, sender, FlagNo::SEND, true);
+    put_flag(run, chip, receiver, FlagNo::RECV, false);
+}
+
+impl Band {
+    fn blank(alloc: Global, sizes: Sizes, first: u16) -> Result<Band, Fail> {
+        let chips: u16 = 1 << (sizes.span & 7);
+        let mut logs = Vec::new(alloc);
+        for _chip in 0..chips {
+            logs.push(Vec::with_capacity(alloc, LOG_ROOM)?)?;
+        }
+        Ok(Band {
+            sizes,
+            first,
+            run: Run::blank(alloc, chips)?,
+            crossing: Crossing::new(alloc, usize::from(chips))?,
+            logs,
+            clock: 0,
+        })
+    }
+
+    // A petit cycle of a whole machine.
+    fn cycle(&mut self) -> bool {
+        let sizes = self.sizes;
+        if !are_sizes(sizes, 0)
+            || sizes.span != sizes.dims
+            || self.clock >= 1 << 62
+            || !are_routers(sizes, &self.run, &self.crossing, &self.logs)
+            || !has_log_room(&self.logs, 4 + usize::from(sizes.room))
+        {
+            return false;
+        }
+        cycle(
+            sizes,
+            &mut self.run,
+            &mut self.crossing,
+            &mut self.logs,
+            &mut self.clock,
+        );
+        true
+    }
+
+    fn inject(&mut self) -> bool {
+        let sizes = self.sizes;
+        if !are_sizes(sizes, self.first)
+            || !are_routers(sizes, &self.run, &self.crossing, &self.logs)
+            || !has_log_room(&self.logs, 4)
+        {
+            return false;
+        }
+        inject(
+            sizes,
+            self.first,
+            &mut self.run,
+            &mut self.crossing,
+            &mut self.logs,
+            self.clock,
+        );
+        true
+    }
+
+    fn deliver(&mut self) -> bool {
+        let sizes = self.sizes;
+        if !are_sizes(sizes, self.first)
+            || !are_routers(sizes, &self.run, &self.crossing, &self.logs)
+            || !has_log_room(&self.logs, usize::from(sizes.room))
+        {
+            return false;
+        }
+        deliver(
+            sizes,
+            self.first,
+            &mut self.run,
+            &mut self.crossing,
+            &mut self.logs,
+        );
+        self.clock = self.clock.wrapping_add(1);
+        true
+    }
+
+    // The dimensions that the chips span.
+    fn cross_own(&mut self) -> bool {
+        for dim in 0..self.sizes.span {
+            if !cross_one(self.sizes, &mut self.crossing, dim) {
+                return false;
+            }
+        }
+        true
+    }
+}
+
+fn cross_one(sizes: Sizes, crossing: &mut Crossing, dim: u8) -> bool {
+    if !are_sizes(sizes, 0)
+        || dim >= sizes.span
+        || crossing.chips() != 1 << sizes.span
+        || !crossing.is_within(sizes.room)
+    {
+        return false;
+    }
+    cross(sizes, crossing, dim);
+    true
+}
+
+// A dimension in which each of two runs sends to the other.
+fn exchange(
+    sizes: Sizes,
+    low: &mut Crossing,
+    high: &mut Crossing,
+    up: &mut [Option<Message>],
+    down: &mut [Option<Message>],
+    dim: u8,
+) -> bool {
+    if !are_sizes(sizes, 0)
+        || dim >= sizes.dims
+        || up.len() != 1 << sizes.span
+        || down.len() != 1 << sizes.span
+        || low.chips() != 1 << sizes.span
+        || high.chips() != 1 << sizes.span
+        || !low.is_within(sizes.room)
+        || !high.is_within(sizes.room)
+    {
+        return false;
+    }
+    leave(sizes, low, dim, up);
+    leave(sizes, high, dim, down);
+    take_in(sizes, low, down);
+    take_in(sizes, high, up);
+    up.iter().all(|leaver| leaver.is_none()) && down.iter().all(|leaver| leaver.is_none())
+}
+
+fn has_same_planes(left: &Run, here: u16, right: &Run, there: u16) -> bool {
+    if usize::from(here) >= left.chips() || usize::from(there) >= right.chips() {
+        return false;
+    }
+    for at in 0u16..4096 {
+        let at = Addr::new(at).unwrap();
+        if left.plane(here, at) != right.plane(there, at) {
+            return false;
+        }
+    }
+    for number in 0u8..16 {
+        let number = FlagNo::new(number).unwrap();
+        if left.flag_plane(here, number) != right.flag_plane(there, number) {
+            return false;
+        }
+    }
+    true
+}
+
+fn has_same_messages(left: &mut Crossing, here: u16, right: &mut Crossing, there: u16) -> bool {
+    let here = usize::from(here);
+    let there = usize::from(there);
+    left.gather();
+    right.gather();
+    here < left.chips() && there < right.chips() && left.buffer(here) == right.buffer(there)
+}
+
+// Whether a run has at each chip what the whole machine has there.
+fn is_part(band: &mut Band, whole: &mut Band) -> bool {
+    for chip in 0..1 << (band.sizes.span & 7) {
+        let there = band.first.wrapping_add(chip);
+        if !has_same_planes(&band.run, chip, &whole.run, there)
+            || !has_same_messages(&mut band.crossing, chip, &mut whole.crossing, there)
+            || band.logs.get(usize::from(chip)) != whole.logs.get(usize::from(there))
+        {
+            return false;
+        }
+    }
+    band.clock == whole.clock
+}
+
+// Two runs of eight chips, which exchange in dimension 3, beside the machine of sixteen chips that they are.
+fn halves_go_alike(alloc: Global, case: (u8, u64)) -> Result<bool, Fail> {
+    let (room, seed) = case;
+    let all = Sizes {
+        dims: 4,
+        span: 4,
+        room,
+    };
+    let half = Sizes { span: 3, ..all };
+    let mut whole = Band::blank(alloc, all, 0)?;
+    let mut low = Band::blank(alloc, half, 0)?;
+    let mut high = Band::blank(alloc, half, 8)?;
+    let mut up = [None; 8];
+    let mut down = [None; 8];
+    let mut seed = seed;
+    let mut alike = true;
+    for _cycle in 0..CYCLES {
+        for chip in 0u16..16 {
+            for _sender in 0..seed >> 40 & 7 {
+                seed = next(seed);
+                ask(&mut whole.run, chip, seed, 15);
+                if chip < 8 {
+                    ask(&mut low.run, chip, seed, 15);
+                } else {
+                    ask(&mut high.run, chip - 8, seed, 15);
+                }
+            }
+            seed = next(seed);
+        }
+        alike = alike
+            && whole.cycle()
+            && low.inject()
+            && high.inject()
+            && low.cross_own()
+            && high.cross_own()
+            && exchange(
+                half,
+                &mut low.crossing,
+                &mut high.crossing,
+                &mut up,
+                &mut down,
+                3,
+            )
+            && low.deliver()
+            && high.deliver()
+            && is_part(&mut low, &mut whole)
+            && is_part(&mut high, &mut whole);
+    }
+    Ok(alike && !whole.crossing.is_empty())
+}
+
+// Chips 8 to 15 of sixteen, beside the whole machine, where nobody sends out of these chips or into them. With
+// room for fifteen no message is referred.
+fn upper_half_goes_alone(alloc: Global, seed: u64) -> Result<bool, Fail> {
+    let all = Sizes {
+        dims: 4,
+        span: 4,
+        room: 15,
+    };
+    let half = Sizes { span: 3, ..all };
+    let mut whole = Band::blank(alloc, all, 0)?;
+    let mut high = Band::blank(alloc, half, 8)?;
+    let mut seed = seed;
+    let mut alike = true;
+    for _cycle in 0..CYCLES {
+        for chip in 0u16..8 {
+            seed = next(seed);
+            if seed >> 44 & 3 == 0 {
+                ask(&mut whole.run, chip + 8, seed, 7);
+                ask(&mut high.run, chip, seed, 7);
+            }
+        }
+        alike = alike
+            && whole.cycle()
+            && high.inject()
+            && high.cross_own()
+            && high.deliver()
+            && is_part(&mut high, &mut whole);
+    }
+    Ok(alike)
+}
+
+// A message as a chip would have it whose number is so much less.
+fn moved(message: Message, first: u16) -> Message {
+    Message {
+        tag: Tag {
+            chip: message.tag.chip.wrapping_sub(first),
+            ..message.tag
+        },
+        ..message
+    }
+}
+
+fn moved_event(event: Event, first: u16) -> Event {
+    match event {
+        Event::Injected(message) => Event::Injected(moved(message, first)),
+        Event::Delivered { message, chip } => Event::Delivered {
+            message: moved(message, first),
+            chip: chip.wrapping_sub(first),
+        },
+    }
+}
+
+fn has_moved_messages(left: &mut Crossing, right: &mut Crossing, chip: u16, first: u16) -> bool {
+    let chip = usize::from(chip);
+    left.gather();
+    right.gather();
+    if chip >= left.chips() || chip >= right.chips() {
+        return false;
+    }
+    let here = left.buffer(chip);
+    let there = right.buffer(chip);
+    here.len() == there.len() && here.iter().zip(there).all(|(m, other)| moved(*m, first) == *other)
+}
+
+fn has_moved_events(left: &[Vec<Event>], right: &[Vec<Event>], chip: u16, first: u16) -> bool {
+    let chip = usize::from(chip);
+    let (Some(here), Some(there)) = (left.get(chip), right.get(chip)) else {
+        return false;
+    };
+    here.len() == there.len()
+        && here.iter().zip(there).all(|(event, other)| moved_event(*event, first) == *other)
+}
+
+// A run that begins at chip 5 has the planes of one that begins at chip 0, and other tags.
+fn begins_anywhere(alloc: Global, case: (u8, u64)) -> Result<bool, Fail> {
+    let (room, seed) = case;
+    let sizes = Sizes {
+        dims: 4,
+        span: 1,
+        room,
+    };
+    let mut here = Band::blank(alloc, sizes, 5)?;
+    let mut there = Band::blank(alloc, sizes, 0)?;
+    let mut seed = seed;
+    let mut alike = true;
+    for _cycle in 0..CYCLES {
+        for chip in 0u16..2 {
+            seed = next(seed);
+            ask(&mut here.run, chip, seed, 1);
+            ask(&mut there.run, chip, seed, 1);
+        }
+        alike = alike && here.inject() && there.inject();
+        for chip in 0u16..2 {
+            alike = alike && has_moved_messages(&mut here.crossing, &mut there.crossing, chip, 5);
+        }
+        alike = alike && here.deliver() && there.deliver();
+        for chip in 0u16..2 {
+            alike = alike
+                && has_same_planes(&here.run, chip, &there.run, chip)
+                && has_moved_events(&here.logs, &there.logs, chip, 5)
+                && here.logs.get(usize::from(chip)) != there.logs.get(usize::from(chip));
+        }
+    }
+    Ok(alike)
+}
+
+#[test]
+fn two_halves_go_as_the_whole_does(rt: HostRuntime) -> Result<(), Fail> {
+    for case in CASES {
+        assert!(&rt; halves_go_alike(rt.alloc(), case)?, "{case:?}");
+    }
+    Ok(())
+}
+
+#[test]
+fn chips_8_to_15_go_alone_as_the_whole_does_there(rt: HostRuntime) -> Result<(), Fail> {
+    for seed in ALONE {
+        assert!(&rt; upper_half_goes_alone(rt.alloc(), seed)?, "{seed}");
+    }
+    Ok(())
+}
+
+#[test]
+fn a_run_that_begins_at_5_has_other_tags(rt: HostRuntime) -> Result<(), Fail> {
+    for case in CASES {
+        assert!(&rt; begins_anywhere(rt.alloc(), case)?, "{case:?}");
+    }
+    Ok(())
+}

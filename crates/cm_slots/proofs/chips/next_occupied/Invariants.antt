@@ -1,0 +1,12 @@
+use Rattle.std.proofs.Common.{◌≡◌, ◌+◌, ◌-◌, ◌*◌, ◌/◌, ◌<◌, ◌≤◌, ℕ, [], length}
+use Rattle.cm_slots.specs.Tiles.{tickets_of}
+use Rattle.cm_slots.proofs.chips.next_occupied.Given as goal
+
+abbrev pub invariant-loop-chip : goal.invariant-loop-chip
+invariant-loop-chip l = record {
+  from : l.from ≤ l.chip;
+  none : (c : ℕ) → l.from ≤ c → c < l.chip → c / 64 < length l.tiles → tickets_of l.tiles c ≡ [];
+}
+
+abbrev pub decreases-loop-chip : goal.decreases-loop-chip
+decreases-loop-chip l = 64 * length l.tiles - l.chip
