@@ -26,7 +26,7 @@ pub same_place : (row : List Message) (cap d : ℕ) (ts : List Ticket)
 unfolding leaving_place place_of_leaver
 same_place row cap d ts = rw (length-map ts (message_of row), first_place row d ts) refl
 
-without-standing : (row : List Message) (ts : List Ticket) (o : Option ℕ)
+pub without-standing : (row : List Message) (ts : List Ticket) (o : Option ℕ)
     → without (standing row ts) o ≡ standing row (without ts o)
 without-standing row ts None = refl
 without-standing row ts (Some i) =
@@ -77,13 +77,13 @@ exchanged-standing row cap d here there =
 
 -- ---- each ticket still stands for a message
 
-without_kept : (count : ℕ) (ts : List Ticket) (o : Option ℕ) → AreKept count ts → AreKept count (without ts o)
+pub without_kept : (count : ℕ) (ts : List Ticket) (o : Option ℕ) → AreKept count ts → AreKept count (without ts o)
 without_kept count ts None h = h
 without_kept count ts (Some i) h =
     let P : Ticket → Type 0 = λ t. t.number < count in
     All-append P (take i ts) (drop (suc i) ts) (All-take P i ts h) (All-drop P (suc i) ts h)
 
-going_kept : (count d : ℕ) (ts : List Ticket) (o : Option ℕ) → AreKept count ts
+pub going_kept : (count d : ℕ) (ts : List Ticket) (o : Option ℕ) → AreKept count ts
     → AreKept count (option_to_list (option_map (ticket_across d) (element_at ts o)))
 going_kept count d ts None h = All-nil (λ (t : Ticket). t.number < count)
 going_kept count d [] (Some i) h = All-nil (λ (t : Ticket). t.number < count)

@@ -3,3 +3,5 @@ pub mod Keeping
 pub mod Wholes
 pub mod Changing
 pub mod Giving
+pub mod Departing
+pub mod TakingIn

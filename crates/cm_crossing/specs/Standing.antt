@@ -1,5 +1,5 @@
 -- Which messages stand at the chips, where tickets cross in their place. Ours.
-use Rattle.std.specs.Prelude.{◌≡◌, ℕ, ◌+◌, ◌*◌, ◌<◌, ◌≤◌, Bool, IsTrue, List, [], length, map, Vec}
+use Rattle.std.specs.Prelude.{◌≡◌, ℕ, ◌+◌, ◌*◌, ◌<◌, ◌≤◌, Bool, IsTrue, List, [], length, map, Vec, Option, IfSome}
 use Rattle.std.specs.Prelude.{slice_index_or, slice_set, vec_len, vec_capacity}
 use Rattle.std.specs.List.{All, slice_range}
 use Rattle.std.specs.declared.alloc.Global.{Global}
@@ -57,6 +57,10 @@ all_standing row queues = map (standing row) queues
 abbrev pub AreKept : ℕ → List Ticket → Type 0
 AreKept count ts = All (λ t. t.number < count) ts
 
+-- so does this one, if there is one
+abbrev pub IsKept : ℕ → Option Ticket → Type 0
+IsKept count o = IfSome o (λ t. t.number < count)
+
 -- what is read where no ticket stands
 abbrev pub no_ticket : Ticket
 no_ticket = record { rel = 0; number = 0 }
@@ -75,14 +79,15 @@ abbrev pub IsWritten : ℕ → List (List Ticket) → List (List Ticket) → Typ
 IsWritten here old new = new ≡ slice_set old here (list_at new here)
 
 -- at most 4,096 chips, and 15 places of the row for each, and four more, in two rows in turn;
--- each ticket stands for a message
-pub record IsCrossing (row spare : Vec Message Global) (places : ℕ) (queues : List (List Ticket)) (gathered : Bool)
-    : Type 0 where
+-- each ticket stands for a message; and a row of leavers
+pub record IsCrossing (row spare : Vec Message Global) (places : ℕ) (queues : List (List Ticket))
+    (leavers : Vec (Option Ticket) Global) (gathered : Bool) : Type 0 where
   pub few : length queues ≤ 4096
   pub enough : 15 * length queues + 4 ≤ places
   pub most : places ≤ 65535
   pub capacity : places ≤ vec_capacity row
   pub spare_capacity : places ≤ vec_capacity spare
   pub filled : vec_len row ≤ places
+  pub rows : length leavers.items ≡ length queues
   pub kept : All (AreKept (length row.items)) queues
   pub together : IsTrue gathered → All (AreTogether row.items) queues

@@ -1,23 +1,24 @@
 //! The messages of a run of chips.
 
-ghost use Rattle.std.specs.Prelude.{◌≡◌, ◌+◌, ◌^◌, ◌<◌, ◌≤◌, ◌++◌, [], ◌∷◌, IfOk, IsTrue, length, map};
-ghost use Rattle.std.specs.Prelude.{slice_set, bit_xor, vec_len, vec_capacity};
+ghost use Rattle.std.specs.Prelude.{◌≡◌, ◌+◌, ◌^◌, ◌<◌, ◌≤◌, ◌++◌, [], ◌∷◌, IfOk, IsTrue, length, map, None};
+ghost use Rattle.std.specs.Prelude.{slice_set, slice_index_or, bit_xor, vec_len, vec_capacity};
 ghost use Rattle.std.specs.List.{All};
+ghost use Rattle.std.specs.Option.{option_to_list};
 ghost use Rattle.cm_model.specs.declared.message.Event.TheVariants as event;
 ghost use Rattle.cm_model.specs.Letters.{chip_after_injection, chip_after_delivery};
 ghost use Rattle.cm_model.specs.Each.{each_from};
 ghost use Rattle.cm_model.specs.Array.{each_chip, chip_at, list_at};
 ghost use Rattle.cm_model.specs.Keeping.{AreSizes};
-ghost use Rattle.cm_model.specs.Buffers.{outgoing, buffer_after_dimension};
+ghost use Rattle.cm_model.specs.Buffers.{leaving_place, without, outgoing, buffer_after_dimension};
 ghost use Rattle.cm_crossing.specs.Standing.{taken_with, sent_with, delivered_of, kept_of};
 
-use crate::row::{give_out, lay_out, read_out, stand};
+use crate::row::{give_out, lay_out, read_off, read_out, stand};
 use crate::sizes::Sizes;
 use cm_bits::NoMemory;
 use cm_element::Run;
 use cm_message::{Event, Message};
 use cm_router::{Node, chip_asks, take_none};
-use cm_slots::Slots;
+use cm_slots::{Slots, Ticket};
 use std::alloc::Global;
 use std::marker::Model;
 use std::mem;
@@ -42,6 +43,8 @@ pub struct Crossing {
     places: usize,
     /// By chip, the tickets of the messages that stand there.
     slots: Slots,
+    /// Between the halves of a dimension that leads out of these chips, who leaves each; else anything.
+    leavers: Vec<Option<Ticket>>,
     /// Whether nothing has moved since all were gathered.
     gathered: bool,
 }
@@ -59,7 +62,7 @@ impl Model for Crossing {
     } };
 
     ghost invariant = { λ crossing. IsCrossing crossing.row crossing.spare crossing.places crossing.slots
-        crossing.gathered };
+        crossing.leavers crossing.gathered };
 }
 
 impl Crossing {
@@ -74,11 +77,13 @@ impl Crossing {
         let row = Vec::with_capacity(alloc, places)?;
         let spare = Vec::with_capacity(alloc, places)?;
         let slots = Slots::new(alloc, chips)?;
+        let leavers = no_leavers(alloc, chips)?;
         Ok(Crossing {
             row,
             spare,
             places,
             slots,
+            leavers,
             gathered: true,
         })
     }
@@ -91,11 +96,13 @@ impl Crossing {
         row.extend_from_slice(&self.row)?;
         let spare = Vec::with_capacity(alloc, self.places)?;
         let slots = self.slots.copy(alloc)?;
+        let leavers = no_leavers(alloc, self.slots.chips())?;
         Ok(Crossing {
             row,
             spare,
             places: self.places,
             slots,
+            leavers,
             gathered: self.gathered,
         })
     }
@@ -208,6 +215,13 @@ impl Crossing {
         self.slots.is_within(0)
     }
 
+    /// True only where at no chip stand more messages than this.
+    pub fn is_within(&self, room: u8) -> bool
+        ensures within { IsTrue result → All (λ ms. length ms ≤ room) self.now.buffers }
+    {
+        self.slots.is_within(usize::from(room))
+    }
+
     /// At one chip, takes in messages of the processors that ask to send, by number, at most four and
     /// at most as many as there is room for. The log tells of each. The chip stands at place `chip` here and in
     /// the run; `here` is its number in the machine.
@@ -261,6 +275,42 @@ impl Crossing {
         self.gathered = false;
     }
 
+    /// The first half of a dimension by itself: what leaves each chip is taken out, and written down as it
+    /// arrives across.
+    pub fn leave(&mut self, sizes: Sizes, dim: u8, leavers: &mut [Option<Message>])
+        requires sizes { AreSizes sizes.dims sizes.room }
+        requires dim { dim < sizes.dims }
+        requires count { length leavers.old ≡ length self.old.buffers }
+        requires within { All (λ ms. length ms ≤ sizes.room) self.old.buffers }
+        ensures value { self.new.buffers
+            ≡ map (λ ms. without ms (leaving_place sizes.room dim ms)) self.old.buffers }
+        ensures going { leavers.new ≡ map (λ ms. outgoing sizes.room dim ms) self.old.buffers }
+        ensures space { All (λ ms. length ms < sizes.room) self.new.buffers }
+    {
+        self.slots.leave(sizes.room, dim, &mut self.leavers);
+        read_off(&self.row, &self.leavers, leavers);
+        self.gathered = false;
+    }
+
+    /// The second half by itself: each chip takes in what was written down for it, behind all that stand
+    /// there. Nothing is written down then.
+    pub fn take_in(&mut self, sizes: Sizes, leavers: &mut [Option<Message>])
+        requires sizes { AreSizes sizes.dims sizes.room }
+        requires count { length leavers.old ≡ length self.old.buffers }
+        requires space { All (λ ms. length ms < sizes.room) self.old.buffers }
+        ensures value { self.new.buffers ≡ each_from 0 (length self.old.buffers)
+            (λ c. list_at self.old.buffers c ++ option_to_list (slice_index_or leavers.old c None)) }
+        ensures blank { All (λ leaver. leaver ≡ None) leavers.new }
+        ensures within { All (λ ms. length ms ≤ sizes.room) self.new.buffers }
+    {
+        for chip in 0..leavers.len() {
+            if let Some(message) = leavers[chip] {
+                self.arrive(chip, message);
+                leavers[chip] = None;
+            }
+        }
+    }
+
     /// At one chip, delivers what has arrived: each message from the front whose processor can receive,
     /// at most one to each. The log tells of each. Place and number of the chip are as for `inject`.
     pub fn deliver(
@@ -289,4 +339,15 @@ impl Crossing {
         give_out(&self.row, &mut self.slots, run, chip, here, log);
         self.gathered = false;
     }
+}
+
+/// Room for who leaves so many chips.
+fn no_leavers(alloc: Global, chips: usize) -> Result<Vec<Option<Ticket>>, NoMemory>
+    ensures count { IfOk result (λ leavers. length leavers.items ≡ chips) }
+{
+    let mut leavers = Vec::with_capacity(alloc, chips)?;
+    for _chip in 0..chips {
+        leavers.push_reserved(None);
+    }
+    Ok(leavers)
 }

@@ -3,11 +3,12 @@
 ghost use Rattle.std.specs.Prelude.{◌≡◌, ◌+◌, ◌*◌, ◌<◌, ◌≤◌, ◌++◌, ◌∷◌, [], length, map, slice_set, vec_len};
 ghost use Rattle.std.specs.Prelude.{vec_capacity};
 ghost use Rattle.std.specs.List.{All};
+ghost use Rattle.std.specs.Option.{option_map};
 ghost use Rattle.cm_model.specs.declared.message.Event.TheVariants as event;
 ghost use Rattle.cm_model.specs.Letters.{chip_after_delivery};
 ghost use Rattle.cm_model.specs.Array.{chip_at, list_at};
 ghost use Rattle.cm_crossing.specs.Standing.{message_of, standing, all_standing, AreKept, AreTogether};
-ghost use Rattle.cm_crossing.specs.Standing.{delivered_of, kept_of, IsWritten};
+ghost use Rattle.cm_crossing.specs.Standing.{delivered_of, kept_of, IsKept, IsWritten};
 
 use cm_element::Run;
 use cm_message::{Event, Message};
@@ -113,6 +114,20 @@ fn keep(row: &mut Vec<Message>, message: &Message) -> u16
     let number = row.len() as u16;
     row.push(*message).unwrap();
     number
+}
+
+/// Writes down the messages of the tickets that leave.
+pub(crate) fn read_off(row: &[Message], tickets: &[Option<Ticket>], leavers: &mut [Option<Message>])
+    requires count { length leavers.old ≡ length tickets.now }
+    requires kept { All (IsKept (length row.now)) tickets.now }
+    ensures value { leavers.new ≡ map (λ t. option_map (message_of row.now) t) tickets.now }
+{
+    for c in 0..tickets.len() {
+        leavers[c] = match tickets[c] {
+            Some(ticket) => Some(message_of(row, ticket)),
+            None => None,
+        };
+    }
 }
 
 /// Delivers to one chip, if a message stands there.

@@ -1,5 +1,7 @@
 -- Lists that a function of the number makes: their length, what is read of them, when two are one.
-use Rattle.std.proofs.Common.{◌≡◌, ℕ, ◌+◌, ◌<◌, List, length, get_or, refl, sym, ◌∙◌, arith, ext_get_or}
+use Rattle.std.proofs.Common.{◌≡◌, ℕ, ◌+◌, ◌<◌, List, length, get_or, map, refl, sym, ◌∙◌, arith, ext_get_or}
+use Rattle.std.specs.List.{range_with_len}
+use Rattle.std.proofs.lemmas.Simd.{map-map}
 use Rattle.std.proofs.lemmas.List.FromFn.{length-map-range_with_len, get_or-map-range_with_len}
 use Rattle.cm_model.specs.Each.{each_from}
 
@@ -45,3 +47,9 @@ is_each d count f xs long reads =
     ext_get_or d xs (each_from 0 count f) (long ∙ sym (length-each_from 0 count f))
     (λ i h. let below : i < count = omega (arith, long) in
     reads i below ∙ sym (get_or-each_below count f i d below))
+
+-- what is made of each of them is made by the two functions one after the other
+pub map-each_from : {X Y : Type 0} (h : X → Y) (first count : ℕ) (f : ℕ → X)
+    → map h (each_from first count f) ≡ each_from first count (λ k. h (f k))
+unfolding each_from
+map-each_from h first count f = map-map h f (range_with_len first count)

@@ -3,3 +3,4 @@ pub mod Injecting
 pub mod Delivering
 pub mod Dimensions
 pub mod Quiet
+pub mod Bands

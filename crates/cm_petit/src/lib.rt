@@ -1,6 +1,10 @@
 //! One petit cycle of the router, on all chips of a cube at once.
 #![tactic(auto)]
 
+mod halves;
 mod phases;
+mod ready;
 
+pub use halves::{cross, leave, take_in};
 pub use phases::{cycle, deliver, inject};
+pub use ready::{are_routers, has_log_room};

@@ -35,18 +35,6 @@ module _ (chips room dims d : ℕ) (old : List Tile) (leaving : List (Option (Li
     pub across_inside : (t : ℕ) → t < length old → tile_across d t < length old
     across_inside t h = rw tiles_are (across_in dims d t below (rw tiles_are at h))
 
-    ticket_list : (c : ℕ) → c < chips → tickets_of old c ≡ list_at q c
-    ticket_list c h =
-        sym (get_or-each_below chips (tickets_of old) c [] h) ∙ ap (λ (r : List (List Ticket)). list_at r c) view
-
-    pub within_room : All (λ ts. length ts ≤ room) q → (c : ℕ) → c / 64 < length old → length (tickets_of old c) ≤ room
-    within_room within c h =
-        ⊎_elim
-        (λ (l : c < chips). let inside : c < length q = omega (arith, l, chips_are, count) in
-        omega (arith, ap length (ticket_list c l), within c [] inside))
-        (λ (l : chips ≤ c). omega (arith, ap length (are.past c l h)))
-        (cases_lt c chips)
-
     module _ (new : List Tile) (long : length new ≡ length old) (some : 0 < room) (whole : All IsTile new)
         (each : (c : ℕ) → c / 64 < length old
         → tickets_of new c ≡ exchanged room d (tickets_of old c) (tickets_of old (bit_xor c (2 ^ d)))) where

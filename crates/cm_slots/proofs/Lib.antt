@@ -5,6 +5,7 @@ pub mod Leaving
 pub mod Numbers
 pub mod Tiles
 pub mod Runs
+pub mod Departures
 pub mod Cubes
 pub mod Empty
 pub mod Changing

@@ -17,7 +17,7 @@ use Rattle.cm_model.specs.Buffers.{element_at, without}
 use Rattle.cm_model.proofs.Leaving.{map-without, element_at-map}
 use Rattle.cm_slots.specs.declared.ticket.Ticket.{Ticket}
 use Rattle.cm_slots.specs.Queues.{place_of_leaver, leaver_of, stayers_of}
-use Rattle.cm_slots.specs.Tickets.{ticket_of, has_to_go, ticket_across, ticket_going, exchanged}
+use Rattle.cm_slots.specs.Tickets.{ticket_of, ticket_in, has_to_go, ticket_across, ticket_going, exchanged}
 use Rattle.cm_slots.specs.Slots.{is_taken, crosses, slot_across, comers, AreSlots}
 use Rattle.cm_slots.proofs.Standing.{taken_some}
 
@@ -122,11 +122,30 @@ same_place : (d room : ℕ) (xs : List ℕ)
 unfolding place_of_leaver
 same_place d room xs = rw (length-map xs ticket_of, first_to_go d xs) refl
 
-stayers-tickets : (d room : ℕ) (xs : List ℕ)
+pub stayers-tickets : (d room : ℕ) (xs : List ℕ)
     → map ticket_of (stayers_of (crosses d) room xs) ≡ stayers_of (has_to_go d) room (map ticket_of xs)
 stayers-tickets d room xs =
     map-without ticket_of xs (place_of_leaver (crosses d) room xs)
     ∙ ap (without (map ticket_of xs)) (sym (same_place d room xs))
+
+-- the ticket of a number that leaves, as it arrives across
+ticket_across-number : (d : ℕ) (o : Option ℕ) → ((x : ℕ) → o ≡ Some x → is_taken x ≡ true)
+    → ticket_in (slot_across d (unwrap_or o 0)) ≡ option_map (ticket_across d) (option_map ticket_of o)
+ticket_across-number d None taken = refl
+ticket_across-number d (Some x) taken =
+    let some : flip d x ≢ 0 = taken_some (flip d x) (flip_taken d x (taken x refl)) in
+    let lit : (flip d x == 0) ≡ false = ne_eqb (flip d x) 0 some in
+    ap ticket_in (slot_across-some d x (taken_some x (taken x refl)))
+    ∙ rw lit (ap Some (sym (ticket_across_is d x)))
+
+-- who leaves slots, as a ticket
+pub leaver_ticket : (d count room : ℕ) (slots : ℕ → ℕ) (xs : List ℕ) → AreSlots count slots xs
+    → ticket_in (slot_across d (unwrap_or (leaver_of (crosses d) room xs) 0)) ≡ ticket_going room d (map ticket_of xs)
+leaver_ticket d count room slots xs are =
+    let place : Option ℕ = place_of_leaver (crosses d) room xs in
+    ticket_across-number d (element_at xs place) (leaver_taken count slots xs place are)
+    ∙ ap (option_map (ticket_across d))
+    (sym (element_at-map ticket_of xs place) ∙ ap (element_at (map ticket_of xs)) (sym (same_place d room xs)))
 
 going-numbers : (d : ℕ) (o : Option ℕ)
     → map ticket_of (option_to_list (option_map (flip d) o)) ≡ option_to_list (option_map (ticket_across d)

@@ -1,16 +1,16 @@
 -- All tiles of a run after each of the two passes, and after both.
 use Rattle.std.proofs.Common.{◌≡◌, ◌≢◌, ℕ, ◌+◌, ◌-◌, ◌*◌, ◌/◌, ◌%◌, ◌^◌, ◌<◌, ◌≤◌, ◌++◌, true, List, [], length, map}
 use Rattle.std.proofs.Common.{set}
-use Rattle.std.proofs.Common.{Option, None}
+use Rattle.std.proofs.Common.{Option, Some, None, false, refl}
 use Rattle.std.proofs.Common.{sym, ◌∙◌, ap, subst, ⊎_elim, arith}
 use Rattle.std.specs.Prelude.{bit_xor, IfSome}
 use Rattle.std.specs.Int.Bits.{xor_zero_r}
 use Rattle.std.specs.List.{All}
 use Rattle.std.specs.Global.{Vec}
 use Rattle.std.specs.Vec.{with_items}
-use Rattle.std.specs.Option.{option_map, option_to_list, unwrap_or}
+use Rattle.std.specs.Option.{is_some, option_map, option_to_list, unwrap_or}
 use Rattle.std.proofs.lemmas.Bool.{cases_eq, cases_lt}
-use Rattle.std.proofs.lemmas.List.{length-append, length-map, length-set, get_or-set_same, get_or-set_other}
+use Rattle.std.proofs.lemmas.List.{append-nil, length-append, length-map, length-set, get_or-set_same, get_or-set_other}
 use Rattle.std.proofs.lemmas.List.{with_items_is}
 use Rattle.std.proofs.lemmas.List.Elements.{All-from_get_or}
 use Rattle.std.proofs.lemmas.Nat.{pow-add, pow_below, pow_pos, shl-shr, xor_lt, xor_shr, xor_mod}
@@ -19,12 +19,13 @@ use Rattle.cm_model.proofs.Each.{get_or-each_below, same_each_below}
 use Rattle.cm_model.proofs.Flips.{across_below}
 use Rattle.cm_slots.specs.declared.tile.Tile.{Tile}
 use Rattle.cm_slots.specs.Queues.{leaver_of, stayers_of}
-use Rattle.cm_slots.specs.Tickets.{ticket_of, exchanged}
+use Rattle.cm_slots.specs.Tickets.{ticket_of, ticket_in, has_to_go, ticket_going, exchanged}
 use Rattle.cm_slots.specs.Slots.{is_taken, crosses, slot_across, comers, leaver_at, AreSlots}
 use Rattle.cm_slots.specs.Tiles.{no_tile, tile_at, leavers_at, tile_across, place_across, arriving, slots_of}
 use Rattle.cm_slots.specs.Tiles.{standing_at}
-use Rattle.cm_slots.specs.Tiles.{tickets_of, queues_in, IsShaped, IsQuiet, IsTile, HasLeft, HasTakenIn}
-use Rattle.cm_slots.proofs.Numbers.{flip, leaver_comes, leaver_is_taken, comers-few, exchanged-tickets}
+use Rattle.cm_slots.specs.Tiles.{number_leaving, ticket_leaving, tickets_of, queues_in, IsShaped, IsQuiet, IsTile, HasLeft, HasTakenIn}
+use Rattle.cm_slots.proofs.Numbers.{flip, leaver_comes, leaver_is_taken, leaver_ticket, comers-few, stayers-tickets}
+use Rattle.cm_slots.proofs.Numbers.{exchanged-tickets}
 use Rattle.cm_slots.proofs.Standing.{standing_is}
 use Rattle.cm_slots.proofs.Tiles.{IsWithin, stays_quiet}
 
@@ -66,16 +67,16 @@ one_more_left room d old now leaving count tile leavers inside step was =
       ahead = λ t h. get_or-set_other now count t tile no_tile (omega arith) ∙ was.ahead t (omega arith);
     }
 
--- who comes has been taken in at the first so many tiles
-pub record AreTakenIn (room d : ℕ) (leaving : List (Option (List ℕ))) (old now : List Tile) (count : ℕ) : Type 0 where
+-- who comes, by tile and place, has been taken in at the first so many tiles
+pub record AreTakenIn (room : ℕ) (coming : ℕ → ℕ → ℕ) (old now : List Tile) (count : ℕ) : Type 0 where
   pub long : length now ≡ length old
-  pub done : (t : ℕ) → t < count → HasTakenIn room (arriving d leaving t) (tile_at old t) (tile_at now t)
+  pub done : (t : ℕ) → t < count → HasTakenIn room (coming t) (tile_at old t) (tile_at now t)
   pub ahead : (t : ℕ) → count ≤ t → tile_at now t ≡ tile_at old t
 
-pub one_more_taken_in : (room d : ℕ) (leaving : List (Option (List ℕ))) (old now : List Tile) (count : ℕ) (tile : Tile)
-    → count < length old → HasTakenIn room (arriving d leaving count) (tile_at now count) tile
-    → AreTakenIn room d leaving old now count → AreTakenIn room d leaving old (set now count tile) (count + 1)
-one_more_taken_in room d leaving old now count tile inside step was =
+pub one_more_taken_in : (room : ℕ) (coming : ℕ → ℕ → ℕ) (old now : List Tile) (count : ℕ) (tile : Tile)
+    → count < length old → HasTakenIn room (coming count) (tile_at now count) tile
+    → AreTakenIn room coming old now count → AreTakenIn room coming old (set now count tile) (count + 1)
+one_more_taken_in room coming old now count tile inside step was =
     let here : tile_at (set now count tile) count ≡ tile =
     get_or-set_same now count tile no_tile (omega (arith, was.long)) in
     record {
@@ -87,16 +88,23 @@ one_more_taken_in room d leaving old now count tile inside step was =
       ahead = λ t h. get_or-set_other now count t tile no_tile (omega arith) ∙ was.ahead t (omega arith);
     }
 
+-- a tile of which no row of leavers is there
+pub nobody_left : (leaving : List (Option (List ℕ))) (t : ℕ) → is_some (leavers_at leaving t) ≡ false
+    → leavers_at leaving t ≡ None
+nobody_left leaving t none = of (leavers_at leaving t) none where
+  of : (o : Option (List ℕ)) → is_some o ≡ false → o ≡ None
+  of None h = refl
+  of (Some row) h = let wrong : true ≡ false = h in absurd cc
+
 -- where nobody stood and nobody comes, that is done already
-pub one_more_quiet : (room d : ℕ) (leaving : List (Option (List ℕ))) (old now : List Tile) (count : ℕ)
+pub one_more_quiet : (room : ℕ) (coming : ℕ → ℕ → ℕ) (old now : List Tile) (count : ℕ)
     → count < length old → All IsShaped old
     → IsQuiet (tile_at old count)
-    → leavers_at leaving (tile_across d count) ≡ None
-    → AreTakenIn room d leaving old now count → AreTakenIn room d leaving old now (count + 1)
-one_more_quiet room d leaving old now count inside shape zeros none was =
-    let stays : HasTakenIn room (arriving d leaving count) (tile_at old count) (tile_at old count) =
-    stays_quiet room (arriving d leaving count) (tile_at old count) (shape count no_tile inside) zeros
-    (λ i h. ap (λ (leavers : Option (List ℕ)). leaver_at leavers (place_across d i)) none) in
+    → ((i : ℕ) → i < 64 → coming count i ≡ 0)
+    → AreTakenIn room coming old now count → AreTakenIn room coming old now (count + 1)
+one_more_quiet room coming old now count inside shape zeros none was =
+    let stays : HasTakenIn room (coming count) (tile_at old count) (tile_at old count) =
+    stays_quiet room (coming count) (tile_at old count) (shape count no_tile inside) zeros none in
     record {
       long = was.long;
       done = λ t h. ⊎_elim
@@ -158,35 +166,23 @@ tiles_within room tiles within t h i l =
 module _ (room d count : ℕ) (old left : List Tile) (leaving : List (Option (List ℕ)))
     (long : length old ≡ count) (long_left : length left ≡ count) (rows : length leaving ≡ count)
     (whole : All IsTile old)
-    (gone : (t : ℕ) → t < count → HasLeft room d (tile_at old t) (tile_at left t) (leavers_at leaving t))
-    (across : (t : ℕ) → t < count → tile_across d t < count) where
+    (gone : (t : ℕ) → t < count → HasLeft room d (tile_at old t) (tile_at left t) (leavers_at leaving t)) where
   pub left_shaped : All IsShaped left
   left_shaped = All-from_get_or IsShaped left no_tile (λ t h. (gone t (omega (arith, long_left))).shape)
 
   pub leaving_long : All IsLong leaving
   leaving_long = All-from_get_or IsLong leaving None (λ t h. (gone t (omega (arith, rows))).long)
 
-  arriving_is : (t i : ℕ) → t < count → i < 64 → arriving d leaving t i ≡ slot_across d
-      (unwrap_or (leaver_of (crosses d) room (standing_at (tile_at old (tile_across d t)) (place_across d i))) 0)
-  arriving_is t i h l = (gone (tile_across d t) (across t h)).going (place_across d i) (place_in d i l)
-
   slots_are : (t i : ℕ) → t < count → i < 64
       → AreSlots 15 (slots_of (tile_at old t) i) (standing_at (tile_at old t) i)
   slots_are t i h l = (whole t no_tile (omega (arith, long))).queues i l
 
-  pub arriving_taken : (t i : ℕ) → t < count → i < 64 → arriving d leaving t i ≢ 0
-      → is_taken (arriving d leaving t i) ≡ true
-  arriving_taken t i h l =
-      subst (λ (x : ℕ). x ≢ 0 → is_taken x ≡ true) (sym (arriving_is t i h l))
-      (leaver_is_taken d 15 room (slots_of (tile_at old (tile_across d t)) (place_across d i))
-      (standing_at (tile_at old (tile_across d t)) (place_across d i))
-      (slots_are (tile_across d t) (place_across d i) (across t h) (place_in d i l)))
-
-  module _ (new : List Tile) (long_new : length new ≡ count)
-      (come : (t : ℕ) → t < count → HasTakenIn room (arriving d leaving t) (tile_at left t) (tile_at new t)) where
+  -- who comes, by tile and place, is taken in behind who stays
+  module _ (coming : ℕ → ℕ → ℕ) (new : List Tile) (long_new : length new ≡ count)
+      (come : (t : ℕ) → t < count → HasTakenIn room (coming t) (tile_at left t) (tile_at new t)) where
     -- what stands at a chip then
     after : ℕ → ℕ → List ℕ
-    after t i = stayers_of (crosses d) room (standing_at (tile_at old t) i) ++ comers (arriving d leaving t i)
+    after t i = stayers_of (crosses d) room (standing_at (tile_at old t) i) ++ comers (coming t i)
 
     slots_after : (t i : ℕ) → t < count → i < 64 → AreSlots 15 (slots_of (tile_at new t) i) (after t i)
     unfolding after
@@ -213,9 +209,9 @@ module _ (room d count : ℕ) (old left : List Tile) (leaving : List (Option (Li
         let stayers : List ℕ = stayers_of (crosses d) room (standing_at (tile_at old t) i) in
         omega (
           arith,
-          length-append stayers (comers (arriving d leaving t i)),
+          length-append stayers (comers (coming t i)),
           (gone t h).few i l,
-          comers-few (arriving d leaving t i),
+          comers-few (coming t i),
         )
 
     pub within_after : (c : ℕ) → c / 64 < count → length (tickets_of new c) ≤ room
@@ -228,29 +224,95 @@ module _ (room d count : ℕ) (old left : List Tile) (leaving : List (Option (Li
           few_after (c / 64) (c % 64) h (omega arith),
         )
 
-    tickets_after : (t i : ℕ) → t < count → i < 64
-        → map ticket_of (standing_at (tile_at new t) i)
-        ≡ exchanged room d (map ticket_of (standing_at (tile_at old t) i))
-        (map ticket_of (standing_at (tile_at old (tile_across d t)) (place_across d i)))
+  -- nobody comes: the others close up
+  module _ (new : List Tile) (long_new : length new ≡ count)
+      (come : (t : ℕ) → t < count → HasTakenIn room (λ i. 0) (tile_at left t) (tile_at new t)) where
+    closed_at : (t i : ℕ) → t < count → i < 64
+        → standing_at (tile_at new t) i ≡ stayers_of (crosses d) room (standing_at (tile_at old t) i)
     unfolding after
-    tickets_after t i h l =
-        let xs : List ℕ = standing_at (tile_at old t) i in
-        let ys : List ℕ = standing_at (tile_at old (tile_across d t)) (place_across d i) in
-        let comes : comers (arriving d leaving t i) ≡ option_to_list (option_map (flip d) (leaver_of (crosses d) room
-        ys)) =
-        ap comers (arriving_is t i h l)
-        ∙ leaver_comes d 15 room (slots_of (tile_at old (tile_across d t)) (place_across d i)) ys
-        (slots_are (tile_across d t) (place_across d i) (across t h) (place_in d i l)) in
-        ap (map ticket_of) (standing_after t i h l
-        ∙ ap (λ (zs : List ℕ). stayers_of (crosses d) room xs ++ zs) comes)
-        ∙ exchanged-tickets d room xs ys
+    closed_at t i h l = standing_after (λ s j. 0) new long_new come t i h l
+        ∙ append-nil (stayers_of (crosses d) room (standing_at (tile_at old t) i))
 
-    pub chip_after : (c : ℕ) → c / 64 < count
-        → tickets_of new c ≡ exchanged room d (tickets_of old c) (tickets_of old (bit_xor c (2 ^ d)))
-    chip_after c h =
-        let tile : bit_xor c (2 ^ d) / 64 ≡ tile_across d (c / 64) = xor_shr c (2 ^ d) 6 in
-        let place : bit_xor c (2 ^ d) % 64 ≡ place_across d (c % 64) = xor_mod c (2 ^ d) 6 in
-        rw (tile, place) (tickets_after (c / 64) (c % 64) h (omega arith))
+    pub closed_up : (c : ℕ) → c / 64 < count
+        → tickets_of new c ≡ stayers_of (has_to_go d) room (tickets_of old c)
+    closed_up c h =
+        ap (map ticket_of) (closed_at (c / 64) (c % 64) h (omega arith))
+        ∙ stayers-tickets d room (standing_at (tile_at old (c / 64)) (c % 64))
+
+    pub space_after : (c : ℕ) → c / 64 < count → length (tickets_of new c) < room
+    space_after c h =
+        omega (
+          arith,
+          length-map (standing_at (tile_at new (c / 64)) (c % 64)) ticket_of,
+          ap length (closed_at (c / 64) (c % 64) h (omega arith)),
+          (gone (c / 64) h).few (c % 64) (omega arith),
+        )
+
+  -- who leaves a chip
+  module _ (c : ℕ) (h : c / 64 < count) where
+    xs : List ℕ
+    xs = standing_at (tile_at old (c / 64)) (c % 64)
+
+    place_low : c % 64 < 64
+    place_low = omega arith
+
+    leaves_as : number_leaving leaving c ≡ slot_across d (unwrap_or (leaver_of (crosses d) room xs) 0)
+    unfolding xs
+    leaves_as = (gone (c / 64) h).going (c % 64) place_low
+
+    pub leaving_ticket : ticket_leaving leaving c ≡ ticket_going room d (tickets_of old c)
+    unfolding xs
+    leaving_ticket =
+        ap ticket_in leaves_as
+        ∙ leaver_ticket d 15 room (slots_of (tile_at old (c / 64)) (c % 64)) xs (slots_are (c / 64) (c % 64) h place_low)
+
+    pub leaving_taken : number_leaving leaving c ≢ 0 → is_taken (number_leaving leaving c) ≡ true
+    unfolding xs
+    leaving_taken =
+        subst (λ (x : ℕ). x ≢ 0 → is_taken x ≡ true) (sym leaves_as)
+        (leaver_is_taken d 15 room (slots_of (tile_at old (c / 64)) (c % 64)) xs
+        (slots_are (c / 64) (c % 64) h place_low))
+
+  -- what leaves goes across, and the tile across is one of these
+  module _ (across : (t : ℕ) → t < count → tile_across d t < count) where
+    arriving_is : (t i : ℕ) → t < count → i < 64 → arriving d leaving t i ≡ slot_across d
+        (unwrap_or (leaver_of (crosses d) room (standing_at (tile_at old (tile_across d t)) (place_across d i))) 0)
+    arriving_is t i h l = (gone (tile_across d t) (across t h)).going (place_across d i) (place_in d i l)
+
+    pub arriving_taken : (t i : ℕ) → t < count → i < 64 → arriving d leaving t i ≢ 0
+        → is_taken (arriving d leaving t i) ≡ true
+    arriving_taken t i h l =
+        subst (λ (x : ℕ). x ≢ 0 → is_taken x ≡ true) (sym (arriving_is t i h l))
+        (leaver_is_taken d 15 room (slots_of (tile_at old (tile_across d t)) (place_across d i))
+        (standing_at (tile_at old (tile_across d t)) (place_across d i))
+        (slots_are (tile_across d t) (place_across d i) (across t h) (place_in d i l)))
+
+    -- who comes stands across
+    module _ (new : List Tile) (long_new : length new ≡ count)
+        (come : (t : ℕ) → t < count → HasTakenIn room (arriving d leaving t) (tile_at left t) (tile_at new t)) where
+      tickets_after : (t i : ℕ) → t < count → i < 64
+          → map ticket_of (standing_at (tile_at new t) i)
+          ≡ exchanged room d (map ticket_of (standing_at (tile_at old t) i))
+          (map ticket_of (standing_at (tile_at old (tile_across d t)) (place_across d i)))
+      unfolding after
+      tickets_after t i h l =
+          let xs : List ℕ = standing_at (tile_at old t) i in
+          let ys : List ℕ = standing_at (tile_at old (tile_across d t)) (place_across d i) in
+          let comes : comers (arriving d leaving t i) ≡ option_to_list (option_map (flip d) (leaver_of (crosses d) room
+          ys)) =
+          ap comers (arriving_is t i h l)
+          ∙ leaver_comes d 15 room (slots_of (tile_at old (tile_across d t)) (place_across d i)) ys
+          (slots_are (tile_across d t) (place_across d i) (across t h) (place_in d i l)) in
+          ap (map ticket_of) (standing_after (arriving d leaving) new long_new come t i h l
+          ∙ ap (λ (zs : List ℕ). stayers_of (crosses d) room xs ++ zs) comes)
+          ∙ exchanged-tickets d room xs ys
+
+      pub chip_after : (c : ℕ) → c / 64 < count
+          → tickets_of new c ≡ exchanged room d (tickets_of old c) (tickets_of old (bit_xor c (2 ^ d)))
+      chip_after c h =
+          let tile : bit_xor c (2 ^ d) / 64 ≡ tile_across d (c / 64) = xor_shr c (2 ^ d) 6 in
+          let place : bit_xor c (2 ^ d) % 64 ≡ place_across d (c % 64) = xor_mod c (2 ^ d) 6 in
+          rw (tile, place) (tickets_after (c / 64) (c % 64) h (omega arith))
 
 -- the queues of all chips
 pub crossed : (dims room d : ℕ) (old new : List Tile) → d < dims

@@ -1,5 +1,6 @@
 -- Tickets, the numbers that stand for them, and how they cross a dimension. Ours.
-use Rattle.std.specs.Prelude.{ℕ, ◌+◌, ◌-◌, ◌*◌, ◌/◌, ◌%◌, ◌^◌, Bool, List, Option, bit_xor}
+use Rattle.std.specs.Prelude.{ℕ, ◌+◌, ◌-◌, ◌*◌, ◌/◌, ◌%◌, ◌^◌, ◌==◌, Bool, List, Option, Some, None, bit_xor}
+use Rattle.std.specs.Prelude.{if◌then◌else◌}
 use Rattle.std.specs.Option.{option_map}
 use Rattle.cm_bits.specs.Bit.{bit}
 use Rattle.cm_slots.specs.declared.ticket.Ticket.{Ticket}
@@ -34,3 +35,7 @@ slot_of t = t.rel * 65536 + (t.number + 1)
 -- the ticket that a number stands for
 abbrev pub ticket_of : ℕ → Ticket
 ticket_of slot = record { rel = slot / 65536; number = slot % 65536 - 1 }
+
+-- the ticket that stands at a slot, if one does
+abbrev pub ticket_in : ℕ → Option Ticket
+ticket_in slot = if slot == 0 then None else Some (ticket_of slot)

@@ -8,7 +8,7 @@ use Rattle.cm_model.specs.Each.{each_from}
 use Rattle.cm_slots.specs.declared.ticket.Ticket.{Ticket}
 use Rattle.cm_slots.specs.declared.tile.Tile.{Tile}
 use Rattle.cm_slots.specs.Queues.{leaver_of, stayers_of}
-use Rattle.cm_slots.specs.Tickets.{ticket_of}
+use Rattle.cm_slots.specs.Tickets.{ticket_of, ticket_in}
 use Rattle.cm_slots.specs.Slots.{crosses, slot_across, comers, leaver_at, slot_in, slot_behind, standing_in, AreSlots}
 
 -- the slots of the chip at place i
@@ -94,6 +94,13 @@ place_across d i = bit_xor i (2 ^ d % 64)
 -- what arrives across dimension d at place i of tile t, where these leave each tile
 abbrev pub arriving : ℕ → List (Option (List ℕ)) → ℕ → ℕ → ℕ
 arriving d leaving t i = leaver_at (leavers_at leaving (tile_across d t)) (place_across d i)
+
+-- who leaves a chip, by its number, 0 where nobody does; and as a ticket
+abbrev pub number_leaving : List (Option (List ℕ)) → ℕ → ℕ
+number_leaving leaving c = leaver_at (leavers_at leaving (c / 64)) (c % 64)
+
+abbrev pub ticket_leaving : List (Option (List ℕ)) → ℕ → Option Ticket
+ticket_leaving leaving c = ticket_in (number_leaving leaving c)
 
 -- the tickets of a chip
 abbrev pub tickets_of : List Tile → ℕ → List Ticket

@@ -3,6 +3,7 @@
 
 mod across;
 mod chips;
+mod departing;
 pub mod laws;
 mod passes;
 mod rows;

@@ -31,7 +31,7 @@ pub(crate) fn cross(tiles: &mut [Tile], leaving: &mut [Option<Row>], room: usize
 }
 
 /// Takes out of each tile who leaves in a dimension.
-fn leave(tiles: &mut [Tile], leaving: &mut [Option<Row>], room: usize, dim: u8)
+pub(crate) fn leave(tiles: &mut [Tile], leaving: &mut [Option<Row>], room: usize, dim: u8)
     requires dimension { dim < 12 }
     requires some { 0 < room }
     requires most { room ≤ 15 }

@@ -1,14 +1,16 @@
 //! The queues of a run of chips.
 
 ghost use Rattle.std.specs.Prelude.{◌≡◌, ◌^◌, ◌<◌, ◌≤◌, ◌++◌, [], ◌∷◌, IfOk, IfSome, IsTrue, bit_xor, length};
-ghost use Rattle.std.specs.Prelude.{remove, slice_set};
+ghost use Rattle.std.specs.Prelude.{map, remove, slice_set};
 ghost use Rattle.std.specs.List.{All, slice_get};
 ghost use Rattle.cm_model.specs.Each.{each_from};
 ghost use Rattle.cm_model.specs.Array.{each_chip, list_at};
 ghost use Rattle.cm_slots.specs.Tiles.{AreEmpty};
-ghost use Rattle.cm_slots.specs.Tickets.{exchanged};
+ghost use Rattle.cm_slots.specs.Queues.{stayers_of};
+ghost use Rattle.cm_slots.specs.Tickets.{has_to_go, ticket_going, exchanged};
 
 use crate::chips;
+use crate::departing::{take_out, write_down};
 use crate::passes::cross;
 use crate::rows::{Row, WIDTH};
 use crate::ticket::Ticket;
@@ -154,6 +156,22 @@ impl Slots {
         ensures within { All (λ ts. length ts ≤ room) self.new }
     {
         cross(&mut self.tiles, &mut self.leaving, usize::from(room), dim);
+    }
+
+    /// The first half of a dimension by itself: who leaves each chip is taken out, and written down as it
+    /// arrives across.
+    pub fn leave(&mut self, room: u8, dim: u8, leavers: &mut [Option<Ticket>])
+        requires dim { dim < 12 }
+        requires some { 0 < room }
+        requires most { room ≤ 15 }
+        requires count { length leavers.old ≡ length self.old }
+        requires within { All (λ ts. length ts ≤ room) self.old }
+        ensures value { self.new ≡ map (λ ts. stayers_of (has_to_go dim) room ts) self.old }
+        ensures going { leavers.new ≡ map (λ ts. ticket_going room dim ts) self.old }
+        ensures space { All (λ ts. length ts < room) self.new }
+    {
+        take_out(&mut self.tiles, &mut self.leaving, usize::from(room), dim);
+        write_down(&self.leaving, leavers);
     }
 }
 

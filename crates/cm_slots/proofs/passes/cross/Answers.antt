@@ -23,9 +23,9 @@ take_in-requires c =
       rows = rows ∙ sym long_left;
       across = λ t h. rw long_left (across t (omega (arith, long_left)));
       shape = left_shaped c.args.room c.args.dim count old left leaving refl long_left rows
-          c.requires.whole c.leave.ensures.value across;
+          c.requires.whole c.leave.ensures.value;
       long = leaving_long c.args.room c.args.dim count old left leaving refl long_left rows
-          c.requires.whole c.leave.ensures.value across;
+          c.requires.whole c.leave.ensures.value;
       quiet = λ t h. (c.leave.ensures.value t (omega (arith, long_left))).quiet;
       taken = λ t i h. arriving_taken c.args.room c.args.dim count old left leaving refl long_left rows
           c.requires.whole c.leave.ensures.value across t i (omega (arith, long_left));
@@ -48,7 +48,7 @@ returns c =
       value = chip_after c.args.room c.args.dim count old left leaving refl long_left rows
           c.requires.whole c.leave.ensures.value c.requires.across new long_new come;
       whole = whole_after c.args.room c.args.dim count old left leaving refl long_left rows
-          c.requires.whole c.leave.ensures.value c.requires.across new long_new come;
+          c.requires.whole c.leave.ensures.value (arriving c.args.dim leaving) new long_new come;
       within = within_after c.args.room c.args.dim count old left leaving refl long_left rows
-          c.requires.whole c.leave.ensures.value c.requires.across new long_new come;
+          c.requires.whole c.leave.ensures.value (arriving c.args.dim leaving) new long_new come;
     }

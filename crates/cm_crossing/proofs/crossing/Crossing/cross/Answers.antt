@@ -41,6 +41,7 @@ invariant_of-self c =
       spare_capacity = c.self.invariant.spare_capacity;
       together = λ gathered. let wrong : false ≡ true = gathered in absurd cc;
       filled = c.self.invariant.filled;
+      rows = c.self.invariant.rows ∙ sym same;
       kept = subst (λ (queues : List (List Ticket)). All (AreKept (length inside.row.items)) queues)
           (sym c.cross.ensures.value)
           (crossed_kept c.args.sizes.span c.args.sizes.room c.args.dim (length inside.row.items) old c.requires.dim long

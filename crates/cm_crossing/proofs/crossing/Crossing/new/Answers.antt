@@ -21,6 +21,7 @@ invariant_of-result c =
       together = λ gathered. subst (λ (queues : List (List Ticket)). All (AreTogether c.in_ok-row.row.items) queues)
           (sym same) (none_together c.args.chips c.in_ok-row.row.items);
       filled = omega (arith, c.in_ok-row.ensures.len);
+      rows = c.in_ok-leavers.ensures.count ∙ sym long;
       kept = subst (λ (queues : List (List Ticket)). All (AreKept (length c.in_ok-row.row.items)) queues)
           (sym same) (none_kept c.args.chips (length c.in_ok-row.row.items));
     }

@@ -4,7 +4,8 @@ use Rattle.std.specs.Vec.{with_items}
 use Rattle.cm_slots.specs.declared.tile.Tile.{Tile}
 use Rattle.cm_slots.specs.Tiles.{queues_in, AreTiles}
 use Rattle.cm_slots.proofs.Runs.{items-lent}
-use Rattle.cm_slots.proofs.Cubes.{across_inside, within_room, tiles_after, queues_after}
+use Rattle.cm_slots.proofs.Cubes.{across_inside, tiles_after, queues_after}
+use Rattle.cm_slots.proofs.Departures.{within_everywhere}
 use Rattle.cm_slots.proofs.Single.{within_view}
 use Rattle.cm_slots.proofs.slots.Slots.cross.Goals as goal
 use Rattle.cm_slots.proofs.slots.Slots.cross.Goals.{After-cross, After-deref_mut-2}
@@ -17,9 +18,8 @@ cross-requires-clause-across c =
 
 pub cross-requires-clause-within : goal.cross-requires-clause-within
 cross-requires-clause-within c =
-    rw (c.from.ensures, c.deref_mut.ensures.value) (within_room c.self.inside.chips c.args.room c.args.span
-    c.args.dim c.self.inside.tiles.items
-    c.self.inside.leaving.items c.args.self.now c.self.invariant c.self.view_is c.requires.count c.requires.dim
+    rw (c.from.ensures, c.deref_mut.ensures.value) (within_everywhere c.self.inside.chips c.args.room
+    c.self.inside.tiles.items c.self.inside.leaving.items c.args.self.now c.self.invariant c.self.view_is
     c.requires.within)
 
 pub invariant_of-self : goal.invariant_of-self
