@@ -8,3 +8,6 @@ mod Accounts
 mod Building
 mod Tagging
 mod Poking
+mod Laying
+mod Cutting
+mod Putting

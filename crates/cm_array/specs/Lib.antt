@@ -1,4 +1,5 @@
 pub mod Parts
+pub mod Cuts
 pub mod Faults
 pub mod Acts
 pub mod Pokes

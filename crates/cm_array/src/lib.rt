@@ -4,14 +4,18 @@
 mod builder;
 mod finding;
 mod machine;
+mod part;
 mod parts;
 mod poke_laws;
+mod put;
 mod runner;
 mod stepping;
 mod tags;
 
 pub use builder::{BuildFault, Builder};
 pub use machine::{Machine, MachineFault};
+pub use part::Part;
 pub use poke_laws::{flag_pokes_keep_machines, pokes_keep_machines};
+pub use put::IntoPart;
 pub use runner::{Plain, RunFault, Runner};
 pub use stepping::step;

@@ -1,7 +1,7 @@
 //! A machine of 2^N chips.
 
 ghost use Rattle.std.specs.Prelude.{◌≡◌, ◌+◌, ◌*◌, ◌^◌, ◌<◌, ◌≤◌, ◌↔◌, ℕ, IfOk, IfSome, IsErr, IsErrOf, IsOk};
-ghost use Rattle.std.specs.Prelude.{IsOkUnless, OnOk, OnErr, None, length, slice_index};
+ghost use Rattle.std.specs.Prelude.{IsOkUnless, IsTrue, OnOk, OnErr, None, length, map, slice_index};
 ghost use Rattle.cm_model.specs.Processor.{ZERO, memory_bit};
 ghost use Rattle.cm_model.specs.Chip.{IsPlane, processor_at};
 ghost use Rattle.cm_model.specs.Array.{chip_at, wire, list_at};
@@ -9,13 +9,17 @@ ghost use Rattle.cm_model.specs.Machine.{blank_machine, run_of};
 ghost use Rattle.cm_model.specs.Found.{found_in, IsWhereabouts};
 ghost use Rattle.cm_model.specs.Keeping.{IsMachine, AreSizes};
 ghost use Rattle.cm_element.specs.Laid.{AreLaid};
+ghost use Rattle.cm_blocks.specs.Parts.{part};
 ghost use Rattle.cm_array.specs.Acts.{cycles_in};
+ghost use Rattle.cm_array.specs.Cuts.{joined, AreWhole, HaveLogRoom};
 ghost use Rattle.cm_array.specs.Faults.{size_fault};
 ghost use Rattle.cm_array.specs.Parts.{kept_of, AreParts, LacksLogRoom};
 ghost use Rattle.cm_array.specs.Pokes.{machine_with_memory_bit, machine_with_flag};
 
 use crate::finding::{delivered_to, router_of};
+use crate::part::Part;
 use crate::parts::{Parts, blank_logs, blank_planes, copied_logs, reserve, run};
+use crate::put::{IntoPart, put};
 use cm_bits::{Addr, FlagNo, NoMemory, Plane, Proc};
 use cm_crossing::{Crossing, Sizes};
 use cm_element::{ChipView, Run, ZeroFlag};
@@ -153,6 +157,36 @@ impl<const N: usize, const CAP: usize> Machine<N, CAP> {
         })
     }
 
+    /// A part of it: so many of its chips, from `first` on, each with room in its log for so many petit cycles.
+    pub fn part(
+        &self,
+        alloc: Global,
+        first: u16,
+        count: u16,
+        cycles: usize,
+    ) -> Result<Part, NoMemory>
+        requires there { first + count ≤ 2 ^ N }
+        ensures value { IfOk result (λ kept. kept.part ≡ part first count self.now.machine) }
+        ensures dims { IfOk result (λ kept. kept.dims ≡ N) }
+        ensures room { IfOk result (λ kept. kept.room ≡ CAP) }
+        ensures log_room { IfOk result (λ kept. HaveLogRoom (cycles * (4 + CAP)) kept.log_rooms) }
+        ensures gathered { IfOk result (λ kept. IsTrue kept.gathered) }
+    {
+        let parts = &self.parts;
+        let Some(more) = cycles.checked_mul(MOST_INJECTED + CAP) else {
+            return Err(NoMemory);
+        };
+        Part::cut(alloc, Self::sizes(), parts, first, count, more)
+    }
+
+    /// Becomes the machine that these are in their order. No memory is taken.
+    pub fn put<P: IntoPart + Drop>(&mut self, pieces: Vec<P>)
+        requires whole { AreWhole N CAP (map (λ piece. (P.held piece).part) pieces.items) }
+        ensures value { self.new.machine ≡ joined (map (λ piece. (P.held piece).part) pieces.items) }
+    {
+        put(&mut self.parts, pieces);
+    }
+
     /// The chip of that number, to be read.
     pub fn chip(&self, number: u16) -> ChipView<'_>
         requires number { number < 2 ^ N }
@@ -197,6 +231,15 @@ impl<const N: usize, const CAP: usize> Machine<N, CAP> {
         ensures whole { IsMachine N CAP self.now.machine }
     {
         &self.parts.logs[usize::from(chip)]
+    }
+
+    /// The dimensions of its cube.
+    pub fn dims(&self) -> u8
+        ensures value { result ≡ N }
+        ensures sizes { AreSizes N CAP }
+    {
+        let _kept = &self.parts;
+        N as u8
     }
 
     /// Petit cycles so far.

@@ -175,6 +175,16 @@ impl Crossing {
         }
     }
 
+    /// Takes out all messages.
+    pub fn clear(&mut self)
+        ensures value { self.new.buffers ≡ each_from 0 (length self.old.buffers) (λ c. []) }
+        ensures gathered { IsTrue self.new.gathered }
+    {
+        self.row.clear();
+        self.slots.clear();
+        self.gathered = true;
+    }
+
     /// A message comes to stand last at a chip.
     pub fn arrive(&mut self, chip: usize, message: Message)
         requires chip { chip < length self.old.buffers }

@@ -1,16 +1,17 @@
 -- Tiles at which no ticket stands.
 use Rattle.std.proofs.Common.{◌≡◌, ◌≢◌, ℕ, zero, suc, ◌+◌, ◌/◌, ◌%◌, ◌<◌, ◌≤◌, ◌++◌, List, [], ◌∷◌}
-use Rattle.std.proofs.Common.{false, length, get_or, map, replicate, refl, sym, ◌∙◌, ap, subst, ⊎_elim, arith}
+use Rattle.std.proofs.Common.{false, length, get_or, map, replicate, refl, sym, ◌∙◌, ap, subst, ⊎_elim, arith, Option}
 use Rattle.std.specs.List.{All}
 use Rattle.std.proofs.lemmas.Bool.{cases_eq, cases_lt}
 use Rattle.std.proofs.lemmas.List.{length-append, get_or-replicate, get_or_past, get_or_append_left, get_or_push}
 use Rattle.std.proofs.lemmas.List.Elements.{All-append, All-cons, All-nil, All-from_get_or}
 use Rattle.cm_model.specs.Each.{each_from}
-use Rattle.cm_model.proofs.Each.{same_each_below}
+use Rattle.cm_model.proofs.Each.{same_each_below, length-each_from}
+use Rattle.cm_slots.specs.declared.ticket.Ticket.{Ticket}
 use Rattle.cm_slots.specs.declared.tile.Tile.{Tile}
 use Rattle.cm_slots.specs.Tickets.{ticket_of}
 use Rattle.cm_slots.specs.Slots.{slot_behind, AreSlots}
-use Rattle.cm_slots.specs.Tiles.{slots_of, no_tile, tile_at, tickets_of, queues_in, IsShaped, IsTile, AreEmpty}
+use Rattle.cm_slots.specs.Tiles.{slots_of, no_tile, tile_at, tickets_of, queues_in, IsShaped, IsTile, AreEmpty, AreTiles}
 use Rattle.cm_slots.proofs.Standing.{zeros, get_or-zeros, standing_is}
 
 -- the rows of a new tile
@@ -87,3 +88,22 @@ pub empty_queues : (chips : ℕ) (tiles : List Tile) → AreEmpty ((chips + 63) 
 empty_queues chips tiles empty =
     same_each_below [] chips (tickets_of tiles) (λ c. [])
     (λ c h. empty_tickets ((chips + 63) / 64) c tiles (omega arith) empty)
+
+-- ---- in the place of others
+
+-- so many empty tiles as there were
+pub tiles_emptied : (chips : ℕ) (old new : List Tile) (leaving : List (Option (List ℕ))) → AreTiles chips old leaving
+    → AreEmpty (length old) new → AreTiles chips new leaving
+tiles_emptied chips old new leaving were empty = record {
+  few = were.few;
+  count = empty.long ∙ were.count;
+  rows = were.rows ∙ sym empty.long;
+  whole = empty_whole (length old) new empty;
+  past = λ c h l. empty_tickets (length old) c new (omega (arith, l, empty.long)) empty;
+}
+
+pub queues_emptied : (chips : ℕ) (old new : List Tile) (leaving : List (Option (List ℕ))) → AreTiles chips old leaving
+    → AreEmpty (length old) new → queues_in chips new ≡ each_from 0 (length (queues_in chips old)) (λ c. [])
+queues_emptied chips old new leaving were empty =
+    empty_queues chips new (subst (λ (k : ℕ). AreEmpty k new) were.count empty)
+    ∙ ap (λ (k : ℕ). each_from {X = List Ticket} 0 k (λ c. [])) (sym (length-each_from 0 chips (tickets_of old)))

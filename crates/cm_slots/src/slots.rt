@@ -138,6 +138,13 @@ impl Slots {
         self.chips.min(chips::next_occupied(&self.tiles, from))
     }
 
+    /// Takes out all tickets.
+    pub fn clear(&mut self)
+        ensures value { self.new ≡ each_from 0 (length self.old) (λ c. []) }
+    {
+        empty_all(&mut self.tiles);
+    }
+
     /// True only where no chip has more tickets than this; with 0, where none stands anywhere.
     pub fn is_within(&self, room: usize) -> bool
         ensures within { IsTrue result → All (λ ts. length ts ≤ room) self.now }
@@ -187,6 +194,15 @@ fn empty_tiles(alloc: Global, count: usize) -> Result<Vec<Tile>, NoMemory>
         tiles.push_reserved(Tile::new());
     }
     Ok(tiles)
+}
+
+/// Puts an empty tile in the place of each.
+fn empty_all(tiles: &mut [Tile])
+    ensures value { AreEmpty (length tiles.old) tiles.new }
+{
+    for tile in tiles.iter_mut() {
+        *tile = Tile::new();
+    }
 }
 
 fn copied_tiles(alloc: Global, tiles: &[Tile]) -> Result<Vec<Tile>, NoMemory>

@@ -1,0 +1,93 @@
+-- Parts that are cut out of a machine.
+use Rattle.std.proofs.Common.{◌≡◌, ℕ, ◌+◌, ◌-◌, ◌^◌, ◌<◌, ◌≤◌, List, [], length, get_or, take, drop, map, sym, ap, ◌∙◌, arith}
+use Rattle.std.proofs.lemmas.List.{length-map, take-map, drop-map}
+use Rattle.std.proofs.lemmas.List.Elements.{All-from_get_or}
+use Rattle.std.specs.List.{All, slice_range}
+use Rattle.cm_model.specs.declared.message.Message.{Message}
+use Rattle.cm_model.specs.declared.message.Event.{Event}
+use Rattle.cm_blocks.specs.Parts.{cut, part}
+use Rattle.cm_blocks.proofs.Cutting.{length-cut, read-cut_at}
+use Rattle.cm_petit.specs.Routers.{Log, events_of, part_of, HasLogRoom, free_places}
+use Rattle.cm_array.specs.declared.parts.Parts.{Parts}
+use Rattle.cm_array.specs.Parts.{machine_of, log_rooms_of, AreParts}
+use Rattle.cm_array.specs.Cuts.{IsKeptPart, HaveLogRoom}
+use Rattle.cm_array.proofs.Machines.{few_chips}
+
+-- no chip of a machine has more messages than any router has room for, and no machine has more chips than this
+pub within_fifteen : (n cap : ℕ) (parts : Parts) → AreParts n cap parts → All (λ ms. length ms ≤ 15) parts.crossing.buffers
+within_fifteen n cap parts h =
+    All-from_get_or (λ (ms : List Message). length ms ≤ 15) parts.crossing.buffers []
+    (λ c l. omega (arith, h.machine.room c (omega (arith, h.machine.buffer_count, l)), h.most_room))
+
+pub few_buffers : (n cap : ℕ) (parts : Parts) → AreParts n cap parts → length parts.crossing.buffers ≤ 4096
+few_buffers n cap parts h = omega (arith, h.machine.buffer_count, few_chips n h.dimension)
+
+-- the events of some of the logs
+pub events_of-cut : (first count : ℕ) (logs : List Log)
+    → events_of (slice_range logs first (first + count)) ≡ cut first count (events_of logs)
+unfolding cut
+events_of-cut first count logs =
+    let read : Log → List Event = λ log. log.items in
+    ap (λ (k : ℕ). map read (take k (drop first logs))) (let e : first + count - first ≡ count = omega arith in e)
+    ∙ sym (ap (take count) (drop-map read first logs) ∙ take-map read count (drop first logs))
+
+-- what is kept of some chips is a cut of what is kept of all
+pub record AreCut (first count : ℕ) (old new : Parts) : Type 0 where
+  pub run : new.run ≡ cut first count old.run
+  pub buffers : new.crossing.buffers ≡ cut first count old.crossing.buffers
+  pub logs : events_of new.logs.items ≡ cut first count (events_of old.logs.items)
+  pub sent : length new.sent.items ≡ count
+  pub incoming : length new.incoming.items ≡ count
+  pub clock : new.clock ≡ old.clock
+
+module _ (n cap first count : ℕ) (old new : Parts) (were : AreParts n cap old) (there : first + count ≤ 2 ^ n)
+    (are : AreCut first count old new) where
+  length-run_cut : length new.run ≡ count
+  length-run_cut = ap length are.run ∙ length-cut first count old.run (omega (arith, there, were.machine.chip_count))
+
+  length-buffers_cut : length new.crossing.buffers ≡ count
+  length-buffers_cut =
+      ap length are.buffers ∙ length-cut first count old.crossing.buffers (omega (arith, there, were.machine.buffer_count))
+
+  length-logs_cut : length new.logs.items ≡ count
+  length-logs_cut =
+      sym (length-map new.logs.items (λ (log : Log). log.items))
+      ∙ ap (λ (logs : List (List Event)). length logs) are.logs
+      ∙ length-cut first count (events_of old.logs.items) (omega (arith, there, were.machine.log_count))
+
+  within_cut : All (λ ms. length ms ≤ cap) new.crossing.buffers
+  within_cut =
+      All-from_get_or (λ (ms : List Message). length ms ≤ cap) new.crossing.buffers []
+      (λ c l. let below : c < count = omega (arith, l, length-buffers_cut) in
+      let is = ap (λ (lists : List (List Message)). length (get_or lists c [])) are.buffers
+      ∙ ap length (read-cut_at first count old.crossing.buffers c [] below) in
+      omega (arith, is, were.machine.room (first + c) (omega (arith, there, below))))
+
+  -- so it is the part of the machine
+  pub IsKeptPart-cut : IsKeptPart n cap first new
+  IsKeptPart-cut = record {
+    sizes = record { dimension = were.dimension; some_room = were.some_room; most_room = were.most_room };
+    there = omega (arith, there, length-run_cut);
+    buffer_count = length-buffers_cut ∙ sym length-run_cut;
+    log_count = length-logs_cut ∙ sym length-run_cut;
+    sent_count = are.sent ∙ sym length-run_cut;
+    incoming_count = are.incoming ∙ sym length-run_cut;
+    within = within_cut;
+    clock = omega (arith, are.clock, were.clock);
+  }
+
+  pub part_of-cut : part_of first (length new.run) new.run new.crossing.buffers new.logs.items new.clock
+      ≡ part first count (machine_of old)
+  unfolding part
+  part_of-cut = λ i. record {
+    first = first;
+    count = length-run_cut i;
+    chips = are.run i;
+    buffers = are.buffers i;
+    logs = are.logs i;
+    clock = are.clock i;
+  }
+
+-- logs with such room are seen to have it
+pub HaveLogRoom-logs : (more : ℕ) (logs : List Log) → HasLogRoom more logs → HaveLogRoom more (log_rooms_of logs)
+HaveLogRoom-logs more logs h = λ i l. h i (omega (arith, l, length-map logs free_places))

@@ -1,0 +1,123 @@
+-- Parts that are put together, one after another.
+use Rattle.std.proofs.Common.{◌≡◌, ℕ, ◌+◌, ◌-◌, ◌<◌, ◌≤◌, ◌^◌, List, [], ◌∷◌, ◌++◌, length, get_or, take, map, refl, sym, ap}
+use Rattle.std.proofs.Common.{◌∙◌, subst, arith, ⊎_elim, ext_get_or}
+use Rattle.std.proofs.lemmas.Bool.{cases_lt}
+use Rattle.std.proofs.lemmas.List.{take_more, take_all, length-append, get_or-map, length-map}
+use Rattle.std.proofs.lemmas.List.Concat.{get_or-flat_map}
+use Rattle.std.proofs.lemmas.List.Folds.{length-flat_map-take}
+use Rattle.std.proofs.lemmas.Grind.{flat_map-append}
+use Rattle.std.specs.List.{flat_map}
+use Rattle.cm_model.specs.Array.{list_at}
+use Rattle.std.specs.Prelude.{IsTrue}
+use Rattle.cm_model.specs.Machine.{Machine}
+use Rattle.cm_model.specs.Keeping.{IsMachine}
+use Rattle.cm_blocks.specs.Parts.{Part}
+use Rattle.cm_array.specs.declared.parts.Parts.{Parts}
+use Rattle.cm_array.specs.Parts.{machine_of, AreParts}
+use Rattle.cm_array.specs.Cuts.{KeptPart, IsLaid, AreAsMany}
+use Rattle.cm_array.proofs.Machines.{few_chips, length-logs, AreUnderWay-parts}
+use Rattle.std.proofs.lemmas.Nat.{pow_pos}
+
+-- the lists of the first j pieces stand one after another, to a place
+pub record IsPut {A X : Type 0} (lists_of : A → List (List X)) (pieces : List A) (j at : ℕ) (now : List (List X))
+    : Type 0 where
+  pub end : at ≡ length (flat_map lists_of (take j pieces))
+  pub each : (c : ℕ) → c < at → list_at now c ≡ list_at (flat_map lists_of pieces) c
+
+pub none_put : {A X : Type 0} (lists_of : A → List (List X)) (pieces : List A) (now : List (List X))
+    → IsPut lists_of pieces 0 0 now
+none_put lists_of pieces now = record { end = refl; each = λ c l. absurd (omega (arith, l)) }
+
+-- a piece fits behind those before it
+pub next_fits : {A X : Type 0} (lists_of : A → List (List X)) (pieces : List A) (j at : ℕ) (s : A) (now : List (List X))
+    → j < length pieces → s ≡ get_or pieces j s → IsPut lists_of pieces j at now
+    → at + length (lists_of s) ≤ length (flat_map lists_of pieces)
+next_fits lists_of pieces j at s now l is put =
+    omega (arith, put.end, length-flat_map-take lists_of pieces j s l, ap (λ x. length (lists_of x)) is)
+
+-- one piece more
+pub next_put : {A X : Type 0} (lists_of : A → List (List X)) (pieces : List A) (j at : ℕ) (s : A) (now new : List (List X))
+    (next end : ℕ) → j < length pieces → s ≡ get_or pieces j s → next ≡ j + 1 → end ≡ at + length (lists_of s)
+    → IsPut lists_of pieces j at now → IsLaid at (lists_of s) now new → IsPut lists_of pieces next end new
+next_put {A} {X} lists_of pieces j at s now new next end l is after there put laid =
+    let more : flat_map lists_of (take (j + 1) pieces) ≡ flat_map lists_of (take j pieces) ++ (lists_of s ++ []) =
+    ap (flat_map lists_of) (take_more pieces j s l ∙ ap (λ (x : A). take j pieces ++ x ∷ []) (sym is))
+    ∙ flat_map-append lists_of (take j pieces) (s ∷ []) in
+    let here : (i : ℕ) → i < length (lists_of s)
+    → list_at (flat_map lists_of pieces) (at + i) ≡ list_at (lists_of s) i =
+    λ i h. ap (λ (k : ℕ). list_at (flat_map lists_of pieces) (k + i)) put.end
+    ∙ get_or-flat_map lists_of pieces j i s [] l (omega (arith, h, ap (λ x. length (lists_of x)) is))
+    ∙ ap (λ (x : A). list_at (lists_of x) i) (sym is) in
+    record {
+      end = let long : length (flat_map lists_of (take (j + 1) pieces)) ≡ at + length (lists_of s) =
+          ap length more ∙ length-append (flat_map lists_of (take j pieces)) (lists_of s ++ [])
+          ∙ omega (arith, length-append (lists_of s) [], put.end) in
+          there ∙ sym long ∙ ap (λ (k : ℕ). length (flat_map lists_of (take k pieces))) (sym after);
+      each = λ c h. ⊎_elim
+          (λ (below : c < at). laid.below c below ∙ put.each c below)
+          (λ (from : at ≤ c).
+          let place : at + (c - at) ≡ c = omega arith in
+          let inside : c - at < length (lists_of s) = omega (arith, h, from, there) in
+          subst (λ (k : ℕ). list_at new k ≡ list_at (flat_map lists_of pieces) k) place
+          (laid.laid (c - at) inside ∙ sym (here (c - at) inside)))
+          (cases_lt c at);
+    }
+
+-- the next of those that are held
+pub next_held : {A : Type 0} (held : A → KeptPart) (pieces : List A) (j : ℕ) (piece : A) (kept : KeptPart)
+    → (j < length pieces) × (piece ≡ get_or pieces j piece) → kept ≡ held piece
+    → (j < length (map (λ x. (held x).part) pieces))
+    × (kept.part ≡ get_or (map (λ x. (held x).part) pieces) j kept.part)
+next_held {A} held pieces j piece kept turn is =
+    let part_of : A → Part = λ x. (held x).part in (
+      omega (arith, turn.0, length-map pieces part_of),
+      sym (get_or-map part_of pieces j piece kept.part turn.0 ∙ ap part_of (sym turn.1)
+          ∙ ap (λ (k : KeptPart). k.part) (sym is)),
+    )
+
+-- all of them
+pub all_put : {A X : Type 0} (lists_of : A → List (List X)) (pieces : List A) (j at : ℕ) (now : List (List X))
+    → j ≡ length pieces → length now ≡ length (flat_map lists_of pieces) → IsPut lists_of pieces j at now
+    → now ≡ flat_map lists_of pieces
+all_put lists_of pieces j at now all long put =
+    let end = put.end ∙ ap (λ xs. length (flat_map lists_of xs)) (take_all j pieces (omega (arith, all))) in
+    ext_get_or [] now (flat_map lists_of pieces) long (λ c l. put.each c (omega (arith, l, long, end)))
+
+-- where something was put, there was a piece
+pub some_put : {A X : Type 0} (lists_of : A → List (List X)) (pieces : List A) (j at : ℕ) (now : List (List X))
+    → j ≡ length pieces → length now ≡ length (flat_map lists_of pieces) → 0 < length now → 0 < j
+some_put lists_of [] j at now all long some = absurd (omega (arith, long, some))
+some_put lists_of (s ∷ rest) j at now all long some = omega (arith, all)
+
+-- ---- into a machine
+
+-- a whole machine has as many of all as another
+pub AreAsMany-whole : (n cap : ℕ) (parts : Parts) (machine : Machine) → AreParts n cap parts → IsMachine n cap machine
+    → AreAsMany parts machine
+AreAsMany-whole n cap parts machine were is = record {
+  chips = were.machine.chip_count ∙ sym is.chip_count;
+  buffers = were.machine.buffer_count ∙ sym is.buffer_count;
+  logs = length-logs n cap parts (AreUnderWay-parts n cap parts were) ∙ sym is.log_count;
+}
+
+pub some_chips : (n cap : ℕ) (parts : Parts) → AreParts n cap parts → 0 < length parts.run
+some_chips n cap parts h = omega (arith, h.machine.chip_count, pow_pos n)
+
+pub most_chips : (n cap : ℕ) (parts : Parts) → AreParts n cap parts → length parts.run ≤ 4096
+most_chips n cap parts h = omega (arith, h.machine.chip_count, few_chips n h.dimension)
+
+-- so what is kept then are the parts of a machine
+pub AreParts-put : (n cap : ℕ) (old new : Parts) (machine : Machine) → AreParts n cap old → IsMachine n cap machine
+    → machine_of new ≡ machine → IsTrue new.crossing.gathered
+    → length new.sent.items ≡ length old.sent.items → length new.incoming.items ≡ length old.incoming.items
+    → new.clock < 2 ^ 63 → AreParts n cap new
+AreParts-put n cap old new machine were is same gathered sent incoming clock = record {
+  dimension = were.dimension;
+  some_room = were.some_room;
+  most_room = were.most_room;
+  sent_count = sent ∙ were.sent_count;
+  incoming_count = incoming ∙ were.incoming_count;
+  clock = clock;
+  gathered = gathered;
+  machine = subst (λ (m : Machine). IsMachine n cap m) (sym same) is;
+}

@@ -1,0 +1,71 @@
+use Rattle.std.proofs.Common.{ℕ, ◌+◌, List, length, ap, sym, ◌∙◌, refl, subst}
+use Rattle.std.specs.List.{slice_range}
+use Rattle.std.specs.Vec.{with_items}
+use Rattle.cm_blocks.specs.Parts.{cut}
+use Rattle.cm_petit.specs.Routers.{Log, events_of}
+use Rattle.cm_array.specs.declared.parts.Parts.{Parts}
+use Rattle.cm_array.specs.Cuts.{HaveLogRoom}
+use Rattle.cm_array.specs.Parts.{log_rooms_of}
+use Rattle.cm_array.proofs.Lists.{items-lent}
+use Rattle.cm_array.proofs.Cutting.{within_fifteen, few_buffers, events_of-cut, AreCut, IsKeptPart-cut, part_of-cut}
+use Rattle.cm_array.proofs.Cutting.{HaveLogRoom-logs}
+use Rattle.cm_array.proofs.part.Part.cut.Goals as goal
+use Rattle.cm_array.proofs.part.Part.cut.Goals.{In_ok-crossing}
+
+pub copied_buffers-requires-clause-few : goal.copied_buffers-requires-clause-few
+copied_buffers-requires-clause-few c = few_buffers c.args.sizes.dims c.args.sizes.room c.args.parts.now c.requires.parts
+
+pub copied_buffers-requires-clause-within : goal.copied_buffers-requires-clause-within
+copied_buffers-requires-clause-within c =
+    within_fifteen c.args.sizes.dims c.args.sizes.room c.args.parts.now c.requires.parts
+
+parts_cut : In_ok-crossing → Parts
+parts_cut c = record {
+  run = c.in_ok-run.run';
+  logs = with_items c.in_ok-logs.logs c.reserve.new.logs;
+  clock = c.args.parts.now.clock;
+  sent = c.in_ok-sent.sent;
+  incoming = c.in_ok-incoming.incoming;
+  crossing = c.in_ok-crossing.crossing;
+}
+
+are_cut : (c : In_ok-crossing) → AreCut c.args.first c.args.count c.args.parts.now (parts_cut c)
+unfolding parts_cut
+are_cut c =
+    let old = c.args.parts.now in
+    let at = c.from-at.result in
+    let chips = c.from-chips.result in
+    let lent = items-lent c.in_ok-logs.logs c.reserve.new.logs (c.reserve.auto.logs ∙ ap length c.deref_mut.ensures.value) in
+    record {
+      run = c.in_ok-run.ensures.value;
+      buffers = c.in_ok-crossing.ensures.value
+          ∙ ap (λ (k : ℕ). cut k chips old.crossing.buffers) c.from-at.ensures
+          ∙ ap (λ (k : ℕ). cut c.args.first k old.crossing.buffers) c.from-chips.ensures;
+      logs = ap events_of lent ∙ c.reserve.ensures.events ∙ ap events_of c.deref_mut.ensures.value
+          ∙ c.in_ok-logs.ensures.value
+          ∙ ap (λ (logs : List Log). events_of (slice_range logs at (at + chips))) c.deref.ensures.value
+          ∙ events_of-cut at chips old.logs.items
+          ∙ ap (λ (k : ℕ). cut k chips (events_of old.logs.items)) c.from-at.ensures
+          ∙ ap (λ (k : ℕ). cut c.args.first k (events_of old.logs.items)) c.from-chips.ensures;
+      sent = c.in_ok-sent.ensures.count ∙ c.from-chips.ensures;
+      incoming = c.in_ok-incoming.ensures.count ∙ c.from-chips.ensures;
+      clock = refl;
+    }
+
+pub invariant_of-result : goal.invariant_of-result
+unfolding parts_cut
+invariant_of-result c =
+    IsKeptPart-cut c.args.sizes.dims c.args.sizes.room c.args.first c.args.count c.args.parts.now (parts_cut c)
+    c.requires.parts c.requires.there (are_cut c)
+
+pub returns-clause-value : goal.returns-clause-value
+unfolding parts_cut
+returns-clause-value c =
+    part_of-cut c.args.sizes.dims c.args.sizes.room c.args.first c.args.count c.args.parts.now (parts_cut c)
+    c.requires.parts c.requires.there (are_cut c)
+
+pub returns-clause-log_room : goal.returns-clause-log_room
+returns-clause-log_room c =
+    let same = items-lent c.in_ok-logs.logs c.reserve.new.logs (c.reserve.auto.logs ∙ ap length c.deref_mut.ensures.value) in
+    subst (λ (logs : List Log). HaveLogRoom c.args.more (log_rooms_of logs)) (sym same)
+    (HaveLogRoom-logs c.args.more c.reserve.new.logs c.in_ok-reserve.ensures.ok)

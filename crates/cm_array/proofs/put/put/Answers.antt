@@ -1,0 +1,118 @@
+use Rattle.std.proofs.Common.{ℕ, ◌+◌, List, [], length, map, ap, sym, ◌∙◌, refl, arith}
+use Rattle.std.proofs.lemmas.List.{length-map, length_push}
+use Rattle.std.proofs.lemmas.Iterator.Adapters.{YieldsList-from_vec}
+use Rattle.std.proofs.lemmas.Iterator.Consumers.{YieldsList-turn, YieldsList-end}
+use Rattle.cm_model.specs.declared.message.Message.{Message}
+use Rattle.cm_model.specs.declared.message.Event.{Event}
+use Rattle.cm_model.proofs.Each.{length-each_from}
+use Rattle.cm_blocks.specs.Parts.{Part}
+use Rattle.cm_petit.specs.Routers.{Log, events_of}
+use Rattle.cm_array.proofs.Laying.{none_stand}
+use Rattle.cm_array.proofs.Putting.{none_put, next_fits, next_put, next_held, all_put, some_put}
+use Rattle.cm_array.proofs.put.put.Goals as goal
+
+pub loop-piece-init : goal.loop-piece-init
+loop-piece-init g c =
+    let parts = map (λ (piece : g.row.P.Denot). (g.P.IntoPart.held piece).part) c.args.pieces.items in
+    let none : ℕ → List Message = λ k. [] in
+    record {
+      chips = none_put (λ (s : Part). s.chips) parts c.args.parts.now.run;
+      buffers = none_put (λ (s : Part). s.buffers) parts c.clear.new.self.buffers;
+      logs = none_put (λ (s : Part). s.logs) parts (events_of c.args.parts.now.logs.items);
+      empty = λ k l. none_stand (length c.args.parts.now.crossing.buffers) c.clear.new.self.buffers k c.clear.ensures.value;
+      chip_count = refl;
+      buffer_count = ap length c.clear.ensures.value ∙ length-each_from 0 (length c.args.parts.now.crossing.buffers) none;
+      log_count = refl;
+      sent_count = refl;
+      incoming_count = refl;
+      clock = λ l. absurd (omega (arith, l));
+      within = λ l. absurd (omega (arith, l));
+    }
+
+pub put_one-at-requires-clause-chips : goal.put_one-at-requires-clause-chips
+put_one-at-requires-clause-chips g c =
+    let pieces = c.args.pieces.items in
+    let parts = map (λ (piece : g.row.P.Denot). (g.P.IntoPart.held piece).part) pieces in
+    let j = length c.loop-piece.yielded in
+    let s = c.into_part.result.part in
+    let gives = c.into_iter-piece-iterator.ensures.into_iter_gives in
+    let turn = YieldsList-turn (YieldsList-from_vec {s = c.into_iter-piece-iterator.result} pieces gives.0 (gives.1 ∙ c.args.pieces.ok.0)) c.loop-piece.yielded
+    c.loop-piece.piece-iterator
+    c.loop-piece.yielded_by c.next.result c.next.new.self c.in-Some.piece c.in-Some.is c.next.ensures.steps in
+    let next = next_held g.P.IntoPart.held pieces j c.in-Some.piece c.into_part.result turn c.into_part.ensures.value in
+    omega (
+      arith,
+      next_fits (λ (x : Part). x.chips) parts j c.loop-piece.at s c.loop-piece.parts.run next.0 next.1
+          c.loop-piece.invariant.chips,
+      c.loop-piece.invariant.chip_count,
+      c.requires.many.chips,
+    )
+
+pub loop-piece-preserved : goal.loop-piece-preserved
+loop-piece-preserved g c =
+    let pieces = c.args.pieces.items in
+    let parts = map (λ (piece : g.row.P.Denot). (g.P.IntoPart.held piece).part) pieces in
+    let j = length c.loop-piece.yielded in
+    let at = c.loop-piece.at in
+    let s = c.into_part.result.part in
+    let gives = c.into_iter-piece-iterator.ensures.into_iter_gives in
+    let turn = YieldsList-turn (YieldsList-from_vec {s = c.into_iter-piece-iterator.result} pieces gives.0 (gives.1 ∙ c.args.pieces.ok.0)) c.loop-piece.yielded
+    c.loop-piece.piece-iterator
+    c.loop-piece.yielded_by c.next.result c.next.new.self c.in-Some.piece c.in-Some.is c.next.ensures.steps in
+    let next = next_held g.P.IntoPart.held pieces j c.in-Some.piece c.into_part.result turn c.into_part.ensures.value in
+    let more = length_push c.loop-piece.yielded c.in-Some.piece in
+    let were = c.loop-piece.invariant in
+    let put = c.put_one-at.ensures in
+    let old = c.loop-piece.parts in
+    let new = c.put_one-at.new.parts in
+    let events : Log → List Event = λ log. log.items in
+    record {
+      chips = next_put (λ (x : Part). x.chips) parts j at s old.run new.run _ _ next.0 next.1 more put.end
+          were.chips put.chips;
+      buffers = next_put (λ (x : Part). x.buffers) parts j at s old.crossing.buffers new.crossing.buffers _ _ next.0 next.1
+          more (put.end ∙ ap (λ (k : ℕ). at + k) (sym put.buffer_count)) were.buffers put.buffers;
+      logs = next_put (λ (x : Part). x.logs) parts j at s (events_of old.logs.items) (events_of new.logs.items) _ _
+          next.0 next.1 more (put.end ∙ ap (λ (k : ℕ). at + k) (sym put.log_count)) were.logs put.logs;
+      empty = λ k l. put.buffers.above k (omega (arith, l, put.end, put.buffer_count))
+          ∙ were.empty k (omega (arith, l, put.end));
+      chip_count = put.chips.count ∙ were.chip_count;
+      buffer_count = put.buffers.count ∙ were.buffer_count;
+      log_count = sym (length-map new.logs.items events) ∙ put.logs.count ∙ length-map old.logs.items events
+          ∙ were.log_count;
+      sent_count = put.sent ∙ were.sent_count;
+      incoming_count = put.incoming ∙ were.incoming_count;
+      clock = λ l. put.clock ∙ ap (λ (x : Part). x.clock) next.1 ∙ c.requires.clocks j s next.0;
+      within = λ l. put.within;
+    }
+
+pub returns : goal.returns
+returns g c =
+    let pieces = c.args.pieces.items in
+    let parts = map (λ (piece : g.row.P.Denot). (g.P.IntoPart.held piece).part) pieces in
+    let j = length c.loop-piece.yielded in
+    let at = c.loop-piece.at in
+    let gives = c.into_iter-piece-iterator.ensures.into_iter_gives in
+    let end = YieldsList-end (YieldsList-from_vec {s = c.into_iter-piece-iterator.result} pieces gives.0 (gives.1 ∙ c.args.pieces.ok.0)) c.loop-piece.yielded
+    c.loop-piece.piece-iterator
+    c.loop-piece.yielded_by c.next.result c.next.new.self c.in-None.is c.next.ensures.steps in
+    let all = end.1 ∙ sym (length-map pieces (λ (piece : g.row.P.Denot). (g.P.IntoPart.held piece).part)) in
+    let now = c.loop-piece.parts in
+    let were = c.loop-piece.invariant in
+    let events : Log → List Event = λ log. log.items in
+    let long = were.chip_count ∙ c.requires.many.chips in
+    let some = some_put (λ (x : Part). x.chips) parts j at now.run all long (omega (arith, were.chip_count, c.requires.some)) in
+    record {
+      value = λ i. record {
+        chips = all_put (λ (x : Part). x.chips) parts j at now.run all long were.chips i;
+        buffers = (c.gather.ensures.value
+            ∙ all_put (λ (x : Part). x.buffers) parts j at now.crossing.buffers all
+            (were.buffer_count ∙ c.requires.many.buffers) were.buffers) i;
+        logs = all_put (λ (x : Part). x.logs) parts j at (events_of now.logs.items) all
+            (length-map now.logs.items events ∙ were.log_count ∙ c.requires.many.logs) were.logs i;
+        clock = were.clock some i;
+      };
+      gathered = c.gather.ensures.gathered;
+      sent = were.sent_count;
+      incoming = were.incoming_count;
+      clock = were.within some;
+    }

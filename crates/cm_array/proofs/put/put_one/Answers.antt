@@ -1,0 +1,41 @@
+use Rattle.std.proofs.Common.{◌≡◌, List, length, ap, sym, ◌∙◌, subst}
+use Rattle.cm_model.specs.declared.message.Message.{Message}
+use Rattle.cm_model.specs.declared.message.Event.{Event}
+use Rattle.cm_model.specs.Array.{Chips}
+use Rattle.cm_blocks.specs.Parts.{cut}
+use Rattle.cm_petit.specs.Routers.{Log, events_of}
+use Rattle.cm_array.specs.Cuts.{KeptPart, IsLaid}
+use Rattle.cm_array.proofs.Lists.{items-lent}
+use Rattle.cm_array.proofs.Laying.{all_chips_laid, cut_all}
+use Rattle.cm_array.proofs.put.put_one.Goals as goal
+
+pub returns-clause-chips : goal.returns-clause-chips
+returns-clause-chips c =
+    let from = c.into_parts-from.result in
+    subst (λ (chips : Chips). IsLaid c.args.at chips c.args.parts.now.run c.lay.new.self)
+    (ap (λ (k : KeptPart). k.part.chips) c.into_parts-from.ensures.value)
+    (all_chips_laid c.args.at c.chips-count.result from.run c.args.parts.now.run c.lay.new.self
+    c.chips-count.ensures.value c.lay.ensures.value)
+
+pub returns-clause-buffers : goal.returns-clause-buffers
+returns-clause-buffers c =
+    let from = c.into_parts-from.result in
+    let all = c.chips-count.ensures.value ∙ sym c.into_parts-from.ensures.kept.buffer_count in
+    subst (λ (buffers : List (List Message)).
+    IsLaid c.args.at buffers c.args.parts.now.crossing.buffers c.lay_buffers.new.to.buffers)
+    (ap (cut 0 c.chips-count.result) c.gather.ensures.value ∙ cut_all c.chips-count.result from.crossing.buffers all
+    ∙ ap (λ (k : KeptPart). k.part.buffers) c.into_parts-from.ensures.value) c.lay_buffers.ensures.value
+
+pub returns-clause-logs : goal.returns-clause-logs
+returns-clause-logs c =
+    let from = c.into_parts-from.result in
+    let old : List Log = c.args.parts.now.logs.items in
+    let is : c.deref_mut.result.now ≡ old = c.deref_mut.ensures.value in
+    let lent = items-lent c.args.parts.now.logs c.move_logs.new.to (c.move_logs.auto.to ∙ ap length is) in
+    let first = subst (λ (events : List (List Event)).
+    IsLaid c.args.at events (events_of c.deref_mut.result.now) (events_of c.move_logs.new.to))
+    (ap events_of c.deref_mut-2.ensures.value ∙ ap (λ (k : KeptPart). k.part.logs) c.into_parts-from.ensures.value)
+    c.move_logs.ensures.value in
+    let next = subst (λ (logs : List Log). IsLaid c.args.at c.args.piece.part.logs (events_of logs) (events_of c.move_logs.new.to))
+    is first in
+    subst (λ (logs : List Log). IsLaid c.args.at c.args.piece.part.logs (events_of old) (events_of logs)) (sym lent) next

@@ -1,0 +1,86 @@
+-- Parts that are cut out of a machine, as they are kept, and the machine that parts are one after another. Ours.
+use Rattle.std.specs.Prelude.{◌≡◌, ℕ, ◌+◌, ◌<◌, ◌≤◌, ◌^◌, Bool, List, [], ◌∷◌, length, slice_index}
+use Rattle.std.specs.List.{All, flat_map}
+use Rattle.cm_model.specs.Array.{list_at}
+use Rattle.cm_model.specs.Machine.{Machine}
+use Rattle.cm_model.specs.Keeping.{AreSizes, IsMachine}
+use Rattle.cm_blocks.specs.Parts.{Part}
+use Rattle.cm_petit.specs.Routers.{part_of}
+use Rattle.cm_array.specs.declared.parts.Parts.{Parts}
+use Rattle.cm_array.specs.Parts.{log_rooms_of}
+
+-- what contracts see of a part
+pub record KeptPart : Type 0 where
+  -- the dimensions of the cube that its chips are of, and how many messages a router has room for
+  pub dims : ℕ
+  pub room : ℕ
+  pub part : Part
+  -- by place, how many events more a chip's log takes before it has to grow
+  pub log_rooms : List ℕ
+  -- whether its messages stand so that they can be read
+  pub gathered : Bool
+
+-- that of a part that begins at chip `first`
+abbrev pub kept_part : ℕ → ℕ → ℕ → Parts → KeptPart
+kept_part dims room first parts = record {
+  dims = dims;
+  room = room;
+  part = part_of first (length parts.run) parts.run parts.crossing.buffers parts.logs.items parts.clock;
+  log_rooms = log_rooms_of parts.logs.items;
+  gathered = parts.crossing.gathered;
+}
+
+-- some chips of a cube of n dimensions, with a buffer, a log and working room for each
+pub record IsKeptPart (n cap first : ℕ) (parts : Parts) : Type 0 where
+  pub sizes : AreSizes n cap
+  pub there : first + length parts.run ≤ 2 ^ n
+  pub buffer_count : length parts.crossing.buffers ≡ length parts.run
+  pub log_count : length parts.logs.items ≡ length parts.run
+  pub sent_count : length parts.sent.items ≡ length parts.run
+  pub incoming_count : length parts.incoming.items ≡ length parts.run
+  pub within : All (λ ms. length ms ≤ cap) parts.crossing.buffers
+  pub clock : parts.clock < 2 ^ 63
+
+-- each log takes so many events more
+abbrev pub HaveLogRoom : ℕ → List ℕ → Type 0
+HaveLogRoom count log_rooms = (i : ℕ) → i < length log_rooms → count ≤ slice_index log_rooms i
+
+-- ---- parts one after another
+
+-- the counter of the first of them
+abbrev pub first_clock : List Part → ℕ
+first_clock [] = 0
+first_clock (s ∷ rest) = s.clock
+
+-- the machine that they are, in their order
+abbrev pub joined : List Part → Machine
+joined parts = record {
+  chips = flat_map (λ s. s.chips) parts;
+  buffers = flat_map (λ s. s.buffers) parts;
+  logs = flat_map (λ s. s.logs) parts;
+  clock = first_clock parts;
+}
+
+-- one counter stands in all of them
+abbrev pub AreOfOneClock : List Part → Type 0
+AreOfOneClock parts = All (λ s. s.clock ≡ first_clock parts) parts
+
+-- they are a whole machine
+pub record AreWhole (n cap : ℕ) (parts : List Part) : Type 0 where
+  pub machine : IsMachine n cap (joined parts)
+  pub clock : AreOfOneClock parts
+
+-- what is kept has as many chips, buffers and logs as a machine
+pub record AreAsMany (parts : Parts) (machine : Machine) : Type 0 where
+  pub chips : length parts.run ≡ length machine.chips
+  pub buffers : length parts.crossing.buffers ≡ length machine.buffers
+  pub logs : length parts.logs.items ≡ length machine.logs
+
+-- ---- one list laid into another
+
+-- from a place on a list reads as the piece, and else as before
+pub record IsLaid {X : Type 0} (at : ℕ) (piece old new : List (List X)) : Type 0 where
+  pub count : length new ≡ length old
+  pub laid : (i : ℕ) → i < length piece → list_at new (at + i) ≡ list_at piece i
+  pub below : (i : ℕ) → i < at → list_at new i ≡ list_at old i
+  pub above : (i : ℕ) → at + length piece ≤ i → list_at new i ≡ list_at old i

@@ -1,0 +1,201 @@
+//! Parts of a machine: some of its chips, one after another, with what stands at them.
+
+ghost use Rattle.std.specs.Prelude.{◌≡◌, ℕ, ◌+◌, ◌<◌, ◌≤◌, ◌^◌, ◌++◌, [], IfOk, IsTrue, length, slice_set};
+ghost use Rattle.std.specs.List.{All};
+ghost use Rattle.cm_model.specs.Array.{list_at};
+ghost use Rattle.cm_blocks.specs.Parts.{cut, part, chip_in, buffer_in, log_in};
+ghost use Rattle.cm_array.specs.Parts.{machine_of, AreParts};
+ghost use Rattle.cm_array.specs.Cuts.{kept_part, IsKeptPart, HaveLogRoom, IsLaid};
+
+use crate::parts::{Parts, blank_planes, copied_logs, reserve};
+use cm_bits::NoMemory;
+use cm_crossing::{Crossing, Sizes};
+use cm_element::{ChipView, Run};
+use cm_message::{Event, Message};
+use std::alloc::Global;
+use std::marker::Model;
+
+/// Some chips of a machine, one after another by number, with their buffers and logs, the counter, and
+/// the working room to go on by themselves.
+///
+/// Contracts see of which cube they are, the part, how many events more each log takes before it has to
+/// grow, and whether the messages can be read.
+#[derive(Debug, Drop)]
+pub struct Part {
+    /// Dimensions of the cube that the chips are of.
+    dims: u8,
+    /// How many messages the router of one chip has room for.
+    room: u8,
+    /// The number of the first chip.
+    first: u16,
+    /// The chips by place, the first at place 0.
+    parts: Parts,
+}
+
+impl Model for Part {
+    ghost use Rattle.cm_array.specs.Cuts.{KeptPart, kept_part, IsKeptPart};
+
+    ghost Value = { KeptPart };
+
+    ghost view = { λ part. kept_part part.dims part.room part.first part.parts };
+
+    ghost invariant = { λ part. IsKeptPart part.dims part.room part.first part.parts };
+}
+
+impl Part {
+    /// So many chips of a machine, from `first` on, with room in their logs for so many events more.
+    pub(crate) fn cut(
+        alloc: Global,
+        sizes: Sizes,
+        parts: &Parts,
+        first: u16,
+        count: u16,
+        more: usize,
+    ) -> Result<Part, NoMemory>
+        requires parts { AreParts sizes.dims sizes.room parts.now }
+        requires there { first + count ≤ 2 ^ sizes.dims }
+        ensures value { IfOk result (λ kept. kept.part ≡ part first count (machine_of parts.now)) }
+        ensures dims { IfOk result (λ kept. kept.dims ≡ sizes.dims) }
+        ensures room { IfOk result (λ kept. kept.room ≡ sizes.room) }
+        ensures log_room { IfOk result (λ kept. HaveLogRoom more kept.log_rooms) }
+        ensures gathered { IfOk result (λ kept. IsTrue kept.gathered) }
+    {
+        let at = usize::from(first);
+        let chips = usize::from(count);
+        let run = copied_chips(alloc, &parts.run, first, count)?;
+        let mut logs = copied_logs(alloc, &parts.logs[at..at + chips])?;
+        reserve(&mut logs, more)?;
+        let sent = blank_planes(alloc, chips)?;
+        let incoming = blank_planes(alloc, chips)?;
+        let crossing = copied_buffers(alloc, &parts.crossing, at, chips)?;
+        Ok(Part {
+            dims: sizes.dims,
+            room: sizes.room,
+            first,
+            parts: Parts {
+                run,
+                logs,
+                clock: parts.clock,
+                sent,
+                incoming,
+                crossing,
+            },
+        })
+    }
+
+    /// What it keeps of its chips.
+    pub(crate) fn into_parts(self) -> Parts
+        ensures value { kept_part self.dims self.room self.part.first result ≡ self }
+        ensures kept { IsKeptPart self.dims self.room self.part.first result }
+    {
+        self.parts
+    }
+
+    /// The number of its first chip.
+    pub fn first(&self) -> u16
+        ensures value { result ≡ self.now.part.first }
+    {
+        self.first
+    }
+
+    /// How many chips it has.
+    pub fn chips(&self) -> usize
+        ensures value { result ≡ self.now.part.count }
+    {
+        self.parts.run.chips()
+    }
+
+    /// Petit cycles so far.
+    pub fn clock(&self) -> u64
+        ensures value { result ≡ self.now.part.clock }
+        ensures within { result < 2 ^ 63 }
+    {
+        self.parts.clock
+    }
+
+    /// The chip of that number in the whole, to be read.
+    pub fn chip(&self, number: u16) -> ChipView<'_>
+        requires from { self.now.part.first ≤ number }
+        requires below { number < self.now.part.first + self.now.part.count }
+        ensures value { result ≡ chip_in self.now.part number }
+    {
+        self.parts.run.view(number - self.first)
+    }
+
+    /// The messages that stand in the router of the chip of that number in the whole, in order of arrival.
+    pub fn buffer(&self, number: u16) -> &[Message]
+        requires from { self.now.part.first ≤ number }
+        requires below { number < self.now.part.first + self.now.part.count }
+        requires gathered { IsTrue self.now.gathered }
+        ensures value { result.now ≡ buffer_in self.now.part number }
+    {
+        self.parts.crossing.buffer(usize::from(number - self.first))
+    }
+
+    /// The events of the chip of that number in the whole, the oldest first.
+    pub fn log(&self, number: u16) -> &[Event]
+        requires from { self.now.part.first ≤ number }
+        requires below { number < self.now.part.first + self.now.part.count }
+        ensures value { result.now ≡ log_in self.now.part number }
+    {
+        &self.parts.logs[usize::from(number - self.first)]
+    }
+}
+
+/// Some chips of a run, as a run of their own.
+fn copied_chips(alloc: Global, from: &Run, first: u16, count: u16) -> Result<Run, NoMemory>
+    requires there { first + count ≤ length from.now }
+    ensures value { IfOk result (λ run. run ≡ cut first count from.now) }
+{
+    let mut run = Run::blank(alloc, count)?;
+    run.lay(0, from, first, count);
+    Ok(run)
+}
+
+/// The messages of some chips, by themselves.
+fn copied_buffers(
+    alloc: Global,
+    from: &Crossing,
+    first: usize,
+    count: usize,
+) -> Result<Crossing, NoMemory>
+    requires there { first + count ≤ length from.now.buffers }
+    requires gathered { IsTrue from.now.gathered }
+    requires few { length from.now.buffers ≤ 4096 }
+    requires within { All (λ ms. length ms ≤ 15) from.now.buffers }
+    ensures value { IfOk result (λ crossing. crossing.buffers ≡ cut first count from.now.buffers) }
+    ensures gathered { IfOk result (λ crossing. IsTrue crossing.gathered) }
+{
+    let mut crossing = Crossing::new(alloc, count)?;
+    lay_buffers(&mut crossing, 0, from, first, count);
+    crossing.gather();
+    Ok(crossing)
+}
+
+/// Copies the messages of so many chips, from `first` on, to as many others from `at` on, where none stand.
+pub(crate) fn lay_buffers(to: &mut Crossing, at: usize, from: &Crossing, first: usize, count: usize)
+    requires here { at + count ≤ length to.old.buffers }
+    requires there { first + count ≤ length from.now.buffers }
+    requires few { length to.old.buffers ≤ 4096 }
+    requires few_there { length from.now.buffers ≤ 4096 }
+    requires gathered { IsTrue from.now.gathered }
+    requires within { All (λ ms. length ms ≤ 15) from.now.buffers }
+    requires empty { (c : ℕ) → at ≤ c → list_at to.old.buffers c ≡ [] }
+    ensures value { IsLaid at (cut first count from.now.buffers) to.old.buffers to.new.buffers }
+{
+    for i in 0..count {
+        arrive_all(to, at + i, from.buffer(first + i));
+    }
+}
+
+/// Messages come to stand last at a chip, in their order.
+fn arrive_all(to: &mut Crossing, chip: usize, messages: &[Message])
+    requires chip { chip < length to.old.buffers }
+    requires room { length (list_at to.old.buffers chip) + length messages.now ≤ 15 }
+    ensures value { to.new.buffers
+        ≡ slice_set to.old.buffers chip (list_at to.old.buffers chip ++ messages.now) }
+{
+    for message in messages {
+        to.arrive(chip, *message);
+    }
+}

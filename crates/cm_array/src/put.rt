@@ -1,0 +1,92 @@
+//! Parts that are put together: they become a machine in their order.
+
+ghost use Rattle.std.specs.Prelude.{◌≡◌, ℕ, ◌+◌, ◌<◌, ◌≤◌, ◌^◌, [], IsTrue, length, map};
+ghost use Rattle.cm_model.specs.Array.{list_at};
+ghost use Rattle.cm_petit.specs.Routers.{events_of};
+ghost use Rattle.cm_array.specs.Parts.{machine_of};
+ghost use Rattle.cm_array.specs.Cuts.{joined, AreAsMany, AreOfOneClock, IsLaid};
+
+use crate::part::{Part, lay_buffers};
+use crate::parts::Parts;
+use cm_message::Event;
+use std::mem;
+
+/// What holds a part of a machine.
+pub trait IntoPart {
+    ghost use Rattle.cm_array.specs.Cuts.{KeptPart};
+
+    /// The part that it holds.
+    ghost held: { Self → KeptPart };
+
+    /// Gives the part that it holds.
+    fn into_part(self) -> Part
+        ensures value { result ≡ held self };
+}
+
+impl IntoPart for Part {
+    ghost held = { λ part. part };
+
+    fn into_part(self) -> Part {
+        self
+    }
+}
+
+/// Puts what these hold into the place of what is kept, one after another.
+pub(crate) fn put<P: IntoPart + Drop>(parts: &mut Parts, pieces: Vec<P>)
+    requires many { AreAsMany parts.old (joined (map (λ piece. (P.held piece).part) pieces.items)) }
+    requires buffers { length parts.old.crossing.buffers ≡ length parts.old.run }
+    requires logs { length parts.old.logs.items ≡ length parts.old.run }
+    requires some { 0 < length parts.old.run }
+    requires few { length parts.old.run ≤ 4096 }
+    requires clocks { AreOfOneClock (map (λ piece. (P.held piece).part) pieces.items) }
+    ensures value { machine_of parts.new ≡ joined (map (λ piece. (P.held piece).part) pieces.items) }
+    ensures gathered { IsTrue parts.new.crossing.gathered }
+    ensures sent { length parts.new.sent.items ≡ length parts.old.sent.items }
+    ensures incoming { length parts.new.incoming.items ≡ length parts.old.incoming.items }
+    ensures clock { parts.new.clock < 2 ^ 63 }
+{
+    parts.crossing.clear();
+    let mut at = 0;
+    for piece in pieces {
+        at = put_one(parts, at, piece.into_part());
+    }
+    parts.crossing.gather();
+}
+
+/// Puts one part into the place of the chips from `at` on, at which no messages stand, and tells where it ends.
+fn put_one(parts: &mut Parts, at: usize, piece: Part) -> usize
+    requires chips { at + length piece.part.chips ≤ length parts.old.run }
+    requires buffers { length parts.old.crossing.buffers ≡ length parts.old.run }
+    requires logs { length parts.old.logs.items ≡ length parts.old.run }
+    requires few { length parts.old.run ≤ 4096 }
+    requires empty { (c : ℕ) → at ≤ c → list_at parts.old.crossing.buffers c ≡ [] }
+    ensures end { result ≡ at + length piece.part.chips }
+    ensures buffer_count { length piece.part.buffers ≡ length piece.part.chips }
+    ensures log_count { length piece.part.logs ≡ length piece.part.chips }
+    ensures chips { IsLaid at piece.part.chips parts.old.run parts.new.run }
+    ensures buffers { IsLaid at piece.part.buffers parts.old.crossing.buffers parts.new.crossing.buffers }
+    ensures logs { IsLaid at piece.part.logs (events_of parts.old.logs.items) (events_of parts.new.logs.items) }
+    ensures clock { parts.new.clock ≡ piece.part.clock }
+    ensures within { parts.new.clock < 2 ^ 63 }
+    ensures sent { length parts.new.sent.items ≡ length parts.old.sent.items }
+    ensures incoming { length parts.new.incoming.items ≡ length parts.old.incoming.items }
+{
+    let mut from = piece.into_parts();
+    let count = from.run.chips();
+    parts.run.lay(at as u16, &from.run, 0, count as u16);
+    from.crossing.gather();
+    lay_buffers(&mut parts.crossing, at, &from.crossing, 0, count);
+    move_logs(&mut parts.logs, at, &mut from.logs);
+    parts.clock = from.clock;
+    at + count
+}
+
+/// Moves logs into the places from `at` on.
+fn move_logs(to: &mut [Vec<Event>], at: usize, from: &mut [Vec<Event>])
+    requires here { at + length from.old ≤ length to.old }
+    ensures value { IsLaid at (events_of from.old) (events_of to.old) (events_of to.new) }
+{
+    for i in 0..from.len() {
+        mem::swap(&mut to[at + i], &mut from[i]);
+    }
+}

@@ -1,0 +1,23 @@
+-- Blocks as they are kept: bands of a machine that was cut into a power of two of them. Ours.
+use Rattle.std.specs.Prelude.{◌≡◌, ℕ, ◌+◌, ◌-◌, ◌*◌, ◌/◌, ◌<◌, ◌≤◌, ◌^◌, Bool, IsTrue, List, length}
+use Rattle.cm_blocks.specs.Parts.{Part, size}
+use Rattle.cm_array.specs.Cuts.{KeptPart, HaveLogRoom}
+
+-- what contracts see of a block: into 2 ^ k of them the machine was cut, and what the block keeps of it
+pub record KeptBlock : Type 0 where
+  pub k : ℕ
+  pub kept : KeptPart
+
+-- a band of whole rows of chips, one of 2 ^ k
+pub record IsBlock (k : ℕ) (kept : KeptPart) : Type 0 where
+  pub within : k ≤ kept.dims - kept.dims / 2
+  pub count : kept.part.count ≡ size kept.dims k
+  pub band : (b : ℕ) × ((kept.part.first ≡ b * size kept.dims k) × (b < 2 ^ k))
+
+-- a block of a machine with these dimensions and this room, whose logs take so many events each, and that can be read
+pub record IsFresh (n cap k events : ℕ) (block : KeptBlock) : Type 0 where
+  pub blocks : block.k ≡ k
+  pub dims : block.kept.dims ≡ n
+  pub room : block.kept.room ≡ cap
+  pub log_room : HaveLogRoom events block.kept.log_rooms
+  pub gathered : IsTrue block.kept.gathered

@@ -1,0 +1,142 @@
+//! Blocks of a machine.
+
+ghost use Rattle.std.specs.Prelude.{◌≡◌, ◌+◌, ◌-◌, ◌*◌, ◌/◌, ◌<◌, ◌≤◌, ◌↔◌, ◌^◌, IfOk, IsErrOf, IsTrue, [], map, vec_len, vec_capacity};
+ghost use Rattle.std.specs.List.{All};
+ghost use Rattle.cm_model.specs.Each.{each_from};
+ghost use Rattle.cm_blocks.specs.Parts.{block, buffer_in};
+ghost use Rattle.cm_array.specs.Cuts.{joined, AreWhole};
+ghost use Rattle.cm_subcube.specs.Blocks.{IsBlock, IsFresh};
+
+use cm_array::{IntoPart, Machine, Part};
+use cm_bits::NoMemory;
+use cm_message::Message;
+use std::alloc::Global;
+use std::marker::Model;
+use thiserror::Error;
+
+/// Why a machine was not cut.
+#[derive(Clone, Copy, Debug, PartialEq, Eq, Error)]
+pub enum SplitFault {
+    #[error("a block would have less than a row of chips")]
+    Split,
+    #[error("out of memory")]
+    Memory,
+}
+
+impl From<NoMemory> for SplitFault {
+    ghost use Rattle.std.specs.Prelude.{◌≡◌};
+    ghost use Rattle.cm_subcube.specs.declared.block.SplitFault.TheVariants.{Memory};
+
+    ghost from_gives = { λ _ fault. fault ≡ Memory };
+
+    fn from(_: NoMemory) -> SplitFault {
+        SplitFault::Memory
+    }
+}
+
+/// One of 2^`k` bands of whole rows of chips: the chips whose numbers have the same upper `k` bits, with what
+/// stands at them and room to go through a run by themselves.
+///
+/// Contracts see the number `k` and what a part of a machine keeps.
+#[derive(Debug, Drop)]
+pub struct Block {
+    k: u8,
+    part: Part,
+}
+
+impl Model for Block {
+    ghost use Rattle.cm_subcube.specs.Blocks.{KeptBlock, IsBlock};
+
+    ghost Value = { KeptBlock };
+
+    ghost view = { λ block. record { k = block.k; kept = block.part } };
+
+    ghost invariant = { λ block. IsBlock block.k block.part };
+}
+
+impl Block {
+    /// The messages that stand in the router of the chip of that number in the whole, in order of arrival.
+    pub fn buffer(&self, chip: u16) -> &[Message]
+        requires from { self.now.kept.part.first ≤ chip }
+        requires below { chip < self.now.kept.part.first + self.now.kept.part.count }
+        requires gathered { IsTrue self.now.kept.gathered }
+        ensures value { result.now ≡ buffer_in self.now.kept.part chip }
+    {
+        self.part.buffer(chip)
+    }
+}
+
+impl IntoPart for Block {
+    ghost held = { λ block. block.kept };
+
+    fn into_part(self) -> Part {
+        self.part
+    }
+}
+
+/// Cuts a machine into 2^`k` blocks, each a copy, with room in their logs for so many petit cycles.
+pub fn split<const N: usize, const CAP: usize>(
+    alloc: Global,
+    machine: &Machine<N, CAP>,
+    k: u8,
+    cycles: usize,
+) -> Result<Vec<Block>, SplitFault>
+    ensures value { IfOk result (λ blocks. map (λ b. b.kept.part) blocks.items
+        ≡ each_from 0 (2 ^ k) (λ b. block N k b machine.now.machine)) }
+    ensures fresh { IfOk result (λ blocks. All (IsFresh N CAP k (cycles * (4 + CAP))) blocks.items) }
+    ensures split { IsErrOf result SplitFault.Split ↔ (N - N / 2 < k) }
+{
+    let dims = machine.dims();
+    if k > dims - dims / 2 {
+        return Err(SplitFault::Split);
+    }
+    let count = power_of_two(k);
+    let mut blocks = room_for(alloc, usize::from(count))?;
+    for b in 0..count {
+        let block = cut(alloc, machine, k, b, cycles)?;
+        blocks.push_reserved(block);
+    }
+    Ok(blocks)
+}
+
+/// Block `b` of 2^`k`, a copy, with room in its logs for so many petit cycles.
+fn cut<const N: usize, const CAP: usize>(
+    alloc: Global,
+    machine: &Machine<N, CAP>,
+    k: u8,
+    b: u16,
+    cycles: usize,
+) -> Result<Block, NoMemory>
+    requires within { k ≤ N - N / 2 }
+    requires block { b < 2 ^ k }
+    ensures value { IfOk result (λ cut. cut.kept.part ≡ block N k b machine.now.machine) }
+    ensures fresh { IfOk result (IsFresh N CAP k (cycles * (4 + CAP))) }
+{
+    let size = power_of_two(machine.dims() - k);
+    let part = machine.part(alloc, b * size, size, cycles)?;
+    Ok(Block { k, part })
+}
+
+fn power_of_two(exponent: u8) -> u16
+    requires small { exponent ≤ 12 }
+    ensures value { result ≡ 2 ^ exponent }
+{
+    1 << exponent
+}
+
+/// Room for so many blocks.
+fn room_for(alloc: Global, count: usize) -> Result<Vec<Block>, NoMemory>
+    ensures none { IfOk result (λ blocks. blocks.items ≡ []) }
+    ensures len { IfOk result (λ blocks. vec_len blocks ≡ 0) }
+    ensures room { IfOk result (λ blocks. count ≤ vec_capacity blocks) }
+{
+    Ok(Vec::with_capacity(alloc, count)?)
+}
+
+/// The machine becomes that which these blocks are in their order. No memory is taken.
+pub fn join<const N: usize, const CAP: usize>(blocks: Vec<Block>, into: &mut Machine<N, CAP>)
+    requires whole { AreWhole N CAP (map (λ b. b.kept.part) blocks.items) }
+    ensures value { into.new.machine ≡ joined (map (λ b. b.kept.part) blocks.items) }
+{
+    into.put(blocks);
+}
