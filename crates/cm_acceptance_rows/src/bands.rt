@@ -357,7 +357,11 @@ fn has_moved_messages(left: &mut Crossing, right: &mut Crossing, chip: u16, firs
     }
     let here = left.buffer(chip);
     let there = right.buffer(chip);
-    here.len() == there.len() && here.iter().zip(there).all(|(m, other)| moved(*m, first) == *other)
+    here.len() == there.len()
+        && here
+            .iter()
+            .zip(there)
+            .all(|(m, other)| moved(*m, first) == *other)
 }
 
 fn has_moved_events(left: &[Vec<Event>], right: &[Vec<Event>], chip: u16, first: u16) -> bool {
@@ -366,7 +370,10 @@ fn has_moved_events(left: &[Vec<Event>], right: &[Vec<Event>], chip: u16, first:
         return false;
     };
     here.len() == there.len()
-        && here.iter().zip(there).all(|(event, other)| moved_event(*event, first) == *other)
+        && here
+            .iter()
+            .zip(there)
+            .all(|(event, other)| moved_event(*event, first) == *other)
 }
 
 // A run that begins at chip 5 has the planes of one that begins at chip 0, and other tags.

@@ -130,40 +130,8 @@ pub(crate) fn read_off(row: &[Message], tickets: &[Option<Ticket>], leavers: &mu
     }
 }
 
-/// Delivers to one chip, if a message stands there.
-pub(crate) fn give_out(
-    row: &[Message],
-    slots: &mut Slots,
-    run: &mut Run,
-    chip: u16,
-    here: u16,
-    log: &mut Vec<Event>,
-)
-    requires stands { chip < length slots.old }
-    requires kept { AreKept (length row.now) (list_at slots.old chip) }
-    requires chip { chip < length run.old }
-    requires room { vec_len log.old + length (list_at slots.old chip) ≤ vec_capacity log.old }
-    ensures value { standing row.now (list_at slots.new chip)
-        ≡ kept_of (standing row.now (list_at slots.old chip)) (chip_at run.old chip) }
-    ensures kept { AreKept (length row.now) (list_at slots.new chip) }
-    ensures fewer { length (list_at slots.new chip) ≤ length (list_at slots.old chip) }
-    ensures others { IsWritten chip slots.old slots.new }
-    ensures chip { run.new ≡ slice_set run.old chip (chip_after_delivery
-        (delivered_of (standing row.now (list_at slots.old chip)) (chip_at run.old chip)) (chip_at run.old chip)) }
-    ensures log { log.new.items ≡ log.old.items ++ map (λ m. event.Delivered m here)
-        (delivered_of (standing row.now (list_at slots.old chip)) (chip_at run.old chip)) }
-    ensures told { vec_len log.new ≤ vec_len log.old + length (list_at slots.old chip) }
-    ensures log_room { vec_capacity log.old ≤ vec_capacity log.new }
-{
-    begin(run, chip);
-    let Some(_first) = slots.ticket(usize::from(chip), 0) else {
-        return;
-    };
-    give_each(row, slots, run, chip, here, log);
-}
-
 /// Delivers to one chip, message by message.
-fn give_each(
+pub(crate) fn give_out(
     row: &[Message],
     slots: &mut Slots,
     run: &mut Run,

@@ -33,3 +33,4 @@ pub mod Finding
 pub mod Unlogged
 pub mod Sinces
 pub mod Delivered
+pub mod Scan

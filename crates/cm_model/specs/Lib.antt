@@ -12,6 +12,7 @@ pub mod Steps
 pub mod Cycle
 pub mod Machine
 pub mod Buffers
+pub mod Delivery
 pub mod Account
 pub mod Found
 pub mod Keeping

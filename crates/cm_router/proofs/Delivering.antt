@@ -1,4 +1,4 @@
--- A delivery, one message after another: that each message more brings the chip one on, and a node's list with it.
+-- A delivery, one message after another: that each message more brings the chip one on.
 use Rattle.std.proofs.Common.{◌≡◌, ◌≢◌, ℕ, ◌+◌, ◌<◌, ◌==◌, ◌&&◌, Bool, true, false, not, List, [], ◌∷◌, ◌++◌, length}
 use Rattle.std.proofs.Common.{map, get_or, remove, Option, Some, None, refl, sym, ap, ◌∙◌, ⊎_elim, arith, append_assoc}
 use Rattle.std.proofs.Common.{get_or-set_same, get_or-set_other}
@@ -15,16 +15,10 @@ use Rattle.cm_model.specs.Letters.{can_receive, has_arrived, is_for, is_among, p
 use Rattle.cm_model.specs.Letters.{chip_after_delivery}
 use Rattle.cm_model.specs.Buffers.{is_accepted, delivered, kept}
 use Rattle.cm_model.proofs.Each.{is_each}
-use Rattle.cm_router.specs.Delivery.{arrived_in, HasGone, HasHandedOver}
+use Rattle.cm_model.specs.Delivery.{arrived_in, HasGone, HasHandedOver}
+use Rattle.cm_model.proofs.Scan.{out_of}
 use Rattle.cm_router.proofs.Scanning.{delivered-more, kept-more, arrived_in-more, none_delivered, after_one}
 use Rattle.cm_router.proofs.Scanning.{processor_at-delivered, length-delivered, delivered_one_more}
-
--- of a buffer, what a whole chip delivers and what stays
-abbrev pub out_of : List Processor → List Message → List Message
-out_of before ms = delivered (can_receive before) [] ms
-
-abbrev pub staying_of : List Processor → List Message → List Message
-staying_of before ms = kept (can_receive before) [] ms
 
 -- each processor can receive if it could before, and none has arrived for it among the messages seen
 abbrev pub StillOpen : List Processor → List Message → List Processor → Type 0
@@ -177,115 +171,3 @@ nothing_seen chip whole = record {
   chip_is = nobody_yet chip whole;
   «open» = λ p h. and_not_false (can_receive chip p);
 }
-
--- ---- a node's list
-
--- the events of these deliveries
-abbrev pub delivery_events : ℕ → List Message → List Event
-delivery_events here ds = map (λ m. Delivered m here) ds
-
--- how far a scan has come: the messages are those kept of the ones seen, and then the rest
-pub record Scan (before : List Processor) (old : List Message) (told : List Event) (here : ℕ) (chip : List Processor)
-    (now : List Message) (place : ℕ) (events : List Event) : Type 0 where
-  pub seen : List Message
-  pub rest : List Message
-  pub gone : HasGone before seen chip
-  pub all : seen ++ rest ≡ old
-  pub stay : now ≡ staying_of before seen ++ rest
-  pub at : length (staying_of before seen) ≡ place
-  pub log_is : events ≡ told ++ delivery_events here (out_of before seen)
-
-pub scan_begins : (chip : List Processor) (ms : List Message) (told : List Event) (here : ℕ) → HasGone chip [] chip
-    → Scan chip ms told here chip ms 0 told
-scan_begins chip ms told here gone = record {
-  seen = [];
-  rest = ms;
-  gone = gone;
-  all = refl;
-  stay = refl;
-  at = refl;
-  log_is = sym (append-nil told);
-}
-
--- in a list that is cut in two, the element where the second part begins
-next_is : {X : Type 0} (xs : List X) (x y : X) (ys : List X) → get_or (xs ++ x ∷ ys) (length xs) y ≡ x
-next_is [] x y ys = refl
-next_is (z ∷ xs) x y ys = next_is xs x y ys
-
-next_removed : {X : Type 0} (xs : List X) (x : X) (ys : List X) → remove (xs ++ x ∷ ys) (length xs) ≡ xs ++ ys
-next_removed [] x ys = refl
-next_removed (z ∷ xs) x ys = ap (λ w. z ∷ w) (next_removed xs x ys)
-
--- what the step does, whatever was seen before
-abbrev pub HandsOver : Bool → List Processor → Message → List Processor → List Processor → Type 0
-HandsOver was_delivered before m chip after = (seen : List Message) → HasGone before seen chip
-    → HasHandedOver was_delivered before seen m after
-
-accepted_at : (before : List Processor) (old : List Message) (told : List Event) (here : ℕ) (after : List Processor)
-    (now : List Message) (place : ℕ) (events : List Event)
-    (m : Message) (seen rest : List Message) → HasHandedOver true before seen m after → seen ++ rest ≡ old
-    → now ≡ staying_of before seen ++ rest → length (staying_of before seen) ≡ place
-    → events ≡ told ++ delivery_events here (out_of before seen) → place < length now → get_or now place m ≡ m
-    → Scan before old told here after (remove now place) place (events ++ Delivered m here ∷ [])
-accepted_at before old told here after now place events m seen [] step all stay at log_is inside is =
-    absurd (omega (arith, ap length stay, length-append (staying_of before seen) []))
-accepted_at before old told here after now place events m seen (x ∷ rest) step all stay at log_is inside is =
-    let m_is : x ≡ m = sym (next_is (staying_of before seen) x m rest) ∙ rw (at, ← stay) is in
-    let same : staying_of before (seen ++ m ∷ []) ≡ staying_of before seen =
-    step.kept_is ∙ append-nil (staying_of before seen) in
-    record {
-      seen = seen ++ m ∷ [];
-      rest = rest;
-      gone = step.gone;
-      all = append_assoc seen (m ∷ []) rest ∙ ap (λ (z : Message). seen ++ z ∷ rest) (sym m_is) ∙ all;
-      stay = ap (λ (ms : List Message). remove ms place) stay
-          ∙ rw (← at) (next_removed (staying_of before seen) x rest)
-          ∙ ap (λ (ms : List Message). ms ++ rest) (sym same);
-      at = ap length same ∙ at;
-      log_is = rw (log_is, step.delivered_is, map-append (λ d. Delivered d here) (out_of before seen) (m ∷ []))
-          (append_assoc told (delivery_events here (out_of before seen)) (Delivered m here ∷ []));
-    }
-
--- the message at the place is delivered, and taken out
-pub scan_accepts : (before : List Processor) (old : List Message) (told : List Event) (here : ℕ)
-    (chip after : List Processor) (now : List Message) (place : ℕ) (events : List Event)
-    (m : Message) → Scan before old told here chip now place events → place < length now → get_or now place m ≡ m
-    → HandsOver true before m chip after
-    → Scan before old told here after (remove now place) place (events ++ Delivered m here ∷ [])
-scan_accepts before old told here chip after now place events m scan inside is step =
-    accepted_at before old told here after now place events m scan.seen scan.rest (step scan.seen scan.gone) scan.all
-    scan.stay scan.at scan.log_is inside is
-
-kept_at : (before : List Processor) (old : List Message) (told : List Event) (here : ℕ) (after : List Processor)
-    (now : List Message) (place : ℕ) (events : List Event)
-    (m : Message) (seen rest : List Message) → HasHandedOver false before seen m after → seen ++ rest ≡ old
-    → now ≡ staying_of before seen ++ rest → length (staying_of before seen) ≡ place
-    → events ≡ told ++ delivery_events here (out_of before seen) → place < length now → get_or now place m ≡ m
-    → Scan before old told here after now (place + 1) events
-kept_at before old told here after now place events m seen [] step all stay at log_is inside is =
-    absurd (omega (arith, ap length stay, length-append (staying_of before seen) []))
-kept_at before old told here after now place events m seen (x ∷ rest) step all stay at log_is inside is =
-    let m_is : x ≡ m = sym (next_is (staying_of before seen) x m rest) ∙ rw (at, ← stay) is in
-    let same : out_of before (seen ++ m ∷ []) ≡ out_of before seen = step.delivered_is
-    ∙ append-nil (out_of before seen) in
-    record {
-      seen = seen ++ m ∷ [];
-      rest = rest;
-      gone = step.gone;
-      all = append_assoc seen (m ∷ []) rest ∙ ap (λ (z : Message). seen ++ z ∷ rest) (sym m_is) ∙ all;
-      stay = stay ∙ ap (λ (z : Message). staying_of before seen ++ z ∷ rest) m_is
-          ∙ sym (append_assoc (staying_of before seen) (m ∷ []) rest)
-          ∙ ap (λ (ms : List Message). ms ++ rest) (sym step.kept_is);
-      at = ap length step.kept_is ∙ omega (arith, length-append (staying_of before seen) (m ∷ []), at);
-      log_is = log_is ∙ ap (λ (ds : List Message). told ++ delivery_events here ds) (sym same);
-    }
-
--- the message at the place is kept, and the scan goes on behind it
-pub scan_keeps : (before : List Processor) (old : List Message) (told : List Event) (here : ℕ)
-    (chip after : List Processor) (now : List Message) (place : ℕ) (events : List Event)
-    (m : Message) → Scan before old told here chip now place events → place < length now → get_or now place m ≡ m
-    → HandsOver false before m chip after
-    → Scan before old told here after now (place + 1) events
-scan_keeps before old told here chip after now place events m scan inside is step =
-    kept_at before old told here after now place events m scan.seen scan.rest (step scan.seen scan.gone) scan.all
-    scan.stay scan.at scan.log_is inside is

@@ -16,7 +16,7 @@ use Rattle.cm_model.specs.Letters.{chip_after_delivery}
 use Rattle.cm_element.specs.Wide.{with_memory_field}
 use Rattle.cm_model.specs.Buffers.{is_accepted, arrived_for, delivered, kept}
 use Rattle.cm_model.proofs.Each.{is_each, length-each_from, get_or-each_below}
-use Rattle.cm_router.specs.Delivery.{arrived_in}
+use Rattle.cm_model.specs.Delivery.{arrived_in}
 
 -- ---- one message more
 

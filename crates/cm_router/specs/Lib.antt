@@ -1,3 +1,2 @@
 pub mod Buffer
-pub mod Delivery
 pub mod Idle

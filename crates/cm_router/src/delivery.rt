@@ -6,7 +6,7 @@ ghost use Rattle.cm_model.specs.declared.message.Message.{Message};
 ghost use Rattle.cm_model.specs.Processor.{Processor};
 ghost use Rattle.cm_model.specs.Array.{chip_at};
 ghost use Rattle.cm_model.specs.Letters.{has_arrived, can_receive, chip_after_delivery};
-ghost use Rattle.cm_router.specs.Delivery.{HasGone, HasHandedOver};
+ghost use Rattle.cm_model.specs.Delivery.{HasGone, HasHandedOver};
 
 use crate::letters::{is_one, receive, received, tell_delivered};
 use cm_bits::FlagNo;

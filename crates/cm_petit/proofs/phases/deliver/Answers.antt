@@ -43,8 +43,8 @@ loop-c-preserved c =
     let longer = rw (← c.index-logs-c.is) at c.deliver.ensures.told in
     let kept = rw (← c.index-logs-c.is) at c.deliver.ensures.log_room in
     let one_more : IsDelivered c.args.sizes.room
-        (part_of c.args.first (2 ^ c.args.sizes.span) c.args.run.now c.args.crossing.now.buffers c.args.logs.now 0)
-        c.args.logs.now c.deliver.new.run c.deliver.new.self.buffers (set here.logs i c.deliver.new.log) (i + 1) =
+    (part_of c.args.first (2 ^ c.args.sizes.span) c.args.run.now c.args.crossing.now.buffers c.args.logs.now 0)
+    c.args.logs.now c.deliver.new.run c.deliver.new.self.buffers (set here.logs i c.deliver.new.log) (i + 1) =
     rw (c.deliver.ensures.value, c.deliver.ensures.chip)
     (delivered_more c.args.sizes.room c.args.first c.args.sizes.span
     c.args.run.now c.args.crossing.now.buffers c.args.logs.now here.run here.crossing.buffers here.logs i

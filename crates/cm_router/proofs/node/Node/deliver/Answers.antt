@@ -1,7 +1,7 @@
 use Rattle.std.proofs.Common.{◌≡◌, ◌<◌, ◌++◌, [], ◌∷◌, Bool, if◌then◌else◌, length, ap, ◌∙◌, sym, arith, get_or}
 use Rattle.std.proofs.lemmas.List.{append-nil, set-get_or}
 use Rattle.cm_model.specs.declared.message.Event.TheVariants.{Delivered}
-use Rattle.cm_router.proofs.Delivering.{scan_begins, scan_accepts, scan_keeps}
+use Rattle.cm_model.proofs.Scan.{scan_begins, scan_accepts, scan_keeps}
 use Rattle.cm_router.proofs.Replaced.{others_still}
 use Rattle.cm_router.proofs.node.Node.deliver.Goals as goal
 

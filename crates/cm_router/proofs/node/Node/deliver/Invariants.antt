@@ -1,6 +1,6 @@
 use Rattle.std.proofs.Common.{◌≡◌, ◌+◌, ◌-◌, ◌<◌, ◌≤◌, length, set, vec_len, vec_capacity}
 use Rattle.cm_model.specs.Array.{chip_at}
-use Rattle.cm_router.proofs.Delivering.{Scan}
+use Rattle.cm_model.proofs.Scan.{Scan}
 use Rattle.cm_router.proofs.node.Node.deliver.Given as goal
 
 abbrev pub invariant-loop-place : goal.invariant-loop-place

@@ -1,5 +1,4 @@
-use Rattle.std.proofs.Common.{◌≡◌, ◌/◌, ◌<◌, ℕ, length, subst, ap, sym, ◌∙◌, arith}
-use Rattle.cm_slots.specs.Tiles.{tickets_of}
+use Rattle.std.proofs.Common.{◌≡◌, ◌<◌, length, sym, ◌∙◌, arith}
 use Rattle.cm_slots.proofs.Departures.{as_many, ticket_list}
 use Rattle.cm_slots.proofs.slots.Slots.next_occupied.Goals as goal
 

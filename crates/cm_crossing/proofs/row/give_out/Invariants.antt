@@ -1,15 +1,15 @@
 use Rattle.std.proofs.Common.{◌≡◌, ◌+◌, ◌-◌, ◌≤◌, length, set, vec_len, vec_capacity}
 use Rattle.cm_model.specs.Array.{chip_at, list_at}
 use Rattle.cm_crossing.specs.Standing.{standing, AreKept, IsWritten}
-use Rattle.cm_crossing.proofs.Giving.{Giving}
-use Rattle.cm_crossing.proofs.row.give_each.Given as goal
+use Rattle.cm_model.proofs.Scan.{Scan}
+use Rattle.cm_crossing.proofs.row.give_out.Given as goal
 
 abbrev pub decreases-loop-ticket : goal.decreases-loop-ticket
 decreases-loop-ticket l = length (list_at l.slots l.chip) - l.place
 
 abbrev pub invariant-loop-ticket : goal.invariant-loop-ticket
 invariant-loop-ticket l = record {
-  giving : Giving (chip_at l.fn.run l.chip) (standing l.row (list_at l.fn.slots l.chip)) l.fn.log.items l.here
+  scan : Scan (chip_at l.fn.run l.chip) (standing l.row (list_at l.fn.slots l.chip)) l.fn.log.items l.here
       (chip_at l.run l.chip) (standing l.row (list_at l.slots l.chip)) l.place l.log.items;
   run : l.run ≡ set l.fn.run l.chip (chip_at l.run l.chip);
   kept : AreKept (length l.row) (list_at l.slots l.chip);
