@@ -97,10 +97,6 @@ impl<const N: usize> Beside<N> {
         })
     }
 
-    fn has_chips(&self, chips: u16) -> bool {
-        self.run.chips() == usize::from(chips)
-    }
-
     // Each bit and each flag but 8 as drawn, in both.
     fn fill(&mut self, chips: u16)
         requires chips { chips ≡ 2 ^ N }
@@ -123,7 +119,7 @@ impl<const N: usize> Beside<N> {
     fn put_flag(&mut self, chips: u16, chip: u16, proc: Proc, number: FlagNo, bit: bool)
         requires chips { chips ≡ 2 ^ N }
     {
-        if self.has_chips(chips) && chip < chips {
+        if self.run.chips() == usize::from(chips) && chip < chips {
             let _ = self.run.poke_flag(chip, proc, number, bit);
             self.plain.poke_flag(chip, proc, number, bit);
         }
@@ -132,7 +128,7 @@ impl<const N: usize> Beside<N> {
     fn put_bit(&mut self, chips: u16, chip: u16, proc: Proc, at: Addr, bit: bool)
         requires chips { chips ≡ 2 ^ N }
     {
-        if self.has_chips(chips) && chip < chips {
+        if self.run.chips() == usize::from(chips) && chip < chips {
             self.run.poke(chip, proc, at, bit);
             self.plain.poke(chip, proc, at, bit);
         }
@@ -144,10 +140,10 @@ impl<const N: usize> Beside<N> {
         requires dimension { N ≤ 12 }
     {
         let count = usize::from(chips);
-        if !self.has_chips(chips) || self.sent.len() != count || self.incoming.len() != count {
+        self.plain.step(alloc, nano)?;
+        if self.run.chips() != count || self.sent.len() != count || self.incoming.len() != count {
             return Ok(false);
         }
-        self.plain.step(alloc, nano)?;
         step(
             N as u8,
             &mut self.run,
@@ -162,7 +158,7 @@ impl<const N: usize> Beside<N> {
     fn is_same_at(&self, chips: u16, chip: u16, proc: Proc) -> bool
         requires chips { chips ≡ 2 ^ N }
     {
-        if !self.has_chips(chips) || chip >= chips {
+        if self.run.chips() != usize::from(chips) || chip >= chips {
             return false;
         }
         for number in 0u8..16 {
