@@ -1,2 +1,3 @@
 mod Rounding
 mod Blocking
+mod Joining

@@ -25,6 +25,7 @@ invariant_of-self c =
       capacity = omega (arith, were.capacity, c.clear.ensures.capacity);
       spare_capacity = were.spare_capacity;
       filled = omega (arith, c.clear.ensures.len);
+      rows = were.rows ∙ sym long;
       kept = subst (λ (queues : List (List Ticket)). All (AreKept (length row)) queues)
           (sym same) (none_kept (length inside.slots) (length row));
       together = λ gathered. subst (λ (queues : List (List Ticket)). All (AreTogether row) queues)
