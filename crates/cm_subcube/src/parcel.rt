@@ -57,7 +57,7 @@ fn no_messages(alloc: Global, span: u8) -> Result<Vec<Option<Message>>, NoMemory
     requires few { span ≤ 12 }
     ensures value { IfOk result (λ lane. lane.items ≡ each_from 0 (2 ^ span) (λ place. None)) }
 {
-    let count = 1 << span;
+    let count: usize = 1 << span;
     Ok((0..count).map(|_| None).collect(alloc)?)
 }
 
