@@ -11,3 +11,4 @@ mod Poking
 mod Laying
 mod Cutting
 mod Putting
+mod Halving

@@ -1,8 +1,13 @@
 //! Parts of a machine: some of its chips, one after another, with what stands at them.
 
-ghost use Rattle.std.specs.Prelude.{◌≡◌, ℕ, ◌+◌, ◌<◌, ◌≤◌, ◌^◌, ◌++◌, [], IfOk, IsTrue, length, slice_set};
+ghost use Rattle.std.specs.Prelude.{◌≡◌, ℕ, ◌+◌, ◌<◌, ◌≤◌, ◌^◌, ◌++◌, [], true, None, IfOk, IsTrue, length};
+ghost use Rattle.std.specs.Prelude.{slice_set};
 ghost use Rattle.std.specs.List.{All};
 ghost use Rattle.cm_model.specs.Array.{list_at};
+ghost use Rattle.cm_model.specs.Keeping.{AreSizes};
+ghost use Rattle.cm_model.specs.Steps.{Cross};
+ghost use Rattle.cm_blocks.specs.Parcels.{Mail, due};
+ghost use Rattle.cm_blocks.specs.Steps.{less, absorbed};
 ghost use Rattle.cm_blocks.specs.Parts.{cut, part, chip_in, buffer_in, log_in};
 ghost use Rattle.cm_array.specs.Parts.{machine_of, AreParts};
 ghost use Rattle.cm_array.specs.Cuts.{kept_part, IsKeptPart, HaveLogRoom, IsLaid};
@@ -12,6 +17,7 @@ use cm_bits::NoMemory;
 use cm_crossing::{Crossing, Sizes};
 use cm_element::{ChipView, Run};
 use cm_message::{Event, Message};
+use cm_petit::{leave, take_in};
 use std::alloc::Global;
 use std::marker::Model;
 
@@ -91,6 +97,14 @@ impl Part {
         self.parts
     }
 
+    /// The dimensions of the cube that its chips are of.
+    pub fn dims(&self) -> u8
+        ensures value { result ≡ self.now.dims }
+        ensures sizes { AreSizes self.now.dims self.now.room }
+    {
+        self.dims
+    }
+
     /// The number of its first chip.
     pub fn first(&self) -> u16
         ensures value { result ≡ self.now.part.first }
@@ -139,6 +153,56 @@ impl Part {
         ensures value { result.now ≡ log_in self.now.part number }
     {
         &self.parts.logs[usize::from(number - self.first)]
+    }
+}
+
+impl Part {
+    /// The first half of a dimension that leads out of it: what leaves each chip is taken out, and written down
+    /// for the chip across. It has 2^`span` chips.
+    pub fn leave(&mut self, span: u8, dim: u8, leavers: &mut [Option<Message>])
+        requires band { self.old.part.count ≡ 2 ^ span }
+        requires dim { dim < self.old.dims }
+        requires lanes { length leavers.old ≡ 2 ^ span }
+        ensures value { self.new ≡ record self.old {
+          part = less self.old.room (Cross dim) self.old.part;
+          gathered = self.new.gathered;
+        } }
+        ensures going { Mail leavers.new ≡ due self.old.dims self.old.room (Cross dim) self.old.part }
+        ensures space { All (λ ms. length ms < self.new.room) self.new.part.buffers }
+    {
+        let sizes = Sizes {
+            dims: self.dims,
+            span,
+            room: self.room,
+        };
+        leave(sizes, &mut self.parts.crossing, dim, leavers);
+    }
+
+    /// The second half: each chip takes in what was written down for it, behind all that stand there. Nothing is
+    /// written down then.
+    pub fn take_in(&mut self, span: u8, leavers: &mut [Option<Message>])
+        requires band { self.old.part.count ≡ 2 ^ span }
+        requires lanes { length leavers.old ≡ 2 ^ span }
+        requires space { All (λ ms. length ms < self.old.room) self.old.part.buffers }
+        ensures value { (dim : ℕ) → self.new ≡ record self.old {
+          part = absorbed self.old.dims self.old.room (Cross dim) (Mail leavers.old) self.old.part;
+          gathered = self.new.gathered;
+        } }
+        ensures blank { All (λ leaver. leaver ≡ None) leavers.new }
+    {
+        let sizes = Sizes {
+            dims: self.dims,
+            span,
+            room: self.room,
+        };
+        take_in(sizes, &mut self.parts.crossing, leavers);
+    }
+
+    /// Makes its messages readable, if any has moved since they were.
+    pub fn gather(&mut self)
+        ensures value { self.new ≡ record self.old { gathered = true } }
+    {
+        self.parts.crossing.gather();
     }
 }
 

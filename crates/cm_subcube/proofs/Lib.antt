@@ -1,2 +1,4 @@
 mod Rounding
 mod Blocking
+mod Joining
+mod Exchanging

@@ -1,2 +1,4 @@
 pub mod Rounds
 pub mod Blocks
+pub mod Parcels
+pub mod Laws

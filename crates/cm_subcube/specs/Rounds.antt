@@ -40,6 +40,22 @@ rounds_from n k at acts = map round_of (filter (λ phase. is_round n k phase.ste
 abbrev pub rounds_of : ℕ → ℕ → List Act → List Round
 rounds_of n k acts = rounds_from n k 0 acts
 
+-- the step of an instruction at which blocks exchange
+abbrev pub step_over_news : Act → Step
+step_over_news (act.Nano nano) = Instruct nano
+step_over_news act.Sense = Look
+step_over_news act.Cycle = Look
+
+-- the step of an act that is of a kind
+abbrev pub step_in : Act → Kind → Step
+step_in one kind.North = step_over_news one
+step_in one kind.South = step_over_news one
+step_in one (kind.Dim d) = Cross d
+
+-- the step of a round
+abbrev pub step_of : Round → Step
+step_of round = step_in round.act round.kind
+
 -- ---- those of one act
 
 -- that of an instruction at a place, if it is one

@@ -2,10 +2,10 @@
 
 ghost use Rattle.std.specs.Prelude.{◌≡◌, ◌+◌, ◌-◌, ◌*◌, ◌/◌, ◌<◌, ◌≤◌, ◌↔◌, ◌^◌, IfOk, IsErrOf, IsTrue, [], map, vec_len, vec_capacity};
 ghost use Rattle.std.specs.List.{All};
-ghost use Rattle.cm_model.specs.Each.{each_from};
 ghost use Rattle.cm_blocks.specs.Parts.{block, buffer_in};
 ghost use Rattle.cm_array.specs.Cuts.{joined, AreWhole};
 ghost use Rattle.cm_subcube.specs.Blocks.{IsBlock, IsFresh};
+ghost use Rattle.cm_subcube.specs.Laws.{all_blocks};
 
 use cm_array::{IntoPart, Machine, Part};
 use cm_bits::NoMemory;
@@ -40,8 +40,8 @@ impl From<NoMemory> for SplitFault {
 /// Contracts see the number `k` and what a part of a machine keeps.
 #[derive(Debug, Drop)]
 pub struct Block {
-    k: u8,
-    part: Part,
+    pub(crate) k: u8,
+    pub(crate) part: Part,
 }
 
 impl Model for Block {
@@ -82,7 +82,7 @@ pub fn split<const N: usize, const CAP: usize>(
     cycles: usize,
 ) -> Result<Vec<Block>, SplitFault>
     ensures value { IfOk result (λ blocks. map (λ b. b.kept.part) blocks.items
-        ≡ each_from 0 (2 ^ k) (λ b. block N k b machine.now.machine)) }
+        ≡ all_blocks N k machine.now.machine) }
     ensures fresh { IfOk result (λ blocks. All (IsFresh N CAP k (cycles * (4 + CAP))) blocks.items) }
     ensures split { IsErrOf result SplitFault.Split ↔ (N - N / 2 < k) }
 {

@@ -2,7 +2,14 @@
 #![tactic(auto)]
 
 mod block;
+mod copying;
+mod exchange;
+mod laws;
+mod parcel;
 mod round;
 
 pub use block::{Block, SplitFault, join, split};
+pub use copying::copy_by_blocks;
+pub use laws::blocks_are_joined;
+pub use parcel::Parcel;
 pub use round::{Kind, Round, rounds};

@@ -1,0 +1,69 @@
+-- A part of a machine after a half of a dimension, which changes its messages alone.
+use Rattle.std.proofs.Common.{◌≡◌, ℕ, ◌+◌, ◌<◌, ◌≤◌, ◌^◌, List, length, sym, ap, ◌∙◌, subst, arith}
+use Rattle.std.specs.List.{All}
+use Rattle.cm_model.specs.declared.message.Message.{Message}
+use Rattle.cm_blocks.specs.Parts.{Part}
+use Rattle.cm_blocks.specs.Parcels.{Parcel}
+use Rattle.cm_crossing.specs.Standing.{UnderWay}
+use Rattle.cm_petit.specs.Routers.{part_of}
+use Rattle.cm_array.specs.declared.parts.Parts.{Parts}
+use Rattle.cm_array.specs.Cuts.{KeptPart, kept_part, IsKeptPart}
+
+module _ (dims room first span : ℕ) (parts : Parts) (old : KeptPart) (view : kept_part dims room first parts ≡ old)
+    (band : old.part.count ≡ 2 ^ span) where
+  -- how many chips there are
+  pub chips_in_band : length parts.run ≡ 2 ^ span
+  chips_in_band = ap (λ (k : KeptPart). k.part.count) view ∙ band
+
+  -- what a step makes of the part is what it makes of the part that is kept
+  pub kept_stepped : (crossing : UnderWay) (step : KeptPart → Part → Part)
+      → part_of first (2 ^ span) parts.run crossing.buffers parts.logs.items parts.clock
+      ≡ step (kept_part dims room first parts)
+      (part_of first (2 ^ span) parts.run parts.crossing.buffers parts.logs.items parts.clock)
+      → kept_part dims room first (record parts { crossing = crossing })
+      ≡ record old { part = step old old.part; gathered = crossing.gathered }
+  kept_stepped crossing step is =
+      let here = kept_part dims room first parts in
+      let long = chips_in_band in
+      subst (λ (k : KeptPart). kept_part dims room first (record parts { crossing = crossing })
+      ≡ record k { part = step k k.part; gathered = crossing.gathered }) view
+      (λ i. record {
+        dims = dims;
+        room = room;
+        part = (ap (λ (n : ℕ). part_of first n parts.run crossing.buffers parts.logs.items parts.clock) long
+            ∙ is
+            ∙ ap (λ (n : ℕ). step here
+            (part_of first n parts.run parts.crossing.buffers parts.logs.items parts.clock)) (sym long)) i;
+        log_rooms = here.log_rooms;
+        gathered = crossing.gathered;
+      })
+
+  -- and what it gives of one what it gives of the other
+  pub kept_gave : (sent : Parcel) (give : KeptPart → Part → Parcel)
+      → sent ≡ give (kept_part dims room first parts)
+      (part_of first (2 ^ span) parts.run parts.crossing.buffers parts.logs.items parts.clock)
+      → sent ≡ give old old.part
+  kept_gave sent give is =
+      let here = kept_part dims room first parts in
+      is ∙ ap (λ (n : ℕ). give here (part_of first n parts.run parts.crossing.buffers parts.logs.items parts.clock))
+      (sym chips_in_band)
+      ∙ ap (λ (k : KeptPart). give k k.part) view
+
+-- with other buffers, as many and within the same room, it is a part still
+pub IsKeptPart-crossed : (n cap first : ℕ) (parts : Parts) (crossing : UnderWay) → IsKeptPart n cap first parts
+    → length crossing.buffers ≡ length parts.run → All (λ ms. length ms ≤ cap) crossing.buffers
+    → IsKeptPart n cap first (record parts { crossing = crossing })
+IsKeptPart-crossed n cap first parts crossing was long within = record {
+  sizes = was.sizes;
+  there = was.there;
+  buffer_count = long;
+  log_count = was.log_count;
+  sent_count = was.sent_count;
+  incoming_count = was.incoming_count;
+  within = within;
+  clock = was.clock;
+}
+
+pub within_where_space : (cap : ℕ) (buffers : List (List Message)) → All (λ ms. length ms < cap) buffers
+    → All (λ ms. length ms ≤ cap) buffers
+within_where_space cap buffers space = λ k d l. omega (arith, space k d l)

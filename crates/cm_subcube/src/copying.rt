@@ -1,0 +1,24 @@
+//! A machine copied by its blocks.
+
+ghost use Rattle.std.specs.Prelude.{◌≡◌, ◌-◌, ◌/◌, ◌<◌, ◌↔◌, IsErrOf, OnOk, OnErr};
+
+use crate::block::{SplitFault, join, split};
+use cm_array::Machine;
+use std::alloc::Global;
+
+/// Makes a machine the same as another, by 2^`k` blocks: what a run by blocks does where there are no acts.
+pub fn copy_by_blocks<const N: usize, const CAP: usize>(
+    alloc: Global,
+    from: &Machine<N, CAP>,
+    k: u8,
+    to: &mut Machine<N, CAP>,
+) -> Result<(), SplitFault>
+    ensures ok { OnOk result (to.new.machine ≡ from.now.machine) }
+    ensures err { OnErr result (to.new ≡ to.old) }
+    ensures split { IsErrOf result SplitFault.Split ↔ (N - N / 2 < k) }
+{
+    let _clock = from.clock();
+    let blocks = split(alloc, from, k, 0)?;
+    join(blocks, to);
+    Ok(())
+}
