@@ -1,5 +1,7 @@
 //! A runner that has no memory or no thread left.
 
+ghost use Rattle.cm_bits.specs.Bit.{bit_number};
+
 use cm_array::{Machine, Plain, RunFault, Runner};
 use cm_model::Act;
 use std::alloc::Global;
@@ -34,14 +36,14 @@ impl Refusing {
 impl<const N: usize, const CAP: usize> Runner<N, CAP> for Refusing {
     ghost ready = { Unit {0} };
 
-    ghost has_lacked_thread = { λ runner. runner.lacked_thread };
+    ghost threads_lacked = { λ runner. bit_number runner.lacked_thread };
 
     fn go(&mut self, machine: &mut Machine<N, CAP>, acts: &[Act]) -> Result<(), RunFault> {
         let Ok(before) = machine.copy(self.alloc) else {
             return Plain.go(machine, acts);
         };
         Plain.go(machine, acts)?;
-        if self.left == 0 && !acts.is_empty() {
+        if self.left == 0 && !self.lacked_thread && !acts.is_empty() {
             *machine = before;
             self.left = usize::MAX;
             return match self.lack {

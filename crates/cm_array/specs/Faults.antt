@@ -25,6 +25,6 @@ is_no_thread Clock = false
 is_no_thread Memory = false
 is_no_thread NoThread = true
 
--- whether one was wanting so far, of the runner that starts none
-abbrev pub plain_has_lacked_thread : Plain → Bool
-plain_has_lacked_thread runner = false
+-- how often one was wanting so far, of the runner that starts none
+abbrev pub plain_threads_lacked : Plain → ℕ
+plain_threads_lacked runner = 0

@@ -1,11 +1,11 @@
 //! What makes a machine go through a list of acts, and the plain one, of one thread.
 
-ghost use Rattle.std.specs.Prelude.{◌≡◌, ◌↔◌, ◌+◌, ◌*◌, ◌++◌, ◌||◌, Bool, IsErrOf, IsFalse, IsOk, IsTrue};
+ghost use Rattle.std.specs.Prelude.{◌≡◌, ◌↔◌, ◌+◌, ◌*◌, ◌++◌, ℕ, cond, IsErrOf, IsFalse, IsOk, IsTrue};
 ghost use Rattle.std.specs.Prelude.{MatchResult, OnOk, OnErr, []};
 ghost use Rattle.cm_model.specs.Machine.{run_of};
 ghost use Rattle.cm_model.specs.Account.{account, newly_injected, SameLines};
 ghost use Rattle.cm_array.specs.Acts.{cycles_in, is_cycle, is_late, is_long};
-ghost use Rattle.cm_array.specs.Faults.{is_no_thread, plain_has_lacked_thread};
+ghost use Rattle.cm_array.specs.Faults.{is_no_thread, plain_threads_lacked};
 ghost use Rattle.cm_array.specs.Parts.{LacksLogRoom};
 
 use crate::machine::Machine;
@@ -48,8 +48,8 @@ pub trait Runner<const N: usize, const CAP: usize> {
     /// What a caller of an unknown runner has to know of its type; of `Plain` it is no condition.
     ghost ready: { Type 0 };
 
-    /// Whether it has refused a list for want of a thread; the plain one never does.
-    ghost has_lacked_thread: { Self → Bool };
+    /// How many lists it has refused for want of a thread; the plain one never does.
+    ghost threads_lacked: { Self → ℕ };
 
     /// Runs the acts one after another, or none of them. The account has then the lines of what was
     /// injected in addition, and no others.
@@ -63,8 +63,9 @@ pub trait Runner<const N: usize, const CAP: usize> {
         ensures account { OnOk result (SameLines (account N machine.new.machine)
             (account N machine.old.machine ++ newly_injected N machine.old.machine machine.new.machine)) }
         ensures threads { MatchResult result
-            (λ _. has_lacked_thread self.new ≡ has_lacked_thread self.old)
-            (λ fault. has_lacked_thread self.new ≡ (is_no_thread fault || has_lacked_thread self.old)) }
+            (λ _. threads_lacked self.new ≡ threads_lacked self.old)
+            (λ fault. threads_lacked self.new
+                ≡ cond (is_no_thread fault) (threads_lacked self.old + 1) (threads_lacked self.old)) }
         ensures err { OnErr result (machine.new.machine ≡ machine.old.machine) };
 }
 
@@ -75,7 +76,7 @@ pub struct Plain;
 impl<const N: usize, const CAP: usize> Runner<N, CAP> for Plain {
     ghost ready = { Unit {0} };
 
-    ghost has_lacked_thread = { plain_has_lacked_thread };
+    ghost threads_lacked = { plain_threads_lacked };
 
     /// Takes memory for the logs of all petit cycles in the list, before the first act, and none where
     /// each log has room for them: a petit cycle tells at most 4 + `CAP` events of a chip.
@@ -89,8 +90,9 @@ impl<const N: usize, const CAP: usize> Runner<N, CAP> for Plain {
             → LacksLogRoom (cycles_in acts.now * (4 + CAP)) machine.old.log_rooms }
         ensures no_thread { ¬ IsErrOf result RunFault.NoThread }
         ensures threads { MatchResult result
-            (λ _. plain_has_lacked_thread self.new ≡ plain_has_lacked_thread self.old)
-            (λ fault. plain_has_lacked_thread self.new ≡ (is_no_thread fault || plain_has_lacked_thread self.old)) }
+            (λ _. plain_threads_lacked self.new ≡ plain_threads_lacked self.old)
+            (λ fault. plain_threads_lacked self.new
+                ≡ cond (is_no_thread fault) (plain_threads_lacked self.old + 1) (plain_threads_lacked self.old)) }
         ensures ok { OnOk result (machine.new.machine ≡ run_of N CAP machine.old.machine acts.now) }
         ensures account { OnOk result (SameLines (account N machine.new.machine)
             (account N machine.old.machine ++ newly_injected N machine.old.machine machine.new.machine)) }

@@ -86,6 +86,18 @@ pub record GivesRefused (gives : Result (Vec ℕ Global) TakeFault → Type 0) (
 abbrev pub IsNotBegun : List ℕ → (Result (Vec ℕ Global) TakeFault → Type 0) → ProgramFault → Type 0
 IsNotBegun image gives fault = IsUnopened image fault ⊎ (IsOpened image × GivesRefused gives fault)
 
+-- a session began: the image has a machine of the program's own, and what the text may give is a program
+pub record HasBegun (image : List ℕ) (gives : Result (Vec ℕ Global) TakeFault → Type 0) : Type 0 where
+  pub start : Start
+  pub begins : opened image ≡ Ok start
+  pub program : ProgramText
+  pub is : GivesProgram gives program
+
+-- whether it began, however it ended, and why it did not
+abbrev pub Begins : List ℕ → (Result (Vec ℕ Global) TakeFault → Type 0) → Result (Option (Vec ℕ Global)) ProgramFault → Type 0
+Begins image gives (Ok kept) = HasBegun image gives
+Begins image gives (Err fault) = IsNotBegun image gives fault ⊎ HasBegun image gives
+
 -- nothing was read of the commands, and nothing written
 pub record IsRefused (image : List ℕ) (gives : Result (Vec ℕ Global) TakeFault → Type 0) (lines : List ℕ)
     (rest held holds : Option (List ℕ)) (fault : ProgramFault) : Type 0 where

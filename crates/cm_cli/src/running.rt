@@ -3,7 +3,7 @@
 ghost use Rattle.std.specs.Prelude.{◌≡◌, ◌≤◌, ◌↔◌, ◌⊎◌, true, false, Ok, Err, IfOk, IfErr, IfSome, IsErrOf};
 ghost use Rattle.cm_image_format.specs.Whole.{read_shape};
 ghost use Rattle.cm_cli.specs.Opened.{is_own_room, opened, IsUnopened};
-ghost use Rattle.cm_cli.specs.Run.{HasRun, HasBrokenOff, EndsRun, GivesProgram, GivesRefused};
+ghost use Rattle.cm_cli.specs.Run.{Begins, HasRun, HasBrokenOff, EndsRun, GivesProgram, GivesRefused};
 
 use crate::program_fault::ProgramFault;
 use crate::takes::TakeFault;
@@ -31,6 +31,7 @@ pub fn run_session<T: Text + Drop, I: Source, O: Sink>(
 ) -> Result<Option<Vec<u8>>, ProgramFault>
     requires reader { I.has_failed commands.old ≡ false }
     requires writer { O.has_failed out.old ≡ false }
+    ensures begins { Begins image.items (T.gives text) result }
     ensures ends { IfSome (I.left commands.old) (λ lines. EndsRun image.items (T.gives text) lines (I.left commands.new)
         (O.contents out.old) (O.contents out.new) keeps result) }
     ensures read { I.has_failed commands.new ≡ true → IsErrOf result ProgramFault.Read }
@@ -65,6 +66,7 @@ fn run_sized<const CAP: usize, T: Text + Drop, I: Source, O: Sink>(
     requires own { is_own_room CAP ≡ true }
     requires reader { I.has_failed commands.old ≡ false }
     requires writer { O.has_failed out.old ≡ false }
+    ensures begins { Begins image.items (T.gives text) result }
     ensures ends { IfSome (I.left commands.old) (λ lines. EndsRun image.items (T.gives text) lines (I.left commands.new)
         (O.contents out.old) (O.contents out.new) keeps result) }
     ensures read { I.has_failed commands.new ≡ true → IsErrOf result ProgramFault.Read }
@@ -103,6 +105,7 @@ fn run_image<const N: usize, const CAP: usize, T: Text + Drop, I: Source, O: Sin
     requires own { is_own_room CAP ≡ true }
     requires reader { I.has_failed commands.old ≡ false }
     requires writer { O.has_failed out.old ≡ false }
+    ensures begins { Begins image.items (T.gives text) result }
     ensures ends { IfSome (I.left commands.old) (λ lines. EndsRun image.items (T.gives text) lines (I.left commands.new)
         (O.contents out.old) (O.contents out.new) keeps result) }
     ensures read { I.has_failed commands.new ≡ true → IsErrOf result ProgramFault.Read }

@@ -116,7 +116,7 @@ stopped_short n cap acts start held done more line session sent machine holds on
     let count_is : count ≡ length first + cut.part = cut.count_is ∙ ap (λ (k : ℕ). k + cut.part) long in
     let part : take count (answers n cap start acts (done ++ line ∷ more)) ≡ first ++ take cut.part one.answer =
     (λ i. take (count_is i) (whole i)) ∙ take_past first (one.answer ++ rest) cut.part
-    ∙ ap (λ (xs : List ℕ). first ++ xs) (take_front one.answer rest cut.part cut.within) in
+    ∙ ap (λ (xs : List ℕ). first ++ xs) (take_front one.answer rest cut.part (omega (arith, cut.within))) in
     let longer : length (answers n cap start acts (done ++ line ∷ more)) ≡ length first + (length one.answer + length rest) =
     ap length whole ∙ length-append first (one.answer ++ rest) ∙ ap (λ (k : ℕ). length first + k) (length-append one.answer rest) in
     let after : session_after n cap acts start (done ++ line ∷ []) ≡ one.session =
@@ -167,7 +167,7 @@ stops_further n cap acts start held lines more machine on (Write count) stops =
     let whole = answers_begin n cap acts start lines more in
     record {
       within = omega (arith, stops.within, ap length whole ∙ length-append (answers n cap start acts lines) _);
-      written = subst (Appends held on) (sym (ap (take count) whole ∙ take_front (answers n cap start acts lines) _ count stops.within)) stops.written;
+      written = subst (Appends held on) (sym (ap (take count) whole ∙ take_front (answers n cap start acts lines) _ count (omega (arith, stops.within)))) stops.written;
       done = stops.done;
       undone = stops.undone ++ more;
       lines_are = ap (λ (ls : List (List ℕ)). ls ++ more) stops.lines_are ∙ append_assoc stops.done stops.undone more;

@@ -1,5 +1,5 @@
 -- What stands between two bytes of a session's commands, and how it breaks off there. Ours.
-use Rattle.std.specs.Prelude.{◌≡◌, ℕ, ◌+◌, ◌≤◌, Bool, true, false, Option, List, [], length, take}
+use Rattle.std.specs.Prelude.{◌≡◌, ℕ, ◌+◌, ◌<◌, Bool, true, false, Option, List, [], length, take}
 use Rattle.std.specs.Io.KnownBytes.{Appends}
 use Rattle.cm_model.specs.declared.act.Act.{Act}
 use Rattle.cm_model.specs.Machine.{Machine}
@@ -23,7 +23,7 @@ pub record IsCutShort (n cap : ℕ) (acts : List Act) (before : Session) (line :
     (holds : Option (List ℕ)) (count : ℕ) : Type 0 where
   pub part : ℕ
   pub count_is : count ≡ sent + part
-  pub within : part ≤ length (after_line n cap acts before line).answer
+  pub within : part < length (after_line n cap acts before line).answer
   pub written : Appends held holds (take part (after_line n cap acts before line).answer)
   pub machine_is : machine ≡ (after_line n cap acts before line).session.machine
 

@@ -1,7 +1,7 @@
 //! What a command does and is answered.
 
 ghost use Rattle.std.specs.Prelude.{◌≡◌, ◌≢◌, ◌<◌, ◌^◌, ◌++◌, ◌∷◌, [], length, slice_set, codes, decimal, IfSome};
-ghost use Rattle.std.specs.Prelude.{◌||◌, MatchResult, OnOk, OnErr};
+ghost use Rattle.std.specs.Prelude.{◌+◌, cond, MatchResult, OnOk, OnErr};
 ghost use Rattle.cm_bits.specs.Bit.{bit_number};
 ghost use Rattle.cm_model.specs.Processor.{ZERO, flag, field_value};
 ghost use Rattle.cm_model.specs.Array.{list_at, processor_of, wire};
@@ -45,8 +45,9 @@ pub fn obey<const N: usize, const CAP: usize, R: Runner<N, CAP>>(
     ensures err { OnErr result (IsOnTheWay N CAP acts.now (session_of machine.old.machine desk.old)
         (obeyed N CAP acts.now (session_of machine.old.machine desk.old) command).session machine.new.machine) }
     ensures thread { MatchResult result
-        (λ _. R.has_lacked_thread runner.new ≡ R.has_lacked_thread runner.old)
-        (λ want. R.has_lacked_thread runner.new ≡ (is_thread want || R.has_lacked_thread runner.old)) }
+        (λ _. R.threads_lacked runner.new ≡ R.threads_lacked runner.old)
+        (λ want. R.threads_lacked runner.new
+            ≡ cond (is_thread want) (R.threads_lacked runner.old + 1) (R.threads_lacked runner.old)) }
 {
     match command {
         Command::Step => run_on(machine, acts, runner, desk, Stops::Everywhere, text),

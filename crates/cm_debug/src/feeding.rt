@@ -1,7 +1,7 @@
 //! Bytes of commands, as they come.
 
 ghost use Rattle.std.specs.Prelude.{◌≡◌, ◌<◌, ◌≤◌, ◌+◌, ◌*◌, ◌^◌, ◌++◌, ◌∷◌, [], List, ℕ, Option, false, length};
-ghost use Rattle.std.specs.Prelude.{◌||◌, MatchResult, OnOk, IfErr};
+ghost use Rattle.std.specs.Prelude.{cond, MatchResult, OnOk, IfErr};
 ghost use Rattle.cm_model.specs.Machine as model;
 ghost use Rattle.cm_session.specs.Ends.{ended_lines, is_no_thread, is_write};
 ghost use Rattle.cm_debug.specs.Desk.{session_of, IsDeskOf};
@@ -45,8 +45,9 @@ pub fn feed<const N: usize, const CAP: usize, R: Runner<N, CAP>, O: Sink>(
         (O.contents out.new) fault) }
     ensures failed { O.has_failed out.new ≡ is_write result }
     ensures thread { MatchResult result
-        (λ _. R.has_lacked_thread runner.new ≡ R.has_lacked_thread runner.old)
-        (λ fault. R.has_lacked_thread runner.new ≡ (is_no_thread fault || R.has_lacked_thread runner.old)) }
+        (λ _. R.threads_lacked runner.new ≡ R.threads_lacked runner.old)
+        (λ fault. R.threads_lacked runner.new
+            ≡ cond (is_no_thread fault) (R.threads_lacked runner.old + 1) (R.threads_lacked runner.old)) }
 {
     for byte in piece {
         match take_byte(alloc, machine, acts, runner, desk, *byte, line, out, sent) {
@@ -87,8 +88,9 @@ fn take_byte<const N: usize, const CAP: usize, R: Runner<N, CAP>, O: Sink>(
         (O.contents out.new) fault) }
     ensures failed { O.has_failed out.new ≡ is_write result }
     ensures thread { MatchResult result
-        (λ _. R.has_lacked_thread runner.new ≡ R.has_lacked_thread runner.old)
-        (λ fault. R.has_lacked_thread runner.new ≡ (is_no_thread fault || R.has_lacked_thread runner.old)) }
+        (λ _. R.threads_lacked runner.new ≡ R.threads_lacked runner.old)
+        (λ fault. R.threads_lacked runner.new
+            ≡ cond (is_no_thread fault) (R.threads_lacked runner.old + 1) (R.threads_lacked runner.old)) }
 {
     if byte != b'\n' {
         return match line.push(byte) {

@@ -1,7 +1,7 @@
 //! Lines, and their answers.
 
 ghost use Rattle.std.specs.Prelude.{◌≡◌, ◌<◌, ◌≤◌, ◌+◌, ◌^◌, ◌++◌, false, length, IfOk};
-ghost use Rattle.std.specs.Prelude.{◌||◌, IfSome, MatchResult, OnOk, OnErr, IfErr};
+ghost use Rattle.std.specs.Prelude.{cond, IfSome, MatchResult, OnOk, OnErr, IfErr};
 ghost use Rattle.std.specs.Io.KnownBytes.{Appends};
 ghost use Rattle.cm_session.specs.Bounds.{IsFor};
 ghost use Rattle.cm_session.specs.Session.{after_line, answered};
@@ -47,8 +47,9 @@ pub fn tell_line<const N: usize, const CAP: usize, R: Runner<N, CAP>, O: Sink>(
         (O.contents out.old) machine.new.machine (O.contents out.new)) }
     ensures failed { O.has_failed out.new ≡ is_write result }
     ensures thread { MatchResult result
-        (λ _. R.has_lacked_thread runner.new ≡ R.has_lacked_thread runner.old)
-        (λ fault. R.has_lacked_thread runner.new ≡ (is_no_thread fault || R.has_lacked_thread runner.old)) }
+        (λ _. R.threads_lacked runner.new ≡ R.threads_lacked runner.old)
+        (λ fault. R.threads_lacked runner.new
+            ≡ cond (is_no_thread fault) (R.threads_lacked runner.old + 1) (R.threads_lacked runner.old)) }
 {
     let mut text = Vec::new(alloc);
     match answer_line(machine, acts, runner, desk, line, &mut text) {
@@ -86,8 +87,9 @@ fn answer_line<const N: usize, const CAP: usize, R: Runner<N, CAP>>(
     ensures err { OnErr result (IsOnTheWay N CAP acts.now (session_of machine.old.machine desk.old)
         (after_line N CAP acts.now (session_of machine.old.machine desk.old) line.now).session machine.new.machine) }
     ensures thread { MatchResult result
-        (λ _. R.has_lacked_thread runner.new ≡ R.has_lacked_thread runner.old)
-        (λ want. R.has_lacked_thread runner.new ≡ (is_thread want || R.has_lacked_thread runner.old)) }
+        (λ _. R.threads_lacked runner.new ≡ R.threads_lacked runner.old)
+        (λ want. R.threads_lacked runner.new
+            ≡ cond (is_thread want) (R.threads_lacked runner.old + 1) (R.threads_lacked runner.old)) }
 {
     machine.clock();
     let asked = read_command(line, N, acts.len());
@@ -114,8 +116,9 @@ fn answer<const N: usize, const CAP: usize, R: Runner<N, CAP>>(
     ensures err { OnErr result (IsOnTheWay N CAP acts.now (session_of machine.old.machine desk.old)
         (answered N CAP acts.now (session_of machine.old.machine desk.old) asked).session machine.new.machine) }
     ensures thread { MatchResult result
-        (λ _. R.has_lacked_thread runner.new ≡ R.has_lacked_thread runner.old)
-        (λ want. R.has_lacked_thread runner.new ≡ (is_thread want || R.has_lacked_thread runner.old)) }
+        (λ _. R.threads_lacked runner.new ≡ R.threads_lacked runner.old)
+        (λ want. R.threads_lacked runner.new
+            ≡ cond (is_thread want) (R.threads_lacked runner.old + 1) (R.threads_lacked runner.old)) }
 {
     match asked {
         Ok(None) => Ok(()),

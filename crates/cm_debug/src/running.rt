@@ -1,7 +1,7 @@
 //! Acts that are run until the session stops.
 
 ghost use Rattle.std.specs.Prelude.{◌≡◌, ◌<◌, ◌+◌, ◌-◌, ◌^◌, ◌++◌, ◌&&◌, false, length, take, drop, slice_index_or};
-ghost use Rattle.std.specs.Prelude.{◌||◌, IsFalse, MatchResult, OnOk, OnErr};
+ghost use Rattle.std.specs.Prelude.{cond, IsFalse, MatchResult, OnOk, OnErr};
 ghost use Rattle.cm_model.specs.Machine.{run_of};
 ghost use Rattle.cm_model.specs.declared.act.Act.TheVariants as act;
 ghost use Rattle.cm_array.specs.Acts.{is_late, is_long};
@@ -39,8 +39,9 @@ pub fn run_on<const N: usize, const CAP: usize, R: Runner<N, CAP>>(
     ensures err { OnErr result (IsOnTheWay N CAP acts.now (session_of machine.old.machine desk.old)
         (gone N CAP stops machine.old.machine desk.old acts.now).session machine.new.machine) }
     ensures thread { MatchResult result
-        (λ _. R.has_lacked_thread runner.new ≡ R.has_lacked_thread runner.old)
-        (λ want. R.has_lacked_thread runner.new ≡ (is_thread want || R.has_lacked_thread runner.old)) }
+        (λ _. R.threads_lacked runner.new ≡ R.threads_lacked runner.old)
+        (λ want. R.threads_lacked runner.new
+            ≡ cond (is_thread want) (R.threads_lacked runner.old + 1) (R.threads_lacked runner.old)) }
 {
     while desk.position < acts.len() {
         let rest = &acts[desk.position..];
@@ -91,8 +92,9 @@ fn run_stretch<const N: usize, const CAP: usize, R: Runner<N, CAP>>(
     ensures report { desk.new.report ≡ desk.old.report }
     ensures err { OnErr result (machine.new.machine ≡ machine.old.machine) }
     ensures thread { MatchResult result
-        (λ _. R.has_lacked_thread runner.new ≡ R.has_lacked_thread runner.old)
-        (λ want. R.has_lacked_thread runner.new ≡ (is_thread want || R.has_lacked_thread runner.old)) }
+        (λ _. R.threads_lacked runner.new ≡ R.threads_lacked runner.old)
+        (λ want. R.threads_lacked runner.new
+            ≡ cond (is_thread want) (R.threads_lacked runner.old + 1) (R.threads_lacked runner.old)) }
 {
     let rest = &acts[desk.position..];
     let first = &rest[0];
@@ -131,8 +133,9 @@ fn hand_over<const N: usize, const CAP: usize, R: Runner<N, CAP>>(
     ensures ok { OnOk result (machine.new.machine ≡ run_of N CAP machine.old.machine acts.now) }
     ensures err { OnErr result (machine.new.machine ≡ machine.old.machine) }
     ensures thread { MatchResult result
-        (λ _. R.has_lacked_thread runner.new ≡ R.has_lacked_thread runner.old)
-        (λ want. R.has_lacked_thread runner.new ≡ (is_thread want || R.has_lacked_thread runner.old)) }
+        (λ _. R.threads_lacked runner.new ≡ R.threads_lacked runner.old)
+        (λ want. R.threads_lacked runner.new
+            ≡ cond (is_thread want) (R.threads_lacked runner.old + 1) (R.threads_lacked runner.old)) }
 {
     match runner.go(machine, acts) {
         Ok(()) => Ok(()),

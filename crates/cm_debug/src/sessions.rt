@@ -1,6 +1,6 @@
 //! A session, from the bytes of a source to those of a sink.
 
-ghost use Rattle.std.specs.Prelude.{◌≡◌, ◌↔◌, ◌||◌, true, false, IfSome, IsErrOf, MatchResult};
+ghost use Rattle.std.specs.Prelude.{◌≡◌, ◌↔◌, ◌+◌, cond, true, false, IfSome, IsErrOf, MatchResult};
 ghost use Rattle.cm_session.specs.Ends.{Ends, is_no_thread, is_write};
 
 use crate::desk::Desk;
@@ -39,8 +39,9 @@ pub fn session<const N: usize, const CAP: usize, R: Runner<N, CAP>, I: Source, O
     ensures read { (I.has_failed commands.new ≡ true) ↔ IsErrOf result SessionFault.Read }
     ensures write { O.has_failed out.new ≡ is_write result }
     ensures thread { MatchResult result
-        (λ _. R.has_lacked_thread runner.new ≡ R.has_lacked_thread runner.old)
-        (λ fault. R.has_lacked_thread runner.new ≡ (is_no_thread fault || R.has_lacked_thread runner.old)) }
+        (λ _. R.threads_lacked runner.new ≡ R.threads_lacked runner.old)
+        (λ fault. R.threads_lacked runner.new
+            ≡ cond (is_no_thread fault) (R.threads_lacked runner.old + 1) (R.threads_lacked runner.old)) }
 {
     answer_all(alloc, machine, program.acts(), commands, out, runner)
 }
@@ -62,8 +63,9 @@ fn answer_all<const N: usize, const CAP: usize, R: Runner<N, CAP>, I: Source, O:
     ensures read { (I.has_failed commands.new ≡ true) ↔ IsErrOf result SessionFault.Read }
     ensures write { O.has_failed out.new ≡ is_write result }
     ensures thread { MatchResult result
-        (λ _. R.has_lacked_thread runner.new ≡ R.has_lacked_thread runner.old)
-        (λ fault. R.has_lacked_thread runner.new ≡ (is_no_thread fault || R.has_lacked_thread runner.old)) }
+        (λ _. R.threads_lacked runner.new ≡ R.threads_lacked runner.old)
+        (λ fault. R.threads_lacked runner.new
+            ≡ cond (is_no_thread fault) (R.threads_lacked runner.old + 1) (R.threads_lacked runner.old)) }
 {
     let Ok(mut desk) = Desk::new(alloc, acts.len()) else {
         return Err(SessionFault::Memory);

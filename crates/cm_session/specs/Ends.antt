@@ -61,7 +61,7 @@ IsBeforeOrAmid n cap acts before (line ∷ lines) machine = IsOnTheWay n cap act
 -- so many bytes of the answers to these lines are written; some lines are done, and perhaps some acts of the next
 pub record IsStopped (n cap : ℕ) (acts : List Act) (start : Machine) (held : Option (List ℕ)) (lines : List (List ℕ)) (machine : Machine)
     (holds : Option (List ℕ)) (count : ℕ) : Type 0 where
-  pub within : count ≤ length (answers n cap start acts lines)
+  pub within : count < length (answers n cap start acts lines)
   pub written : Appends held holds (take count (answers n cap start acts lines))
   pub done : List (List ℕ)
   pub undone : List (List ℕ)

@@ -8,7 +8,7 @@ abbrev pub invariant-loop-byte : goal.invariant-loop-byte
 invariant-loop-byte g l = record {
   desk : IsDeskOf l.acts l.desk;
   working : g.O.Sink.has_failed l.out ≡ false;
-  threads : g.R.Runner.has_lacked_thread l.runner ≡ g.R.Runner.has_lacked_thread l.initial.runner;
+  threads : g.R.Runner.threads_lacked l.runner ≡ g.R.Runner.threads_lacked l.initial.runner;
   few : l.sent ≤ l.initial.sent + l.byte-index * 2 ^ 64;
   told : (start : Machine) (held : Option (List ℕ)) (taken : List ℕ)
       → IsTold g.row.N g.row.CAP l.acts start held taken (session_of l.initial.machine.machine l.initial.desk)

@@ -8,7 +8,7 @@ invariant-loop-desk g l = record {
   desk : IsDeskOf l.acts l.desk;
   breaks : l.desk.breaks.items ≡ l.initial.desk.breaks.items;
   report : l.desk.report ≡ l.initial.desk.report;
-  threads : g.R.Runner.has_lacked_thread l.runner ≡ g.R.Runner.has_lacked_thread l.initial.runner;
+  threads : g.R.Runner.threads_lacked l.runner ≡ g.R.Runner.threads_lacked l.initial.runner;
   rises : l.initial.desk.position ≤ l.desk.position;
   come : HasCome g.row.N g.row.CAP l.acts l.initial.machine.machine l.initial.desk.position l.desk.position l.machine.machine;
   answer : l.text.items ++ (gone g.row.N g.row.CAP l.stops l.machine.machine l.desk l.acts).answer

@@ -17,7 +17,7 @@ invariant-loop-count g l = record {
   few : l.sent ≤ l.taken * 2 ^ 64;
   reading : g.I.Source.has_failed l.commands ≡ false;
   writing : g.O.Sink.has_failed l.out ≡ false;
-  threads : g.R.Runner.has_lacked_thread l.runner ≡ g.R.Runner.has_lacked_thread l.fn.runner;
+  threads : g.R.Runner.threads_lacked l.runner ≡ g.R.Runner.threads_lacked l.fn.runner;
 }
 
 abbrev pub decreases-loop-count : goal.decreases-loop-count
