@@ -146,6 +146,20 @@ fn images_are_run(rt: HostRuntime) {
     }
 }
 
+/// The rooms that the program has machines of.
+const ROOMS: [u8; 2] = [1, 7];
+
+#[test]
+fn machines_of_every_size_are_run(rt: HostRuntime) {
+    for n in 0..13 {
+        for cap in ROOMS {
+            let row: Row = (Given::Blank(n, cap), SUM, ASKS, 100, 100, ANSWERS, 0);
+            let so = is_so(rt.alloc(), &row, n < 4);
+            assert!(rt; so == Some(true), "{n} dimensions, room for {cap}");
+        }
+    }
+}
+
 #[test]
 fn the_image_that_is_kept_goes_on_where_the_first_session_ended(rt: HostRuntime) {
     let wanted: &[u8] = b"field 44\nfield 102\nend\n";

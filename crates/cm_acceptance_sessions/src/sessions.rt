@@ -437,7 +437,7 @@ const REPEATED: [(&[u8], usize, &[u8], &[u8]); 2] = [
     // more acts
     (
         b"nano 0 0 8 0 8 0 0xff 0xff n\n",
-        5000,
+        65535,
         b"run\nfield 0 0 0 1\n",
         b"end\nfield 1\n",
     ),
@@ -468,7 +468,7 @@ fn more_is_run_than_a_runner_takes_at_once(rt: HostRuntime) -> Result<(), Fail> 
 fn a_line_of_commands_may_be_long(rt: HostRuntime) -> Result<(), Fail> {
     let mut commands = Vec::new(rt.alloc());
     commands.extend_from_slice(b"run ;")?;
-    for _ in 0..100000 {
+    for _ in 0..1048560 {
         commands.push(b'x')?;
     }
     commands.extend_from_slice(b"\nwire show\n")?;
