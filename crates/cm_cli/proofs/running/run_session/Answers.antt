@@ -19,3 +19,12 @@ returns-in_default-clause-ends g c =
       unread = known;
       nothing = Keeps-refl (g.O.Sink.contents c.args.out.now);
     }))
+
+pub returns-in_default-clause-begins : goal.returns-in_default-clause-begins
+returns-in_default-clause-begins g c =
+    let same = c.deref.ensures.value in
+    let is = c.in-Ok.ensures.value in
+    let shape : read_shape c.args.image.items ≡ Ok (c.in-Ok.sizes.0, c.in-Ok.sizes.1) = cc in
+    let others = c.in_default in
+    let own : is_own_room c.in-Ok.sizes.1 ≡ false = grind (arith, nat_tests) in
+    inl (inl (opened_foreign c.args.image.items c.in-Ok.sizes.0 c.in-Ok.sizes.1 shape own))
