@@ -7,7 +7,7 @@ use Rattle.std.specs.List.{All}
 use Rattle.std.proofs.lemmas.Bool.{cases_lt, ne_eqb}
 use Rattle.std.proofs.lemmas.Nat.{xor_shr}
 use Rattle.cm_model.specs.Array.{each_chip, list_at}
-use Rattle.cm_model.proofs.Each.{length-each_from, get_or-each_below}
+use Rattle.cm_model.proofs.Each.{length-each_from}
 use Rattle.cm_model.proofs.Flips.{across_below, xor_twice}
 use Rattle.cm_slots.specs.declared.ticket.Ticket.{Ticket}
 use Rattle.cm_slots.specs.declared.tile.Tile.{Tile}

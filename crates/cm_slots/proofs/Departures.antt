@@ -1,6 +1,6 @@
 -- The tiles of a run of chips, where who leaves has been taken out.
 use Rattle.std.proofs.Common.{◌≡◌, ℕ, ◌/◌, ◌<◌, ◌≤◌, eqb, false, List, [], length, map, Option, None, refl, sym}
-use Rattle.std.proofs.Common.{◌∙◌, ap, subst, ⊎_elim, arith}
+use Rattle.std.proofs.Common.{◌∙◌, ap, ⊎_elim, arith}
 use Rattle.std.specs.List.{All}
 use Rattle.std.proofs.lemmas.Bool.{cases_lt, ne_eqb}
 use Rattle.cm_model.specs.Each.{each_from}

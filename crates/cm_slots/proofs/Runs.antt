@@ -20,7 +20,7 @@ use Rattle.cm_model.proofs.Flips.{across_below}
 use Rattle.cm_slots.specs.declared.tile.Tile.{Tile}
 use Rattle.cm_slots.specs.Queues.{leaver_of, stayers_of}
 use Rattle.cm_slots.specs.Tickets.{ticket_of, ticket_in, has_to_go, ticket_going, exchanged}
-use Rattle.cm_slots.specs.Slots.{is_taken, crosses, slot_across, comers, leaver_at, AreSlots}
+use Rattle.cm_slots.specs.Slots.{is_taken, crosses, slot_across, comers, AreSlots}
 use Rattle.cm_slots.specs.Tiles.{no_tile, tile_at, leavers_at, tile_across, place_across, arriving, slots_of}
 use Rattle.cm_slots.specs.Tiles.{standing_at}
 use Rattle.cm_slots.specs.Tiles.{number_leaving, ticket_leaving, tickets_of, queues_in, IsShaped, IsQuiet, IsTile, HasLeft, HasTakenIn}

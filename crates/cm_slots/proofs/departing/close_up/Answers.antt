@@ -1,4 +1,4 @@
-use Rattle.std.proofs.Common.{◌<◌, ◌≡◌, false, length, sym, ◌∙◌, refl}
+use Rattle.std.proofs.Common.{◌<◌, length, sym, ◌∙◌, refl}
 use Rattle.cm_slots.proofs.Standing.{get_or-zeros}
 use Rattle.cm_slots.specs.Tiles.{tile_at}
 use Rattle.cm_slots.proofs.Tiles.{same_come}

@@ -1,4 +1,4 @@
-use Rattle.std.proofs.Common.{◌≡◌, ℕ, ◌<◌, length, None, slice_index_or}
+use Rattle.std.proofs.Common.{◌≡◌, ℕ, ◌<◌, None, slice_index_or}
 use Rattle.cm_slots.specs.Tiles.{ticket_leaving}
 use Rattle.cm_slots.proofs.departing.write_down.Given as goal
 

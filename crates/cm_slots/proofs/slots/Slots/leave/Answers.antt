@@ -1,6 +1,5 @@
-use Rattle.std.proofs.Common.{◌≡◌, ◌<◌, ◌≤◌, List, length, ap, ◌∙◌, subst, sym, arith}
+use Rattle.std.proofs.Common.{◌≡◌, ◌<◌, List, length, ap, ◌∙◌, subst, sym, arith}
 use Rattle.std.specs.List.{All}
-use Rattle.std.specs.Vec.{with_items}
 use Rattle.cm_slots.specs.declared.tile.Tile.{Tile}
 use Rattle.cm_slots.specs.Tiles.{queues_in, AreTiles}
 use Rattle.cm_slots.proofs.Runs.{items-lent}
