@@ -36,10 +36,12 @@ fn told(alloc: Global, k: u8) -> Result<Vec<(usize, u8)>, NoMemory> {
     ];
     let k = k.min(4);
     let found = rounds(alloc, 4, &acts, k)?;
-    Ok(found
-        .iter()
-        .map(|round| (round.at, number_of(round.kind)))
-        .collect(alloc)?)
+    Ok(
+        found
+            .iter()
+            .map(|round| (round.at, number_of(round.kind)))
+            .collect(alloc)?,
+    )
 }
 
 fn number_of(kind: Kind) -> u8 {
@@ -64,6 +66,9 @@ fn rounds_are_the_upper_dimensions_and_news_to_north_and_south(
     let want = [(0, 100), (3, 2), (3, 3), (5, 101), (6, 2), (6, 3)];
     assert_eq!(rt; two.as_slice(), want.as_slice());
     let one = told(rt.alloc(), 1)?;
-    assert_eq!(rt; one.as_slice(), [(0, 100), (3, 3), (5, 101), (6, 3)].as_slice());
+    assert_eq!(rt;
+        one.as_slice(),
+        [(0, 100), (3, 3), (5, 101), (6, 3)].as_slice()
+    );
     Ok(())
 }

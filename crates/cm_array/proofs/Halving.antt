@@ -1,5 +1,5 @@
 -- A part of a machine after a half of a dimension, which changes its messages alone.
-use Rattle.std.proofs.Common.{◌≡◌, ℕ, ◌+◌, ◌<◌, ◌≤◌, ◌^◌, List, length, sym, ap, ◌∙◌, subst, arith}
+use Rattle.std.proofs.Common.{◌≡◌, ℕ, ◌<◌, ◌≤◌, ◌^◌, List, length, sym, ap, ◌∙◌, subst, arith}
 use Rattle.std.specs.List.{All}
 use Rattle.cm_model.specs.declared.message.Message.{Message}
 use Rattle.cm_blocks.specs.Parts.{Part}

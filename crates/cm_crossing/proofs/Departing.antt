@@ -1,5 +1,5 @@
 -- What leaves the chips of a run, where the others stay.
-use Rattle.std.proofs.Common.{◌≡◌, ℕ, suc, ◌<◌, List, [], ◌∷◌, length, get_or, map, Option, None, Some, refl, sym, ap, ◌∙◌}
+use Rattle.std.proofs.Common.{◌≡◌, ℕ, ◌<◌, List, [], ◌∷◌, length, get_or, map, Option, None, Some, refl, sym, ap, ◌∙◌}
 use Rattle.std.proofs.Common.{arith}
 use Rattle.std.specs.List.{All}
 use Rattle.std.specs.Option.{option_map, option_to_list}
@@ -8,7 +8,7 @@ use Rattle.cm_model.specs.declared.message.Message.{Message}
 use Rattle.cm_model.specs.Buffers.{leaving_place, without, outgoing}
 use Rattle.cm_slots.specs.declared.ticket.Ticket.{Ticket}
 use Rattle.cm_slots.specs.Queues.{place_of_leaver, stayers_of}
-use Rattle.cm_slots.specs.Tickets.{has_to_go, ticket_across, ticket_going}
+use Rattle.cm_slots.specs.Tickets.{has_to_go, ticket_going}
 use Rattle.cm_crossing.specs.Standing.{message_of, standing, all_standing, AreKept, IsKept}
 use Rattle.cm_crossing.proofs.Carrying.{same_place, without-standing, going-standing, without_kept, going_kept}
 

@@ -9,7 +9,7 @@ use Rattle.std.proofs.lemmas.List.Elements.{All-from_get_or}
 use Rattle.cm_model.specs.declared.message.Message.{Message}
 use Rattle.cm_model.specs.Each.{each_from}
 use Rattle.cm_model.specs.Array.{list_at}
-use Rattle.cm_model.proofs.Each.{is_each, length-each_from, get_or-each_below}
+use Rattle.cm_model.proofs.Each.{is_each}
 
 -- the first so many chips have taken in what was written down for them
 pub record HaveTakenIn (old : List (List Message)) (came : List (Option Message)) (now : List (List Message))

@@ -1,5 +1,5 @@
 -- Blocks and parcels in a round over a dimension.
-use Rattle.std.proofs.Common.{◌≡◌, ◌<◌, ◌↔◌, ℕ, Bool, List, [], length, get_or, sym, ap, ◌∙◌, arith, Ok, Err}
+use Rattle.std.proofs.Common.{◌≡◌, ◌<◌, ◌↔◌, ℕ, Bool, List, [], length, get_or, ap, ◌∙◌, arith, Ok, Err}
 use Rattle.std.specs.Prelude.{Option, None}
 use Rattle.std.specs.List.{All}
 use Rattle.cm_model.specs.declared.message.Message.{Message}

@@ -1,6 +1,6 @@
 -- The rounds of a run, act by act.
 use Rattle.std.proofs.Common.{◌≡◌, ℕ, zero, suc, ◌+◌, ◌-◌, ◌<◌, ◌≤◌, Bool, true, false, List, [], ◌∷◌, ◌++◌, length, get_or, take, map, refl, sym, ap}
-use Rattle.std.proofs.Common.{◌∙◌, subst, arith, append_assoc, ⊎_elim}
+use Rattle.std.proofs.Common.{◌∙◌, arith, append_assoc, ⊎_elim}
 use Rattle.std.proofs.lemmas.Bool.{cases_Bool}
 use Rattle.std.specs.Prelude.{nat_le}
 use Rattle.std.specs.List.{filter, range_with_len}
@@ -10,9 +10,8 @@ use Rattle.std.proofs.lemmas.List.Elements.{filter-append}
 use Rattle.std.proofs.lemmas.List.FromFn.{map-range_with_len_more}
 use Rattle.cm_model.specs.declared.act.Act.{Act}
 use Rattle.cm_model.specs.declared.act.Act.TheVariants as act
-use Rattle.cm_model.specs.Steps.{Step, Cross, Deliver, Phase, phases_of, phases_from}
+use Rattle.cm_model.specs.Steps.{Cross, Deliver, Phase, phases_of, phases_from}
 use Rattle.cm_blocks.specs.Rounds.{is_round}
-use Rattle.cm_subcube.specs.declared.round.Round.{Round}
 use Rattle.cm_subcube.specs.Rounds.{round_of, rounds_from, rounds_of, crossing_at}
 
 -- ---- one act after another

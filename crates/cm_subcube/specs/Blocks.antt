@@ -1,6 +1,6 @@
 -- Blocks as they are kept: bands of a machine that was cut into a power of two of them. Ours.
-use Rattle.std.specs.Prelude.{◌≡◌, ℕ, ◌+◌, ◌-◌, ◌*◌, ◌/◌, ◌<◌, ◌≤◌, ◌^◌, Bool, IsTrue, List, length}
-use Rattle.cm_blocks.specs.Parts.{Part, size}
+use Rattle.std.specs.Prelude.{◌≡◌, ℕ, ◌-◌, ◌*◌, ◌/◌, ◌<◌, ◌≤◌, ◌^◌, IsTrue}
+use Rattle.cm_blocks.specs.Parts.{size}
 use Rattle.cm_array.specs.Cuts.{KeptPart, HaveLogRoom}
 
 -- what contracts see of a block: into 2 ^ k of them the machine was cut, and what the block keeps of it

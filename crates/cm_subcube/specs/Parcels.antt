@@ -1,10 +1,8 @@
 -- Parcels as they are kept. Ours.
-use Rattle.std.specs.Prelude.{◌≡◌, ℕ, ◌+◌, ◌-◌, ◌*◌, ◌/◌, ◌%◌, ◌<◌, ◌≤◌, Bool, false, List, Option, None, length, slice_index}
+use Rattle.std.specs.Prelude.{◌≡◌, ℕ, ◌-◌, ◌*◌, ◌/◌, ◌%◌, ◌<◌, ◌≤◌, Bool, false, List, None, length, slice_index}
 use Rattle.cm_bits.specs.Bit.{bit}
-use Rattle.cm_model.specs.declared.message.Message.{Message}
 use Rattle.cm_model.specs.Each.{each_from}
 use Rattle.cm_model.specs.Place.{columns}
-use Rattle.cm_model.specs.Steps.{Step, Cross}
 use Rattle.cm_blocks.specs.Parts.{size}
 use Rattle.cm_blocks.specs.Parcels.{Parcel, Blank, Mail, Edge}
 use Rattle.cm_subcube.specs.declared.parcel.Load.{Load}

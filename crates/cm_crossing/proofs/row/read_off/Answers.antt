@@ -1,4 +1,4 @@
-use Rattle.std.proofs.Common.{◌≡◌, ◌<◌, ◌∙◌, Option, None, List, length, get_or, map, sym, arith, ext_get_or}
+use Rattle.std.proofs.Common.{◌≡◌, ◌<◌, ◌∙◌, Option, None, List, length, map, sym, arith, ext_get_or}
 use Rattle.std.specs.Option.{option_map}
 use Rattle.std.proofs.lemmas.List.{length-map, get_or-map}
 use Rattle.cm_model.specs.declared.message.Message.{Message}

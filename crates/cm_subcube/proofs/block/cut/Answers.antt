@@ -1,7 +1,5 @@
-use Rattle.std.proofs.Common.{◌≡◌, ℕ, ◌≤◌, ◌<◌, ◌*◌, ◌+◌, ◌-◌, ◌^◌, ap, ◌∙◌, refl, subst, arith, lit<}
-use Rattle.std.proofs.Math.Nat.{pow-le-pow_right}
-use Rattle.cm_blocks.specs.Parts.{part, block, size}
-use Rattle.cm_blocks.proofs.Mailing.{block-fits}
+use Rattle.std.proofs.Common.{◌≡◌, ℕ, ◌*◌, ◌-◌, ◌^◌, ap, ◌∙◌, refl, arith, lit<}
+use Rattle.cm_blocks.specs.Parts.{part, size}
 use Rattle.cm_subcube.proofs.Blocking.{IsBlock-cut, band_fits}
 use Rattle.cm_subcube.proofs.block.cut.Goals as goal
 

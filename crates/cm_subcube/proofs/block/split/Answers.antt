@@ -1,7 +1,6 @@
-use Rattle.std.proofs.Common.{◌≡◌, ℕ, ◌≤◌, ◌<◌, ◌*◌, ◌+◌, ◌∷◌, ◌++◌, [], List, map, sym, ap, ◌∙◌, subst, arith}
+use Rattle.std.proofs.Common.{ℕ, ◌*◌, ◌+◌, List, map, sym, ap, ◌∙◌, subst, arith}
 use Rattle.std.specs.List.{All}
 use Rattle.std.proofs.lemmas.List.Elements.{All-nil}
-use Rattle.cm_model.specs.Each.{each_from}
 use Rattle.cm_blocks.specs.Parts.{Part, block}
 use Rattle.cm_subcube.specs.Blocks.{KeptBlock, IsFresh}
 use Rattle.cm_subcube.proofs.Blocking.{parts-more, fresh-more, none_yet}

@@ -1,4 +1,4 @@
-use Rattle.std.proofs.Common.{◌≡◌, ℕ, ◌-◌, ◌/◌, ◌<◌, ◌≤◌, List, ap, sym, ◌∙◌, subst, arith, lit<, ⊎_elim}
+use Rattle.std.proofs.Common.{◌-◌, ◌/◌, ◌<◌, ◌≤◌, List, ap, sym, ◌∙◌, subst, arith, lit<, ⊎_elim}
 use Rattle.std.proofs.lemmas.Bool.{cases_lt}
 use Rattle.cm_blocks.specs.Parts.{Part}
 use Rattle.cm_array.specs.Cuts.{joined, AreWhole}

@@ -1,5 +1,4 @@
-use Rattle.std.proofs.Common.{◌≡◌, ◌<◌, List, length, sym, ap, ◌∙◌, subst}
-use Rattle.std.specs.List.{All}
+use Rattle.std.proofs.Common.{◌<◌, sym, ◌∙◌, subst}
 use Rattle.cm_model.specs.Steps.{Cross}
 use Rattle.cm_blocks.specs.Parts.{Part}
 use Rattle.cm_blocks.specs.Parcels.{Mail, due}

@@ -1,4 +1,4 @@
-use Rattle.std.proofs.Common.{◌≡◌, ◌<◌, List, length, sym, ap, ◌∙◌, subst}
+use Rattle.std.proofs.Common.{◌<◌, length, sym, ◌∙◌, subst}
 use Rattle.std.specs.List.{All}
 use Rattle.cm_model.specs.Steps.{Cross}
 use Rattle.cm_blocks.specs.Parts.{Part}

@@ -1,16 +1,14 @@
-use Rattle.std.proofs.Common.{◌≡◌, ◌<◌, List, Option, false, true, length, map, sym, ap, ◌∙◌, subst, arith}
+use Rattle.std.proofs.Common.{◌≡◌, List, Option, false, true, length, map, sym, ap, ◌∙◌, subst, arith}
 use Rattle.std.specs.List.{All}
-use Rattle.std.specs.Vec.{with_items}
 use Rattle.std.proofs.lemmas.List.{length-map, with_items_is}
 use Rattle.cm_model.specs.declared.message.Message.{Message}
 use Rattle.cm_model.specs.Buffers.{leaving_place, without, outgoing}
 use Rattle.cm_slots.specs.declared.ticket.Ticket.{Ticket}
 use Rattle.cm_slots.specs.Queues.{stayers_of}
 use Rattle.cm_slots.specs.Tickets.{has_to_go, ticket_going}
-use Rattle.cm_crossing.specs.Standing.{UnderWay, standing, all_standing, message_of, AreKept, IsKept}
+use Rattle.cm_crossing.specs.Standing.{UnderWay, all_standing, AreKept, IsKept}
 use Rattle.cm_crossing.proofs.Wholes.{tickets_within}
 use Rattle.cm_crossing.proofs.Departing.{all-stayers, stayers_kept, messages_below, all-going, leavers_kept}
-use Rattle.std.specs.Option.{option_map}
 use Rattle.cm_crossing.proofs.crossing.Crossing.leave.Goals as goal
 
 pub leave-requires-clause-within : goal.leave-requires-clause-within

@@ -1,10 +1,9 @@
 use Rattle.std.proofs.Common.{◌≡◌, List, length, ap, sym, subst, ◌∙◌}
 use Rattle.std.specs.Prelude.{Option}
-use Rattle.std.specs.Vec.{with_items}
 use Rattle.std.proofs.lemmas.List.{with_items_is}
 use Rattle.cm_model.specs.declared.message.Message.{Message}
 use Rattle.cm_blocks.specs.Parts.{size}
-use Rattle.cm_blocks.specs.Parcels.{Parcel, Mail}
+use Rattle.cm_blocks.specs.Parcels.{Mail}
 use Rattle.cm_subcube.specs.Parcels.{parcel_of, blank_parcel, HasLanes}
 use Rattle.cm_subcube.proofs.Exchanging.{blank_again}
 use Rattle.cm_subcube.proofs.block.Block.absorb.Goals as goal

@@ -1,6 +1,4 @@
-use Rattle.std.proofs.Common.{◌≡◌, length, ap, sym, ◌∙◌}
-use Rattle.cm_subcube.specs.declared.parcel.Load.TheVariants as load
-use Rattle.cm_subcube.specs.declared.round.Kind.{Kind}
+use Rattle.std.proofs.Common.{length, ap, sym, ◌∙◌}
 use Rattle.cm_subcube.specs.Parcels.{parcel_of, blank_parcel}
 use Rattle.cm_subcube.proofs.Exchanging.{lanes_of_blank}
 use Rattle.cm_subcube.proofs.block.Block.fill.Goals as goal
