@@ -65,7 +65,7 @@ pub trait Runner<const N: usize, const CAP: usize> {
         ensures threads { MatchResult result
             (λ _. threads_lacked self.new ≡ threads_lacked self.old)
             (λ fault. threads_lacked self.new
-                ≡ cond (is_no_thread fault) (threads_lacked self.old + 1) (threads_lacked self.old)) }
+            ≡ cond (is_no_thread fault) (threads_lacked self.old + 1) (threads_lacked self.old)) }
         ensures err { OnErr result (machine.new.machine ≡ machine.old.machine) };
 }
 
@@ -92,7 +92,7 @@ impl<const N: usize, const CAP: usize> Runner<N, CAP> for Plain {
         ensures threads { MatchResult result
             (λ _. plain_threads_lacked self.new ≡ plain_threads_lacked self.old)
             (λ fault. plain_threads_lacked self.new
-                ≡ cond (is_no_thread fault) (plain_threads_lacked self.old + 1) (plain_threads_lacked self.old)) }
+            ≡ cond (is_no_thread fault) (plain_threads_lacked self.old + 1) (plain_threads_lacked self.old)) }
         ensures ok { OnOk result (machine.new.machine ≡ run_of N CAP machine.old.machine acts.now) }
         ensures account { OnOk result (SameLines (account N machine.new.machine)
             (account N machine.old.machine ++ newly_injected N machine.old.machine machine.new.machine)) }

@@ -47,7 +47,7 @@ pub fn obey<const N: usize, const CAP: usize, R: Runner<N, CAP>>(
     ensures thread { MatchResult result
         (λ _. R.threads_lacked runner.new ≡ R.threads_lacked runner.old)
         (λ want. R.threads_lacked runner.new
-            ≡ cond (is_thread want) (R.threads_lacked runner.old + 1) (R.threads_lacked runner.old)) }
+        ≡ cond (is_thread want) (R.threads_lacked runner.old + 1) (R.threads_lacked runner.old)) }
 {
     match command {
         Command::Step => run_on(machine, acts, runner, desk, Stops::Everywhere, text),

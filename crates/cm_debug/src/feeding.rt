@@ -47,7 +47,7 @@ pub fn feed<const N: usize, const CAP: usize, R: Runner<N, CAP>, O: Sink>(
     ensures thread { MatchResult result
         (λ _. R.threads_lacked runner.new ≡ R.threads_lacked runner.old)
         (λ fault. R.threads_lacked runner.new
-            ≡ cond (is_no_thread fault) (R.threads_lacked runner.old + 1) (R.threads_lacked runner.old)) }
+        ≡ cond (is_no_thread fault) (R.threads_lacked runner.old + 1) (R.threads_lacked runner.old)) }
 {
     for byte in piece {
         match take_byte(alloc, machine, acts, runner, desk, *byte, line, out, sent) {
@@ -90,7 +90,7 @@ fn take_byte<const N: usize, const CAP: usize, R: Runner<N, CAP>, O: Sink>(
     ensures thread { MatchResult result
         (λ _. R.threads_lacked runner.new ≡ R.threads_lacked runner.old)
         (λ fault. R.threads_lacked runner.new
-            ≡ cond (is_no_thread fault) (R.threads_lacked runner.old + 1) (R.threads_lacked runner.old)) }
+        ≡ cond (is_no_thread fault) (R.threads_lacked runner.old + 1) (R.threads_lacked runner.old)) }
 {
     if byte != b'\n' {
         return match line.push(byte) {
