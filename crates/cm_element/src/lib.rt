@@ -1,4 +1,4 @@
-//! One chip: sixteen processors, kept as one plane per memory address and one per flag.
+//! Chips: sixteen processors each, kept as one plane per memory address and one per flag, by rows over a run of them.
 #![tactic(auto)]
 
 mod chip;

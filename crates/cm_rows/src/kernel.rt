@@ -28,7 +28,7 @@ macro_rules! by_tables {
 
 /// Puts both outputs of an instruction into the first `count` words of its rows, where the condition
 /// holds. Those for the flag are the processors' own, or they go along the chain of each word. Under
-/// `always` the condition flag is not read.
+/// `always` the condition flag counts for nothing.
 pub fn compute(
     tables: (u8, u8),
     chained: bool,

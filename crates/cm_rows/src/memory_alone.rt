@@ -23,7 +23,7 @@ macro_rules! by_table {
 }
 
 /// Puts the memory output of an instruction into the first `count` words of its row, where the
-/// condition holds. Under `always` the condition flag is not read.
+/// condition holds. Under `always` the condition flag counts for nothing.
 pub fn compute_memory(
     table: u8,
     always: bool,
