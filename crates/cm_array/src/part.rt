@@ -29,13 +29,13 @@ use std::marker::Model;
 #[derive(Debug, Drop)]
 pub struct Part {
     /// Dimensions of the cube that the chips are of.
-    dims: u8,
+    pub(crate) dims: u8,
     /// How many messages the router of one chip has room for.
-    room: u8,
+    pub(crate) room: u8,
     /// The number of the first chip.
-    first: u16,
+    pub(crate) first: u16,
     /// The chips by place, the first at place 0.
-    parts: Parts,
+    pub(crate) parts: Parts,
 }
 
 impl Model for Part {
