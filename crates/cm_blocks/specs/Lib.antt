@@ -1,4 +1,5 @@
 pub mod Rounds
+pub mod Counts
 pub mod Parts
 pub mod Parcels
 pub mod Steps
