@@ -8,6 +8,7 @@ mod part;
 mod parts;
 mod poke_laws;
 mod put;
+mod routing;
 mod runner;
 mod stepping;
 mod tags;
