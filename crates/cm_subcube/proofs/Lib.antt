@@ -2,3 +2,5 @@ mod Rounding
 mod Blocking
 mod Joining
 mod Exchanging
+mod Counting
+mod Following

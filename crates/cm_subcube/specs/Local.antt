@@ -1,13 +1,13 @@
 -- What a block does by itself between two rounds: the steps behind a round are told by its act, its place and its kind. Ours.
-use Rattle.std.specs.Prelude.{◌≡◌, ◌≢◌, ℕ, ◌+◌, ◌-◌, ◌<◌, ◌≤◌, List, [], ◌∷◌, ◌++◌, Option, Some, None, length, map, drop, slice_get}
-use Rattle.std.specs.List.{range_with_len}
+use Rattle.std.specs.Prelude.{◌≡◌, ◌≢◌, ℕ, ◌+◌, ◌-◌, ◌<◌, ◌≤◌, Bool, not, List, [], ◌∷◌, ◌++◌, Option, Some, None, length, map, drop, slice_get}
+use Rattle.std.specs.List.{range_with_len, list_any}
 use Rattle.cm_bits.specs.declared.plane.Dir.{Dir}
 use Rattle.cm_bits.specs.declared.plane.Dir.TheVariants as dir
 use Rattle.cm_model.specs.declared.act.Act.{Act}
 use Rattle.cm_model.specs.declared.act.Act.TheVariants as act
 use Rattle.cm_model.specs.Processor.{NEWS}
 use Rattle.cm_model.specs.Steps.{Step, Cross, Deliver, all_steps}
-use Rattle.cm_blocks.specs.Rounds.{until_round}
+use Rattle.cm_blocks.specs.Rounds.{is_round, until_round}
 use Rattle.cm_subcube.specs.declared.round.Kind.{Kind}
 use Rattle.cm_subcube.specs.declared.round.Kind.TheVariants as kind
 use Rattle.cm_subcube.specs.declared.round.Round.{Round}
@@ -24,6 +24,10 @@ abbrev pub local_after : ℕ → ℕ → List Act → Option Round → List Step
 local_after n k acts None = until_round n k (all_steps n acts)
 local_after n k acts (Some round) =
     until_round n k (steps_behind n round.kind ++ all_steps n (drop (round.at + 1) acts))
+
+-- whether some steps have no round among them
+abbrev pub is_through : ℕ → ℕ → List Step → Bool
+is_through n k steps = not (list_any (is_round n k) steps)
 
 -- an instruction over NEWS in a direction
 abbrev pub IsOver : Dir → Act → Type 0
