@@ -168,7 +168,7 @@ module _ (p : Step → Bool) (none : (n k : ℕ) (step : Step) → is_round n k 
   }
 
 -- the weighed sum of two counts is shared out as they are
-weighed : (room i d i_first d_first i_rest d_rest : ℕ) → i_first + i_rest ≡ i → d_first + d_rest ≡ d
+pub weighed : (room i d i_first d_first i_rest d_rest : ℕ) → i_first + i_rest ≡ i → d_first + d_rest ≡ d
     → 4 * i_first + room * d_first + (4 * i_rest + room * d_rest) ≡ 4 * i + room * d
 weighed room i d i_first d_first i_rest d_rest is ds =
     let sum : room * (d_first + d_rest) ≡ room * d_first + room * d_rest = mul-add room d_first d_rest in

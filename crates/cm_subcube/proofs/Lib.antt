@@ -4,3 +4,6 @@ mod Joining
 mod Exchanging
 mod Counting
 mod Following
+mod Stopping
+mod Going
+mod Acting

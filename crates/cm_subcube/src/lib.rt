@@ -5,6 +5,7 @@ mod block;
 mod copying;
 mod exchange;
 mod laws;
+mod local;
 mod parcel;
 mod round;
 
