@@ -3,6 +3,7 @@
 
 mod builder;
 mod finding;
+mod instructions;
 mod machine;
 mod part;
 mod parts;
