@@ -1,15 +1,13 @@
 -- Blocks that go through acts until a round.
-use Rattle.std.proofs.Common.{◌≡◌, ℕ, ◌+◌, ◌-◌, ◌/◌, ◌<◌, ◌≤◌, Bool, true, false, List, [], ◌∷◌, ◌++◌, length, get_or, map, take, drop, refl, sym, ◌∙◌, ap, subst, arith}
+use Rattle.std.proofs.Common.{◌≡◌, ℕ, ◌-◌, ◌≤◌, true, false, List, [], ◌∷◌, ◌++◌, map, refl, sym, ◌∙◌, ap, arith}
 use Rattle.std.specs.List.{range_with_len}
-use Rattle.cm_model.specs.declared.act.Act.{Act}
-use Rattle.cm_model.specs.declared.act.Act.TheVariants as act
 use Rattle.cm_model.specs.declared.act.Nano.{Nano}
-use Rattle.cm_model.specs.Steps.{Step, Instruct, Inject, Cross, Deliver, steps_of, all_steps}
+use Rattle.cm_model.specs.Steps.{Step, Instruct, Inject, Cross}
 use Rattle.cm_blocks.specs.Rounds.{is_round, until_round}
 use Rattle.cm_array.specs.Cuts.{KeptPart}
 use Rattle.cm_subcube.specs.Blocks.{KeptBlock, IsBlock, CanGo, HasGone}
 use Rattle.cm_subcube.specs.Local.{is_through}
-use Rattle.cm_subcube.proofs.Stopping.{until_round-through, until_round-stopped, until_round-all, begins, all_steps-more, until_round-split, is_through-more}
+use Rattle.cm_subcube.proofs.Stopping.{until_round-through, until_round-stopped, until_round-all, begins}
 use Rattle.cm_subcube.proofs.Going.{HasGone-append, CanGo-first, CanGo-second, HasGone-same, CanGo-same}
 
 -- ---- steps in two
@@ -23,7 +21,7 @@ same_steps : (done : List Step) (steps : ℕ → List Step) (old mid : KeptBlock
     → steps_for steps mid ≡ steps_for steps old
 same_steps done steps old mid gone = λ i. until_round (gone.dims i) (gone.blocks i) (steps (gone.dims i))
 
-same_through : (done : List Step) (steps : ℕ → List Step) (old mid : KeptBlock) → HasGone done old mid
+pub same_through : (done : List Step) (steps : ℕ → List Step) (old mid : KeptBlock) → HasGone done old mid
     → is_through mid.kept.dims mid.k (steps mid.kept.dims) ≡ is_through old.kept.dims old.k (steps old.kept.dims)
 same_through done steps old mid gone = λ i. is_through (gone.dims i) (gone.blocks i) (steps (gone.dims i))
 

@@ -1,5 +1,5 @@
 -- What stands behind a round of a run is told by the round alone.
-use Rattle.std.proofs.Common.{◌≡◌, ◌≢◌, ℕ, zero, suc, ◌+◌, ◌-◌, ◌<◌, ◌≤◌, ◌==◌, ◌&&◌, Bool, true, false, not, cond, List, [], ◌∷◌, ◌++◌, length, map, drop, Option, Some, None, refl, sym, ◌∙◌, ap, subst, ⊎_elim, arith}
+use Rattle.std.proofs.Common.{◌≡◌, ℕ, zero, suc, ◌+◌, ◌-◌, ◌<◌, ◌==◌, ◌&&◌, Bool, true, false, not, cond, List, [], ◌∷◌, ◌++◌, length, map, drop, Some, None, refl, sym, ◌∙◌, ap, subst, ⊎_elim, arith}
 use Rattle.std.specs.Prelude.{slice_get, nat_le}
 use Rattle.std.specs.List.{filter, range_with_len}
 use Rattle.std.proofs.lemmas.Bool.{cases_Bool}
@@ -11,13 +11,11 @@ use Rattle.cm_model.specs.declared.act.Act.{Act}
 use Rattle.cm_model.specs.declared.act.Act.TheVariants as act
 use Rattle.cm_model.specs.declared.act.Nano.{Nano}
 use Rattle.cm_model.specs.Processor.{NEWS}
-use Rattle.cm_model.specs.Steps.{Step, Instruct, Look, Inject, Cross, Deliver, Phase, all_steps, phases, phases_from, steps_in}
+use Rattle.cm_model.specs.Steps.{Step, Instruct, Cross, Deliver, Phase, all_steps, phases, phases_from, steps_in}
 use Rattle.cm_model.proofs.Parts.{steps_in-phases_from}
-use Rattle.cm_blocks.specs.Rounds.{is_round, is_vertical, rounds, beyond, until_round, steps_between}
-use Rattle.cm_subcube.specs.declared.round.Round.{Round}
-use Rattle.cm_subcube.specs.Parcels.{IsOuter}
+use Rattle.cm_blocks.specs.Rounds.{is_round, is_vertical, rounds, beyond, until_round}
 use Rattle.cm_subcube.specs.Rounds.{kind_over, kind_of, round_of}
-use Rattle.cm_subcube.specs.Local.{steps_behind, local_after, IsExchangeAt, IsRoundOf}
+use Rattle.cm_subcube.specs.Local.{steps_behind, IsExchangeAt, IsRoundOf}
 use Rattle.cm_subcube.specs.Laws.{IsFollowed}
 use Rattle.cm_subcube.proofs.Counting.{steps_between-ahead}
 

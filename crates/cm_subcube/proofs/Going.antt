@@ -1,13 +1,12 @@
 -- Blocks that go through steps by themselves.
-use Rattle.std.proofs.Common.{◌≡◌, ℕ, suc, ◌+◌, ◌-◌, ◌*◌, ◌/◌, ◌%◌, ◌<◌, ◌≤◌, ◌^◌, Bool, cond, List, [], ◌∷◌, ◌++◌, length, refl, sym, ◌∙◌, ap, subst, arith}
-use Rattle.std.specs.List.{count_by}
+use Rattle.std.proofs.Common.{◌≡◌, ℕ, ◌+◌, ◌<◌, Bool, cond, List, [], ◌∷◌, ◌++◌, length, refl, sym, ◌∙◌, ap, subst, arith}
 use Rattle.std.proofs.lemmas.List.Sums.{sum_by-cons, sum_by-append}
 use Rattle.cm_model.specs.Steps.{Step, Instruct, Look, Inject, Cross, Deliver}
 use Rattle.cm_blocks.specs.Counts.{is_injection, is_delivery, injections, deliveries, events_in}
-use Rattle.cm_blocks.specs.Parts.{Part, size}
+use Rattle.cm_blocks.specs.Parts.{Part}
 use Rattle.cm_blocks.specs.Parcels.{Parcel, Blank}
 use Rattle.cm_blocks.specs.Steps.{part_after, part_after_all}
-use Rattle.cm_array.specs.Cuts.{KeptPart, HaveLogRoom, LoseAtMost}
+use Rattle.cm_array.specs.Cuts.{KeptPart, LoseAtMost}
 use Rattle.cm_subcube.specs.Blocks.{KeptBlock, IsBlock, CanGo, HasGone}
 use Rattle.cm_subcube.proofs.Counting.{weighed}
 

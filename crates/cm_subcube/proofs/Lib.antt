@@ -7,3 +7,4 @@ mod Following
 mod Stopping
 mod Going
 mod Acting
+mod Banding

@@ -1,5 +1,5 @@
 -- Steps until a round: all of them where none is a round, and what a petit cycle has before its first.
-use Rattle.std.proofs.Common.{◌≡◌, ℕ, zero, suc, ◌+◌, ◌-◌, ◌<◌, ◌≤◌, ◌&&◌, ◌||◌, Bool, true, false, not, cond, List, [], ◌∷◌, ◌++◌, length, get_or, map, take, drop, refl, sym, ◌∙◌, ap, subst, ⊎_elim, arith}
+use Rattle.std.proofs.Common.{◌≡◌, ℕ, zero, suc, ◌+◌, ◌-◌, ◌<◌, ◌≤◌, ◌||◌, Bool, true, false, not, List, [], ◌∷◌, ◌++◌, length, get_or, map, take, drop, refl, sym, ◌∙◌, ap, subst, ⊎_elim, arith}
 use Rattle.std.specs.Prelude.{nat_le}
 use Rattle.std.specs.List.{list_any, range_with_len}
 use Rattle.std.proofs.lemmas.Bool.{cases_Bool}
@@ -92,21 +92,13 @@ is_through-more n k i acts one l is before here =
     ∙ is_through-append n k (all_steps n (take i acts)) (steps_of n one) before here
 
 -- all are some, one more, and the rest
-all_steps-split : (n i : ℕ) (acts : List Act) (one : Act) → i < length acts → one ≡ get_or acts i one
+pub all_steps-split : (n i : ℕ) (acts : List Act) (one : Act) → i < length acts → one ≡ get_or acts i one
     → all_steps n acts ≡ all_steps n (take i acts) ++ (steps_of n one ++ all_steps n (drop (i + 1) acts))
 all_steps-split n i acts one l is =
     ap (all_steps n) (sym (take-append-drop (i + 1) acts))
     ∙ flat_map-append (steps_of n) (take (i + 1) acts) (drop (i + 1) acts)
     ∙ ap (λ z. z ++ all_steps n (drop (i + 1) acts)) (all_steps-more n i acts one l is)
     ∙ append_assoc (all_steps n (take i acts)) (steps_of n one) (all_steps n (drop (i + 1) acts))
-
--- until a round: those that are gone through, and of the others those until it
-pub until_round-split : (n k i : ℕ) (acts : List Act) (one : Act) → i < length acts → one ≡ get_or acts i one
-    → is_through n k (all_steps n (take i acts)) ≡ true → until_round n k (all_steps n acts)
-    ≡ all_steps n (take i acts) ++ until_round n k (steps_of n one ++ all_steps n (drop (i + 1) acts))
-until_round-split n k i acts one l is before =
-    ap (until_round n k) (all_steps-split n i acts one l is)
-    ∙ until_round-through n k (all_steps n (take i acts)) (steps_of n one ++ all_steps n (drop (i + 1) acts)) before
 
 -- ---- a petit cycle
 

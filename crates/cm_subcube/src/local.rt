@@ -1,6 +1,6 @@
 //! What a block does by itself between two rounds.
 
-ghost use Rattle.std.specs.Prelude.{◌≡◌, ℕ, ◌+◌, ◌-◌, ◌^◌, ◌<◌, [], ◌∷◌, false, true, map};
+ghost use Rattle.std.specs.Prelude.{◌≡◌, ℕ, ◌+◌, ◌-◌, ◌^◌, ◌<◌, [], ◌∷◌, false, map, Some};
 ghost use Rattle.std.specs.Option.{option_copied, ForSome};
 ghost use Rattle.std.specs.List.{range_with_len};
 ghost use Rattle.cm_model.specs.Steps.{Instruct, Inject, Cross, Deliver, steps_of, all_steps};
@@ -40,11 +40,18 @@ impl Block {
     {
         match after {
             None => self.go(acts),
-            Some(round) => {
-                if self.finish(round) {
-                    self.go(&acts[round.at + 1..]);
-                }
-            }
+            Some(round) => self.go_behind(acts, round),
+        }
+    }
+
+    /// Goes through the steps behind a round until the next.
+    fn go_behind(&mut self, acts: &[Act], round: &Round)
+        requires following { IsRoundOf self.old.kept.dims self.old.k acts.now round.now }
+        requires room { CanGo (local_after self.old.kept.dims self.old.k acts.now (Some round.now)) self.old }
+        ensures gone { HasGone (local_after self.old.kept.dims self.old.k acts.now (Some round.now)) self.old self.new }
+    {
+        if self.finish(round) {
+            self.go(&acts[round.at + 1..]);
         }
     }
 
@@ -121,8 +128,7 @@ impl Block {
         requires local { is_round self.old.kept.dims self.old.k (Instruct nano.now) ≡ false }
         ensures gone { HasGone (Instruct nano.now ∷ []) self.old self.new }
     {
-        let _stub = nano;
-        unreachable!()
+        self.part.instruct_alone(nano);
     }
 
     /// Its routers take messages in.

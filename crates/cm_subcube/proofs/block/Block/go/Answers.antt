@@ -1,27 +1,76 @@
-use Rattle.std.proofs.Common.{rules, ◌≡◌, ℕ, ◌+◌, ◌-◌, ◌^◌, ◌<◌, [], ◌∷◌, false, true, map, ◌*◌, ◌≤◌, length, ◌/◌, ◌%◌, Bool, nat_eq, nat_lt, List, ◌++◌, slice_index_or, slice_set, bit_and, bit_or, Fits, w8, w32, w64, Bor, MutBor}
-use Rattle.std.specs.Option.{option_copied, ForSome}
-use Rattle.std.specs.List.{range_with_len}
-use Rattle.cm_model.specs.Steps.{Instruct, Inject, Cross, Deliver, steps_of, all_steps}
-use Rattle.cm_blocks.specs.Counts.{deliveries, events_in}
-use Rattle.cm_blocks.specs.Rounds.{is_round, until_round}
-use Rattle.cm_blocks.specs.Steps.{part_after_all}
-use Rattle.cm_array.specs.Cuts.{HaveLogRoom, LoseAtMost}
-use Rattle.cm_subcube.specs.Blocks.{CanGo, HasGone}
-use Rattle.cm_subcube.specs.Local.{steps_behind, local_after, is_through, IsExchangeAt, IsRoundOf}
+use Rattle.std.proofs.Common.{ℕ, ◌+◌, ◌++◌, List, take, drop, sym, ap, ◌∙◌}
+use Rattle.std.proofs.lemmas.List.{take_all}
+use Rattle.cm_model.specs.Steps.{Step, steps_of, all_steps}
+use Rattle.cm_blocks.specs.Rounds.{until_round}
+use Rattle.cm_subcube.specs.Local.{is_through}
+use Rattle.cm_subcube.proofs.Stopping.{until_round-all, all_steps-more, all_steps-split, is_through-more}
+use Rattle.cm_subcube.proofs.Going.{HasGone-same, CanGo-same}
+use Rattle.cm_subcube.proofs.Acting.{can_go_on, gone_until, gone_through, same_through}
 use Rattle.cm_subcube.proofs.block.Block.go.Goals as goal
 
--- src/local.rt:77:17
 pub go_through-requires : goal.go_through-requires
-go_through-requires c = ?
+go_through-requires c =
+    let old = c.args.self.now in
+    let n = old.kept.dims in
+    let acts = c.args.acts.now in
+    let i = c.loop-act.act-index in
+    let one = c.act-item.result in
+    let done : List Step = all_steps n (take i acts) in
+    let here : ℕ → List Step = λ m. steps_of m one in
+    let rest : ℕ → List Step = λ m. all_steps m (drop (i + 1) acts) in
+    record {
+      room = can_go_on done here rest old c.loop-act.self c.loop-act.invariant.gone c.loop-act.invariant.through
+          (CanGo-same (until_round n old.k (all_steps n acts)) (until_round n old.k (done ++ (here n ++ rest n))) old
+          (ap (until_round n old.k) (all_steps-split n i acts one c.loop-act-test.true c.act-item.is)) c.requires.room);
+    }
 
--- src/local.rt:78:17
 pub returns-then-not-go_through : goal.returns-then-not-go_through
-returns-then-not-go_through c = ?
+returns-then-not-go_through c =
+    let old = c.args.self.now in
+    let n = old.kept.dims in
+    let acts = c.args.acts.now in
+    let i = c.loop-act.act-index in
+    let one = c.act-item.result in
+    let done : List Step = all_steps n (take i acts) in
+    let here : ℕ → List Step = λ m. steps_of m one in
+    let rest : ℕ → List Step = λ m. all_steps m (drop (i + 1) acts) in
+    record {
+      gone = HasGone-same (until_round n old.k (done ++ (here n ++ rest n))) (until_round n old.k (all_steps n acts)) old
+          c.go_through.new.self
+          (sym (ap (until_round n old.k) (all_steps-split n i acts one c.loop-act-test.true c.act-item.is)))
+          (gone_until done here rest old c.loop-act.self c.loop-act.invariant.gone c.loop-act.invariant.through
+          c.go_through.new.self c.go_through.ensures.gone (sym c.go_through.ensures.through ∙ c.if-not-go_through.true));
+    }
 
--- src/local.rt:76:9
 pub loop-act-preserved : goal.loop-act-preserved
-loop-act-preserved c = ?
+loop-act-preserved c =
+    let old = c.args.self.now in
+    let n = old.kept.dims in
+    let acts = c.args.acts.now in
+    let i = c.loop-act.act-index in
+    let one = c.act-item.result in
+    let done : List Step = all_steps n (take i acts) in
+    let here : ℕ → List Step = λ m. steps_of m one in
+    let rest : ℕ → List Step = λ m. all_steps m (drop (i + 1) acts) in
+    let none = sym c.go_through.ensures.through ∙ c.if-not-go_through.false in
+    record {
+      gone = HasGone-same (done ++ here n) (all_steps n (take (i + 1) acts)) old c.go_through.new.self
+          (sym (all_steps-more n i acts one c.loop-act-test.true c.act-item.is))
+          (gone_through done here rest old c.loop-act.self c.loop-act.invariant.gone c.loop-act.invariant.through
+          c.go_through.new.self c.go_through.ensures.gone none);
+      through = is_through-more n old.k i acts one c.loop-act-test.true c.act-item.is c.loop-act.invariant.through
+          (sym (same_through done here old c.loop-act.self c.loop-act.invariant.gone) ∙ none);
+    }
 
--- src/local.rt:71:5
 pub returns : goal.returns
-returns c = ?
+returns c =
+    let old = c.args.self.now in
+    let n = old.kept.dims in
+    let acts = c.args.acts.now in
+    let i = c.loop-act.act-index in
+    let all = ap (all_steps n) (take_all i acts c.loop-act-test.false) in
+    record {
+      gone = HasGone-same (all_steps n (take i acts)) (until_round n old.k (all_steps n acts)) old c.loop-act.self
+          (all ∙ sym (until_round-all n old.k (all_steps n acts)
+          (sym (ap (is_through n old.k) all) ∙ c.loop-act.invariant.through))) c.loop-act.invariant.gone;
+    }

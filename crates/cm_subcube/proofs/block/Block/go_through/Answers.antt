@@ -1,9 +1,8 @@
-use Rattle.std.proofs.Common.{◌≡◌, ◌∷◌, [], true, false, sym, ap, ◌∙◌, subst}
+use Rattle.std.proofs.Common.{◌≡◌, ◌∷◌, [], true, false, sym, ap, ◌∙◌}
 use Rattle.cm_model.specs.declared.act.Act.{Act}
-use Rattle.cm_model.specs.declared.act.Act.TheVariants as act
 use Rattle.cm_model.specs.Steps.{Instruct, Look, steps_of}
 use Rattle.cm_blocks.specs.Rounds.{is_round, until_round}
-use Rattle.cm_subcube.specs.Blocks.{KeptBlock, HasGone}
+use Rattle.cm_subcube.specs.Blocks.{KeptBlock}
 use Rattle.cm_subcube.specs.Local.{is_through}
 use Rattle.cm_subcube.proofs.Going.{HasGone-look, HasGone-none, HasGone-same}
 use Rattle.cm_subcube.proofs.Acting.{exchange_stops, instruction_goes_through}
