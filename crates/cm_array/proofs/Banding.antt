@@ -1,32 +1,36 @@
 -- An instruction in a band of whole rows of chips: what comes in at each is what the step of a part names.
-use Rattle.std.proofs.Common.{◌≡◌, ◌≢◌, ℕ, ◌+◌, ◌-◌, ◌*◌, ◌^◌, ◌<◌, ◌≤◌, ◌==◌, ◌&&◌, nat_le, nat_lt, Bool, true, false, if◌then◌else◌, List, [], length, get_or, refl, sym, ap, ◌∙◌, subst, ⊎_elim, arith, ext_get_or}
-use Rattle.std.proofs.lemmas.Bool.{cases_Bool, eq-eqb, ne_eqb}
+use Rattle.std.proofs.Common.{◌≡◌, ◌≢◌, ℕ, zero, suc, ◌+◌, ◌-◌, ◌*◌, ◌/◌, ◌%◌, ◌^◌, ◌<◌, ◌≤◌, ◌&&◌, nat_le, nat_lt, Bool, true, false, if◌then◌else◌, List, [], length, get_or, refl, sym, ap, ◌∙◌, subst, ⊎_elim, arith, ext_get_or}
+use Rattle.std.proofs.lemmas.Bool.{cases_Bool, cases_lt, eq-eqb, ne_eqb}
+use Rattle.std.proofs.Math.Nat.{mul-div_cancel}
 use Rattle.std.specs.Global.{Vec}
 use Rattle.cm_bits.specs.Bit.{bit}
 use Rattle.cm_bits.specs.declared.place.Place.{Place}
+use Rattle.cm_bits.specs.declared.plane.Dir.{Dir}
+use Rattle.cm_bits.specs.declared.plane.Dir.TheVariants.{North, East, West, South}
 use Rattle.cm_model.specs.declared.act.Nano.{Nano}
 use Rattle.cm_model.specs.declared.message.Message.{Message}
-use Rattle.cm_model.specs.Processor.{Processor}
 use Rattle.cm_model.specs.Each.{each_from}
 use Rattle.cm_model.specs.Laws.{IsPlace}
-use Rattle.cm_model.specs.Place.{source, opposite, column_of}
+use Rattle.cm_model.specs.Place.{chip_columns, source, opposite, column_of, place_at}
 use Rattle.cm_model.specs.Chip.{IsPlane, chip_after, processor_at}
 use Rattle.cm_model.specs.Instruction.{flag_output}
 use Rattle.cm_model.specs.Array.{Chips, chip_at, output}
 use Rattle.cm_model.specs.Steps.{Instruct}
-use Rattle.cm_model.proofs.Each.{length-each_from, get_or-each_from, get_or-each_below}
+use Rattle.cm_model.proofs.Each.{length-each_from, get_or-each_from, get_or-each_below, same_each_below}
 use Rattle.cm_model.proofs.Incoming.{same_chip}
-use Rattle.cm_model.proofs.Torus.{neighbours_lead_back}
+use Rattle.cm_model.proofs.Torus.{columns_some, neighbours_lead_back}
 use Rattle.cm_element.specs.Steps.{AreSent, along_chain}
 use Rattle.cm_blocks.specs.Parts.{Part, is_within, chip_in}
-use Rattle.cm_blocks.specs.Parcels.{Parcel, Blank, Edge, bit_in}
+use Rattle.cm_blocks.specs.Parcels.{Parcel, Blank, Edge, bit_in, edge_row, due}
+use Rattle.cm_blocks.specs.Rounds.{is_vertical}
 use Rattle.cm_blocks.specs.Steps.{part_after, incoming_in, news_in}
 use Rattle.cm_blocks.proofs.Cutting.{within-from, within-below}
 use Rattle.cm_news.specs.Bands.{AreRows, bits_of, bit_for}
+use Rattle.cm_news.specs.Moves.{at_edge}
 use Rattle.cm_petit.specs.Routers.{Log, part_of}
 use Rattle.cm_array.specs.declared.parts.Parts.{Parts}
 use Rattle.cm_array.specs.Cuts.{KeptPart, kept_part, IsKeptPart}
-use Rattle.cm_array.specs.Bands.{IsBand, IsStepped}
+use Rattle.cm_array.specs.Bands.{IsBand, IsStepped, edge_from, IsEdgeOf}
 
 -- a list that is made from 0 on is made from another number on, by a function that agrees there
 each-from_other : {X : Type 0} (d : X) (first count : ℕ) (f g : ℕ → X) → ((i : ℕ) → i < count → f i ≡ g (first + i))
@@ -166,3 +170,93 @@ module _ (dims room first : ℕ) (parts : Parts) (old : KeptPart) (nano : Nano) 
 pub no_edge : (n cap : ℕ) (nano : Nano) (s : Part) → part_after n cap (Instruct nano) (Edge (bits_of [])) s ≡ part_after n cap (Instruct nano) Blank s
 unfolding part_after incoming_in each_from
 no_edge n cap nano s = refl
+
+-- ---- what goes out over an edge
+
+rows_counted : (count rows w : ℕ) → count ≡ rows * w → 0 < w → count / w ≡ rows
+rows_counted count rows w size some = ap (λ (c : ℕ). c / w) size ∙ mul-div_cancel rows some
+
+-- the place in a column of a band's edge row
+edge_place : (n : ℕ) (dir : Dir) (s : Part) (column : ℕ) → is_vertical dir ≡ true → IsBand n s
+    → place_at n (edge_row n dir s) column
+    ≡ record { chip = s.first + (edge_from dir s.count (chip_columns n) + column / 4); proc = at_edge dir (column % 4) }
+edge_place n North s column vertical band = by band.first where
+  by : AreRows n s.first → place_at n (edge_row n North s) column
+      ≡ record { chip = s.first + (edge_from North s.count (chip_columns n) + column / 4); proc = at_edge North (column % 4) }
+  by (above, begin) =
+      let row : s.first / chip_columns n ≡ above = rows_counted s.first above (chip_columns n) begin (columns_some n) in
+      λ t. record {
+        chip = (ap (λ (y : ℕ). 4 * y / 4 * chip_columns n + column / 4) row
+            ∙ ap (λ (y : ℕ). y * chip_columns n + column / 4) (let e : 4 * above / 4 ≡ above = omega arith in e)
+            ∙ (let e : above * chip_columns n + column / 4 ≡ s.first + (0 + column / 4) = omega (arith, begin) in e)) t;
+        proc = (let e : 4 * (4 * (s.first / chip_columns n) % 4) + column % 4 ≡ 4 * 0 + column % 4 = omega arith in e) t;
+      }
+edge_place n South s column vertical band = by band.first band.count where
+  w : ℕ
+  w = chip_columns n
+
+  by : AreRows n s.first → AreRows n s.count → place_at n (edge_row n South s) column
+      ≡ record { chip = s.first + (edge_from South s.count w + column / 4); proc = at_edge South (column % 4) }
+  by (above, begin) (rows, size) =
+      let row : s.first / w ≡ above = rows_counted s.first above w begin (columns_some n) in
+      let many : s.count / w ≡ rows = rows_counted s.count rows w size (columns_some n) in
+      let some : 0 < rows = ⊎_elim (λ (e : rows < 1).
+      let none : rows * w ≡ 0 = ap (λ (k : ℕ). k * w) (let z : rows ≡ 0 = omega arith in z) ∙ (let z : 0 * w ≡ 0 = omega arith in z) in
+      absurd (omega (arith, none, size, band.some))) (λ (e : 1 ≤ rows). omega arith) (cases_lt rows 1) in
+      let last : (4 * (s.first / w) + 4 * (s.count / w) - 1) / 4 ≡ above + (rows - 1) = omega (arith, row, many, some) in
+      let less : (rows - 1) * w + w ≡ rows * w =
+      (let e : (rows - 1) * w + w ≡ (rows - 1 + 1) * w = omega arith in e)
+      ∙ ap (λ (k : ℕ). k * w) (let e : rows - 1 + 1 ≡ rows = omega (arith, some) in e) in
+      let both : (above + (rows - 1)) * w ≡ above * w + (rows - 1) * w = omega arith in
+      λ t. record {
+        chip = (ap (λ (y : ℕ). y * w + column / 4) last
+            ∙ (let e : (above + (rows - 1)) * w + column / 4 ≡ s.first + (s.count - w + column / 4) =
+            omega (arith, both, less, begin, size) in e)) t;
+        proc = (let e : 4 * ((4 * (s.first / w) + 4 * (s.count / w) - 1) % 4) + column % 4 ≡ 4 * 3 + column % 4 =
+            omega (arith, row, many, some) in e) t;
+      }
+edge_place n East s column vertical band = cc
+edge_place n West s column vertical band = cc
+
+at_edge-lt : (dir : Dir) (i : ℕ) → i < 4 → at_edge dir i < 16
+at_edge-lt North i h = omega arith
+at_edge-lt South i h = omega arith
+at_edge-lt West i h = omega arith
+at_edge-lt East i h = omega arith
+
+-- the edge of planes that were sent is what a part owes
+pub edge_due : (n cap : ℕ) (nano : Nano) (s : Part) (planes edge : List ℕ) → is_vertical nano.dir ≡ true → IsBand n s
+    → length s.chips ≡ s.count → length planes ≡ s.count → length edge ≡ chip_columns n → AreSent nano s.chips planes
+    → IsEdgeOf nano.dir planes edge → edge_from nano.dir s.count (chip_columns n) + chip_columns n ≤ s.count
+    → Edge (bits_of edge) ≡ due n cap (Instruct nano) s
+unfolding due
+edge_due n cap nano s planes edge vertical band chips long wide sent is fit =
+    let w : ℕ = chip_columns n in
+    ap Edge
+    (ap (λ (k : ℕ). each_from 0 (4 * k) (λ column. bit (get_or edge (column / 4) 0) (column % 4))) wide
+    ∙ same_each_below false (4 * w) (λ column. bit (get_or edge (column / 4) 0) (column % 4))
+    (λ column. output nano (chip_in s) (place_at n (edge_row n nano.dir s) column))
+    (λ column inside.
+    let at : ℕ = edge_from nano.dir s.count w + column / 4 in
+    let proc : ℕ = at_edge nano.dir (column % 4) in
+    let here : edge_from nano.dir (length planes) (length edge) + column / 4 ≡ at =
+    (λ t. edge_from nano.dir (long t) (wide t) + column / 4) in
+    is (column / 4) (column % 4) (omega (arith, inside, wide)) (omega arith)
+    ∙ ap (λ (k : ℕ). bit (get_or planes k 0) proc) here
+    ∙ sent.each at (omega (arith, inside, fit, chips)) proc (at_edge-lt nano.dir (column % 4) (omega arith))
+    ∙ ap (λ (k : ℕ). flag_output nano (processor_at (chip_at s.chips k) proc)) (let e : at ≡ s.first + at - s.first = omega arith in e)
+    ∙ ap (output nano (chip_in s)) (sym (edge_place n nano.dir s column vertical band))))
+
+-- a row of chips lies within a band
+pub edge_inside : (n : ℕ) (dir : Dir) (s : Part) → IsBand n s → (chip_columns n ≤ s.count) × (edge_from dir s.count (chip_columns n) + chip_columns n ≤ s.count)
+edge_inside n dir s band = by band.count dir where
+  by : AreRows n s.count → (dir : Dir) → (chip_columns n ≤ s.count) × (edge_from dir s.count (chip_columns n) + chip_columns n ≤ s.count)
+  by (zero, size) dir = absurd (omega (arith, band.some, size))
+  by (suc rows, size) dir =
+      let is : suc rows * chip_columns n ≡ rows * chip_columns n + chip_columns n = omega arith in
+      (omega (arith, is, size), within dir (omega (arith, is, size))) where
+        within : (dir : Dir) → chip_columns n ≤ s.count → edge_from dir s.count (chip_columns n) + chip_columns n ≤ s.count
+        within North h = omega arith
+        within South h = omega arith
+        within West h = omega arith
+        within East h = omega arith

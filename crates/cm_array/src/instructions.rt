@@ -1,7 +1,6 @@
 //! Instructions in a part of a machine, and what its edges send and take in.
 
-ghost use Rattle.std.specs.Prelude.{◌≡◌, ◌⊎◌, ◌<◌, ◌^◌, ◌/◌, IsTrue, length};
-ghost use Rattle.std.specs.List.{All};
+ghost use Rattle.std.specs.Prelude.{◌≡◌, ◌⊎◌, ℕ, ◌<◌, ◌^◌, ◌/◌, IsTrue, length, slice_index};
 ghost use Rattle.cm_model.specs.Place.{chip_columns};
 ghost use Rattle.cm_model.specs.Steps.{Instruct};
 ghost use Rattle.cm_blocks.specs.Rounds.{is_vertical};
@@ -63,7 +62,7 @@ impl Part {
         requires vertical { IsTrue (is_vertical nano.now.dir) }
         requires lanes { length out.old ≡ chip_columns self.old.dims }
         ensures value { Edge (bits_of out.new) ≡ due self.old.dims self.old.room (Instruct nano.now) self.old.part }
-        ensures within { All (λ four. four < 16) out.new }
+        ensures within { (k : ℕ) → k < length out.new → slice_index out.new k < 16 }
         ensures others { self.new ≡ self.old }
     {
         self.parts.run.send(nano, &mut self.parts.sent);

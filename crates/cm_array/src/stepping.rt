@@ -1,17 +1,11 @@
 //! One instruction in all chips, or in those of a band: every place reads the old state before any place writes.
 
-ghost use Rattle.std.specs.Prelude.{◌≡◌, ◌≢◌, ℕ, ◌+◌, ◌*◌, ◌/◌, ◌^◌, ◌<◌, ◌≤◌, IsTrue, List, length, slice_index};
-ghost use Rattle.std.specs.List.{All};
-ghost use Rattle.cm_bits.specs.Bit.{bit};
+ghost use Rattle.std.specs.Prelude.{◌≡◌, ◌≢◌, ℕ, ◌+◌, ◌/◌, ◌^◌, ◌<◌, ◌≤◌, IsTrue, length, slice_index};
 ghost use Rattle.cm_model.specs.Place.{chip_columns};
 ghost use Rattle.cm_model.specs.Processor.{NEWS};
 ghost use Rattle.cm_model.specs.Array.{after_nano};
-ghost use Rattle.cm_model.specs.Steps.{Instruct};
-ghost use Rattle.cm_blocks.specs.Parcels.{Edge};
-ghost use Rattle.cm_blocks.specs.Rounds.{is_vertical};
-ghost use Rattle.cm_blocks.specs.Steps.{part_after};
-ghost use Rattle.cm_news.specs.Bands.{AreRows, is_open, bits_of};
-ghost use Rattle.cm_array.specs.Bands.{IsStepped, IsEdgeOf};
+ghost use Rattle.cm_news.specs.Bands.{AreRows, is_open};
+ghost use Rattle.cm_array.specs.Bands.{IsStepped, edge_from, IsEdgeOf};
 
 use cm_bits::{Dir, FlagNo, Plane};
 use cm_element::Run;
@@ -112,13 +106,22 @@ fn step_in_band_over_grid(
 pub(crate) fn write_edge(sent: &[Plane], dir: Dir, out: &mut [u8])
     requires row { length out.old ≤ length sent.now }
     ensures value { IsEdgeOf dir sent.now out.new }
-    ensures within { All (λ four. four < 16) out.new }
+    ensures within { (k : ℕ) → k < length out.new → slice_index out.new k < 16 }
 {
-    let from = match dir {
-        Dir::South => sent.len() - out.len(),
-        _ => 0,
-    };
+    let from = edge_from(dir, sent.len(), out.len());
     for k in 0..out.len() {
         out[k] = Grid::<0>::edge(sent[from + k], dir);
+    }
+}
+
+/// Where the row of chips at the edge begins, in a band of so many chips with so many in a row.
+fn edge_from(dir: Dir, all: usize, wide: usize) -> usize
+    requires row { wide ≤ all }
+    ensures value { result ≡ edge_from dir all wide }
+    ensures within { result + wide ≤ all }
+{
+    match dir {
+        Dir::South => all - wide,
+        _ => 0,
     }
 }

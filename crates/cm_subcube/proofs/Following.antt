@@ -14,8 +14,9 @@ use Rattle.cm_model.specs.Processor.{NEWS}
 use Rattle.cm_model.specs.Steps.{Step, Instruct, Cross, Deliver, Phase, all_steps, phases, phases_from, steps_in}
 use Rattle.cm_model.proofs.Parts.{steps_in-phases_from}
 use Rattle.cm_blocks.specs.Rounds.{is_round, is_vertical, rounds, beyond, until_round}
+use Rattle.cm_subcube.specs.Parcels.{IsExchangeBy}
 use Rattle.cm_subcube.specs.Rounds.{kind_over, kind_of, round_of}
-use Rattle.cm_subcube.specs.Local.{steps_behind, IsExchangeAt, IsRoundOf}
+use Rattle.cm_subcube.specs.Local.{steps_behind, IsRoundOf}
 use Rattle.cm_subcube.specs.Laws.{IsFollowed}
 use Rattle.cm_subcube.proofs.Counting.{steps_between-ahead}
 
@@ -79,9 +80,9 @@ is_at (suc at) (x ∷ all) one more h =
 
 -- an instruction at which blocks exchange
 exchange_over : (n k : ℕ) (nano : Nano) (over : Dir) → nano.dir ≡ over
-    → (not (k == 0) && (nano.write == NEWS && is_vertical over)) ≡ true → IsExchangeAt n k (act.Nano nano) (kind_over over)
-exchange_over n k nano dir.North is h = (grind (arith, nat_tests), (grind (arith, nat_tests), is))
-exchange_over n k nano dir.South is h = (grind (arith, nat_tests), (grind (arith, nat_tests), is))
+    → (not (k == 0) && (nano.write == NEWS && is_vertical over)) ≡ true → IsExchangeBy n k (act.Nano nano) (kind_over over)
+exchange_over n k nano dir.North is h = record { blocks = grind (arith, nat_tests); news = grind (arith, nat_tests); dir = is }
+exchange_over n k nano dir.South is h = record { blocks = grind (arith, nat_tests); news = grind (arith, nat_tests); dir = is }
 exchange_over n k nano dir.East is h = absurd (grind (arith, nat_tests))
 exchange_over n k nano dir.West is h = absurd (grind (arith, nat_tests))
 
@@ -121,7 +122,7 @@ module _ (n k : ℕ) (all : List Act) where
           round = record {
             there = here.there;
             act = here.read;
-            exchange = (refl, record { from = grind (arith, nat_tests); below = omega (arith, whole) });
+            exchange = record { from = grind (arith, nat_tests); below = omega (arith, whole) };
           };
         },
         follow-crossings at more here rest (d + 1) count (omega (arith, whole)),

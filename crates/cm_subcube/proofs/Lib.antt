@@ -7,4 +7,3 @@ mod Following
 mod Stopping
 mod Going
 mod Acting
-mod Banding

@@ -1,24 +1,28 @@
 //! What a block does in a round: it fills a parcel for another block, and absorbs one that came.
 
-ghost use Rattle.std.specs.Prelude.{◌≡◌, ℕ, ◌<◌, None, length};
+ghost use Rattle.std.specs.Prelude.{◌≡◌, ℕ, ◌/◌, ◌<◌, ◌^◌, IsTrue, None, length};
 ghost use Rattle.std.specs.List.{All};
-ghost use Rattle.cm_model.specs.Steps.{Cross};
+ghost use Rattle.cm_model.specs.Place.{chip_columns};
+ghost use Rattle.cm_model.specs.Steps.{Instruct, Cross};
+ghost use Rattle.cm_news.specs.Bands.{bits_of};
 ghost use Rattle.cm_blocks.specs.Parts.{size};
-ghost use Rattle.cm_blocks.specs.Parcels.{Mail, due};
+ghost use Rattle.cm_blocks.specs.Parcels.{Edge, Mail, due};
+ghost use Rattle.cm_blocks.specs.Rounds.{is_vertical};
 ghost use Rattle.cm_blocks.specs.Steps.{less, absorbed};
 ghost use Rattle.cm_subcube.specs.Rounds.{step_of};
-ghost use Rattle.cm_subcube.specs.Parcels.{blank_parcel, IsOuter, IsCrossing, HasLanes};
+ghost use Rattle.cm_subcube.specs.Parcels.{blank_parcel, IsOuter, IsExchange, IsOfKind, HaveSpaceFor};
 
 use crate::block::Block;
 use crate::parcel::{Load, Parcel};
 use crate::round::{Kind, Round};
 use cm_message::Message;
+use cm_model::{Act, Nano};
 
 impl Block {
-    /// In a round over a dimension, puts what leaves each chip into a blank parcel; until a parcel is absorbed the
-    /// block is without it.
+    /// Puts what is due into a blank parcel: in a round over a dimension what leaves each chip, without which the
+    /// block is until a parcel is absorbed; over NEWS what its edge sends.
     pub fn fill(&mut self, round: &Round, parcel: &mut Parcel)
-        requires crossing { IsCrossing self.old.kept.dims self.old.k round.now.kind }
+        requires exchange { IsExchange self.old.kept.dims self.old.k round.now }
         requires blank { parcel.old ≡ blank_parcel self.old.kept.dims self.old.k round.now.kind }
         ensures sent { parcel.new ≡ due self.old.kept.dims self.old.kept.room (step_of round.now) self.old.kept.part }
         ensures rest { self.new.kept ≡ record self.old.kept {
@@ -26,22 +30,29 @@ impl Block {
           gathered = self.new.kept.gathered;
         } }
         ensures blocks { self.new.k ≡ self.old.k }
-        ensures space { All (λ ms. length ms < self.new.kept.room) self.new.kept.part.buffers }
+        ensures space { HaveSpaceFor round.now.kind self.new.kept.room self.new.kept.part.buffers }
     {
-        let Kind::Dim(dim) = round.kind else {
-            unreachable!()
-        };
-        let Load::Mail(mail) = &mut parcel.load else {
-            unreachable!()
-        };
-        self.send(dim, mail);
+        match &mut parcel.load {
+            Load::Mail(mail) => {
+                let Kind::Dim(dim) = round.kind else {
+                    unreachable!()
+                };
+                self.send(dim, mail);
+            }
+            Load::Edge(edge) => {
+                let Act::Nano(nano) = &round.act else {
+                    unreachable!()
+                };
+                self.send_edge(nano, edge);
+            }
+        }
     }
 
-    /// In a round over a dimension, takes in what stands in a parcel, which is blank then.
+    /// Takes in what stands in a parcel, which is blank then.
     pub fn absorb(&mut self, round: &Round, parcel: &mut Parcel)
-        requires crossing { IsCrossing self.old.kept.dims self.old.k round.now.kind }
-        requires lanes { HasLanes self.old.kept.dims self.old.k parcel.old }
-        requires space { All (λ ms. length ms < self.old.kept.room) self.old.kept.part.buffers }
+        requires exchange { IsExchange self.old.kept.dims self.old.k round.now }
+        requires lanes { IsOfKind self.old.kept.dims self.old.k round.now.kind parcel.old }
+        requires space { HaveSpaceFor round.now.kind self.old.kept.room self.old.kept.part.buffers }
         ensures value { self.new.kept ≡ record self.old.kept {
           part = absorbed self.old.kept.dims self.old.kept.room (step_of round.now) parcel.old self.old.kept.part;
           gathered = self.new.kept.gathered;
@@ -49,10 +60,15 @@ impl Block {
         ensures blocks { self.new.k ≡ self.old.k }
         ensures blank { parcel.new ≡ blank_parcel self.old.kept.dims self.old.k round.now.kind }
     {
-        let Load::Mail(mail) = &mut parcel.load else {
-            unreachable!()
-        };
-        self.receive(mail);
+        match &mut parcel.load {
+            Load::Mail(mail) => self.receive(mail),
+            Load::Edge(edge) => {
+                let Act::Nano(nano) = &round.act else {
+                    unreachable!()
+                };
+                self.receive_edge(nano, edge);
+            }
+        }
     }
 
     /// What leaves each chip in a dimension.
@@ -84,5 +100,29 @@ impl Block {
     {
         let span = self.part.dims() - self.k;
         self.part.take_in(span, mail);
+    }
+
+    /// What goes out over its edge northward or southward.
+    fn send_edge(&mut self, nano: &Nano, edge: &mut [u8])
+        requires vertical { IsTrue (is_vertical nano.now.dir) }
+        requires lanes { length edge.old ≡ chip_columns self.old.kept.dims }
+        ensures others { self.new ≡ self.old }
+        ensures sent { Edge (bits_of edge.new)
+            ≡ due self.old.kept.dims self.old.kept.room (Instruct nano.now) self.old.kept.part }
+    {
+        self.part.edge(nano, edge);
+    }
+
+    /// One instruction, with what comes in over its edge.
+    fn receive_edge(&mut self, nano: &Nano, edge: &mut [u8])
+        requires lanes { length edge.old ≡ chip_columns self.old.kept.dims }
+        ensures kept { self.new.kept ≡ record self.old.kept {
+          part = absorbed self.old.kept.dims self.old.kept.room (Instruct nano.now) (Edge (bits_of edge.old)) self.old.kept.part;
+        } }
+        ensures blocks { self.new.k ≡ self.old.k }
+        ensures blank { All (λ four. four ≡ 0) edge.new }
+    {
+        self.part.instruct(nano, edge);
+        edge.fill(0);
     }
 }

@@ -8,8 +8,9 @@ ghost use Rattle.cm_blocks.specs.Counts.{deliveries, events_in};
 ghost use Rattle.cm_blocks.specs.Rounds.{is_round, until_round};
 ghost use Rattle.cm_blocks.specs.Steps.{part_after_all};
 ghost use Rattle.cm_array.specs.Cuts.{HaveLogRoom, LoseAtMost};
+ghost use Rattle.cm_subcube.specs.Parcels.{IsExchange};
 ghost use Rattle.cm_subcube.specs.Blocks.{CanGo, HasGone};
-ghost use Rattle.cm_subcube.specs.Local.{steps_behind, local_after, is_through, IsExchangeAt, IsRoundOf};
+ghost use Rattle.cm_subcube.specs.Local.{steps_behind, local_after, is_through, IsRoundOf};
 
 use crate::block::Block;
 use crate::round::{Kind, Round};
@@ -57,7 +58,7 @@ impl Block {
 
     /// Goes on behind a round to the end of its act, or until the next round; tells whether it came to the end.
     fn finish(&mut self, round: &Round) -> bool
-        requires exchange { IsExchangeAt self.old.kept.dims self.old.k round.now.act round.now.kind }
+        requires exchange { IsExchange self.old.kept.dims self.old.k round.now }
         requires room { CanGo (until_round self.old.kept.dims self.old.k (steps_behind self.old.kept.dims round.now.kind)) self.old }
         ensures gone { HasGone (until_round self.old.kept.dims self.old.k (steps_behind self.old.kept.dims round.now.kind))
             self.old self.new }

@@ -1,5 +1,4 @@
 use Rattle.std.proofs.Common.{◌∙◌}
-use Rattle.cm_blocks.specs.Parts.{Part}
 use Rattle.cm_array.specs.Cuts.{KeptPart}
 use Rattle.cm_array.proofs.Banding.{no_edge}
 use Rattle.cm_array.proofs.part.Part.instruct_alone.Goals as goal

@@ -1,5 +1,5 @@
 use Rattle.cm_model.specs.Steps.{Instruct}
-use Rattle.cm_subcube.proofs.Banding.{IsBand-block}
+use Rattle.cm_subcube.proofs.Exchanging.{IsBand-block}
 use Rattle.cm_subcube.proofs.Going.{IsBlock-stepped}
 use Rattle.cm_subcube.proofs.block.Block.instruct.Goals as goal
 
