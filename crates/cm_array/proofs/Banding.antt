@@ -1,6 +1,7 @@
 -- An instruction in a band of whole rows of chips: what comes in at each is what the step of a part names.
-use Rattle.std.proofs.Common.{◌≡◌, ◌≢◌, ℕ, zero, suc, ◌+◌, ◌-◌, ◌*◌, ◌/◌, ◌%◌, ◌^◌, ◌<◌, ◌≤◌, ◌&&◌, nat_le, nat_lt, Bool, true, false, if◌then◌else◌, List, [], length, get_or, refl, sym, ap, ◌∙◌, subst, ⊎_elim, arith, ext_get_or}
-use Rattle.std.proofs.lemmas.Bool.{cases_Bool, cases_lt, eq-eqb, ne_eqb}
+use Rattle.std.proofs.Common.{◌≡◌, ◌≢◌, ℕ, zero, suc, ◌+◌, ◌-◌, ◌*◌, ◌/◌, ◌%◌, ◌^◌, ◌<◌, ◌≤◌, ◌&&◌, nat_le, nat_lt, Bool, true, false}
+use Rattle.std.proofs.Common.{if◌then◌else◌, List, [], length, get_or, refl, sym, ap, ◌∙◌, subst, ⊎_elim, arith, ext_get_or}
+use Rattle.std.proofs.lemmas.Bool.{cases_Bool, eq-eqb, ne_eqb}
 use Rattle.std.proofs.Math.Nat.{mul-div_cancel}
 use Rattle.std.specs.Global.{Vec}
 use Rattle.cm_bits.specs.Bit.{bit}
@@ -167,12 +168,14 @@ module _ (dims room first : ℕ) (parts : Parts) (old : KeptPart) (nano : Nano) 
 -- ---- where nothing comes in from outside
 
 -- nothing is read of an edge that is not there
-pub no_edge : (n cap : ℕ) (nano : Nano) (s : Part) → part_after n cap (Instruct nano) (Edge (bits_of [])) s ≡ part_after n cap (Instruct nano) Blank s
+pub no_edge : (n cap : ℕ) (nano : Nano) (s : Part)
+    → part_after n cap (Instruct nano) (Edge (bits_of [])) s ≡ part_after n cap (Instruct nano) Blank s
 unfolding part_after incoming_in each_from
 no_edge n cap nano s = refl
 
 -- ---- what goes out over an edge
 
+-- how many rows so many chips are
 rows_counted : (count rows w : ℕ) → count ≡ rows * w → 0 < w → count / w ≡ rows
 rows_counted count rows w size some = ap (λ (c : ℕ). c / w) size ∙ mul-div_cancel rows some
 
@@ -197,23 +200,19 @@ edge_place n South s column vertical band = by band.first band.count where
 
   by : AreRows n s.first → AreRows n s.count → place_at n (edge_row n South s) column
       ≡ record { chip = s.first + (edge_from South s.count w + column / 4); proc = at_edge South (column % 4) }
-  by (above, begin) (rows, size) =
+  by (above, begin) (zero, size) = absurd (omega (arith, band.some, size))
+  by (above, begin) (suc rows, size) =
       let row : s.first / w ≡ above = rows_counted s.first above w begin (columns_some n) in
-      let many : s.count / w ≡ rows = rows_counted s.count rows w size (columns_some n) in
-      let some : 0 < rows = ⊎_elim (λ (e : rows < 1).
-      let none : rows * w ≡ 0 = ap (λ (k : ℕ). k * w) (let z : rows ≡ 0 = omega arith in z) ∙ (let z : 0 * w ≡ 0 = omega arith in z) in
-      absurd (omega (arith, none, size, band.some))) (λ (e : 1 ≤ rows). omega arith) (cases_lt rows 1) in
-      let last : (4 * (s.first / w) + 4 * (s.count / w) - 1) / 4 ≡ above + (rows - 1) = omega (arith, row, many, some) in
-      let less : (rows - 1) * w + w ≡ rows * w =
-      (let e : (rows - 1) * w + w ≡ (rows - 1 + 1) * w = omega arith in e)
-      ∙ ap (λ (k : ℕ). k * w) (let e : rows - 1 + 1 ≡ rows = omega (arith, some) in e) in
-      let both : (above + (rows - 1)) * w ≡ above * w + (rows - 1) * w = omega arith in
+      let many : s.count / w ≡ suc rows = rows_counted s.count (suc rows) w size (columns_some n) in
+      let last : (4 * (s.first / w) + 4 * (s.count / w) - 1) / 4 ≡ above + rows = omega (arith, row, many) in
+      let more : suc rows * w ≡ rows * w + w = omega arith in
+      let both : (above + rows) * w ≡ above * w + rows * w = omega arith in
       λ t. record {
         chip = (ap (λ (y : ℕ). y * w + column / 4) last
-            ∙ (let e : (above + (rows - 1)) * w + column / 4 ≡ s.first + (s.count - w + column / 4) =
-            omega (arith, both, less, begin, size) in e)) t;
+            ∙ (let e : (above + rows) * w + column / 4 ≡ s.first + (s.count - w + column / 4) =
+            omega (arith, both, more, begin, size) in e)) t;
         proc = (let e : 4 * ((4 * (s.first / w) + 4 * (s.count / w) - 1) % 4) + column % 4 ≡ 4 * 3 + column % 4 =
-            omega (arith, row, many, some) in e) t;
+            omega (arith, row, many) in e) t;
       }
 edge_place n East s column vertical band = cc
 edge_place n West s column vertical band = cc
@@ -248,7 +247,8 @@ edge_due n cap nano s planes edge vertical band chips long wide sent is fit =
     ∙ ap (output nano (chip_in s)) (sym (edge_place n nano.dir s column vertical band))))
 
 -- a row of chips lies within a band
-pub edge_inside : (n : ℕ) (dir : Dir) (s : Part) → IsBand n s → (chip_columns n ≤ s.count) × (edge_from dir s.count (chip_columns n) + chip_columns n ≤ s.count)
+pub edge_inside : (n : ℕ) (dir : Dir) (s : Part) → IsBand n s
+    → (chip_columns n ≤ s.count) × (edge_from dir s.count (chip_columns n) + chip_columns n ≤ s.count)
 edge_inside n dir s band = by band.count dir where
   by : AreRows n s.count → (dir : Dir) → (chip_columns n ≤ s.count) × (edge_from dir s.count (chip_columns n) + chip_columns n ≤ s.count)
   by (zero, size) dir = absurd (omega (arith, band.some, size))

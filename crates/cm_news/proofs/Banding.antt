@@ -1,5 +1,7 @@
 -- What comes in at a band of whole rows of chips: which chips of it lead to one another, and where its edge is read.
-use Rattle.std.proofs.Common.{◌≡◌, ◌≢◌, ℕ, ◌+◌, ◌-◌, ◌*◌, ◌/◌, ◌%◌, ◌^◌, ◌<◌, ◌≤◌, ◌&&◌, ◌||◌, Bool, true, false, List, length, Some, None, not, ne_eqb, if◌then◌else◌, get_or, bit_and, nat_le, nat_lt, refl, sym, ap, ◌∙◌, subst, ⊎_elim, arith}
+use Rattle.std.proofs.Common.{◌≡◌, ◌≢◌, ℕ, zero, suc, ◌+◌, ◌-◌, ◌*◌, ◌/◌, ◌%◌, ◌^◌, ◌<◌, ◌≤◌, ◌&&◌, ◌||◌, Bool, true, false, List, length}
+use Rattle.std.proofs.Common.{Some, None, not, ne_eqb, if◌then◌else◌, get_or, bit_and, nat_le, nat_lt, refl, sym, ap, ◌∙◌, subst, ⊎_elim}
+use Rattle.std.proofs.Common.{arith}
 use Rattle.std.proofs.Math.Bool.{or-false}
 use Rattle.std.proofs.lemmas.Bool.{cases_lt}
 use Rattle.std.proofs.lemmas.Bool.Decides.{nat_tests}
@@ -13,12 +15,13 @@ use Rattle.cm_model.specs.Chip.{IsPlane, plane_bit}
 use Rattle.cm_model.specs.Laws.{IsPlace}
 use Rattle.cm_model.specs.Place.{chip_columns, column_of, source, opposite}
 use Rattle.cm_model.proofs.Each.{get_or-each_below}
-use Rattle.cm_model.proofs.Torus.{back-first, back-other, on-last, on-other, columns_some, chip_row-lt, chip_column-lt, chip-own, neighbours_lead_back}
+use Rattle.cm_model.proofs.Torus.{back-first, back-other, on-last, on-other, columns_some, chip_row-lt, chip_column-lt, chip-own}
+use Rattle.cm_model.proofs.Torus.{neighbours_lead_back}
 use Rattle.cm_news.specs.Bands.{AreRows, is_open, bits_of, bit_for, IsEntered, AreEntered}
 use Rattle.cm_news.specs.Moves.{is_entry, one_back, sender, at_edge, along, bit_of_place}
 use Rattle.cm_news.specs.Rounds.{IsJoined, IsTurned, AreTurned}
 use Rattle.cm_news.proofs.Joining.{along-lt}
-use Rattle.cm_news.proofs.Rounding.{one_row_on, last_row_on, first_row_back, other_row_back, all_rows}
+use Rattle.cm_news.proofs.Rounding.{less_one, one_row_on, last_row_on, first_row_back, other_row_back, all_rows}
 use Rattle.cm_news.proofs.Sources.{chip_rows, chip_before, over_edge, steps_are_the_torus}
 use Rattle.cm_news.proofs.Stepping.{edge_north}
 
@@ -121,10 +124,16 @@ entered_in_band n dir first i k plane planes edge there here wide out column is 
 -- of two multiples the lower is lower by one more
 multiples : (a b w : ℕ) → a * w < b * w → a * w + w ≤ b * w
 multiples a b w less =
-    let lt : a < b = ⊎_elim (λ (l : a < b). l) (λ (l : b ≤ a). let more : b * w ≤ a * w = mul-le b w a w l (omega arith) in absurd (omega arith)) (cases_lt a b) in
+    let lt : a < b = ⊎_elim (λ (l : a < b). l)
+    (λ (l : b ≤ a). let more : b * w ≤ a * w = mul-le b w a w l (omega arith) in absurd (omega arith)) (cases_lt a b) in
     let more : (a + 1) * w ≤ b * w = mul-le (a + 1) w b w (omega arith) (omega arith) in
     let is : (a + 1) * w ≡ a * w + w = omega arith in
     omega arith
+
+-- so many rows with a chip in them are some
+some_rows : (rows w : ℕ) → 0 < rows * w → 0 < rows
+some_rows zero w some = absurd (omega arith)
+some_rows (suc rows) w some = omega arith
 
 -- a multiple that is some is one at least
 one_at_least : (a w : ℕ) → 0 < a * w → w ≤ a * w
@@ -160,11 +169,14 @@ module _ (n first count i above rows : ℕ) (begin : first ≡ above * chip_colu
   some_less : count + chip_columns n ≤ 2 ^ n
   some_less =
       let less : rows * chip_columns n < chip_rows n * chip_columns n = omega (arith, size, total n, fit, part) in
-      let gap : rows * chip_columns n + chip_columns n ≤ chip_rows n * chip_columns n = multiples rows (chip_rows n) (chip_columns n) less in
+      let gap : rows * chip_columns n + chip_columns n ≤ chip_rows n * chip_columns n =
+      multiples rows (chip_rows n) (chip_columns n) less in
       omega (arith, size, total n, gap)
 
   width : chip_columns n ≤ count
-  width = let least : chip_columns n ≤ rows * chip_columns n = one_at_least rows (chip_columns n) (omega (arith, size, here)) in omega (arith, least, size)
+  width =
+      let least : chip_columns n ≤ rows * chip_columns n = one_at_least rows (chip_columns n) (omega (arith, size, here)) in
+      omega (arith, least, size)
 
   north_out : count ≤ i + chip_columns n → is_among first count (chip_before n North (first + i)) ≡ false
   north_out last = ⊎_elim
@@ -183,7 +195,9 @@ module _ (n first count i above rows : ℕ) (begin : first ≡ above * chip_colu
       (let is = back_round n (first + i) (omega arith) l in
       let gap = some_less in
       let none : first ≡ 0 = ⊎_elim (λ (e : first < 1). omega arith)
-      (λ (e : 1 ≤ first). let least : chip_columns n ≤ above * chip_columns n = one_at_least above (chip_columns n) (omega (arith, begin, e)) in absurd (omega (arith, least, begin, l, gap)))
+      (λ (e : 1 ≤ first).
+      let least : chip_columns n ≤ above * chip_columns n = one_at_least above (chip_columns n) (omega (arith, begin, e)) in
+      absurd (omega (arith, least, begin, l, gap)))
       (cases_lt first 1) in
       omega (arith, is, gap, none)))
       (λ (l : 2 ^ n ≤ first + i + (2 ^ n - chip_columns n)). not_below first count (chip_before n South (first + i))
@@ -197,18 +211,13 @@ module _ (n first count i above rows : ℕ) (begin : first ≡ above * chip_colu
   last_column last =
       let wide = width in
       let all : above * chip_columns n + rows * chip_columns n ≡ (above + rows) * chip_columns n = omega arith in
-      let less : (above + rows - 1) * chip_columns n + chip_columns n ≡ (above + rows) * chip_columns n = less_row (above + rows) (chip_columns n) (omega (arith, some_rows)) in
+      let some : 0 < rows = some_rows rows (chip_columns n) (omega (arith, size, here)) in
+      let less : (above + rows - 1) * chip_columns n + chip_columns n ≡ (above + rows) * chip_columns n =
+      less_one (above + rows) (chip_columns n) (omega (arith, some)) in
       ap (λ (c : ℕ). c % chip_columns n)
-      (let e : first + i ≡ (above + rows - 1) * chip_columns n + (i - (count - chip_columns n)) = omega (arith, begin, size, all, less, wide, last) in e)
+      (let e : first + i ≡ (above + rows - 1) * chip_columns n + (i - (count - chip_columns n)) =
+      omega (arith, begin, size, all, less, wide, last) in e)
       ∙ mod-mul-add (above + rows - 1) (chip_columns n) (i - (count - chip_columns n)) (omega (arith, wide, last, here))
-    where
-      less_row : (h w : ℕ) → 0 < h → (h - 1) * w + w ≡ h * w
-      less_row h w some =
-          (let e : (h - 1) * w + w ≡ (h - 1 + 1) * w = omega arith in e) ∙ ap (λ (k : ℕ). k * w) (let e : h - 1 + 1 ≡ h = omega arith in e)
-
-      some_rows : 0 < rows
-      some_rows = ⊎_elim (λ (e : rows < 1). let none : rows * chip_columns n ≡ 0 = ap (λ (k : ℕ). k * chip_columns n) (let z : rows ≡ 0 = omega arith in z) ∙ (let z : 0 * chip_columns n ≡ 0 = omega arith in z) in absurd (omega (arith, none, size, here)))
-          (λ (e : 1 ≤ rows). omega arith) (cases_lt rows 1)
 
   first_column : i < chip_columns n → (first + i) % chip_columns n ≡ i
   first_column top =
@@ -330,7 +339,8 @@ turned_in_band : (n : ℕ) (dir : Dir) (by : ℕ) (planes edge new : List ℕ) (
     → ((r : ℕ) → r < chip_columns n → r + by < chip_columns n → r + by ≡ on r)
     → ((r : ℕ) → r < chip_columns n → chip_columns n ≤ r + by → r - (chip_columns n - by) ≡ on r)
     → (rows : ℕ) → length planes ≡ rows * chip_columns n
-    → ((q r : ℕ) → q < rows → r < chip_columns n → IsTurned dir planes (q * chip_columns n) (chip_columns n) by r (get_or new (q * chip_columns n + r) 0))
+    → ((q r : ℕ) → q < rows → r < chip_columns n
+    → IsTurned dir planes (q * chip_columns n) (chip_columns n) by r (get_or new (q * chip_columns n + r) 0))
     → ComesIn n dir planes edge new
 turned_in_band n dir by planes edge new on before below straight over rows size turned first i (above, begin) fit here =
     let w : ℕ = chip_columns n in
@@ -340,11 +350,13 @@ turned_in_band n dir by planes edge new on before below straight over rows size 
     let row : q < rows = row_of_band i rows w (length planes) size (columns_some n) here in
     let is : IsTurned dir planes (q * w) w by r (get_or new (q * w + r) 0) = turned q r row small in
     let there : q * w + r < length planes = in_rows q rows r w (length planes) size row small in
+    let with_other : ℕ → Type 0 =
+    λ x. IsJoined dir (get_or planes (q * w + r) 0) (get_or planes (q * w + x) 0) (get_or new (q * w + r) 0) in
     let joined : IsJoined dir (get_or planes (q * w + r) 0) (get_or planes (q * w + on r) 0) (get_or new (q * w + r) 0) =
     ⊎_elim
-    (λ (l : r + by < w). subst (λ (x : ℕ). IsJoined dir (get_or planes (q * w + r) 0) (get_or planes (q * w + x) 0) (get_or new (q * w + r) 0))
+    (λ (l : r + by < w). subst with_other
     (straight r small l) (is.straight l))
-    (λ (l : w ≤ r + by). subst (λ (x : ℕ). IsJoined dir (get_or planes (q * w + r) 0) (get_or planes (q * w + x) 0) (get_or new (q * w + r) 0))
+    (λ (l : w ≤ r + by). subst with_other
     (over r small l) (is.over l))
     (cases_lt (r + by) w) in
     subst (λ (x : ℕ). IsPlane (get_or new x 0) (λ p. bit_for n dir first planes edge (record { chip = first + x; proc = p })))
@@ -353,6 +365,7 @@ turned_in_band n dir by planes edge new on before below straight over rows size 
     (omega (arith, fit, there)) there (in_rows q rows (on r) w (length planes) size row (below r small))
     (before first above q r begin small) joined)
 
+-- how many rows so many chips are
 rows_counted : (count rows w : ℕ) → count ≡ rows * w → 0 < w → count / w ≡ rows
 rows_counted count rows w size some = ap (λ (c : ℕ). c / w) size ∙ mul-div_cancel rows some
 
@@ -363,11 +376,13 @@ rows_and_columns n count columns columns_is (rows, size) =
     ∙ ap (λ (q : ℕ). q * chip_columns n) (rows_counted count rows (chip_columns n) size (columns_some n)) ∙ sym size
 
 pub band_west : (n columns : ℕ) (planes edge new : List ℕ) → columns ≡ chip_columns n → AreRows n (length planes)
-    → ((q r : ℕ) → q < length planes / columns → r < columns → IsTurned West planes (q * columns) columns 1 r (get_or new (q * columns + r) 0))
+    → ((q r : ℕ) → q < length planes / columns → r < columns
+    → IsTurned West planes (q * columns) columns 1 r (get_or new (q * columns + r) 0))
     → ComesIn n West planes edge new
 band_west n columns planes edge new columns_is (rows, size) turned =
     let w : ℕ = chip_columns n in
-    let at : (q r : ℕ) → q < length planes / w → r < w → IsTurned West planes (q * w) w 1 r (get_or new (q * w + r) 0) = rw columns_is at turned in
+    let at : (q r : ℕ) → q < length planes / w → r < w → IsTurned West planes (q * w) w 1 r (get_or new (q * w + r) 0) =
+    rw columns_is at turned in
     turned_in_band n West 1 planes edge new (λ r. (r + 1) % w) (west_of n)
     (λ r small. mod-lt (r + 1) (columns_some n))
     (λ r small l. sym (on-other r w l))
@@ -376,12 +391,14 @@ band_west n columns planes edge new columns_is (rows, size) turned =
     rows size (λ q r below. at q r (let e = rows_counted (length planes) rows w size (columns_some n) in omega (arith, e, below)))
 
 pub band_east : (n columns : ℕ) (planes edge new : List ℕ) → columns ≡ chip_columns n → AreRows n (length planes)
-    → ((q r : ℕ) → q < length planes / columns → r < columns → IsTurned East planes (q * columns) columns (columns - 1) r (get_or new (q * columns + r) 0))
+    → ((q r : ℕ) → q < length planes / columns → r < columns
+    → IsTurned East planes (q * columns) columns (columns - 1) r (get_or new (q * columns + r) 0))
     → ComesIn n East planes edge new
 band_east n columns planes edge new columns_is (rows, size) turned =
     let w : ℕ = chip_columns n in
     let some : 0 < w = columns_some n in
-    let at : (q r : ℕ) → q < length planes / w → r < w → IsTurned East planes (q * w) w (w - 1) r (get_or new (q * w + r) 0) = rw columns_is at turned in
+    let at : (q r : ℕ) → q < length planes / w → r < w → IsTurned East planes (q * w) w (w - 1) r (get_or new (q * w + r) 0) =
+    rw columns_is at turned in
     turned_in_band n East (w - 1) planes edge new (λ r. (r + w - 1) % w) (east_of n)
     (λ r small. mod-lt (r + w - 1) some)
     (λ r small l. let first : r ≡ 0 = omega (arith, l, small, some) in
@@ -400,11 +417,13 @@ band_of_all n dir planes edge new all came first i begin fit here p h =
     let own : first + i ≡ i = omega (arith, none) in
     let place : Place = record { chip = i; proc = p } in
     let there : i < 2 ^ n = omega (arith, here, all) in
-    let within : IsPlace n (source n dir place) = (neighbours_lead_back n (opposite dir) place (record { chip = there; proc = h })).within in
+    let within : IsPlace n (source n dir place) =
+    (neighbours_lead_back n (opposite dir) place (record { chip = there; proc = h })).within in
+    let same : (source n dir place).chip ≡ first + (source n dir place).chip = omega (arith, none) in
     came i there p h
     ∙ sym (within_is n dir first (first + i) p (source n dir place).chip (source n dir place).proc planes edge
     (ap (λ (c : ℕ). source n dir (record { chip = c; proc = p })) own
-    ∙ (λ t. record { chip = (let e : (source n dir place).chip ≡ first + (source n dir place).chip = omega (arith, none) in e) t; proc = (source n dir place).proc }))
+    ∙ (λ t. record { chip = same t; proc = (source n dir place).proc }))
     (omega (arith, within.chip, all)))
 
 -- ---- over which edge something comes in

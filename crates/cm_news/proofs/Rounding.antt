@@ -28,7 +28,7 @@ joined_comes_in n dir chip before plane planes there before_is is p h = is p h �
 zero_times : (w : ℕ) → 0 * w ≡ 0
 zero_times w = omega arith
 
-less_one : (h w : ℕ) → 0 < h → (h - 1) * w + w ≡ h * w
+pub less_one : (h w : ℕ) → 0 < h → (h - 1) * w + w ≡ h * w
 less_one h w some =
     (let e : (h - 1) * w + w ≡ (h - 1 + 1) * w = omega arith in e) ∙ ap (λ (k : ℕ). k * w) (let e : h - 1 + 1 ≡ h = omega arith in e)
 

@@ -4,11 +4,13 @@ use Rattle.cm_news.proofs.row.incoming_part.Goals as goal
 
 pub turn_rows-requires-clause-planes : goal.turn_rows-requires-clause-planes
 turn_rows-requires-clause-planes c =
-    rows_and_columns c.args.dims (length c.args.planes.now) c.power_of_two-columns.result c.power_of_two-columns.ensures.value c.requires.rows
+    rows_and_columns c.args.dims (length c.args.planes.now) c.power_of_two-columns.result
+    c.power_of_two-columns.ensures.value c.requires.rows
 
 pub turn_rows-requires-in-East-clause-planes : goal.turn_rows-requires-in-East-clause-planes
 turn_rows-requires-in-East-clause-planes c =
-    rows_and_columns c.args.dims (length c.args.planes.now) c.power_of_two-columns.result c.power_of_two-columns.ensures.value c.requires.rows
+    rows_and_columns c.args.dims (length c.args.planes.now) c.power_of_two-columns.result
+    c.power_of_two-columns.ensures.value c.requires.rows
 
 pub returns-in-North : goal.returns-in-North
 returns-in-North c = record {

@@ -2,6 +2,7 @@ use Rattle.std.proofs.Common.{◌≡◌, length, ap, sym, ◌∙◌, subst}
 use Rattle.cm_blocks.specs.Steps.{less}
 use Rattle.cm_news.specs.Bands.{bits_of}
 use Rattle.cm_array.specs.Cuts.{KeptPart}
+use Rattle.cm_subcube.specs.declared.round.Kind.{Kind}
 use Rattle.cm_subcube.specs.declared.round.Round.{Round}
 use Rattle.cm_subcube.specs.Blocks.{KeptBlock}
 use Rattle.cm_subcube.specs.Rounds.{step_in, step_of}
@@ -32,13 +33,14 @@ returns-clause-rest c =
     let now : KeptBlock = c.args.self.now in
     let old : KeptPart = now.kept in
     let round : Round = c.args.round.now in
-    let rest : KeptBlock → Type 0 = λ b. b.kept ≡ record old { part = less old.room (step_of round) old.part; gathered = b.kept.gathered } in
+    let rest : KeptBlock → Type 0 =
+    λ b. b.kept ≡ record old { part = less old.room (step_of round) old.part; gathered = b.kept.gathered } in
     elim c.match-parcel.branch [
       | in-Mail+in-Dim w ↦ subst rest (sym w.self-is)
-          (w.send.ensures.kept ∙ λ t. record old {
-            part = less old.room (step_in round.act (sym w.in-Dim.is t)) old.part;
+          (subst (λ (one : Kind). w.send.new.self.kept ≡ record old {
+            part = less old.room (step_in round.act one) old.part;
             gathered = w.send.new.self.kept.gathered;
-          })
+          }) (sym w.in-Dim.is) w.send.ensures.kept)
       | in-Edge+in-Nano w ↦
           let blank = ap parcel_of (sym w.in-Edge.is) ∙ c.parcel.view_is ∙ c.requires.blank in
           subst rest (sym (w.self-is ∙ w.send_edge.ensures.others)) (λ t. record old {
