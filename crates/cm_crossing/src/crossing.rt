@@ -1,6 +1,6 @@
 //! The messages of a run of chips.
 
-ghost use Rattle.std.specs.Prelude.{◌≡◌, ℕ, ◌+◌, ◌^◌, ◌<◌, ◌≤◌, ◌++◌, [], ◌∷◌, IfOk, IsTrue, length, map, None};
+ghost use Rattle.std.specs.Prelude.{◌≡◌, ◌≢◌, ℕ, ◌+◌, ◌^◌, ◌<◌, ◌≤◌, ◌++◌, [], ◌∷◌, IfOk, IsTrue, length, map, None};
 ghost use Rattle.std.specs.Prelude.{slice_set, slice_index_or, bit_xor, vec_len, vec_capacity};
 ghost use Rattle.std.specs.List.{All};
 ghost use Rattle.std.specs.Option.{option_to_list};
@@ -131,6 +131,7 @@ impl Crossing {
         ensures none { (c : ℕ) → from ≤ c → c < result → list_at self.now.buffers c ≡ [] }
         ensures from { from ≤ result }
         ensures most { result ≤ length self.now.buffers }
+        ensures occupied { result < length self.now.buffers → list_at self.now.buffers result ≢ [] }
     {
         self.slots.next_occupied(from)
     }

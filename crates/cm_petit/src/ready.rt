@@ -1,6 +1,6 @@
 //! What the parts of a petit cycle ask for, as questions.
 
-ghost use Rattle.std.specs.Prelude.{◌≤◌, IsTrue};
+ghost use Rattle.std.specs.Prelude.{◌≤◌, ◌↔◌, IsTrue};
 ghost use Rattle.cm_petit.specs.Routers.{AreRouters, HasLogRoom};
 
 use cm_crossing::{Crossing, Sizes};
@@ -22,7 +22,7 @@ pub fn are_routers(sizes: Sizes, run: &Run, crossing: &Crossing, logs: &[Vec<Eve
 
 /// Whether each log takes so many events more.
 pub fn has_log_room(logs: &[Vec<Event>], count: usize) -> bool
-    ensures room { IsTrue result → HasLogRoom count logs.now }
+    ensures room { IsTrue result ↔ HasLogRoom count logs.now }
 {
     for log in logs {
         if log.capacity() - log.len() < count {

@@ -1,7 +1,7 @@
 -- All tiles, of which one chip changes.
 use Rattle.std.proofs.Common.{◌≡◌, ◌≢◌, ℕ, ◌/◌, ◌%◌, ◌<◌, ◌≤◌, ◌+◌, ◌++◌, true, List, [], ◌∷◌, length}
 use Rattle.std.proofs.Common.{set, slice_set}
-use Rattle.std.proofs.Common.{map, remove, Option, Some, None, sym, ◌∙◌, ap, subst, ⊎_elim, arith}
+use Rattle.std.proofs.Common.{map, remove, Option, Some, None, refl, sym, ◌∙◌, ap, subst, ⊎_elim, arith}
 use Rattle.std.specs.List.{All}
 use Rattle.std.specs.Global.{Vec}
 use Rattle.std.specs.Vec.{with_items}
@@ -10,7 +10,7 @@ use Rattle.std.proofs.lemmas.List.{length-map, length-set, get_or-map, get_or-se
 use Rattle.std.proofs.lemmas.List.{map-set, get_or_past}
 use Rattle.std.proofs.lemmas.List.Elements.{All-set}
 use Rattle.std.specs.List.{slice_get}
-use Rattle.std.proofs.lemmas.Option.{slice_get-get_or, slice_get_past}
+use Rattle.std.proofs.lemmas.Option.{none-some, slice_get-get_or, slice_get_past}
 use Rattle.cm_model.specs.Array.{list_at}
 use Rattle.cm_model.proofs.Each.{is_each, length-each_from, get_or-each_below}
 use Rattle.cm_model.proofs.Leaving.{map-without}
@@ -182,7 +182,16 @@ nobody_there chip tiles inside whole blank =
     ap (map ticket_of) (nobody 15 (slots_of (tile_at tiles (chip / 64)) (chip % 64))
     (standing_at (tile_at tiles (chip / 64)) (chip % 64)) are (λ some. blank))
 
--- nor at any of a tile at which nobody stands
+-- where it is not, somebody does
+pub somebody_there : (chip : ℕ) (tiles : List Tile) → chip / 64 < length tiles → All IsTile tiles
+    → slots_of (tile_at tiles (chip / 64)) (chip % 64) 0 ≢ 0 → tickets_of tiles chip ≢ []
+somebody_there chip tiles inside whole some =
+    let first : ℕ = slots_of (tile_at tiles (chip / 64)) (chip % 64) 0 in
+    let read : Some (ticket_of first) ≡ slice_get (tickets_of tiles chip) 0 =
+    some_ticket chip 0 tiles inside whole first refl (omega arith) some in
+    λ none. none-some (ticket_of first) (sym (read ∙ ap (λ (ts : List Ticket). slice_get ts 0) none))
+
+-- nobody does at any chip of a tile at which nobody stands
 pub nobody_in_tile : (chip : ℕ) (tiles : List Tile) → chip / 64 < length tiles → All IsTile tiles
     → IsQuiet (tile_at tiles (chip / 64)) → tickets_of tiles chip ≡ []
 nobody_in_tile chip tiles inside whole quiet =
