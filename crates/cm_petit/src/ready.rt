@@ -7,11 +7,11 @@ use cm_crossing::{Crossing, Sizes};
 use cm_element::Run;
 use cm_message::Event;
 
-/// True only of as many chips, buffers and logs as the sizes tell, with no more messages at a chip than there
-/// is room for.
+/// Whether there are as many chips, buffers and logs as the sizes tell, with no more messages at a chip than
+/// there is room for.
 pub fn are_routers(sizes: Sizes, run: &Run, crossing: &Crossing, logs: &[Vec<Event>]) -> bool
     requires span { sizes.span ≤ 12 }
-    ensures routers { IsTrue result → AreRouters sizes.span sizes.room run.now crossing.now.buffers logs.now }
+    ensures routers { IsTrue result ↔ AreRouters sizes.span sizes.room run.now crossing.now.buffers logs.now }
 {
     let chips = 1 << sizes.span;
     run.chips() == chips

@@ -1,5 +1,5 @@
 -- All tiles, of which one chip changes.
-use Rattle.std.proofs.Common.{◌≡◌, ◌≢◌, ℕ, ◌/◌, ◌%◌, ◌<◌, ◌≤◌, ◌+◌, ◌++◌, true, List, [], ◌∷◌, length}
+use Rattle.std.proofs.Common.{◌≡◌, ◌≢◌, ℕ, ◌/◌, ◌%◌, ◌<◌, ◌≤◌, ◌+◌, ◌*◌, ◌++◌, true, List, [], ◌∷◌, length}
 use Rattle.std.proofs.Common.{set, slice_set}
 use Rattle.std.proofs.Common.{map, remove, Option, Some, None, refl, sym, ◌∙◌, ap, subst, ⊎_elim, arith}
 use Rattle.std.specs.List.{All}
@@ -166,6 +166,36 @@ pub few_tickets : (chip : ℕ) (tiles : List Tile) → chip / 64 < length tiles 
 few_tickets chip tiles inside whole =
     let are = (whole (chip / 64) no_tile inside).queues (chip % 64) (omega arith) in
     omega (arith, are.fits, length-map (standing_at (tile_at tiles (chip / 64)) (chip % 64)) ticket_of)
+
+-- where no more than so many do, no more do at any place of a tile
+pub few_in_tile : (room : ℕ) (tiles : List Tile) (t : ℕ) → t < length tiles
+    → ((c : ℕ) → c / 64 < length tiles → length (tickets_of tiles c) ≤ room)
+    → (i : ℕ) → i < 64 → length (standing_at (tile_at tiles t) i) ≤ room
+few_in_tile room tiles t inside few i h =
+    let c : ℕ = t * 64 + i in
+    let tile_is : c / 64 ≡ t = omega (arith, h) in
+    let place_is : c % 64 ≡ i = omega (arith, h) in
+    let there : length (tickets_of tiles c) ≡ length (standing_at (tile_at tiles t) i) =
+    length-map (standing_at (tile_at tiles (c / 64)) (c % 64)) ticket_of
+    ∙ ap (λ (s : ℕ). length (standing_at (tile_at tiles s) (c % 64))) tile_is
+    ∙ ap (λ (p : ℕ). length (standing_at (tile_at tiles t) p)) place_is in
+    omega (arith, there, few c (omega (arith, tile_is, inside)))
+
+-- no more than so many stand anywhere, also behind the last chip
+pub within_tiles : (chips room : ℕ) (tiles : List Tile) (leaving : List (Option (List ℕ))) (q : List (List Ticket))
+    → AreTiles chips tiles leaving → queues_in chips tiles ≡ q → All (λ ts. length ts ≤ room) q
+    → (c : ℕ) → c / 64 < length tiles → length (tickets_of tiles c) ≤ room
+within_tiles chips room tiles leaving q are view few c h = ⊎_elim
+    (λ (l : c < chips).
+    let long : length q ≡ chips = sym (ap length view) ∙ length-each_from 0 chips (tickets_of tiles) in
+    omega (
+      arith,
+      ap length (get_or-each_below chips (tickets_of tiles) c [] l),
+      ap (λ (r : List (List Ticket)). length (list_at r c)) view,
+      few c [] (omega (arith, long)),
+    ))
+    (λ (l : chips ≤ c). omega (arith, ap length (are.past c l h)))
+    (cases_lt c chips)
 
 pub within_view : (chips room : ℕ) (tiles : List Tile) (q : List (List Ticket)) → queues_in chips tiles ≡ q
     → ((c : ℕ) → c < chips → length (tickets_of tiles c) ≤ room) → All (λ ts. length ts ≤ room) q
