@@ -1,0 +1,4 @@
+//! Workers: threads that go through the blocks of a machine, and meet at the rounds of a run.
+#![tactic(auto)]
+
+mod dealing;
