@@ -56,14 +56,14 @@ next_hand : {X : Type 0} (count j : ℕ) (hands : List (Vec X Global)) (e : Vec 
 next_hand count j hands e some shares = turn count j (length (hand hands e (j % count))) (λ q. shares (j % count) q e (mod-lt j some))
 
 -- two numbers are the same or are not
-either_same : (m n : ℕ) → (m ≡ n) ⊎ (m ≢ n)
+pub either_same : (m n : ℕ) → (m ≡ n) ⊎ (m ≢ n)
 either_same m n = ⊎_elim
     (λ (l : m < n). inr (λ (same : m ≡ n). absurd (omega (arith, l, same))))
     (λ (l : n ≤ m). ⊎_elim (λ (k : n < m). inr (λ (same : m ≡ n). absurd (omega (arith, k, same)))) (λ (k : m ≤ n). inl (omega (arith, l, k))) (cases_lt n m))
     (cases_lt m n)
 
 -- no more, and not the same, is less
-less_than : (a b : ℕ) → a < b + 1 → a ≢ b → a < b
+pub less_than : (a b : ℕ) → a < b + 1 → a ≢ b → a < b
 less_than a b l other = ⊎_elim (λ (k : a < b). k) (λ (k : b ≤ a). absurd (other (omega (arith, k, l)))) (cases_lt a b)
 
 -- the hand that gets thing j has one more, and the others have what they had

@@ -1,1 +1,4 @@
 pub mod Dealing
+pub mod Posts
+pub mod Each
+pub mod Turns

@@ -2,3 +2,5 @@
 #![tactic(auto)]
 
 mod dealing;
+mod exchange;
+mod post;
