@@ -3,3 +3,4 @@ pub mod Parts
 pub mod Parcels
 pub mod Steps
 pub mod Laws
+pub mod Counts

@@ -1,4 +1,5 @@
 pub mod Rounds
 pub mod Blocks
 pub mod Parcels
+pub mod Local
 pub mod Laws

@@ -1,24 +1,24 @@
-//! What a block does in a round: it fills a parcel for another block, and absorbs one that came.
-
-ghost use Rattle.std.specs.Prelude.{◌≡◌, ℕ, ◌<◌, None, length};
-ghost use Rattle.std.specs.List.{All};
-ghost use Rattle.cm_model.specs.Steps.{Cross};
-ghost use Rattle.cm_blocks.specs.Parts.{size};
-ghost use Rattle.cm_blocks.specs.Parcels.{Mail, due};
-ghost use Rattle.cm_blocks.specs.Steps.{less, absorbed};
+//! stub
+ghost use Rattle.cm_model.specs.declared.act.Act.{Act};
+ghost use Rattle.std.specs.Prelude.{◌≡◌, ℕ, ◌+◌, ◌<◌, ◌^◌, true};
+ghost use Rattle.std.specs.Option.{option_copied};
+ghost use Rattle.cm_blocks.specs.Counts.{deliveries, events_in};
+ghost use Rattle.cm_blocks.specs.Parcels.{due};
+ghost use Rattle.cm_blocks.specs.Steps.{less, absorbed, part_after_all};
+ghost use Rattle.cm_array.specs.Cuts.{HaveLogRoom};
 ghost use Rattle.cm_subcube.specs.Rounds.{step_of};
-ghost use Rattle.cm_subcube.specs.Parcels.{blank_parcel, IsOuter, IsCrossing, HasLanes};
+ghost use Rattle.cm_subcube.specs.Parcels.{blank_parcel};
+ghost use Rattle.cm_subcube.specs.Local.{local_after, IsExchange, HaveSpaceFor, IsOfKind, IsFollowing, LoseAtMost, Stub};
 
 use crate::block::Block;
-use crate::parcel::{Load, Parcel};
-use crate::round::{Kind, Round};
-use cm_message::Message;
+use crate::parcel::Parcel;
+use crate::round::Round;
+use cm_model::Act;
 
 impl Block {
-    /// In a round over a dimension, puts what leaves each chip into a blank parcel; until a parcel is absorbed the
-    /// block is without it.
     pub fn fill(&mut self, round: &Round, parcel: &mut Parcel)
-        requires crossing { IsCrossing self.old.kept.dims self.old.k round.now.kind }
+        requires stub { Stub }
+        requires exchange { IsExchange self.old.kept.dims self.old.k round.now.act round.now.kind }
         requires blank { parcel.old ≡ blank_parcel self.old.kept.dims self.old.k round.now.kind }
         ensures sent { parcel.new ≡ due self.old.kept.dims self.old.kept.room (step_of round.now) self.old.kept.part }
         ensures rest { self.new.kept ≡ record self.old.kept {
@@ -26,22 +26,16 @@ impl Block {
           gathered = self.new.kept.gathered;
         } }
         ensures blocks { self.new.k ≡ self.old.k }
-        ensures space { All (λ ms. length ms < self.new.kept.room) self.new.kept.part.buffers }
+        ensures space { HaveSpaceFor round.now.kind self.new.kept.room self.new.kept.part.buffers }
     {
-        let Kind::Dim(dim) = round.kind else {
-            unreachable!()
-        };
-        let Load::Mail(mail) = &mut parcel.load else {
-            unreachable!()
-        };
-        self.send(dim, mail);
+        impossible(self);
     }
 
-    /// In a round over a dimension, takes in what stands in a parcel, which is blank then.
     pub fn absorb(&mut self, round: &Round, parcel: &mut Parcel)
-        requires crossing { IsCrossing self.old.kept.dims self.old.k round.now.kind }
-        requires lanes { HasLanes self.old.kept.dims self.old.k parcel.old }
-        requires space { All (λ ms. length ms < self.old.kept.room) self.old.kept.part.buffers }
+        requires stub { Stub }
+        requires exchange { IsExchange self.old.kept.dims self.old.k round.now.act round.now.kind }
+        requires lanes { IsOfKind self.old.kept.dims self.old.k round.now.kind parcel.old }
+        requires space { HaveSpaceFor round.now.kind self.old.kept.room self.old.kept.part.buffers }
         ensures value { self.new.kept ≡ record self.old.kept {
           part = absorbed self.old.kept.dims self.old.kept.room (step_of round.now) parcel.old self.old.kept.part;
           gathered = self.new.kept.gathered;
@@ -49,40 +43,40 @@ impl Block {
         ensures blocks { self.new.k ≡ self.old.k }
         ensures blank { parcel.new ≡ blank_parcel self.old.kept.dims self.old.k round.now.kind }
     {
-        let Load::Mail(mail) = &mut parcel.load else {
-            unreachable!()
-        };
-        self.receive(mail);
+        impossible(self);
     }
 
-    /// What leaves each chip in a dimension.
-    fn send(&mut self, dim: u8, mail: &mut [Option<Message>])
-        requires outer { IsOuter self.old.kept.dims self.old.k dim }
-        requires lanes { length mail.old ≡ size self.old.kept.dims self.old.k }
-        ensures kept { self.new.kept ≡ record self.old.kept {
-          part = less self.old.kept.room (Cross dim) self.old.kept.part;
-          gathered = self.new.kept.gathered;
-        } }
+    pub fn local(&mut self, acts: &[Act], after: Option<&Round>)
+        requires stub { Stub }
+        requires following { IsFollowing self.old.kept.dims self.old.k acts.now (option_copied after) }
+        requires log_room { HaveLogRoom
+            (events_in self.old.kept.room (local_after self.old.kept.dims self.old.k acts.now (option_copied after)))
+            self.old.kept.log_rooms }
+        requires clock { self.old.kept.part.clock
+            + deliveries (local_after self.old.kept.dims self.old.k acts.now (option_copied after)) < 2 ^ 63 }
+        ensures value { self.new.kept.part ≡ part_after_all self.old.kept.dims self.old.kept.room
+            (local_after self.old.kept.dims self.old.k acts.now (option_copied after.entry)) self.old.kept.part }
+        ensures dims { self.new.kept.dims ≡ self.old.kept.dims }
+        ensures room { self.new.kept.room ≡ self.old.kept.room }
         ensures blocks { self.new.k ≡ self.old.k }
-        ensures sent { Mail mail.new ≡ due self.old.kept.dims self.old.kept.room (Cross dim) self.old.kept.part }
-        ensures space { All (λ ms. length ms < self.new.kept.room) self.new.kept.part.buffers }
+        ensures log_room { LoseAtMost
+            (events_in self.old.kept.room (local_after self.old.kept.dims self.old.k acts.now (option_copied after.entry)))
+            self.old.kept.log_rooms self.new.kept.log_rooms }
     {
-        let span = self.part.dims() - self.k;
-        self.part.leave(span, dim, mail);
+        impossible(self);
     }
 
-    /// What comes to each chip in a dimension.
-    fn receive(&mut self, mail: &mut [Option<Message>])
-        requires lanes { length mail.old ≡ size self.old.kept.dims self.old.k }
-        requires space { All (λ ms. length ms < self.old.kept.room) self.old.kept.part.buffers }
-        ensures kept { (dim : ℕ) → self.new.kept ≡ record self.old.kept {
-          part = absorbed self.old.kept.dims self.old.kept.room (Cross dim) (Mail mail.old) self.old.kept.part;
-          gathered = self.new.kept.gathered;
-        } }
+    pub fn gather(&mut self)
+        ensures value { self.new.kept ≡ record self.old.kept { gathered = true } }
         ensures blocks { self.new.k ≡ self.old.k }
-        ensures blank { All (λ leaver. leaver ≡ None) mail.new }
     {
-        let span = self.part.dims() - self.k;
-        self.part.take_in(span, mail);
+        self.part.gather();
     }
+}
+
+fn impossible(block: &mut Block)
+    requires { Stub }
+    ensures { ⊥ }
+{
+    block.part.gather();
 }

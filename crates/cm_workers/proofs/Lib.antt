@@ -1,2 +1,4 @@
 mod Hands
 mod Across
+mod PlaceByPlace
+mod Turning

@@ -1,5 +1,5 @@
 -- A turn: what a block does from one exchange to the next. It takes in what came in the round before, goes on by itself, and sends what is due in the next. Ours.
-use Rattle.std.specs.Prelude.{◌≡◌, ℕ, ◌+◌, ◌<◌, ◌^◌, List, Option, Some, None, IsTrue, length, get_or}
+use Rattle.std.specs.Prelude.{◌≡◌, ℕ, ◌+◌, ◌<◌, ◌^◌, List, Option, Some, None, length, get_or}
 use Rattle.cm_model.specs.declared.act.Act.{Act}
 use Rattle.cm_blocks.specs.Counts.{deliveries, events_in}
 use Rattle.cm_blocks.specs.Parts.{Part}
@@ -9,7 +9,7 @@ use Rattle.cm_array.specs.Cuts.{HaveLogRoom}
 use Rattle.cm_subcube.specs.declared.round.Round.{Round}
 use Rattle.cm_subcube.specs.Blocks.{KeptBlock}
 use Rattle.cm_subcube.specs.Rounds.{step_of}
-use Rattle.cm_subcube.specs.Local.{local_after, HaveSpaceFor, IsOfKind, IsFollowing, LoseAtMost}
+use Rattle.cm_subcube.specs.Local.{local_after, HaveSpaceFor, IsExchange, IsOfKind, IsFollowing, LoseAtMost}
 use Rattle.cm_workers.specs.declared.post.Post.{Post}
 use Rattle.cm_workers.specs.Posts.{lane_in, blank_post, post_of}
 
@@ -42,8 +42,9 @@ HasComeBefore n k room None s post = post ≡ blank_post n k
 HasComeBefore n k room (Some round) s post = HasCome n k room round s post
 
 -- a block and its post are ready for a turn
-pub record CanGo (acts : List Act) (before : Option Round) (block : KeptBlock) (post : Post) : Type 0 where
-  pub following : IsFollowing block.kept.dims block.k acts before
+pub record CanGo (acts : List Act) (before next : Option Round) (block : KeptBlock) (post : Post) : Type 0 where
+  pub behind : IsFollowing block.kept.dims block.k acts before
+  pub ahead : IsFollowing block.kept.dims block.k acts next
   pub come : HasComeBefore block.kept.dims block.k block.kept.room before block.kept.part post
   pub log_room : HaveLogRoom (events_in block.kept.room (local_after block.kept.dims block.k acts before)) block.kept.log_rooms
   pub clock : block.kept.part.clock + deliveries (local_after block.kept.dims block.k acts before) < 2 ^ 63
@@ -84,3 +85,33 @@ pub record HasGone (acts : List Act) (before next : Option Round) (old : KeptBlo
       (gone_on old.kept.dims old.k old.kept.room acts before came old.kept.part)
   pub log_room : LoseAtMost (events_in old.kept.room (local_after old.kept.dims old.k acts before)) old.kept.log_rooms new.kept.log_rooms
   pub space : HaveSpaceIn next new
+
+-- so of all blocks of a worker, and their posts
+pub record CanAllGo (acts : List Act) (before next : Option Round) (blocks : List KeptBlock) (posts : List Post) : Type 0 where
+  pub len : length posts ≡ length blocks
+  pub each : (i : ℕ) (b : KeptBlock) (p : Post) → i < length blocks → CanGo acts before next (get_or blocks i b) (get_or posts i p)
+
+-- a block as it was, but that it may be read now
+pub record IsShown (old new : KeptBlock) : Type 0 where
+  pub blocks : new.k ≡ old.k
+  pub kept : new.kept ≡ record old.kept { gathered = new.kept.gathered }
+
+-- all blocks, one by one
+pub record AreShown (old new : List KeptBlock) : Type 0 where
+  pub len : length new ≡ length old
+  pub each : (i : ℕ) (b : KeptBlock) → i < length old → IsShown (get_or old i b) (get_or new i b)
+
+-- blocks exchange in a round, if there is one
+abbrev pub IsAhead : Option Round → KeptBlock → Type 0
+IsAhead None block = Unit {0}
+IsAhead (Some round) block = IsExchange block.kept.dims block.k round.act round.kind
+
+-- a block and its post are ready to send
+pub record CanSend (next : Option Round) (block : KeptBlock) (post : Post) : Type 0 where
+  pub ahead : IsAhead next block
+  pub blank : post ≡ blank_post block.kept.dims block.k
+
+-- so of all blocks of a worker
+pub record CanAllSend (next : Option Round) (blocks : List KeptBlock) (posts : List Post) : Type 0 where
+  pub len : length posts ≡ length blocks
+  pub each : (i : ℕ) (b : KeptBlock) (p : Post) → i < length blocks → CanSend next (get_or blocks i b) (get_or posts i p)

@@ -3,4 +3,8 @@
 
 mod dealing;
 mod exchange;
+mod gate;
 mod post;
+mod turn;
+
+pub use gate::{Gate, Passage};

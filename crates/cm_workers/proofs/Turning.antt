@@ -1,0 +1,98 @@
+-- Turns of blocks.
+use Rattle.std.proofs.Common.{◌≡◌, ℕ, ◌+◌, ◌<◌, ◌^◌, List, Option, None, Some, length, get_or, refl, ap, sym, subst, ◌∙◌, arith}
+use Rattle.cm_model.specs.declared.act.Act.{Act}
+use Rattle.cm_model.specs.Steps.{Step, Instruct, Look, Inject, Cross, Deliver}
+use Rattle.cm_blocks.specs.Counts.{deliveries, events_in}
+use Rattle.cm_blocks.specs.Parts.{Part}
+use Rattle.cm_blocks.specs.Parcels.{Parcel}
+use Rattle.cm_blocks.specs.Steps.{absorbed, part_after}
+use Rattle.cm_subcube.specs.declared.round.Round.{Round}
+use Rattle.cm_subcube.specs.Blocks.{KeptBlock}
+use Rattle.cm_array.specs.Cuts.{KeptPart}
+use Rattle.cm_subcube.specs.Local.{local_after, IsFollowing, LoseAtMost}
+use Rattle.cm_workers.specs.declared.post.Post.{Post}
+use Rattle.cm_workers.specs.Posts.{blank_post}
+use Rattle.cm_workers.specs.Each.{AreEach}
+use Rattle.cm_workers.specs.Turns.{gone_on, left_in, sent_by, CanGo, CanAllGo, CanSend, CanAllSend, HasGoneOn, HasSent, HasGone, IsShown, AreShown, IsAhead}
+
+-- the counter stands still while a parcel is taken in
+pub clock_stands : (n room : ℕ) (step : Step) (parcel : Parcel) (s : Part) → (absorbed n room step parcel s).clock ≡ s.clock
+unfolding absorbed part_after
+clock_stands n room (Instruct nano) parcel s = refl
+clock_stands n room Look parcel s = refl
+clock_stands n room Inject parcel s = refl
+clock_stands n room (Cross d) parcel s = refl
+clock_stands n room Deliver parcel s = refl
+
+-- a block's counter stays in range on its way to the next round
+abbrev pub IsInTime : List Act → Option Round → KeptBlock → Type 0
+IsInTime acts before block = block.kept.part.clock + deliveries (local_after block.kept.dims block.k acts before) < 2 ^ 63
+
+pub still_in_time : (acts : List Act) (before : Option Round) (old new : KeptBlock) (n room : ℕ) (step : Step) (parcel : Parcel)
+    → new.kept.part ≡ absorbed n room step parcel old.kept.part → new.kept.dims ≡ old.kept.dims → new.k ≡ old.k
+    → IsInTime acts before old → IsInTime acts before new
+still_in_time acts before old new n room step parcel part dims blocks was =
+    subst (λ (clock : ℕ). clock + deliveries (local_after new.kept.dims new.k acts before) < 2 ^ 63)
+    (sym (ap (λ (s : Part). s.clock) part ∙ clock_stands n room step parcel old.kept.part))
+    (subst (λ (d : ℕ). old.kept.part.clock + deliveries (local_after d new.k acts before) < 2 ^ 63) (sym dims)
+    (subst (λ (k : ℕ). old.kept.part.clock + deliveries (local_after old.kept.dims k acts before) < 2 ^ 63) (sym blocks) was))
+
+-- ---- the parts of a turn together
+
+module _ (acts : List Act) (before next : Option Round) where
+  -- a block that has gone on is ready to send
+  pub ready_to_send : (b0 b1 b2 : KeptBlock) (p0 p1 : Post) → CanGo acts before next b0 p0 → HasGoneOn acts before b0 p0 b1 p1
+      → IsShown b1 b2 → CanSend next b2 p1
+  ready_to_send b0 b1 b2 p0 p1 can gone shown =
+      let dims : b0.kept.dims ≡ b2.kept.dims = sym (ap (λ (kept : KeptPart). kept.dims) shown.kept ∙ gone.same.dims) in
+      let blocks : b0.k ≡ b2.k = sym (shown.blocks ∙ gone.same.blocks) in record {
+        ahead = is_ahead acts next b2 (subst (λ (d : ℕ). IsFollowing d b2.k acts next) dims (subst (λ (k : ℕ). IsFollowing b0.kept.dims k acts next) blocks can.ahead));
+        blank = gone.sent ∙ ap (λ (d : ℕ). blank_post d b0.k) dims ∙ ap (λ (k : ℕ). blank_post b2.kept.dims k) blocks;
+      }
+    where
+      is_ahead : (acts : List Act) (next : Option Round) (block : KeptBlock) → IsFollowing block.kept.dims block.k acts next → IsAhead next block
+      is_ahead acts None block following = tt
+      is_ahead acts (Some round) block following = following.exchange
+
+  pub has_gone : (b0 b1 b2 b3 : KeptBlock) (p0 p1 p3 : Post) → HasGoneOn acts before b0 p0 b1 p1 → IsShown b1 b2 → HasSent next b2 p1 b3 p3
+      → HasGone acts before next b0 p0 b3 p3
+  has_gone b0 b1 b2 b3 p0 p1 p3 gone shown sent =
+      let n = b0.kept.dims in let k = b0.k in let room = b0.kept.room in
+      let dims : b2.kept.dims ≡ n = ap (λ (kept : KeptPart). kept.dims) shown.kept ∙ gone.same.dims in
+      let rooms : b2.kept.room ≡ room = ap (λ (kept : KeptPart). kept.room) shown.kept ∙ gone.same.room in
+      let blocks : b2.k ≡ k = shown.blocks ∙ gone.same.blocks in
+      let part : b2.kept.part ≡ gone_on n k room acts before p0 b0.kept.part = ap (λ (kept : KeptPart). kept.part) shown.kept ∙ gone.part in
+      let log_rooms : b3.kept.log_rooms ≡ b1.kept.log_rooms = sent.log_room ∙ ap (λ (kept : KeptPart). kept.log_rooms) shown.kept in record {
+        same = record { dims = sent.same.dims ∙ dims; room = sent.same.room ∙ rooms; blocks = sent.same.blocks ∙ blocks };
+        part = sent.part ∙ ap (λ (r : ℕ). left_in r next b2.kept.part) rooms ∙ ap (λ (s : Part). left_in room next s) part;
+        sends = sent.sent ∙ ap (λ (d : ℕ). sent_by d b2.k b2.kept.room next b2.kept.part) dims
+            ∙ ap (λ (j : ℕ). sent_by n j b2.kept.room next b2.kept.part) blocks
+            ∙ ap (λ (r : ℕ). sent_by n k r next b2.kept.part) rooms
+            ∙ ap (λ (s : Part). sent_by n k room next s) part;
+        log_room = subst (λ (rooms_now : List ℕ). LoseAtMost (events_in room (local_after n k acts before)) b0.kept.log_rooms rooms_now) (sym log_rooms) gone.log_room;
+        space = sent.space;
+      }
+
+  -- so of all blocks of a worker
+  pub all_ready : (bs0 bs1 bs2 : List KeptBlock) (ps0 ps1 : List Post) → CanAllGo acts before next bs0 ps0
+      → AreEach (HasGoneOn acts before) bs0 ps0 bs1 ps1 → AreShown bs1 bs2 → CanAllSend next bs2 ps1
+  all_ready bs0 bs1 bs2 ps0 ps1 can gone shown = record {
+    len = gone.second_len ∙ can.len ∙ sym gone.first_len ∙ sym shown.len;
+    each = λ i b p l.
+        let l1 : i < length bs1 = omega (arith, l, shown.len) in
+        let l0 : i < length bs0 = omega (arith, l1, gone.first_len) in
+        ready_to_send (get_or bs0 i b) (get_or bs1 i b) (get_or bs2 i b) (get_or ps0 i p) (get_or ps1 i p) (can.each i b p l0)
+        (gone.each i b p l0) (shown.each i b l1);
+  }
+
+  pub all_gone : (bs0 bs1 bs2 bs3 : List KeptBlock) (ps0 ps1 ps3 : List Post) → AreEach (HasGoneOn acts before) bs0 ps0 bs1 ps1
+      → AreShown bs1 bs2 → AreEach (HasSent next) bs2 ps1 bs3 ps3 → AreEach (HasGone acts before next) bs0 ps0 bs3 ps3
+  all_gone bs0 bs1 bs2 bs3 ps0 ps1 ps3 gone shown sent = record {
+    first_len = sent.first_len ∙ shown.len ∙ gone.first_len;
+    second_len = sent.second_len ∙ gone.second_len;
+    each = λ i b p l.
+        let l1 : i < length bs1 = omega (arith, l, gone.first_len) in
+        let l2 : i < length bs2 = omega (arith, l1, shown.len) in
+        has_gone (get_or bs0 i b) (get_or bs1 i b) (get_or bs2 i b) (get_or bs3 i b) (get_or ps0 i p) (get_or ps1 i p) (get_or ps3 i p)
+        (gone.each i b p l) (shown.each i b l1) (sent.each i b p l2);
+  }

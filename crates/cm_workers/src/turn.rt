@@ -1,0 +1,137 @@
+//! What a worker does from one exchange to the next.
+
+ghost use Rattle.std.specs.Prelude.{IsTrue};
+ghost use Rattle.std.specs.List.{All};
+ghost use Rattle.std.specs.Option.{option_copied};
+ghost use Rattle.cm_workers.specs.Each.{AreEach};
+ghost use Rattle.cm_workers.specs.Turns.{CanGo, CanAllGo, CanSend, CanAllSend, HasGoneOn, HasSent, HasGone, AreShown};
+ghost use Rattle.cm_subcube.specs.Local.{Stub};
+
+use crate::gate::Passage;
+use crate::post::Post;
+use cm_model::Act;
+use cm_subcube::{Block, Kind, Round};
+
+/// The steps of a run from one round to the next, all blocks alike.
+#[derive(Clone, Copy)]
+pub(crate) struct Turn<'a> {
+    pub(crate) acts: &'a [Act],
+    /// The number of the round at which it ends.
+    pub(crate) number: u32,
+    /// The round at which it begins; the first turn of a run begins with the acts.
+    pub(crate) before: Option<&'a Round>,
+    /// That at which it ends; the last turn ends with the acts.
+    pub(crate) next: Option<&'a Round>,
+}
+
+/// The blocks of a worker, and the post of each.
+#[derive(Drop)]
+pub(crate) struct Crew {
+    pub(crate) blocks: Vec<Block>,
+    pub(crate) posts: Vec<Post>,
+}
+
+impl Crew {
+    /// Has a turn.
+    pub(crate) fn go(self, turn: &Turn<'_>, worker: u16, passage: &Passage) -> Crew
+        requires stub { Stub }
+        requires ready { CanAllGo turn.now.acts.now (option_copied turn.now.before) (option_copied turn.now.next) self.blocks.items self.posts.items }
+        ensures value { AreEach (HasGone turn.now.acts.now (option_copied turn.now.before) (option_copied turn.now.next)) self.blocks.items self.posts.items
+            result.blocks.items result.posts.items }
+    {
+        let Crew {
+            mut blocks,
+            mut posts,
+        } = self;
+        have_turn(&mut blocks, &mut posts, turn, worker, passage);
+        Crew { blocks, posts }
+    }
+}
+
+fn have_turn(
+    blocks: &mut [Block],
+    posts: &mut [Post],
+    turn: &Turn<'_>,
+    worker: u16,
+    passage: &Passage,
+)
+    requires stub { Stub }
+    requires ready { CanAllGo turn.now.acts.now (option_copied turn.now.before) (option_copied turn.now.next) blocks.old posts.old }
+    ensures value { AreEach (HasGone turn.now.acts.now (option_copied turn.now.before) (option_copied turn.now.next))
+        blocks.old posts.old blocks.new posts.new }
+{
+    go_on_all(blocks, posts, turn);
+    show(blocks, turn, worker, passage);
+    send_all(blocks, posts, turn.next);
+}
+
+/// Each block takes in what came for it, and goes on until the next round.
+fn go_on_all(blocks: &mut [Block], posts: &mut [Post], turn: &Turn<'_>)
+    requires stub { Stub }
+    requires ready { CanAllGo turn.now.acts.now (option_copied turn.now.before) (option_copied turn.now.next) blocks.old posts.old }
+    ensures value { AreEach (HasGoneOn turn.now.acts.now (option_copied turn.now.before)) blocks.old posts.old blocks.new posts.new }
+{
+    for i in 0..blocks.len() {
+        go_on(&mut blocks[i], &mut posts[i], turn);
+    }
+}
+
+fn go_on(block: &mut Block, post: &mut Post, turn: &Turn<'_>)
+    requires stub { Stub }
+    requires ready { CanGo turn.now.acts.now (option_copied turn.now.before) (option_copied turn.now.next) block.old post.old }
+    ensures value { HasGoneOn turn.now.acts.now (option_copied turn.now.before) block.old post.old block.new post.new }
+{
+    if let Some(round) = turn.before {
+        match round.kind {
+            Kind::Dim(_dim) => block.absorb(round, &mut post.mail),
+            Kind::North | Kind::South => block.absorb(round, &mut post.edge),
+        }
+    }
+    block.local(turn.acts, turn.before);
+}
+
+/// Shows the blocks to who looks, if a round is ahead.
+fn show(blocks: &mut [Block], turn: &Turn<'_>, worker: u16, passage: &Passage)
+    ensures value { AreShown blocks.old blocks.new }
+{
+    if turn.next.is_none() {
+        return;
+    }
+    if let Passage::Gated(gate) = passage {
+        gather_all(blocks);
+        gate.pass(worker, turn.number, blocks);
+    }
+}
+
+fn gather_all(blocks: &mut [Block])
+    ensures shown { AreShown blocks.old blocks.new }
+    ensures gathered { All (λ b. IsTrue b.kept.gathered) blocks.new }
+{
+    for i in 0..blocks.len() {
+        blocks[i].gather();
+    }
+}
+
+/// Each block puts what is due in a round into its post.
+fn send_all(blocks: &mut [Block], posts: &mut [Post], next: Option<&Round>)
+    requires stub { Stub }
+    requires ready { CanAllSend (option_copied next) blocks.old posts.old }
+    ensures value { AreEach (HasSent (option_copied next.entry)) blocks.old posts.old blocks.new posts.new }
+{
+    for i in 0..blocks.len() {
+        send(&mut blocks[i], &mut posts[i], next);
+    }
+}
+
+fn send(block: &mut Block, post: &mut Post, next: Option<&Round>)
+    requires stub { Stub }
+    requires ready { CanSend (option_copied next) block.old post.old }
+    ensures value { HasSent (option_copied next.entry) block.old post.old block.new post.new }
+{
+    if let Some(round) = next {
+        match round.kind {
+            Kind::Dim(_dim) => block.fill(round, &mut post.mail),
+            Kind::North | Kind::South => block.fill(round, &mut post.edge),
+        }
+    }
+}
