@@ -2,3 +2,4 @@ mod Hands
 mod Across
 mod PlaceByPlace
 mod Turning
+mod Shifting

@@ -1,7 +1,7 @@
 -- What two lists become, place by place.
-use Rattle.std.proofs.Common.{rules, ◌≡◌, ◌≢◌, ℕ, ◌+◌, ◌<◌, ◌≤◌, ◌⊎◌, ⊎_elim, List, length, get_or, slice_set, sym, ap, ◌∙◌, refl, subst, arith}
+use Rattle.std.proofs.Common.{rules, ◌≡◌, ◌≢◌, ℕ, ◌+◌, ◌<◌, ◌≤◌, ◌⊎◌, ⊎_elim, List, length, get_or, slice_set, take, drop, ◌++◌, sym, ap, ◌∙◌, refl, subst, arith}
 use Rattle.std.specs.List.{All}
-use Rattle.std.proofs.lemmas.List.{length-set, get_or-set_same, get_or-set_other, get_or_default}
+use Rattle.std.proofs.lemmas.List.{length-set, get_or-set_same, get_or-set_other, get_or_default, take-append-le, take_all}
 use Rattle.std.proofs.lemmas.Bool.{cases_lt}
 use Rattle.cm_workers.specs.Each.{AreEach, AreEachBelow}
 use Rattle.cm_workers.proofs.Hands.{either_same, less_than}
@@ -64,3 +64,8 @@ next_place {A} {B} Become olds bs xs ys m x u y v below also were is =
     one_more Become olds bs xs ys m x y below also were (λ a b.
     subst (λ (w : A). Become w (get_or bs m b) x y) (were.first_rest m u (omega arith) ∙ get_or_default olds m u a below)
     (subst (λ (w : B). Become (get_or xs m u) w x y) (were.second_rest m v (omega arith) ∙ get_or_default bs m v b also) is))
+
+-- ---- a list written back in place of another that is as long
+
+pub written_back : {X : Type 0} (many : ℕ) (new old : List X) → length new ≡ many → take many (new ++ drop (length new) old) ≡ new
+written_back many new old long = take-append-le many new (drop (length new) old) (omega (arith, long)) ∙ take_all many new (omega (arith, long))

@@ -96,3 +96,24 @@ module _ (acts : List Act) (before next : Option Round) where
         has_gone (get_or bs0 i b) (get_or bs1 i b) (get_or bs2 i b) (get_or bs3 i b) (get_or ps0 i p) (get_or ps1 i p) (get_or ps3 i p)
         (gone.each i b p l) (shown.each i b l1) (sent.each i b p l2);
   }
+
+-- ---- a turn as it is told by its number
+
+pub as_numbered : (acts : List Act) (before before_it next next_it : Option Round) (blocks bs bs_new now : List KeptBlock) (posts ps ps_new sent : List Post)
+    → before ≡ before_it → next ≡ next_it → bs ≡ blocks → ps ≡ posts → now ≡ bs_new → sent ≡ ps_new
+    → AreEach (HasGone acts before next) bs ps bs_new ps_new → AreEach (HasGone acts before_it next_it) blocks posts now sent
+as_numbered acts before before_it next next_it blocks bs bs_new now posts ps ps_new sent b n bs_is ps_is now_is sent_is gone =
+    subst (λ (one : Option Round). AreEach (HasGone acts one next_it) blocks posts now sent) b
+    (subst (λ (one : Option Round). AreEach (HasGone acts before one) blocks posts now sent) n
+    (subst (λ (xs : List KeptBlock). AreEach (HasGone acts before next) xs posts now sent) bs_is
+    (subst (λ (xs : List Post). AreEach (HasGone acts before next) bs xs now sent) ps_is
+    (subst (λ (xs : List KeptBlock). AreEach (HasGone acts before next) bs ps xs sent) (sym now_is)
+    (subst (λ (xs : List Post). AreEach (HasGone acts before next) bs ps bs_new xs) (sym sent_is) gone)))))
+
+pub ready_as_numbered : (acts : List Act) (before before_it next next_it : Option Round) (blocks bs : List KeptBlock) (posts ps : List Post)
+    → before ≡ before_it → next ≡ next_it → bs ≡ blocks → ps ≡ posts → CanAllGo acts before_it next_it blocks posts → CanAllGo acts before next bs ps
+ready_as_numbered acts before before_it next next_it blocks bs posts ps b n bs_is ps_is ready =
+    subst (λ (one : Option Round). CanAllGo acts one next bs ps) (sym b)
+    (subst (λ (one : Option Round). CanAllGo acts before_it one bs ps) (sym n)
+    (subst (λ (xs : List KeptBlock). CanAllGo acts before_it next_it xs ps) (sym bs_is)
+    (subst (λ (xs : List Post). CanAllGo acts before_it next_it blocks xs) (sym ps_is) ready)))

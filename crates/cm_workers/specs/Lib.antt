@@ -2,3 +2,4 @@ pub mod Dealing
 pub mod Posts
 pub mod Each
 pub mod Turns
+pub mod Shifts

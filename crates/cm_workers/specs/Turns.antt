@@ -1,5 +1,5 @@
 -- A turn: what a block does from one exchange to the next. It takes in what came in the round before, goes on by itself, and sends what is due in the next. Ours.
-use Rattle.std.specs.Prelude.{◌≡◌, ℕ, ◌+◌, ◌<◌, ◌^◌, List, Option, Some, None, length, get_or}
+use Rattle.std.specs.Prelude.{◌≡◌, ℕ, zero, suc, ◌+◌, ◌<◌, ◌^◌, List, Option, Some, None, length, get_or, slice_get}
 use Rattle.cm_model.specs.declared.act.Act.{Act}
 use Rattle.cm_blocks.specs.Counts.{deliveries, events_in}
 use Rattle.cm_blocks.specs.Parts.{Part}
@@ -12,6 +12,11 @@ use Rattle.cm_subcube.specs.Rounds.{step_of}
 use Rattle.cm_subcube.specs.Local.{local_after, HaveSpaceFor, IsExchange, IsOfKind, IsFollowing, LoseAtMost}
 use Rattle.cm_workers.specs.declared.post.Post.{Post}
 use Rattle.cm_workers.specs.Posts.{lane_in, blank_post, post_of}
+
+-- the round at which turn t begins: the first turn begins with the acts
+abbrev pub round_before : List Round → ℕ → Option Round
+round_before rounds zero = None
+round_before rounds (suc r) = slice_get rounds r
 
 -- a part after it took in what came in the round before, if there was one
 abbrev pub taken_in : ℕ → ℕ → Option Round → Post → Part → Part

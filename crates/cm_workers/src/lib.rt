@@ -5,6 +5,7 @@ mod dealing;
 mod exchange;
 mod gate;
 mod post;
+mod shift;
 mod turn;
 
 pub use gate::{Gate, Passage};

@@ -1,10 +1,10 @@
 //! What a worker does from one exchange to the next.
 
-ghost use Rattle.std.specs.Prelude.{IsTrue};
+ghost use Rattle.std.specs.Prelude.{◌≡◌, IsTrue, slice_get};
 ghost use Rattle.std.specs.List.{All};
 ghost use Rattle.std.specs.Option.{option_copied};
 ghost use Rattle.cm_workers.specs.Each.{AreEach};
-ghost use Rattle.cm_workers.specs.Turns.{CanGo, CanAllGo, CanSend, CanAllSend, HasGoneOn, HasSent, HasGone, AreShown};
+ghost use Rattle.cm_workers.specs.Turns.{round_before, CanGo, CanAllGo, CanSend, CanAllSend, HasGoneOn, HasSent, HasGone, AreShown};
 ghost use Rattle.cm_subcube.specs.Local.{Stub};
 
 use crate::gate::Passage;
@@ -32,20 +32,51 @@ pub(crate) struct Crew {
 }
 
 impl Crew {
-    /// Has a turn.
-    pub(crate) fn go(self, turn: &Turn<'_>, worker: u16, passage: &Passage) -> Crew
+    /// Has a turn: the one of that number in a run of these acts, which has these rounds.
+    pub(crate) fn go(
+        self,
+        acts: &[Act],
+        rounds: &[Round],
+        number: u32,
+        worker: u16,
+        passage: &Passage,
+    ) -> Crew
         requires stub { Stub }
-        requires ready { CanAllGo turn.now.acts.now (option_copied turn.now.before) (option_copied turn.now.next) self.blocks.items self.posts.items }
-        ensures value { AreEach (HasGone turn.now.acts.now (option_copied turn.now.before) (option_copied turn.now.next)) self.blocks.items self.posts.items
-            result.blocks.items result.posts.items }
+        requires ready { CanAllGo acts.now (round_before rounds.now number) (slice_get rounds.now number)
+            self.blocks.items self.posts.items }
+        ensures value { AreEach (HasGone acts.now (round_before rounds.now number) (slice_get rounds.now number))
+            self.blocks.items self.posts.items result.blocks.items result.posts.items }
     {
         let Crew {
             mut blocks,
             mut posts,
         } = self;
-        have_turn(&mut blocks, &mut posts, turn, worker, passage);
+        let turn = Turn {
+            acts,
+            number,
+            before: before(rounds, number),
+            next: next(rounds, number),
+        };
+        have_turn(&mut blocks, &mut posts, &turn, worker, passage);
         Crew { blocks, posts }
     }
+}
+
+/// The round at which a turn begins.
+fn before(rounds: &[Round], number: u32) -> Option<&Round>
+    ensures value { option_copied result ≡ round_before rounds.now number }
+{
+    if number == 0 {
+        return None;
+    }
+    rounds.get(number as usize - 1)
+}
+
+/// That at which it ends.
+fn next(rounds: &[Round], number: u32) -> Option<&Round>
+    ensures value { option_copied result ≡ slice_get rounds.now number }
+{
+    rounds.get(number as usize)
 }
 
 fn have_turn(
