@@ -3,3 +3,4 @@ mod Across
 mod PlaceByPlace
 mod Turning
 mod Shifting
+mod Sharing

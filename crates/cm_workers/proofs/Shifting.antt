@@ -3,7 +3,16 @@ use Rattle.std.proofs.Common.{◌≡◌, ◌≢◌, ℕ, ◌+◌, ◌<◌, ◌�
 use Rattle.std.specs.declared.alloc.Global.{Global}
 use Rattle.std.proofs.lemmas.Bool.{cases_lt}
 use Rattle.std.proofs.lemmas.List.{length-append, get_or_append_left, get_or_push, get_or-drop, get_or_default, drop-drop}
+use Rattle.std.specs.Prelude.{slice_get, Result, Ok, Err, IfOk}
+use Rattle.cm_model.specs.declared.act.Act.{Act}
+use Rattle.cm_subcube.specs.declared.round.Round.{Round}
+use Rattle.cm_subcube.specs.Blocks.{KeptBlock}
+use Rattle.cm_workers.specs.declared.post.Post.{Post}
+use Rattle.cm_workers.specs.declared.shift.HasHad.{HasHad}
 use Rattle.cm_workers.specs.Dealing.{hand}
+use Rattle.cm_workers.specs.Each.{AreEach}
+use Rattle.cm_workers.specs.Turns.{round_before, HasGone}
+use Rattle.cm_workers.specs.Shifts.{IsPromised, IsKept, HandsHaveGone}
 
 -- one more of each of three lists that go together
 pub push_kept : {H A B : Type 0} (P : H → List A → List B → Type 0) (hs : List H) (bs : List (Vec A Global)) (ps : List (Vec B Global))
@@ -56,3 +65,48 @@ first_taken {X} orig now w x is below from e =
 
 pub rest_left : {X : Type 0} (orig now new : List X) (w : ℕ) → now ≡ drop w orig → new ≡ drop 1 now → new ≡ drop (w + 1) orig
 rest_left orig now new w is from = from ∙ ap (λ xs. drop 1 xs) is ∙ drop-drop 1 w orig
+
+-- ---- what was promised was kept
+
+abbrev pub ArePromised : {H : Type 0} → (H → HasHad) → List Act → List Round → ℕ → List (Vec KeptBlock Global) → List (Vec Post Global) → List H → Type 0
+ArePromised {H} promise acts rounds number blocks posts handles =
+    (w : ℕ) (d : H) (e : Vec KeptBlock Global) (f : Vec Post Global) → w < length blocks
+    → IsPromised acts rounds number (hand blocks e w) (hand posts f w) (promise (get_or handles w d))
+
+abbrev pub AreKept : {H : Type 0} → (H → HasHad) → List (Vec KeptBlock Global) → List (Vec Post Global) → List H → Type 0
+AreKept {H} promise now sent handles =
+    (w : ℕ) (d : H) (e : Vec KeptBlock Global) (f : Vec Post Global) → w < length handles
+    → IsKept (promise (get_or handles w d)) (hand now e w) (hand sent f w)
+
+one_kept : (acts : List Act) (rounds : List Round) (number : ℕ) (promise : HasHad) (blocks now : List KeptBlock) (posts sent : List Post)
+    → IsPromised acts rounds number blocks posts promise → IsKept promise now sent
+    → AreEach (HasGone acts (round_before rounds number) (slice_get rounds number)) blocks posts now sent
+one_kept acts rounds number promise blocks now posts sent is kept =
+    subst (λ (xs : List Act). AreEach (HasGone xs (round_before rounds number) (slice_get rounds number)) blocks posts now sent) is.acts_are
+    (subst (λ (rs : List Round). AreEach (HasGone promise.acts.now (round_before rs number) (slice_get rs number)) blocks posts now sent) is.rounds_are
+    (subst (λ (t : ℕ). AreEach (HasGone promise.acts.now (round_before promise.rounds.now t) (slice_get promise.rounds.now t)) blocks posts now sent) is.number_is
+    (subst (λ (bs : List KeptBlock). AreEach (HasGone promise.acts.now (round_before promise.rounds.now promise.number) (slice_get promise.rounds.now promise.number)) bs posts now sent) is.blocks_were
+    (subst (λ (ps : List Post). AreEach (HasGone promise.acts.now (round_before promise.rounds.now promise.number) (slice_get promise.rounds.now promise.number)) promise.was.value.blocks.items ps now sent) is.posts_were kept))))
+
+pub hands_gone : {H : Type 0} (promise : H → HasHad) (acts : List Act) (rounds : List Round) (number : ℕ) (blocks now : List (Vec KeptBlock Global))
+    (posts sent : List (Vec Post Global)) (handles : List H) → length posts ≡ length blocks → length handles ≡ length blocks
+    → ArePromised promise acts rounds number blocks posts handles → length now ≡ length handles → length sent ≡ length handles
+    → AreKept promise now sent handles → HandsHaveGone acts (round_before rounds number) (slice_get rounds number) blocks posts now sent
+hands_gone promise acts rounds number blocks now posts sent [] same long promised first second kept = record {
+  first_len = first ∙ long;
+  second_len = second ∙ long ∙ sym same;
+  each = λ w e f below. absurd (omega (arith, below, long));
+}
+hands_gone promise acts rounds number blocks now posts sent (h ∷ hs) same long promised first second kept = record {
+  first_len = first ∙ long;
+  second_len = second ∙ long ∙ sym same;
+  each = λ w e f below. one_kept acts rounds number (promise (get_or (h ∷ hs) w h)) (hand blocks e w) (hand now e w) (hand posts f w) (hand sent f w)
+      (promised w h e f below) (kept w h e f (omega (arith, below, long)));
+}
+
+-- ---- what is so of a result that came
+
+pub if_came : {X E : Type 0} (result : Result X E) (A B C D : X → Type 0) → ((x : X) → A x → B x → C x → D x)
+    → IfOk result A → IfOk result B → IfOk result C → IfOk result D
+if_came (Ok x) A B C D f a b c = f x a b c
+if_came (Err e) A B C D f a b c = tt

@@ -6,9 +6,10 @@ ghost use Rattle.std.specs.Thread.{IsSync};
 ghost use Rattle.cm_subcube.specs.Local.{Stub};
 ghost use Rattle.cm_workers.specs.Dealing.{hand};
 ghost use Rattle.cm_workers.specs.Each.{AreEach};
-ghost use Rattle.cm_workers.specs.Shifts.{IsPromised, IsKept, CanHandsGo};
+ghost use Rattle.cm_workers.specs.Shifts.{IsPromised, IsKept, CanHandsGo, HandsHaveGone};
 ghost use Rattle.cm_workers.specs.Turns.{round_before, CanAllGo, HasGone};
 
+use crate::dealing::{collect, deal};
 use crate::gate::Passage;
 use crate::post::Post;
 use crate::turn::Crew;
@@ -18,6 +19,8 @@ use cm_model::Act;
 use cm_subcube::{Block, Round};
 use std::alloc::Global;
 use std::snapshot::Snapshot;
+use std::sync::Wait;
+use std::thread;
 use std::thread::{Promise, PromisedHandle, Scope, Threads};
 
 /// What a worker's thread promises: that its crew has had its turn.
@@ -32,7 +35,7 @@ pub(crate) struct HasHad<'a> {
 impl<'a> Promise<Crew> for HasHad<'a> {
     ghost use Rattle.std.specs.Prelude.{slice_get};
     ghost use Rattle.cm_workers.specs.Each.{AreEach};
-    ghost use Rattle.cm_workers.specs.Shifts.{IsPromised, IsKept, CanHandsGo};
+    ghost use Rattle.cm_workers.specs.Shifts.{IsPromised, IsKept, CanHandsGo, HandsHaveGone};
     ghost use Rattle.cm_workers.specs.Turns.{round_before, HasGone};
 
     ghost kept_by = { λ p r. AreEach (HasGone p.acts.now (round_before p.rounds.now p.number) (slice_get p.rounds.now p.number))
@@ -128,6 +131,94 @@ fn join_all<'s, R: Threads>(
         posts.push_reserved(crew.posts);
     }
     Ok(Hands { blocks, posts })
+}
+
+/// Starts all workers, and waits for them.
+fn start_and_join<'s, E, R: Threads>(
+    scope: &Scope<'s, E>,
+    rt: &R,
+    alloc: Global,
+    acts: &'s [Act],
+    rounds: &'s [Round],
+    number: u32,
+    passage: &'s Passage,
+    hands: Hands,
+) -> Result<Hands, RunFault>
+    requires stub { Stub }
+    requires ready { CanHandsGo acts.now (round_before rounds.now number) (slice_get rounds.now number) hands.blocks.items
+        hands.posts.items }
+    requires few { length hands.blocks.items ≤ 64 }
+    ensures value { IfOk result (λ now. HandsHaveGone acts.entry.now (round_before rounds.entry.now number) (slice_get rounds.entry.now number)
+        hands.blocks.items hands.posts.items now.blocks.items now.posts.items) }
+{
+    let handles = start_all(scope, alloc, acts, rounds, number, passage, hands)?;
+    join_all(rt, alloc, handles)
+}
+
+/// All workers have a turn, each in a thread of its own.
+fn turn_hands<R: Threads + Wait>(
+    rt: &R,
+    alloc: Global,
+    acts: &[Act],
+    rounds: &[Round],
+    number: u32,
+    passage: &Passage,
+    hands: Hands,
+) -> Result<Hands, RunFault>
+    requires stub { Stub }
+    requires ready { CanHandsGo acts.now (round_before rounds.now number) (slice_get rounds.now number) hands.blocks.items
+        hands.posts.items }
+    requires few { length hands.blocks.items ≤ 64 }
+    ensures value { IfOk result (λ now. HandsHaveGone acts.now (round_before rounds.now number) (slice_get rounds.now number)
+        hands.blocks.items hands.posts.items now.blocks.items now.posts.items) }
+{
+    thread::scope(
+        thread::scope_env(),
+        rt,
+        |scope| -> Result<Hands, RunFault>
+            requires { Stub × CanHandsGo acts.now (round_before rounds.now number) (slice_get rounds.now number) hands.blocks.items
+                hands.posts.items × (length hands.blocks.items ≤ 64) }
+            ensures { IfOk result (λ now. HandsHaveGone acts.entry.now (round_before rounds.entry.now number) (slice_get rounds.entry.now number)
+                hands.blocks.items hands.posts.items now.blocks.items now.posts.items) }
+        { start_and_join(scope, rt, alloc, acts, rounds, number, passage, hands) },
+    )
+}
+
+/// All blocks have a turn, shared out among so many workers, each in a thread of its own: worker w has blocks w,
+/// w + `workers`, and so on.
+pub(crate) fn shift<R: Threads + Wait>(
+    rt: &R,
+    alloc: Global,
+    acts: &[Act],
+    rounds: &[Round],
+    number: u32,
+    passage: &Passage,
+    workers: u16,
+    all: Crew,
+) -> Result<Crew, RunFault>
+    requires stub { Stub }
+    requires some { 0 < workers }
+    requires few { workers ≤ 64 }
+    requires ready { CanAllGo acts.now (round_before rounds.now number) (slice_get rounds.now number) all.blocks.items all.posts.items }
+    ensures value { IfOk result (λ now. AreEach (HasGone acts.now (round_before rounds.now number) (slice_get rounds.now number))
+        all.blocks.items all.posts.items now.blocks.items now.posts.items) }
+{
+    let count = usize::from(workers);
+    let many = all.blocks.len();
+    let blocks = deal(alloc, all.blocks, count)?;
+    let posts = deal(alloc, all.posts, count)?;
+    let hands = turn_hands(
+        rt,
+        alloc,
+        acts,
+        rounds,
+        number,
+        passage,
+        Hands { blocks, posts },
+    )?;
+    let blocks = collect(alloc, hands.blocks, many)?;
+    let posts = collect(alloc, hands.posts, many)?;
+    Ok(Crew { blocks, posts })
 }
 
 /// Room for so many things.
