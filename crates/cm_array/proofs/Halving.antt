@@ -1,5 +1,8 @@
 -- A part of a machine after a half of a dimension, which changes its messages alone.
-use Rattle.std.proofs.Common.{◌≡◌, ℕ, ◌<◌, ◌≤◌, ◌^◌, List, length, sym, ap, ◌∙◌, subst, arith}
+use Rattle.std.proofs.Common.{◌≡◌, ℕ, ◌+◌, ◌*◌, ◌<◌, ◌≤◌, ◌^◌, List, length, sym, ap, ◌∙◌, subst, arith, ⊎_elim}
+use Rattle.std.proofs.Math.Nat.{pow-le-pow_right}
+use Rattle.std.proofs.lemmas.Bool.{cases_lt}
+use Rattle.std.proofs.lemmas.Nat.{pow_pos, pow-add}
 use Rattle.std.specs.List.{All}
 use Rattle.cm_model.specs.declared.message.Message.{Message}
 use Rattle.cm_blocks.specs.Parts.{Part}
@@ -67,3 +70,14 @@ IsKeptPart-crossed n cap first parts crossing was long within = record {
 pub within_where_space : (cap : ℕ) (buffers : List (List Message)) → All (λ ms. length ms < cap) buffers
     → All (λ ms. length ms ≤ cap) buffers
 within_where_space cap buffers space = λ k d l. omega (arith, space k d l)
+
+-- chips within a cube span no more dimensions than it has
+pub span_within : (n first span count : ℕ) → first + count ≤ 2 ^ n → count ≡ 2 ^ span → span ≤ n
+span_within n first span count there long =
+    ⊎_elim
+    (λ (l : n < span). let more : 2 ^ (n + 1) ≤ 2 ^ span = pow-le-pow_right (omega arith) (omega (arith, l)) in
+    let twice : 2 ^ (n + 1) ≡ 2 ^ n * 2 = pow-add 2 n 1 in
+    let some : 0 < 2 ^ n = pow_pos n in
+    absurd (omega (arith, more, twice, there, long, some)))
+    (λ (l : span ≤ n). l)
+    (cases_lt n span)

@@ -1,5 +1,6 @@
 mod Lists
 mod Instructing
+mod Banding
 mod Wholes
 mod Searching
 mod Rooms

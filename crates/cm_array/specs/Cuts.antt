@@ -45,6 +45,11 @@ pub record IsKeptPart (n cap first : ℕ) (parts : Parts) : Type 0 where
 abbrev pub HaveLogRoom : ℕ → List ℕ → Type 0
 HaveLogRoom count log_rooms = (i : ℕ) → i < length log_rooms → count ≤ slice_index log_rooms i
 
+-- each log takes as many as before, less at most so many
+pub record LoseAtMost (count : ℕ) (before after : List ℕ) : Type 0 where
+  pub same : length after ≡ length before
+  pub few : (i : ℕ) → i < length before → slice_index before i ≤ slice_index after i + count
+
 -- ---- parts one after another
 
 -- the counter of the first of them

@@ -1,5 +1,6 @@
 pub mod Parts
 pub mod Cuts
+pub mod Bands
 pub mod Faults
 pub mod Acts
 pub mod Pokes

@@ -3,11 +3,13 @@
 
 mod builder;
 mod finding;
+mod instructions;
 mod machine;
 mod part;
 mod parts;
 mod poke_laws;
 mod put;
+mod routing;
 mod runner;
 mod stepping;
 mod tags;

@@ -4,7 +4,8 @@ use Rattle.cm_bits.specs.declared.plane.Dir.TheVariants.{North, South}
 use Rattle.cm_model.specs.declared.act.Nano.{Nano}
 use Rattle.cm_model.specs.declared.act.Act.TheVariants as act
 use Rattle.cm_model.specs.Steps.{Instruct, Inject, Cross, Deliver, steps_in}
-use Rattle.cm_blocks.specs.Rounds.{is_round, rounds, steps_until, steps_between}
+use Rattle.cm_blocks.specs.Rounds.{is_round, rounds, until_round, steps_until, steps_between, ahead}
+use Rattle.cm_blocks.specs.Counts.{events_in}
 use Rattle.cm_blocks.specs.Parts.{Part, is_within}
 use Rattle.cm_blocks.specs.Parcels.{sender, sender_over, edge_row}
 
@@ -71,3 +72,13 @@ its_chips = refl
 
 not_its_chips : is_within second 8 ≡ false
 not_its_chips = refl
+
+behind_the_first : ahead 1 1 (act.Nano north ∷ act.Nano daisy ∷ act.Cycle ∷ []) 0
+    ≡ Instruct daisy ∷ Inject ∷ Cross 0 ∷ Deliver ∷ []
+behind_the_first = refl
+
+until_dimension_one : until_round 2 1 (Inject ∷ Cross 0 ∷ Cross 1 ∷ Deliver ∷ []) ≡ Inject ∷ Cross 0 ∷ []
+until_dimension_one = refl
+
+a_cycle_with_room_for_seven : events_in 7 (Inject ∷ Cross 0 ∷ Deliver ∷ []) ≡ 11
+a_cycle_with_room_for_seven = refl

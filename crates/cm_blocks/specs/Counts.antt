@@ -1,29 +1,31 @@
--- How many of some steps tell events, and of how many events at most. Ours.
-use Rattle.std.specs.Prelude.{ℕ, ◌+◌, ◌*◌, List, [], ◌∷◌}
+-- How many events of a chip some steps tell at most, and how often they count: ours.
+use Rattle.std.specs.Prelude.{ℕ, ◌+◌, ◌*◌, Bool, true, false, List}
+use Rattle.std.specs.List.{count_by}
 use Rattle.cm_model.specs.Steps.{Step, Instruct, Look, Inject, Cross, Deliver}
 
-abbrev pub one_injection : Step → ℕ
-one_injection (Instruct nano) = 0
-one_injection Look = 0
-one_injection Inject = 1
-one_injection (Cross d) = 0
-one_injection Deliver = 0
+-- a step at which routers take messages in
+abbrev pub is_injection : Step → Bool
+is_injection (Instruct nano) = false
+is_injection Look = false
+is_injection Inject = true
+is_injection (Cross d) = false
+is_injection Deliver = false
 
-abbrev pub one_delivery : Step → ℕ
-one_delivery (Instruct nano) = 0
-one_delivery Look = 0
-one_delivery Inject = 0
-one_delivery (Cross d) = 0
-one_delivery Deliver = 1
+-- a step at which messages go to their processors, after which the counter is one more
+abbrev pub is_delivery : Step → Bool
+is_delivery (Instruct nano) = false
+is_delivery Look = false
+is_delivery Inject = false
+is_delivery (Cross d) = false
+is_delivery Deliver = true
 
+-- how many there are of each among some steps
 abbrev pub injections : List Step → ℕ
-injections [] = 0
-injections (step ∷ steps) = one_injection step + injections steps
+injections steps = count_by is_injection steps
 
 abbrev pub deliveries : List Step → ℕ
-deliveries [] = 0
-deliveries (step ∷ steps) = one_delivery step + deliveries steps
+deliveries steps = count_by is_delivery steps
 
--- most events of a chip in these steps
+-- the most events of a chip in some steps: four at an injection, and at a delivery one for each message that there is room for
 abbrev pub events_in : ℕ → List Step → ℕ
 events_in room steps = 4 * injections steps + room * deliveries steps

@@ -49,6 +49,14 @@ abbrev pub steps_between : ℕ → ℕ → List Act → ℕ → List Step
 steps_between n k acts r =
     steps_in (until (λ phase. is_round n k phase.step) 0 (beyond (λ phase. is_round n k phase.step) r (phases n acts)))
 
+-- of some steps, those before the first that is a round
+abbrev pub until_round : ℕ → ℕ → List Step → List Step
+until_round n k steps = until (is_round n k) 0 steps
+
+-- the steps of a run behind round r
+abbrev pub ahead : ℕ → ℕ → List Act → ℕ → List Step
+ahead n k acts r = steps_in (beyond (λ phase. is_round n k phase.step) r (phases n acts))
+
 -- the machine before round r of a run, or after all of it
 unfoldable pub before_round : ℕ → ℕ → ℕ → Machine → List Act → ℕ → Machine
 before_round n cap k machine acts r = after_steps n cap machine (steps_until n k acts r)

@@ -10,7 +10,7 @@ use Rattle.cm_model.specs.Chip.{plane_bit}
 use Rattle.cm_news.specs.Moves.{is_entry, one_back, sender, at_edge, along, corner, bit_of_place}
 use Rattle.cm_news.proofs.Sources.{steps_are_the_torus}
 
-along-lt : (dir : Dir) (p : ℕ) → p < 16 → along dir p < 4
+pub along-lt : (dir : Dir) (p : ℕ) → p < 16 → along dir p < 4
 along-lt North p h = omega arith
 along-lt South p h = omega arith
 along-lt West p h = omega arith

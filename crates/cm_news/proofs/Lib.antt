@@ -4,3 +4,4 @@ mod Sources
 mod OneWay
 mod Joining
 mod Rounding
+mod Banding

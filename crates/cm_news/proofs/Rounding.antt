@@ -28,14 +28,14 @@ joined_comes_in n dir chip before plane planes there before_is is p h = is p h �
 zero_times : (w : ℕ) → 0 * w ≡ 0
 zero_times w = omega arith
 
-less_one : (h w : ℕ) → 0 < h → (h - 1) * w + w ≡ h * w
+pub less_one : (h w : ℕ) → 0 < h → (h - 1) * w + w ≡ h * w
 less_one h w some =
     (let e : (h - 1) * w + w ≡ (h - 1 + 1) * w = omega arith in e) ∙ ap (λ (k : ℕ). k * w) (let e : h - 1 + 1 ≡ h = omega arith in e)
 
 -- ---- rows of so many chips: a chip c in row q and column r
 
 -- one row on, and from the last row to the first
-one_row_on : (w h q r c count : ℕ) → c ≡ q * w + r → count ≡ h * w → q < h → r < w → c + w < count → (q + 1) % h * w + r ≡ c + w
+pub one_row_on : (w h q r c count : ℕ) → c ≡ q * w + r → count ≡ h * w → q < h → r < w → c + w < count → (q + 1) % h * w + r ≡ c + w
 one_row_on w h q r c count own all below few inside =
     let next : q + 1 < h = ⊎_elim
     (λ (l : q + 1 < h). l)
@@ -44,7 +44,7 @@ one_row_on w h q r c count own all below few inside =
     let is : (q + 1) * w ≡ q * w + w = omega arith in
     ap (λ (k : ℕ). k * w + r) (on-other q h next) ∙ omega (arith, is, own)
 
-last_row_on : (w h q r c count : ℕ) → c ≡ q * w + r → count ≡ h * w → q < h → r < w → count ≤ c + w → (q + 1) % h * w + r ≡ c - (count - w)
+pub last_row_on : (w h q r c count : ℕ) → c ≡ q * w + r → count ≡ h * w → q < h → r < w → count ≤ c + w → (q + 1) % h * w + r ≡ c - (count - w)
 last_row_on w h q r c count own all below few past =
     let last : q ≡ h - 1 = ⊎_elim
     (λ (l : q + 1 < h). let more : (q + 1 + 1) * w ≤ h * w = mul-le (q + 1 + 1) w h w (omega arith) (omega arith) in let is : (q + 1 + 1) * w ≡ q * w + w + w = omega arith in absurd (omega arith))
@@ -56,7 +56,7 @@ last_row_on w h q r c count own all below few past =
     omega (arith, none, rows, own, all)
 
 -- one row back, and from the first row to the last
-first_row_back : (w h q r c count : ℕ) → c ≡ q * w + r → count ≡ h * w → q < h → r < w → c + (count - w) < count → (q + h - 1) % h * w + r ≡ c + (count - w)
+pub first_row_back : (w h q r c count : ℕ) → c ≡ q * w + r → count ≡ h * w → q < h → r < w → c + (count - w) < count → (q + h - 1) % h * w + r ≡ c + (count - w)
 first_row_back w h q r c count own all below few inside =
     let height : 1 * w ≤ h * w = mul-le 1 w h w (omega arith) (omega arith) in
     let first : q ≡ 0 = ⊎_elim
@@ -68,7 +68,7 @@ first_row_back w h q r c count own all below few inside =
     let rows : (h - 1) * w + w ≡ h * w = less_one h w (omega arith) in
     ap (λ (k : ℕ). k * w + r) last ∙ omega (arith, none, rows, own, all)
 
-other_row_back : (w h q r c count : ℕ) → c ≡ q * w + r → count ≡ h * w → q < h → r < w → count ≤ c + (count - w) → (q + h - 1) % h * w + r ≡ c - (count - (count - w))
+pub other_row_back : (w h q r c count : ℕ) → c ≡ q * w + r → count ≡ h * w → q < h → r < w → count ≤ c + (count - w) → (q + h - 1) % h * w + r ≡ c - (count - (count - w))
 other_row_back w h q r c count own all below few past =
     let height : 1 * w ≤ h * w = mul-le 1 w h w (omega arith) (omega arith) in
     let later : 0 < q = ⊎_elim

@@ -1,3 +1,4 @@
 pub mod Moves
 pub mod Laws
 pub mod Rounds
+pub mod Bands

@@ -7,4 +7,4 @@ mod row;
 
 pub use grid::Grid;
 pub use laws::{inside_and_edge_are_all, steps_are_the_torus};
-pub use row::incoming_row;
+pub use row::{incoming_band, incoming_row};

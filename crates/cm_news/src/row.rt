@@ -1,11 +1,13 @@
 //! What comes in at all chips of a machine, in loops over words.
 
-ghost use Rattle.std.specs.Prelude.{◌≡◌, ℕ, ◌+◌, ◌-◌, ◌*◌, ◌^◌, ◌<◌, ◌≤◌, length, slice_index};
+ghost use Rattle.std.specs.Prelude.{◌≡◌, ◌≢◌, ℕ, ◌+◌, ◌-◌, ◌*◌, ◌^◌, ◌<◌, ◌≤◌, IsTrue, length, slice_index};
 ghost use Rattle.cm_model.specs.Chip.{IsPlane};
-ghost use Rattle.cm_model.specs.Place.{source};
+ghost use Rattle.cm_model.specs.Place.{chip_columns, source};
+ghost use Rattle.cm_news.specs.Bands.{AreRows, is_open, bit_for, AreEntered};
 ghost use Rattle.cm_news.specs.Moves.{bit_of_place};
 ghost use Rattle.cm_news.specs.Rounds.{IsJoined, IsTurned, AreTurned};
 
+use crate::grid::Grid;
 use cm_bits::{Dir, Plane};
 
 /// What comes in at every chip of a machine of `2^dims` chips when each processor sends its bit in a
@@ -31,6 +33,66 @@ pub fn incoming_row(dims: u8, planes: &[Plane], dir: Dir, out: &mut [Plane])
         ),
         Dir::West => turn_rows(planes, rows, columns, 1, dir, out),
         Dir::East => turn_rows(planes, rows, columns, columns - 1, dir, out),
+    }
+}
+
+/// What comes in at every chip of a band of whole rows of chips, of a cube of `2^dims`, when each processor of the
+/// band sends its bit in a direction. The planes are those of its chips, in order of their numbers. What comes over
+/// the band's own edge stands in `edge`: by column of chips the four bits that come in there, the lowest column's
+/// lowest; upper bits are not read.
+pub fn incoming_band(dims: u8, planes: &[Plane], dir: Dir, edge: &[u8], out: &mut [Plane])
+    requires dimension { dims ≤ 12 }
+    requires rows { AreRows dims (length planes.now) }
+    requires some { 0 < length planes.now }
+    requires edge { IsTrue (is_open dims dir (length planes.now)) → length edge.now ≡ chip_columns dims }
+    requires out { length out.old ≡ length planes.now }
+    ensures value { (first i : ℕ) → AreRows dims first → first + length planes.now ≤ 2 ^ dims → i < length planes.now
+        → IsPlane (slice_index out.new i)
+        (λ p. bit_for dims dir first planes.now edge.now (record { chip = first + i; proc = p })) }
+{
+    if planes.len() == power_of_two(dims) {
+        incoming_row(dims, planes, dir, out);
+    } else {
+        incoming_part(dims, planes, dir, edge, out);
+    }
+}
+
+/// The same, where the band is not all chips.
+fn incoming_part(dims: u8, planes: &[Plane], dir: Dir, edge: &[u8], out: &mut [Plane])
+    requires dimension { dims ≤ 12 }
+    requires rows { AreRows dims (length planes.now) }
+    requires some { 0 < length planes.now }
+    requires part { length planes.now ≢ 2 ^ dims }
+    requires edge { IsTrue (is_open dims dir (length planes.now)) → length edge.now ≡ chip_columns dims }
+    requires out { length out.old ≡ length planes.now }
+    ensures value { (first i : ℕ) → AreRows dims first → first + length planes.now ≤ 2 ^ dims → i < length planes.now
+        → IsPlane (slice_index out.new i)
+        (λ p. bit_for dims dir first planes.now edge.now (record { chip = first + i; proc = p })) }
+{
+    let columns = power_of_two(dims / 2);
+    let count = planes.len();
+    match dir {
+        Dir::North => {
+            turn(planes, 0, count, columns, dir, out);
+            enter(planes, count - columns, edge, dir, out);
+        }
+        Dir::South => {
+            turn(planes, 0, count, count - columns, dir, out);
+            enter(planes, 0, edge, dir, out);
+        }
+        Dir::West => turn_rows(planes, count / columns, columns, 1, dir, out),
+        Dir::East => turn_rows(planes, count / columns, columns, columns - 1, dir, out),
+    }
+}
+
+/// At a row of chips from a place on, what comes in over the edge.
+fn enter(planes: &[Plane], from: usize, edge: &[u8], dir: Dir, out: &mut [Plane])
+    requires planes { from + length edge.now ≤ length planes.now }
+    requires out { length out.old ≡ length planes.now }
+    ensures value { AreEntered dir planes.now from edge.now out.old out.new }
+{
+    for k in 0..edge.len() {
+        out[from + k] = Grid::<0>::over_edge(planes[from + k], edge[k] & 0xf, dir);
     }
 }
 

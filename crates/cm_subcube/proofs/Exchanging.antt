@@ -1,19 +1,31 @@
--- Blocks and parcels in a round over a dimension.
-use Rattle.std.proofs.Common.{◌≡◌, ◌<◌, ◌↔◌, ℕ, Bool, List, [], length, get_or, ap, ◌∙◌, arith, Ok, Err}
+-- Blocks and parcels in a round.
+use Rattle.std.proofs.Common.{◌≡◌, ◌<◌, ◌↔◌, ◌-◌, ◌*◌, ◌/◌, ◌%◌, ◌==◌, ℕ, Bool, false, List, [], length, get_or, ap, sym, ◌∙◌, subst}
+use Rattle.std.proofs.Common.{arith, Ok, Err}
 use Rattle.std.specs.Prelude.{Option, None}
 use Rattle.std.specs.List.{All}
+use Rattle.std.proofs.lemmas.Nat.{pow_pos}
+use Rattle.std.proofs.lemmas.Nat.Bits.{bit_at-zero}
+use Rattle.cm_bits.specs.Bit.{bit}
+use Rattle.cm_model.specs.declared.act.Act.{Act}
+use Rattle.cm_model.specs.declared.act.Act.TheVariants as acts
+use Rattle.cm_model.specs.declared.act.Nano.{Nano}
 use Rattle.cm_model.specs.declared.message.Message.{Message}
-use Rattle.cm_model.specs.Steps.{Cross}
+use Rattle.cm_model.specs.Steps.{Instruct, Cross}
 use Rattle.cm_model.specs.Each.{each_from}
-use Rattle.cm_model.proofs.Each.{is_each, length-each_from}
-use Rattle.cm_blocks.specs.Parts.{size}
+use Rattle.cm_model.specs.Place.{chip_columns, columns}
+use Rattle.cm_model.proofs.Each.{is_each, length-each_from, same_each_below}
+use Rattle.cm_news.specs.Bands.{bits_of}
+use Rattle.cm_blocks.specs.Parts.{Part, size}
 use Rattle.cm_blocks.specs.Parcels.{Parcel, Blank, Mail, Edge}
-use Rattle.cm_blocks.specs.Steps.{less, absorbed}
+use Rattle.cm_blocks.specs.Steps.{part_after, less, absorbed}
+use Rattle.cm_blocks.proofs.Bands.{band, size-band, block-row}
+use Rattle.cm_array.specs.Bands.{IsBand}
 use Rattle.cm_array.specs.Cuts.{KeptPart}
 use Rattle.cm_subcube.specs.declared.round.Kind.{Kind}
 use Rattle.cm_subcube.specs.declared.round.Kind.TheVariants as kind
 use Rattle.cm_subcube.specs.Blocks.{IsBlock}
-use Rattle.cm_subcube.specs.Parcels.{blank_parcel, IsCrossing}
+use Rattle.cm_subcube.specs.Parcels.{blank_parcel, IsOfKind}
+use Rattle.cm_subcube.specs.Rounds.{step_in}
 
 -- a block stays a block when messages leave it
 pub IsBlock-left : (k d : ℕ) (old : KeptPart) (gathered : Bool) → IsBlock k old
@@ -40,12 +52,93 @@ unfolding lane_of
 lanes_of_blank n k d lane is = ap (λ (p : Parcel). length (lane_of p)) is ∙ length-each_from {X = Option Message} 0 (size n k) (λ c. None)
 
 -- where no message is left in it, it is blank
-pub blank_again : (n k : ℕ) (one : Kind) (lane : List (Option Message)) → IsCrossing n k one → length lane ≡ size n k
-    → All (λ leaver. leaver ≡ None) lane → Mail lane ≡ blank_parcel n k one
-blank_again n k kind.North lane crossing long none = absurd crossing
-blank_again n k kind.South lane crossing long none = absurd crossing
-blank_again n k (kind.Dim d) lane crossing long none =
+pub blank_again : (n k d : ℕ) (lane : List (Option Message)) → length lane ≡ size n k → All (λ leaver. leaver ≡ None) lane
+    → Mail lane ≡ blank_parcel n k (kind.Dim d)
+blank_again n k d lane long none =
     ap Mail (is_each None (size n k) (λ place. None) lane long (λ i l. none i None (omega (arith, l, long))))
+
+-- ---- edges
+
+-- a block is a band of whole rows of chips
+pub IsBand-block : (k : ℕ) (kept : KeptPart) → IsBlock k kept → IsBand kept.dims kept.part
+IsBand-block k kept is = record {
+  first = (is.band.0 * band kept.dims k, is.band.1.0 ∙ block-row kept.dims k is.band.0 is.within);
+  count = (band kept.dims k, is.count ∙ size-band kept.dims k is.within);
+  some = subst (λ (count : ℕ). 0 < count) (sym is.count) (pow_pos (kept.dims - k));
+}
+
+-- a block stays a block over an instruction
+pub IsBlock-instructed : (k : ℕ) (nano : Nano) (parcel : Parcel) (old : KeptPart) → IsBlock k old
+    → IsBlock k (record old { part = part_after old.dims old.room (Instruct nano) parcel old.part })
+unfolding part_after
+IsBlock-instructed k nano parcel old was = record { within = was.within; count = was.count; band = was.band }
+
+-- an instruction, with what comes in over its edge
+pub absorbed-instruct : (k : ℕ) (nano : Nano) (parcel : Parcel) (new old : KeptPart)
+    → new ≡ record old { part = part_after old.dims old.room (Instruct nano) parcel old.part }
+    → new ≡ record old { part = absorbed old.dims old.room (Instruct nano) parcel old.part }
+unfolding absorbed
+absorbed-instruct k nano parcel new old is = is
+
+-- an edge has a byte for each column of chips
+as_wide : (n : ℕ) (edge : List ℕ) → length (bits_of edge) ≡ columns n → length edge ≡ chip_columns n
+as_wide n edge long =
+    let bits = length-each_from 0 (4 * length edge) (λ column. bit (get_or edge (column / 4) 0) (column % 4)) in
+    omega (arith, bits, long)
+
+pub edge_as_wide : (n k : ℕ) (one : Kind) (edge : List ℕ) → IsOfKind n k one (Edge (bits_of edge))
+    → length edge ≡ chip_columns n
+edge_as_wide n k kind.North edge long = as_wide n edge long
+edge_as_wide n k kind.South edge long = as_wide n edge long
+edge_as_wide n k (kind.Dim d) edge long = absurd long
+
+-- the bits of an edge
+row_of : Parcel → List Bool
+row_of Blank = []
+row_of (Mail lane) = []
+row_of (Edge row) = row
+
+blank_as_wide : (n : ℕ) (edge : List ℕ) → Edge (bits_of edge) ≡ Edge (each_from 0 (columns n) (λ column. false))
+    → length edge ≡ chip_columns n
+unfolding row_of
+blank_as_wide n edge is =
+    as_wide n edge (ap (λ (p : Parcel). length (row_of p)) is ∙ length-each_from 0 (columns n) (λ column. false))
+
+pub edge_of_blank : (n k : ℕ) (one : Kind) (edge : List ℕ) → Edge (bits_of edge) ≡ blank_parcel n k one
+    → length edge ≡ chip_columns n
+edge_of_blank n k kind.North edge is = blank_as_wide n edge is
+edge_of_blank n k kind.South edge is = blank_as_wide n edge is
+edge_of_blank n k (kind.Dim d) edge is = cc
+
+-- where each byte is 0, no bit is left in it
+no_bits : (n : ℕ) (edge : List ℕ) → length edge ≡ chip_columns n → All (λ four. four ≡ 0) edge
+    → bits_of edge ≡ each_from 0 (columns n) (λ column. false)
+no_bits n edge wide none =
+    ap (λ (k : ℕ). each_from 0 (4 * k) (λ column. bit (get_or edge (column / 4) 0) (column % 4))) wide
+    ∙ same_each_below false (columns n) (λ column. bit (get_or edge (column / 4) 0) (column % 4)) (λ column. false)
+    (λ column inside.
+    ap (λ (four : ℕ). bit four (column % 4)) (none (column / 4) 0 (omega (arith, inside, wide)))
+    ∙ ap (λ (v : ℕ). v == 1) (bit_at-zero (column % 4)))
+
+pub blank_edge : (n k : ℕ) (one : Kind) (before now : List ℕ) → IsOfKind n k one (Edge (bits_of before))
+    → length now ≡ length before → All (λ four. four ≡ 0) now → Edge (bits_of now) ≡ blank_parcel n k one
+blank_edge n k kind.North before now was same none = ap Edge (no_bits n now (same ∙ as_wide n before was) none)
+blank_edge n k kind.South before now was same none = ap Edge (no_bits n now (same ∙ as_wide n before was) none)
+blank_edge n k (kind.Dim d) before now was same none = absurd was
+
+pub blank_mail : (n k : ℕ) (one : Kind) (before now : List (Option Message)) → IsOfKind n k one (Mail before)
+    → length now ≡ length before → All (λ leaver. leaver ≡ None) now → Mail now ≡ blank_parcel n k one
+blank_mail n k kind.North before now was same none = absurd was
+blank_mail n k kind.South before now was same none = absurd was
+blank_mail n k (kind.Dim d) before now was same none = blank_again n k d now (same ∙ was) none
+
+-- nothing leaves a part over its edge
+pub less-edge : (n k cap : ℕ) (one : Kind) (act : Act) (nano : Nano) (edge : List Bool) (s : Part) → Edge edge ≡ blank_parcel n k one
+    → act ≡ acts.Nano nano → less cap (step_in act one) s ≡ s
+unfolding less
+less-edge n k cap kind.North act nano edge s is one = ap (λ (a : Act). less cap (step_in a kind.North) s) one
+less-edge n k cap kind.South act nano edge s is one = ap (λ (a : Act). less cap (step_in a kind.South) s) one
+less-edge n k cap (kind.Dim d) act nano edge s is one = cc
 
 -- ---- results
 

@@ -2,3 +2,8 @@ mod Rounding
 mod Blocking
 mod Joining
 mod Exchanging
+mod Counting
+mod Following
+mod Stopping
+mod Going
+mod Acting

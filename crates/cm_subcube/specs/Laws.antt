@@ -1,10 +1,17 @@
 -- Laws of blocks, each the contract of a function of its name. Ours.
-use Rattle.std.specs.Prelude.{◌≡◌, ℕ, ◌≤◌, ◌^◌, List}
+use Rattle.std.specs.Prelude.{◌≡◌, ℕ, ◌+◌, ◌*◌, ◌≤◌, ◌^◌, List, Some, None, slice_get}
+use Rattle.cm_model.specs.declared.act.Act.{Act}
 use Rattle.cm_model.specs.Each.{each_from}
+use Rattle.cm_model.specs.Steps.{Step, Phase}
 use Rattle.cm_model.specs.Machine.{Machine}
 use Rattle.cm_model.specs.Keeping.{IsMachine}
+use Rattle.cm_blocks.specs.Rounds.{rounds, steps_until, steps_between, ahead}
+use Rattle.cm_blocks.specs.Counts.{deliveries, events_in}
 use Rattle.cm_blocks.specs.Parts.{Part, block}
+use Rattle.cm_array.specs.Acts.{cycles_in}
 use Rattle.cm_array.specs.Cuts.{joined, AreWhole}
+use Rattle.cm_subcube.specs.Rounds.{round_of}
+use Rattle.cm_subcube.specs.Local.{local_after, IsRoundOf}
 
 -- the 2 ^ k blocks of a machine, in their order
 abbrev pub all_blocks : ℕ → ℕ → Machine → List Part
@@ -17,3 +24,26 @@ pub record AreBlocksOf (n cap k : ℕ) (machine : Machine) : Type 0 where
 
 abbrev pub BlocksAreJoined : Type 0
 BlocksAreJoined = (n cap k : ℕ) (machine : Machine) → k ≤ n → IsMachine n cap machine → AreBlocksOf n cap k machine
+
+-- a round, as callers get it, tells the steps between it and the next
+pub record IsFollowed (n k r : ℕ) (acts : List Act) (phase : Phase) : Type 0 where
+  pub between : steps_between n k acts r ≡ local_after n k acts (Some (round_of phase))
+  pub round : IsRoundOf n k acts (round_of phase)
+
+-- before the first round, and from each round to the next
+pub record RoundsAreFollowed : Type 0 where
+  pub first : (n k : ℕ) (acts : List Act) → steps_until n k acts 0 ≡ local_after n k acts None
+  pub next : (n k r : ℕ) (acts : List Act) (phase : Phase) → slice_get (rounds n k acts) r ≡ Some phase
+      → IsFollowed n k r acts phase
+
+-- a count of steps, so many for each petit cycle of a run, is shared out among the steps from round to round
+pub record IsSharedOut (count : List Step → ℕ) (each : ℕ) : Type 0 where
+  pub first : (n k : ℕ) (acts : List Act)
+      → count (local_after n k acts None) + count (ahead n k acts 0) ≡ cycles_in acts * each
+  pub next : (n k r : ℕ) (acts : List Act)
+      → count (steps_between n k acts r) + count (ahead n k acts (r + 1)) ≡ count (ahead n k acts r)
+
+-- so are the events that logs need room for, and the deliveries, at which the counter goes on
+pub record LogsHaveRoom : Type 0 where
+  pub events : (room : ℕ) → IsSharedOut (events_in room) (4 + room)
+  pub counts : IsSharedOut deliveries 1

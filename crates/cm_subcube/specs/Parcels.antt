@@ -1,18 +1,23 @@
 -- Parcels as they are kept. Ours.
-use Rattle.std.specs.Prelude.{◌≡◌, ℕ, ◌-◌, ◌*◌, ◌/◌, ◌%◌, ◌<◌, ◌≤◌, Bool, false, List, None, length, slice_index}
-use Rattle.cm_bits.specs.Bit.{bit}
+use Rattle.std.specs.Prelude.{◌≡◌, ◌≢◌, ℕ, ◌-◌, ◌<◌, ◌≤◌, false, List, None, length}
+use Rattle.std.specs.List.{All}
+use Rattle.cm_bits.specs.declared.plane.Dir.{Dir}
+use Rattle.cm_bits.specs.declared.plane.Dir.TheVariants as dir
+use Rattle.cm_model.specs.declared.act.Act.{Act}
+use Rattle.cm_model.specs.declared.act.Act.TheVariants as act
+use Rattle.cm_model.specs.declared.act.Nano.{Nano}
+use Rattle.cm_model.specs.declared.message.Message.{Message}
+use Rattle.cm_model.specs.Processor.{NEWS}
 use Rattle.cm_model.specs.Each.{each_from}
 use Rattle.cm_model.specs.Place.{columns}
 use Rattle.cm_blocks.specs.Parts.{size}
 use Rattle.cm_blocks.specs.Parcels.{Parcel, Blank, Mail, Edge}
+use Rattle.cm_news.specs.Bands.{bits_of}
 use Rattle.cm_subcube.specs.declared.parcel.Load.{Load}
 use Rattle.cm_subcube.specs.declared.parcel.Load.TheVariants as load
 use Rattle.cm_subcube.specs.declared.round.Kind.{Kind}
 use Rattle.cm_subcube.specs.declared.round.Kind.TheVariants as kind
-
--- the bits of an edge, four of each column of chips
-abbrev pub bits_of : List ℕ → List Bool
-bits_of row = each_from 0 (4 * length row) (λ column. bit (slice_index row (column / 4)) (column % 4))
+use Rattle.cm_subcube.specs.declared.round.Round.{Round}
 
 -- what a parcel has
 abbrev pub parcel_of : Load → Parcel
@@ -30,14 +35,48 @@ pub record IsOuter (n k d : ℕ) : Type 0 where
   pub from : n - k ≤ d
   pub below : d < n
 
--- a round of such a dimension
-abbrev pub IsCrossing : ℕ → ℕ → Kind → Type 0
-IsCrossing n k kind.North = ⊥
-IsCrossing n k kind.South = ⊥
-IsCrossing n k (kind.Dim d) = IsOuter n k d
+-- an instruction at which more blocks than one exchange over NEWS in a direction
+pub record IsSent (k : ℕ) (to : Dir) (nano : Nano) : Type 0 where
+  pub blocks : k ≢ 0
+  pub news : nano.write ≡ NEWS
+  pub dir : nano.dir ≡ to
 
--- a parcel with a place for each chip of a block
+-- an act that is one
+abbrev pub IsOver : ℕ → Dir → Act → Type 0
+IsOver k to (act.Nano nano) = IsSent k to nano
+IsOver k to act.Sense = ⊥
+IsOver k to act.Cycle = ⊥
+
+-- an act and a kind at which 2 ^ k blocks exchange
+abbrev pub IsExchangeBy : ℕ → ℕ → Act → Kind → Type 0
+IsExchangeBy n k one kind.North = IsOver k dir.North one
+IsExchangeBy n k one kind.South = IsOver k dir.South one
+IsExchangeBy n k one (kind.Dim d) = IsOuter n k d
+
+-- a round at which they do
+abbrev pub IsExchange : ℕ → ℕ → Round → Type 0
+IsExchange n k round = IsExchangeBy n k round.act round.kind
+
+-- in a round over a dimension each router has room for one message more
+abbrev pub HaveSpaceFor : Kind → ℕ → List (List Message) → Type 0
+HaveSpaceFor kind.North room buffers = Unit {0}
+HaveSpaceFor kind.South room buffers = Unit {0}
+HaveSpaceFor (kind.Dim d) room buffers = All (λ ms. length ms < room) buffers
+
+-- a parcel with a bit for each column of the grid
+abbrev pub HasColumns : ℕ → Parcel → Type 0
+HasColumns n Blank = ⊥
+HasColumns n (Mail lane) = ⊥
+HasColumns n (Edge row) = length row ≡ columns n
+
+-- one with a place for each chip of a block
 abbrev pub HasLanes : ℕ → ℕ → Parcel → Type 0
 HasLanes n k Blank = ⊥
 HasLanes n k (Mail lane) = length lane ≡ size n k
 HasLanes n k (Edge row) = ⊥
+
+-- a parcel of a kind, whatever is in it
+abbrev pub IsOfKind : ℕ → ℕ → Kind → Parcel → Type 0
+IsOfKind n k kind.North parcel = HasColumns n parcel
+IsOfKind n k kind.South parcel = HasColumns n parcel
+IsOfKind n k (kind.Dim d) parcel = HasLanes n k parcel

@@ -1,15 +1,17 @@
 //! Blocks of a machine.
 
-ghost use Rattle.std.specs.Prelude.{◌≡◌, ◌+◌, ◌-◌, ◌*◌, ◌/◌, ◌<◌, ◌≤◌, ◌↔◌, ◌^◌, IfOk, IsErrOf, IsTrue, [], map, vec_len, vec_capacity};
+ghost use Rattle.std.specs.Prelude.{◌≡◌, ◌+◌, ◌-◌, ◌*◌, ◌/◌, ◌<◌, ◌≤◌, ◌↔◌, ◌^◌, true, IfOk, IsErrOf, IsTrue, []};
+ghost use Rattle.std.specs.Prelude.{map, vec_len, vec_capacity};
 ghost use Rattle.std.specs.List.{All};
-ghost use Rattle.cm_blocks.specs.Parts.{block, buffer_in};
+ghost use Rattle.cm_blocks.specs.Parts.{block, chip_in, buffer_in, log_in};
 ghost use Rattle.cm_array.specs.Cuts.{joined, AreWhole};
 ghost use Rattle.cm_subcube.specs.Blocks.{IsBlock, IsFresh};
 ghost use Rattle.cm_subcube.specs.Laws.{all_blocks};
 
 use cm_array::{IntoPart, Machine, Part};
 use cm_bits::NoMemory;
-use cm_message::Message;
+use cm_element::ChipView;
+use cm_message::{Event, Message};
 use std::alloc::Global;
 use std::marker::Model;
 use thiserror::Error;
@@ -55,6 +57,37 @@ impl Model for Block {
 }
 
 impl Block {
+    /// The number of its first chip in the whole.
+    pub fn first(&self) -> u16
+        ensures value { result ≡ self.now.kept.part.first }
+    {
+        self.part.first()
+    }
+
+    /// How many chips it has.
+    pub fn chips(&self) -> usize
+        ensures value { result ≡ self.now.kept.part.count }
+    {
+        self.part.chips()
+    }
+
+    /// Petit cycles so far.
+    pub fn clock(&self) -> u64
+        ensures value { result ≡ self.now.kept.part.clock }
+        ensures within { result < 2 ^ 63 }
+    {
+        self.part.clock()
+    }
+
+    /// The chip of that number in the whole, to be read.
+    pub fn chip(&self, chip: u16) -> ChipView<'_>
+        requires from { self.now.kept.part.first ≤ chip }
+        requires below { chip < self.now.kept.part.first + self.now.kept.part.count }
+        ensures value { result ≡ chip_in self.now.kept.part chip }
+    {
+        self.part.chip(chip)
+    }
+
     /// The messages that stand in the router of the chip of that number in the whole, in order of arrival.
     pub fn buffer(&self, chip: u16) -> &[Message]
         requires from { self.now.kept.part.first ≤ chip }
@@ -63,6 +96,22 @@ impl Block {
         ensures value { result.now ≡ buffer_in self.now.kept.part chip }
     {
         self.part.buffer(chip)
+    }
+
+    /// The events of the chip of that number in the whole, the oldest first.
+    pub fn log(&self, chip: u16) -> &[Event]
+        requires from { self.now.kept.part.first ≤ chip }
+        requires below { chip < self.now.kept.part.first + self.now.kept.part.count }
+        ensures value { result.now ≡ log_in self.now.kept.part chip }
+    {
+        self.part.log(chip)
+    }
+
+    /// Makes its messages readable, if any has moved since they were.
+    pub fn gather(&mut self)
+        ensures value { self.new ≡ record self.old { kept = record self.old.kept { gathered = true } } }
+    {
+        self.part.gather();
     }
 }
 

@@ -1,24 +1,28 @@
-//! stub
-ghost use Rattle.cm_model.specs.declared.act.Act.{Act};
-ghost use Rattle.std.specs.Prelude.{◌≡◌, ℕ, ◌+◌, ◌<◌, ◌^◌, true};
-ghost use Rattle.std.specs.Option.{option_copied};
-ghost use Rattle.cm_blocks.specs.Counts.{deliveries, events_in};
-ghost use Rattle.cm_blocks.specs.Parcels.{due};
-ghost use Rattle.cm_blocks.specs.Steps.{less, absorbed, part_after_all};
-ghost use Rattle.cm_array.specs.Cuts.{HaveLogRoom};
+//! What a block does in a round: it fills a parcel for another block, and absorbs one that came.
+
+ghost use Rattle.std.specs.Prelude.{◌≡◌, ℕ, ◌/◌, ◌<◌, ◌^◌, IsTrue, None, length};
+ghost use Rattle.std.specs.List.{All};
+ghost use Rattle.cm_model.specs.Place.{chip_columns};
+ghost use Rattle.cm_model.specs.Steps.{Instruct, Cross};
+ghost use Rattle.cm_news.specs.Bands.{bits_of};
+ghost use Rattle.cm_blocks.specs.Parts.{size};
+ghost use Rattle.cm_blocks.specs.Parcels.{Edge, Mail, due};
+ghost use Rattle.cm_blocks.specs.Rounds.{is_vertical};
+ghost use Rattle.cm_blocks.specs.Steps.{less, absorbed};
 ghost use Rattle.cm_subcube.specs.Rounds.{step_of};
-ghost use Rattle.cm_subcube.specs.Parcels.{blank_parcel};
-ghost use Rattle.cm_subcube.specs.Local.{local_after, IsExchange, HaveSpaceFor, IsOfKind, IsFollowing, LoseAtMost, Stub};
+ghost use Rattle.cm_subcube.specs.Parcels.{blank_parcel, IsOuter, IsExchange, IsOfKind, HaveSpaceFor};
 
 use crate::block::Block;
-use crate::parcel::Parcel;
-use crate::round::Round;
-use cm_model::Act;
+use crate::parcel::{Load, Parcel};
+use crate::round::{Kind, Round};
+use cm_message::Message;
+use cm_model::{Act, Nano};
 
 impl Block {
+    /// Puts what is due into a blank parcel: in a round over a dimension what leaves each chip, without which the
+    /// block is until a parcel is absorbed; over NEWS what its edge sends.
     pub fn fill(&mut self, round: &Round, parcel: &mut Parcel)
-        requires stub { Stub }
-        requires exchange { IsExchange self.old.kept.dims self.old.k round.now.act round.now.kind }
+        requires exchange { IsExchange self.old.kept.dims self.old.k round.now }
         requires blank { parcel.old ≡ blank_parcel self.old.kept.dims self.old.k round.now.kind }
         ensures sent { parcel.new ≡ due self.old.kept.dims self.old.kept.room (step_of round.now) self.old.kept.part }
         ensures rest { self.new.kept ≡ record self.old.kept {
@@ -28,12 +32,25 @@ impl Block {
         ensures blocks { self.new.k ≡ self.old.k }
         ensures space { HaveSpaceFor round.now.kind self.new.kept.room self.new.kept.part.buffers }
     {
-        impossible(self);
+        match &mut parcel.load {
+            Load::Mail(mail) => {
+                let Kind::Dim(dim) = round.kind else {
+                    unreachable!()
+                };
+                self.send(dim, mail);
+            }
+            Load::Edge(edge) => {
+                let Act::Nano(nano) = &round.act else {
+                    unreachable!()
+                };
+                self.send_edge(nano, edge);
+            }
+        }
     }
 
+    /// Takes in what stands in a parcel, which is blank then.
     pub fn absorb(&mut self, round: &Round, parcel: &mut Parcel)
-        requires stub { Stub }
-        requires exchange { IsExchange self.old.kept.dims self.old.k round.now.act round.now.kind }
+        requires exchange { IsExchange self.old.kept.dims self.old.k round.now }
         requires lanes { IsOfKind self.old.kept.dims self.old.k round.now.kind parcel.old }
         requires space { HaveSpaceFor round.now.kind self.old.kept.room self.old.kept.part.buffers }
         ensures value { self.new.kept ≡ record self.old.kept {
@@ -43,40 +60,69 @@ impl Block {
         ensures blocks { self.new.k ≡ self.old.k }
         ensures blank { parcel.new ≡ blank_parcel self.old.kept.dims self.old.k round.now.kind }
     {
-        impossible(self);
+        match &mut parcel.load {
+            Load::Mail(mail) => self.receive(mail),
+            Load::Edge(edge) => {
+                let Act::Nano(nano) = &round.act else {
+                    unreachable!()
+                };
+                self.receive_edge(nano, edge);
+            }
+        }
     }
 
-    pub fn local(&mut self, acts: &[Act], after: Option<&Round>)
-        requires stub { Stub }
-        requires following { IsFollowing self.old.kept.dims self.old.k acts.now (option_copied after) }
-        requires log_room { HaveLogRoom
-            (events_in self.old.kept.room (local_after self.old.kept.dims self.old.k acts.now (option_copied after)))
-            self.old.kept.log_rooms }
-        requires clock { self.old.kept.part.clock
-            + deliveries (local_after self.old.kept.dims self.old.k acts.now (option_copied after)) < 2 ^ 63 }
-        ensures value { self.new.kept.part ≡ part_after_all self.old.kept.dims self.old.kept.room
-            (local_after self.old.kept.dims self.old.k acts.now (option_copied after.entry)) self.old.kept.part }
-        ensures dims { self.new.kept.dims ≡ self.old.kept.dims }
-        ensures room { self.new.kept.room ≡ self.old.kept.room }
+    /// What leaves each chip in a dimension.
+    fn send(&mut self, dim: u8, mail: &mut [Option<Message>])
+        requires outer { IsOuter self.old.kept.dims self.old.k dim }
+        requires lanes { length mail.old ≡ size self.old.kept.dims self.old.k }
+        ensures kept { self.new.kept ≡ record self.old.kept {
+          part = less self.old.kept.room (Cross dim) self.old.kept.part;
+          gathered = self.new.kept.gathered;
+        } }
         ensures blocks { self.new.k ≡ self.old.k }
-        ensures log_room { LoseAtMost
-            (events_in self.old.kept.room (local_after self.old.kept.dims self.old.k acts.now (option_copied after.entry)))
-            self.old.kept.log_rooms self.new.kept.log_rooms }
+        ensures sent { Mail mail.new ≡ due self.old.kept.dims self.old.kept.room (Cross dim) self.old.kept.part }
+        ensures space { All (λ ms. length ms < self.new.kept.room) self.new.kept.part.buffers }
     {
-        impossible(self);
+        let span = self.part.dims() - self.k;
+        self.part.leave(span, dim, mail);
     }
 
-    pub fn gather(&mut self)
-        ensures value { self.new.kept ≡ record self.old.kept { gathered = true } }
+    /// What comes to each chip in a dimension.
+    fn receive(&mut self, mail: &mut [Option<Message>])
+        requires lanes { length mail.old ≡ size self.old.kept.dims self.old.k }
+        requires space { All (λ ms. length ms < self.old.kept.room) self.old.kept.part.buffers }
+        ensures kept { (dim : ℕ) → self.new.kept ≡ record self.old.kept {
+          part = absorbed self.old.kept.dims self.old.kept.room (Cross dim) (Mail mail.old) self.old.kept.part;
+          gathered = self.new.kept.gathered;
+        } }
         ensures blocks { self.new.k ≡ self.old.k }
+        ensures blank { All (λ leaver. leaver ≡ None) mail.new }
     {
-        self.part.gather();
+        let span = self.part.dims() - self.k;
+        self.part.take_in(span, mail);
     }
-}
 
-fn impossible(block: &mut Block)
-    requires { Stub }
-    ensures { ⊥ }
-{
-    block.part.gather();
+    /// What goes out over its edge northward or southward.
+    fn send_edge(&mut self, nano: &Nano, edge: &mut [u8])
+        requires vertical { IsTrue (is_vertical nano.now.dir) }
+        requires lanes { length edge.old ≡ chip_columns self.old.kept.dims }
+        ensures others { self.new ≡ self.old }
+        ensures sent { Edge (bits_of edge.new)
+            ≡ due self.old.kept.dims self.old.kept.room (Instruct nano.now) self.old.kept.part }
+    {
+        self.part.edge(nano, edge);
+    }
+
+    /// One instruction, with what comes in over its edge.
+    fn receive_edge(&mut self, nano: &Nano, edge: &mut [u8])
+        requires lanes { length edge.old ≡ chip_columns self.old.kept.dims }
+        ensures kept { self.new.kept ≡ record self.old.kept {
+          part = absorbed self.old.kept.dims self.old.kept.room (Instruct nano.now) (Edge (bits_of edge.old)) self.old.kept.part;
+        } }
+        ensures blocks { self.new.k ≡ self.old.k }
+        ensures blank { All (λ four. four ≡ 0) edge.new }
+    {
+        self.part.instruct(nano, edge);
+        edge.fill(0);
+    }
 }

@@ -5,11 +5,12 @@ mod block;
 mod copying;
 mod exchange;
 mod laws;
+mod local;
 mod parcel;
 mod round;
 
 pub use block::{Block, SplitFault, join, split};
 pub use copying::copy_by_blocks;
-pub use laws::blocks_are_joined;
+pub use laws::{blocks_are_joined, logs_have_room, rounds_are_followed};
 pub use parcel::Parcel;
 pub use round::{Kind, Round, rounds};

@@ -3,7 +3,8 @@
 ghost use Rattle.std.specs.Prelude.{◌≡◌, ◌-◌, ◌/◌, ◌≤◌, ◌^◌, false, None, IfOk};
 ghost use Rattle.cm_model.specs.Each.{each_from};
 ghost use Rattle.cm_model.specs.Place.{columns};
-ghost use Rattle.cm_subcube.specs.Parcels.{bits_of, blank_parcel};
+ghost use Rattle.cm_news.specs.Bands.{bits_of};
+ghost use Rattle.cm_subcube.specs.Parcels.{blank_parcel};
 
 use crate::round::Kind;
 use cm_bits::NoMemory;

@@ -1,0 +1,84 @@
+//! The parts of a petit cycle at a part of a machine.
+
+ghost use Rattle.std.specs.Prelude.{◌≡◌, ◌+◌, ◌%◌, ◌^◌, ◌<◌};
+ghost use Rattle.cm_model.specs.Steps.{Inject, Cross, Deliver};
+ghost use Rattle.cm_blocks.specs.Parcels.{Blank};
+ghost use Rattle.cm_blocks.specs.Steps.{part_after};
+ghost use Rattle.cm_array.specs.Cuts.{HaveLogRoom, LoseAtMost};
+
+use crate::part::Part;
+use cm_crossing::Sizes;
+use cm_petit::{cross, deliver, inject};
+
+impl Part {
+    /// Every router takes in messages of its chip's processors. It has 2^`span` chips.
+    pub fn inject(&mut self, span: u8)
+        requires band { self.old.part.count ≡ 2 ^ span }
+        requires log_room { HaveLogRoom 4 self.old.log_rooms }
+        ensures value { self.new ≡ record self.old {
+          part = part_after self.old.dims self.old.room Inject Blank self.old.part;
+          log_rooms = self.new.log_rooms;
+          gathered = self.new.gathered;
+        } }
+        ensures log_room { LoseAtMost 4 self.old.log_rooms self.new.log_rooms }
+    {
+        let sizes = Sizes {
+            dims: self.dims,
+            span,
+            room: self.room,
+        };
+        inject(
+            sizes,
+            self.first,
+            &mut self.parts.run,
+            &mut self.parts.crossing,
+            &mut self.parts.logs,
+            self.parts.clock,
+        );
+    }
+
+    /// Messages cross a dimension that its 2^`span` chips span. It begins at a multiple of their number.
+    pub fn cross(&mut self, span: u8, dim: u8)
+        requires band { self.old.part.count ≡ 2 ^ span }
+        requires begins { self.old.part.first % 2 ^ span ≡ 0 }
+        requires dim { dim < span }
+        ensures value { self.new ≡ record self.old {
+          part = part_after self.old.dims self.old.room (Cross dim) Blank self.old.part;
+          gathered = self.new.gathered;
+        } }
+    {
+        let sizes = Sizes {
+            dims: self.dims,
+            span,
+            room: self.room,
+        };
+        cross(sizes, &mut self.parts.crossing, dim);
+    }
+
+    /// Messages that have arrived go to their processors, and the counter is one more. It has 2^`span` chips.
+    pub fn deliver(&mut self, span: u8)
+        requires band { self.old.part.count ≡ 2 ^ span }
+        requires log_room { HaveLogRoom self.old.room self.old.log_rooms }
+        requires clock { self.old.part.clock + 1 < 2 ^ 63 }
+        ensures value { self.new ≡ record self.old {
+          part = part_after self.old.dims self.old.room Deliver Blank self.old.part;
+          log_rooms = self.new.log_rooms;
+          gathered = self.new.gathered;
+        } }
+        ensures log_room { LoseAtMost self.old.room self.old.log_rooms self.new.log_rooms }
+    {
+        let sizes = Sizes {
+            dims: self.dims,
+            span,
+            room: self.room,
+        };
+        deliver(
+            sizes,
+            self.first,
+            &mut self.parts.run,
+            &mut self.parts.crossing,
+            &mut self.parts.logs,
+        );
+        self.parts.clock += 1;
+    }
+}

@@ -1,0 +1,200 @@
+-- Steps until a round: all of them where none is a round, and what a petit cycle has before its first.
+use Rattle.std.proofs.Common.{◌≡◌, ℕ, zero, suc, ◌+◌, ◌-◌, ◌<◌, ◌≤◌, ◌||◌, Bool, true, false, not, List, [], ◌∷◌, ◌++◌, length, get_or}
+use Rattle.std.proofs.Common.{map, take, drop, refl, sym, ◌∙◌, ap, subst, ⊎_elim, arith}
+use Rattle.std.specs.Prelude.{nat_le}
+use Rattle.std.specs.List.{list_any, range_with_len}
+use Rattle.std.proofs.lemmas.Bool.{cases_Bool}
+use Rattle.std.proofs.lemmas.Bool.Decides.{nat_tests}
+use Rattle.std.proofs.lemmas.List.{append-nil, append_assoc, take_more, take-append-drop}
+use Rattle.std.proofs.lemmas.Grind.{flat_map-append}
+use Rattle.cm_model.specs.declared.act.Act.{Act}
+use Rattle.cm_model.specs.declared.act.Act.TheVariants as act
+use Rattle.cm_model.specs.Steps.{Step, Inject, Cross, Deliver, steps_of, all_steps}
+use Rattle.cm_blocks.specs.Rounds.{is_round, until_round}
+use Rattle.cm_subcube.specs.Local.{is_through}
+
+-- ---- two lists of steps
+
+-- where the first has no round, it is gone through, and then the second until its round
+pub until_round-through : (n k : ℕ) (xs ys : List Step) → is_through n k xs ≡ true
+    → until_round n k (xs ++ ys) ≡ xs ++ until_round n k ys
+until_round-through n k [] ys h = refl
+until_round-through n k (x ∷ xs) ys h =
+    ⊎_elim
+    (λ (e : is_round n k x ≡ true).
+    let wrong : not (true || list_any (is_round n k) xs) ≡ true =
+    subst (λ (b : Bool). not (b || list_any (is_round n k) xs) ≡ true) e h in
+    absurd (cc))
+    (λ (e : is_round n k x ≡ false).
+    let rest : is_through n k xs ≡ true = subst (λ (b : Bool). not (b || list_any (is_round n k) xs) ≡ true) e h in
+    rw e (ap (λ z. x ∷ z) (until_round-through n k xs ys rest)))
+    (cases_Bool (is_round n k x))
+
+-- and where it has one, until that
+pub until_round-stopped : (n k : ℕ) (xs ys : List Step) → is_through n k xs ≡ false
+    → until_round n k (xs ++ ys) ≡ until_round n k xs
+until_round-stopped n k [] ys h = absurd (let wrong : true ≡ false = h in cc)
+until_round-stopped n k (x ∷ xs) ys h =
+    ⊎_elim
+    (λ (e : is_round n k x ≡ true). rw e refl)
+    (λ (e : is_round n k x ≡ false).
+    let rest : is_through n k xs ≡ false = subst (λ (b : Bool). not (b || list_any (is_round n k) xs) ≡ false) e h in
+    rw e (ap (λ z. x ∷ z) (until_round-stopped n k xs ys rest)))
+    (cases_Bool (is_round n k x))
+
+-- steps without a round are gone through
+pub until_round-all : (n k : ℕ) (xs : List Step) → is_through n k xs ≡ true → until_round n k xs ≡ xs
+until_round-all n k xs h =
+    ap (until_round n k) (sym (append-nil xs)) ∙ until_round-through n k xs [] h ∙ append-nil xs
+
+-- what stands before a round of both begins with what stands before one of the first
+pub begins : (n k : ℕ) (xs ys : List Step)
+    → (rest : List Step) × (until_round n k (xs ++ ys) ≡ until_round n k xs ++ rest)
+begins n k xs ys =
+    ⊎_elim
+    (λ (e : is_through n k xs ≡ true). (
+      until_round n k ys,
+      until_round-through n k xs ys e
+          ∙ ap (λ z. z ++ until_round n k ys) (sym (until_round-all n k xs e)),
+    ))
+    (λ (e : is_through n k xs ≡ false). ([], until_round-stopped n k xs ys e ∙ sym (append-nil (until_round n k xs))))
+    (cases_Bool (is_through n k xs))
+
+is_through-append : (n k : ℕ) (xs ys : List Step) → is_through n k xs ≡ true → is_through n k ys ≡ true
+    → is_through n k (xs ++ ys) ≡ true
+is_through-append n k [] ys h l = l
+is_through-append n k (x ∷ xs) ys h l =
+    ⊎_elim
+    (λ (e : is_round n k x ≡ true).
+    let wrong : not (true || list_any (is_round n k) xs) ≡ true =
+    subst (λ (b : Bool). not (b || list_any (is_round n k) xs) ≡ true) e h in
+    absurd (cc))
+    (λ (e : is_round n k x ≡ false).
+    let rest : is_through n k xs ≡ true = subst (λ (b : Bool). not (b || list_any (is_round n k) xs) ≡ true) e h in
+    rw e (is_through-append n k xs ys rest l))
+    (cases_Bool (is_round n k x))
+
+-- ---- acts one after another
+
+-- the steps of one act more
+pub all_steps-more : (n i : ℕ) (acts : List Act) (one : Act) → i < length acts → one ≡ get_or acts i one
+    → all_steps n (take (i + 1) acts) ≡ all_steps n (take i acts) ++ steps_of n one
+all_steps-more n i acts one l is =
+    ap (all_steps n) (take_more acts i one l ∙ ap (λ (x : Act). take i acts ++ x ∷ []) (sym is))
+    ∙ flat_map-append (steps_of n) (take i acts) (one ∷ [])
+    ∙ ap (λ z. all_steps n (take i acts) ++ z) (append-nil (steps_of n one))
+
+-- and no round is among them where none was
+pub is_through-more : (n k i : ℕ) (acts : List Act) (one : Act) → i < length acts → one ≡ get_or acts i one
+    → is_through n k (all_steps n (take i acts)) ≡ true → is_through n k (steps_of n one) ≡ true
+    → is_through n k (all_steps n (take (i + 1) acts)) ≡ true
+is_through-more n k i acts one l is before here =
+    ap (is_through n k) (all_steps-more n i acts one l is)
+    ∙ is_through-append n k (all_steps n (take i acts)) (steps_of n one) before here
+
+-- all are some, one more, and the rest
+pub all_steps-split : (n i : ℕ) (acts : List Act) (one : Act) → i < length acts → one ≡ get_or acts i one
+    → all_steps n acts ≡ all_steps n (take i acts) ++ (steps_of n one ++ all_steps n (drop (i + 1) acts))
+all_steps-split n i acts one l is =
+    ap (all_steps n) (sym (take-append-drop (i + 1) acts))
+    ∙ flat_map-append (steps_of n) (take (i + 1) acts) (drop (i + 1) acts)
+    ∙ ap (λ z. z ++ all_steps n (drop (i + 1) acts)) (all_steps-more n i acts one l is)
+    ∙ append_assoc (all_steps n (take i acts)) (steps_of n one) (all_steps n (drop (i + 1) acts))
+
+-- ---- a petit cycle
+
+-- dimensions below those of rounds
+pub crossings_low : (n k d count : ℕ) → d + count ≤ n - k → is_through n k (map Cross (range_with_len d count)) ≡ true
+crossings_low n k d zero h = refl
+crossings_low n k d (suc count) h =
+    let low : nat_le (n - k) d ≡ false = grind (arith, nat_tests) in
+    rw low (crossings_low n k (d + 1) count (omega arith))
+
+-- those of rounds
+crossings_high : (n k d count : ℕ) (ys : List Step) → n - k ≤ d → 0 < count
+    → (until_round n k (map Cross (range_with_len d count) ++ ys) ≡ [])
+    × (is_through n k (map Cross (range_with_len d count) ++ ys) ≡ false)
+crossings_high n k d zero ys h some = absurd (omega (arith, some))
+crossings_high n k d (suc count) ys h some =
+    let high : nat_le (n - k) d ≡ true = grind (arith, nat_tests) in
+    (rw high refl, rw high refl)
+
+-- all are those below and those of rounds
+crossings_split : (n k : ℕ) → k ≤ n → map Cross (range_with_len 0 n) ++ Deliver ∷ []
+    ≡ map Cross (range_with_len 0 (n - k)) ++ (map Cross (range_with_len (n - k) k) ++ Deliver ∷ [])
+crossings_split n k h =
+    ap (λ (z : ℕ). map Cross (range_with_len 0 z) ++ Deliver ∷ []) (let e : n ≡ n - k + k = omega (arith, h) in e)
+    ∙ ap (λ z. z ++ Deliver ∷ []) (crossings-append 0 (n - k) k
+    ∙ ap (λ (z : ℕ). map Cross (range_with_len 0 (n - k)) ++ map Cross (range_with_len z k))
+    (let e : 0 + (n - k) ≡ n - k = omega arith in e))
+    ∙ append_assoc (map Cross (range_with_len 0 (n - k))) (map Cross (range_with_len (n - k) k)) (Deliver ∷ [])
+  where
+    crossings-append : (from first second : ℕ) → map Cross (range_with_len from (first + second))
+        ≡ map Cross (range_with_len from first) ++ map Cross (range_with_len (from + first) second)
+    crossings-append from zero second =
+        ap (λ (z : ℕ). map Cross (range_with_len from z)) (let e : zero + second ≡ second = omega arith in e)
+        ∙ ap (λ (z : ℕ). map Cross (range_with_len z second)) (let e : from ≡ from + zero = omega arith in e)
+    crossings-append from (suc first) second =
+        ap (λ (z : ℕ). map Cross (range_with_len from z))
+        (let e : suc first + second ≡ suc (first + second) = omega arith in e)
+        ∙ ap (λ z. Cross from ∷ z) (crossings-append (from + 1) first second
+        ∙ ap (λ (z : ℕ). map Cross (range_with_len (from + 1) first) ++ map Cross (range_with_len z second))
+        (let e : from + 1 + first ≡ from + suc first = omega arith in e))
+
+-- what a petit cycle has before its first round, if it has one
+pub record IsStoppedAt (n k : ℕ) : Type 0 where
+  pub steps : until_round n k (steps_of n act.Cycle) ≡ (Inject ∷ []) ++ map Cross (range_with_len 0 (n - k))
+  pub through : is_through n k (steps_of n act.Cycle) ≡ false
+
+pub cycle_stops : (n k : ℕ) → k ≤ n → 0 < k → IsStoppedAt n k
+cycle_stops n k h some =
+    let low : List Step = map Cross (range_with_len 0 (n - k)) in
+    let high : List Step = map Cross (range_with_len (n - k) k) ++ Deliver ∷ [] in
+    let under : is_through n k low ≡ true = crossings_low n k 0 (n - k) (omega arith) in
+    let over = crossings_high n k (n - k) k (Deliver ∷ []) (omega arith) some in
+    record {
+      steps = ap (λ z. Inject ∷ until_round n k z) (crossings_split n k h)
+          ∙ ap (λ z. Inject ∷ z) (until_round-through n k low high under
+          ∙ ap (λ z. low ++ z) over.0 ∙ append-nil low);
+      through = ap (is_through n k) (crossings_split n k h) ∙ not_through n k low high over.1;
+    }
+  where
+    not_through : (n k : ℕ) (xs ys : List Step) → is_through n k ys ≡ false → is_through n k (xs ++ ys) ≡ false
+    not_through n k [] ys e = e
+    not_through n k (x ∷ xs) ys e =
+        ⊎_elim
+        (λ (r : is_round n k x ≡ true). rw r refl)
+        (λ (r : is_round n k x ≡ false). rw r (not_through n k xs ys e))
+        (cases_Bool (is_round n k x))
+
+-- where the machine is not cut, it has none
+pub record IsGoneThrough (n k : ℕ) : Type 0 where
+  pub steps : until_round n k (steps_of n act.Cycle)
+      ≡ ((Inject ∷ []) ++ map Cross (range_with_len 0 (n - k))) ++ Deliver ∷ []
+  pub through : is_through n k (steps_of n act.Cycle) ≡ true
+
+pub cycle_goes_through : (n k : ℕ) → k ≡ 0 → IsGoneThrough n k
+cycle_goes_through n k none =
+    let all : n - k ≡ n = omega (arith, none) in
+    let under : is_through n k (map Cross (range_with_len 0 n)) ≡ true = crossings_low n k 0 n (omega (arith, all)) in
+    let through : is_through n k (steps_of n act.Cycle) ≡ true =
+    is_through-append n k (map Cross (range_with_len 0 n)) (Deliver ∷ []) under refl in
+    record {
+      steps = until_round-all n k (steps_of n act.Cycle) through
+          ∙ ap (λ (z : ℕ). Inject ∷ (map Cross (range_with_len 0 z) ++ Deliver ∷ [])) (sym all);
+      through = through;
+    }
+
+-- ---- behind a round over a dimension
+
+-- another round comes, or the act is at its end
+pub behind_stops : (n k d : ℕ) → n - k ≤ d → d + 1 < n
+    → (until_round n k (map Cross (range_with_len (d + 1) (n - d - 1)) ++ Deliver ∷ []) ≡ [])
+    × (is_through n k (map Cross (range_with_len (d + 1) (n - d - 1)) ++ Deliver ∷ []) ≡ false)
+behind_stops n k d from below =
+    crossings_high n k (d + 1) (n - d - 1) (Deliver ∷ []) (omega (arith, from)) (omega (arith, below))
+
+pub behind_ends : (n d : ℕ) → d < n → n ≤ d + 1
+    → map Cross (range_with_len (d + 1) (n - d - 1)) ++ Deliver ∷ [] ≡ Deliver ∷ []
+behind_ends n d below last =
+    ap (λ (z : ℕ). map Cross (range_with_len (d + 1) z) ++ Deliver ∷ []) (let e : n - d - 1 ≡ 0 = omega (arith, below, last) in e)
