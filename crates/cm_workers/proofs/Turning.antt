@@ -1,5 +1,5 @@
 -- Turns of blocks.
-use Rattle.std.proofs.Common.{◌≡◌, ℕ, ◌+◌, ◌<◌, ◌^◌, List, Option, None, Some, length, get_or, refl, ap, sym, subst, ◌∙◌, arith}
+use Rattle.std.proofs.Common.{◌≡◌, ℕ, ◌+◌, ◌<◌, ◌^◌, Bool, List, Option, None, Some, length, get_or, refl, ap, sym, subst, ◌∙◌, arith}
 use Rattle.cm_model.specs.declared.act.Act.{Act}
 use Rattle.cm_model.specs.Steps.{Step, Instruct, Look, Inject, Cross, Deliver}
 use Rattle.cm_blocks.specs.Counts.{deliveries, events_in}
@@ -8,12 +8,13 @@ use Rattle.cm_blocks.specs.Parcels.{Parcel}
 use Rattle.cm_blocks.specs.Steps.{absorbed, part_after}
 use Rattle.cm_subcube.specs.declared.round.Round.{Round}
 use Rattle.cm_subcube.specs.Blocks.{KeptBlock}
-use Rattle.cm_array.specs.Cuts.{KeptPart}
-use Rattle.cm_subcube.specs.Local.{local_after, IsFollowing, LoseAtMost}
+use Rattle.cm_array.specs.Cuts.{KeptPart, HaveLogRoom, LoseAtMost}
+use Rattle.cm_subcube.specs.Parcels.{IsExchange}
+use Rattle.cm_subcube.specs.Local.{local_after}
 use Rattle.cm_workers.specs.declared.post.Post.{Post}
 use Rattle.cm_workers.specs.Posts.{blank_post}
 use Rattle.cm_workers.specs.Each.{AreEach}
-use Rattle.cm_workers.specs.Turns.{gone_on, left_in, sent_by, CanGo, CanAllGo, CanSend, CanAllSend, HasGoneOn, HasSent, HasGone, IsShown, AreShown, IsAhead}
+use Rattle.cm_workers.specs.Turns.{gone_on, left_in, sent_by, CanGo, CanAllGo, CanSend, CanAllSend, HasGoneOn, HasSent, HasGone, IsShown, AreShown, IsAhead, IsFollowing}
 
 -- the counter stands still while a parcel is taken in
 pub clock_stands : (n room : ℕ) (step : Step) (parcel : Parcel) (s : Part) → (absorbed n room step parcel s).clock ≡ s.clock
@@ -24,18 +25,33 @@ clock_stands n room Inject parcel s = refl
 clock_stands n room (Cross d) parcel s = refl
 clock_stands n room Deliver parcel s = refl
 
--- a block's counter stays in range on its way to the next round
-abbrev pub IsInTime : List Act → Option Round → KeptBlock → Type 0
-IsInTime acts before block = block.kept.part.clock + deliveries (local_after block.kept.dims block.k acts before) < 2 ^ 63
+-- a block can go on by itself until the next round
+pub record CanGoOn (acts : List Act) (before : Option Round) (block : KeptBlock) : Type 0 where
+  pub following : IsFollowing block.kept.dims block.k acts before
+  pub log_room : HaveLogRoom (events_in block.kept.room (local_after block.kept.dims block.k acts before)) block.kept.log_rooms
+  pub clock : block.kept.part.clock + deliveries (local_after block.kept.dims block.k acts before) < 2 ^ 63
 
-pub still_in_time : (acts : List Act) (before : Option Round) (old new : KeptBlock) (n room : ℕ) (step : Step) (parcel : Parcel)
-    → new.kept.part ≡ absorbed n room step parcel old.kept.part → new.kept.dims ≡ old.kept.dims → new.k ≡ old.k
-    → IsInTime acts before old → IsInTime acts before new
-still_in_time acts before old new n room step parcel part dims blocks was =
-    subst (λ (clock : ℕ). clock + deliveries (local_after new.kept.dims new.k acts before) < 2 ^ 63)
-    (sym (ap (λ (s : Part). s.clock) part ∙ clock_stands n room step parcel old.kept.part))
-    (subst (λ (d : ℕ). old.kept.part.clock + deliveries (local_after d new.k acts before) < 2 ^ 63) (sym dims)
-    (subst (λ (k : ℕ). old.kept.part.clock + deliveries (local_after old.kept.dims k acts before) < 2 ^ 63) (sym blocks) was))
+pub can_go_on : (acts : List Act) (before next : Option Round) (block : KeptBlock) (post : Post) → CanGo acts before next block post
+    → CanGoOn acts before block
+can_go_on acts before next block post ready = record { following = ready.behind; log_room = ready.log_room; clock = ready.clock }
+
+-- so it can when it has taken in what came
+pub still_can : (acts : List Act) (before : Option Round) (old new : KeptBlock) (step : Step) (parcel : Parcel) (gathered : Bool)
+    → new.kept ≡ record old.kept { part = absorbed old.kept.dims old.kept.room step parcel old.kept.part; gathered = gathered } → new.k ≡ old.k
+    → CanGoOn acts before old → CanGoOn acts before new
+still_can acts before old new step parcel gathered is blocks can =
+    let taken : KeptPart = record old.kept { part = absorbed old.kept.dims old.kept.room step parcel old.kept.part; gathered = gathered } in
+    subst (λ (block : KeptBlock). CanGoOn acts before block) (let same : record { k = old.k; kept = taken } ≡ new = (λ i. record { k = sym blocks i; kept = sym is i }) in same)
+    (record {
+      following = can.following;
+      log_room = can.log_room;
+      clock = subst (λ (clock : ℕ). clock + deliveries (local_after old.kept.dims old.k acts before) < 2 ^ 63)
+          (sym (clock_stands old.kept.dims old.kept.room step parcel old.kept.part)) can.clock;
+    })
+
+-- the round of a turn, as it is borrowed
+pub exchange_of : (n k : ℕ) (acts : List Act) (before : Option Round) (round : Round) → before ≡ Some round → IsFollowing n k acts before → IsExchange n k round
+exchange_of n k acts before round is following = (following round is).exchange
 
 -- ---- the parts of a turn together
 
@@ -52,7 +68,7 @@ module _ (acts : List Act) (before next : Option Round) where
     where
       is_ahead : (acts : List Act) (next : Option Round) (block : KeptBlock) → IsFollowing block.kept.dims block.k acts next → IsAhead next block
       is_ahead acts None block following = tt
-      is_ahead acts (Some round) block following = following.exchange
+      is_ahead acts (Some round) block following = (following round refl).exchange
 
   pub has_gone : (b0 b1 b2 b3 : KeptBlock) (p0 p1 p3 : Post) → HasGoneOn acts before b0 p0 b1 p1 → IsShown b1 b2 → HasSent next b2 p1 b3 p3
       → HasGone acts before next b0 p0 b3 p3

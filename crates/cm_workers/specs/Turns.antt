@@ -1,15 +1,17 @@
 -- A turn: what a block does from one exchange to the next. It takes in what came in the round before, goes on by itself, and sends what is due in the next. Ours.
 use Rattle.std.specs.Prelude.{◌≡◌, ℕ, zero, suc, ◌+◌, ◌<◌, ◌^◌, List, Option, Some, None, length, get_or, slice_get}
+use Rattle.std.specs.Option.{ForSome}
 use Rattle.cm_model.specs.declared.act.Act.{Act}
 use Rattle.cm_blocks.specs.Counts.{deliveries, events_in}
 use Rattle.cm_blocks.specs.Parts.{Part}
 use Rattle.cm_blocks.specs.Parcels.{due}
 use Rattle.cm_blocks.specs.Steps.{part_after_all, less, absorbed}
-use Rattle.cm_array.specs.Cuts.{HaveLogRoom}
+use Rattle.cm_array.specs.Cuts.{HaveLogRoom, LoseAtMost}
 use Rattle.cm_subcube.specs.declared.round.Round.{Round}
 use Rattle.cm_subcube.specs.Blocks.{KeptBlock}
 use Rattle.cm_subcube.specs.Rounds.{step_of}
-use Rattle.cm_subcube.specs.Local.{local_after, HaveSpaceFor, IsExchange, IsOfKind, IsFollowing, LoseAtMost}
+use Rattle.cm_subcube.specs.Parcels.{HaveSpaceFor, IsExchange, IsOfKind}
+use Rattle.cm_subcube.specs.Local.{local_after, IsRoundOf}
 use Rattle.cm_workers.specs.declared.post.Post.{Post}
 use Rattle.cm_workers.specs.Posts.{lane_in, blank_post, post_of}
 
@@ -45,6 +47,10 @@ pub record HasCome (n k room : ℕ) (round : Round) (s : Part) (post : Post) : T
 abbrev pub HasComeBefore : ℕ → ℕ → ℕ → Option Round → Part → Post → Type 0
 HasComeBefore n k room None s post = post ≡ blank_post n k
 HasComeBefore n k room (Some round) s post = HasCome n k room round s post
+
+-- the round is one of the run, if there is one
+abbrev pub IsFollowing : ℕ → ℕ → List Act → Option Round → Type 0
+IsFollowing n k acts one = ForSome one (λ round. IsRoundOf n k acts round)
 
 -- a block and its post are ready for a turn
 pub record CanGo (acts : List Act) (before next : Option Round) (block : KeptBlock) (post : Post) : Type 0 where
@@ -109,7 +115,7 @@ pub record AreShown (old new : List KeptBlock) : Type 0 where
 -- blocks exchange in a round, if there is one
 abbrev pub IsAhead : Option Round → KeptBlock → Type 0
 IsAhead None block = Unit {0}
-IsAhead (Some round) block = IsExchange block.kept.dims block.k round.act round.kind
+IsAhead (Some round) block = IsExchange block.kept.dims block.k round
 
 -- a block and its post are ready to send
 pub record CanSend (next : Option Round) (block : KeptBlock) (post : Post) : Type 0 where

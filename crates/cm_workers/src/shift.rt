@@ -3,7 +3,6 @@
 ghost use Rattle.std.specs.Prelude.{◌≡◌, ℕ, ◌<◌, ◌≤◌, IfOk, get_or, [], length, slice_get, vec_len, vec_capacity};
 ghost use Rattle.std.specs.Option.{option_copied};
 ghost use Rattle.std.specs.Thread.{IsSync};
-ghost use Rattle.cm_subcube.specs.Local.{Stub};
 ghost use Rattle.cm_workers.specs.Dealing.{hand};
 ghost use Rattle.cm_workers.specs.Each.{AreEach};
 ghost use Rattle.cm_workers.specs.Shifts.{IsPromised, IsKept, CanHandsGo, HandsHaveGone};
@@ -52,7 +51,6 @@ fn start<'s, E>(
     crew: Crew,
     worker: u16,
 ) -> Result<PromisedHandle<Crew, HasHad<'s>>, RunFault>
-    requires stub { Stub }
     requires ready { CanAllGo acts.now (round_before rounds.now number) (slice_get rounds.now number) crew.blocks.items crew.posts.items }
     ensures ok { IfOk result (λ handle. IsPromised acts.entry.now rounds.entry.now number crew.blocks.items crew.posts.items handle.promise) }
 {
@@ -65,7 +63,7 @@ fn start<'s, E>(
             was,
         },
         move || -> Crew
-            requires { Stub × CanAllGo acts.now (round_before rounds.now number) (slice_get rounds.now number) crew.blocks.items crew.posts.items }
+            requires { CanAllGo acts.now (round_before rounds.now number) (slice_get rounds.now number) crew.blocks.items crew.posts.items }
             ensures { AreEach (HasGone acts.entry.now (round_before rounds.entry.now number) (slice_get rounds.entry.now number))
                 crew.blocks.items crew.posts.items result.blocks.items result.posts.items }
         { crew.go(acts, rounds, number, worker, passage) },
@@ -93,7 +91,6 @@ fn start_all<'s, E>(
     passage: &'s Passage,
     mut hands: Hands,
 ) -> Result<Vec<PromisedHandle<Crew, HasHad<'s>>>, RunFault>
-    requires stub { Stub }
     requires ready { CanHandsGo acts.now (round_before rounds.now number) (slice_get rounds.now number) hands.blocks.items hands.posts.items }
     requires few { length hands.blocks.items ≤ 64 }
     ensures count { IfOk result (λ handles. length handles.items ≡ length hands.blocks.items) }
@@ -144,7 +141,6 @@ fn start_and_join<'s, E, R: Threads>(
     passage: &'s Passage,
     hands: Hands,
 ) -> Result<Hands, RunFault>
-    requires stub { Stub }
     requires ready { CanHandsGo acts.now (round_before rounds.now number) (slice_get rounds.now number) hands.blocks.items
         hands.posts.items }
     requires few { length hands.blocks.items ≤ 64 }
@@ -165,7 +161,6 @@ fn turn_hands<R: Threads + Wait>(
     passage: &Passage,
     hands: Hands,
 ) -> Result<Hands, RunFault>
-    requires stub { Stub }
     requires ready { CanHandsGo acts.now (round_before rounds.now number) (slice_get rounds.now number) hands.blocks.items
         hands.posts.items }
     requires few { length hands.blocks.items ≤ 64 }
@@ -176,7 +171,7 @@ fn turn_hands<R: Threads + Wait>(
         thread::scope_env(),
         rt,
         |scope| -> Result<Hands, RunFault>
-            requires { Stub × CanHandsGo acts.now (round_before rounds.now number) (slice_get rounds.now number) hands.blocks.items
+            requires { CanHandsGo acts.now (round_before rounds.now number) (slice_get rounds.now number) hands.blocks.items
                 hands.posts.items × (length hands.blocks.items ≤ 64) }
             ensures { IfOk result (λ now. HandsHaveGone acts.entry.now (round_before rounds.entry.now number) (slice_get rounds.entry.now number)
                 hands.blocks.items hands.posts.items now.blocks.items now.posts.items) }
@@ -196,7 +191,6 @@ pub(crate) fn shift<R: Threads + Wait>(
     workers: u16,
     all: Crew,
 ) -> Result<Crew, RunFault>
-    requires stub { Stub }
     requires some { 0 < workers }
     requires few { workers ≤ 64 }
     requires ready { CanAllGo acts.now (round_before rounds.now number) (slice_get rounds.now number) all.blocks.items all.posts.items }

@@ -3,9 +3,12 @@
 ghost use Rattle.std.specs.Prelude.{◌≡◌, IsTrue, slice_get};
 ghost use Rattle.std.specs.List.{All};
 ghost use Rattle.std.specs.Option.{option_copied};
+ghost use Rattle.cm_blocks.specs.Steps.{absorbed};
+ghost use Rattle.cm_subcube.specs.Rounds.{step_of};
+ghost use Rattle.cm_subcube.specs.Parcels.{IsExchange};
+ghost use Rattle.cm_workers.specs.Posts.{lane_in, blank_post};
 ghost use Rattle.cm_workers.specs.Each.{AreEach};
-ghost use Rattle.cm_workers.specs.Turns.{round_before, CanGo, CanAllGo, CanSend, CanAllSend, HasGoneOn, HasSent, HasGone, AreShown};
-ghost use Rattle.cm_subcube.specs.Local.{Stub};
+ghost use Rattle.cm_workers.specs.Turns.{round_before, CanGo, CanAllGo, CanSend, CanAllSend, HasCome, HasGoneOn, HasSent, HasGone, AreShown};
 
 use crate::gate::Passage;
 use crate::post::Post;
@@ -41,7 +44,6 @@ impl Crew {
         worker: u16,
         passage: &Passage,
     ) -> Crew
-        requires stub { Stub }
         requires ready { CanAllGo acts.now (round_before rounds.now number) (slice_get rounds.now number)
             self.blocks.items self.posts.items }
         ensures value { AreEach (HasGone acts.now (round_before rounds.now number) (slice_get rounds.now number))
@@ -86,7 +88,6 @@ fn have_turn(
     worker: u16,
     passage: &Passage,
 )
-    requires stub { Stub }
     requires ready { CanAllGo turn.now.acts.now (option_copied turn.now.before) (option_copied turn.now.next) blocks.old posts.old }
     ensures value { AreEach (HasGone turn.now.acts.now (option_copied turn.now.before) (option_copied turn.now.next))
         blocks.old posts.old blocks.new posts.new }
@@ -98,7 +99,6 @@ fn have_turn(
 
 /// Each block takes in what came for it, and goes on until the next round.
 fn go_on_all(blocks: &mut [Block], posts: &mut [Post], turn: &Turn<'_>)
-    requires stub { Stub }
     requires ready { CanAllGo turn.now.acts.now (option_copied turn.now.before) (option_copied turn.now.next) blocks.old posts.old }
     ensures value { AreEach (HasGoneOn turn.now.acts.now (option_copied turn.now.before)) blocks.old posts.old blocks.new posts.new }
 {
@@ -108,17 +108,30 @@ fn go_on_all(blocks: &mut [Block], posts: &mut [Post], turn: &Turn<'_>)
 }
 
 fn go_on(block: &mut Block, post: &mut Post, turn: &Turn<'_>)
-    requires stub { Stub }
     requires ready { CanGo turn.now.acts.now (option_copied turn.now.before) (option_copied turn.now.next) block.old post.old }
     ensures value { HasGoneOn turn.now.acts.now (option_copied turn.now.before) block.old post.old block.new post.new }
 {
     if let Some(round) = turn.before {
-        match round.kind {
-            Kind::Dim(_dim) => block.absorb(round, &mut post.mail),
-            Kind::North | Kind::South => block.absorb(round, &mut post.edge),
-        }
+        take_in(block, post, round);
     }
     block.local(turn.acts, turn.before);
+}
+
+/// Takes in what came in a round.
+fn take_in(block: &mut Block, post: &mut Post, round: &Round)
+    requires exchange { IsExchange block.old.kept.dims block.old.k round.now }
+    requires come { HasCome block.old.kept.dims block.old.k block.old.kept.room round.now block.old.kept.part post.old }
+    ensures value { block.new.kept ≡ record block.old.kept {
+      part = absorbed block.old.kept.dims block.old.kept.room (step_of round.now) (lane_in round.now.kind post.old) block.old.kept.part;
+      gathered = block.new.kept.gathered;
+    } }
+    ensures blocks { block.new.k ≡ block.old.k }
+    ensures blank { post.new ≡ blank_post block.old.kept.dims block.old.k }
+{
+    match round.kind {
+        Kind::Dim(_dim) => block.absorb(round, &mut post.mail),
+        Kind::North | Kind::South => block.absorb(round, &mut post.edge),
+    }
 }
 
 /// Shows the blocks to who looks, if a round is ahead.
@@ -145,7 +158,6 @@ fn gather_all(blocks: &mut [Block])
 
 /// Each block puts what is due in a round into its post.
 fn send_all(blocks: &mut [Block], posts: &mut [Post], next: Option<&Round>)
-    requires stub { Stub }
     requires ready { CanAllSend (option_copied next) blocks.old posts.old }
     ensures value { AreEach (HasSent (option_copied next.entry)) blocks.old posts.old blocks.new posts.new }
 {
@@ -155,7 +167,6 @@ fn send_all(blocks: &mut [Block], posts: &mut [Post], next: Option<&Round>)
 }
 
 fn send(block: &mut Block, post: &mut Post, next: Option<&Round>)
-    requires stub { Stub }
     requires ready { CanSend (option_copied next) block.old post.old }
     ensures value { HasSent (option_copied next.entry) block.old post.old block.new post.new }
 {

@@ -4,12 +4,15 @@ use Rattle.cm_workers.specs.Turns.{CanGo, HasGoneOn}
 use Rattle.cm_workers.proofs.PlaceByPlace.{still_so, next_place}
 use Rattle.cm_workers.proofs.turn.go_on_all.Goals as goal
 
-pub go_on-requires-clause-ready : goal.go_on-requires-clause-ready
-go_on-requires-clause-ready c =
+pub go_on-requires : goal.go_on-requires
+go_on-requires c =
     let turn = c.args.turn.now in
-    still_so (HasGoneOn turn.acts.now (option_copied turn.before)) (CanGo turn.acts.now (option_copied turn.before) (option_copied turn.next))
-    c.args.blocks.now c.args.posts.now c.loop-i.blocks
-    c.loop-i.posts c.loop-i.i _ _ c.loop-i-test.true c.loop-i.invariant c.requires.ready.each
+    record {
+      ready =
+        still_so (HasGoneOn turn.acts.now (option_copied turn.before)) (CanGo turn.acts.now (option_copied turn.before) (option_copied turn.next))
+        c.args.blocks.now c.args.posts.now c.loop-i.blocks
+        c.loop-i.posts c.loop-i.i _ _ c.loop-i-test.true c.loop-i.invariant c.requires.ready.each;
+    }
 
 pub loop-i-preserved : goal.loop-i-preserved
 loop-i-preserved c =

@@ -4,10 +4,13 @@ use Rattle.cm_workers.specs.Turns.{CanSend, HasSent}
 use Rattle.cm_workers.proofs.PlaceByPlace.{still_so, next_place}
 use Rattle.cm_workers.proofs.turn.send_all.Goals as goal
 
-pub send-requires-clause-ready : goal.send-requires-clause-ready
-send-requires-clause-ready c =
-    still_so (HasSent (option_copied c.args.next)) (CanSend (option_copied c.args.next)) c.args.blocks.now c.args.posts.now c.loop-i.blocks
-    c.loop-i.posts c.loop-i.i _ _ c.loop-i-test.true c.loop-i.invariant c.requires.ready.each
+pub send-requires : goal.send-requires
+send-requires c =
+    record {
+      ready =
+        still_so (HasSent (option_copied c.args.next)) (CanSend (option_copied c.args.next)) c.args.blocks.now c.args.posts.now c.loop-i.blocks
+        c.loop-i.posts c.loop-i.i _ _ c.loop-i-test.true c.loop-i.invariant c.requires.ready.each;
+    }
 
 pub loop-i-preserved : goal.loop-i-preserved
 loop-i-preserved c =

@@ -6,11 +6,14 @@ use Rattle.cm_workers.proofs.PlaceByPlace.{written_back}
 use Rattle.cm_workers.proofs.Turning.{as_numbered, ready_as_numbered}
 use Rattle.cm_workers.proofs.turn.Crew.go.Goals as goal
 
-pub have_turn-requires-clause-ready : goal.have_turn-requires-clause-ready
-have_turn-requires-clause-ready g c =
-    ready_as_numbered c.args.acts.now (option_copied c.before-2.result) (round_before c.args.rounds.now c.args.number) (option_copied c.next.result)
-    (slice_get c.args.rounds.now c.args.number) c.args.self.blocks.items c.deref_mut.result.now c.args.self.posts.items c.deref_mut-2.result.now
-    c.before-2.ensures.value c.next.ensures.value c.deref_mut.ensures.value c.deref_mut-2.ensures.value c.requires.ready
+pub have_turn-requires : goal.have_turn-requires
+have_turn-requires g c =
+    record {
+      ready =
+        ready_as_numbered c.args.acts.now (option_copied c.before-2.result) (round_before c.args.rounds.now c.args.number) (option_copied c.next.result)
+        (slice_get c.args.rounds.now c.args.number) c.args.self.blocks.items c.deref_mut.result.now c.args.self.posts.items c.deref_mut-2.result.now
+        c.before-2.ensures.value c.next.ensures.value c.deref_mut.ensures.value c.deref_mut-2.ensures.value c.requires.ready;
+    }
 
 pub returns : goal.returns
 returns g c = record {
