@@ -9,9 +9,9 @@ go_on-requires c =
     let turn = c.args.turn.now in
     record {
       ready =
-        still_so (HasGoneOn turn.acts.now (option_copied turn.before)) (CanGo turn.acts.now (option_copied turn.before) (option_copied turn.next))
-        c.args.blocks.now c.args.posts.now c.loop-i.blocks
-        c.loop-i.posts c.loop-i.i _ _ c.loop-i-test.true c.loop-i.invariant c.requires.ready.each;
+          still_so (HasGoneOn turn.acts.now (option_copied turn.before)) (CanGo turn.acts.now (option_copied turn.before) (option_copied turn.next))
+          c.args.blocks.now c.args.posts.now c.loop-i.blocks
+          c.loop-i.posts c.loop-i.i _ _ c.loop-i-test.true c.loop-i.invariant c.requires.ready.each;
     }
 
 pub loop-i-preserved : goal.loop-i-preserved

@@ -8,8 +8,8 @@ pub send-requires : goal.send-requires
 send-requires c =
     record {
       ready =
-        still_so (HasSent (option_copied c.args.next)) (CanSend (option_copied c.args.next)) c.args.blocks.now c.args.posts.now c.loop-i.blocks
-        c.loop-i.posts c.loop-i.i _ _ c.loop-i-test.true c.loop-i.invariant c.requires.ready.each;
+          still_so (HasSent (option_copied c.args.next)) (CanSend (option_copied c.args.next)) c.args.blocks.now c.args.posts.now c.loop-i.blocks
+          c.loop-i.posts c.loop-i.i _ _ c.loop-i-test.true c.loop-i.invariant c.requires.ready.each;
     }
 
 pub loop-i-preserved : goal.loop-i-preserved
