@@ -1,5 +1,5 @@
 -- Why a machine of given sizes cannot be, why what was built is none, and whether acts were refused for want of a thread: ours.
-use Rattle.std.specs.Prelude.{ℕ, Bool, true, false, ◌==◌, ◌||◌, ltb, Option, Some, None, if◌then◌else◌}
+use Rattle.std.specs.Prelude.{◌≢◌, ℕ, ◌+◌, ◌%◌, ◌^◌, Bool, true, false, ◌==◌, ◌||◌, ltb, Option, Some, None, if◌then◌else◌}
 use Rattle.cm_model.specs.Machine.{Machine}
 use Rattle.cm_model.specs.Unlogged.{standing_messages, has_tag_twice}
 use Rattle.cm_array.specs.declared.machine.MachineFault.{MachineFault}
@@ -24,6 +24,14 @@ is_no_thread Long = false
 is_no_thread Clock = false
 is_no_thread Memory = false
 is_no_thread NoThread = true
+
+-- how often one was wanting, once more: counted modulo 2^64
+abbrev pub one_more_lacked : ℕ → ℕ
+one_more_lacked count = (count + 1) % 2 ^ 64
+
+-- which is never the count that it was
+abbrev pub WantsChangeTheirCount : Type 0
+WantsChangeTheirCount = (count : ℕ) → one_more_lacked count ≢ count
 
 -- how often one was wanting so far, of the runner that starts none
 abbrev pub plain_threads_lacked : Plain → ℕ

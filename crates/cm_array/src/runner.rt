@@ -5,7 +5,7 @@ ghost use Rattle.std.specs.Prelude.{MatchResult, OnOk, OnErr, []};
 ghost use Rattle.cm_model.specs.Machine.{run_of};
 ghost use Rattle.cm_model.specs.Account.{account, newly_injected, SameLines};
 ghost use Rattle.cm_array.specs.Acts.{cycles_in, is_cycle, is_late, is_long};
-ghost use Rattle.cm_array.specs.Faults.{is_no_thread, plain_threads_lacked};
+ghost use Rattle.cm_array.specs.Faults.{is_no_thread, one_more_lacked, plain_threads_lacked, WantsChangeTheirCount};
 ghost use Rattle.cm_array.specs.Parts.{LacksLogRoom};
 
 use crate::machine::Machine;
@@ -48,7 +48,7 @@ pub trait Runner<const N: usize, const CAP: usize> {
     /// What a caller of an unknown runner has to know of its type; of `Plain` it is no condition.
     ghost ready: { Type 0 };
 
-    /// How many lists it has refused for want of a thread; the plain one never does.
+    /// How many lists it has refused for want of a thread, counted modulo 2^64; the plain one never does.
     ghost threads_lacked: { Self → ℕ };
 
     /// Runs the acts one after another, or none of them. The account has then the lines of what was
@@ -65,9 +65,14 @@ pub trait Runner<const N: usize, const CAP: usize> {
         ensures threads { MatchResult result
             (λ _. threads_lacked self.new ≡ threads_lacked self.old)
             (λ fault. threads_lacked self.new
-            ≡ cond (is_no_thread fault) (threads_lacked self.old + 1) (threads_lacked self.old)) }
+            ≡ cond (is_no_thread fault) (one_more_lacked (threads_lacked self.old)) (threads_lacked self.old)) }
         ensures err { OnErr result (machine.new.machine ≡ machine.old.machine) };
 }
+
+/// A want of a thread never leaves the count of them as it was.
+pub fn wants_change_their_count()
+    ensures { WantsChangeTheirCount }
+{}
 
 /// The runner of one thread: one act after another, in the machine itself.
 #[derive(Clone, Copy, Debug, PartialEq, Eq)]
@@ -92,7 +97,7 @@ impl<const N: usize, const CAP: usize> Runner<N, CAP> for Plain {
         ensures threads { MatchResult result
             (λ _. plain_threads_lacked self.new ≡ plain_threads_lacked self.old)
             (λ fault. plain_threads_lacked self.new
-            ≡ cond (is_no_thread fault) (plain_threads_lacked self.old + 1) (plain_threads_lacked self.old)) }
+            ≡ cond (is_no_thread fault) (one_more_lacked (plain_threads_lacked self.old)) (plain_threads_lacked self.old)) }
         ensures ok { OnOk result (machine.new.machine ≡ run_of N CAP machine.old.machine acts.now) }
         ensures account { OnOk result (SameLines (account N machine.new.machine)
             (account N machine.old.machine ++ newly_injected N machine.old.machine machine.new.machine)) }

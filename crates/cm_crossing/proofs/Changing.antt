@@ -56,6 +56,11 @@ pub standing_read : (row : List Message) (queues : List (List Ticket)) (i : ℕ)
     → standing row (list_at queues i) ≡ list_at (all_standing row queues) i
 standing_read row queues i inside = sym (get_or-map (standing row) queues i [] [] inside)
 
+-- no message stands only where there is no ticket
+pub nobody_stands : (row : List Message) (ts : List Ticket) → standing row ts ≡ [] → ts ≡ []
+nobody_stands row [] none = refl
+nobody_stands row (t ∷ ts) none = absurd (omega (arith, ap length none))
+
 -- ---- one chip's tickets, written again and again
 
 pub not_written : (i : ℕ) (queues : List (List Ticket)) → IsWritten i queues queues

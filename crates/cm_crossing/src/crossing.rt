@@ -1,6 +1,6 @@
 //! The messages of a run of chips.
 
-ghost use Rattle.std.specs.Prelude.{◌≡◌, ℕ, ◌+◌, ◌^◌, ◌<◌, ◌≤◌, ◌++◌, [], ◌∷◌, IfOk, IsTrue, length, map, None};
+ghost use Rattle.std.specs.Prelude.{◌≡◌, ◌≢◌, ◌↔◌, ℕ, ◌+◌, ◌^◌, ◌<◌, ◌≤◌, ◌++◌, [], ◌∷◌, IfOk, IsTrue, length, map, None};
 ghost use Rattle.std.specs.Prelude.{slice_set, slice_index_or, bit_xor, vec_len, vec_capacity};
 ghost use Rattle.std.specs.List.{All};
 ghost use Rattle.std.specs.Option.{option_to_list};
@@ -131,6 +131,7 @@ impl Crossing {
         ensures none { (c : ℕ) → from ≤ c → c < result → list_at self.now.buffers c ≡ [] }
         ensures from { from ≤ result }
         ensures most { result ≤ length self.now.buffers }
+        ensures occupied { result < length self.now.buffers → list_at self.now.buffers result ≢ [] }
     {
         self.slots.next_occupied(from)
     }
@@ -218,16 +219,16 @@ impl Crossing {
         self.gathered = false;
     }
 
-    /// True only where no message stands here.
+    /// Whether no message stands here.
     pub fn is_empty(&self) -> bool
-        ensures none { IsTrue result → All (λ ms. ms ≡ []) self.now.buffers }
+        ensures none { IsTrue result ↔ All (λ ms. ms ≡ []) self.now.buffers }
     {
         self.slots.is_within(0)
     }
 
-    /// True only where at no chip stand more messages than this.
+    /// Whether at no chip stand more messages than this.
     pub fn is_within(&self, room: u8) -> bool
-        ensures within { IsTrue result → All (λ ms. length ms ≤ room) self.now.buffers }
+        ensures within { IsTrue result ↔ All (λ ms. length ms ≤ room) self.now.buffers }
     {
         self.slots.is_within(usize::from(room))
     }

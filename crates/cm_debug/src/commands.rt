@@ -1,11 +1,12 @@
 //! What a command does and is answered.
 
 ghost use Rattle.std.specs.Prelude.{◌≡◌, ◌≢◌, ◌<◌, ◌^◌, ◌++◌, ◌∷◌, [], length, slice_set, codes, decimal, IfSome};
-ghost use Rattle.std.specs.Prelude.{◌+◌, cond, MatchResult, OnOk, OnErr};
+ghost use Rattle.std.specs.Prelude.{cond, MatchResult, OnOk, OnErr};
 ghost use Rattle.cm_bits.specs.Bit.{bit_number};
 ghost use Rattle.cm_model.specs.Processor.{ZERO, flag, field_value};
 ghost use Rattle.cm_model.specs.Array.{list_at, processor_of, wire};
 ghost use Rattle.cm_model.specs.Found.{found_in};
+ghost use Rattle.cm_array.specs.Faults.{one_more_lacked};
 ghost use Rattle.cm_array.specs.Pokes.{machine_with_memory_bit, machine_with_flag};
 ghost use Rattle.cm_session.specs.Answer.{line, buffer_lines, log_lines, found_line, refused_line};
 ghost use Rattle.cm_session.specs.Bounds.{IsFor};
@@ -47,7 +48,7 @@ pub fn obey<const N: usize, const CAP: usize, R: Runner<N, CAP>>(
     ensures thread { MatchResult result
         (λ _. R.threads_lacked runner.new ≡ R.threads_lacked runner.old)
         (λ want. R.threads_lacked runner.new
-        ≡ cond (is_thread want) (R.threads_lacked runner.old + 1) (R.threads_lacked runner.old)) }
+        ≡ cond (is_thread want) (one_more_lacked (R.threads_lacked runner.old)) (R.threads_lacked runner.old)) }
 {
     match command {
         Command::Step => run_on(machine, acts, runner, desk, Stops::Everywhere, text),

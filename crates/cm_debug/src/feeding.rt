@@ -3,6 +3,7 @@
 ghost use Rattle.std.specs.Prelude.{◌≡◌, ◌<◌, ◌≤◌, ◌+◌, ◌*◌, ◌^◌, ◌++◌, ◌∷◌, [], List, ℕ, Option, false, length};
 ghost use Rattle.std.specs.Prelude.{cond, MatchResult, OnOk, IfErr};
 ghost use Rattle.cm_model.specs.Machine as model;
+ghost use Rattle.cm_array.specs.Faults.{one_more_lacked};
 ghost use Rattle.cm_session.specs.Ends.{ended_lines, is_no_thread, is_write};
 ghost use Rattle.cm_debug.specs.Desk.{session_of, IsDeskOf};
 ghost use Rattle.cm_debug.specs.Telling.{IsTold, Stops};
@@ -47,7 +48,7 @@ pub fn feed<const N: usize, const CAP: usize, R: Runner<N, CAP>, O: Sink>(
     ensures thread { MatchResult result
         (λ _. R.threads_lacked runner.new ≡ R.threads_lacked runner.old)
         (λ fault. R.threads_lacked runner.new
-        ≡ cond (is_no_thread fault) (R.threads_lacked runner.old + 1) (R.threads_lacked runner.old)) }
+        ≡ cond (is_no_thread fault) (one_more_lacked (R.threads_lacked runner.old)) (R.threads_lacked runner.old)) }
 {
     for byte in piece {
         match take_byte(alloc, machine, acts, runner, desk, *byte, line, out, sent) {
@@ -90,7 +91,7 @@ fn take_byte<const N: usize, const CAP: usize, R: Runner<N, CAP>, O: Sink>(
     ensures thread { MatchResult result
         (λ _. R.threads_lacked runner.new ≡ R.threads_lacked runner.old)
         (λ fault. R.threads_lacked runner.new
-        ≡ cond (is_no_thread fault) (R.threads_lacked runner.old + 1) (R.threads_lacked runner.old)) }
+        ≡ cond (is_no_thread fault) (one_more_lacked (R.threads_lacked runner.old)) (R.threads_lacked runner.old)) }
 {
     if byte != b'\n' {
         return match line.push(byte) {

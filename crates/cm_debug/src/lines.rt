@@ -3,6 +3,7 @@
 ghost use Rattle.std.specs.Prelude.{◌≡◌, ◌<◌, ◌≤◌, ◌+◌, ◌^◌, ◌++◌, false, length, IfOk};
 ghost use Rattle.std.specs.Prelude.{cond, IfSome, MatchResult, OnOk, OnErr, IfErr};
 ghost use Rattle.std.specs.Io.KnownBytes.{Appends};
+ghost use Rattle.cm_array.specs.Faults.{one_more_lacked};
 ghost use Rattle.cm_session.specs.Bounds.{IsFor};
 ghost use Rattle.cm_session.specs.Session.{after_line, answered};
 ghost use Rattle.cm_session.specs.Ends.{is_no_thread, is_write, IsOnTheWay};
@@ -49,7 +50,7 @@ pub fn tell_line<const N: usize, const CAP: usize, R: Runner<N, CAP>, O: Sink>(
     ensures thread { MatchResult result
         (λ _. R.threads_lacked runner.new ≡ R.threads_lacked runner.old)
         (λ fault. R.threads_lacked runner.new
-        ≡ cond (is_no_thread fault) (R.threads_lacked runner.old + 1) (R.threads_lacked runner.old)) }
+        ≡ cond (is_no_thread fault) (one_more_lacked (R.threads_lacked runner.old)) (R.threads_lacked runner.old)) }
 {
     let mut text = Vec::new(alloc);
     match answer_line(machine, acts, runner, desk, line, &mut text) {
@@ -89,7 +90,7 @@ fn answer_line<const N: usize, const CAP: usize, R: Runner<N, CAP>>(
     ensures thread { MatchResult result
         (λ _. R.threads_lacked runner.new ≡ R.threads_lacked runner.old)
         (λ want. R.threads_lacked runner.new
-        ≡ cond (is_thread want) (R.threads_lacked runner.old + 1) (R.threads_lacked runner.old)) }
+        ≡ cond (is_thread want) (one_more_lacked (R.threads_lacked runner.old)) (R.threads_lacked runner.old)) }
 {
     machine.clock();
     let asked = read_command(line, N, acts.len());
@@ -118,7 +119,7 @@ fn answer<const N: usize, const CAP: usize, R: Runner<N, CAP>>(
     ensures thread { MatchResult result
         (λ _. R.threads_lacked runner.new ≡ R.threads_lacked runner.old)
         (λ want. R.threads_lacked runner.new
-        ≡ cond (is_thread want) (R.threads_lacked runner.old + 1) (R.threads_lacked runner.old)) }
+        ≡ cond (is_thread want) (one_more_lacked (R.threads_lacked runner.old)) (R.threads_lacked runner.old)) }
 {
     match asked {
         Ok(None) => Ok(()),

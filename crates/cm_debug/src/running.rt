@@ -5,6 +5,7 @@ ghost use Rattle.std.specs.Prelude.{cond, IsFalse, MatchResult, OnOk, OnErr};
 ghost use Rattle.cm_model.specs.Machine.{run_of};
 ghost use Rattle.cm_model.specs.declared.act.Act.TheVariants as act;
 ghost use Rattle.cm_array.specs.Acts.{is_late, is_long};
+ghost use Rattle.cm_array.specs.Faults.{one_more_lacked};
 ghost use Rattle.cm_session.specs.Session.{has_acts, lacks_room, told_by};
 ghost use Rattle.cm_session.specs.Ends.{IsOnTheWay};
 ghost use Rattle.cm_debug.specs.Desk.{come, gone, session_of, stops_at, IsDeskOf};
@@ -41,7 +42,7 @@ pub fn run_on<const N: usize, const CAP: usize, R: Runner<N, CAP>>(
     ensures thread { MatchResult result
         (λ _. R.threads_lacked runner.new ≡ R.threads_lacked runner.old)
         (λ want. R.threads_lacked runner.new
-        ≡ cond (is_thread want) (R.threads_lacked runner.old + 1) (R.threads_lacked runner.old)) }
+        ≡ cond (is_thread want) (one_more_lacked (R.threads_lacked runner.old)) (R.threads_lacked runner.old)) }
 {
     while desk.position < acts.len() {
         let rest = &acts[desk.position..];
@@ -94,7 +95,7 @@ fn run_stretch<const N: usize, const CAP: usize, R: Runner<N, CAP>>(
     ensures thread { MatchResult result
         (λ _. R.threads_lacked runner.new ≡ R.threads_lacked runner.old)
         (λ want. R.threads_lacked runner.new
-        ≡ cond (is_thread want) (R.threads_lacked runner.old + 1) (R.threads_lacked runner.old)) }
+        ≡ cond (is_thread want) (one_more_lacked (R.threads_lacked runner.old)) (R.threads_lacked runner.old)) }
 {
     let rest = &acts[desk.position..];
     let first = &rest[0];
@@ -135,7 +136,7 @@ fn hand_over<const N: usize, const CAP: usize, R: Runner<N, CAP>>(
     ensures thread { MatchResult result
         (λ _. R.threads_lacked runner.new ≡ R.threads_lacked runner.old)
         (λ want. R.threads_lacked runner.new
-        ≡ cond (is_thread want) (R.threads_lacked runner.old + 1) (R.threads_lacked runner.old)) }
+        ≡ cond (is_thread want) (one_more_lacked (R.threads_lacked runner.old)) (R.threads_lacked runner.old)) }
 {
     match runner.go(machine, acts) {
         Ok(()) => Ok(()),

@@ -1,6 +1,7 @@
 //! A session, from the bytes of a source to those of a sink.
 
-ghost use Rattle.std.specs.Prelude.{◌≡◌, ◌↔◌, ◌+◌, cond, true, false, IfSome, IsErrOf, MatchResult};
+ghost use Rattle.std.specs.Prelude.{◌≡◌, ◌↔◌, cond, true, false, IfSome, IsErrOf, MatchResult};
+ghost use Rattle.cm_array.specs.Faults.{one_more_lacked};
 ghost use Rattle.cm_session.specs.Ends.{Ends, is_no_thread, is_write};
 
 use crate::desk::Desk;
@@ -41,7 +42,7 @@ pub fn session<const N: usize, const CAP: usize, R: Runner<N, CAP>, I: Source, O
     ensures thread { MatchResult result
         (λ _. R.threads_lacked runner.new ≡ R.threads_lacked runner.old)
         (λ fault. R.threads_lacked runner.new
-        ≡ cond (is_no_thread fault) (R.threads_lacked runner.old + 1) (R.threads_lacked runner.old)) }
+        ≡ cond (is_no_thread fault) (one_more_lacked (R.threads_lacked runner.old)) (R.threads_lacked runner.old)) }
 {
     answer_all(alloc, machine, program.acts(), commands, out, runner)
 }
@@ -65,7 +66,7 @@ fn answer_all<const N: usize, const CAP: usize, R: Runner<N, CAP>, I: Source, O:
     ensures thread { MatchResult result
         (λ _. R.threads_lacked runner.new ≡ R.threads_lacked runner.old)
         (λ fault. R.threads_lacked runner.new
-        ≡ cond (is_no_thread fault) (R.threads_lacked runner.old + 1) (R.threads_lacked runner.old)) }
+        ≡ cond (is_no_thread fault) (one_more_lacked (R.threads_lacked runner.old)) (R.threads_lacked runner.old)) }
 {
     let Ok(mut desk) = Desk::new(alloc, acts.len()) else {
         return Err(SessionFault::Memory);

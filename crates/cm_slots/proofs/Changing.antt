@@ -210,3 +210,9 @@ pub ends_blank : (room : ℕ) (tile : Tile) → IsTile tile → room < 15
     → ((i : ℕ) → i < 64 → slots_of tile i room ≡ 0) → (i : ℕ) → i < 64 → length (standing_at tile i) ≤ room
 ends_blank room tile whole inside blank i h =
     ends_at 15 room (slots_of tile i) (standing_at tile i) (whole.queues i h) inside (blank i h)
+
+-- behind those that stand there a slot is 0
+pub blank_past : (room : ℕ) (tile : Tile) → IsTile tile → (i j : ℕ) → i < 64 → length (standing_at tile i) ≤ room
+    → room ≤ j → j < 15 → slots_of tile i j ≡ 0
+blank_past room tile whole i j h few past inside =
+    (whole.queues i h).each j inside ∙ get_or_past (standing_at tile i) j 0 (omega (arith, few, past))

@@ -1,7 +1,7 @@
 -- All tiles, of which one chip changes.
-use Rattle.std.proofs.Common.{◌≡◌, ◌≢◌, ℕ, ◌/◌, ◌%◌, ◌<◌, ◌≤◌, ◌+◌, ◌++◌, true, List, [], ◌∷◌, length}
+use Rattle.std.proofs.Common.{◌≡◌, ◌≢◌, ℕ, ◌/◌, ◌%◌, ◌<◌, ◌≤◌, ◌+◌, ◌*◌, ◌++◌, true, List, [], ◌∷◌, length}
 use Rattle.std.proofs.Common.{set, slice_set}
-use Rattle.std.proofs.Common.{map, remove, Option, Some, None, sym, ◌∙◌, ap, subst, ⊎_elim, arith}
+use Rattle.std.proofs.Common.{map, remove, Option, Some, None, refl, sym, ◌∙◌, ap, subst, ⊎_elim, arith}
 use Rattle.std.specs.List.{All}
 use Rattle.std.specs.Global.{Vec}
 use Rattle.std.specs.Vec.{with_items}
@@ -10,7 +10,7 @@ use Rattle.std.proofs.lemmas.List.{length-map, length-set, get_or-map, get_or-se
 use Rattle.std.proofs.lemmas.List.{map-set, get_or_past}
 use Rattle.std.proofs.lemmas.List.Elements.{All-set}
 use Rattle.std.specs.List.{slice_get}
-use Rattle.std.proofs.lemmas.Option.{slice_get-get_or, slice_get_past}
+use Rattle.std.proofs.lemmas.Option.{none-some, slice_get-get_or, slice_get_past}
 use Rattle.cm_model.specs.Array.{list_at}
 use Rattle.cm_model.proofs.Each.{is_each, length-each_from, get_or-each_below}
 use Rattle.cm_model.proofs.Leaving.{map-without}
@@ -167,6 +167,36 @@ few_tickets chip tiles inside whole =
     let are = (whole (chip / 64) no_tile inside).queues (chip % 64) (omega arith) in
     omega (arith, are.fits, length-map (standing_at (tile_at tiles (chip / 64)) (chip % 64)) ticket_of)
 
+-- where no more than so many do, no more do at any place of a tile
+pub few_in_tile : (room : ℕ) (tiles : List Tile) (t : ℕ) → t < length tiles
+    → ((c : ℕ) → c / 64 < length tiles → length (tickets_of tiles c) ≤ room)
+    → (i : ℕ) → i < 64 → length (standing_at (tile_at tiles t) i) ≤ room
+few_in_tile room tiles t inside few i h =
+    let c : ℕ = t * 64 + i in
+    let tile_is : c / 64 ≡ t = omega (arith, h) in
+    let place_is : c % 64 ≡ i = omega (arith, h) in
+    let there : length (tickets_of tiles c) ≡ length (standing_at (tile_at tiles t) i) =
+    length-map (standing_at (tile_at tiles (c / 64)) (c % 64)) ticket_of
+    ∙ ap (λ (s : ℕ). length (standing_at (tile_at tiles s) (c % 64))) tile_is
+    ∙ ap (λ (p : ℕ). length (standing_at (tile_at tiles t) p)) place_is in
+    omega (arith, there, few c (omega (arith, tile_is, inside)))
+
+-- no more than so many stand anywhere, also behind the last chip
+pub within_tiles : (chips room : ℕ) (tiles : List Tile) (leaving : List (Option (List ℕ))) (q : List (List Ticket))
+    → AreTiles chips tiles leaving → queues_in chips tiles ≡ q → All (λ ts. length ts ≤ room) q
+    → (c : ℕ) → c / 64 < length tiles → length (tickets_of tiles c) ≤ room
+within_tiles chips room tiles leaving q are view few c h = ⊎_elim
+    (λ (l : c < chips).
+    let long : length q ≡ chips = sym (ap length view) ∙ length-each_from 0 chips (tickets_of tiles) in
+    omega (
+      arith,
+      ap length (get_or-each_below chips (tickets_of tiles) c [] l),
+      ap (λ (r : List (List Ticket)). length (list_at r c)) view,
+      few c [] (omega (arith, long)),
+    ))
+    (λ (l : chips ≤ c). omega (arith, ap length (are.past c l h)))
+    (cases_lt c chips)
+
 pub within_view : (chips room : ℕ) (tiles : List Tile) (q : List (List Ticket)) → queues_in chips tiles ≡ q
     → ((c : ℕ) → c < chips → length (tickets_of tiles c) ≤ room) → All (λ ts. length ts ≤ room) q
 within_view chips room tiles q view few =
@@ -182,7 +212,16 @@ nobody_there chip tiles inside whole blank =
     ap (map ticket_of) (nobody 15 (slots_of (tile_at tiles (chip / 64)) (chip % 64))
     (standing_at (tile_at tiles (chip / 64)) (chip % 64)) are (λ some. blank))
 
--- nor at any of a tile at which nobody stands
+-- where it is not, somebody does
+pub somebody_there : (chip : ℕ) (tiles : List Tile) → chip / 64 < length tiles → All IsTile tiles
+    → slots_of (tile_at tiles (chip / 64)) (chip % 64) 0 ≢ 0 → tickets_of tiles chip ≢ []
+somebody_there chip tiles inside whole some =
+    let first : ℕ = slots_of (tile_at tiles (chip / 64)) (chip % 64) 0 in
+    let read : Some (ticket_of first) ≡ slice_get (tickets_of tiles chip) 0 =
+    some_ticket chip 0 tiles inside whole first refl (omega arith) some in
+    λ none. none-some (ticket_of first) (sym (read ∙ ap (λ (ts : List Ticket). slice_get ts 0) none))
+
+-- nobody does at any chip of a tile at which nobody stands
 pub nobody_in_tile : (chip : ℕ) (tiles : List Tile) → chip / 64 < length tiles → All IsTile tiles
     → IsQuiet (tile_at tiles (chip / 64)) → tickets_of tiles chip ≡ []
 nobody_in_tile chip tiles inside whole quiet =

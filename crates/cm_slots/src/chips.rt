@@ -1,6 +1,6 @@
 //! One chip of a row of tiles: what stands there, and who comes or goes there.
 
-ghost use Rattle.std.specs.Prelude.{◌≡◌, ℕ, ◌/◌, ◌<◌, ◌≤◌, ◌++◌, [], ◌∷◌, IfSome, IsTrue, length, remove};
+ghost use Rattle.std.specs.Prelude.{◌≡◌, ◌↔◌, ◌≢◌, ℕ, ◌/◌, ◌<◌, ◌≤◌, ◌++◌, [], ◌∷◌, IfSome, IsTrue, length, remove};
 ghost use Rattle.std.specs.Prelude.{slice_set};
 ghost use Rattle.std.specs.List.{All, slice_get};
 ghost use Rattle.cm_slots.specs.Tiles.{IsTile, IsChanged, tickets_of};
@@ -74,6 +74,7 @@ pub(crate) fn next_occupied(tiles: &[Tile], from: usize) -> usize
     requires whole { All IsTile tiles.now }
     ensures none { (c : ℕ) → from ≤ c → c < result → c / 64 < length tiles.now → tickets_of tiles.now c ≡ [] }
     ensures from { from ≤ result }
+    ensures occupied { result / 64 < length tiles.now → tickets_of tiles.now result ≢ [] }
 {
     let mut chip = from;
     while chip / WIDTH < tiles.len() {
@@ -89,11 +90,11 @@ pub(crate) fn next_occupied(tiles: &[Tile], from: usize) -> usize
     chip
 }
 
-/// True only where no chip has more tickets than this.
+/// Whether no chip has more tickets than this.
 pub(crate) fn are_within(tiles: &[Tile], room: usize) -> bool
     requires whole { All IsTile tiles.now }
     ensures within { IsTrue result
-        → (c : ℕ) → c / 64 < length tiles.now → length (tickets_of tiles.now c) ≤ room }
+        ↔ ((c : ℕ) → c / 64 < length tiles.now → length (tickets_of tiles.now c) ≤ room) }
 {
     for tile in tiles {
         if !tile.is_within(room) {

@@ -1,7 +1,7 @@
 //! Rows of slots: the same slot of 64 chips that stand side by side. A step does the same at each of them,
 //! whatever stands there, so that it takes several at once.
 
-ghost use Rattle.std.specs.Prelude.{◌≡◌, ℕ, ◌+◌, ◌<◌, ◌≤◌, ◌==◌, IsTrue, [], length, slice_index, slice_index_or};
+ghost use Rattle.std.specs.Prelude.{◌≡◌, ◌↔◌, ℕ, ◌+◌, ◌<◌, ◌≤◌, ◌==◌, IsTrue, [], length, slice_index, slice_index_or};
 ghost use Rattle.std.specs.Prelude.{if◌then◌else◌};
 ghost use Rattle.std.specs.List.{All};
 ghost use Rattle.cm_slots.specs.Slots.{crosses, slot_in, slot_behind, leaver_in, IsWithout, IsFilled, IsBehind};
@@ -99,7 +99,7 @@ fn pass_back(carried: &mut Row, row: &mut Row)
 /// Whether all lanes of a row are 0.
 pub(crate) fn is_blank(row: &Row) -> bool
     requires long { length row.now ≡ 64 }
-    ensures none { IsTrue result → IsBlank row.now }
+    ensures none { IsTrue result ↔ IsBlank row.now }
 {
     let mut all = 0;
     for i in 0..WIDTH {

@@ -1,6 +1,6 @@
 //! The queues of a run of chips.
 
-ghost use Rattle.std.specs.Prelude.{◌≡◌, ℕ, ◌^◌, ◌<◌, ◌≤◌, ◌++◌, [], ◌∷◌, IfOk, IfSome, IsTrue, bit_xor, length};
+ghost use Rattle.std.specs.Prelude.{◌≡◌, ◌↔◌, ◌≢◌, ℕ, ◌^◌, ◌<◌, ◌≤◌, ◌++◌, [], ◌∷◌, IfOk, IfSome, IsTrue, bit_xor, length};
 ghost use Rattle.std.specs.Prelude.{map, remove, slice_set};
 ghost use Rattle.std.specs.List.{All, slice_get};
 ghost use Rattle.cm_model.specs.Each.{each_from};
@@ -134,6 +134,7 @@ impl Slots {
         ensures none { (c : ℕ) → from ≤ c → c < result → list_at self.now c ≡ [] }
         ensures from { from ≤ result }
         ensures most { result ≤ length self.now }
+        ensures occupied { result < length self.now → list_at self.now result ≢ [] }
     {
         self.chips.min(chips::next_occupied(&self.tiles, from))
     }
@@ -145,9 +146,9 @@ impl Slots {
         empty_all(&mut self.tiles);
     }
 
-    /// True only where no chip has more tickets than this; with 0, where none stands anywhere.
+    /// Whether no chip has more tickets than this; with 0, whether none stands anywhere.
     pub fn is_within(&self, room: usize) -> bool
-        ensures within { IsTrue result → All (λ ts. length ts ≤ room) self.now }
+        ensures within { IsTrue result ↔ All (λ ts. length ts ≤ room) self.now }
     {
         chips::are_within(&self.tiles, room)
     }

@@ -1,6 +1,6 @@
 //! Tiles of chips.
 
-ghost use Rattle.std.specs.Prelude.{◌≡◌, ◌≢◌, ℕ, ◌<◌, ◌≤◌, ◌++◌, [], ◌∷◌, IsFalse, IsTrue, true, length, remove};
+ghost use Rattle.std.specs.Prelude.{◌≡◌, ◌↔◌, ◌≢◌, ℕ, ◌<◌, ◌≤◌, ◌++◌, [], ◌∷◌, IsFalse, IsTrue, true, length, remove};
 ghost use Rattle.std.specs.Prelude.{slice_index};
 ghost use Rattle.std.specs.Prelude.{slice_set};
 ghost use Rattle.cm_slots.specs.Slots.{is_taken};
@@ -82,10 +82,10 @@ impl Tile {
         }
     }
 
-    /// True only where no ticket stands: the slots are filled from the first on.
+    /// Whether no ticket stands there: the slots are filled from the first on.
     fn is_quiet(&self) -> bool
         requires whole { IsTile self.now }
-        ensures none { IsTrue result → IsQuiet self.now }
+        ensures none { IsTrue result ↔ IsQuiet self.now }
     {
         !self.awake || is_blank(&self.first)
     }
@@ -98,10 +98,10 @@ impl Tile {
         self.awake
     }
 
-    /// True only where no chip has more tickets than this.
+    /// Whether no chip has more tickets than this.
     pub fn is_within(&self, room: usize) -> bool
         requires whole { IsTile self.now }
-        ensures within { IsTrue result → (i : ℕ) → i < 64 → length (standing_at self.now i) ≤ room }
+        ensures within { IsTrue result ↔ ((i : ℕ) → i < 64 → length (standing_at self.now i) ≤ room) }
     {
         if room == 0 {
             self.is_quiet()

@@ -1,4 +1,4 @@
-use Rattle.std.proofs.Common.{◌+◌, ◌≡◌, [], length, sym, ap, ◌∙◌, arith}
+use Rattle.std.proofs.Common.{◌≡◌, [], length, sym, ap, ◌∙◌, arith}
 use Rattle.std.proofs.lemmas.List.{length-map}
 use Rattle.cm_model.specs.Array.{chip_at}
 use Rattle.cm_petit.proofs.Injecting.{sixteen_after_injection, injected_whole}
@@ -40,7 +40,7 @@ returns-then-is_empty-clause-value c =
       log_count = length-map c.inject.new.logs (λ (l : Log). l.items) ∙ are.log_count;
       sixteen = λ k l. ap (λ (m : Machine). length (chip_at m.chips k)) begun
           ∙ sixteen_after_injection c.args.sizes.dims c.args.sizes.room before k l;
-      empty = λ k l. c.is_empty.ensures.none c.if-is_empty.true k [] (omega (arith, are.buffer_count));
+      empty = λ k l. c.is_empty.ensures.none.0 c.if-is_empty.true k [] (omega (arith, are.buffer_count));
     } in
     sym (rest_is_quiet c.args.sizes.dims c.args.sizes.room after quiet)
     ∙ ap (λ (m : Machine). machine_after_delivery c.args.sizes.dims (after_crossings c.args.sizes.dims c.args.sizes.room m c.args.sizes.dims))

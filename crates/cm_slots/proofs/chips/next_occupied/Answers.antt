@@ -1,7 +1,7 @@
 use Rattle.std.proofs.Common.{◌≡◌, ◌/◌, ◌<◌, ◌≤◌, ◌∙◌, ℕ, subst, sym, ⊎_elim, arith}
 use Rattle.std.proofs.lemmas.Bool.{cases_lt}
 use Rattle.cm_slots.specs.Tiles.{tile_at, IsQuiet}
-use Rattle.cm_slots.proofs.Single.{nobody_there, nobody_in_tile}
+use Rattle.cm_slots.proofs.Single.{nobody_there, somebody_there, nobody_in_tile}
 use Rattle.cm_slots.proofs.chips.next_occupied.Goals as goal
 
 pub loop-chip-preserved-then-not-is_awake : goal.loop-chip-preserved-then-not-is_awake
@@ -32,3 +32,9 @@ loop-chip-preserved c =
           (sym c.slot.ensures.value ∙ c.if-slot-eq0.true)))
           (cases_lt k here);
     }
+
+pub returns-else-slot-eq0-clause-occupied : goal.returns-else-slot-eq0-clause-occupied
+returns-else-slot-eq0-clause-occupied c =
+    let here = c.loop-chip.chip in
+    λ inside. somebody_there here c.args.tiles.now inside c.requires.whole
+    (λ blank. c.if-slot-eq0.false (c.slot.ensures.value ∙ blank))

@@ -1,4 +1,5 @@
-use Rattle.std.proofs.Common.{◌≡◌, ◌<◌, length, sym, ◌∙◌, arith}
+use Rattle.std.proofs.Common.{◌≡◌, ◌<◌, length, sym, ap, ◌∙◌, arith}
+use Rattle.cm_slots.specs.Tiles.{tickets_of}
 use Rattle.cm_slots.proofs.Departures.{as_many, ticket_list}
 use Rattle.cm_slots.proofs.slots.Slots.next_occupied.Goals as goal
 
@@ -16,4 +17,12 @@ returns c =
           (omega (arith, low, c.self.invariant.count));
       from = omega (arith, c.min.ensures, c.next_occupied.ensures.from, many, c.requires.from);
       most = omega (arith, c.min.ensures, many);
+      occupied = λ below.
+          let low : c.min.result < inside.chips = omega (arith, many) in
+          let same : c.min.result ≡ c.next_occupied.result = omega (arith, c.min.ensures, low) in
+          λ none. (rw c.deref.ensures.value at c.next_occupied.ensures.occupied)
+          (omega (arith, low, same, c.self.invariant.count))
+          (ap (tickets_of inside.tiles.items) (sym same)
+          ∙ ticket_list inside.chips 0 inside.tiles.items inside.leaving.items c.args.self.now c.self.invariant
+          c.self.view_is c.min.result low ∙ none);
     }

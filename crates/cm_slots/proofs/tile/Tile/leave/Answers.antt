@@ -6,7 +6,7 @@ use Rattle.cm_slots.proofs.tile.Tile.leave.Goals as goal
 pub returns-then-is_quiet : goal.returns-then-is_quiet
 returns-then-is_quiet c =
     let old = c.args.self.now in
-    let quiet = c.is_quiet.ensures.none c.if-is_quiet.true in
+    let quiet = c.is_quiet.ensures.none.0 c.if-is_quiet.true in
     record {
       value = none_left c.args.room c.args.dim old (record { first = old.first; rest = old.rest; awake = false })
           c.requires.some c.requires.most c.requires.whole c.requires.within quiet

@@ -18,7 +18,7 @@ returns-then-not-is_blank c = record {
 pub returns-else-not-is_blank-2 : goal.returns-else-not-is_blank-2
 returns-else-not-is_blank-2 c = record {
   value = none_taken_in c.args.room c.args.coming.now c.args.self.now
-      (c.is_blank.ensures.none c.if-not-is_blank.false)
-      (c.is_blank-else-not-is_blank.ensures.none c.if-not-is_blank-2.false) c.requires.some c.requires.most
+      (c.is_blank.ensures.none.0 c.if-not-is_blank.false)
+      (c.is_blank-else-not-is_blank.ensures.none.0 c.if-not-is_blank-2.false) c.requires.some c.requires.most
       (record { long = c.requires.long; tall = c.requires.shape.tall; wide = c.requires.shape.wide });
 }
