@@ -19,5 +19,5 @@ pub use machine::{Machine, MachineFault};
 pub use part::Part;
 pub use poke_laws::{flag_pokes_keep_machines, pokes_keep_machines};
 pub use put::IntoPart;
-pub use runner::{Plain, RunFault, Runner, wants_change_their_count};
+pub use runner::{Plain, RunFault, Runner, check_stretch, wants_change_their_count};
 pub use stepping::step;

@@ -1,6 +1,6 @@
 //! What makes a machine go through a list of acts, and the plain one, of one thread.
 
-ghost use Rattle.std.specs.Prelude.{◌≡◌, ◌↔◌, ◌+◌, ◌*◌, ◌++◌, ℕ, cond, IsErrOf, IsFalse, IsOk, IsTrue};
+ghost use Rattle.std.specs.Prelude.{◌≡◌, ◌↔◌, ◌<◌, ◌^◌, ◌+◌, ◌*◌, ◌++◌, ℕ, cond, IfOk, IsErrOf, IsFalse, IsOk, IsTrue};
 ghost use Rattle.std.specs.Prelude.{MatchResult, OnOk, OnErr, []};
 ghost use Rattle.cm_model.specs.Machine.{run_of};
 ghost use Rattle.cm_model.specs.Account.{account, newly_injected, SameLines};
@@ -103,16 +103,30 @@ impl<const N: usize, const CAP: usize> Runner<N, CAP> for Plain {
             (account N machine.old.machine ++ newly_injected N machine.old.machine machine.new.machine)) }
         ensures err { OnErr result (machine.new.machine ≡ machine.old.machine) }
     {
-        let cycles = cycles_in(acts);
-        if acts.len() > LONGEST || cycles > MOST_CYCLES {
-            return Err(RunFault::Long);
-        }
-        if cycles as u64 > LAST_CLOCK - machine.clock() {
-            return Err(RunFault::Clock);
-        }
+        let cycles = check_stretch(acts, machine.clock())?;
         machine.run(acts, cycles)?;
         Ok(())
     }
+}
+
+/// What every runner refuses before anything else: more than 4,096 acts or 64 petit cycles, or so many of these that
+/// the counter would pass 2^63 - 1. It tells how many petit cycles there are.
+pub fn check_stretch(acts: &[Act], clock: u64) -> Result<usize, RunFault>
+    requires clock { clock < 2 ^ 63 }
+    ensures long { (result ≡ Err RunFault.Long) ↔ IsTrue (is_long acts.now) }
+    ensures clock { (result ≡ Err RunFault.Clock) ↔ (IsFalse (is_long acts.now) × IsTrue (is_late clock acts.now)) }
+    ensures memory { ¬ IsErrOf result RunFault.Memory }
+    ensures no_thread { ¬ IsErrOf result RunFault.NoThread }
+    ensures cycles { IfOk result (λ cycles. cycles ≡ cycles_in acts.now) }
+{
+    let cycles = cycles_in(acts);
+    if acts.len() > LONGEST || cycles > MOST_CYCLES {
+        return Err(RunFault::Long);
+    }
+    if cycles as u64 > LAST_CLOCK - clock {
+        return Err(RunFault::Clock);
+    }
+    Ok(cycles)
 }
 
 /// How many petit cycles are among the acts.
