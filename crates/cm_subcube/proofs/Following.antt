@@ -12,11 +12,11 @@ use Rattle.cm_model.specs.declared.act.Act.{Act}
 use Rattle.cm_model.specs.declared.act.Act.TheVariants as act
 use Rattle.cm_model.specs.declared.act.Nano.{Nano}
 use Rattle.cm_model.specs.Processor.{NEWS}
-use Rattle.cm_model.specs.Steps.{Step, Instruct, Cross, Deliver, Phase, all_steps, phases, phases_from, steps_in}
+use Rattle.cm_model.specs.Steps.{Step, IsStep, Instruct, Cross, Deliver, Phase, all_steps, phases, phases_from, steps_in}
 use Rattle.cm_model.proofs.Parts.{steps_in-phases_from}
 use Rattle.cm_blocks.specs.Rounds.{is_round, is_vertical, rounds, beyond, until_round}
 use Rattle.cm_subcube.specs.Parcels.{IsExchangeBy}
-use Rattle.cm_subcube.specs.Rounds.{kind_over, kind_of, round_of}
+use Rattle.cm_subcube.specs.Rounds.{kind_over, kind_of, round_of, step_in, step_of}
 use Rattle.cm_subcube.specs.Local.{steps_behind, IsRoundOf}
 use Rattle.cm_subcube.specs.Laws.{IsFollowed}
 use Rattle.cm_subcube.proofs.Counting.{steps_between-ahead}
@@ -87,6 +87,12 @@ exchange_over n k nano dir.South is h = record { blocks = grind (arith, nat_test
 exchange_over n k nano dir.East is h = absurd (grind (arith, nat_tests))
 exchange_over n k nano dir.West is h = absurd (grind (arith, nat_tests))
 
+step_over : (nano : Nano) (over : Dir) → step_in (act.Nano nano) (kind_over over) ≡ Instruct nano
+step_over nano dir.North = refl
+step_over nano dir.South = refl
+step_over nano dir.East = refl
+step_over nano dir.West = refl
+
 nothing_behind : (n : ℕ) (over : Dir) → steps_behind n (kind_over over) ≡ []
 nothing_behind n dir.North = refl
 nothing_behind n dir.South = refl
@@ -103,6 +109,9 @@ module _ (n k : ℕ) (all : List Act) where
   record Follows (phase : Phase) (rest : List Phase) : Type 0 where
     pub steps : steps_in rest ≡ steps_behind n (kind_of phase.step) ++ all_steps n (drop (phase.at + 1) all)
     pub round : IsRoundOf n k all (round_of phase)
+    pub step : step_of (round_of phase) ≡ phase.step
+    pub is_step : IsStep n phase.step
+    pub exchanges : is_round n k phase.step ≡ true
 
   abbrev AllFollow : List Phase → Type 0
   AllFollow run = AllTails (λ phase rest. is_round n k phase.step ≡ true → Follows phase rest) run
@@ -125,6 +134,9 @@ module _ (n k : ℕ) (all : List Act) where
             act = here.read;
             exchange = record { from = grind (arith, nat_tests); below = omega (arith, whole) };
           };
+          step = refl;
+          is_step = omega (arith, whole);
+          exchanges = e;
         },
         follow-crossings at more here rest (d + 1) count (omega (arith, whole)),
       )
@@ -142,6 +154,9 @@ module _ (n k : ℕ) (all : List Act) where
             act = here.read;
             exchange = exchange_over n k nano nano.dir refl e;
           };
+          step = step_over nano nano.dir;
+          is_step = tt;
+          exchanges = e;
         },
         follow-acts (at + 1) more here.rest,
       )
@@ -164,4 +179,7 @@ round_is_followed n k r acts phase at =
     record {
       between = steps_between-ahead n k r acts ∙ ap (until_round n k) told.steps;
       round = told.round;
+      step = told.step;
+      is_step = told.is_step;
+      exchanges = told.exchanges;
     }

@@ -1,16 +1,16 @@
 -- Laws of blocks, each the contract of a function of its name. Ours.
-use Rattle.std.specs.Prelude.{◌≡◌, ℕ, ◌+◌, ◌*◌, ◌≤◌, ◌^◌, List, Some, None, slice_get}
+use Rattle.std.specs.Prelude.{◌≡◌, ℕ, ◌+◌, ◌*◌, ◌≤◌, ◌^◌, true, List, Some, None, slice_get}
 use Rattle.cm_model.specs.declared.act.Act.{Act}
 use Rattle.cm_model.specs.Each.{each_from}
-use Rattle.cm_model.specs.Steps.{Step, Phase}
+use Rattle.cm_model.specs.Steps.{Step, IsStep, Phase}
 use Rattle.cm_model.specs.Machine.{Machine}
 use Rattle.cm_model.specs.Keeping.{IsMachine}
-use Rattle.cm_blocks.specs.Rounds.{rounds, steps_until, steps_between, ahead}
+use Rattle.cm_blocks.specs.Rounds.{is_round, rounds, steps_until, steps_between, ahead}
 use Rattle.cm_blocks.specs.Counts.{deliveries, events_in}
 use Rattle.cm_blocks.specs.Parts.{Part, block}
 use Rattle.cm_array.specs.Acts.{cycles_in}
 use Rattle.cm_array.specs.Cuts.{joined, AreWhole}
-use Rattle.cm_subcube.specs.Rounds.{round_of}
+use Rattle.cm_subcube.specs.Rounds.{round_of, step_of}
 use Rattle.cm_subcube.specs.Local.{local_after, IsRoundOf}
 
 -- the 2 ^ k blocks of a machine, in their order
@@ -25,8 +25,11 @@ pub record AreBlocksOf (n cap k : ℕ) (machine : Machine) : Type 0 where
 abbrev pub BlocksAreJoined : Type 0
 BlocksAreJoined = (n cap k : ℕ) (machine : Machine) → k ≤ n → IsMachine n cap machine → AreBlocksOf n cap k machine
 
--- a round, as callers get it, tells the steps between it and the next
+-- a round, as callers get it, tells its step, and the steps between it and the next
 pub record IsFollowed (n k r : ℕ) (acts : List Act) (phase : Phase) : Type 0 where
+  pub step : step_of (round_of phase) ≡ phase.step
+  pub is_step : IsStep n phase.step
+  pub exchanges : is_round n k phase.step ≡ true
   pub between : steps_between n k acts r ≡ local_after n k acts (Some (round_of phase))
   pub round : IsRoundOf n k acts (round_of phase)
 

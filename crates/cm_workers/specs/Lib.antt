@@ -3,3 +3,4 @@ pub mod Posts
 pub mod Each
 pub mod Turns
 pub mod Shifts
+pub mod Runs
