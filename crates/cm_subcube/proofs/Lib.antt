@@ -2,8 +2,8 @@ mod Rounding
 mod Blocking
 mod Joining
 mod Exchanging
-mod Counting
-mod Following
+pub mod Counting
+pub mod Following
 mod Stopping
 mod Going
 mod Acting

@@ -4,3 +4,4 @@ mod PlaceByPlace
 mod Turning
 mod Shifting
 mod Sharing
+mod Staging
