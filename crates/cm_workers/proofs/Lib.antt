@@ -5,3 +5,4 @@ mod Turning
 mod Shifting
 mod Sharing
 mod Staging
+mod Standing

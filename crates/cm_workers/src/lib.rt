@@ -5,6 +5,7 @@ mod dealing;
 mod exchange;
 mod gate;
 mod post;
+mod running;
 mod shift;
 mod turn;
 
