@@ -196,10 +196,10 @@ module _ (n k room : ℕ) (machine : Machine) (acts : List Act) (b : ℕ) (next 
     ahead = subst (λ (d : ℕ). IsFollowing d kept.k acts next) (sym dims) (subst (λ (j : ℕ). IsFollowing n j acts next) (sym blocks) ahead_is);
     come = subst (λ (d : ℕ). HasComeBefore d kept.k kept.kept.room before kept.kept.part post) (sym dims)
         (subst (λ (j : ℕ). HasComeBefore n j kept.kept.room before kept.kept.part post) (sym blocks)
-          (subst (λ (r : ℕ). HasComeBefore n k r before kept.kept.part post) (sym rooms) come));
+        (subst (λ (r : ℕ). HasComeBefore n k r before kept.kept.part post) (sym rooms) come));
     log_room = subst (λ (d : ℕ). HaveLogRoom (events_in kept.kept.room (local_after d kept.k acts before)) kept.kept.log_rooms) (sym dims)
         (subst (λ (j : ℕ). HaveLogRoom (events_in kept.kept.room (local_after n j acts before)) kept.kept.log_rooms) (sym blocks)
-          (subst (λ (r : ℕ). HaveLogRoom (events_in r (local_after n k acts before)) kept.kept.log_rooms) (sym rooms) log_room));
+        (subst (λ (r : ℕ). HaveLogRoom (events_in r (local_after n k acts before)) kept.kept.log_rooms) (sym rooms) log_room));
     clock = subst (λ (d : ℕ). kept.kept.part.clock + deliveries (local_after d kept.k acts before) < 2 ^ 63) (sym dims)
         (subst (λ (j : ℕ). kept.kept.part.clock + deliveries (local_after n j acts before) < 2 ^ 63) (sym blocks) clock);
   }
@@ -208,7 +208,7 @@ module _ (n k room : ℕ) (machine : Machine) (acts : List Act) (b : ℕ) (next 
   ready_first at =
       as_own None (following_none n k acts) at.come
       (less_room (events_in room (local_after n k acts None)) (cycles_in acts * (4 + room)) kept.kept.log_rooms
-        (let f = (events_shared room).first n k acts in omega (arith, f)) at.log_room)
+      (let f = (events_shared room).first n k acts in omega (arith, f)) at.log_room)
       (let f = deliveries_shared.first n k acts in let c = at.clock in omega (arith, f, c))
 
   pub ready_later : (r : ℕ) (phase : Phase) → slice_get (rounds n k acts) r ≡ Some phase → StandsAt n k room machine acts (suc r) b kept post
@@ -229,10 +229,10 @@ module _ (n k room : ℕ) (machine : Machine) (acts : List Act) (b : ℕ) (next 
         other = came ∙ ap (λ (p : Parcel). post_of n k (kind_of phase.step) p) (sym lane);
       })
       (subst (λ (xs : List Step). HaveLogRoom (events_in room xs) kept.kept.log_rooms) told.between
-        (less_room (events_in room (steps_between n k acts r)) (events_in room (ahead n k acts r)) kept.kept.log_rooms
-        (let f = (events_shared room).next n k r acts in omega (arith, f)) at.log_room))
+      (less_room (events_in room (steps_between n k acts r)) (events_in room (ahead n k acts r)) kept.kept.log_rooms
+      (let f = (events_shared room).next n k r acts in omega (arith, f)) at.log_room))
       (subst (λ (xs : List Step). kept.kept.part.clock + deliveries xs < 2 ^ 63) told.between
-        (let f = deliveries_shared.next n k r acts in let c = at.clock in omega (arith, f, c)))
+      (let f = deliveries_shared.next n k r acts in let c = at.clock in omega (arith, f, c)))
 
 -- ---- after it
 
@@ -298,7 +298,7 @@ module _ (n k room t b : ℕ) (machine : Machine) (acts : List Act) (before : Op
       let lost : LoseAtMost (events_in room (local_after n k acts before)) kept.kept.log_rooms new.kept.log_rooms =
       subst (λ (d : ℕ). LoseAtMost (events_in room (local_after d k acts before)) kept.kept.log_rooms new.kept.log_rooms) dims
       (subst (λ (j : ℕ). LoseAtMost (events_in room (local_after kept.kept.dims j acts before)) kept.kept.log_rooms new.kept.log_rooms) blocks
-        (subst (λ (r : ℕ). LoseAtMost (events_in r (local_after kept.kept.dims kept.k acts before)) kept.kept.log_rooms new.kept.log_rooms) rooms gone.log_room)) in
+      (subst (λ (r : ℕ). LoseAtMost (events_in r (local_after kept.kept.dims kept.k acts before)) kept.kept.log_rooms new.kept.log_rooms) rooms gone.log_room)) in
       record {
         blocks = gone.same.blocks ∙ blocks;
         dims = gone.same.dims ∙ dims;

@@ -65,7 +65,7 @@ module _ (n k room : ℕ) (machine : Machine) (acts : List Act) (within : k ≤ 
             let one = at.each b x y (omega (arith, l, at.block_count)) in
             subst (λ (before : Option Round). CanGo acts before (slice_get rs (suc r)) (get_or blocks b x) (get_or posts b y)) (sym (round_is r (Some it.one) it.is))
             (ready_later n k room machine acts b (slice_get rs (suc r)) (get_or blocks b x) (get_or posts b y) one.dims one.blocks one.room_is
-              (following_next n k (suc r) acts) r it.one it.is one);
+            (following_next n k (suc r) acts) r it.one it.is one);
       }
 
   sent_each : (t : ℕ) (one : Option Phase) (blocks bs : List KeptBlock) (posts ps : List Post) → t ≤ length rs → slice_get (rounds n k acts) t ≡ one
@@ -77,7 +77,7 @@ module _ (n k room : ℕ) (machine : Machine) (acts : List Act) (within : k ≤ 
       (first_turn n k room machine acts within b l (get_or blocks b x).kept.part (get_or posts b y) stood.part)
       (cycles_in acts * (4 + room)) (cycles_in acts * 1) ((events_shared room).first n k acts) (deliveries_shared.first n k acts) stood.log_room stood.clock
       (subst (λ (next : Option Round). HasGone acts None next (get_or blocks b x) (get_or posts b y) (get_or bs b x) (get_or ps b y)) (round_is 0 one is)
-        (gone.each b x y (omega (arith, l, at.block_count))))
+      (gone.each b x y (omega (arith, l, at.block_count))))
   sent_each (suc r) one blocks bs posts ps below is at gone b x y l =
       let stood = at.each b x y l in
       let it = there (rounds n k acts) r (omega (arith, below, as_many)) in
@@ -86,16 +86,16 @@ module _ (n k room : ℕ) (machine : Machine) (acts : List Act) (within : k ≤ 
       has_sent n k room (suc r) b machine acts (Some (round_of it.one)) one (get_or blocks b x) (get_or bs b x) (get_or posts b y) (get_or ps b y)
       stood.dims stood.blocks stood.room_is is
       (later_turn n k room machine acts within b l r it.one (get_or blocks b x).kept.part (get_or posts b y) it.is stood.part stood.come
-        ∙ ap (λ (j : ℕ). block n k b (before_round n room k machine acts j)) more)
+      ∙ ap (λ (j : ℕ). block n k b (before_round n room k machine acts j)) more)
       (events_in room (ahead n k acts r)) (deliveries (ahead n k acts r))
       (ap (λ steps. events_in room steps + events_in room (ahead n k acts (suc r))) (sym told.between)
-        ∙ ap (λ (j : ℕ). events_in room (steps_between n k acts r) + events_in room (ahead n k acts j)) (sym more) ∙ (events_shared room).next n k r acts)
+      ∙ ap (λ (j : ℕ). events_in room (steps_between n k acts r) + events_in room (ahead n k acts j)) (sym more) ∙ (events_shared room).next n k r acts)
       (ap (λ steps. deliveries steps + deliveries (ahead n k acts (suc r))) (sym told.between)
-        ∙ ap (λ (j : ℕ). deliveries (steps_between n k acts r) + deliveries (ahead n k acts j)) (sym more) ∙ deliveries_shared.next n k r acts)
+      ∙ ap (λ (j : ℕ). deliveries (steps_between n k acts r) + deliveries (ahead n k acts j)) (sym more) ∙ deliveries_shared.next n k r acts)
       stood.log_room stood.clock
       (subst (λ (next : Option Round). HasGone acts (Some (round_of it.one)) next (get_or blocks b x) (get_or posts b y) (get_or bs b x) (get_or ps b y)) (round_is (suc r) one is)
-        (subst (λ (before : Option Round). HasGone acts before (slice_get rs (suc r)) (get_or blocks b x) (get_or posts b y) (get_or bs b x) (get_or ps b y)) (round_is r (Some it.one) it.is)
-          (gone.each b x y (omega (arith, l, at.block_count)))))
+      (subst (λ (before : Option Round). HasGone acts before (slice_get rs (suc r)) (get_or blocks b x) (get_or posts b y) (get_or bs b x) (get_or ps b y)) (round_is r (Some it.one) it.is)
+      (gone.each b x y (omega (arith, l, at.block_count)))))
 
   -- the giver is one of the blocks
   giver_below : (round : Kind) (b : ℕ) → k ≤ n → CanBeOver n k round → b < 2 ^ k → giver n k round b < 2 ^ k
@@ -130,7 +130,7 @@ module _ (n k room : ℕ) (machine : Machine) (acts : List Act) (within : k ≤ 
         each = λ b x y l.
             stands_next n k room t b machine acts it.one (get_or bs b x) (get_or bs b x) (get_or came b y) (get_or ps b y) it.is (sent b x y l)
             (over.each b y l ∙ ap (λ (g : Kind). get_or ps (giver n k g b) y) round_kind
-              ∙ (sent (giver n k (kind_of it.one.step) b) x y (from b l)).sends);
+            ∙ (sent (giver n k (kind_of it.one.step) b) x y (from b l)).sends);
       }
 
   -- after the last turn
@@ -158,8 +158,8 @@ turn_over n k room t machine acts rounds_now d blocks bs posts ps came within is
     subst (λ (rs_it : List Round). slice_get rs_it t ≡ Some (get_or rounds_now t d)) is (read_there rounds_now t d below) in
     subst (λ (j : ℕ). StandAt n k room machine acts j bs came) (let more : suc t ≡ t + 1 = omega arith in more)
     (stand_next n k room machine acts within t (get_or rounds_now t d) blocks bs posts ps came
-      (subst (λ (rs_it : List Round). t < length rs_it) is below) read at
-      (subst (λ (rs_it : List Round). AreEach (HasGone acts (round_before rs_it t) (slice_get rs_it t)) blocks posts bs ps) is gone) over)
+    (subst (λ (rs_it : List Round). t < length rs_it) is below) read at
+    (subst (λ (rs_it : List Round). AreEach (HasGone acts (round_before rs_it t) (slice_get rs_it t)) blocks posts bs ps) is gone) over)
 
 pub round_over : (n k room t : ℕ) (machine : Machine) (acts : List Act) (rounds_now : List Round) (d : Round) → k ≤ n - n / 2
     → rounds_now ≡ rounds_of n k acts → t < length rounds_now → CanBeOver n k (get_or rounds_now t d).kind

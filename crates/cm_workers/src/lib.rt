@@ -10,3 +10,6 @@ mod shift;
 mod turn;
 
 pub use gate::{Gate, Passage};
+pub use post::Post;
+pub use running::{Sizes, run_blocks};
+pub use turn::Crew;

@@ -9,7 +9,7 @@ use std::alloc::Global;
 
 /// A parcel of each sort: what a block sends in a round goes in one of them, and what comes for it.
 #[derive(Debug, Drop)]
-pub(crate) struct Post {
+pub struct Post {
     /// For the rounds over a dimension.
     pub(crate) mail: Parcel,
     /// For the rounds over NEWS.
@@ -18,7 +18,7 @@ pub(crate) struct Post {
 
 impl Post {
     /// One with nothing in it, for the blocks of a cube of so many dimensions that is cut into 2^`k`.
-    pub(crate) fn blank(alloc: Global, dims: u8, k: u8) -> Result<Post, NoMemory>
+    pub fn blank(alloc: Global, dims: u8, k: u8) -> Result<Post, NoMemory>
         requires dimension { dims ≤ 12 }
         requires within { k ≤ dims - dims / 2 }
         ensures value { IfOk result (λ post. post ≡ blank_post dims k) }

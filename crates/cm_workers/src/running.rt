@@ -16,17 +16,21 @@ use std::alloc::Global;
 use std::sync::Wait;
 use std::thread::Threads;
 
-/// A run of a machine of `dims` dimensions that is cut into 2^`k` blocks.
+/// The sizes of a machine that is cut into blocks, and of those who run it.
 #[derive(Clone, Copy)]
-pub(crate) struct Sizes {
-    pub(crate) dims: u8,
-    pub(crate) k: u8,
-    /// How many threads there are.
-    pub(crate) workers: u16,
+pub struct Sizes {
+    /// Dimensions of the cube.
+    pub dims: u8,
+    /// Into 2^`k` blocks the machine is cut.
+    pub k: u8,
+    /// How many threads there are, from 1 to 64.
+    pub workers: u16,
 }
 
-/// All blocks go through a run.
-pub(crate) fn run_blocks<R: Threads + Wait>(
+/// All blocks of a machine go through a run in threads: each worker has blocks w, w + `workers`, and so on. From one
+/// round to the next every worker goes on in a thread of its own, and all are joined before the blocks exchange.
+/// Fails as `Memory`, or as `NoThread` where one was not started; the blocks are gone then.
+pub fn run_blocks<R: Threads + Wait>(
     rt: &R,
     alloc: Global,
     sizes: Sizes,
@@ -49,7 +53,16 @@ pub(crate) fn run_blocks<R: Threads + Wait>(
     for number in 0..rounds.len() {
         all = to_round(rt, alloc, sizes, acts, rounds, number as u32, passage, all)?;
     }
-    shift(rt, alloc, acts, rounds, rounds.len() as u32, passage, sizes.workers, all)
+    shift(
+        rt,
+        alloc,
+        acts,
+        rounds,
+        rounds.len() as u32,
+        passage,
+        sizes.workers,
+        all,
+    )
 }
 
 /// All blocks go on to a round, and exchange there.
@@ -74,6 +87,11 @@ fn to_round<R: Threads + Wait>(
         → IfOk result (λ now. StandAt sizes.dims sizes.k room machine acts.now (number + 1) now.blocks.items now.posts.items) }
 {
     let mut now = shift(rt, alloc, acts, rounds, number, passage, sizes.workers, all)?;
-    hand_over(&mut now.posts, sizes.dims, sizes.k, rounds[number as usize].kind);
+    hand_over(
+        &mut now.posts,
+        sizes.dims,
+        sizes.k,
+        rounds[number as usize].kind,
+    );
     Ok(now)
 }

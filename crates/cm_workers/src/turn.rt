@@ -27,11 +27,11 @@ pub(crate) struct Turn<'a> {
     pub(crate) next: Option<&'a Round>,
 }
 
-/// The blocks of a worker, and the post of each.
+/// Blocks, and the post of each: those of a worker, or all of a machine.
 #[derive(Drop)]
-pub(crate) struct Crew {
-    pub(crate) blocks: Vec<Block>,
-    pub(crate) posts: Vec<Post>,
+pub struct Crew {
+    pub blocks: Vec<Block>,
+    pub posts: Vec<Post>,
 }
 
 impl Crew {

@@ -24,5 +24,5 @@ returns g c = record {
       c.args.all.blocks.items c.in_ok-now.now.blocks.items c.args.all.posts.items c.in_ok-now.now.posts.items _
       c.requires.within c.requires.rounds c.requires.number stands c.in_ok-now.ensures.value
       (subst (λ (ps : List Post). AreHandedOver c.args.sizes.dims c.args.sizes.k (get_or c.args.rounds.now c.args.number c.index-rounds-number.result).kind c.in_ok-now.now.posts.items ps) (sym back)
-        (subst (λ (ps : List Post). AreHandedOver c.args.sizes.dims c.args.sizes.k (get_or c.args.rounds.now c.args.number c.index-rounds-number.result).kind ps c.hand_over.new.things) c.deref_mut.ensures.value c.hand_over.ensures.value));
+      (subst (λ (ps : List Post). AreHandedOver c.args.sizes.dims c.args.sizes.k (get_or c.args.rounds.now c.args.number c.index-rounds-number.result).kind ps c.hand_over.new.things) c.deref_mut.ensures.value c.hand_over.ensures.value));
 }
