@@ -1,0 +1,49 @@
+-- Posts: what a block has for the rounds, a parcel of each sort. Ours.
+use Rattle.std.specs.Prelude.{◌≡◌, ℕ, ◌+◌, ◌-◌, ◌%◌, ◌^◌, ◌<◌, ◌≤◌, bit_xor, List, length, get_or}
+use Rattle.cm_blocks.specs.Parcels.{Parcel}
+use Rattle.cm_subcube.specs.declared.round.Kind.{Kind}
+use Rattle.cm_subcube.specs.declared.round.Kind.TheVariants as kind
+use Rattle.cm_subcube.specs.Parcels.{blank_parcel, IsOuter}
+use Rattle.cm_workers.specs.declared.post.Post.{Post}
+
+-- the parcel of a post that goes in a round of a kind
+abbrev pub lane_in : Kind → Post → Parcel
+lane_in kind.North post = post.edge
+lane_in kind.South post = post.edge
+lane_in (kind.Dim d) post = post.mail
+
+-- nothing in it
+abbrev pub blank_post : ℕ → ℕ → Post
+blank_post n k = record { mail = blank_parcel n k (kind.Dim 0); edge = blank_parcel n k kind.North }
+
+-- a parcel that goes in a round of a kind, and nothing else
+abbrev pub post_of : ℕ → ℕ → Kind → Parcel → Post
+post_of n k kind.North parcel = record { mail = blank_parcel n k (kind.Dim 0); edge = parcel }
+post_of n k kind.South parcel = record { mail = blank_parcel n k (kind.Dim 0); edge = parcel }
+post_of n k (kind.Dim d) parcel = record { mail = parcel; edge = blank_parcel n k kind.North }
+
+-- from which of 2 ^ k blocks block b gets what it takes in, in a round of a kind
+abbrev pub giver : ℕ → ℕ → Kind → ℕ → ℕ
+giver n k kind.North b = (b + 1) % 2 ^ k
+giver n k kind.South b = (b + 2 ^ k - 1) % 2 ^ k
+giver n k (kind.Dim d) b = bit_xor b (2 ^ (d - (n - k)))
+
+-- each block has what its giver had
+pub record AreHandedOver {X : Type 0} (n k : ℕ) (round : Kind) (old new : List X) : Type 0 where
+  pub len : length new ≡ length old
+  pub each : (b : ℕ) (d : X) → b < 2 ^ k → get_or new b d ≡ get_or old (giver n k round b) d
+
+-- a kind of round at which 2 ^ k blocks of a cube of n dimensions may exchange
+abbrev pub CanBeOver : ℕ → ℕ → Kind → Type 0
+CanBeOver n k kind.North = Unit {0}
+CanBeOver n k kind.South = Unit {0}
+CanBeOver n k (kind.Dim d) = IsOuter n k d
+
+-- a power of two below another that is not large
+pub record IsBitBelow (one many : ℕ) : Type 0 where
+  pub place : ℕ
+  pub power : ℕ
+  pub below : place < power
+  pub few : power ≤ 12
+  pub bit : one ≡ 2 ^ place
+  pub count : many ≡ 2 ^ power

@@ -1,0 +1,26 @@
+//! Gates: who looks at workers while they run.
+
+ghost use Rattle.std.specs.Prelude.{IsTrue};
+ghost use Rattle.std.specs.List.{All};
+
+use cm_subcube::Block;
+
+/// Looks at the workers of a run, from within their threads.
+pub trait Gate: Sync + Send + Drop {
+    /// Whether a worker may begin. It is asked once for each list of acts that is not empty, the worker with the lowest
+    /// number first.
+    fn admit(&self, worker: u16) -> bool;
+
+    /// Called in a worker's thread before it sends in the round of that number, with its blocks as they are then, that
+    /// of the lowest number first.
+    fn pass(&self, worker: u16, round: u32, blocks: &[Block])
+        requires gathered { All (λ b. IsTrue b.kept.gathered) blocks.now };
+}
+
+/// Whether somebody looks.
+#[derive(Drop)]
+pub enum Passage {
+    /// Nobody: all workers are let through.
+    Open,
+    Gated(Box<dyn Gate>),
+}

@@ -1,0 +1,15 @@
+//! Workers: threads that go through the blocks of a machine, and meet at the rounds of a run.
+#![tactic(auto)]
+
+mod dealing;
+mod exchange;
+mod gate;
+mod post;
+mod running;
+mod shift;
+mod turn;
+
+pub use gate::{Gate, Passage};
+pub use post::Post;
+pub use running::{Sizes, run_blocks};
+pub use turn::Crew;

@@ -1,0 +1,97 @@
+//! How blocks go through a run.
+
+ghost use Rattle.std.specs.Prelude.{◌≡◌, ℕ, ◌+◌, ◌-◌, ◌/◌, ◌<◌, ◌≤◌, ◌^◌, IfOk, length};
+ghost use Rattle.cm_model.specs.Machine.{Machine};
+ghost use Rattle.cm_subcube.specs.Rounds.{rounds_of};
+ghost use Rattle.cm_workers.specs.Runs.{StandAt, AreAfter, HaveBegun};
+
+use crate::exchange::hand_over;
+use crate::gate::Passage;
+use crate::shift::shift;
+use crate::turn::Crew;
+use cm_array::RunFault;
+use cm_model::Act;
+use cm_subcube::Round;
+use std::alloc::Global;
+use std::sync::Wait;
+use std::thread::Threads;
+
+/// The sizes of a machine that is cut into blocks, and of those who run it.
+#[derive(Clone, Copy)]
+pub struct Sizes {
+    /// Dimensions of the cube.
+    pub dims: u8,
+    /// Into 2^`k` blocks the machine is cut.
+    pub k: u8,
+    /// How many threads there are, from 1 to 64.
+    pub workers: u16,
+}
+
+/// All blocks of a machine go through a run in threads: each worker has blocks w, w + `workers`, and so on. From one
+/// round to the next every worker goes on in a thread of its own, and all are joined before the blocks exchange.
+/// Fails as `Memory`, or as `NoThread` where one was not started; the blocks are gone then.
+pub fn run_blocks<R: Threads + Wait>(
+    rt: &R,
+    alloc: Global,
+    sizes: Sizes,
+    acts: &[Act],
+    rounds: &[Round],
+    passage: &Passage,
+    all: Crew,
+) -> Result<Crew, RunFault>
+    requires dimension { sizes.dims ≤ 12 }
+    requires within { sizes.k ≤ sizes.dims - sizes.dims / 2 }
+    requires some { 0 < sizes.workers }
+    requires few { sizes.workers ≤ 64 }
+    requires rounds { rounds.now ≡ rounds_of sizes.dims sizes.k acts.now }
+    requires short { length rounds.now < 2 ^ 32 }
+    requires begun { HaveBegun sizes.dims sizes.k acts.now 0 all.blocks.items all.posts.items }
+    ensures value { (room : ℕ) (machine : Machine) → StandAt sizes.dims sizes.k room machine acts.now 0 all.blocks.items all.posts.items
+        → IfOk result (λ now. AreAfter sizes.dims sizes.k room machine acts.now now.blocks.items) }
+{
+    let mut all = all;
+    for number in 0..rounds.len() {
+        all = to_round(rt, alloc, sizes, acts, rounds, number as u32, passage, all)?;
+    }
+    shift(
+        rt,
+        alloc,
+        acts,
+        rounds,
+        rounds.len() as u32,
+        passage,
+        sizes.workers,
+        all,
+    )
+}
+
+/// All blocks go on to a round, and exchange there.
+fn to_round<R: Threads + Wait>(
+    rt: &R,
+    alloc: Global,
+    sizes: Sizes,
+    acts: &[Act],
+    rounds: &[Round],
+    number: u32,
+    passage: &Passage,
+    all: Crew,
+) -> Result<Crew, RunFault>
+    requires dimension { sizes.dims ≤ 12 }
+    requires within { sizes.k ≤ sizes.dims - sizes.dims / 2 }
+    requires some { 0 < sizes.workers }
+    requires few { sizes.workers ≤ 64 }
+    requires rounds { rounds.now ≡ rounds_of sizes.dims sizes.k acts.now }
+    requires number { number < length rounds.now }
+    requires begun { HaveBegun sizes.dims sizes.k acts.now number all.blocks.items all.posts.items }
+    ensures value { (room : ℕ) (machine : Machine) → StandAt sizes.dims sizes.k room machine acts.now number all.blocks.items all.posts.items
+        → IfOk result (λ now. StandAt sizes.dims sizes.k room machine acts.now (number + 1) now.blocks.items now.posts.items) }
+{
+    let mut now = shift(rt, alloc, acts, rounds, number, passage, sizes.workers, all)?;
+    hand_over(
+        &mut now.posts,
+        sizes.dims,
+        sizes.k,
+        rounds[number as usize].kind,
+    );
+    Ok(now)
+}

@@ -1,0 +1,225 @@
+//! A turn of all workers at once, each in a thread of its own.
+
+ghost use Rattle.std.specs.Prelude.{◌≡◌, ℕ, ◌<◌, ◌≤◌, IfOk, get_or, [], length, slice_get, vec_len, vec_capacity};
+ghost use Rattle.std.specs.Option.{option_copied};
+ghost use Rattle.std.specs.Thread.{IsSync};
+ghost use Rattle.cm_workers.specs.Dealing.{hand};
+ghost use Rattle.cm_workers.specs.Each.{AreEach};
+ghost use Rattle.cm_workers.specs.Shifts.{IsPromised, IsKept, CanHandsGo, HandsHaveGone};
+ghost use Rattle.cm_workers.specs.Turns.{round_before, CanAllGo, HasGone};
+
+use crate::dealing::{collect, deal};
+use crate::gate::Passage;
+use crate::post::Post;
+use crate::turn::Crew;
+use cm_array::RunFault;
+use cm_bits::NoMemory;
+use cm_model::Act;
+use cm_subcube::{Block, Round};
+use std::alloc::Global;
+use std::snapshot::Snapshot;
+use std::sync::Wait;
+use std::thread;
+use std::thread::{Promise, PromisedHandle, Scope, Threads};
+
+/// What a worker's thread promises: that its crew has had its turn.
+#[derive(Drop)]
+pub(crate) struct HasHad<'a> {
+    acts: &'a [Act],
+    rounds: &'a [Round],
+    number: u32,
+    was: Snapshot<Crew>,
+}
+
+impl<'a> Promise<Crew> for HasHad<'a> {
+    ghost use Rattle.std.specs.Prelude.{slice_get};
+    ghost use Rattle.cm_workers.specs.Each.{AreEach};
+    ghost use Rattle.cm_workers.specs.Shifts.{IsPromised, IsKept, CanHandsGo, HandsHaveGone};
+    ghost use Rattle.cm_workers.specs.Turns.{round_before, HasGone};
+
+    ghost kept_by = { λ p r. AreEach (HasGone p.acts.now (round_before p.rounds.now p.number) (slice_get p.rounds.now p.number))
+        p.was.value.blocks.items p.was.value.posts.items r.blocks.items r.posts.items };
+}
+
+/// Starts a worker.
+fn start<'s, E>(
+    scope: &Scope<'s, E>,
+    acts: &'s [Act],
+    rounds: &'s [Round],
+    number: u32,
+    passage: &'s Passage,
+    crew: Crew,
+    worker: u16,
+) -> Result<PromisedHandle<Crew, HasHad<'s>>, RunFault>
+    requires ready { CanAllGo acts.now (round_before rounds.now number) (slice_get rounds.now number) crew.blocks.items crew.posts.items }
+    ensures ok { IfOk result (λ handle. IsPromised acts.entry.now rounds.entry.now number crew.blocks.items crew.posts.items handle.promise) }
+{
+    let was = Snapshot::of(&crew);
+    let started = scope.spawn_with(
+        HasHad {
+            acts,
+            rounds,
+            number,
+            was,
+        },
+        move || -> Crew
+            requires { CanAllGo acts.now (round_before rounds.now number) (slice_get rounds.now number) crew.blocks.items crew.posts.items }
+            ensures { AreEach (HasGone acts.entry.now (round_before rounds.entry.now number) (slice_get rounds.entry.now number))
+                crew.blocks.items crew.posts.items result.blocks.items result.posts.items }
+        { crew.go(acts, rounds, number, worker, passage) },
+    );
+    match started {
+        Ok(handle) => Ok(handle),
+        Err(_refused) => Err(RunFault::NoThread),
+    }
+}
+
+/// The blocks of each worker, and their posts, by the worker's number.
+#[derive(Drop)]
+pub(crate) struct Hands {
+    pub(crate) blocks: Vec<Vec<Block>>,
+    pub(crate) posts: Vec<Vec<Post>>,
+}
+
+/// Starts all workers, the one with the lowest number first; none is started after a refusal.
+fn start_all<'s, E>(
+    scope: &Scope<'s, E>,
+    alloc: Global,
+    acts: &'s [Act],
+    rounds: &'s [Round],
+    number: u32,
+    passage: &'s Passage,
+    mut hands: Hands,
+) -> Result<Vec<PromisedHandle<Crew, HasHad<'s>>>, RunFault>
+    requires ready { CanHandsGo acts.now (round_before rounds.now number) (slice_get rounds.now number) hands.blocks.items hands.posts.items }
+    requires few { length hands.blocks.items ≤ 64 }
+    ensures count { IfOk result (λ handles. length handles.items ≡ length hands.blocks.items) }
+    ensures promised { IfOk result (λ handles. (w : ℕ) (d : _) (e f : _) → w < length hands.blocks.items
+        → IsPromised acts.entry.now rounds.entry.now number (hand hands.blocks.items e w) (hand hands.posts.items f w) (get_or handles.items w d).promise) }
+{
+    let count = hands.blocks.len();
+    let mut handles = room_for(alloc, count)?;
+    for w in 0..count {
+        let crew = Crew {
+            blocks: hands.blocks.remove(0),
+            posts: hands.posts.remove(0),
+        };
+        handles.push_reserved(start(scope, acts, rounds, number, passage, crew, w as u16)?);
+    }
+    Ok(handles)
+}
+
+/// Waits for all workers, and gives back what they had.
+fn join_all<'s, R: Threads>(
+    rt: &R,
+    alloc: Global,
+    handles: Vec<PromisedHandle<Crew, HasHad<'s>>>,
+) -> Result<Hands, RunFault>
+    ensures count_blocks { IfOk result (λ hands. length hands.blocks.items ≡ length handles.entry.items) }
+    ensures count_posts { IfOk result (λ hands. length hands.posts.items ≡ length handles.entry.items) }
+    ensures kept { IfOk result (λ hands. (w : ℕ) (d : _) (e f : _) → w < length handles.entry.items
+        → IsKept (get_or handles.entry.items w d).promise (hand hands.blocks.items e w) (hand hands.posts.items f w)) }
+{
+    let mut blocks = room_for(alloc, handles.len())?;
+    let mut posts = room_for(alloc, handles.len())?;
+    for handle in handles {
+        let crew = handle.join(rt);
+        blocks.push_reserved(crew.blocks);
+        posts.push_reserved(crew.posts);
+    }
+    Ok(Hands { blocks, posts })
+}
+
+/// Starts all workers, and waits for them.
+fn start_and_join<'s, E, R: Threads>(
+    scope: &Scope<'s, E>,
+    rt: &R,
+    alloc: Global,
+    acts: &'s [Act],
+    rounds: &'s [Round],
+    number: u32,
+    passage: &'s Passage,
+    hands: Hands,
+) -> Result<Hands, RunFault>
+    requires ready { CanHandsGo acts.now (round_before rounds.now number) (slice_get rounds.now number) hands.blocks.items
+        hands.posts.items }
+    requires few { length hands.blocks.items ≤ 64 }
+    ensures value { IfOk result (λ now. HandsHaveGone acts.entry.now (round_before rounds.entry.now number) (slice_get rounds.entry.now number)
+        hands.blocks.items hands.posts.items now.blocks.items now.posts.items) }
+{
+    let handles = start_all(scope, alloc, acts, rounds, number, passage, hands)?;
+    join_all(rt, alloc, handles)
+}
+
+/// All workers have a turn, each in a thread of its own.
+fn turn_hands<R: Threads + Wait>(
+    rt: &R,
+    alloc: Global,
+    acts: &[Act],
+    rounds: &[Round],
+    number: u32,
+    passage: &Passage,
+    hands: Hands,
+) -> Result<Hands, RunFault>
+    requires ready { CanHandsGo acts.now (round_before rounds.now number) (slice_get rounds.now number) hands.blocks.items
+        hands.posts.items }
+    requires few { length hands.blocks.items ≤ 64 }
+    ensures value { IfOk result (λ now. HandsHaveGone acts.now (round_before rounds.now number) (slice_get rounds.now number)
+        hands.blocks.items hands.posts.items now.blocks.items now.posts.items) }
+{
+    thread::scope(
+        thread::scope_env(),
+        rt,
+        |scope| -> Result<Hands, RunFault>
+            requires { CanHandsGo acts.now (round_before rounds.now number) (slice_get rounds.now number) hands.blocks.items
+                hands.posts.items × (length hands.blocks.items ≤ 64) }
+            ensures { IfOk result (λ now. HandsHaveGone acts.entry.now (round_before rounds.entry.now number) (slice_get rounds.entry.now number)
+                hands.blocks.items hands.posts.items now.blocks.items now.posts.items) }
+        { start_and_join(scope, rt, alloc, acts, rounds, number, passage, hands) },
+    )
+}
+
+/// All blocks have a turn, shared out among so many workers, each in a thread of its own: worker w has blocks w,
+/// w + `workers`, and so on.
+pub(crate) fn shift<R: Threads + Wait>(
+    rt: &R,
+    alloc: Global,
+    acts: &[Act],
+    rounds: &[Round],
+    number: u32,
+    passage: &Passage,
+    workers: u16,
+    all: Crew,
+) -> Result<Crew, RunFault>
+    requires some { 0 < workers }
+    requires few { workers ≤ 64 }
+    requires ready { CanAllGo acts.now (round_before rounds.now number) (slice_get rounds.now number) all.blocks.items all.posts.items }
+    ensures value { IfOk result (λ now. AreEach (HasGone acts.now (round_before rounds.now number) (slice_get rounds.now number))
+        all.blocks.items all.posts.items now.blocks.items now.posts.items) }
+{
+    let count = usize::from(workers);
+    let many = all.blocks.len();
+    let blocks = deal(alloc, all.blocks, count)?;
+    let posts = deal(alloc, all.posts, count)?;
+    let hands = turn_hands(
+        rt,
+        alloc,
+        acts,
+        rounds,
+        number,
+        passage,
+        Hands { blocks, posts },
+    )?;
+    let blocks = collect(alloc, hands.blocks, many)?;
+    let posts = collect(alloc, hands.posts, many)?;
+    Ok(Crew { blocks, posts })
+}
+
+/// Room for so many things.
+fn room_for<T: Drop>(alloc: Global, count: usize) -> Result<Vec<T>, NoMemory>
+    ensures none { IfOk result (λ things. things.items ≡ []) }
+    ensures len { IfOk result (λ things. vec_len things ≡ 0) }
+    ensures room { IfOk result (λ things. count ≤ vec_capacity things) }
+{
+    Ok(Vec::with_capacity(alloc, count)?)
+}

@@ -1,0 +1,179 @@
+//! What a worker does from one exchange to the next.
+
+ghost use Rattle.std.specs.Prelude.{◌≡◌, IsTrue, slice_get};
+ghost use Rattle.std.specs.List.{All};
+ghost use Rattle.std.specs.Option.{option_copied};
+ghost use Rattle.cm_blocks.specs.Steps.{absorbed};
+ghost use Rattle.cm_subcube.specs.Rounds.{step_of};
+ghost use Rattle.cm_subcube.specs.Parcels.{IsExchange};
+ghost use Rattle.cm_workers.specs.Posts.{lane_in, blank_post};
+ghost use Rattle.cm_workers.specs.Each.{AreEach};
+ghost use Rattle.cm_workers.specs.Turns.{round_before, CanGo, CanAllGo, CanSend, CanAllSend, HasCome, HasGoneOn, HasSent, HasGone, AreShown};
+
+use crate::gate::Passage;
+use crate::post::Post;
+use cm_model::Act;
+use cm_subcube::{Block, Kind, Round};
+
+/// The steps of a run from one round to the next, all blocks alike.
+#[derive(Clone, Copy)]
+pub(crate) struct Turn<'a> {
+    pub(crate) acts: &'a [Act],
+    /// The number of the round at which it ends.
+    pub(crate) number: u32,
+    /// The round at which it begins; the first turn of a run begins with the acts.
+    pub(crate) before: Option<&'a Round>,
+    /// That at which it ends; the last turn ends with the acts.
+    pub(crate) next: Option<&'a Round>,
+}
+
+/// Blocks, and the post of each: those of a worker, or all of a machine.
+#[derive(Drop)]
+pub struct Crew {
+    pub blocks: Vec<Block>,
+    pub posts: Vec<Post>,
+}
+
+impl Crew {
+    /// Has a turn: the one of that number in a run of these acts, which has these rounds.
+    pub(crate) fn go(
+        self,
+        acts: &[Act],
+        rounds: &[Round],
+        number: u32,
+        worker: u16,
+        passage: &Passage,
+    ) -> Crew
+        requires ready { CanAllGo acts.now (round_before rounds.now number) (slice_get rounds.now number)
+            self.blocks.items self.posts.items }
+        ensures value { AreEach (HasGone acts.now (round_before rounds.now number) (slice_get rounds.now number))
+            self.blocks.items self.posts.items result.blocks.items result.posts.items }
+    {
+        let Crew {
+            mut blocks,
+            mut posts,
+        } = self;
+        let turn = Turn {
+            acts,
+            number,
+            before: before(rounds, number),
+            next: next(rounds, number),
+        };
+        have_turn(&mut blocks, &mut posts, &turn, worker, passage);
+        Crew { blocks, posts }
+    }
+}
+
+/// The round at which a turn begins.
+fn before(rounds: &[Round], number: u32) -> Option<&Round>
+    ensures value { option_copied result ≡ round_before rounds.now number }
+{
+    if number == 0 {
+        return None;
+    }
+    rounds.get(number as usize - 1)
+}
+
+/// That at which it ends.
+fn next(rounds: &[Round], number: u32) -> Option<&Round>
+    ensures value { option_copied result ≡ slice_get rounds.now number }
+{
+    rounds.get(number as usize)
+}
+
+fn have_turn(
+    blocks: &mut [Block],
+    posts: &mut [Post],
+    turn: &Turn<'_>,
+    worker: u16,
+    passage: &Passage,
+)
+    requires ready { CanAllGo turn.now.acts.now (option_copied turn.now.before) (option_copied turn.now.next) blocks.old posts.old }
+    ensures value { AreEach (HasGone turn.now.acts.now (option_copied turn.now.before) (option_copied turn.now.next))
+        blocks.old posts.old blocks.new posts.new }
+{
+    go_on_all(blocks, posts, turn);
+    show(blocks, turn, worker, passage);
+    send_all(blocks, posts, turn.next);
+}
+
+/// Each block takes in what came for it, and goes on until the next round.
+fn go_on_all(blocks: &mut [Block], posts: &mut [Post], turn: &Turn<'_>)
+    requires ready { CanAllGo turn.now.acts.now (option_copied turn.now.before) (option_copied turn.now.next) blocks.old posts.old }
+    ensures value { AreEach (HasGoneOn turn.now.acts.now (option_copied turn.now.before)) blocks.old posts.old blocks.new posts.new }
+{
+    for i in 0..blocks.len() {
+        go_on(&mut blocks[i], &mut posts[i], turn);
+    }
+}
+
+fn go_on(block: &mut Block, post: &mut Post, turn: &Turn<'_>)
+    requires ready { CanGo turn.now.acts.now (option_copied turn.now.before) (option_copied turn.now.next) block.old post.old }
+    ensures value { HasGoneOn turn.now.acts.now (option_copied turn.now.before) block.old post.old block.new post.new }
+{
+    if let Some(round) = turn.before {
+        take_in(block, post, round);
+    }
+    block.local(turn.acts, turn.before);
+}
+
+/// Takes in what came in a round.
+fn take_in(block: &mut Block, post: &mut Post, round: &Round)
+    requires exchange { IsExchange block.old.kept.dims block.old.k round.now }
+    requires come { HasCome block.old.kept.dims block.old.k block.old.kept.room round.now block.old.kept.part post.old }
+    ensures value { block.new.kept ≡ record block.old.kept {
+      part = absorbed block.old.kept.dims block.old.kept.room (step_of round.now) (lane_in round.now.kind post.old) block.old.kept.part;
+      gathered = block.new.kept.gathered;
+    } }
+    ensures blocks { block.new.k ≡ block.old.k }
+    ensures blank { post.new ≡ blank_post block.old.kept.dims block.old.k }
+{
+    match round.kind {
+        Kind::Dim(_dim) => block.absorb(round, &mut post.mail),
+        Kind::North | Kind::South => block.absorb(round, &mut post.edge),
+    }
+}
+
+/// Shows the blocks to who looks, if a round is ahead.
+fn show(blocks: &mut [Block], turn: &Turn<'_>, worker: u16, passage: &Passage)
+    ensures value { AreShown blocks.old blocks.new }
+{
+    if turn.next.is_none() {
+        return;
+    }
+    if let Passage::Gated(gate) = passage {
+        gather_all(blocks);
+        gate.pass(worker, turn.number, blocks);
+    }
+}
+
+fn gather_all(blocks: &mut [Block])
+    ensures shown { AreShown blocks.old blocks.new }
+    ensures gathered { All (λ b. IsTrue b.kept.gathered) blocks.new }
+{
+    for i in 0..blocks.len() {
+        blocks[i].gather();
+    }
+}
+
+/// Each block puts what is due in a round into its post.
+fn send_all(blocks: &mut [Block], posts: &mut [Post], next: Option<&Round>)
+    requires ready { CanAllSend (option_copied next) blocks.old posts.old }
+    ensures value { AreEach (HasSent (option_copied next.entry)) blocks.old posts.old blocks.new posts.new }
+{
+    for i in 0..blocks.len() {
+        send(&mut blocks[i], &mut posts[i], next);
+    }
+}
+
+fn send(block: &mut Block, post: &mut Post, next: Option<&Round>)
+    requires ready { CanSend (option_copied next) block.old post.old }
+    ensures value { HasSent (option_copied next.entry) block.old post.old block.new post.new }
+{
+    if let Some(round) = next {
+        match round.kind {
+            Kind::Dim(_dim) => block.fill(round, &mut post.mail),
+            Kind::North | Kind::South => block.fill(round, &mut post.edge),
+        }
+    }
+}
