@@ -1,7 +1,21 @@
-//! Tests of a machine that is cut into blocks, and of the rounds of a run; it has no code of its own.
+//! Tests of machines that are cut into blocks and go through runs by these; it has no code of its own.
 #![tactic(auto)]
 
 #[cfg(test)]
 mod copies;
 #[cfg(test)]
+mod drawn;
+#[cfg(test)]
+mod draws;
+#[cfg(test)]
+mod going;
+#[cfg(test)]
+mod machines;
+#[cfg(test)]
+mod meeting;
+#[cfg(test)]
+mod messages;
+#[cfg(test)]
 mod rounds_of_runs;
+#[cfg(test)]
+mod rows;

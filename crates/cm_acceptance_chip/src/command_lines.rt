@@ -11,6 +11,7 @@ enum Worded {
     List(&'static str, &'static [&'static str], &'static str),
     Fresh(&'static str, &'static [&'static str], (u8, u8), &'static str),
     Run(&'static str, &'static [&'static str], (&'static str, &'static str), Option<&'static str>),
+    Shared(&'static str, &'static [&'static str], (u8, u8)),
     Bad(&'static str, &'static [&'static str]),
 }
 
@@ -21,6 +22,7 @@ impl Case for Worded {
             | Worded::List(name, _, _)
             | Worded::Fresh(name, _, _, _)
             | Worded::Run(name, _, _, _)
+            | Worded::Shared(name, _, _)
             | Worded::Bad(name, _) => name,
         }
     }
@@ -30,7 +32,8 @@ impl Case for Worded {
             Worded::Chip(_, words) => command(alloc, words) == Ok(Line::Chip),
             Worded::List(_, words, file) => lists(alloc, words, file),
             Worded::Fresh(_, words, sizes, file) => makes(alloc, words, sizes, file),
-            Worded::Run(_, words, files, out) => runs(alloc, words, files, out),
+            Worded::Run(_, words, files, out) => runs(alloc, words, files, (0, 1), out),
+            Worded::Shared(_, words, sharing) => runs(alloc, words, ("a", "p"), sharing, None),
             Worded::Bad(_, words) => command(alloc, words) == Err(LineFault::BadLine),
         })
     }
@@ -58,24 +61,35 @@ fn makes(alloc: Global, words: &[&str], sizes: (u8, u8), file: &str) -> bool {
     }
 }
 
-/// Whether the words ask for a session of an image and a program, and for what is left in this file, if any.
-fn runs(alloc: Global, words: &[&str], files: (&str, &str), out: Option<&str>) -> bool {
+/// Whether the words ask for a session of an image and a program that is shared out so, and for what is left in this
+/// file, if any.
+fn runs(
+    alloc: Global,
+    words: &[&str],
+    files: (&str, &str),
+    sharing: (u8, u8),
+    out: Option<&str>,
+) -> bool {
     match command(alloc, words) {
         Ok(
             Line::Run {
                 image,
                 program,
+                split,
+                workers,
                 out: left,
             },
         ) => {
             let named = left.as_ref().map(|file| file.as_str());
-            (image.as_str(), program.as_str()) == files && named == out
+            (image.as_str(), program.as_str()) == files
+                && (split, workers) == sharing
+                && named == out
         }
         _ => false,
     }
 }
 
-static WORDED: [Worded; 62] = [
+static WORDED: [Worded; 43] = [
     Worded::Chip("the subcommand", &["cm1", "chip"]),
     Worded::Chip("a lone -- ends the words", &["cm1", "chip", "--"]),
     Worded::Bad("help", &["cm1", "help"]),
@@ -160,6 +174,11 @@ static WORDED: [Worded; 62] = [
         "an option of fresh",
         &["cm1", "fresh", "3", "7", "a", "--out", "b"],
     ),
+    Worded::Bad("no subcommand", &["cm1"]),
+    Worded::Bad("no word at all", &[]),
+];
+
+static RUN_WORDED: [Worded; 36] = [
     Worded::Run("a session", &["cm1", "run", "a", "p"], ("a", "p"), None),
     Worded::Run(
         "--out behind",
@@ -213,19 +232,89 @@ static WORDED: [Worded; 62] = [
     ),
     Worded::Bad("--out without a file", &["cm1", "run", "a", "p", "--out"]),
     Worded::Bad("the front of --out", &["cm1", "run", "a", "p", "--ou", "b"]),
-    Worded::Bad("--split", &["cm1", "run", "a", "p", "--split", "1"]),
-    Worded::Bad("--workers", &["cm1", "run", "a", "p", "--workers", "1"]),
     Worded::Bad("help on run", &["cm1", "run", "--help"]),
     Worded::Bad(
         "an option before run",
         &["cm1", "--out", "b", "run", "a", "p"],
     ),
-    Worded::Bad("no subcommand", &["cm1"]),
-    Worded::Bad("no word at all", &[]),
+    Worded::Shared(
+        "--split behind",
+        &["cm1", "run", "a", "p", "--split", "2"],
+        (2, 1),
+    ),
+    Worded::Shared(
+        "--split before, with an equals sign",
+        &["cm1", "run", "--split=6", "a", "p"],
+        (6, 1),
+    ),
+    Worded::Shared(
+        "--workers behind",
+        &["cm1", "run", "a", "p", "--workers", "64"],
+        (0, 64),
+    ),
+    Worded::Shared(
+        "the numbers that stand for what is left out",
+        &["cm1", "run", "a", "p", "--split", "0", "--workers", "1"],
+        (0, 1),
+    ),
+    Worded::Shared(
+        "--workers between, and --split",
+        &["cm1", "run", "a", "--workers", "3", "p", "--split", "2"],
+        (2, 3),
+    ),
+    Worded::Shared(
+        "a plus, and zeros",
+        &["cm1", "run", "a", "p", "--split=+02", "--workers=004"],
+        (2, 4),
+    ),
+    Worded::Bad("--split above 6", &["cm1", "run", "a", "p", "--split", "7"]),
+    Worded::Bad("no workers", &["cm1", "run", "a", "p", "--workers", "0"]),
+    Worded::Bad(
+        "--workers above 64",
+        &["cm1", "run", "a", "p", "--workers", "65"],
+    ),
+    Worded::Bad(
+        "--workers above 255",
+        &["cm1", "run", "a", "p", "--workers", "257"],
+    ),
+    Worded::Bad(
+        "--split that is no number",
+        &["cm1", "run", "a", "p", "--split", "0x2"],
+    ),
+    Worded::Bad(
+        "--split below 0",
+        &["cm1", "run", "a", "p", "--split", "-1"],
+    ),
+    Worded::Bad(
+        "--split twice",
+        &["cm1", "run", "a", "p", "--split", "1", "--split", "2"],
+    ),
+    Worded::Bad(
+        "--workers twice",
+        &["cm1", "run", "a", "p", "--workers=2", "--workers=2"],
+    ),
+    Worded::Bad(
+        "--split without a number",
+        &["cm1", "run", "a", "p", "--split"],
+    ),
+    Worded::Bad(
+        "--workers without characters",
+        &["cm1", "run", "a", "p", "--workers="],
+    ),
+    Worded::Bad(
+        "the front of --split",
+        &["cm1", "run", "a", "p", "--spli", "1"],
+    ),
+    Worded::Bad("--split of list", &["cm1", "list", "p", "--split", "1"]),
+    Worded::Bad(
+        "--workers of fresh",
+        &["cm1", "fresh", "3", "7", "a", "--workers", "1"],
+    ),
 ];
 
 #[test]
 fn words_are_lines_or_bad_lines(rt: HostRuntime) -> Result<(), Fail> {
     assert_eq!(rt; first_not_so(rt.alloc(), &WORDED)?, None);
+    assert_eq!(rt; first_not_so(rt.alloc(), &RUN_WORDED)?, None);
     Ok(())
 }

@@ -118,12 +118,15 @@ impl Case for Told {
     }
 }
 
-static TOLD: [Told; 19] = [
+static TOLD: [Told; 22] = [
     Told("cm1: bad command line\n", 2, ProgramFault::BadLine),
     Told("cm1: 30 Read\n", 4, ProgramFault::Read),
     Told("cm1: 31 Write\n", 4, ProgramFault::Write),
     Told("cm1: 32 TooMuch\n", 1, ProgramFault::TooMuch),
     Told("cm1: 33 Memory\n", 3, ProgramFault::Memory),
+    Told("cm1: 9 NoThread\n", 3, ProgramFault::NoThread),
+    Told("cm1: 36 Workers\n", 1, ProgramFault::Workers),
+    Told("cm1: 37 Split\n", 1, ProgramFault::Split),
     Told(
         "cm1: line 3: 1 Width\n",
         1,

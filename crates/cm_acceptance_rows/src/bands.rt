@@ -1,12 +1,15 @@
-//! Runs of chips that begin at any chip of a machine: they go through petit cycles as the whole does there.
+//! Runs of chips that begin at any chip of a machine: they go through petit cycles and instructions as the whole does
+//! there.
 
 ghost use Rattle.std.specs.Prelude.{◌+◌, ◌^◌, ◌≤◌, IsTrue};
 ghost use Rattle.cm_model.specs.Keeping.{AreSizes};
 
-use cm_bits::{Addr, Field, FlagNo, Proc};
+use cm_array::step;
+use cm_bits::{Addr, Dir, Field, FlagNo, Proc};
 use cm_crossing::{Crossing, Sizes};
 use cm_element::Run;
 use cm_message::{Event, Message, Tag};
+use cm_model::Nano;
 use cm_petit::{are_routers, cross, cycle, deliver, has_log_room, inject, leave, take_in};
 use std::alloc::Global;
 use std::test::Fail;
@@ -19,9 +22,14 @@ const CYCLES: u64 = 6;
 // Where the drawing starts, with room for fifteen messages, of which none is referred.
 const ALONE: [u64; 3] = [31, 32, 33];
 
-const LOG_ROOM: usize = 512;
+pub(crate) const LOG_ROOM: usize = 512;
 
-fn next(seed: u64) -> u64 {
+const INSTRUCTIONS: u64 = 8;
+
+// What drawn instructions write: any flag but NEWS, which brings something in, and SEND.
+const WRITTEN: [u8; 14] = [0, 1, 2, 3, 4, 5, 6, 7, 8, 9, 11, 13, 14, 15];
+
+pub(crate) fn next(seed: u64) -> u64 {
     let mixed = seed
         .wrapping_mul(6364136223846793005)
         .wrapping_add(1442695040888963407);
@@ -30,17 +38,17 @@ fn next(seed: u64) -> u64 {
 
 // A run of chips with its messages and logs, of which no contract tells anything.
 #[derive(Drop)]
-struct Band {
+pub(crate) struct Band {
     sizes: Sizes,
     first: u16,
-    run: Run,
+    pub(crate) run: Run,
     crossing: Crossing,
-    logs: Vec<Vec<Event>>,
+    pub(crate) logs: Vec<Vec<Event>>,
     clock: u64,
 }
 
 // Whether these are sizes of a machine, in which a run may begin at this chip.
-fn are_sizes(sizes: Sizes, first: u16) -> bool
+pub(crate) fn are_sizes(sizes: Sizes, first: u16) -> bool
     ensures sizes { IsTrue result → AreSizes sizes.dims sizes.room }
     ensures span { IsTrue result → sizes.span ≤ sizes.dims }
     ensures band { IsTrue result → first + 2 ^ sizes.span ≤ 2 ^ sizes.dims }
@@ -68,7 +76,7 @@ fn put_flag(run: &mut Run, chip: u16, proc: Proc, number: FlagNo, bit: bool) {
 }
 
 // A drawn processor of a chip asks to send; another can receive again.
-fn ask(run: &mut Run, chip: u16, seed: u64, most: u64) {
+pub(crate) fn ask(run: &mut Run, chip: u16, seed: u64, most: u64) {
     let sender = Proc::new((seed & 15) as u8).unwrap();
     let receiver = Proc::new((seed >> 4 & 15) as u8).unwrap();
     put(run, chip, sender, 3968, 16, seed >> 8 & most);
@@ -79,7 +87,7 @@ fn ask(run: &mut Run, chip: u16, seed: u64, most: u64) {
 }
 
 impl Band {
-    fn blank(alloc: Global, sizes: Sizes, first: u16) -> Result<Band, Fail> {
+    pub(crate) fn blank(alloc: Global, sizes: Sizes, first: u16) -> Result<Band, Fail> {
         let chips: u16 = 1 << (sizes.span & 7);
         let mut logs = Vec::new(alloc);
         for _chip in 0..chips {
@@ -96,7 +104,7 @@ impl Band {
     }
 
     // A petit cycle of a whole machine.
-    fn cycle(&mut self) -> bool {
+    pub(crate) fn cycle(&mut self) -> bool {
         let sizes = self.sizes;
         if !are_sizes(sizes, 0)
             || sizes.span != sizes.dims
@@ -154,6 +162,12 @@ impl Band {
         true
     }
 
+    // Whether these messages stand at a chip.
+    pub(crate) fn has_messages(&mut self, chip: usize, messages: &[Message]) -> bool {
+        self.crossing.gather();
+        chip < self.crossing.chips() && self.crossing.buffer(chip) == messages
+    }
+
     // The dimensions that the chips span.
     fn cross_own(&mut self) -> bool {
         for dim in 0..self.sizes.span {
@@ -204,7 +218,7 @@ fn exchange(
     up.iter().all(|leaver| leaver.is_none()) && down.iter().all(|leaver| leaver.is_none())
 }
 
-fn has_same_planes(left: &Run, here: u16, right: &Run, there: u16) -> bool {
+pub(crate) fn has_same_planes(left: &Run, here: u16, right: &Run, there: u16) -> bool {
     if usize::from(here) >= left.chips() || usize::from(there) >= right.chips() {
         return false;
     }
@@ -296,8 +310,39 @@ fn halves_go_alike(alloc: Global, case: (u8, u64)) -> Result<bool, Fail> {
     Ok(alike && !whole.crossing.is_empty())
 }
 
-// Chips 8 to 15 of sixteen, beside the whole machine, where nobody sends out of these chips or into them. With
-// room for fifteen no message is referred.
+// An instruction on the processor and the payload of the sent record, which leaves the relative address as it is.
+fn drawn_instruction(seed: u64) -> Nano {
+    let write = WRITTEN[(seed >> 16 & 0xff) as usize % WRITTEN.len()];
+    Nano {
+        a: Addr::new(3984 + (seed & 31) as u16).unwrap(),
+        b: Addr::new(3984 + (seed >> 5 & 31) as u16).unwrap(),
+        read: FlagNo::new((seed >> 10 & 15) as u8).unwrap(),
+        write: FlagNo::new(write).unwrap(),
+        cond: FlagNo::new((seed >> 24 & 15) as u8).unwrap(),
+        sense: seed >> 28 & 1 == 1,
+        mem_table: (seed >> 32 & 0xff) as u8,
+        flag_table: (seed >> 40 & 0xff) as u8,
+        dir: Dir::North,
+    }
+}
+
+// Instructions in sixteen chips by the machine's step, and in eight of them by that of a run.
+fn both_step(whole: &mut Run, high: &mut Run, seed: u64) -> bool {
+    let mut seed = seed;
+    for _instruction in 0..INSTRUCTIONS {
+        seed = next(seed);
+        let nano = drawn_instruction(seed);
+        if whole.chips() != 16 || nano.write == FlagNo::NEWS {
+            return false;
+        }
+        step(4, whole, &nano, &mut [0; 16], &mut [0; 16]);
+        high.step(&nano);
+    }
+    true
+}
+
+// Chips 8 to 15 of sixteen, beside the whole machine, where nobody sends out of these chips or into them: petit
+// cycles, and instructions after each. With room for fifteen no message is referred.
 fn upper_half_goes_alone(alloc: Global, seed: u64) -> Result<bool, Fail> {
     let all = Sizes {
         dims: 4,
@@ -322,6 +367,7 @@ fn upper_half_goes_alone(alloc: Global, seed: u64) -> Result<bool, Fail> {
             && high.inject()
             && high.cross_own()
             && high.deliver()
+            && both_step(&mut whole.run, &mut high.run, seed)
             && is_part(&mut high, &mut whole);
     }
     Ok(alike)

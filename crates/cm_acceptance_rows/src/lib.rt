@@ -10,6 +10,8 @@ mod grids;
 #[cfg(test)]
 mod laid;
 #[cfg(test)]
+mod nodes;
+#[cfg(test)]
 mod plain;
 #[cfg(test)]
 mod queues;

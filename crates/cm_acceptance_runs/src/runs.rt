@@ -1,7 +1,7 @@
 //! Runs of images: what is answered, what is kept, and how they end.
 
 use cm_bits::doubles::{Bytes, Room};
-use cm_cli::{TakeFault, fresh, run_session};
+use cm_cli::{Sharing, TakeFault, fresh, run_session};
 use std::alloc::Global;
 
 /// The image that is given: that of a blank machine, or one that is damaged.
@@ -77,6 +77,43 @@ const RUNS: [Row; 19] = [
     (Given::Blank(0, 7), SUM, ASKS, 100, 5, b"end\nf", 31),
 ];
 
+/// One block, and one worker.
+const WHOLE: (u8, u8) = (0, 1);
+
+/// The image, the program, into how many blocks the machine is cut (2^k of them) and among how many workers; the number
+/// of the fault, 0 for none.
+type SharedRow = (Given, Text, (u8, u8), u8);
+
+const SHARED_RUNS: [SharedRow; 22] = [
+    // as many cuts as the cube has room for, and as many workers as there are blocks
+    (Given::Blank(4, 7), SUM, (0, 1), 0),
+    (Given::Blank(4, 7), SUM, (1, 1), 0),
+    (Given::Blank(4, 7), SUM, (2, 1), 0),
+    (Given::Blank(4, 7), SUM, (2, 3), 0),
+    (Given::Blank(4, 1), SUM, (2, 4), 0),
+    (Given::Blank(1, 7), SUM, (1, 2), 0),
+    (Given::Blank(5, 7), SUM, (3, 8), 0),
+    (Given::Blank(12, 1), SUM, (6, 64), 0),
+    // too many cuts
+    (Given::Blank(4, 7), SUM, (3, 1), 37),
+    (Given::Blank(0, 7), SUM, (1, 1), 37),
+    (Given::Blank(12, 1), SUM, (7, 1), 37),
+    (Given::Blank(3, 7), SUM, (255, 1), 37),
+    // no worker, or more than blocks
+    (Given::Blank(4, 7), SUM, (2, 5), 36),
+    (Given::Blank(4, 7), SUM, (0, 2), 36),
+    (Given::Blank(4, 7), SUM, (2, 0), 36),
+    (Given::Blank(12, 7), SUM, (6, 65), 36),
+    // the cuts are looked at before the workers
+    (Given::Blank(4, 7), SUM, (3, 0), 37),
+    (Given::Blank(4, 7), SUM, (3, 64), 37),
+    // and both after the image and after the program
+    (Given::Cut, SUM, (9, 0), 21),
+    (Given::With(6, 2), SUM, (9, 0), 5),
+    (Given::Blank(0, 7), Ok(b"jump\n"), (9, 0), 15),
+    (Given::Blank(0, 7), Err(TakeFault::Read), (9, 0), 30),
+];
+
 /// The bytes of an image.
 fn bytes_of(alloc: Global, given: Given) -> Option<Vec<u8>> {
     let (n, cap) = match given {
@@ -104,15 +141,23 @@ fn text_of(alloc: Global, text: Text) -> Option<Result<Vec<u8>, TakeFault>> {
     }
 }
 
+/// The sharing of these numbers.
+fn shared((split, workers): (u8, u8)) -> Sharing {
+    Sharing { split, workers }
+}
+
 /// Whether a run writes and ends as its row says; and keeps an image only if it is to, and has no fault.
-fn is_so(alloc: Global, row: &Row, keeps: bool) -> Option<bool> {
+fn is_so(rt: &HostRuntime, row: &Row, sharing: (u8, u8), keeps: bool) -> Option<bool> {
     let (given, text, commands, good, room, wanted, number) = *row;
+    let alloc = rt.alloc();
     let mut commands = Bytes::failing(commands, 3, good);
     let mut answers = Room::new(alloc, room, 5).ok()?;
     let end = run_session(
+        rt,
         alloc,
         bytes_of(alloc, given)?,
         text_of(alloc, text)?,
+        shared(sharing),
         &mut commands,
         &mut answers,
         keeps,
@@ -125,23 +170,60 @@ fn is_so(alloc: Global, row: &Row, keeps: bool) -> Option<bool> {
 }
 
 /// The answers of a second session, on the image that a first one keeps.
-fn goes_on(alloc: Global, first: &[u8], second: &[u8]) -> Option<Room> {
+fn goes_on(rt: &HostRuntime, first: &[u8], second: &[u8]) -> Option<Room> {
+    let alloc = rt.alloc();
     let mut commands = Bytes::failing(first, 3, 100);
     let mut answers = Room::new(alloc, 100, 5).ok()?;
     let text = text_of(alloc, SUM)?;
     let image = bytes_of(alloc, Given::Blank(2, 7))?;
-    let kept = run_session(alloc, image, text, &mut commands, &mut answers, true).ok()??;
+    let kept = run_session(
+        rt,
+        alloc,
+        image,
+        text,
+        shared(WHOLE),
+        &mut commands,
+        &mut answers,
+        true,
+    )
+    .ok()??;
     let mut commands = Bytes::failing(second, 3, 100);
     let mut answers = Room::new(alloc, 100, 5).ok()?;
     let text = text_of(alloc, Ok(b""))?;
-    run_session(alloc, kept, text, &mut commands, &mut answers, false).ok()?;
+    run_session(
+        rt,
+        alloc,
+        kept,
+        text,
+        shared(WHOLE),
+        &mut commands,
+        &mut answers,
+        false,
+    )
+    .ok()?;
     Some(answers)
 }
 
 #[test]
 fn images_are_run(rt: HostRuntime) {
     for (i, row) in RUNS.iter().enumerate() {
-        let so = is_so(rt.alloc(), row, i % 2 == 0);
+        let so = is_so(&rt, row, WHOLE, i % 2 == 0);
+        assert!(rt; so == Some(true), "in row {i}");
+    }
+}
+
+/// Whether a run that is shared out so answers as one that is not, or is refused.
+fn is_shared(rt: &HostRuntime, row: &SharedRow) -> Option<bool> {
+    let (given, text, sharing, number) = *row;
+    let answers: &[u8] = if number == 0 { ANSWERS } else { b"" };
+    let whole: Row = (given, text, ASKS, 100, 100, answers, number);
+    is_so(rt, &whole, sharing, false)
+}
+
+#[test]
+fn runs_are_shared_out_or_refused(rt: HostRuntime) {
+    for (i, row) in SHARED_RUNS.iter().enumerate() {
+        let so = is_shared(&rt, row);
         assert!(rt; so == Some(true), "in row {i}");
     }
 }
@@ -154,7 +236,7 @@ fn machines_of_every_size_are_run(rt: HostRuntime) {
     for n in 0..13 {
         for cap in ROOMS {
             let row: Row = (Given::Blank(n, cap), SUM, ASKS, 100, 100, ANSWERS, 0);
-            let so = is_so(rt.alloc(), &row, n < 4);
+            let so = is_so(&rt, &row, WHOLE, n < 4);
             assert!(rt; so == Some(true), "{n} dimensions, room for {cap}");
         }
     }
@@ -164,7 +246,7 @@ fn machines_of_every_size_are_run(rt: HostRuntime) {
 fn the_image_that_is_kept_goes_on_where_the_first_session_ended(rt: HostRuntime) {
     let wanted: &[u8] = b"field 44\nfield 102\nend\n";
     let answers = goes_on(
-        rt.alloc(),
+        &rt,
         b"run\npoke 3 15 9 1\n",
         b"field 2 7 0 8\nfield 3 15 8 8\nrun\n",
     );

@@ -5,3 +5,4 @@ mod Fronts
 mod Programs
 mod Opening
 mod Lifting
+mod Refusing

@@ -8,4 +8,5 @@ pub mod Listed
 pub mod Fresh
 pub mod Laws
 pub mod Opened
+pub mod Sharing
 pub mod Run

@@ -7,7 +7,7 @@ use Rattle.cm_language.specs.Listing.{listing}
 use Rattle.cm_cli.specs.Report.{HasFront}
 use Rattle.cm_cli.specs.declared.program_fault.ProgramFault.{ProgramFault}
 use Rattle.cm_cli.specs.declared.program_fault.ProgramFault.TheVariants.{BadLine, Text, Image, Cap, Read, Write}
-use Rattle.cm_cli.specs.declared.program_fault.ProgramFault.TheVariants.{TooMuch, Memory, NoThread}
+use Rattle.cm_cli.specs.declared.program_fault.ProgramFault.TheVariants.{TooMuch, Memory, NoThread, Split, Workers}
 
 -- the most bytes of a program text
 abbrev pub PROGRAM_LIMIT : ℕ
@@ -32,6 +32,8 @@ HasNoListing text BadLine = ⊥
 HasNoListing text (Image fault) = ⊥
 HasNoListing text Cap = ⊥
 HasNoListing text NoThread = ⊥
+HasNoListing text Split = ⊥
+HasNoListing text Workers = ⊥
 HasNoListing text Read = ⊥
 HasNoListing text Write = ⊥
 HasNoListing text TooMuch = ⊥
@@ -73,6 +75,8 @@ EndsListing text held holds (Err BadLine) = ⊥
 EndsListing text held holds (Err (Image fault)) = ⊥
 EndsListing text held holds (Err Cap) = ⊥
 EndsListing text held holds (Err NoThread) = ⊥
+EndsListing text held holds (Err Split) = ⊥
+EndsListing text held holds (Err Workers) = ⊥
 
 -- it ended by a write
 abbrev pub is_write : Result (Unit {0}) ProgramFault → Bool
@@ -81,6 +85,8 @@ is_write (Err BadLine) = false
 is_write (Err (Image fault)) = false
 is_write (Err Cap) = false
 is_write (Err NoThread) = false
+is_write (Err Split) = false
+is_write (Err Workers) = false
 is_write (Err (Text fault)) = false
 is_write (Err Read) = false
 is_write (Err Write) = true
@@ -94,6 +100,8 @@ has_read_all (Err BadLine) = false
 has_read_all (Err (Image fault)) = false
 has_read_all (Err Cap) = false
 has_read_all (Err NoThread) = false
+has_read_all (Err Split) = false
+has_read_all (Err Workers) = false
 has_read_all (Err (Text fault)) = true
 has_read_all (Err Read) = false
 has_read_all (Err Write) = true

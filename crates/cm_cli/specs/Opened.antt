@@ -6,6 +6,7 @@ use Rattle.cm_image_format.specs.Whole.{read_shape, read_image, header_fault}
 use Rattle.cm_cli.specs.declared.program_fault.ProgramFault.{ProgramFault}
 use Rattle.cm_cli.specs.declared.program_fault.ProgramFault.TheVariants.{BadLine, Text, Image, Cap, Read}
 use Rattle.cm_cli.specs.declared.program_fault.ProgramFault.TheVariants.{Write, TooMuch, Memory, NoThread}
+use Rattle.cm_cli.specs.declared.program_fault.ProgramFault.TheVariants.{Split, Workers}
 
 -- the rooms of the program's own machines
 abbrev pub is_own_room : ℕ → Bool
@@ -51,6 +52,8 @@ IsUnopened image TooMuch = ⊥
 IsUnopened image BadLine = ⊥
 IsUnopened image Write = ⊥
 IsUnopened image NoThread = ⊥
+IsUnopened image Split = ⊥
+IsUnopened image Workers = ⊥
 
 -- the image is one of a machine of the program's own
 pub record IsOpened (image : List ℕ) : Type 0 where

@@ -14,7 +14,7 @@ use Rattle.cm_cli.specs.declared.takes.TakeFault.{TakeFault}
 use Rattle.cm_cli.specs.declared.takes.TakeFault.TheVariants as take
 use Rattle.cm_cli.specs.declared.program_fault.ProgramFault.{ProgramFault}
 use Rattle.cm_cli.specs.declared.program_fault.ProgramFault.TheVariants.{BadLine, Text, Image, Cap, Read, Write}
-use Rattle.cm_cli.specs.declared.program_fault.ProgramFault.TheVariants.{TooMuch, Memory, NoThread}
+use Rattle.cm_cli.specs.declared.program_fault.ProgramFault.TheVariants.{TooMuch, Memory, NoThread, Split, Workers}
 
 -- the number of what is wrong with a line
 abbrev pub kind_number : AsmKind → ℕ
@@ -56,6 +56,8 @@ told_number Write = 31
 told_number TooMuch = 32
 told_number Memory = 33
 told_number NoThread = 9
+told_number Split = 37
+told_number Workers = 36
 
 -- the line of the text, if the fault stands in one
 abbrev pub line_of : ProgramFault → Option ℕ
@@ -68,6 +70,8 @@ line_of Write = None
 line_of TooMuch = None
 line_of Memory = None
 line_of NoThread = None
+line_of Split = None
+line_of Workers = None
 
 -- a session's fault as one of the program
 abbrev pub of_chip : ChipFault → ProgramFault

@@ -12,8 +12,11 @@ use Rattle.cm_cli.specs.declared.takes.TakeFault.{TakeFault}
 use Rattle.cm_cli.specs.declared.program_fault.ProgramFault.{ProgramFault}
 use Rattle.cm_cli.specs.declared.program_fault.ProgramFault.TheVariants.{BadLine, Text, Image, Cap, Read}
 use Rattle.cm_cli.specs.declared.program_fault.ProgramFault.TheVariants.{Write, TooMuch, Memory, NoThread}
+use Rattle.cm_cli.specs.declared.program_fault.ProgramFault.TheVariants.{Split, Workers}
+use Rattle.cm_cli.specs.declared.sharing.Sharing.{Sharing}
 use Rattle.cm_cli.specs.ProgramFault.{of_session, of_take}
 use Rattle.cm_cli.specs.Opened.{Start, opened, IsUnopened, IsOpened}
+use Rattle.cm_cli.specs.Sharing.{sharing_fault}
 
 -- a text was read to its end, and is this program
 abbrev pub IsProgramText : Result (Vec ℕ Global) TakeFault → ProgramText → Type 0
@@ -55,12 +58,13 @@ pub record HasBrokenOff (start : Start) (acts : List Act) (lines : List ℕ) (re
   pub told : IsToldAs keeps result fault
 
 -- an image, a program and commands were run to the end
-pub record IsRun (image : List ℕ) (gives : Result (Vec ℕ Global) TakeFault → Type 0) (lines : List ℕ)
-    (rest held holds : Option (List ℕ)) (keeps : Bool) (kept : Option (Vec ℕ Global)) : Type 0 where
+pub record IsRun (image : List ℕ) (gives : Result (Vec ℕ Global) TakeFault → Type 0) (sharing : Sharing)
+    (lines : List ℕ) (rest held holds : Option (List ℕ)) (keeps : Bool) (kept : Option (Vec ℕ Global)) : Type 0 where
   pub start : Start
   pub begins : opened image ≡ Ok start
   pub program : ProgramText
   pub is : GivesProgram gives program
+  pub shared : sharing_fault start.n sharing ≡ None
   pub run : HasRun start program.acts lines rest held holds keeps kept
 
 -- the text is refused with this fault: it was not read to its end, or is no program, or memory ran out
@@ -74,6 +78,8 @@ IsRefusedText (Ok text) TooMuch = ⊥
 IsRefusedText (Ok text) BadLine = ⊥
 IsRefusedText (Ok text) Write = ⊥
 IsRefusedText (Ok text) NoThread = ⊥
+IsRefusedText (Ok text) Split = ⊥
+IsRefusedText (Ok text) Workers = ⊥
 IsRefusedText (Err own) fault = fault ≡ of_take own
 
 -- what a text may give is refused with this fault
@@ -82,46 +88,64 @@ pub record GivesRefused (gives : Result (Vec ℕ Global) TakeFault → Type 0) (
   pub given : gives text
   pub is : IsRefusedText text fault
 
--- why no session began: for the image, or else for the text
-abbrev pub IsNotBegun : List ℕ → (Result (Vec ℕ Global) TakeFault → Type 0) → ProgramFault → Type 0
-IsNotBegun image gives fault = IsUnopened image fault ⊎ (IsOpened image × GivesRefused gives fault)
-
--- a session began: the image has a machine of the program's own, and what the text may give is a program
-pub record HasBegun (image : List ℕ) (gives : Result (Vec ℕ Global) TakeFault → Type 0) : Type 0 where
+-- the machine of the image is not to be shared out so, and what the text may give is a program
+pub record IsUnshared (image : List ℕ) (gives : Result (Vec ℕ Global) TakeFault → Type 0) (sharing : Sharing)
+    (fault : ProgramFault) : Type 0 where
   pub start : Start
   pub begins : opened image ≡ Ok start
   pub program : ProgramText
   pub is : GivesProgram gives program
+  pub refused : sharing_fault start.n sharing ≡ Some fault
+
+-- why no session began: for the image, or else for the text, or else for how it was to be shared out
+abbrev pub IsNotBegun : List ℕ → (Result (Vec ℕ Global) TakeFault → Type 0) → Sharing → ProgramFault → Type 0
+IsNotBegun image gives sharing fault =
+    IsUnopened image fault ⊎ ((IsOpened image × GivesRefused gives fault) ⊎ IsUnshared image gives sharing fault)
+
+-- a session began: the image has a machine of the program's own, what the text may give is a program, and the machine
+-- can be shared out so
+pub record HasBegun (image : List ℕ) (gives : Result (Vec ℕ Global) TakeFault → Type 0) (sharing : Sharing)
+    : Type 0 where
+  pub start : Start
+  pub begins : opened image ≡ Ok start
+  pub program : ProgramText
+  pub is : GivesProgram gives program
+  pub shared : sharing_fault start.n sharing ≡ None
 
 -- whether it began, however it ended, and why it did not
-abbrev pub Begins : List ℕ → (Result (Vec ℕ Global) TakeFault → Type 0) → Result (Option (Vec ℕ Global)) ProgramFault → Type 0
-Begins image gives (Ok kept) = HasBegun image gives
-Begins image gives (Err fault) = IsNotBegun image gives fault ⊎ HasBegun image gives
+abbrev pub Begins : List ℕ → (Result (Vec ℕ Global) TakeFault → Type 0) → Sharing
+    → Result (Option (Vec ℕ Global)) ProgramFault → Type 0
+Begins image gives sharing (Ok kept) = HasBegun image gives sharing
+Begins image gives sharing (Err fault) = IsNotBegun image gives sharing fault ⊎ HasBegun image gives sharing
 
 -- nothing was read of the commands, and nothing written
-pub record IsRefused (image : List ℕ) (gives : Result (Vec ℕ Global) TakeFault → Type 0) (lines : List ℕ)
-    (rest held holds : Option (List ℕ)) (fault : ProgramFault) : Type 0 where
-  pub why : IsNotBegun image gives fault
+pub record IsRefused (image : List ℕ) (gives : Result (Vec ℕ Global) TakeFault → Type 0) (sharing : Sharing)
+    (lines : List ℕ) (rest held holds : Option (List ℕ)) (fault : ProgramFault) : Type 0 where
+  pub why : IsNotBegun image gives sharing fault
   pub unread : rest ≡ Some lines
   pub nothing : Keeps held holds
 
 -- the session began, and broke off
-pub record IsBrokenOff (image : List ℕ) (gives : Result (Vec ℕ Global) TakeFault → Type 0) (lines : List ℕ)
-    (rest held holds : Option (List ℕ)) (keeps : Bool) (fault : ProgramFault) : Type 0 where
+pub record IsBrokenOff (image : List ℕ) (gives : Result (Vec ℕ Global) TakeFault → Type 0) (sharing : Sharing)
+    (lines : List ℕ) (rest held holds : Option (List ℕ)) (keeps : Bool) (fault : ProgramFault) : Type 0 where
   pub start : Start
   pub begins : opened image ≡ Ok start
   pub program : ProgramText
   pub is : GivesProgram gives program
+  pub shared : sharing_fault start.n sharing ≡ None
   pub broken : HasBrokenOff start program.acts lines rest held holds keeps fault
 
 -- why an image, a program and commands were not run to the end
-abbrev pub IsNotRun : List ℕ → (Result (Vec ℕ Global) TakeFault → Type 0) → List ℕ → Option (List ℕ) → Option (List ℕ)
-    → Option (List ℕ) → Bool → ProgramFault → Type 0
-IsNotRun image gives lines rest held holds keeps fault =
-    IsRefused image gives lines rest held holds fault ⊎ IsBrokenOff image gives lines rest held holds keeps fault
+abbrev pub IsNotRun : List ℕ → (Result (Vec ℕ Global) TakeFault → Type 0) → Sharing → List ℕ → Option (List ℕ)
+    → Option (List ℕ) → Option (List ℕ) → Bool → ProgramFault → Type 0
+IsNotRun image gives sharing lines rest held holds keeps fault =
+    IsRefused image gives sharing lines rest held holds fault
+    ⊎ IsBrokenOff image gives sharing lines rest held holds keeps fault
 
--- how a run of an image, of a text that may give this, and of commands ends
-abbrev pub EndsRun : List ℕ → (Result (Vec ℕ Global) TakeFault → Type 0) → List ℕ → Option (List ℕ) → Option (List ℕ)
-    → Option (List ℕ) → Bool → Result (Option (Vec ℕ Global)) ProgramFault → Type 0
-EndsRun image gives lines rest held holds keeps (Ok kept) = IsRun image gives lines rest held holds keeps kept
-EndsRun image gives lines rest held holds keeps (Err fault) = IsNotRun image gives lines rest held holds keeps fault
+-- how a run of an image, of a text that may give this, and of commands ends, shared out so
+abbrev pub EndsRun : List ℕ → (Result (Vec ℕ Global) TakeFault → Type 0) → Sharing → List ℕ → Option (List ℕ)
+    → Option (List ℕ) → Option (List ℕ) → Bool → Result (Option (Vec ℕ Global)) ProgramFault → Type 0
+EndsRun image gives sharing lines rest held holds keeps (Ok kept) =
+    IsRun image gives sharing lines rest held holds keeps kept
+EndsRun image gives sharing lines rest held holds keeps (Err fault) =
+    IsNotRun image gives sharing lines rest held holds keeps fault

@@ -24,6 +24,10 @@ pub enum ProgramFault {
     TooMuch,
     Memory,
     NoThread,
+    /// A machine cannot be cut into so many blocks.
+    Split,
+    /// There are no workers, or more than blocks.
+    Workers,
 }
 
 impl ProgramFault {
@@ -43,6 +47,8 @@ impl ProgramFault {
             ProgramFault::TooMuch => 32,
             ProgramFault::Memory => 33,
             ProgramFault::NoThread => 9,
+            ProgramFault::Split => 37,
+            ProgramFault::Workers => 36,
         }
     }
 

@@ -1,62 +1,73 @@
 //! A session on the machine of an image, with a program: from bytes to bytes.
 
-ghost use Rattle.std.specs.Prelude.{◌≡◌, ◌≤◌, ◌↔◌, ◌⊎◌, true, false, Ok, Err, IfOk, IfErr, IfSome, IsErrOf};
+ghost use Rattle.std.specs.Prelude.{◌≡◌, ◌≤◌, ◌↔◌, ◌⊎◌, true, false, Ok, Err, None, IfOk, IfErr, IfSome, IsErrOf};
+ghost use Rattle.cm_array.specs.Faults.{one_more_lacked};
 ghost use Rattle.cm_image_format.specs.Whole.{read_shape};
 ghost use Rattle.cm_cli.specs.Opened.{is_own_room, opened, IsUnopened};
+ghost use Rattle.cm_cli.specs.Sharing.{sharing_fault};
 ghost use Rattle.cm_cli.specs.Run.{Begins, HasRun, HasBrokenOff, EndsRun, GivesProgram, GivesRefused};
 
 use crate::program_fault::ProgramFault;
+use crate::sharing::Sharing;
 use crate::takes::TakeFault;
 use crate::text::Text;
-use cm_array::{Machine, Plain};
+use cm_array::{Machine, Plain, Runner};
 use cm_asm::{Program, assemble};
 use cm_bits::{Sink, Source};
 use cm_debug::session;
 use cm_image::{dump, load, shape};
+use cm_workers::{Forked, Passage};
 use std::alloc::Global;
+use std::sync::Wait;
+use std::thread::Threads;
 
 /// Runs a session on the machine of an image, with the program of a text: answers the commands line by line, and
 /// gives the image of the machine that they leave, if it `keeps` one.
 ///
 /// The image is looked at first: its shape, whether the program has machines of its room, then all of it. Only then
-/// the text is taken. Nothing is read of the commands and nothing is written before both were accepted.
+/// the text is taken, and then it is seen whether the machine can be shared out so. Nothing is read of the commands and
+/// nothing is written before all three were accepted.
 #[tactic(auto, using(crate::proofs::Opening::unshaped, crate::proofs::Opening::opened_foreign))]
-pub fn run_session<T: Text + Drop, I: Source, O: Sink>(
+pub fn run_session<R: Threads + Wait + Sync, T: Text + Drop, I: Source, O: Sink>(
+    rt: &R,
     alloc: Global,
     image: Vec<u8>,
     text: T,
+    sharing: Sharing,
     commands: &mut I,
     out: &mut O,
     keeps: bool,
 ) -> Result<Option<Vec<u8>>, ProgramFault>
     requires reader { I.has_failed commands.old ≡ false }
     requires writer { O.has_failed out.old ≡ false }
-    ensures begins { Begins image.items (T.gives text) result }
-    ensures ends { IfSome (I.left commands.old) (λ lines. EndsRun image.items (T.gives text) lines (I.left commands.new)
-        (O.contents out.old) (O.contents out.new) keeps result) }
+    ensures begins { Begins image.items (T.gives text) sharing result }
+    ensures ends { IfSome (I.left commands.old) (λ lines. EndsRun image.items (T.gives text) sharing lines
+        (I.left commands.new) (O.contents out.old) (O.contents out.new) keeps result) }
     ensures read { I.has_failed commands.new ≡ true → IsErrOf result ProgramFault.Read }
     ensures unread { IsErrOf result ProgramFault.Read
         → (I.has_failed commands.new ≡ true) ⊎ T.gives text (Err TakeFault.Read) }
     ensures write { (O.has_failed out.new ≡ true) ↔ IsErrOf result ProgramFault.Write }
-    ensures threads { ¬ IsErrOf result ProgramFault.NoThread }
+    ensures threads { sharing.workers ≡ 1 → ¬ IsErrOf result ProgramFault.NoThread }
 {
     let (n, cap) = match shape(&image) {
         Ok(sizes) => sizes,
         Err(fault) => return Err(ProgramFault::from(fault)),
     };
     match cap {
-        1 => run_sized::<1, T, I, O>(alloc, n, image, text, commands, out, keeps),
-        7 => run_sized::<7, T, I, O>(alloc, n, image, text, commands, out, keeps),
+        1 => run_sized::<1, R, T, I, O>(rt, alloc, n, image, text, sharing, commands, out, keeps),
+        7 => run_sized::<7, R, T, I, O>(rt, alloc, n, image, text, sharing, commands, out, keeps),
         _ => Err(ProgramFault::Cap),
     }
 }
 
 /// The same, where routers have this room.
-fn run_sized<const CAP: usize, T: Text + Drop, I: Source, O: Sink>(
+fn run_sized<const CAP: usize, R: Threads + Wait + Sync, T: Text + Drop, I: Source, O: Sink>(
+    rt: &R,
     alloc: Global,
     n: u8,
     image: Vec<u8>,
     text: T,
+    sharing: Sharing,
     commands: &mut I,
     out: &mut O,
     keeps: bool,
@@ -66,37 +77,52 @@ fn run_sized<const CAP: usize, T: Text + Drop, I: Source, O: Sink>(
     requires own { is_own_room CAP ≡ true }
     requires reader { I.has_failed commands.old ≡ false }
     requires writer { O.has_failed out.old ≡ false }
-    ensures begins { Begins image.items (T.gives text) result }
-    ensures ends { IfSome (I.left commands.old) (λ lines. EndsRun image.items (T.gives text) lines (I.left commands.new)
-        (O.contents out.old) (O.contents out.new) keeps result) }
+    ensures begins { Begins image.items (T.gives text) sharing result }
+    ensures ends { IfSome (I.left commands.old) (λ lines. EndsRun image.items (T.gives text) sharing lines
+        (I.left commands.new) (O.contents out.old) (O.contents out.new) keeps result) }
     ensures read { I.has_failed commands.new ≡ true → IsErrOf result ProgramFault.Read }
     ensures unread { IsErrOf result ProgramFault.Read
         → (I.has_failed commands.new ≡ true) ⊎ T.gives text (Err TakeFault.Read) }
     ensures write { (O.has_failed out.new ≡ true) ↔ IsErrOf result ProgramFault.Write }
-    ensures threads { ¬ IsErrOf result ProgramFault.NoThread }
+    ensures threads { sharing.workers ≡ 1 → ¬ IsErrOf result ProgramFault.NoThread }
 {
     match n {
-        0 => run_image::<0, CAP, T, I, O>(alloc, image, text, commands, out, keeps),
-        1 => run_image::<1, CAP, T, I, O>(alloc, image, text, commands, out, keeps),
-        2 => run_image::<2, CAP, T, I, O>(alloc, image, text, commands, out, keeps),
-        3 => run_image::<3, CAP, T, I, O>(alloc, image, text, commands, out, keeps),
-        4 => run_image::<4, CAP, T, I, O>(alloc, image, text, commands, out, keeps),
-        5 => run_image::<5, CAP, T, I, O>(alloc, image, text, commands, out, keeps),
-        6 => run_image::<6, CAP, T, I, O>(alloc, image, text, commands, out, keeps),
-        7 => run_image::<7, CAP, T, I, O>(alloc, image, text, commands, out, keeps),
-        8 => run_image::<8, CAP, T, I, O>(alloc, image, text, commands, out, keeps),
-        9 => run_image::<9, CAP, T, I, O>(alloc, image, text, commands, out, keeps),
-        10 => run_image::<10, CAP, T, I, O>(alloc, image, text, commands, out, keeps),
-        11 => run_image::<11, CAP, T, I, O>(alloc, image, text, commands, out, keeps),
-        _ => run_image::<12, CAP, T, I, O>(alloc, image, text, commands, out, keeps),
+        0 => run_image::<0, CAP, R, T, I, O>(rt, alloc, image, text, sharing, commands, out, keeps),
+        1 => run_image::<1, CAP, R, T, I, O>(rt, alloc, image, text, sharing, commands, out, keeps),
+        2 => run_image::<2, CAP, R, T, I, O>(rt, alloc, image, text, sharing, commands, out, keeps),
+        3 => run_image::<3, CAP, R, T, I, O>(rt, alloc, image, text, sharing, commands, out, keeps),
+        4 => run_image::<4, CAP, R, T, I, O>(rt, alloc, image, text, sharing, commands, out, keeps),
+        5 => run_image::<5, CAP, R, T, I, O>(rt, alloc, image, text, sharing, commands, out, keeps),
+        6 => run_image::<6, CAP, R, T, I, O>(rt, alloc, image, text, sharing, commands, out, keeps),
+        7 => run_image::<7, CAP, R, T, I, O>(rt, alloc, image, text, sharing, commands, out, keeps),
+        8 => run_image::<8, CAP, R, T, I, O>(rt, alloc, image, text, sharing, commands, out, keeps),
+        9 => run_image::<9, CAP, R, T, I, O>(rt, alloc, image, text, sharing, commands, out, keeps),
+        10 => run_image::<10, CAP, R, T, I, O>(
+            rt, alloc, image, text, sharing, commands, out, keeps,
+        ),
+        11 => run_image::<11, CAP, R, T, I, O>(
+            rt, alloc, image, text, sharing, commands, out, keeps,
+        ),
+        _ => run_image::<12, CAP, R, T, I, O>(
+            rt, alloc, image, text, sharing, commands, out, keeps,
+        ),
     }
 }
 
 /// The same, on a machine of these sizes.
-fn run_image<const N: usize, const CAP: usize, T: Text + Drop, I: Source, O: Sink>(
+fn run_image<
+    const N: usize,
+    const CAP: usize,
+    R: Threads + Wait + Sync,
+    T: Text + Drop,
+    I: Source,
+    O: Sink,
+>(
+    rt: &R,
     alloc: Global,
     image: Vec<u8>,
     text: T,
+    sharing: Sharing,
     commands: &mut I,
     out: &mut O,
     keeps: bool,
@@ -105,18 +131,28 @@ fn run_image<const N: usize, const CAP: usize, T: Text + Drop, I: Source, O: Sin
     requires own { is_own_room CAP ≡ true }
     requires reader { I.has_failed commands.old ≡ false }
     requires writer { O.has_failed out.old ≡ false }
-    ensures begins { Begins image.items (T.gives text) result }
-    ensures ends { IfSome (I.left commands.old) (λ lines. EndsRun image.items (T.gives text) lines (I.left commands.new)
-        (O.contents out.old) (O.contents out.new) keeps result) }
+    ensures begins { Begins image.items (T.gives text) sharing result }
+    ensures ends { IfSome (I.left commands.old) (λ lines. EndsRun image.items (T.gives text) sharing lines
+        (I.left commands.new) (O.contents out.old) (O.contents out.new) keeps result) }
     ensures read { I.has_failed commands.new ≡ true → IsErrOf result ProgramFault.Read }
     ensures unread { IsErrOf result ProgramFault.Read
         → (I.has_failed commands.new ≡ true) ⊎ T.gives text (Err TakeFault.Read) }
     ensures write { (O.has_failed out.new ≡ true) ↔ IsErrOf result ProgramFault.Write }
-    ensures threads { ¬ IsErrOf result ProgramFault.NoThread }
+    ensures threads { sharing.workers ≡ 1 → ¬ IsErrOf result ProgramFault.NoThread }
 {
     let mut machine = machine_of::<N, CAP>(alloc, image)?;
     let program = assembled(alloc, text)?;
-    run_machine(alloc, &mut machine, &program, commands, out, keeps)
+    sharing.check(N as u8)?;
+    run_with(
+        rt,
+        alloc,
+        &mut machine,
+        &program,
+        sharing,
+        commands,
+        out,
+        keeps,
+    )
 }
 
 /// The machine of an image, whose bytes are let go.
@@ -151,15 +187,18 @@ fn assembled<T: Text>(alloc: Global, text: T) -> Result<Program, ProgramFault>
     }
 }
 
-/// A session on a machine, and the image of what it leaves, if one is to be kept.
-fn run_machine<const N: usize, const CAP: usize, I: Source, O: Sink>(
+/// A session on a machine, by the runner of this sharing.
+fn run_with<const N: usize, const CAP: usize, R: Threads + Wait + Sync, I: Source, O: Sink>(
+    rt: &R,
     alloc: Global,
     machine: &mut Machine<N, CAP>,
     program: &Program,
+    sharing: Sharing,
     commands: &mut I,
     out: &mut O,
     keeps: bool,
 ) -> Result<Option<Vec<u8>>, ProgramFault>
+    requires shared { sharing_fault N sharing ≡ None }
     requires reader { I.has_failed commands.old ≡ false }
     requires writer { O.has_failed out.old ≡ false }
     ensures run { IfOk result (λ kept. IfSome (I.left commands.old) (λ lines. HasRun
@@ -170,9 +209,43 @@ fn run_machine<const N: usize, const CAP: usize, I: Source, O: Sink>(
         (I.left commands.new) (O.contents out.old) (O.contents out.new) keeps fault)) }
     ensures read { (I.has_failed commands.new ≡ true) ↔ IsErrOf result ProgramFault.Read }
     ensures write { (O.has_failed out.new ≡ true) ↔ IsErrOf result ProgramFault.Write }
-    ensures threads { ¬ IsErrOf result ProgramFault.NoThread }
+    ensures threads { sharing.workers ≡ 1 → ¬ IsErrOf result ProgramFault.NoThread }
 {
-    match session(alloc, machine, program, commands, out, &mut Plain) {
+    if sharing.workers == 1 {
+        return run_machine(alloc, machine, program, &mut Plain, commands, out, keeps);
+    }
+    let workers = u16::from(sharing.workers);
+    match Forked::new::<N>(rt, alloc, sharing.split, workers, Passage::Open) {
+        Ok(mut forked) => run_machine(alloc, machine, program, &mut forked, commands, out, keeps),
+        Err(_) => unreachable!(),
+    }
+}
+
+/// A session on a machine, by this runner, and the image of what it leaves, if one is to be kept.
+fn run_machine<const N: usize, const CAP: usize, X: Runner<N, CAP>, I: Source, O: Sink>(
+    alloc: Global,
+    machine: &mut Machine<N, CAP>,
+    program: &Program,
+    runner: &mut X,
+    commands: &mut I,
+    out: &mut O,
+    keeps: bool,
+) -> Result<Option<Vec<u8>>, ProgramFault>
+    requires runner { X.ready }
+    requires reader { I.has_failed commands.old ≡ false }
+    requires writer { O.has_failed out.old ≡ false }
+    ensures run { IfOk result (λ kept. IfSome (I.left commands.old) (λ lines. HasRun
+        (record { n = N; cap = CAP; machine = machine.old.machine }) program.now.acts lines
+        (I.left commands.new) (O.contents out.old) (O.contents out.new) keeps kept)) }
+    ensures fault { IfErr result (λ fault. IfSome (I.left commands.old) (λ lines. HasBrokenOff
+        (record { n = N; cap = CAP; machine = machine.old.machine }) program.now.acts lines
+        (I.left commands.new) (O.contents out.old) (O.contents out.new) keeps fault)) }
+    ensures read { (I.has_failed commands.new ≡ true) ↔ IsErrOf result ProgramFault.Read }
+    ensures write { (O.has_failed out.new ≡ true) ↔ IsErrOf result ProgramFault.Write }
+    ensures threads { IsErrOf result ProgramFault.NoThread
+        → X.threads_lacked runner.new ≡ one_more_lacked (X.threads_lacked runner.old) }
+{
+    match session(alloc, machine, program, commands, out, runner) {
         Ok(()) => {}
         Err(fault) => return Err(ProgramFault::from(fault)),
     }

@@ -12,7 +12,7 @@ ghost use Rattle.cm_crossing.specs.Standing.{delivered_of, kept_of, IsKept, IsWr
 
 use cm_element::Run;
 use cm_message::{Event, Message};
-use cm_router::{begin, hand_over};
+use cm_router::{begin, hand_over, who_has_not_arrived_is_kept};
 use cm_slots::{Slots, Ticket};
 
 /// Gives each message a place in the second row, those of a chip side by side, and its ticket tells that.
@@ -156,9 +156,15 @@ pub(crate) fn give_out(
     ensures log_room { vec_capacity log.old ≤ vec_capacity log.new }
 {
     begin(run, chip);
+    who_has_not_arrived_is_kept();
     let at = usize::from(chip);
     let mut place = 0;
     while let Some(ticket) = slots.ticket(at, place) {
+        // Only a message that has arrived is read: where it is kept lies far from the others.
+        if ticket.rel != 0 {
+            place += 1;
+            continue;
+        }
         let message = message_of(row, ticket);
         if hand_over(run, chip, &message, here, log) {
             slots.remove(at, place);

@@ -1,5 +1,6 @@
 -- The command line, as clap reads it: the program's name, a subcommand, its arguments; ours.
-use Rattle.std.specs.Prelude.{◌≡◌, ℕ, ◌≤◌, List, [], Option, Some, option_map, IsSomeAnd, codes, string_bytes, true}
+use Rattle.std.specs.Prelude.{◌≡◌, ℕ, ◌≤◌, ◌⊎◌, List, [], Option, Some, None, option_map, IsSomeAnd, codes}
+use Rattle.std.specs.Prelude.{string_bytes, true}
 use Rattle.std.specs.Str.Parse.{IsNumeral, digits_value, without_leading_plus}
 use Rattle.clap.specs.Walk.{Row, Rule, Text, first_of}
 use Rattle.clap.specs.Simple.{App, Shape, new_app, new_rule, on_top, subcommand_of, with_rule, with_subcommand}
@@ -35,14 +36,25 @@ abbrev pub fresh_app : App
 fresh_app =
     with_rule (with_rule (with_rule (without_help_flag (new_app (codes "fresh"))) (required_operand (codes "n"))) (required_operand (codes "cap"))) (required_operand (codes "file"))
 
--- an option `--name FILE` or `--name=FILE`, which may stand there, once
+-- an option `--name VALUE` or `--name=VALUE`, which may stand there, once
 abbrev pub option_with_value : Text → Rule
 option_with_value name = record (new_rule name) { long = Some name }
 
--- the subcommand `run`, whose operands are an image's file and a program's file; its option names a file
+-- the operands of `run`: an image's file and a program's file
+abbrev pub run_operands_app : App
+run_operands_app =
+    with_rule
+    (with_rule (without_help_flag (new_app (codes "run"))) (required_operand (codes "image")))
+    (required_operand (codes "program"))
+
+-- the subcommand `run`, whose options are two numbers and a file
 abbrev pub run_app : App
 run_app =
-    with_rule (with_rule (with_rule (without_help_flag (new_app (codes "run"))) (required_operand (codes "image"))) (required_operand (codes "program"))) (option_with_value (codes "out"))
+    with_rule
+    (with_rule
+    (with_rule run_operands_app (option_with_value (codes "split")))
+    (option_with_value (codes "workers")))
+    (option_with_value (codes "out"))
 
 -- the program, with those of its subcommands that read and write texts alone
 abbrev pub texts_app : App
@@ -68,17 +80,25 @@ pub record IsNumberOperand (name : Text) (found : List Row) (least most number :
   pub not_less : least ≤ number
   pub not_more : number ≤ most
 
+-- the number that an option gives, or that it stands for where it is left out
+abbrev pub IsNumberOption : Text → List Row → ℕ → ℕ → ℕ → ℕ → Type 0
+IsNumberOption name found least most usual number =
+    ((first_of name found ≡ None) × (number ≡ usual)) ⊎ IsNumberOperand name found least most number
+
 -- a dimension, a room and a file's name stand for the operands of `fresh`
 pub record IsFreshLine (n cap : ℕ) (file : Text) (found : List Row) : Type 0 where
   pub dimension : IsNumberOperand (codes "n") found 0 12 n
   pub room : IsNumberOperand (codes "cap") found 1 15 cap
   pub named : first_of (codes "file") found ≡ Some file
 
--- the names of an image's file and of a program's file stand for the operands of `run`, and this name, if any, for
--- its option
-pub record IsRunLine (image program : List ℕ) (out : Option (List ℕ)) (found : List Row) : Type 0 where
+-- the names of an image's file and of a program's file stand for the operands of `run`; two numbers, and this name, if
+-- any, for its options
+pub record IsRunLine (image program : List ℕ) (split workers : ℕ) (out : Option (List ℕ)) (found : List Row)
+    : Type 0 where
   pub start : first_of (codes "image") found ≡ Some image
   pub text : first_of (codes "program") found ≡ Some program
+  pub cuts : IsNumberOption (codes "split") found 0 6 0 split
+  pub crew : IsNumberOption (codes "workers") found 1 64 1 workers
   pub left : first_of (codes "out") found ≡ out
 
 -- the line is the subcommand of this name, with what was found for its arguments
@@ -87,8 +107,9 @@ IsLine line.Chip found = found.0 ≡ codes "chip"
 IsLine (line.List program) found =
     (found.0 ≡ codes "list") × (first_of (codes "program") found.1 ≡ Some (string_bytes program))
 IsLine (line.Fresh n cap file) found = (found.0 ≡ codes "fresh") × IsFreshLine n cap (string_bytes file) found.1
-IsLine (line.Run image program out) found =
-    (found.0 ≡ codes "run") × IsRunLine (string_bytes image) (string_bytes program) (option_map string_bytes out) found.1
+IsLine (line.Run image program split workers out) found =
+    (found.0 ≡ codes "run")
+    × IsRunLine (string_bytes image) (string_bytes program) split workers (option_map string_bytes out) found.1
 
 -- the words are taken, and the line is the subcommand that clap reads in them
 pub record AsksFor (words : List Text) (line : Line) : Type 0 where

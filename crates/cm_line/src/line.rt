@@ -3,7 +3,7 @@ ghost use Rattle.clap.specs.Walk.{first_of, rows_of, texts};
 ghost use Rattle.clap.specs.Matches.{found_of};
 ghost use Rattle.clap.specs.Simple.{app_of, with_rule, with_subcommand};
 ghost use Rattle.clap.specs.declared.builder.command.Command.TheViews.{out-Command as fields_of};
-ghost use Rattle.cm_line.specs.Lines.{AsksFor, IsBadLine, IsLine, IsFreshLine, IsRunLine, IsNumberOperand, required_operand, option_with_value, chip_app, list_app, fresh_app, run_app, texts_app, program_app};
+ghost use Rattle.cm_line.specs.Lines.{AsksFor, IsBadLine, IsLine, IsFreshLine, IsRunLine, IsNumberOperand, IsNumberOption, required_operand, option_with_value, chip_app, list_app, fresh_app, run_app, texts_app, program_app};
 
 use crate::fault::LineFault;
 use clap::error::ErrorKind;
@@ -20,8 +20,12 @@ const ROOM: &str = "cap";
 
 const FILE: &str = "file";
 
-/// The names of what `run` has besides its program: an operand, and an option.
+/// The names of what `run` has besides its program: an operand, and options.
 const IMAGE: &str = "image";
+
+const SPLIT: &str = "split";
+
+const WORKERS: &str = "workers";
 
 const OUT: &str = "out";
 
@@ -42,11 +46,14 @@ pub enum Line {
         cap: u8,
         file: String,
     },
-    /// `run IMAGE PROGRAM [--out FILE]`: runs the program in this file on the machine of this image, by the commands
-    /// of standard input. The image of the machine that is left goes into the file of `--out`, if one is named.
+    /// `run IMAGE PROGRAM [--split K] [--workers W] [--out FILE]`: runs the program in this file on the machine of
+    /// this image, by the commands of standard input. The image of the machine that is left goes into the file of
+    /// `--out`, if one is named. K is from 0 to 6, and 0 where it is left out; W is from 1 to 64, and 1.
     Run {
         image: String,
         program: String,
+        split: u8,
+        workers: u8,
         out: Option<String>,
     },
 }
@@ -109,17 +116,23 @@ fn fresh_line(alloc: Global, operands: &ArgMatches) -> Result<Line, LineFault>
     })
 }
 
-/// The line of `run`, by what was found for its operands and its option.
+/// The line of `run`, by what was found for its operands and its options.
 fn run_line(alloc: Global, operands: &ArgMatches) -> Result<Line, LineFault>
     ensures value { IfOk result (λ line. IsLine line (codes "run", rows_of (found_of operands.now))) }
     ensures none { IsErrOf result LineFault.BadLine
-        → (image : List ℕ) (program : List ℕ) (out : Option (List ℕ))
-        → ¬ IsRunLine image program out (rows_of (found_of operands.now)) }
+        → (image : List ℕ) (program : List ℕ) (split : ℕ) (workers : ℕ) (out : Option (List ℕ))
+        → ¬ IsRunLine image program split workers out (rows_of (found_of operands.now)) }
 {
     let Some(image) = operands.get_str(IMAGE) else {
         return Err(LineFault::BadLine);
     };
     let Some(program) = operands.get_str(PROGRAM) else {
+        return Err(LineFault::BadLine);
+    };
+    let Some(split) = number_option(operands, SPLIT, 0, 6, 0) else {
+        return Err(LineFault::BadLine);
+    };
+    let Some(workers) = number_option(operands, WORKERS, 1, 64, 1) else {
         return Err(LineFault::BadLine);
     };
     let out = match operands.get_str(OUT) {
@@ -129,6 +142,8 @@ fn run_line(alloc: Global, operands: &ArgMatches) -> Result<Line, LineFault>
     Ok(Line::Run {
         image: String::from_str(alloc, image)?,
         program: String::from_str(alloc, program)?,
+        split,
+        workers,
         out,
     })
 }
@@ -146,11 +161,23 @@ fn number_operand(operands: &ArgMatches, name: &str, least: u8, most: u8) -> Opt
     }
 }
 
+/// The number that was found for an option, if it is one of this range; `usual` where the option is left out.
+fn number_option(operands: &ArgMatches, name: &str, least: u8, most: u8, usual: u8) -> Option<u8>
+    ensures some { IfSome result (IsNumberOption name.now (rows_of (found_of operands.now)) least most usual) }
+    ensures none { result ≡ None
+        → (number : ℕ) → ¬ IsNumberOption name.now (rows_of (found_of operands.now)) least most usual number }
+{
+    match operands.get_str(name) {
+        Some(_) => number_operand(operands, name, least, most),
+        None => Some(usual),
+    }
+}
+
 /// A law: of the words below, `chip` alone, `list` with one operand, `fresh` with three, and `run` with two and at
-/// most one `--out`, before its operands or behind them, ask for a line. A call for help or for the version, no
-/// subcommand, no word at all, an unknown subcommand, an operand or an option of `chip`, `list` with no operand, with
-/// two or with an option, and `run` with one operand or three, with another option, with `--out` twice or with no
-/// file behind it do not.
+/// most one `--out`, `--split` and `--workers` each, before its operands or behind them, ask for a line. A call for
+/// help or for the version, no subcommand, no word at all, an unknown subcommand, an operand or an option of `chip`,
+/// `list` with no operand, with two or with an option, and `run` with one operand or three, with another option, with
+/// an option twice, or with no file or no number of its range behind it do not.
 #[tactic(auto, unfolding(clap::proofs::OnLiterals::clap_on_literals))]
 pub fn lines_and_bad_lines()
     ensures chip { AsksFor (codes "cm1" ∷ codes "chip" ∷ []) Line.Chip }
@@ -175,28 +202,55 @@ pub fn lines_and_bad_lines()
     ensures two_programs { IsBadLine (codes "cm1" ∷ codes "list" ∷ codes "sums.txt" ∷ codes "more.txt" ∷ []) }
     ensures run { (image : String Global) (program : String Global) → string_bytes image ≡ codes "a.image"
         → string_bytes program ≡ codes "sums.txt"
-        → AsksFor (codes "cm1" ∷ codes "run" ∷ codes "a.image" ∷ codes "sums.txt" ∷ []) (Line.Run image program None) }
+        → AsksFor (codes "cm1" ∷ codes "run" ∷ codes "a.image" ∷ codes "sums.txt" ∷ [])
+        (Line.Run image program 0 1 None) }
     ensures run_with_out { (image : String Global) (program : String Global) (out : String Global)
         → string_bytes image ≡ codes "a.image" → string_bytes program ≡ codes "sums.txt"
         → string_bytes out ≡ codes "b.image"
         → AsksFor
         (codes "cm1" ∷ codes "run" ∷ codes "a.image" ∷ codes "sums.txt" ∷ codes "--out" ∷ codes "b.image" ∷ [])
-        (Line.Run image program (Some out)) }
+        (Line.Run image program 0 1 (Some out)) }
     ensures run_with_out_first { (image : String Global) (program : String Global) (out : String Global)
         → string_bytes image ≡ codes "a.image" → string_bytes program ≡ codes "sums.txt"
         → string_bytes out ≡ codes "b.image"
         → AsksFor (codes "cm1" ∷ codes "run" ∷ codes "--out=b.image" ∷ codes "a.image" ∷ codes "sums.txt" ∷ [])
-        (Line.Run image program (Some out)) }
+        (Line.Run image program 0 1 (Some out)) }
+    ensures run_with_split { (image : String Global) (program : String Global) → string_bytes image ≡ codes "a.image"
+        → string_bytes program ≡ codes "sums.txt"
+        → AsksFor
+        (codes "cm1" ∷ codes "run" ∷ codes "a.image" ∷ codes "sums.txt" ∷ codes "--split" ∷ codes "6" ∷ [])
+        (Line.Run image program 6 1 None) }
+    ensures run_with_workers { (image : String Global) (program : String Global) → string_bytes image ≡ codes "a.image"
+        → string_bytes program ≡ codes "sums.txt"
+        → AsksFor
+        (codes "cm1" ∷ codes "run" ∷ codes "--split=2" ∷ codes "--workers" ∷ codes "64" ∷ codes "a.image"
+        ∷ codes "sums.txt" ∷ [])
+        (Line.Run image program 2 64 None) }
     ensures option_of_list { IsBadLine (codes "cm1" ∷ codes "list" ∷ codes "sums.txt" ∷ codes "--out" ∷ []) }
     ensures run_without_program { IsBadLine (codes "cm1" ∷ codes "run" ∷ codes "a.image" ∷ []) }
     ensures run_of_three { IsBadLine
         (codes "cm1" ∷ codes "run" ∷ codes "a.image" ∷ codes "sums.txt" ∷ codes "more.txt" ∷ []) }
     ensures unknown_option_of_run { IsBadLine
-        (codes "cm1" ∷ codes "run" ∷ codes "a.image" ∷ codes "sums.txt" ∷ codes "--split" ∷ codes "4" ∷ []) }
+        (codes "cm1" ∷ codes "run" ∷ codes "a.image" ∷ codes "sums.txt" ∷ codes "--steps" ∷ codes "4" ∷ []) }
     ensures out_without_file { IsBadLine
         (codes "cm1" ∷ codes "run" ∷ codes "a.image" ∷ codes "sums.txt" ∷ codes "--out" ∷ []) }
     ensures out_twice { IsBadLine
         (codes "cm1" ∷ codes "run" ∷ codes "a.image" ∷ codes "sums.txt" ∷ codes "--out=b" ∷ codes "--out=c" ∷ []) }
+    ensures split_above_6 { IsBadLine
+        (codes "cm1" ∷ codes "run" ∷ codes "a.image" ∷ codes "sums.txt" ∷ codes "--split" ∷ codes "7" ∷ []) }
+    ensures split_that_is_no_number { IsBadLine
+        (codes "cm1" ∷ codes "run" ∷ codes "a.image" ∷ codes "sums.txt" ∷ codes "--split" ∷ codes "two" ∷ []) }
+    ensures split_without_number { IsBadLine
+        (codes "cm1" ∷ codes "run" ∷ codes "a.image" ∷ codes "sums.txt" ∷ codes "--split" ∷ []) }
+    ensures split_twice { IsBadLine
+        (codes "cm1" ∷ codes "run" ∷ codes "a.image" ∷ codes "sums.txt" ∷ codes "--split=1" ∷ codes "--split=2" ∷ []) }
+    ensures no_workers { IsBadLine
+        (codes "cm1" ∷ codes "run" ∷ codes "a.image" ∷ codes "sums.txt" ∷ codes "--workers" ∷ codes "0" ∷ []) }
+    ensures workers_above_64 { IsBadLine
+        (codes "cm1" ∷ codes "run" ∷ codes "a.image" ∷ codes "sums.txt" ∷ codes "--workers" ∷ codes "65" ∷ []) }
+    ensures workers_twice { IsBadLine
+        (codes "cm1" ∷ codes "run" ∷ codes "a.image" ∷ codes "sums.txt" ∷ codes "--workers=1" ∷ codes "--workers=2"
+        ∷ []) }
 {}
 
 fn program<'a>(alloc: Global) -> Result<Command<'a>, AllocError>
@@ -253,6 +307,8 @@ fn run<'a>(alloc: Global) -> Result<Command<'a>, AllocError>
     let run = Command::new(alloc, "run").disable_help_flag(true);
     let run = adding_operand(alloc, run, IMAGE)?;
     let run = adding_operand(alloc, run, PROGRAM)?;
+    let run = adding_option(alloc, run, SPLIT)?;
+    let run = adding_option(alloc, run, WORKERS)?;
     adding_option(alloc, run, OUT)
 }
 

@@ -16,8 +16,9 @@ use Rattle.cm_model.proofs.Each.{same_each_below}
 use Rattle.cm_blocks.specs.Parts.{Part, chip_in, buffer_in, log_in}
 use Rattle.cm_blocks.specs.Parcels.{Blank}
 use Rattle.cm_blocks.specs.Steps.{part_after, delivered_of as delivered_to}
-use Rattle.cm_petit.specs.Routers.{Log, free_at, events_of, machine_of, part_of, AreRouters, HasLogRoom}
-use Rattle.cm_petit.proofs.Made.{AreMade, HaveLost, made_begins, lost_begins, made_more, made_more_of, made_past, lost_past}
+use Rattle.cm_petit.specs.Routers.{Log, free_at, events_of, machine_of, part_of, HasLogRoom}
+use Rattle.cm_petit.proofs.Made.{AreMade, AreAsMany, HaveLost, made_begins, lost_begins, made_more, made_more_of}
+use Rattle.cm_petit.proofs.Made.{made_past, lost_past}
 use Rattle.cm_petit.proofs.Made.{not_yet_made_of, made_all_from, lost_more, free_read}
 
 -- what delivery makes of the chip at a place of a part, of its buffer and its log
@@ -53,7 +54,7 @@ delivered_begins cap first span chips buffers logs =
 -- the next log has room for all that may be delivered
 pub room_to_deliver : (cap first span : ℕ) (chips_before : Chips) (buffers_before : List (List Message))
     (logs_before : List Log) (chips : Chips) (buffers : List (List Message)) (logs : List Log) (i : ℕ) (log : Log)
-    → AreRouters span cap chips_before buffers_before logs_before → HasLogRoom cap logs_before
+    → AreAsMany span chips_before buffers_before logs_before → HasLogRoom cap logs_before
     → i < 2 ^ span → i < length logs
     → log ≡ get_or logs i log → vec_len log ≤ vec_capacity log
     → IsDelivered cap (part_of first (2 ^ span) chips_before buffers_before logs_before 0) logs_before chips buffers
@@ -92,7 +93,7 @@ delivered_past cap first span chips_before buffers_before logs_before chips buff
 pub delivered_more : (cap first span : ℕ) (chips_before : Chips) (buffers_before : List (List Message))
     (logs_before : List Log) (chips : Chips) (buffers : List (List Message)) (logs : List Log) (i : ℕ)
     (chip next_chip : List Processor) (ms next_ms : List Message) (log next_log : Log)
-    → AreRouters span cap chips_before buffers_before logs_before → i < 2 ^ span → i < length logs
+    → AreAsMany span chips_before buffers_before logs_before → i < 2 ^ span → i < length logs
     → chip ≡ chip_at chips i → ms ≡ list_at buffers i → log ≡ get_or logs i log
     → next_chip ≡ chip_after_delivery (delivered_of ms chip) chip
     → next_ms ≡ kept_of ms chip
@@ -129,7 +130,7 @@ delivered_more cap first span chips_before buffers_before logs_before chips buff
 -- all of them
 pub delivered_all : (n cap first span clock : ℕ) (chips_before : Chips) (buffers_before : List (List Message))
     (logs_before : List Log) (chips : Chips) (buffers : List (List Message)) (logs : List Log) (last : ℕ)
-    → AreRouters span cap chips_before buffers_before logs_before → 2 ^ span ≤ last
+    → AreAsMany span chips_before buffers_before logs_before → 2 ^ span ≤ last
     → IsDelivered cap (part_of first (2 ^ span) chips_before buffers_before logs_before 0) logs_before chips buffers
     logs last
     → part_of first (2 ^ span) chips buffers logs (clock + 1)

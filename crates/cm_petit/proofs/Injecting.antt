@@ -17,8 +17,8 @@ use Rattle.cm_model.specs.Steps.{Inject}
 use Rattle.cm_blocks.specs.Parts.{Part, chip_in, buffer_in, log_in}
 use Rattle.cm_blocks.specs.Parcels.{Blank}
 use Rattle.cm_blocks.specs.Steps.{taken_of, sent_of, part_after}
-use Rattle.cm_petit.specs.Routers.{Log, events_of, machine_of, part_of, AreRouters}
-use Rattle.cm_petit.proofs.Made.{AreMade, HaveLost, made_begins, lost_begins, made_more, made_more_of}
+use Rattle.cm_petit.specs.Routers.{Log, events_of, machine_of, part_of}
+use Rattle.cm_petit.proofs.Made.{AreMade, AreAsMany, HaveLost, made_begins, lost_begins, made_more, made_more_of}
 use Rattle.cm_petit.proofs.Made.{not_yet_made_of, made_all_from, lost_more}
 
 -- what injection makes of the chip at a place of a part, of its buffer and its log
@@ -55,7 +55,7 @@ injected_begins n cap first span clock chips buffers logs =
 pub injected_more : (n cap first span clock : ℕ) (chips_before : Chips) (buffers_before : List (List Message))
     (logs_before : List Log) (chips : Chips) (buffers : List (List Message)) (logs : List Log) (i : ℕ)
     (chip next_chip : List Processor) (ms next_ms : List Message) (log next_log : Log)
-    → AreRouters span cap chips_before buffers_before logs_before → i < 2 ^ span → i < length logs
+    → AreAsMany span chips_before buffers_before logs_before → i < 2 ^ span → i < length logs
     → chip ≡ chip_at chips i → ms ≡ list_at buffers i → log ≡ get_or logs i log
     → next_chip ≡ chip_after_injection (senders_taken cap (length ms) chip) chip
     → next_ms ≡ ms ++ messages_sent n clock (first + i) chip (senders_taken cap (length ms) chip)
@@ -93,7 +93,7 @@ injected_more n cap first span clock chips_before buffers_before logs_before chi
 -- all of them
 pub injected_all : (n cap first span clock : ℕ) (chips_before : Chips) (buffers_before : List (List Message))
     (logs_before : List Log) (chips : Chips) (buffers : List (List Message)) (logs : List Log) (last : ℕ)
-    → AreRouters span cap chips_before buffers_before logs_before → 2 ^ span ≤ last
+    → AreAsMany span chips_before buffers_before logs_before → 2 ^ span ≤ last
     → IsInjected n cap (part_of first (2 ^ span) chips_before buffers_before logs_before clock) logs_before chips buffers
     logs last
     → part_of first (2 ^ span) chips buffers logs clock

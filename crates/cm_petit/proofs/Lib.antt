@@ -4,3 +4,5 @@ pub mod Delivering
 pub mod Dimensions
 pub mod Quiet
 pub mod Bands
+pub mod Pairs
+pub mod Noding

@@ -1,11 +1,13 @@
 -- Rows that a loop makes anew, one element after another, each from the old row.
-use Rattle.std.proofs.Common.{◌≡◌, ◌≢◌, ℕ, ◌+◌, ◌<◌, ◌≤◌, List, length, map, set, get_or, refl, sym, ap, ◌∙◌, subst}
-use Rattle.std.proofs.Common.{arith, ⊎_elim, below_more, get_or-set_same, get_or-set_other, ext_get_or}
+use Rattle.std.proofs.Common.{◌≡◌, ◌≢◌, ℕ, ◌+◌, ◌^◌, ◌<◌, ◌≤◌, List, length, map, set, get_or, refl, sym}
+use Rattle.std.proofs.Common.{ap, ◌∙◌, subst, arith, ⊎_elim, below_more, get_or-set_same, get_or-set_other, ext_get_or}
 use Rattle.std.proofs.lemmas.Bool.{cases_lt}
 use Rattle.std.proofs.lemmas.List.{length-set, length-map, map-set, get_or-map, get_or_read}
 use Rattle.cm_model.specs.Each.{each_from}
 use Rattle.cm_model.proofs.Each.{is_each, length-each_from, get_or-each_from}
-use Rattle.cm_petit.specs.Routers.{Log, free_places, free_at}
+use Rattle.cm_model.specs.declared.message.Message.{Message}
+use Rattle.cm_model.specs.Array.{Chips}
+use Rattle.cm_petit.specs.Routers.{Log, free_places, free_at, AreRouters}
 
 -- so many elements are what the function gives for their number, and the others are as before
 pub record AreMade {X : Type 0} (d : X) (f : ℕ → X) (before now : List X) (count : ℕ) : Type 0 where
@@ -124,3 +126,19 @@ pub not_yet_made_of : {X Y : Type 0} (g : Y → X) (d : X) (f : ℕ → X) (befo
     → AreMade d f before (map g now) i → g y ≡ get_or before i d
 not_yet_made_of g d f before now i y inside read was =
     ap g read ∙ sym (get_or-map g now i y d inside) ∙ was.rest i (omega arith)
+
+-- ---- three rows
+
+-- one chip, one buffer and one log for each number of a cube of n dimensions
+pub record AreAsMany (n : ℕ) (chips : Chips) (buffers : List (List Message)) (logs : List Log) : Type 0 where
+  pub chip_count : length chips ≡ 2 ^ n
+  pub buffer_count : length buffers ≡ 2 ^ n
+  pub log_count : length logs ≡ 2 ^ n
+
+pub as_many : {n cap : ℕ} {chips : Chips} {buffers : List (List Message)} {logs : List Log}
+    → AreRouters n cap chips buffers logs → AreAsMany n chips buffers logs
+as_many are = record {
+  chip_count = are.chip_count;
+  buffer_count = are.buffer_count;
+  log_count = are.log_count;
+}

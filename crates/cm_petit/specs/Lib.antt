@@ -1,1 +1,2 @@
 pub mod Routers
+pub mod Nodes

@@ -1,6 +1,6 @@
 //! Delivery of one message, wherever it stands.
 
-ghost use Rattle.std.specs.Prelude.{◌≡◌, ℕ, ◌<◌, ◌≤◌, ◌+◌, ◌&&◌, List, [], ◌∷◌, ◌++◌, IsFalse, length, slice_set};
+ghost use Rattle.std.specs.Prelude.{◌≡◌, ℕ, ◌<◌, ◌≤◌, ◌+◌, ◌&&◌, List, [], ◌∷◌, ◌++◌, IsFalse, false, length, slice_set};
 ghost use Rattle.std.specs.Prelude.{if◌then◌else◌, vec_len, vec_capacity};
 ghost use Rattle.cm_model.specs.declared.message.Message.{Message};
 ghost use Rattle.cm_model.specs.Processor.{Processor};
@@ -29,6 +29,12 @@ pub fn pass_over(run: &Run)
 {
     let _ = run.flag_row(FlagNo::RECV);
 }
+
+/// A message that has not arrived is kept, whoever can receive.
+pub fn who_has_not_arrived_is_kept()
+    ensures law { (before : List Processor) (seen : List Message) (m : Message) (chip : List Processor)
+        → has_arrived m ≡ false → HasGone before seen chip → HasHandedOver false before seen m chip }
+{}
 
 /// Delivers a message of a chip's buffer, if it has arrived and its processor can receive: the payload stands
 /// there then, RECV is 1, and the log tells. Whether it was delivered; if not, it is to be kept. Called

@@ -62,6 +62,13 @@ impl Node {
         }
     }
 
+    /// How many messages it has room for.
+    pub fn room(&self) -> u8
+        ensures value { result ≡ self.now.room }
+    {
+        self.room
+    }
+
     /// The messages that stand here, in order of arrival.
     pub fn messages(&self) -> &[Message]
         ensures value { result.now ≡ self.now.messages }

@@ -10,3 +10,4 @@ pub mod Cubes
 pub mod Empty
 pub mod Changing
 pub mod Single
+pub mod Reaching

@@ -1,9 +1,8 @@
 //! Tiles of chips.
 
 ghost use Rattle.std.specs.Prelude.{◌≡◌, ◌↔◌, ◌≢◌, ℕ, ◌<◌, ◌≤◌, ◌++◌, [], ◌∷◌, IsFalse, IsTrue, true, length, remove};
-ghost use Rattle.std.specs.Prelude.{slice_index};
-ghost use Rattle.std.specs.Prelude.{slice_set};
-ghost use Rattle.cm_slots.specs.Slots.{is_taken};
+ghost use Rattle.std.specs.Prelude.{◌⊎◌, slice_index, slice_index_or, slice_set, None};
+ghost use Rattle.cm_slots.specs.Slots.{is_taken, IsBlank};
 ghost use Rattle.cm_slots.specs.Tiles.{slots_of, standing_at, IsShaped, IsQuiet, IsTile, HasLeft};
 ghost use Rattle.cm_slots.specs.Tiles.{HasTakenIn, IsPut, HasChanged};
 
@@ -56,13 +55,43 @@ impl Tile {
         requires within { (i : ℕ) → i < 64 → length (standing_at self.old i) ≤ room }
         ensures value { HasLeft room dim self.old self.new leavers.new }
     {
-        *leavers = None;
         if self.is_quiet() {
             self.awake = false;
-            return;
+            forget(leavers);
+        } else {
+            self.let_leave(leavers, room, dim);
         }
-        leave(&mut self.first, &mut self.rest[..], room - 1, dim);
+    }
+
+    /// The same where somebody stands. It stands apart so that a tile at which nobody does costs no more than a look.
+    #[inline(never)]
+    fn let_leave(&mut self, leavers: &mut Option<Row>, room: usize, dim: u8)
+        requires dimension { dim < 12 }
+        requires some { 0 < room }
+        requires most { room ≤ 15 }
+        requires whole { IsTile self.old }
+        requires within { (i : ℕ) → i < 64 → length (standing_at self.old i) ≤ room }
+        ensures value { HasLeft room dim self.old self.new leavers.new }
+    {
+        let reach = self.reach(room);
+        leave(&mut self.first, &mut self.rest[..], reach - 1, dim);
         *leavers = Some(flipped(&self.first, dim));
+    }
+
+    /// How much room is enough to find who leaves: where one ticket at most stands at each chip, that for two, since
+    /// then nobody is the last of a full chip.
+    fn reach(&self, room: usize) -> usize
+        requires some { 0 < room }
+        requires whole { IsTile self.now }
+        ensures some { 0 < result }
+        ensures most { result ≤ room }
+        ensures few { (result ≡ room) ⊎ ((i : ℕ) → i < 64 → length (standing_at self.now i) < result) }
+    {
+        if room > 2 && self.is_within(1) {
+            2
+        } else {
+            room
+        }
     }
 
     /// Takes in at each chip who comes.
@@ -78,7 +107,24 @@ impl Tile {
         self.first = *coming;
         self.awake = true;
         if !is_blank(coming) || !is_blank(&self.rest[0]) {
-            take_in(&mut self.first, &mut self.rest[..], room - 1);
+            let reach = self.reach_behind(room);
+            take_in(&mut self.first, &mut self.rest[..], reach - 1);
+        }
+    }
+
+    /// How much room is enough to take in who comes: where one ticket at most stands behind the first slot of each
+    /// chip, that for two.
+    fn reach_behind(&self, room: usize) -> usize
+        requires some { 0 < room }
+        requires shape { IsShaped self.now }
+        ensures some { 0 < result }
+        ensures most { result ≤ room }
+        ensures few { (result ≡ room) ⊎ ((result ≡ 2) × IsBlank (slice_index_or self.now.rest 1 [])) }
+    {
+        if room > 2 && is_blank(&self.rest[1]) {
+            2
+        } else {
+            room
         }
     }
 
@@ -191,5 +237,14 @@ impl Tile {
             self.rest[slot - 1][place] = number;
         }
         self.awake = true;
+    }
+}
+
+/// Nobody leaves. A row that stands there is written over only if there is one: it is 256 bytes long.
+fn forget(leavers: &mut Option<Row>)
+    ensures value { leavers.new ≡ None }
+{
+    if leavers.is_some() {
+        *leavers = None;
     }
 }

@@ -14,7 +14,7 @@ use Rattle.cm_blocks.proofs.Joining.{blocks_are_the_whole}
 use Rattle.cm_array.specs.Cuts.{first_clock, joined, AreWhole}
 use Rattle.cm_subcube.specs.Laws.{all_blocks}
 
-clock-block : (n k b : ℕ) (machine : Machine) → (block n k b machine).clock ≡ machine.clock
+pub clock-block : (n k b : ℕ) (machine : Machine) → (block n k b machine).clock ≡ machine.clock
 unfolding part
 clock-block n k b machine = refl
 

@@ -1,6 +1,6 @@
 mod Rounding
 mod Blocking
-mod Joining
+pub mod Joining
 mod Exchanging
 pub mod Counting
 pub mod Following

@@ -6,3 +6,4 @@ mod Shifting
 mod Sharing
 mod Staging
 mod Standing
+mod Forking

@@ -4,3 +4,4 @@ pub mod Each
 pub mod Turns
 pub mod Shifts
 pub mod Runs
+pub mod Forks

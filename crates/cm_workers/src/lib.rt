@@ -3,13 +3,17 @@
 
 mod dealing;
 mod exchange;
+mod forked;
 mod gate;
 mod post;
 mod running;
 mod shift;
 mod turn;
+mod want;
 
+pub use forked::{ForkFault, Forked};
 pub use gate::{Gate, Passage};
 pub use post::Post;
 pub use running::{Sizes, run_blocks};
 pub use turn::Crew;
+pub use want::Want;

@@ -9,7 +9,7 @@ use crate::exchange::hand_over;
 use crate::gate::Passage;
 use crate::shift::shift;
 use crate::turn::Crew;
-use cm_array::RunFault;
+use crate::want::Want;
 use cm_model::Act;
 use cm_subcube::Round;
 use std::alloc::Global;
@@ -29,7 +29,7 @@ pub struct Sizes {
 
 /// All blocks of a machine go through a run in threads: each worker has blocks w, w + `workers`, and so on. From one
 /// round to the next every worker goes on in a thread of its own, and all are joined before the blocks exchange.
-/// Fails as `Memory`, or as `NoThread` where one was not started; the blocks are gone then.
+/// Fails for want of memory, or of a thread that was not started; the blocks are gone then.
 pub fn run_blocks<R: Threads + Wait>(
     rt: &R,
     alloc: Global,
@@ -38,27 +38,26 @@ pub fn run_blocks<R: Threads + Wait>(
     rounds: &[Round],
     passage: &Passage,
     all: Crew,
-) -> Result<Crew, RunFault>
+) -> Result<Crew, Want>
     requires dimension { sizes.dims ≤ 12 }
     requires within { sizes.k ≤ sizes.dims - sizes.dims / 2 }
     requires some { 0 < sizes.workers }
     requires few { sizes.workers ≤ 64 }
     requires rounds { rounds.now ≡ rounds_of sizes.dims sizes.k acts.now }
-    requires short { length rounds.now < 2 ^ 32 }
     requires begun { HaveBegun sizes.dims sizes.k acts.now 0 all.blocks.items all.posts.items }
     ensures value { (room : ℕ) (machine : Machine) → StandAt sizes.dims sizes.k room machine acts.now 0 all.blocks.items all.posts.items
         → IfOk result (λ now. AreAfter sizes.dims sizes.k room machine acts.now now.blocks.items) }
 {
     let mut all = all;
     for number in 0..rounds.len() {
-        all = to_round(rt, alloc, sizes, acts, rounds, number as u32, passage, all)?;
+        all = to_round(rt, alloc, sizes, acts, rounds, number, passage, all)?;
     }
     shift(
         rt,
         alloc,
         acts,
         rounds,
-        rounds.len() as u32,
+        rounds.len(),
         passage,
         sizes.workers,
         all,
@@ -72,10 +71,10 @@ fn to_round<R: Threads + Wait>(
     sizes: Sizes,
     acts: &[Act],
     rounds: &[Round],
-    number: u32,
+    number: usize,
     passage: &Passage,
     all: Crew,
-) -> Result<Crew, RunFault>
+) -> Result<Crew, Want>
     requires dimension { sizes.dims ≤ 12 }
     requires within { sizes.k ≤ sizes.dims - sizes.dims / 2 }
     requires some { 0 < sizes.workers }
@@ -87,11 +86,6 @@ fn to_round<R: Threads + Wait>(
         → IfOk result (λ now. StandAt sizes.dims sizes.k room machine acts.now (number + 1) now.blocks.items now.posts.items) }
 {
     let mut now = shift(rt, alloc, acts, rounds, number, passage, sizes.workers, all)?;
-    hand_over(
-        &mut now.posts,
-        sizes.dims,
-        sizes.k,
-        rounds[number as usize].kind,
-    );
+    hand_over(&mut now.posts, sizes.dims, sizes.k, rounds[number].kind);
     Ok(now)
 }

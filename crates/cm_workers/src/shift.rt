@@ -12,7 +12,7 @@ use crate::dealing::{collect, deal};
 use crate::gate::Passage;
 use crate::post::Post;
 use crate::turn::Crew;
-use cm_array::RunFault;
+use crate::want::Want;
 use cm_bits::NoMemory;
 use cm_model::Act;
 use cm_subcube::{Block, Round};
@@ -27,7 +27,7 @@ use std::thread::{Promise, PromisedHandle, Scope, Threads};
 pub(crate) struct HasHad<'a> {
     acts: &'a [Act],
     rounds: &'a [Round],
-    number: u32,
+    number: usize,
     was: Snapshot<Crew>,
 }
 
@@ -46,11 +46,11 @@ fn start<'s, E>(
     scope: &Scope<'s, E>,
     acts: &'s [Act],
     rounds: &'s [Round],
-    number: u32,
+    number: usize,
     passage: &'s Passage,
     crew: Crew,
     worker: u16,
-) -> Result<PromisedHandle<Crew, HasHad<'s>>, RunFault>
+) -> Result<PromisedHandle<Crew, HasHad<'s>>, Want>
     requires ready { CanAllGo acts.now (round_before rounds.now number) (slice_get rounds.now number) crew.blocks.items crew.posts.items }
     ensures ok { IfOk result (λ handle. IsPromised acts.entry.now rounds.entry.now number crew.blocks.items crew.posts.items handle.promise) }
 {
@@ -70,7 +70,7 @@ fn start<'s, E>(
     );
     match started {
         Ok(handle) => Ok(handle),
-        Err(_refused) => Err(RunFault::NoThread),
+        Err(_refused) => Err(Want::Thread),
     }
 }
 
@@ -87,10 +87,10 @@ fn start_all<'s, E>(
     alloc: Global,
     acts: &'s [Act],
     rounds: &'s [Round],
-    number: u32,
+    number: usize,
     passage: &'s Passage,
     mut hands: Hands,
-) -> Result<Vec<PromisedHandle<Crew, HasHad<'s>>>, RunFault>
+) -> Result<Vec<PromisedHandle<Crew, HasHad<'s>>>, Want>
     requires ready { CanHandsGo acts.now (round_before rounds.now number) (slice_get rounds.now number) hands.blocks.items hands.posts.items }
     requires few { length hands.blocks.items ≤ 64 }
     ensures count { IfOk result (λ handles. length handles.items ≡ length hands.blocks.items) }
@@ -114,7 +114,7 @@ fn join_all<'s, R: Threads>(
     rt: &R,
     alloc: Global,
     handles: Vec<PromisedHandle<Crew, HasHad<'s>>>,
-) -> Result<Hands, RunFault>
+) -> Result<Hands, Want>
     ensures count_blocks { IfOk result (λ hands. length hands.blocks.items ≡ length handles.entry.items) }
     ensures count_posts { IfOk result (λ hands. length hands.posts.items ≡ length handles.entry.items) }
     ensures kept { IfOk result (λ hands. (w : ℕ) (d : _) (e f : _) → w < length handles.entry.items
@@ -137,10 +137,10 @@ fn start_and_join<'s, E, R: Threads>(
     alloc: Global,
     acts: &'s [Act],
     rounds: &'s [Round],
-    number: u32,
+    number: usize,
     passage: &'s Passage,
     hands: Hands,
-) -> Result<Hands, RunFault>
+) -> Result<Hands, Want>
     requires ready { CanHandsGo acts.now (round_before rounds.now number) (slice_get rounds.now number) hands.blocks.items
         hands.posts.items }
     requires few { length hands.blocks.items ≤ 64 }
@@ -157,10 +157,10 @@ fn turn_hands<R: Threads + Wait>(
     alloc: Global,
     acts: &[Act],
     rounds: &[Round],
-    number: u32,
+    number: usize,
     passage: &Passage,
     hands: Hands,
-) -> Result<Hands, RunFault>
+) -> Result<Hands, Want>
     requires ready { CanHandsGo acts.now (round_before rounds.now number) (slice_get rounds.now number) hands.blocks.items
         hands.posts.items }
     requires few { length hands.blocks.items ≤ 64 }
@@ -170,7 +170,7 @@ fn turn_hands<R: Threads + Wait>(
     thread::scope(
         thread::scope_env(),
         rt,
-        |scope| -> Result<Hands, RunFault>
+        |scope| -> Result<Hands, Want>
             requires { CanHandsGo acts.now (round_before rounds.now number) (slice_get rounds.now number) hands.blocks.items
                 hands.posts.items × (length hands.blocks.items ≤ 64) }
             ensures { IfOk result (λ now. HandsHaveGone acts.entry.now (round_before rounds.entry.now number) (slice_get rounds.entry.now number)
@@ -186,11 +186,11 @@ pub(crate) fn shift<R: Threads + Wait>(
     alloc: Global,
     acts: &[Act],
     rounds: &[Round],
-    number: u32,
+    number: usize,
     passage: &Passage,
     workers: u16,
     all: Crew,
-) -> Result<Crew, RunFault>
+) -> Result<Crew, Want>
     requires some { 0 < workers }
     requires few { workers ≤ 64 }
     requires ready { CanAllGo acts.now (round_before rounds.now number) (slice_get rounds.now number) all.blocks.items all.posts.items }

@@ -1,6 +1,6 @@
 //! What a worker does from one exchange to the next.
 
-ghost use Rattle.std.specs.Prelude.{◌≡◌, IsTrue, slice_get};
+ghost use Rattle.std.specs.Prelude.{◌≡◌, ◌<◌, ◌^◌, IsTrue, slice_get};
 ghost use Rattle.std.specs.List.{All};
 ghost use Rattle.std.specs.Option.{option_copied};
 ghost use Rattle.cm_blocks.specs.Steps.{absorbed};
@@ -20,7 +20,7 @@ use cm_subcube::{Block, Kind, Round};
 pub(crate) struct Turn<'a> {
     pub(crate) acts: &'a [Act],
     /// The number of the round at which it ends.
-    pub(crate) number: u32,
+    pub(crate) number: usize,
     /// The round at which it begins; the first turn of a run begins with the acts.
     pub(crate) before: Option<&'a Round>,
     /// That at which it ends; the last turn ends with the acts.
@@ -40,7 +40,7 @@ impl Crew {
         self,
         acts: &[Act],
         rounds: &[Round],
-        number: u32,
+        number: usize,
         worker: u16,
         passage: &Passage,
     ) -> Crew
@@ -65,20 +65,20 @@ impl Crew {
 }
 
 /// The round at which a turn begins.
-fn before(rounds: &[Round], number: u32) -> Option<&Round>
+fn before(rounds: &[Round], number: usize) -> Option<&Round>
     ensures value { option_copied result ≡ round_before rounds.now number }
 {
     if number == 0 {
         return None;
     }
-    rounds.get(number as usize - 1)
+    rounds.get(number - 1)
 }
 
 /// That at which it ends.
-fn next(rounds: &[Round], number: u32) -> Option<&Round>
+fn next(rounds: &[Round], number: usize) -> Option<&Round>
     ensures value { option_copied result ≡ slice_get rounds.now number }
 {
-    rounds.get(number as usize)
+    rounds.get(number)
 }
 
 fn have_turn(
@@ -143,8 +143,15 @@ fn show(blocks: &mut [Block], turn: &Turn<'_>, worker: u16, passage: &Passage)
     }
     if let Passage::Gated(gate) = passage {
         gather_all(blocks);
-        gate.pass(worker, turn.number, blocks);
+        gate.pass(worker, as_told(turn.number), blocks);
     }
+}
+
+/// The number of a round as a gate is told it: one that is too large as the largest.
+fn as_told(number: usize) -> u32
+    ensures value { number < 2 ^ 32 → result ≡ number }
+{
+    u32::try_from(number).unwrap_or(u32::MAX)
 }
 
 fn gather_all(blocks: &mut [Block])

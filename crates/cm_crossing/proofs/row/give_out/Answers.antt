@@ -4,7 +4,8 @@ use Rattle.std.proofs.Common.{subst, sym, ap, ◌∙◌, arith}
 use Rattle.std.specs.List.{slice_get}
 use Rattle.std.proofs.lemmas.List.{append-nil, length-map, set-get_or}
 use Rattle.std.proofs.lemmas.List.Edits.{length-remove}
-use Rattle.std.proofs.lemmas.Option.{slice_get_within}
+use Rattle.std.proofs.lemmas.Bool.{ne_eqb}
+use Rattle.std.proofs.lemmas.Option.{slice_get_within, get_or_from_slice_get}
 use Rattle.cm_model.specs.declared.message.Message.{Message}
 use Rattle.cm_model.specs.declared.message.Event.TheVariants.{Delivered}
 use Rattle.cm_model.specs.Array.{list_at}
@@ -31,6 +32,60 @@ loop-ticket-init c =
       log_room = omega (arith, c.requires.room);
       log_len = omega arith;
       capacity = omega arith;
+    }
+
+pub message_of-message-requires : goal.message_of-message-requires
+message_of-message-requires c =
+    let queue : List Ticket = list_at c.loop-ticket.slots c.args.chip in
+    let t : Ticket = c.in-Some.ticket in
+    let place = c.loop-ticket.place in
+    let found : slice_get queue place ≡ Some t = sym (rw c.from-at.ensures at c.ticket.ensures.value) ∙ c.in-Some.is in
+    record {
+      kept = subst (λ (x : Ticket). x.number < length c.args.row.now) (get_or_from_slice_get queue place t t found)
+          (c.loop-ticket.invariant.kept place t (slice_get_within queue place t found));
+    }
+
+pub hand_over-requires-clause-room : goal.hand_over-requires-clause-room
+hand_over-requires-clause-room c =
+    let queue : List Ticket = list_at c.loop-ticket.slots c.args.chip in
+    let found : slice_get queue c.loop-ticket.place ≡ Some c.in-Some.ticket =
+    sym (rw c.from-at.ensures at c.ticket.ensures.value) ∙ c.in-Some.is in
+    omega (arith, slice_get_within queue c.loop-ticket.place c.in-Some.ticket found, c.loop-ticket.invariant.log_room)
+
+pub remove-requires-clause-place : goal.remove-requires-clause-place
+remove-requires-clause-place c =
+    let queue : List Ticket = list_at c.loop-ticket.slots c.args.chip in
+    let found : slice_get queue c.loop-ticket.place ≡ Some c.in-Some.ticket =
+    sym (rw c.from-at.ensures at c.ticket.ensures.value) ∙ c.in-Some.is in
+    rw c.from-at.ensures (slice_get_within queue c.loop-ticket.place c.in-Some.ticket found)
+
+pub loop-ticket-preserved-then-ticket-ne0 : goal.loop-ticket-preserved-then-ticket-ne0
+loop-ticket-preserved-then-ticket-ne0 c =
+    let was = c.loop-ticket in
+    let here = c.args.chip in
+    let row : List Message = c.args.row.now in
+    let queue : List Ticket = list_at was.slots here in
+    let t : Ticket = c.in-Some.ticket in
+    let m : Message = message_of row t in
+    let now : List Message = standing row queue in
+    let found : slice_get queue was.place ≡ Some t =
+    sym (rw c.from-at.ensures at c.ticket.ensures.value) ∙ c.in-Some.is in
+    let inside : was.place < length queue = slice_get_within queue was.place t found in
+    let there : was.place < length now = omega (arith, length-map queue (message_of row)) in
+    let chip = get_or was.run here [] in
+    let before = get_or c.args.run.now here [] in
+    record {
+      scan = scan_keeps before (standing row (list_at c.args.slots.now here)) c.args.log.now.items c.args.here chip chip
+          now was.place was.log.items m was.invariant.scan there (read_standing row queue was.place t found)
+          (λ seen gone. c.who_has_not_arrived_is_kept.ensures.law before seen m chip
+          (ne_eqb t.rel 0 c.if-ticket-ne0.true) gone);
+      run = was.invariant.run;
+      kept = was.invariant.kept;
+      fewer = was.invariant.fewer;
+      others = was.invariant.others;
+      log_room = omega (arith, was.invariant.log_room);
+      log_len = omega (arith, was.invariant.log_len);
+      capacity = was.invariant.capacity;
     }
 
 pub loop-ticket-preserved-then-hand_over : goal.loop-ticket-preserved-then-hand_over

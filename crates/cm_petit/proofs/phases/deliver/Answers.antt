@@ -4,6 +4,7 @@ use Rattle.cm_model.specs.Array.{list_at}
 use Rattle.cm_model.specs.Letters.{chip_after_delivery}
 use Rattle.cm_crossing.specs.Standing.{delivered_of, kept_of}
 use Rattle.cm_petit.specs.Routers.{part_of}
+use Rattle.cm_petit.proofs.Made.{as_many}
 use Rattle.cm_petit.proofs.Delivering.{IsDelivered, delivered_begins, delivered_past, room_to_deliver, delivered_more, delivered_all}
 use Rattle.cm_petit.proofs.phases.deliver.Goals as goal
 
@@ -27,7 +28,7 @@ deliver-requires-clause-room c =
     let below : here.c < 2 ^ c.args.sizes.span = omega (arith, c.requires.routers.chip_count) in
     room_to_deliver c.args.sizes.room c.args.first c.args.sizes.span c.args.run.now c.args.crossing.now.buffers
     c.args.logs.now here.run here.crossing.buffers here.logs here.c c.index-logs-c.result
-    c.requires.routers c.requires.log_room below (omega (arith, here.auto.logs, c.requires.routers.log_count))
+    (as_many c.requires.routers) c.requires.log_room below (omega (arith, here.auto.logs, c.requires.routers.log_count))
     c.index-logs-c.is (c.index-logs-c.result.ok.1) here.invariant.delivered
 
 pub loop-c-preserved : goal.loop-c-preserved
@@ -50,7 +51,7 @@ loop-c-preserved c =
     c.args.run.now c.args.crossing.now.buffers c.args.logs.now here.run here.crossing.buffers here.logs i
     chip (chip_after_delivery (delivered_of ms chip) chip) ms (kept_of ms chip)
     c.index-logs-c.result c.deliver.new.log
-    c.requires.routers below (omega (arith, here.auto.logs, c.requires.routers.log_count))
+    (as_many c.requires.routers) below (omega (arith, here.auto.logs, c.requires.routers.log_count))
     refl refl c.index-logs-c.is refl refl log_is longer kept here.invariant.delivered) in
     let many : length c.deliver.new.self.buffers ≡ 2 ^ c.args.sizes.span =
     one_more.buffers_made.long ∙ c.requires.routers.buffer_count in
@@ -69,4 +70,4 @@ returns-clause-value c =
     let here = c.loop-c in
     λ clock. delivered_all c.args.sizes.dims c.args.sizes.room c.args.first c.args.sizes.span clock
     c.args.run.now c.args.crossing.now.buffers c.args.logs.now here.run here.crossing.buffers here.logs here.c
-    c.requires.routers (omega (arith, c.requires.routers.chip_count)) here.invariant.delivered
+    (as_many c.requires.routers) (omega (arith, c.requires.routers.chip_count)) here.invariant.delivered

@@ -2,6 +2,7 @@ use Rattle.std.proofs.Common.{◌+◌, ◌<◌, ◌^◌, ◌++◌, List, [], get
 use Rattle.cm_model.specs.declared.message.Message.{Message}
 use Rattle.cm_model.specs.Array.{list_at}
 use Rattle.cm_model.specs.Letters.{senders_taken, messages_sent, chip_after_injection}
+use Rattle.cm_petit.proofs.Made.{as_many}
 use Rattle.cm_petit.proofs.Injecting.{injected_begins, injected_more, injected_all}
 use Rattle.cm_petit.proofs.Quiet.{injection_of_nothing}
 use Rattle.cm_petit.proofs.phases.inject.Goals as goal
@@ -37,7 +38,7 @@ loop-c-preserved c =
           c.args.run.now c.args.crossing.now.buffers c.args.logs.now here.run here.crossing.buffers here.logs i
           chip (chip_after_injection (senders_taken c.args.sizes.room (length ms) chip) chip) ms (ms ++ sent)
           c.index-logs-c.result c.inject.new.log
-          c.requires.routers below (omega (arith, here.auto.logs, c.requires.routers.log_count))
+          (as_many c.requires.routers) below (omega (arith, here.auto.logs, c.requires.routers.log_count))
           refl refl c.index-logs-c.is refl refl log_is longer kept here.invariant.injected);
       within = c.inject.ensures.within;
     }
@@ -47,4 +48,4 @@ returns-clause-value c =
     let here = c.loop-c in
     injected_all c.args.sizes.dims c.args.sizes.room c.args.first c.args.sizes.span c.args.clock
     c.args.run.now c.args.crossing.now.buffers c.args.logs.now here.run here.crossing.buffers here.logs here.c
-    c.requires.routers (omega (arith, c.requires.routers.chip_count)) here.invariant.injected
+    (as_many c.requires.routers) (omega (arith, c.requires.routers.chip_count)) here.invariant.injected

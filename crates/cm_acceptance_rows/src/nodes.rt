@@ -1,0 +1,108 @@
+//! Petit cycles on nodes, one for each chip, beside petit cycles on a machine's messages.
+
+use crate::bands::{Band, LOG_ROOM, are_sizes, ask, has_same_planes, next};
+use cm_crossing::Sizes;
+use cm_element::Run;
+use cm_message::Event;
+use cm_petit::{are_nodes, cycle_of_nodes, has_log_room};
+use cm_router::Node;
+use std::alloc::Global;
+use std::test::Fail;
+
+// Dimensions, room of a router, and where the drawing starts.
+const CASES: [(u8, u8, u64); 5] = [(0, 7, 41), (1, 1, 42), (3, 2, 43), (4, 1, 44), (4, 15, 45)];
+
+const CYCLES: u64 = 6;
+
+// Chips with a node and a log each, of which no contract tells anything.
+#[derive(Drop)]
+struct Noded {
+    sizes: Sizes,
+    run: Run,
+    nodes: Vec<Node>,
+    logs: Vec<Vec<Event>>,
+    clock: u64,
+}
+
+impl Noded {
+    fn blank(alloc: Global, sizes: Sizes) -> Result<Noded, Fail> {
+        let chips: u16 = 1 << (sizes.dims & 7);
+        let mut nodes = Vec::new(alloc);
+        let mut logs = Vec::new(alloc);
+        for _chip in 0..chips {
+            nodes.push(Node::new(sizes.room.max(1).min(15)))?;
+            logs.push(Vec::with_capacity(alloc, LOG_ROOM)?)?;
+        }
+        Ok(Noded {
+            sizes,
+            run: Run::blank(alloc, chips)?,
+            nodes,
+            logs,
+            clock: 0,
+        })
+    }
+
+    fn cycle(&mut self) -> bool {
+        let sizes = self.sizes;
+        if !are_sizes(sizes, 0)
+            || !are_nodes(sizes, &self.run, &self.nodes, &self.logs)
+            || !has_log_room(&self.logs, 4 + usize::from(sizes.room))
+        {
+            return false;
+        }
+        cycle_of_nodes(
+            sizes,
+            &mut self.run,
+            &mut self.nodes,
+            &mut self.logs,
+            self.clock,
+        );
+        self.clock = self.clock.wrapping_add(1);
+        true
+    }
+
+    // Whether at a chip all stands as in a machine.
+    fn is_as(&self, whole: &mut Band, chip: u16) -> bool {
+        let at = usize::from(chip);
+        let (Some(node), Some(log)) = (self.nodes.get(at), self.logs.get(at)) else {
+            return false;
+        };
+        whole.has_messages(at, node.messages())
+            && whole.logs.get(at) == Some(log)
+            && has_same_planes(&self.run, chip, &whole.run, chip)
+    }
+}
+
+// The same asks on both sides, and a petit cycle after each.
+fn go_alike(alloc: Global, case: (u8, u8, u64)) -> Result<bool, Fail> {
+    let (dims, room, seed) = case;
+    let sizes = Sizes {
+        dims,
+        span: dims,
+        room,
+    };
+    let mut whole = Band::blank(alloc, sizes, 0)?;
+    let mut noded = Noded::blank(alloc, sizes)?;
+    let mut seed = seed;
+    let mut alike = true;
+    for _cycle in 0..CYCLES {
+        for chip in 0..1 << (dims & 7) {
+            seed = next(seed);
+            ask(&mut whole.run, chip, seed, 15);
+            ask(&mut noded.run, chip, seed, 15);
+        }
+        alike = alike && whole.cycle() && noded.cycle();
+        for chip in 0..1 << (dims & 7) {
+            alike = alike && noded.is_as(&mut whole, chip);
+        }
+    }
+    Ok(alike)
+}
+
+#[test]
+fn nodes_go_as_a_machines_messages_do(rt: HostRuntime) -> Result<(), Fail> {
+    for case in CASES {
+        assert!(&rt; go_alike(rt.alloc(), case)?, "{case:?}");
+    }
+    Ok(())
+}

@@ -1,0 +1,90 @@
+//! Gates that admit workers or do not.
+
+ghost use Rattle.std.specs.Prelude.{IsTrue};
+ghost use Rattle.std.specs.List.{All};
+
+use crate::machines::{agree, flag, poke_plane};
+use cm_array::{Machine, Plain, RunFault, Runner};
+use cm_model::Act;
+use cm_subcube::Block;
+use cm_workers::{Forked, Gate, Passage};
+use std::alloc::Global;
+use std::sync::Arc;
+use std::sync::atomic::{AtomicU64, Ordering};
+use std::test::Fail;
+
+/// How often a gate was asked, and how often it was passed.
+#[derive(Drop)]
+struct Calls {
+    asked: AtomicU64,
+    passed: AtomicU64,
+}
+
+/// A gate that does not admit worker 1 where it is asked for the second time.
+#[derive(Drop)]
+struct Reluctant {
+    calls: Arc<Calls, Global>,
+}
+
+impl Gate for Reluctant {
+    fn admit(&self, worker: u16) -> bool {
+        let before = self.calls.asked.fetch_add(1, Ordering::SeqCst);
+        worker != 1 || before != 1
+    }
+
+    fn pass(&self, _worker: u16, _round: u32, _blocks: &[Block])
+        requires gathered { All (λ b. IsTrue b.kept.gathered) _blocks.now }
+    {
+        self.calls.passed.fetch_add(1, Ordering::SeqCst);
+    }
+}
+
+/// A machine of sixteen chips in which some processors ask to send.
+fn asking(alloc: Global) -> Result<Machine<4, 7>, Fail> {
+    let mut machine = Machine::<4, 7>::blank(alloc)?;
+    poke_plane(&mut machine, 0, flag(12), 0x00ff);
+    poke_plane(&mut machine, 9, flag(12), 0xf0f0);
+    Ok(machine)
+}
+
+#[test]
+fn a_worker_that_is_not_admitted_leaves_the_machine_as_it_was_and_may_be_admitted_later(
+    rt: HostRuntime,
+) -> Result<(), Fail> {
+    let alloc = rt.alloc();
+    let calls = Arc::new(
+        alloc,
+        Calls {
+            asked: AtomicU64::new(0),
+            passed: AtomicU64::new(0),
+        },
+    )?;
+    let gate = Reluctant {
+        calls: Arc::try_clone(&calls)?,
+    };
+    let passage = Passage::Gated(Box::new(alloc, gate)?);
+    let mut forked = Forked::new::<4>(&rt, alloc, 2, 2, passage)?;
+    let mut machine = asking(alloc)?;
+    let mut plain = machine.copy(alloc)?;
+
+    assert_eq!(rt;
+        forked.go(&mut machine, &[Act::Cycle]),
+        Err(RunFault::NoThread)
+    );
+    let alike = agree(&machine, &plain, 16);
+    let asked = calls.asked.load(Ordering::SeqCst);
+    assert_eq!(rt;
+        (alike, asked, calls.passed.load(Ordering::SeqCst)),
+        (true, 2, 0)
+    );
+
+    forked.go(&mut machine, &[Act::Cycle])?;
+    Plain.go(&mut plain, &[Act::Cycle])?;
+    let alike = agree(&machine, &plain, 16);
+    let asked = calls.asked.load(Ordering::SeqCst);
+    assert_eq!(rt;
+        (alike, asked, calls.passed.load(Ordering::SeqCst)),
+        (true, 4, 4)
+    );
+    Ok(())
+}

@@ -1,0 +1,107 @@
+//! What the tests put into machines, and how they see that two are the same.
+
+ghost use Rattle.std.specs.Prelude.{◌≡◌, ◌<◌, ◌^◌};
+ghost use Rattle.std.specs.Thread.{IsSync};
+
+use cm_array::{Machine, Plain, Runner};
+use cm_bits::{Addr, FlagNo, Plane, Proc};
+use cm_model::Act;
+use cm_workers::{Forked, Passage};
+use std::alloc::Global;
+use std::sync::Wait;
+use std::test::Fail;
+use std::thread::Threads;
+
+pub(crate) const ZERO: u8 = 8;
+
+pub(crate) const NEWS: u8 = 10;
+
+pub(crate) const SEND: u8 = 12;
+
+pub(crate) const RECV: u8 = 14;
+
+/// Into 2^`k` blocks a machine is cut, for so many workers.
+#[derive(Clone, Copy, Debug, PartialEq, Eq)]
+pub(crate) struct Share {
+    pub(crate) k: u8,
+    pub(crate) workers: u16,
+}
+
+pub(crate) fn address(number: u16) -> Addr
+    requires { number < 4096 }
+{
+    Addr::new(number).unwrap()
+}
+
+pub(crate) fn flag(number: u8) -> FlagNo
+    requires { number < 16 }
+{
+    FlagNo::new(number).unwrap()
+}
+
+pub(crate) fn processor(number: u8) -> Proc
+    requires { number < 16 }
+{
+    Proc::new(number).unwrap()
+}
+
+/// Gives one flag of the sixteen processors of a chip these bits; flag 8 stays as it is.
+pub(crate) fn poke_plane<const N: usize, const CAP: usize>(
+    machine: &mut Machine<N, CAP>,
+    chip: u16,
+    number: FlagNo,
+    plane: Plane,
+)
+    requires chip { chip < 2 ^ N }
+{
+    for p in 0u8..16 {
+        let _ = machine.poke_flag(chip, processor(p), number, plane >> p & 1 == 1);
+    }
+}
+
+/// Whether two machines read the same everywhere.
+pub(crate) fn agree<const N: usize, const CAP: usize>(
+    one: &Machine<N, CAP>,
+    other: &Machine<N, CAP>,
+    chips: u16,
+) -> bool
+    requires chips { chips ≡ 2 ^ N }
+{
+    for c in 0..chips {
+        if one.buffer(c) != other.buffer(c) || one.log(c) != other.log(c) {
+            return false;
+        }
+        for number in 0u8..16 {
+            let number = flag(number);
+            if one.chip(c).flag_plane(number) != other.chip(c).flag_plane(number) {
+                return false;
+            }
+        }
+    }
+    for at in 0u16..4096 {
+        if one.plane_row(address(at)) != other.plane_row(address(at)) {
+            return false;
+        }
+    }
+    one.clock() == other.clock()
+}
+
+/// Whether a machine that is shared out among so many workers, in 2^`k` blocks, goes through the acts as it does on one
+/// thread.
+pub(crate) fn goes_as_plain<const N: usize, const CAP: usize, R: Threads + Wait>(
+    rt: &R,
+    alloc: Global,
+    machine: &mut Machine<N, CAP>,
+    acts: &[Act],
+    share: Share,
+    chips: u16,
+) -> Result<bool, Fail>
+    requires chips { chips ≡ 2 ^ N }
+    requires threads { IsSync R.row }
+{
+    let mut plain = machine.copy(alloc)?;
+    Plain.go(&mut plain, acts)?;
+    let mut forked = Forked::new::<N>(rt, alloc, share.k, share.workers, Passage::Open)?;
+    forked.go(machine, acts)?;
+    Ok(agree(machine, &plain, chips))
+}

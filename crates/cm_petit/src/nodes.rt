@@ -1,0 +1,134 @@
+//! A petit cycle on nodes, one for each chip, each with a buffer of its own.
+
+ghost use Rattle.std.specs.Prelude.{◌≡◌, ◌≢◌, ℕ, ◌+◌, ◌^◌, ◌<◌, ◌≤◌, ◌++◌, length, slice_set, bit_xor};
+ghost use Rattle.std.specs.Option.{option_to_list};
+ghost use Rattle.std.specs.List.{All};
+ghost use Rattle.cm_model.specs.declared.act.Act.TheVariants as act;
+ghost use Rattle.cm_model.specs.Array.{each_chip, list_at};
+ghost use Rattle.cm_model.specs.Buffers.{outgoing, buffer_after_dimension, machine_after_injection};
+ghost use Rattle.cm_model.specs.Buffers.{machine_after_delivery, after_act};
+ghost use Rattle.cm_model.specs.Keeping.{AreSizes};
+ghost use Rattle.cm_router.specs.Buffer.{buffers_of, holding};
+ghost use Rattle.cm_petit.specs.Routers.{machine_of, HasLogRoom, LosesAtMost};
+ghost use Rattle.cm_petit.specs.Nodes.{AreNodes, node_at, exchanged};
+
+use cm_crossing::Sizes;
+use cm_element::Run;
+use cm_message::{Event, Message};
+use cm_router::Node;
+
+/// One petit cycle where each chip's messages stand in a node of its own: what `cycle` does where they stand in a
+/// `Crossing`. The counter stands at `clock`; that it is one more then is for the caller to keep.
+pub fn cycle_of_nodes(
+    sizes: Sizes,
+    run: &mut Run,
+    nodes: &mut [Node],
+    logs: &mut [Vec<Event>],
+    clock: u64,
+)
+    requires sizes { AreSizes sizes.dims sizes.room }
+    requires nodes { AreNodes sizes.dims sizes.room run.old nodes.old logs.old }
+    requires log_room { HasLogRoom (4 + sizes.room) logs.old }
+    ensures value { machine_of run.new (buffers_of nodes.new) logs.new (clock + 1)
+        ≡ after_act sizes.dims sizes.room (machine_of run.old (buffers_of nodes.old) logs.old clock) act.Cycle }
+    ensures nodes { AreNodes sizes.dims sizes.room run.new nodes.new logs.new }
+    ensures log_room { LosesAtMost (4 + sizes.room) logs.old logs.new }
+{
+    inject_into_nodes(sizes, run, nodes, logs, clock);
+    for dim in 0..sizes.dims {
+        cross_nodes(sizes, nodes, dim);
+    }
+    deliver_from_nodes(sizes, run, nodes, logs);
+}
+
+/// Every node takes in messages of its chip's processors.
+fn inject_into_nodes(
+    sizes: Sizes,
+    run: &mut Run,
+    nodes: &mut [Node],
+    logs: &mut [Vec<Event>],
+    clock: u64,
+)
+    requires sizes { AreSizes sizes.dims sizes.room }
+    requires nodes { AreNodes sizes.dims sizes.room run.old nodes.old logs.old }
+    requires log_room { HasLogRoom 4 logs.old }
+    ensures value { machine_of run.new (buffers_of nodes.new) logs.new clock
+        ≡ machine_after_injection sizes.dims sizes.room (machine_of run.old (buffers_of nodes.old) logs.old clock) }
+    ensures nodes { AreNodes sizes.dims sizes.room run.new nodes.new logs.new }
+    ensures log_room { LosesAtMost 4 logs.old logs.new }
+{
+    for c in 0..nodes.len() {
+        let chip = c as u16;
+        nodes[c].inject(run, chip, chip, sizes.dims, clock, &mut logs[c]);
+    }
+}
+
+/// Messages cross a dimension: of each pair of chips both send who leaves before either takes in who comes.
+fn cross_nodes(sizes: Sizes, nodes: &mut [Node], dim: u8)
+    requires sizes { AreSizes sizes.dims sizes.room }
+    requires dim { dim < sizes.dims }
+    requires count { length nodes.old ≡ 2 ^ sizes.dims }
+    requires rooms { All (λ node. node.room ≡ sizes.room) nodes.old }
+    ensures value { buffers_of nodes.new ≡ each_chip sizes.dims (λ c. buffer_after_dimension sizes.room dim
+        (list_at (buffers_of nodes.old) c)
+        (outgoing sizes.room dim (list_at (buffers_of nodes.old) (bit_xor c (2 ^ dim))))) }
+    ensures count { length nodes.new ≡ 2 ^ sizes.dims }
+    ensures rooms { All (λ node. node.room ≡ sizes.room) nodes.new }
+{
+    for c in 0..nodes.len() {
+        let other = across(c, dim);
+        if c < other {
+            exchange(nodes, c, other, dim);
+        }
+    }
+}
+
+/// The other chip of a dimension.
+fn across(chip: usize, dim: u8) -> usize
+    requires dimension { dim < 12 }
+    ensures value { result ≡ bit_xor chip (2 ^ dim) }
+{
+    chip ^ 1 << dim
+}
+
+/// Two nodes of a dimension send each other who leaves.
+fn exchange(nodes: &mut [Node], here: usize, there: usize, dim: u8)
+    requires dimension { dim < 12 }
+    requires here { here < length nodes.old }
+    requires there { there < length nodes.old }
+    requires apart { here ≢ there }
+    ensures value { nodes.new ≡ slice_set
+        (slice_set nodes.old here (exchanged dim (node_at nodes.old here) (node_at nodes.old there)))
+        there (exchanged dim (node_at nodes.old there) (node_at nodes.old here)) }
+{
+    let going = nodes[here].leave(dim);
+    let coming = nodes[there].leave(dim);
+    welcome(&mut nodes[here], coming);
+    welcome(&mut nodes[there], going);
+}
+
+/// Who comes, if anyone does, stands last.
+fn welcome(node: &mut Node, coming: Option<Message>)
+    requires room { length node.old.messages < node.old.room }
+    ensures value { node.new ≡ holding node.old (node.old.messages ++ option_to_list coming) }
+{
+    if let Some(message) = coming {
+        node.arrive(message);
+    }
+}
+
+/// Messages that have arrived go to their processors.
+fn deliver_from_nodes(sizes: Sizes, run: &mut Run, nodes: &mut [Node], logs: &mut [Vec<Event>])
+    requires sizes { AreSizes sizes.dims sizes.room }
+    requires nodes { AreNodes sizes.dims sizes.room run.old nodes.old logs.old }
+    requires log_room { HasLogRoom sizes.room logs.old }
+    ensures value { (clock : ℕ) → machine_of run.new (buffers_of nodes.new) logs.new (clock + 1)
+        ≡ machine_after_delivery sizes.dims (machine_of run.old (buffers_of nodes.old) logs.old clock) }
+    ensures nodes { AreNodes sizes.dims sizes.room run.new nodes.new logs.new }
+    ensures log_room { LosesAtMost sizes.room logs.old logs.new }
+{
+    for c in 0..nodes.len() {
+        let chip = c as u16;
+        nodes[c].deliver(run, chip, chip, &mut logs[c]);
+    }
+}

@@ -1,0 +1,33 @@
+use Rattle.std.proofs.Common.{rules, ◌≡◌, ◌∙◌, List, [], ap, sym, arith, lit<}
+use Rattle.cm_model.specs.declared.act.Act.{Act}
+use Rattle.cm_model.specs.Machine.{run_of}
+use Rattle.cm_workers.proofs.Forking.{nothing_run, account_after}
+use Rattle.cm_workers.proofs.forked.ForkedRunner.go.Goals as goal
+
+pub returns-then-is_empty-clause-ok : goal.returns-then-is_empty-clause-ok
+returns-then-is_empty-clause-ok g c =
+    nothing_run g.row.N g.row.CAP c.args.machine.now.machine c.args.acts.now c.clock.ensures.whole (search rules)
+
+pub returns-then-is_empty-clause-account : goal.returns-then-is_empty-clause-account
+returns-then-is_empty-clause-account g c =
+    account_after g.row.N g.row.CAP c.args.machine.now.machine c.args.machine.now.machine c.args.acts.now
+    (nothing_run g.row.N g.row.CAP c.args.machine.now.machine c.args.acts.now c.clock.ensures.whole (search rules))
+
+pub fork-done-requires : goal.fork-done-requires
+fork-done-requires g c =
+    let dims = c.dims.ensures.value in (
+      lit< tt,
+      (
+        c.sizes-sizes.ensures.dims ∙ dims,
+        (
+          omega (arith, c.sizes-sizes.ensures.within, dims),
+          (
+            c.sizes-sizes.ensures.some,
+            (
+              c.sizes-sizes.ensures.few,
+              (c.in_ok-cycles.ensures.cycles, search rules),
+            ),
+          ),
+        ),
+      ),
+    )

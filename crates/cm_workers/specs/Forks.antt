@@ -1,0 +1,25 @@
+-- Forked runners: which there are, and what they count. Ours.
+use Rattle.std.specs.Prelude.{ℕ, ◌-◌, ◌/◌, ◌^◌, min, Bool, true, false, ◌==◌, ◌||◌, ltb, Option, Some, None, if◌then◌else◌}
+use Rattle.cm_workers.specs.declared.forked.ForkFault.{ForkFault}
+use Rattle.cm_workers.specs.declared.forked.ForkFault.TheVariants.{Split, Workers}
+use Rattle.cm_workers.specs.declared.want.Want.{Want}
+use Rattle.cm_workers.specs.declared.want.Want.TheVariants as want
+use Rattle.cm_array.specs.declared.runner.RunFault.{RunFault}
+use Rattle.cm_array.specs.declared.runner.RunFault.TheVariants as fault
+
+-- a machine of n dimensions is not cut into 2 ^ k blocks, which is looked at first, or these have not work for so many
+abbrev pub fork_fault : ℕ → ℕ → ℕ → Option ForkFault
+fork_fault n k workers =
+    if ltb (n - n / 2) k then Some Split else if workers == 0 || ltb (2 ^ k) workers then Some Workers else None
+
+-- of those k, and of so many workers, what a machine of n dimensions can have
+abbrev pub most_blocks : ℕ → ℕ → ℕ
+most_blocks n k = min k (n - n / 2)
+
+abbrev pub most_workers : ℕ → ℕ → ℕ → ℕ
+most_workers n k workers = min workers (2 ^ most_blocks n k)
+
+-- a want as a runner's fault
+abbrev pub of_want : Want → RunFault
+of_want want.Memory = fault.Memory
+of_want want.Thread = fault.NoThread

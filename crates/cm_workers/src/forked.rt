@@ -1,0 +1,243 @@
+//! The runner of many threads.
+
+ghost use Rattle.std.specs.Prelude.{◌≡◌, ◌↔◌, ℕ, ◌+◌, ◌-◌, ◌*◌, ◌/◌, ◌^◌, ◌<◌, ◌≤◌, ◌++◌, [], None, List};
+ghost use Rattle.std.specs.Prelude.{cond, IfOk, IfSome, IsErrOf, IsFalse, IsOk, IsTrue, ltb, MatchResult, OnOk, OnErr, length};
+ghost use Rattle.std.specs.Thread.{IsSync};
+ghost use Rattle.std.specs.List.{All};
+ghost use Rattle.cm_model.specs.declared.act.Act.{Act};
+ghost use Rattle.cm_model.specs.Machine.{run_of};
+ghost use Rattle.cm_model.specs.Account.{account, newly_injected, SameLines};
+ghost use Rattle.cm_array.specs.Acts.{cycles_in, is_late, is_long};
+ghost use Rattle.cm_array.specs.Faults.{is_no_thread, one_more_lacked};
+ghost use Rattle.cm_workers.specs.Forks.{fork_fault, most_blocks, most_workers, of_want};
+ghost use Rattle.cm_workers.specs.Posts.{blank_post};
+ghost use Rattle.cm_workers.specs.Runs.{StandAt};
+
+use crate::gate::Passage;
+use crate::post::Post;
+use crate::running::{Sizes, run_blocks};
+use crate::turn::Crew;
+use crate::want::Want;
+use cm_array::{Machine, RunFault, Runner, check_stretch};
+use cm_bits::NoMemory;
+use cm_model::Act;
+use cm_subcube::{SplitFault, join, rounds, split};
+use std::alloc::Global;
+use std::sync::Wait;
+use std::thread::Threads;
+use thiserror::Error;
+
+/// Why there is no such runner.
+#[derive(Clone, Copy, Debug, PartialEq, Eq, Error)]
+pub enum ForkFault {
+    #[error("a block would have less than a row of chips")]
+    Split,
+    #[error("there is no worker, or there are more than blocks")]
+    Workers,
+}
+
+/// The runner of many threads: it cuts a copy of a machine into blocks, which workers run, each in a thread of its own,
+/// and puts them together again when all acts are done.
+#[derive(Drop)]
+pub struct Forked<'a, R> {
+    rt: &'a R,
+    alloc: Global,
+    k: u8,
+    workers: u16,
+    passage: Passage,
+    threads_lacked: u64,
+    ghost some: { 0 < workers },
+}
+
+impl<'a, R: Threads + Wait> Forked<'a, R> {
+    /// One that cuts machines of 2^`N` chips into 2^`k` blocks for so many workers, which go through the passage. It runs
+    /// smaller machines too, in as many blocks as they can be cut into, with no more workers than blocks.
+    pub fn new<const N: usize>(
+        rt: &'a R,
+        alloc: Global,
+        k: u8,
+        workers: u16,
+        passage: Passage,
+    ) -> Result<Self, ForkFault>
+        ensures ok { IsOk result ↔ (fork_fault N k workers ≡ None) }
+        ensures refused { IfSome (fork_fault N k workers) (λ fault. IsErrOf result fault) }
+        ensures lacked { IfOk result (λ runner. runner.threads_lacked ≡ 0) }
+    {
+        if usize::from(k) > N - N / 2 {
+            return Err(ForkFault::Split);
+        }
+        if workers == 0 || are_too_few(k, workers) {
+            return Err(ForkFault::Workers);
+        }
+        Ok(Forked {
+            rt,
+            alloc,
+            k,
+            workers,
+            passage,
+            threads_lacked: 0,
+        })
+    }
+
+    /// How it shares out a machine of so many dimensions.
+    fn sizes(&self, dims: u8) -> Sizes
+        requires dimension { dims ≤ 12 }
+        ensures dims { result.dims ≡ dims }
+        ensures blocks { result.k ≡ most_blocks dims self.now.k }
+        ensures workers { result.workers ≡ most_workers dims self.now.k self.now.workers }
+        ensures within { result.k ≤ dims - dims / 2 }
+        ensures some { 0 < result.workers }
+        ensures few { result.workers ≤ 64 }
+    {
+        let k = self.k.min(dims - dims / 2);
+        Sizes {
+            dims,
+            k,
+            workers: self.workers.min(1 << k),
+        }
+    }
+}
+
+impl<'a, const N: usize, const CAP: usize, R: Threads + Wait> Runner<N, CAP> for Forked<'a, R> {
+    ghost ready = { IsSync R.row };
+
+    ghost threads_lacked = { λ runner. runner.threads_lacked };
+
+    /// Takes memory for a copy of the machine, for what its blocks exchange, and for the logs of all petit cycles in the
+    /// list. Of a list that is not empty each worker is admitted before any is started. Where memory or a thread is
+    /// wanting the machine stays as it was.
+    fn go(&mut self, machine: &mut Machine<N, CAP>, acts: &[Act]) -> Result<(), RunFault>
+        requires runner { IsSync R.row }
+        ensures long { (result ≡ Err RunFault.Long) ↔ IsTrue (is_long acts.now) }
+        ensures clock { (result ≡ Err RunFault.Clock)
+            ↔ (IsFalse (is_long acts.now) × IsTrue (is_late machine.old.machine.clock acts.now)) }
+        ensures empty { acts.now ≡ [] → IsOk result }
+        ensures ok { OnOk result (machine.new.machine ≡ run_of N CAP machine.old.machine acts.now) }
+        ensures account { OnOk result (SameLines (account N machine.new.machine)
+            (account N machine.old.machine ++ newly_injected N machine.old.machine machine.new.machine)) }
+        ensures threads { MatchResult result
+            (λ _. self.new.threads_lacked ≡ self.old.threads_lacked)
+            (λ fault. self.new.threads_lacked
+            ≡ cond (is_no_thread fault) (one_more_lacked self.old.threads_lacked) self.old.threads_lacked) }
+        ensures err { OnErr result (machine.new.machine ≡ machine.old.machine) }
+    {
+        let cycles = check_stretch(acts, machine.clock())?;
+        if acts.is_empty() {
+            return Ok(());
+        }
+        let sizes = self.sizes(machine.dims());
+        let done = fork(
+            self.rt,
+            self.alloc,
+            sizes,
+            &self.passage,
+            machine,
+            acts,
+            cycles,
+        );
+        if let Err(Want::Thread) = done {
+            self.threads_lacked = self.threads_lacked.wrapping_add(1);
+        }
+        told(done)
+    }
+}
+
+/// Whether 2^`k` blocks are too few for so many workers.
+fn are_too_few(k: u8, workers: u16) -> bool
+    ensures value { result ≡ ltb (2 ^ k) workers }
+{
+    k < 16 && 1 << k < workers
+}
+
+/// What blocks did or wanted, as a runner tells it.
+fn told(done: Result<(), Want>) -> Result<(), RunFault>
+    ensures value { MatchResult done (λ _. IsOk result) (λ want. IsErrOf result (of_want want)) }
+{
+    match done {
+        Ok(()) => Ok(()),
+        Err(Want::Memory) => Err(RunFault::Memory),
+        Err(Want::Thread) => Err(RunFault::NoThread),
+    }
+}
+
+/// A machine goes through a run by its blocks, or stays as it was. The acts have so many petit cycles.
+fn fork<const N: usize, const CAP: usize, R: Threads + Wait>(
+    rt: &R,
+    alloc: Global,
+    sizes: Sizes,
+    passage: &Passage,
+    machine: &mut Machine<N, CAP>,
+    acts: &[Act],
+    cycles: usize,
+) -> Result<(), Want>
+    requires dimension { sizes.dims ≡ N }
+    requires within { sizes.k ≤ N - N / 2 }
+    requires some { 0 < sizes.workers }
+    requires few { sizes.workers ≤ 64 }
+    requires cycles { cycles ≡ cycles_in acts.now }
+    requires clock { machine.old.machine.clock + cycles < 2 ^ 63 }
+    ensures ok { OnOk result (machine.new.machine ≡ run_of N CAP machine.old.machine acts.now) }
+    ensures account { OnOk result (SameLines (account N machine.new.machine)
+        (account N machine.old.machine ++ newly_injected N machine.old.machine machine.new.machine)) }
+    ensures err { OnErr result (machine.new.machine ≡ machine.old.machine) }
+{
+    let _clock = machine.clock();
+    admit_all(passage, sizes.workers)?;
+    let rounds = rounds(alloc, sizes.dims, acts, sizes.k)?;
+    let all = cut_up(alloc, machine, sizes, cycles)?;
+    let after = run_blocks(rt, alloc, sizes, acts, &rounds, passage, all)?;
+    join(after.blocks, machine);
+    Ok(())
+}
+
+/// Asks whether the workers may begin, the one with the lowest number first.
+fn admit_all(passage: &Passage, workers: u16) -> Result<(), Want>
+    ensures memory { ¬ IsErrOf result Want.Memory }
+{
+    let Passage::Gated(gate) = passage else {
+        return Ok(());
+    };
+    for worker in 0..workers {
+        if !gate.admit(worker) {
+            return Err(Want::Thread);
+        }
+    }
+    Ok(())
+}
+
+/// The blocks of a machine as they begin a run with so many petit cycles.
+fn cut_up<const N: usize, const CAP: usize>(
+    alloc: Global,
+    machine: &Machine<N, CAP>,
+    sizes: Sizes,
+    cycles: usize,
+) -> Result<Crew, Want>
+    requires dimension { sizes.dims ≡ N }
+    requires within { sizes.k ≤ N - N / 2 }
+    requires clock { machine.now.machine.clock + cycles < 2 ^ 63 }
+    ensures value { IfOk result (λ all. (acts : List Act) → cycles_in acts ≡ cycles
+        → StandAt N sizes.k CAP machine.now.machine acts 0 all.blocks.items all.posts.items) }
+{
+    let _clock = machine.clock();
+    let blocks = match split(alloc, machine, sizes.k, cycles) {
+        Ok(blocks) => blocks,
+        Err(SplitFault::Memory) => return Err(Want::Memory),
+        Err(SplitFault::Split) => unreachable!(),
+    };
+    let posts = blank_posts(alloc, sizes.dims, sizes.k, blocks.len())?;
+    Ok(Crew { blocks, posts })
+}
+
+/// So many posts with nothing in them.
+fn blank_posts(alloc: Global, dims: u8, k: u8, count: usize) -> Result<Vec<Post>, NoMemory>
+    requires dimension { dims ≤ 12 }
+    requires within { k ≤ dims - dims / 2 }
+    ensures count { IfOk result (λ posts. length posts.items ≡ count) }
+    ensures value { IfOk result (λ posts. All (λ post. post ≡ blank_post dims k) posts.items) }
+{
+    let mut posts = Vec::with_capacity(alloc, count)?;
+    for _i in 0..count {
+        posts.push_reserved(Post::blank(alloc, dims, k)?);
+    }
+    Ok(posts)
+}
