@@ -29,7 +29,7 @@ struct Notes {
     second: AtomicU64,
     /// How often one did not come in time.
     late: AtomicU64,
-    /// How many chips were shown with other messages than they should have.
+    /// How many chips were shown with other messages than they should have, and how often with another's blocks.
     wrong: AtomicU64,
     /// How many chips were shown.
     shown: AtomicU64,
@@ -96,6 +96,9 @@ impl Gate for Meeting {
         requires gathered { All (λ b. IsTrue b.kept.gathered) blocks.now }
     {
         self.notes.meet(worker, u64::from(round));
+        if !are_of(worker, blocks) {
+            self.notes.wrong.fetch_add(1, Ordering::SeqCst);
+        }
         for block in blocks {
             for chip in block.first()..end_of(block) {
                 self.notes.shown.fetch_add(1, Ordering::SeqCst);
@@ -105,6 +108,14 @@ impl Gate for Meeting {
             }
         }
     }
+}
+
+/// Whether these are the blocks that such a worker has of four blocks of four chips, the lowest first.
+fn are_of(worker: u16, blocks: &[Block]) -> bool {
+    let [low, high] = blocks else {
+        return false;
+    };
+    low.first() / 4 == worker && high.first() / 4 == worker + 2
 }
 
 /// Whether a machine that went through the program of messages is as one thread leaves it.

@@ -3,6 +3,8 @@
 use cm_bits::doubles::{Bytes, Room};
 use cm_cli::{Sharing, TakeFault, fresh, run_session};
 use std::alloc::Global;
+use std::sync::Wait;
+use std::thread::Threads;
 
 /// The image that is given: that of a blank machine, or one that is damaged.
 #[derive(Clone, Copy)]
@@ -147,9 +149,14 @@ fn shared((split, workers): (u8, u8)) -> Sharing {
 }
 
 /// Whether a run writes and ends as its row says; and keeps an image only if it is to, and has no fault.
-fn is_so(rt: &HostRuntime, row: &Row, sharing: (u8, u8), keeps: bool) -> Option<bool> {
+fn is_so<R: Threads + Wait + Sync>(
+    rt: &R,
+    alloc: Global,
+    row: &Row,
+    sharing: (u8, u8),
+    keeps: bool,
+) -> Option<bool> {
     let (given, text, commands, good, room, wanted, number) = *row;
-    let alloc = rt.alloc();
     let mut commands = Bytes::failing(commands, 3, good);
     let mut answers = Room::new(alloc, room, 5).ok()?;
     let end = run_session(
@@ -170,8 +177,12 @@ fn is_so(rt: &HostRuntime, row: &Row, sharing: (u8, u8), keeps: bool) -> Option<
 }
 
 /// The answers of a second session, on the image that a first one keeps.
-fn goes_on(rt: &HostRuntime, first: &[u8], second: &[u8]) -> Option<Room> {
-    let alloc = rt.alloc();
+fn goes_on<R: Threads + Wait + Sync>(
+    rt: &R,
+    alloc: Global,
+    first: &[u8],
+    second: &[u8],
+) -> Option<Room> {
     let mut commands = Bytes::failing(first, 3, 100);
     let mut answers = Room::new(alloc, 100, 5).ok()?;
     let text = text_of(alloc, SUM)?;
@@ -207,23 +218,23 @@ fn goes_on(rt: &HostRuntime, first: &[u8], second: &[u8]) -> Option<Room> {
 #[test]
 fn images_are_run(rt: HostRuntime) {
     for (i, row) in RUNS.iter().enumerate() {
-        let so = is_so(&rt, row, WHOLE, i % 2 == 0);
+        let so = is_so(&rt, rt.alloc(), row, WHOLE, i % 2 == 0);
         assert!(rt; so == Some(true), "in row {i}");
     }
 }
 
 /// Whether a run that is shared out so answers as one that is not, or is refused.
-fn is_shared(rt: &HostRuntime, row: &SharedRow) -> Option<bool> {
+fn is_shared<R: Threads + Wait + Sync>(rt: &R, alloc: Global, row: &SharedRow) -> Option<bool> {
     let (given, text, sharing, number) = *row;
     let answers: &[u8] = if number == 0 { ANSWERS } else { b"" };
     let whole: Row = (given, text, ASKS, 100, 100, answers, number);
-    is_so(rt, &whole, sharing, false)
+    is_so(rt, alloc, &whole, sharing, false)
 }
 
 #[test]
 fn runs_are_shared_out_or_refused(rt: HostRuntime) {
     for (i, row) in SHARED_RUNS.iter().enumerate() {
-        let so = is_shared(&rt, row);
+        let so = is_shared(&rt, rt.alloc(), row);
         assert!(rt; so == Some(true), "in row {i}");
     }
 }
@@ -236,7 +247,7 @@ fn machines_of_every_size_are_run(rt: HostRuntime) {
     for n in 0..13 {
         for cap in ROOMS {
             let row: Row = (Given::Blank(n, cap), SUM, ASKS, 100, 100, ANSWERS, 0);
-            let so = is_so(&rt, &row, WHOLE, n < 4);
+            let so = is_so(&rt, rt.alloc(), &row, WHOLE, n < 4);
             assert!(rt; so == Some(true), "{n} dimensions, room for {cap}");
         }
     }
@@ -247,6 +258,7 @@ fn the_image_that_is_kept_goes_on_where_the_first_session_ended(rt: HostRuntime)
     let wanted: &[u8] = b"field 44\nfield 102\nend\n";
     let answers = goes_on(
         &rt,
+        rt.alloc(),
         b"run\npoke 3 15 9 1\n",
         b"field 2 7 0 8\nfield 3 15 8 8\nrun\n",
     );

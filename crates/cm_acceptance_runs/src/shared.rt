@@ -3,6 +3,8 @@
 use cm_bits::doubles::{Bytes, Room};
 use cm_cli::{Sharing, fresh, run_session};
 use std::alloc::{AllocError, Global};
+use std::sync::Wait;
+use std::thread::Threads;
 
 /// The first four processors of each chip send to processor 5 of the chip across four dimensions; the petit cycles come
 /// behind.
@@ -55,8 +57,11 @@ fn program(alloc: Global) -> Result<Vec<u8>, AllocError> {
 }
 
 /// The image of what the run leaves, if its answers are those.
-fn left(rt: &HostRuntime, (split, workers): (u8, u8)) -> Option<Vec<u8>> {
-    let alloc = rt.alloc();
+fn left<R: Threads + Wait + Sync>(
+    rt: &R,
+    alloc: Global,
+    (split, workers): (u8, u8),
+) -> Option<Vec<u8>> {
     let mut commands = Bytes::new(ASKS, 7);
     let mut answers = Room::new(alloc, 1000, 100).ok()?;
     let image = fresh(alloc, 4, 7).ok()?;
@@ -80,10 +85,10 @@ fn left(rt: &HostRuntime, (split, workers): (u8, u8)) -> Option<Vec<u8>> {
 
 #[test]
 fn messages_cross_blocks_as_they_cross_chips(rt: HostRuntime) {
-    let whole = left(&rt, WHOLE);
+    let whole = left(&rt, rt.alloc(), WHOLE);
     assert!(rt; whole.is_some());
     for (split, workers) in SHARINGS {
-        let shared = left(&rt, (split, workers));
+        let shared = left(&rt, rt.alloc(), (split, workers));
         assert!(rt; shared == whole, "{split} cuts, {workers} workers");
     }
 }

@@ -9,8 +9,10 @@ use cm_bits::{Dir, FlagNo, Plane};
 use cm_model::{Act, Nano};
 use cm_workers::{Forked, Passage};
 use std::alloc::{AllocError, Global};
+use std::sync::Wait;
 use std::test::Fail;
-use std::time::{Duration, Instant};
+use std::thread::Threads;
+use std::time::{Clock, Duration, Instant};
 
 /// So many times these acts.
 fn turns(alloc: Global, turn: &[Act], count: usize) -> Result<Vec<Act>, AllocError> {
@@ -82,19 +84,20 @@ fn poke_bits(machine: &mut Machine<12, 7>, chip: u16, at: u16, bits: Plane)
 
 /// The least time that a runner takes for these acts, of five times one after another.
 fn least<X: Runner<12, 7>>(
-    rt: &HostRuntime,
+    clock: &impl Clock,
+    alloc: Global,
     runner: &mut X,
     from: &Machine<12, 7>,
     acts: &[Act],
 ) -> Result<Duration, Fail>
     requires runner { X.ready }
 {
-    let mut machine = from.copy(rt.alloc())?;
+    let mut machine = from.copy(alloc)?;
     let mut least = Duration::MAX;
     for _run in 0..5 {
-        let start = Instant::now(rt)?;
+        let start = Instant::now(clock)?;
         let ended = runner.go(&mut machine, acts);
-        let took = start.elapsed(rt)?;
+        let took = start.elapsed(clock)?;
         ended?;
         least = least.min(took);
     }
@@ -102,13 +105,17 @@ fn least<X: Runner<12, 7>>(
 }
 
 /// Tells how long one thread and one, two and four workers of four blocks take for these acts.
-fn tell(rt: &HostRuntime, acts: &[Act]) -> Result<(), Fail> {
-    let machine = filled(rt.alloc())?;
-    let plain = least(rt, &mut Plain, &machine, acts)?;
+fn tell<R: Clock + Print + Threads + Wait + Sync>(
+    rt: &R,
+    alloc: Global,
+    acts: &[Act],
+) -> Result<(), Fail> {
+    let machine = filled(alloc)?;
+    let plain = least(rt, alloc, &mut Plain, &machine, acts)?;
     println!(rt; "one thread: {} microseconds", plain.as_micros())?;
     for workers in [1u16, 2, 4] {
-        let mut forked = Forked::new::<12>(rt, rt.alloc(), 2, workers, Passage::Open)?;
-        let took = least(rt, &mut forked, &machine, acts)?;
+        let mut forked = Forked::new::<12>(rt, alloc, 2, workers, Passage::Open)?;
+        let took = least(rt, alloc, &mut forked, &machine, acts)?;
         println!(rt; "{workers} workers: {} microseconds", took.as_micros())?;
     }
     Ok(())
@@ -116,13 +123,13 @@ fn tell(rt: &HostRuntime, acts: &[Act]) -> Result<(), Fail> {
 
 #[test]
 fn workers_copy_the_largest_machine(rt: HostRuntime) -> Result<(), Fail> {
-    tell(&rt, &[Act::Sense])
+    tell(&rt, rt.alloc(), &[Act::Sense])
 }
 
 #[test]
 fn workers_send_from_all_processors_in_each_cycle(rt: HostRuntime) -> Result<(), Fail> {
     let acts = turns(rt.alloc(), &[everywhere(flag(SEND), 0xff), Act::Cycle], 64)?;
-    tell(&rt, acts.as_slice())
+    tell(&rt, rt.alloc(), acts.as_slice())
 }
 
 #[test]
@@ -133,17 +140,17 @@ fn workers_send_and_receive_in_each_cycle(rt: HostRuntime) -> Result<(), Fail> {
         Act::Cycle,
     ];
     let acts = turns(rt.alloc(), &turn, 64)?;
-    tell(&rt, acts.as_slice())
+    tell(&rt, rt.alloc(), acts.as_slice())
 }
 
 #[test]
 fn workers_add(rt: HostRuntime) -> Result<(), Fail> {
     let acts = turns(rt.alloc(), &[added()], 4096)?;
-    tell(&rt, acts.as_slice())
+    tell(&rt, rt.alloc(), acts.as_slice())
 }
 
 #[test]
 fn workers_pass_flags_northward(rt: HostRuntime) -> Result<(), Fail> {
     let acts = turns(rt.alloc(), &[everywhere(flag(NEWS), 0xaa)], 64)?;
-    tell(&rt, acts.as_slice())
+    tell(&rt, rt.alloc(), acts.as_slice())
 }

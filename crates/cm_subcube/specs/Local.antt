@@ -25,7 +25,7 @@ local_after n k acts (Some round) =
 abbrev pub is_through : ℕ → ℕ → List Step → Bool
 is_through n k steps = not (list_any (is_round n k) steps)
 
--- one of the rounds of a run
+-- a round at one of the acts: of one over a dimension, that the dimension is one of those over which blocks exchange
 pub record IsRoundOf (n k : ℕ) (acts : List Act) (round : Round) : Type 0 where
   pub there : round.at < length acts
   pub act : slice_get acts round.at ≡ Some round.act

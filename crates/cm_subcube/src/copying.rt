@@ -6,7 +6,7 @@ use crate::block::{SplitFault, join, split};
 use cm_array::Machine;
 use std::alloc::Global;
 
-/// Makes a machine the same as another, by 2^`k` blocks: what a run by blocks does where there are no acts.
+/// Makes a machine the same as another, by 2^`k` blocks. Too many blocks are refused before memory is asked for.
 pub fn copy_by_blocks<const N: usize, const CAP: usize>(
     alloc: Global,
     from: &Machine<N, CAP>,

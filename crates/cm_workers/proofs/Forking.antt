@@ -63,21 +63,21 @@ no_block n k machine = record {
 }
 
 -- blocks after a run are those of the machine after it
-pub after_are : (n cap k : ℕ) (machine : Machine) (acts : List Act) (blocks : List KeptBlock) (one : KeptBlock) (post : Post) → IsMachine n cap machine
+pub after_are : (n cap k : ℕ) (machine : Machine) (acts : List Act) (blocks : List KeptBlock) (one : KeptBlock) → IsMachine n cap machine
     → AreAfter n k cap machine acts blocks
     → map (λ (b : KeptBlock). b.kept.part) blocks ≡ all_blocks n k (run_of n cap machine acts)
-after_are n cap k machine acts blocks one post is after =
+after_are n cap k machine acts blocks one is after =
     is_each (block n k 0 machine) (2 ^ k) (λ b. block n k b (run_of n cap machine acts)) (map (λ (b : KeptBlock). b.kept.part) blocks)
     (length-map blocks (λ (b : KeptBlock). b.kept.part) ∙ after.count)
     (λ b l. let below : b < length blocks = omega (arith, l, after.count) in
-    get_or-map (λ (z : KeptBlock). z.kept.part) blocks b one (block n k 0 machine) below ∙ after.each b one post l
+    get_or-map (λ (z : KeptBlock). z.kept.part) blocks b one (block n k 0 machine) below ∙ after.each b one l
     ∙ ap (λ (m : Machine). block n k b m) (rounds_end_the_run n cap k machine acts is.buffer_count))
 
 pub parts_after : (n cap dims k : ℕ) (machine : Machine) (acts : List Act) (blocks : List KeptBlock) → dims ≡ n → IsMachine n cap machine
     → AreAfter dims k cap machine acts blocks
     → map (λ (b : KeptBlock). b.kept.part) blocks ≡ all_blocks n k (run_of n cap machine acts)
 parts_after n cap dims k machine acts blocks same is after =
-    after_are n cap k machine acts blocks (no_block n k machine) (blank_post n k) is
+    after_are n cap k machine acts blocks (no_block n k machine) is
     (subst (λ (d : ℕ). AreAfter d k cap machine acts blocks) same after)
 
 -- they are a whole machine

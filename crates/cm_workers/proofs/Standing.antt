@@ -23,7 +23,7 @@ use Rattle.cm_subcube.specs.Parcels.{IsOuter, IsExchange, IsExchangeBy}
 use Rattle.cm_subcube.proofs.Counting.{deliveries_shared, events_shared}
 use Rattle.cm_subcube.proofs.Following.{round_is_followed}
 use Rattle.cm_workers.specs.declared.post.Post.{Post}
-use Rattle.cm_workers.specs.Posts.{giver, AreHandedOver, CanBeOver}
+use Rattle.cm_workers.specs.Posts.{blank_post, giver, AreHandedOver, CanBeOver}
 use Rattle.cm_workers.specs.Each.{AreEach}
 use Rattle.cm_workers.specs.Turns.{round_before, CanGo, CanAllGo, HasGone}
 use Rattle.cm_workers.specs.Runs.{StandsAt, StandAt, HaveBegun, AreAfter}
@@ -141,7 +141,7 @@ module _ (n k room : ℕ) (machine : Machine) (acts : List Act) (within : k ≤ 
       let is : slice_get (rounds n k acts) (length rs) ≡ None = slice_get_past (rounds n k acts) (length rs) (omega (arith, as_many)) in
       let sent = sent_each (length rs) None blocks bs posts ps (omega arith) is at gone in record {
         count = gone.first_len ∙ at.block_count;
-        each = λ b x y l. (sent b x y l).part ∙ ap (λ (r : ℕ). block n k b (before_round n room k machine acts r)) as_many;
+        each = λ b x l. (sent b x (blank_post n k) l).part ∙ ap (λ (r : ℕ). block n k b (before_round n room k machine acts r)) as_many;
       }
 
 -- an element that is read is there

@@ -75,7 +75,7 @@ pub record StandAt (n k room : ℕ) (machine : Machine) (acts : List Act) (t : �
 -- the blocks after a run
 pub record AreAfter (n k room : ℕ) (machine : Machine) (acts : List Act) (blocks : List KeptBlock) : Type 0 where
   pub count : length blocks ≡ 2 ^ k
-  pub each : (b : ℕ) (x : KeptBlock) (y : Post) → b < 2 ^ k
+  pub each : (b : ℕ) (x : KeptBlock) → b < 2 ^ k
       → (get_or blocks b x).kept.part ≡ block n k b (before_round n room k machine acts (length (rounds n k acts)))
 
 -- blocks of some machine stand at a turn of a run

@@ -61,6 +61,8 @@ impl<'a, R: Threads + Wait> Forked<'a, R> {
     ) -> Result<Self, ForkFault>
         ensures ok { IsOk result ↔ (fork_fault N k workers ≡ None) }
         ensures refused { IfSome (fork_fault N k workers) (λ fault. IsErrOf result fault) }
+        ensures blocks { IfOk result (λ runner. runner.k ≡ k) }
+        ensures workers { IfOk result (λ runner. runner.workers ≡ workers) }
         ensures lacked { IfOk result (λ runner. runner.threads_lacked ≡ 0) }
     {
         if usize::from(k) > N - N / 2 {
@@ -193,6 +195,7 @@ fn fork<const N: usize, const CAP: usize, R: Threads + Wait>(
 /// Asks whether the workers may begin, the one with the lowest number first.
 fn admit_all(passage: &Passage, workers: u16) -> Result<(), Want>
     ensures memory { ¬ IsErrOf result Want.Memory }
+    ensures open { passage.now ≡ Passage.Open → IsOk result }
 {
     let Passage::Gated(gate) = passage else {
         return Ok(());
@@ -217,6 +220,7 @@ fn cut_up<const N: usize, const CAP: usize>(
     requires clock { machine.now.machine.clock + cycles < 2 ^ 63 }
     ensures value { IfOk result (λ all. (acts : List Act) → cycles_in acts ≡ cycles
         → StandAt N sizes.k CAP machine.now.machine acts 0 all.blocks.items all.posts.items) }
+    ensures thread { ¬ IsErrOf result Want.Thread }
 {
     let _clock = machine.clock();
     let blocks = match split(alloc, machine, sizes.k, cycles) {

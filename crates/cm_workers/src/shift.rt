@@ -1,6 +1,6 @@
 //! A turn of all workers at once, each in a thread of its own.
 
-ghost use Rattle.std.specs.Prelude.{◌≡◌, ℕ, ◌<◌, ◌≤◌, IfOk, get_or, [], length, slice_get, vec_len, vec_capacity};
+ghost use Rattle.std.specs.Prelude.{◌≡◌, ℕ, ◌<◌, ◌≤◌, IfOk, IsErrOf, get_or, [], length, slice_get, vec_len, vec_capacity};
 ghost use Rattle.std.specs.Option.{option_copied};
 ghost use Rattle.std.specs.Thread.{IsSync};
 ghost use Rattle.cm_workers.specs.Dealing.{hand};
@@ -52,6 +52,7 @@ fn start<'s, E>(
     worker: u16,
 ) -> Result<PromisedHandle<Crew, HasHad<'s>>, Want>
     requires ready { CanAllGo acts.now (round_before rounds.now number) (slice_get rounds.now number) crew.blocks.items crew.posts.items }
+    ensures memory { ¬ IsErrOf result Want.Memory }
     ensures ok { IfOk result (λ handle. IsPromised acts.entry.now rounds.entry.now number crew.blocks.items crew.posts.items handle.promise) }
 {
     let was = Snapshot::of(&crew);
@@ -119,6 +120,7 @@ fn join_all<'s, R: Threads>(
     ensures count_posts { IfOk result (λ hands. length hands.posts.items ≡ length handles.entry.items) }
     ensures kept { IfOk result (λ hands. (w : ℕ) (d : _) (e f : _) → w < length handles.entry.items
         → IsKept (get_or handles.entry.items w d).promise (hand hands.blocks.items e w) (hand hands.posts.items f w)) }
+    ensures thread { ¬ IsErrOf result Want.Thread }
 {
     let mut blocks = room_for(alloc, handles.len())?;
     let mut posts = room_for(alloc, handles.len())?;

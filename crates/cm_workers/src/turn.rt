@@ -1,6 +1,6 @@
 //! What a worker does from one exchange to the next.
 
-ghost use Rattle.std.specs.Prelude.{◌≡◌, ◌<◌, ◌^◌, IsTrue, slice_get};
+ghost use Rattle.std.specs.Prelude.{◌≡◌, ◌<◌, ◌≤◌, ◌-◌, ◌^◌, IsTrue, slice_get};
 ghost use Rattle.std.specs.List.{All};
 ghost use Rattle.std.specs.Option.{option_copied};
 ghost use Rattle.cm_blocks.specs.Steps.{absorbed};
@@ -150,6 +150,7 @@ fn show(blocks: &mut [Block], turn: &Turn<'_>, worker: u16, passage: &Passage)
 /// The number of a round as a gate is told it: one that is too large as the largest.
 fn as_told(number: usize) -> u32
     ensures value { number < 2 ^ 32 → result ≡ number }
+    ensures most { 2 ^ 32 ≤ number → result ≡ 2 ^ 32 - 1 }
 {
     u32::try_from(number).unwrap_or(u32::MAX)
 }
