@@ -1,6 +1,6 @@
 //! The messages of a run of chips.
 
-ghost use Rattle.std.specs.Prelude.{◌≡◌, ◌≢◌, ◌↔◌, ℕ, ◌+◌, ◌^◌, ◌<◌, ◌≤◌, ◌++◌, [], ◌∷◌, IfOk, IsTrue, length, map, None};
+ghost use Rattle.std.specs.Prelude.{◌≡◌, ◌≢◌, ◌↔◌, ℕ, ◌+◌, ◌*◌, ◌^◌, ◌<◌, ◌≤◌, ◌++◌, [], ◌∷◌, IfOk, IsTrue, length, map, min, None};
 ghost use Rattle.std.specs.Prelude.{slice_set, slice_index_or, bit_xor, vec_len, vec_capacity};
 ghost use Rattle.std.specs.List.{All};
 ghost use Rattle.std.specs.Option.{option_to_list};
@@ -72,6 +72,7 @@ impl Crossing {
         ensures value { IfOk result (λ crossing. crossing.buffers ≡ each_from 0 chips (λ c. [])) }
         ensures count { IfOk result (λ crossing. length crossing.buffers ≡ chips) }
         ensures gathered { IfOk result (λ crossing. IsTrue crossing.gathered) }
+        ensures free { IfOk result (λ crossing. crossing.free ≡ min 65535 (32 * chips + 4)) }
     {
         let places = MOST_PLACES.min(32 * chips + MOST_INJECTED);
         let row = Vec::with_capacity(alloc, places)?;

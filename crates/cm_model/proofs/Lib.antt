@@ -29,6 +29,7 @@ pub mod Parts
 pub mod Receiving
 pub mod Blanks
 pub mod Apart
+pub mod HeldBack
 pub mod Finding
 pub mod Unlogged
 pub mod Sinces

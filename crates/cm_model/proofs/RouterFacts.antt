@@ -112,6 +112,38 @@ unfolding each_from leaver after_dimension queue senders chip_after_injection wi
     after_injection delivered_at after_delivery opened closed run_of quiet_chip
 first_crosses = refl
 
+-- ---- a delivery goes from the front, and whoever is still on its way keeps nobody out
+
+abbrev two_for_two : Machine
+two_for_two = record {
+  chips = quiet_chip ∷ (quiet_chip ∷ []);
+  buffers = (message_to 0 5 1 (tag_of 0 7 0) ∷ (message_to 0 3 2 (tag_of 0 2 0) ∷ [])) ∷ ([] ∷ []);
+  logs = [] ∷ ([] ∷ []);
+  clock = 1;
+}
+
+both_are_told_in_order : (run_of 1 4 two_for_two (cycles 1)).logs ≡ (Delivered (message_to 0 5 1 (tag_of 0 7 0)) 0
+    ∷ (Delivered (message_to 0 3 2 (tag_of 0 2 0)) 0 ∷ [])) ∷ ([] ∷ [])
+unfolding each_from leaver after_dimension queue senders chip_after_injection with_field chip_after_delivery
+    after_injection delivered_at after_delivery opened closed run_of quiet_chip
+both_are_told_in_order = refl
+
+-- of three for processors of one number the second is on its way still, when the third is delivered
+abbrev two_to_cross : Machine
+two_to_cross = record {
+  chips = quiet_chip ∷ (quiet_chip ∷ []);
+  buffers = (message_to 1 6 1 (tag_of 0 0 0)
+      ∷ (message_to 1 6 2 (tag_of 0 1 0) ∷ (message_to 0 6 3 (tag_of 0 2 0) ∷ []))) ∷ ([] ∷ []);
+  logs = [] ∷ ([] ∷ []);
+  clock = 1;
+}
+
+one_behind_is_delivered : (run_of 1 4 two_to_cross (cycles 1)).buffers ≡ (message_to 1 6 2 (tag_of 0 1 0) ∷ [])
+    ∷ ([] ∷ [])
+unfolding each_from leaver after_dimension queue senders chip_after_injection with_field chip_after_delivery
+    after_injection delivered_at after_delivery opened closed run_of quiet_chip
+one_behind_is_delivered = refl
+
 -- ---- with room for one message it never arrives; with room for two it does in the first cycle
 
 abbrev one_sender : ℕ → ℕ → Machine

@@ -5,15 +5,15 @@ use Rattle.cm_model.specs.declared.act.Act.TheVariants as act
 use Rattle.cm_model.specs.Router.{Standing, standing_at, target, leaver, after_dimension}
 use Rattle.cm_model.specs.Order.{queue, buffer}
 use Rattle.cm_model.specs.Leaver.{IsLeaver, SincesDiffer}
-use Rattle.std.specs.List.{find}
+use Rattle.std.specs.List.{All, find}
 use Rattle.cm_model.specs.declared.message.Message.{Message}
 use Rattle.cm_model.specs.Processor.{Processor}
 use Rattle.cm_model.specs.Chip.{processor_at}
 use Rattle.cm_model.specs.Whole.{IsChip}
-use Rattle.cm_model.specs.Letters.{is_among, chip_after_injection, is_for, chip_after_delivery, IsAcknowledged, AreDeliveries, HasReceived}
+use Rattle.cm_model.specs.Letters.{is_among, chip_after_injection, is_for, chip_after_delivery, IsAcknowledged, AreDeliveries, IsHeldBack, HasReceived}
 use Rattle.cm_model.specs.Steps.{Step, IsStep}
 use Rattle.cm_model.specs.Machine.{Machine}
-use Rattle.cm_model.specs.Buffers.{leaving_place, element_at, delivered, after_step, after_act}
+use Rattle.cm_model.specs.Buffers.{leaving_place, element_at, delivered, kept, after_step, after_act}
 use Rattle.cm_model.specs.Account.{account}
 use Rattle.cm_model.specs.Keeping.{HasRoom}
 
@@ -43,6 +43,12 @@ TargetsAreKept = (cap d cycle : ℕ) (set : List Standing) → map target (after
 -- a delivery takes messages that have arrived and whose processors can receive, one for each processor at most
 abbrev pub DeliveriesAreApart : Type 0
 DeliveriesAreApart = (receives : ℕ → Bool) (here : List Message) → AreDeliveries receives (delivered receives [] here)
+
+-- and passes nobody over: a message is kept only where it has not arrived, or its processor cannot receive, or another is
+-- delivered to that one
+abbrev pub NobodyIsPassedOver : Type 0
+NobodyIsPassedOver = (receives : ℕ → Bool) (here : List Message)
+    → All (IsHeldBack receives (delivered receives [] here)) (kept receives [] here)
 
 -- each message that is delivered is received, unaltered, by the processor that it is for
 abbrev pub PayloadsAreReceived : Type 0

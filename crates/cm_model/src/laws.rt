@@ -1,7 +1,7 @@
 //! Laws over the definitions: what each function is named for holds, at every size of the machine.
 
 ghost use Rattle.cm_model.specs.Laws.{NeighboursLeadBack, MessagesAreFound, InjectedStandInTheAccount, BlankIsMachine, StepsAreToldByBuffers, RunsKeepRoom, RunsCanBeCut, RunsAreToldByBuffers, LogsOnlyGrow, AccountIsConserved, TagsStayApart, MachinesAreKept, RunsKeepMachines};
-ghost use Rattle.cm_model.specs.StepLaws.{SendersAreAcknowledged, DeliveriesAreApart, PayloadsAreReceived, LeaversHaveTheirSince, LeaversAreUnique, LeaversStandAtTheirPlace, TargetsAreKept, RoomIsKept, InstructionsKeepTheAccount};
+ghost use Rattle.cm_model.specs.StepLaws.{SendersAreAcknowledged, DeliveriesAreApart, NobodyIsPassedOver, PayloadsAreReceived, LeaversHaveTheirSince, LeaversAreUnique, LeaversStandAtTheirPlace, TargetsAreKept, RoomIsKept, InstructionsKeepTheAccount};
 
 /// A step on the grid and one back end where they began.
 pub fn neighbours_lead_back()
@@ -106,6 +106,12 @@ pub fn senders_are_acknowledged()
 /// A processor is delivered one message at most in a petit cycle, and only where its RECV was 0.
 pub fn deliveries_are_apart()
     ensures { DeliveriesAreApart }
+{}
+
+/// A message is kept at a delivery only where it has not arrived, or its processor cannot receive, or another is
+/// delivered to that one.
+pub fn nobody_is_passed_over()
+    ensures { NobodyIsPassedOver }
 {}
 
 /// Where the message of a tag is found, there it is.

@@ -31,4 +31,9 @@ returns c =
     let none : ℕ → List Message = λ k. [] in
     let same = ap (all_standing c.in_ok-row.row.items) c.in_ok-slots.ensures.value
     ∙ none_standing c.in_ok-row.row.items c.args.chips in
-    record { value = same; count = ap length same ∙ length-each_from 0 c.args.chips none; gathered = refl }
+    record {
+      value = same;
+      count = ap length same ∙ length-each_from 0 c.args.chips none;
+      gathered = refl;
+      free = omega (arith, c.min-places.ensures, c.in_ok-row.ensures.len);
+    }
