@@ -1,6 +1,8 @@
 -- Tags and births over a whole run: each new tag has the counter for its birth, and its own origin.
-use Rattle.std.proofs.Common.{◌≡◌, ℕ, zero, suc, ◌+◌, ◌<◌, ◌≤◌, ◌^◌, Bool, true, false, not, cond, eqb, ltb, ◌&&◌, List, [], ◌∷◌, length, refl, sym, ◌∙◌, ap, subst, ⊎_elim, arith}
-use Rattle.std.proofs.lemmas.Bool.{cases_Bool, cases_eq, eqb-true, eq-eqb, ne_eqb, lt-ltb, le-ltb, ltb-true, and_parts, and_right}
+use Rattle.std.proofs.Common.{◌≡◌, ℕ, zero, suc, ◌+◌, ◌<◌, ◌≤◌, ◌^◌, Bool, true, false, not, cond, eqb, ltb, ◌&&◌}
+use Rattle.std.proofs.Common.{List, [], ◌∷◌, length, refl, sym, ◌∙◌, ap, subst, ⊎_elim, arith}
+use Rattle.std.proofs.lemmas.Bool.{cases_Bool, cases_eq, eqb-true, eq-eqb, ne_eqb, lt-ltb, le-ltb}
+use Rattle.std.proofs.lemmas.Bool.{ltb-true, and_parts, and_right}
 use Rattle.std.proofs.lemmas.Bool.Decides.{nat_tests}
 use Rattle.std.proofs.lemmas.List.Elements.{All-head, All-tail, All-cons, All-nil}
 use Rattle.std.proofs.lemmas.List.Sums.{sum_by-cons, sum_by-le-sum_by}
@@ -22,8 +24,10 @@ use Rattle.cm_model.specs.Keeping.{BornBefore, HasGoodTags, HasTagsOnce}
 use Rattle.cm_model.proofs.Injecting.{AllAbove, IsAscending, IsAscending-taken}
 use Rattle.cm_model.proofs.Runs.{crossings, state_after_all-append}
 use Rattle.cm_model.proofs.Counting.{AllInCube, sum_by-none, sum_by-past}
-use Rattle.cm_model.proofs.Conserving.{one, chips_of, triple_of, delivered_count, amount, fresh_count, amount-after_injection, standing_count-after_dimension, amount-after_delivery}
-use Rattle.cm_model.proofs.Accounting.{AreSteps-crossings, AreSteps-act, state_after_all_follows, state_left, AllInCube-opened, account-opened, account-run_of}
+use Rattle.cm_model.proofs.Conserving.{one, chips_of, triple_of, delivered_count, amount, fresh_count}
+use Rattle.cm_model.proofs.Conserving.{amount-after_injection, standing_count-after_dimension, amount-after_delivery}
+use Rattle.cm_model.proofs.Accounting.{AreSteps-crossings, AreSteps-act, state_after_all_follows, state_left}
+use Rattle.cm_model.proofs.Accounting.{AllInCube-opened, account-opened, account-run_of}
 
 -- ---- what a petit cycle adds to the account
 
