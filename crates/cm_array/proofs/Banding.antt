@@ -203,8 +203,8 @@ edge_place n North s column vertical band = by band.first where
         chip = (ap (λ (y : ℕ). 4 * y / 4 * chip_columns n + column / 4) row
             ∙ ap (λ (y : ℕ). y * chip_columns n + column / 4) (let e : 4 * above / 4 ≡ above = omega arith in e)
             ∙ (let e : above * chip_columns n + column / 4 ≡ s.first + (0 + column / 4) = omega (arith, begin) in e)) t;
-        proc = (let e : 4 * (4 * (s.first / chip_columns n) % 4) + column % 4 ≡ 4 * 0 + column % 4 = omega arith in e)
-            t;
+        proc = (let e : 4 * (4 * (s.first / chip_columns n) % 4) + column % 4
+            ≡ 4 * 0 + column % 4 = omega arith in e) t;
       }
 edge_place n South s column vertical band = by band.first band.count where
   w : ℕ

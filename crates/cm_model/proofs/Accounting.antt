@@ -85,8 +85,7 @@ AreSteps-act n (act.Nano nano) = (tt, tt)
 AreSteps-act n act.Sense = (tt, tt)
 AreSteps-act n act.Cycle = (
   tt,
-  AreSteps-append n (map Cross (range_with_len 0 n)) (Deliver ∷ []) (AreSteps-crossings n 0 n (omega arith))
-      (tt, tt),
+  AreSteps-append n (map Cross (range_with_len 0 n)) (Deliver ∷ []) (AreSteps-crossings n 0 n (omega arith)) (tt, tt),
 )
 
 pub AreSteps-all : (n : ℕ) (acts : List Act) → AreSteps n (all_steps n acts)

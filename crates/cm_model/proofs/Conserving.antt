@@ -229,8 +229,7 @@ sum_by-filter_same t f g (x ∷ xs) same =
       sum_by-cons f x (filter t xs),
       sum_by-cons g x (filter t xs),
       same x e,
-      sum_by-filter_same t f
-          g xs same,
+      sum_by-filter_same t f g xs same,
     )))
     (λ (e : t x ≡ false). rw e (sum_by-filter_same t f g xs same)) (cases_Bool (t x))
 

@@ -51,8 +51,7 @@ sum_by-past g c a (suc k) h =
     omega (
       arith,
       sum_by-cons (λ b. cond (eqb c b) (g b) 0) a (range_with_len (a + 1) k),
-      sum_by-past g c (a + 1) k
-          (omega arith),
+      sum_by-past g c (a + 1) k (omega arith),
     )
 
 pub sum_by-single : (g : ℕ → ℕ) (c a k : ℕ) → a ≤ c → c < a + k
@@ -65,16 +64,14 @@ sum_by-single g c a (suc k) h l =
     omega (
       arith,
       sum_by-cons (λ b. cond (eqb c b) (g b) 0) a (range_with_len (a + 1) k),
-      sum_by-past g c (a + 1) k
-          (omega arith),
+      sum_by-past g c (a + 1) k (omega arith),
     ))
     (λ (e : c ≡ a → ⊥).
     let other : cond (eqb c a) (g a) 0 ≡ 0 = rw (ne_eqb c a e) refl in
     omega (
       arith,
       sum_by-cons (λ b. cond (eqb c b) (g b) 0) a (range_with_len (a + 1) k),
-      sum_by-single g c (a + 1) k
-          (omega arith) (omega arith),
+      sum_by-single g c (a + 1) k (omega arith) (omega arith),
     ))
     (cases_eq c a)
 
@@ -116,7 +113,6 @@ sum_by_chips n f (r ∷ set) h =
     ∙ omega (
       arith,
       sum_by-single (λ c. f c r) r.chip 0 (2 ^ n) (omega arith) (omega (arith, h.0)),
-      sum_by_chips n f
-          set h.1,
+      sum_by_chips n f set h.1,
       sum_by-cons (λ q. f q.chip q) r set,
     ))

@@ -106,8 +106,7 @@ found_there n machine tag None (place ∷ places) h e =
     in (
       found.0,
       omega (arith, found.1),
-      first_of_filter (delivery_place tag) (list_at machine.logs found.0) place found.2
-          found.3,
+      first_of_filter (delivery_place tag) (list_at machine.logs found.0) place found.2 found.3,
     )
 found_there n machine tag None [] h e =
     λ c l. record {

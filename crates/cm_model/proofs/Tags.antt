@@ -114,8 +114,7 @@ one_in_range k a (suc len) =
     omega (
       arith,
       sum_by-cons (λ x. cond (eqb k x) 1 0) a (range_with_len (a + 1) len),
-      sum_by-past (λ x. 1) k (a + 1)
-          len (omega arith),
+      sum_by-past (λ x. 1) k (a + 1) len (omega arith),
     ))
     (λ (e : k ≡ a → ⊥).
     let other : ◌≡◌ {A = ℕ} (cond (eqb k a) 1 0) 0 = rw (ne_eqb k a e) refl in
@@ -178,8 +177,7 @@ sent_here tag n cap state c =
     let away : eqb c tag.chip ≡ false = ne_eqb c tag.chip (λ s. e (sym s)) in
     omega (
       arith,
-      sum_by-none (λ q. one (has_tag tag) (sent_line n state c q)) (taken_at cap state c)
-          (λ q. rw away refl),
+      sum_by-none (λ q. one (has_tag tag) (sent_line n state c q)) (taken_at cap state c) (λ q. rw away refl),
     ))
     (cases_eq tag.chip c)
 
@@ -229,8 +227,7 @@ cycle_once n cap state tag h =
       arith,
       amount-cycle (has_tag tag) n cap state h.cube,
       h.born,
-      amount_le (has_tag tag) (is_late state.clock)
-          n state (λ t. tag_is_late tag state.clock t e),
+      amount_le (has_tag tag) (is_late state.clock) n state (λ t. tag_is_late tag state.clock t e),
       fresh_once tag n cap state,
     ))
     (λ (e : tag.birth ≡ state.clock → ⊥).
@@ -238,8 +235,7 @@ cycle_once n cap state tag h =
       arith,
       amount-cycle (has_tag tag) n cap state h.cube,
       h.once tag,
-      fresh_none (has_tag tag) n cap state
-          (λ c q. other_birth tag state.clock (sent_line n state c q) e refl),
+      fresh_none (has_tag tag) n cap state (λ c q. other_birth tag state.clock (sent_line n state c q) e refl),
     ))
     (cases_eq tag.birth state.clock)
 
@@ -294,8 +290,7 @@ none_late clock (x ∷ xs) h =
     omega (
       arith,
       sum_by-cons (one (is_late clock)) x xs,
-      none_late clock xs
-          (All-tail (λ triple. triple.tag.birth < clock) x xs h),
+      none_late clock xs (All-tail (λ triple. triple.tag.birth < clock) x xs h),
     )
 
 all_early : (clock : ℕ) (xs : List Triple) → count_by (is_late clock) xs ≡ 0

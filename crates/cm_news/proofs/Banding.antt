@@ -326,8 +326,8 @@ module _ (n first above q r : ℕ) (begin : first ≡ above * chip_columns n) (s
   its_row =
       ap (λ (c : ℕ). c / chip_columns n * chip_columns n) its_number
       ∙ ap (λ (c : ℕ). c * chip_columns n) (div-mul-add (above + q) (chip_columns n) r small)
-      ∙ (let e : (above + q) * chip_columns n ≡ above * chip_columns n + q * chip_columns n = omega arith in omega
-      (arith, begin, e))
+      ∙ (let e : (above + q) * chip_columns n ≡ above * chip_columns n + q * chip_columns n = omega arith in
+      omega (arith, begin, e))
 
   its_column : (first + (q * chip_columns n + r)) % chip_columns n ≡ r
   its_column = ap (λ (c : ℕ). c % chip_columns n) its_number ∙ mod-mul-add (above + q) (chip_columns n) r small

@@ -69,8 +69,8 @@ edge_south x i = bit-down x 12 i ∙ ap (bit x) (omega arith)
 pub entering_north : (x p : ℕ) → p < 16
     → bit (x * 4096 % 65536) p ≡ if is_entry North p then bit x (along North p) else false
 entering_north x p h = by_entry (is_entry North p) x (along North p) (bit (x * 4096 % 65536) p)
-    (λ entry. let last : p / 4 ≡ 3 = eqb-true (p / 4) 3 entry in bit-up_above x 12 p h (omega arith) ∙ ap (bit x)
-    (omega arith))
+    (λ entry. let last : p / 4 ≡ 3 = eqb-true (p / 4) 3 entry in
+    bit-up_above x 12 p h (omega arith) ∙ ap (bit x) (omega arith))
     (λ entry. let others : ¬ (p / 4 ≡ 3) = eqb-false (p / 4) 3 entry in bit-up_below x 12 p h (omega arith))
 
 pub entering_south : (x : ℕ) → x < 16 → (p : ℕ) → p < 16
@@ -110,10 +110,10 @@ joined_north x y fits p h =
     bit-bit_or (x / 16) (y * 4096 % 65536) p
     ∙ by_entry_of_both (is_entry North p) x y (one_back North p) (at_edge North (along North p)) (bit (x / 16) p)
     (bit (y * 4096 % 65536) p)
-    (λ entry. let last : p / 4 ≡ 3 = eqb-true (p / 4) 3 entry in bit-down x 4 p ∙ bit-past x 16
-    (4 + p) fits (omega arith))
-    (λ entry. let last : p / 4 ≡ 3 = eqb-true (p / 4) 3 entry in bit-up_above y 12 p h (omega arith) ∙ ap (bit y)
-    (omega arith))
+    (λ entry. let last : p / 4 ≡ 3 = eqb-true (p / 4) 3 entry in
+    bit-down x 4 p ∙ bit-past x 16 (4 + p) fits (omega arith))
+    (λ entry. let last : p / 4 ≡ 3 = eqb-true (p / 4) 3 entry in
+    bit-up_above y 12 p h (omega arith) ∙ ap (bit y) (omega arith))
     (λ entry. bit-down x 4 p ∙ ap (bit x) (omega arith))
     (λ entry. let others : ¬ (p / 4 ≡ 3) = eqb-false (p / 4) 3 entry in bit-up_below y 12 p h (omega arith))
 
@@ -126,10 +126,10 @@ joined_south x y fits p h =
     (bit (x * 16 % 65536) p) (bit (y / 4096) p)
     (λ entry. let first : p / 4 ≡ 0 = eqb-true (p / 4) 0 entry in bit-up_below x 4 p h (omega arith))
     (λ entry. let first : p / 4 ≡ 0 = eqb-true (p / 4) 0 entry in bit-down y 12 p ∙ ap (bit y) (omega arith))
-    (λ entry. let others : ¬ (p / 4 ≡ 0) = eqb-false (p / 4) 0 entry in bit-up_above x 4 p h (omega arith) ∙ ap (bit x)
-    (omega arith))
-    (λ entry. let others : ¬ (p / 4 ≡ 0) = eqb-false (p / 4) 0 entry in bit-down y 12 p ∙ bit-past y 16
-    (12 + p) fits (omega arith))
+    (λ entry. let others : ¬ (p / 4 ≡ 0) = eqb-false (p / 4) 0 entry in
+    bit-up_above x 4 p h (omega arith) ∙ ap (bit x) (omega arith))
+    (λ entry. let others : ¬ (p / 4 ≡ 0) = eqb-false (p / 4) 0 entry in
+    bit-down y 12 p ∙ bit-past y 16 (12 + p) fits (omega arith))
 
 -- a bit of a word of which those of some processors are kept
 kept_bit : (x mask p : ℕ) (test : ℕ → Bool) (b : Bool) → bit mask p ≡ test p → test p ≡ b

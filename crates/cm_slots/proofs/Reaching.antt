@@ -17,8 +17,7 @@ unfolding place_of_leaver
 same_place test room reach xs less few =
     rw (
       ne_eqb (length xs) reach (λ e. absurd (omega (arith, e))),
-      ne_eqb (length xs) room
-          (λ e. absurd (omega (arith, e))),
+      ne_eqb (length xs) room (λ e. absurd (omega (arith, e))),
     ) refl
 
 -- the room is all, or at each chip stand fewer

@@ -22,8 +22,7 @@ arrive-requires c =
       chip = omega (arith, ap length is, length-set old c.args.chip ys);
       room = omega (
         arith,
-        ap (λ (lists : List (List Message)). length (list_at lists c.args.chip))
-            is,
+        ap (λ (lists : List (List Message)). length (list_at lists c.args.chip)) is,
         here,
         all,
         few,

@@ -34,8 +34,7 @@ not_a_number name found least most number text given small wrong operand =
     let value : digits_value 10 (without_leading_plus text) ≡ number =
     ap (λ (t : Text). digits_value 10 (without_leading_plus t)) (sym same) ∙ operand.value in
     wrong (
-      subst (λ (t : Text). IsNumeral 10 (without_leading_plus t))
-          same operand.digits,
+      subst (λ (t : Text). IsNumeral 10 (without_leading_plus t)) same operand.digits,
       omega (arith, value, operand.not_more),
     )
 

@@ -9,8 +9,7 @@ pub look_up_row-requires-clause-found : goal.look_up_row-requires-clause-found
 look_up_row-requires-clause-found c =
     let count = rw (
       ← c.self.view_is,
-      length-chips_of c.self.inside.memory.items c.self.inside.flags.items
-          c.self.inside.stride c.self.inside.chips,
+      length-chips_of c.self.inside.memory.items c.self.inside.flags.items c.self.inside.stride c.self.inside.chips,
     ) at c.requires.room.mem in
     ap length c.deref_mut.ensures.value ∙ count
 
@@ -18,8 +17,7 @@ pub look_up_row-requires-2-clause-found : goal.look_up_row-requires-2-clause-fou
 look_up_row-requires-2-clause-found c =
     let count = rw (
       ← c.self.view_is,
-      length-chips_of c.self.inside.memory.items c.self.inside.flags.items
-          c.self.inside.stride c.self.inside.chips,
+      length-chips_of c.self.inside.memory.items c.self.inside.flags.items c.self.inside.stride c.self.inside.chips,
     ) at c.requires.room.flag in
     ap length c.deref_mut-2.ensures.value ∙ count
 
@@ -27,8 +25,7 @@ pub hold_row-requires-clause-found : goal.hold_row-requires-clause-found
 hold_row-requires-clause-found c =
     let count = rw (
       ← c.self.view_is,
-      length-chips_of c.self.inside.memory.items c.self.inside.flags.items
-          c.self.inside.stride c.self.inside.chips,
+      length-chips_of c.self.inside.memory.items c.self.inside.flags.items c.self.inside.stride c.self.inside.chips,
     ) at c.requires.room.holds in
     ap length c.deref_mut-3.ensures.value ∙ count
 

@@ -15,8 +15,8 @@ loop-i-preserved c =
     record {
       count = length-set c.loop-i.planes k c.memory_word.result ∙ now.count;
       each = below_more _ _ (λ j h. let ne : j ≢ k = omega arith in rw get_or-set_other (now.each j h))
-          (let lt : k < length c.loop-i.planes = omega (arith, now.count) in λ p h. rw get_or-set_same
-          (c.memory_word.ensures.value p h));
+          (let lt : k < length c.loop-i.planes = omega (arith, now.count) in
+          λ p h. rw get_or-set_same (c.memory_word.ensures.value p h));
       whole = λ h. c.memory_word.ensures.whole;
     }
 

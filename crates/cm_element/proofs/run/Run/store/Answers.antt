@@ -11,16 +11,14 @@ pub store_rows-requires-clause-room : goal.store_rows-requires-clause-room
 store_rows-requires-clause-room c =
     rw (
       ← c.self.view_is,
-      length-chips_of c.self.inside.memory.items c.self.inside.flags.items c.self.inside.stride
-          c.self.inside.chips,
+      length-chips_of c.self.inside.memory.items c.self.inside.flags.items c.self.inside.stride c.self.inside.chips,
     ) at c.requires.room
 
 pub store_rows-requires-clause-incoming : goal.store_rows-requires-clause-incoming
 store_rows-requires-clause-incoming c =
     rw (
       ← c.self.view_is,
-      length-chips_of c.self.inside.memory.items c.self.inside.flags.items c.self.inside.stride
-          c.self.inside.chips,
+      length-chips_of c.self.inside.memory.items c.self.inside.flags.items c.self.inside.stride c.self.inside.chips,
     ) at c.requires.incoming
 
 pub returns : goal.returns

@@ -11,8 +11,7 @@ pub take_rows-requires-clause-incoming : goal.take_rows-requires-clause-incoming
 take_rows-requires-clause-incoming c =
     rw (
       ← c.self.view_is,
-      length-chips_of c.self.inside.memory.items c.self.inside.flags.items c.self.inside.stride
-          c.self.inside.chips,
+      length-chips_of c.self.inside.memory.items c.self.inside.flags.items c.self.inside.stride c.self.inside.chips,
     ) at c.requires.incoming
 
 pub returns : goal.returns
