@@ -14,7 +14,7 @@ use std::test::Fail;
 const LISTS: u8 = 4;
 
 /// A machine with bits and flags, in which half of the processors ask to send somewhere, and half can receive.
-fn drawn<const N: usize, const CAP: usize>(
+pub(crate) fn drawn<const N: usize, const CAP: usize>(
     alloc: Global,
     draws: &mut Draws,
     chips: u16,
@@ -36,7 +36,7 @@ fn drawn<const N: usize, const CAP: usize>(
 }
 
 /// Half of the processors of each chip ask to send again, and all can receive.
-fn ask_again<const N: usize, const CAP: usize>(
+pub(crate) fn ask_again<const N: usize, const CAP: usize>(
     machine: &mut Machine<N, CAP>,
     draws: &mut Draws,
     chips: u16,

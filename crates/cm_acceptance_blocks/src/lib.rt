@@ -1,4 +1,4 @@
-//! Tests of machines that are cut into blocks and go through runs by these; it has no code of its own.
+//! Tests of machines that are cut into blocks, and of workers that go through these; it has no code of its own.
 #![tactic(auto)]
 
 #[cfg(test)]
@@ -8,6 +8,8 @@ mod drawn;
 #[cfg(test)]
 mod draws;
 #[cfg(test)]
+mod gates;
+#[cfg(test)]
 mod going;
 #[cfg(test)]
 mod machines;
@@ -16,6 +18,12 @@ mod meeting;
 #[cfg(test)]
 mod messages;
 #[cfg(test)]
+mod refused;
+#[cfg(test)]
 mod rounds_of_runs;
 #[cfg(test)]
 mod rows;
+#[cfg(test)]
+mod shares;
+#[cfg(test)]
+mod speed;

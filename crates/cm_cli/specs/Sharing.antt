@@ -1,15 +1,18 @@
 -- Why a session on a machine cannot be shared out as it is asked for. Ours.
-use Rattle.std.specs.Prelude.{ℕ, ◌-◌, ◌/◌, ◌^◌, ◌==◌, ◌||◌, nat_lt, Option, Some, None, if◌then◌else◌}
+use Rattle.std.specs.Prelude.{ℕ, Option}
+use Rattle.std.specs.Option.{option_map}
+use Rattle.cm_workers.specs.declared.forked.ForkFault.{ForkFault}
+use Rattle.cm_workers.specs.declared.forked.ForkFault.TheVariants as fork
+use Rattle.cm_workers.specs.Forks.{fork_fault}
 use Rattle.cm_cli.specs.declared.sharing.Sharing.{Sharing}
 use Rattle.cm_cli.specs.declared.program_fault.ProgramFault.{ProgramFault}
 use Rattle.cm_cli.specs.declared.program_fault.ProgramFault.TheVariants.{Split, Workers}
 
--- how many dimensions of a cube can be cut, of so many that it has
-abbrev pub most_cuts : ℕ → ℕ
-most_cuts n = n - n / 2
+-- what refuses a runner of many threads, as a fault of the program
+abbrev pub of_fork : ForkFault → ProgramFault
+of_fork fork.Split = Split
+of_fork fork.Workers = Workers
 
--- the cuts are looked at first, then the workers: at least one, and at most one for each block
+-- a machine of n dimensions is shared out as such a runner does it
 abbrev pub sharing_fault : ℕ → Sharing → Option ProgramFault
-sharing_fault n sharing =
-    if nat_lt (most_cuts n) sharing.split then Some Split
-    else if sharing.workers == 0 || nat_lt (2 ^ sharing.split) sharing.workers then Some Workers else None
+sharing_fault n sharing = option_map of_fork (fork_fault n sharing.split sharing.workers)

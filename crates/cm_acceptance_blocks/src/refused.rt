@@ -1,6 +1,6 @@
 //! Which numbers of blocks and workers are refused.
 
-use crate::machines::Share;
+use crate::shares::Share;
 use cm_workers::{ForkFault, Forked, Passage};
 use std::alloc::Global;
 use std::sync::Wait;

@@ -20,6 +20,15 @@ struct Calls {
     passed: AtomicU64,
 }
 
+impl Calls {
+    fn told(&self) -> (u64, u64) {
+        (
+            self.asked.load(Ordering::SeqCst),
+            self.passed.load(Ordering::SeqCst),
+        )
+    }
+}
+
 /// A gate that does not admit worker 1 where it is asked for the second time.
 #[derive(Drop)]
 struct Reluctant {
@@ -47,44 +56,47 @@ fn asking(alloc: Global) -> Result<Machine<4, 7>, Fail> {
     Ok(machine)
 }
 
+fn no_calls(alloc: Global) -> Result<Arc<Calls, Global>, Fail> {
+    let calls = Calls {
+        asked: AtomicU64::new(0),
+        passed: AtomicU64::new(0),
+    };
+    Ok(Arc::new(alloc, calls)?)
+}
+
+/// How a runner ends a petit cycle, and whether the machine is then as one thread leaves it, or else as it was.
+fn cycle<X: Runner<4, 7>>(
+    runner: &mut X,
+    alloc: Global,
+    machine: &mut Machine<4, 7>,
+) -> Result<(Option<RunFault>, bool), Fail>
+    requires runner { X.ready }
+{
+    let mut wanted = machine.copy(alloc)?;
+    let refused = runner.go(machine, &[Act::Cycle]).err();
+    if refused.is_none() {
+        Plain.go(&mut wanted, &[Act::Cycle])?;
+    }
+    Ok((refused, agree(machine, &wanted, 16)))
+}
+
 #[test]
 fn a_worker_that_is_not_admitted_leaves_the_machine_as_it_was_and_may_be_admitted_later(
     rt: HostRuntime,
 ) -> Result<(), Fail> {
     let alloc = rt.alloc();
-    let calls = Arc::new(
-        alloc,
-        Calls {
-            asked: AtomicU64::new(0),
-            passed: AtomicU64::new(0),
-        },
-    )?;
+    let calls = no_calls(alloc)?;
     let gate = Reluctant {
         calls: Arc::try_clone(&calls)?,
     };
     let passage = Passage::Gated(Box::new(alloc, gate)?);
     let mut forked = Forked::new::<4>(&rt, alloc, 2, 2, passage)?;
     let mut machine = asking(alloc)?;
-    let mut plain = machine.copy(alloc)?;
-
-    assert_eq!(rt;
-        forked.go(&mut machine, &[Act::Cycle]),
-        Err(RunFault::NoThread)
-    );
-    let alike = agree(&machine, &plain, 16);
-    let asked = calls.asked.load(Ordering::SeqCst);
-    assert_eq!(rt;
-        (alike, asked, calls.passed.load(Ordering::SeqCst)),
-        (true, 2, 0)
-    );
-
-    forked.go(&mut machine, &[Act::Cycle])?;
-    Plain.go(&mut plain, &[Act::Cycle])?;
-    let alike = agree(&machine, &plain, 16);
-    let asked = calls.asked.load(Ordering::SeqCst);
-    assert_eq!(rt;
-        (alike, asked, calls.passed.load(Ordering::SeqCst)),
-        (true, 4, 4)
-    );
+    let first = cycle(&mut forked, alloc, &mut machine)?;
+    let between = calls.told();
+    let second = cycle(&mut forked, alloc, &mut machine)?;
+    let told = (first, between, second, calls.told());
+    let wanted = ((Some(RunFault::NoThread), true), (2, 0), (None, true), (4, 4));
+    assert_eq!(rt; told, wanted);
     Ok(())
 }

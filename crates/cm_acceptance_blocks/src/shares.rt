@@ -1,0 +1,209 @@
+//! Machines that are shared out among workers, each in a thread of its own, beside one thread.
+
+ghost use Rattle.std.specs.Prelude.{◌≡◌, ◌<◌, ◌^◌};
+ghost use Rattle.std.specs.Thread.{IsSync};
+
+use crate::drawn::{ask_again, drawn};
+use crate::draws::Draws;
+use crate::machines::{NEWS, agree, flag, sent_on};
+use crate::messages::{has_one_of_four, program};
+use crate::rows::{ROWS, two_chips};
+use cm_array::{Machine, Plain, Runner};
+use cm_bits::{Dir, Plane};
+use cm_model::Act;
+use cm_workers::{Forked, Passage};
+use std::alloc::Global;
+use std::sync::Wait;
+use std::test::Fail;
+use std::thread::Threads;
+
+/// Into 2^`k` blocks a machine is cut, for so many workers.
+#[derive(Clone, Copy, Debug, PartialEq, Eq)]
+pub(crate) struct Share {
+    pub(crate) k: u8,
+    pub(crate) workers: u16,
+}
+
+/// How many lists of acts each random machine goes through.
+const LISTS: u8 = 2;
+
+/// A machine goes through the acts by workers.
+fn run<const N: usize, const CAP: usize, R: Threads + Wait>(
+    rt: &R,
+    alloc: Global,
+    machine: &mut Machine<N, CAP>,
+    acts: &[Act],
+    share: Share,
+) -> Result<(), Fail>
+    requires threads { IsSync R.row }
+{
+    let mut forked = Forked::new::<N>(rt, alloc, share.k, share.workers, Passage::Open)?;
+    forked.go(machine, acts)?;
+    Ok(())
+}
+
+/// Whether a machine goes through the acts by workers as it does on one thread.
+fn runs_as_plain<const N: usize, const CAP: usize, R: Threads + Wait>(
+    rt: &R,
+    alloc: Global,
+    machine: &mut Machine<N, CAP>,
+    acts: &[Act],
+    share: Share,
+    chips: u16,
+) -> Result<bool, Fail>
+    requires chips { chips ≡ 2 ^ N }
+    requires threads { IsSync R.row }
+{
+    let mut plain = machine.copy(alloc)?;
+    Plain.go(&mut plain, acts)?;
+    run(rt, alloc, machine, acts, share)?;
+    Ok(agree(machine, &plain, chips))
+}
+
+/// Whether a random machine goes as on one thread, where it is shared out so.
+fn goes<const N: usize, const CAP: usize, R: Threads + Wait>(
+    rt: &R,
+    alloc: Global,
+    chips: u16,
+    share: Share,
+) -> Result<bool, Fail>
+    requires chips { chips ≡ 2 ^ N }
+    requires threads { IsSync R.row }
+{
+    let mut draws = Draws::new(u32::from(share.workers));
+    let mut machine = drawn::<N, CAP>(alloc, &mut draws, chips)?;
+    for _list in 0..LISTS {
+        let acts = draws.acts(alloc, 16)?;
+        if !runs_as_plain(rt, alloc, &mut machine, &acts, share, chips)? {
+            return Ok(false);
+        }
+        ask_again(&mut machine, &mut draws, chips);
+    }
+    Ok(true)
+}
+
+/// Whether random machines do by 2^`k` blocks: with 1, 2, 3 and as many workers as blocks, where there are so many.
+fn go_by<const N: usize, const CAP: usize, R: Threads + Wait>(
+    rt: &R,
+    alloc: Global,
+    chips: u16,
+    k: u8,
+) -> Result<bool, Fail>
+    requires chips { chips ≡ 2 ^ N }
+    requires k { k < 7 }
+    requires threads { IsSync R.row }
+{
+    let blocks = 1 << k;
+    for workers in [1, 2, 3, blocks] {
+        if workers <= blocks && !goes::<N, CAP, R>(rt, alloc, chips, Share { k, workers })? {
+            return Ok(false);
+        }
+    }
+    Ok(true)
+}
+
+/// Whether they do for each number of blocks up to 2^`most`.
+fn go<const N: usize, const CAP: usize, R: Threads + Wait>(
+    rt: &R,
+    alloc: Global,
+    chips: u16,
+    most: u8,
+) -> Result<bool, Fail>
+    requires chips { chips ≡ 2 ^ N }
+    requires most { most < 7 }
+    requires threads { IsSync R.row }
+{
+    for k in 0..=most {
+        if !go_by::<N, CAP, R>(rt, alloc, chips, k)? {
+            return Ok(false);
+        }
+    }
+    Ok(true)
+}
+
+#[test]
+fn machines_of_two_to_sixteen_chips_go_by_workers_as_on_one_thread(
+    rt: HostRuntime,
+) -> Result<(), Fail> {
+    let alloc = rt.alloc();
+    let gone = [
+        go::<1, 1, HostRuntime>(&rt, alloc, 2, 1)?,
+        go::<2, 7, HostRuntime>(&rt, alloc, 4, 1)?,
+        go::<3, 2, HostRuntime>(&rt, alloc, 8, 2)?,
+        go::<4, 1, HostRuntime>(&rt, alloc, 16, 2)?,
+    ];
+    assert_eq!(rt; gone, [true; 4]);
+    Ok(())
+}
+
+#[test]
+fn machines_of_32_to_256_chips_go_by_workers_as_on_one_thread(rt: HostRuntime) -> Result<(), Fail> {
+    let alloc = rt.alloc();
+    let gone = [
+        go::<5, 4, HostRuntime>(&rt, alloc, 32, 3)?,
+        go::<6, 1, HostRuntime>(&rt, alloc, 64, 3)?,
+        go::<7, 2, HostRuntime>(&rt, alloc, 128, 4)?,
+        go::<8, 7, HostRuntime>(&rt, alloc, 256, 4)?,
+    ];
+    assert_eq!(rt; gone, [true; 4]);
+    Ok(())
+}
+
+const SHARES: [Share; 5] = [
+    Share { k: 0, workers: 1 },
+    Share { k: 2, workers: 1 },
+    Share { k: 2, workers: 2 },
+    Share { k: 2, workers: 3 },
+    Share { k: 2, workers: 4 },
+];
+
+/// Whether so many workers go through the program of messages as one thread, and the messages are where they should be
+/// then.
+fn sent<R: Threads + Wait>(rt: &R, alloc: Global, share: Share) -> Result<(bool, bool), Fail>
+    requires threads { IsSync R.row }
+{
+    let acts = program(alloc)?;
+    let mut machine = Machine::<4, 7>::blank(alloc)?;
+    let alike = runs_as_plain(rt, alloc, &mut machine, &acts, share, 16)?;
+    Ok((alike, has_one_of_four(&machine)))
+}
+
+#[test]
+fn workers_send_four_messages_of_each_of_sixteen_chips_across_the_cube(
+    rt: HostRuntime,
+) -> Result<(), Fail> {
+    for share in SHARES {
+        assert_eq!(rt; sent(&rt, rt.alloc(), share)?, (true, true), "{share:?}");
+    }
+    Ok(())
+}
+
+/// What is left where two chips, a block each, send flag 0, and so many workers run them.
+fn passed<R: Threads + Wait>(
+    rt: &R,
+    alloc: Global,
+    workers: u16,
+    dir: Dir,
+    planes: [Plane; 2],
+) -> Result<[Plane; 2], Fail>
+    requires threads { IsSync R.row }
+{
+    let mut machine = two_chips(alloc, planes)?;
+    let share = Share { k: 1, workers };
+    run(rt, alloc, &mut machine, &[sent_on(flag(0), dir)], share)?;
+    let news = flag(NEWS);
+    Ok([
+        machine.chip(0).flag_plane(news),
+        machine.chip(1).flag_plane(news),
+    ])
+}
+
+#[test]
+fn one_worker_and_two_pass_rows_on_between_two_chips(rt: HostRuntime) -> Result<(), Fail> {
+    for (dir, planes, wanted) in ROWS {
+        for workers in 1u16..3 {
+            assert_eq!(rt; passed(&rt, rt.alloc(), workers, dir, planes)?, wanted, "{workers}");
+        }
+    }
+    Ok(())
+}
