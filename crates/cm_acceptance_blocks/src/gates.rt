@@ -96,7 +96,12 @@ fn a_worker_that_is_not_admitted_leaves_the_machine_as_it_was_and_may_be_admitte
     let between = calls.told();
     let second = cycle(&mut forked, alloc, &mut machine)?;
     let told = (first, between, second, calls.told());
-    let wanted = ((Some(RunFault::NoThread), true), (2, 0), (None, true), (4, 4));
+    let wanted = (
+        (Some(RunFault::NoThread), true),
+        (2, 0),
+        (None, true),
+        (4, 4),
+    );
     assert_eq!(rt; told, wanted);
     Ok(())
 }

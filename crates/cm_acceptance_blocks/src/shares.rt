@@ -202,7 +202,11 @@ fn passed<R: Threads + Wait>(
 fn one_worker_and_two_pass_rows_on_between_two_chips(rt: HostRuntime) -> Result<(), Fail> {
     for (dir, planes, wanted) in ROWS {
         for workers in 1u16..3 {
-            assert_eq!(rt; passed(&rt, rt.alloc(), workers, dir, planes)?, wanted, "{workers}");
+            assert_eq!(rt;
+                passed(&rt, rt.alloc(), workers, dir, planes)?,
+                wanted,
+                "{workers}"
+            );
         }
     }
     Ok(())
