@@ -31,9 +31,9 @@ pub fn open_source<R: Files>(rt: &R, path: &str) -> Result<Std<R::File>, Program
     }
 }
 
-/// Puts a file of these bytes where the path says. In place of a plain file, which a link may lead to, it comes whole or
-/// not at all, with that file's permissions; a file that nobody may write stays. What is no plain file, as a terminal,
-/// is written where it stands.
+/// Puts a file of these bytes where the path says. In place of a plain file, which a link may lead to, it comes whole
+/// or not at all, with that file's permissions; a file that nobody may write stays. What is no plain file, as a
+/// terminal, is written where it stands.
 pub fn write_file<R: Files + AllocGlobal>(
     rt: &R,
     path: &str,

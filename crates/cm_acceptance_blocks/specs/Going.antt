@@ -36,7 +36,8 @@ pub record AreHalfway {X : Type 0} (many m : ℕ) (Done Todo : ℕ → X → Typ
 
 -- block b as it was cut out of a machine, to go through a run
 abbrev pub IsCut : ℕ → ℕ → ℕ → Machine → List Act → ℕ → KeptBlock → Type 0
-IsCut n cap k machine acts b one = IsReady n cap k (cycles_in acts * (4 + cap)) (cycles_in acts * 1) (block n k b machine) one
+IsCut n cap k machine acts b one =
+    IsReady n cap k (cycles_in acts * (4 + cap)) (cycles_in acts * 1) (block n k b machine) one
 
 -- block b before round r of the run
 abbrev pub IsBefore : ℕ → ℕ → ℕ → Machine → List Act → ℕ → ℕ → KeptBlock → Type 0
@@ -45,7 +46,8 @@ IsBefore n cap k machine acts r b one =
     (block n k b (before_round n cap k machine acts r)) one
 
 -- block b when it has sent in that round, and there is room for what comes
-pub record HasSent (n cap k : ℕ) (machine : Machine) (acts : List Act) (r : ℕ) (round : Round) (b : ℕ) (one : KeptBlock) : Type 0 where
+pub record HasSent (n cap k : ℕ) (machine : Machine) (acts : List Act) (r : ℕ) (round : Round) (b : ℕ)
+    (one : KeptBlock) : Type 0 where
   pub ready : IsReady n cap k (events_in cap (ahead n k acts r)) (deliveries (ahead n k acts r))
       (less cap (step_of round) (block n k b (before_round n cap k machine acts r))) one
   pub space : HaveSpaceFor round.kind cap one.kept.part.buffers

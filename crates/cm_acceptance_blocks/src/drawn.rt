@@ -61,7 +61,8 @@ fn has_full<const N: usize, const CAP: usize>(machine: &Machine<N, CAP>, chips: 
     false
 }
 
-/// Whether a random machine goes by 2^`k` blocks as it does on one thread, and a buffer was full after some list of acts.
+/// Whether a random machine goes by 2^`k` blocks as it does on one thread,
+/// and a buffer was full after some list of acts.
 fn goes<const N: usize, const CAP: usize>(alloc: Global, chips: u16, k: u8) -> Result<bool, Fail>
     requires chips { chips ≡ 2 ^ N }
 {

@@ -1,6 +1,7 @@
 //! A machine that goes through a run by its blocks, one after another on one thread.
 
-ghost use Rattle.std.specs.Prelude.{true, ◌≡◌, ℕ, ◌+◌, ◌-◌, ◌*◌, ◌/◌, ◌<◌, ◌≤◌, ◌^◌, IfOk, OnOk, Some, length, slice_get};
+ghost use Rattle.std.specs.Prelude.{true, ◌≡◌, ℕ, ◌+◌, ◌-◌, ◌*◌, ◌/◌, ◌<◌, ◌≤◌, ◌^◌, IfOk, OnOk};
+ghost use Rattle.std.specs.Prelude.{Some, length, slice_get};
 ghost use Rattle.cm_model.specs.Machine.{run_of};
 ghost use Rattle.cm_model.specs.Keeping.{AreSizes, IsMachine};
 ghost use Rattle.cm_blocks.specs.Parcels.{sender};
@@ -61,7 +62,8 @@ fn set_out<const N: usize, const CAP: usize>(
     k: u8,
 ) -> Result<Vec<Block>, Fail>
     ensures within { IfOk result (λ _. k ≤ N - N / 2) }
-    ensures value { IfOk result (λ blocks. AreAll (2 ^ k) (IsBefore N CAP k machine.now.machine acts.now 0) blocks.items) }
+    ensures value { IfOk result
+        (λ blocks. AreAll (2 ^ k) (IsBefore N CAP k machine.now.machine acts.now 0) blocks.items) }
 {
     let cycles = check_stretch(acts, machine.clock())?;
     let mut blocks = split(alloc, machine, k, cycles)?;
@@ -179,7 +181,8 @@ fn send<const N: usize, const CAP: usize>(
     requires before { AreAll (2 ^ k) (IsBefore N CAP k was.now.machine acts.now number) blocks.old.items }
     ensures value { OnOk result
         (AreAll (2 ^ k) (HasSent N CAP k was.now.machine acts.now number round.now) blocks.new.items) }
-    ensures sent { IfOk result (λ sent. AreAll (2 ^ k) (IsSent N CAP k was.now.machine acts.now number round.now) sent.items) }
+    ensures sent { IfOk result
+        (λ sent. AreAll (2 ^ k) (IsSent N CAP k was.now.machine acts.now number round.now) sent.items) }
 {
     let dims = was.dims();
     let mut sent = Vec::with_capacity(alloc, blocks.len())?;
@@ -222,8 +225,8 @@ fn receive<const N: usize, const CAP: usize>(
     Ok(())
 }
 
-/// The block from which block `b` of so many gets its parcel: northward the next one, southward the one before, and in a
-/// dimension that whose number differs in that bit.
+/// The block from which block `b` of so many gets its parcel: northward the next one, southward the one before, and in
+/// a dimension that whose number differs in that bit.
 fn giver(round: &Round, dims: u8, k: u8, count: usize, b: usize) -> usize
     requires dimension { dims ≤ 12 }
     requires within { k ≤ dims }

@@ -12,8 +12,8 @@ use std::test::Fail;
 
 const DAISY: u8 = 11;
 
-/// What stands in memory from bit 3968 on for a message: to the chip whose number differs in all four bits, processor 5,
-/// payload 7.
+/// What stands in memory from bit 3968 on for a message: to the chip whose number differs in all four bits,
+/// processor 5, payload 7.
 const RECORD: u64 = 15 | 5 << 16 | 7 << 20;
 
 /// An instruction at one memory bit.

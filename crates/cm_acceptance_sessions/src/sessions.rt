@@ -338,8 +338,8 @@ fn faults_of_reading_and_writing_end_a_session(rt: HostRuntime) {
     }
 }
 
-/// With the same program: how many lists of acts the runner runs before it lacks something, what it lacks, the commands,
-/// what was written, and how the session ended.
+/// With the same program: how many lists of acts the runner runs before it lacks something, what it lacks, the
+/// commands, what was written, and how the session ended.
 const REFUSED: [(usize, Lack, &[u8], &[u8], Result<(), SessionFault>); 8] = [
     (0, Lack::Thread, b"run\n", b"", Err(SessionFault::NoThread)),
     (0, Lack::Memory, b"run\n", b"", Err(SessionFault::Memory)),

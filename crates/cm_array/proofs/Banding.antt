@@ -1,6 +1,8 @@
 -- An instruction in a band of whole rows of chips: what comes in at each is what the step of a part names.
-use Rattle.std.proofs.Common.{◌≡◌, ◌≢◌, ℕ, zero, suc, ◌+◌, ◌-◌, ◌*◌, ◌/◌, ◌%◌, ◌^◌, ◌<◌, ◌≤◌, ◌&&◌, nat_le, nat_lt, Bool, true, false}
-use Rattle.std.proofs.Common.{if◌then◌else◌, List, [], length, get_or, refl, sym, ap, ◌∙◌, subst, ⊎_elim, arith, ext_get_or}
+use Rattle.std.proofs.Common.{◌≡◌, ◌≢◌, ℕ, zero, suc, ◌+◌, ◌-◌, ◌*◌, ◌/◌, ◌%◌, ◌^◌, ◌<◌, ◌≤◌, ◌&&◌, nat_le, nat_lt}
+use Rattle.std.proofs.Common.{Bool, true, false}
+use Rattle.std.proofs.Common.{if◌then◌else◌, List, [], length, get_or, refl, sym, ap, ◌∙◌, subst}
+use Rattle.std.proofs.Common.{⊎_elim, arith, ext_get_or}
 use Rattle.std.proofs.lemmas.Bool.{cases_Bool, eq-eqb, ne_eqb}
 use Rattle.std.proofs.Math.Nat.{mul-div_cancel}
 use Rattle.std.specs.Global.{Vec}
@@ -55,7 +57,8 @@ stepped n cap first clock nano parcel old new buffers logs coming is same =
     let s : Part = part_of first (length old) old buffers logs clock in
     let own : (i : ℕ) → chip_at old i ≡ chip_in s (first + i) =
     λ i. ap (chip_at old) (let e : i ≡ first + i - first = omega arith in e) in
-    let chips : new ≡ each_from first (length old) (λ c. chip_after nano (incoming_in n nano parcel s c) (chip_in s c)) =
+    let chips : new ≡ each_from first (length old) (λ c.
+    chip_after nano (incoming_in n nano parcel s c) (chip_in s c)) =
     is ∙ each-from_other [] first (length old) (λ i. chip_after nano (coming i) (chip_at old i))
     (λ c. chip_after nano (incoming_in n nano parcel s c) (chip_in s c))
     (λ i l. same_chip nano (coming i) (incoming_in n nano parcel s (first + i)) (chip_at old i)
@@ -66,17 +69,20 @@ stepped n cap first clock nano parcel old new buffers logs coming is same =
 -- over NEWS: the bit that comes in at a place of the band
 over_news : (n first : ℕ) (nano : Nano) (s : Part) (sent edge : List ℕ) (c p : ℕ) → s.first ≡ first
     → length sent ≡ s.count → c < 2 ^ n → p < 16
-    → ((i q : ℕ) → i < s.count → q < 16 → bit (get_or sent i 0) q ≡ flag_output nano (processor_at (chip_at s.chips i) q))
+    → ((i q : ℕ) → i < s.count → q < 16
+    → bit (get_or sent i 0) q ≡ flag_output nano (processor_at (chip_at s.chips i) q))
     → bit_for n nano.dir s.first sent edge (record { chip = c; proc = p }) ≡ news_in n nano (Edge (bits_of edge)) s c p
 over_news n first nano s sent edge c p begin long there h are =
     let place : Place = record { chip = c; proc = p } in
     let from : Place = source n nano.dir place in
-    let within : IsPlace n from = (neighbours_lead_back n (opposite nano.dir) place (record { chip = there; proc = h })).within in
+    let within : IsPlace n from =
+    (neighbours_lead_back n (opposite nano.dir) place (record { chip = there; proc = h })).within in
     ap (λ (count : ℕ). if nat_le s.first from.chip && nat_lt from.chip (s.first + count)
     then bit (get_or sent (from.chip - s.first) 0) from.proc else bit_in (Edge (bits_of edge)) (column_of n place)) long
     ∙ ⊎_elim
     (λ (e : is_within s from.chip ≡ true). rw e (are (from.chip - s.first) from.proc
-    (let low = within-from s from.chip e in let high = within-below s from.chip e in omega (arith, low, high)) within.proc))
+    (let low = within-from s from.chip e in let high = within-below s from.chip e in
+    omega (arith, low, high)) within.proc))
     (λ (e : is_within s from.chip ≡ false). rw e refl)
     (cases_Bool (is_within s from.chip))
 
@@ -102,7 +108,8 @@ stepped_over_grid n nano old new sent planes edge news long are came is cap firs
     let s : Part = part_of first (length old) old buffers logs clock in
     stepped n cap first clock nano (Edge (bits_of edge)) old new buffers logs (λ i. bit (get_or planes i 0)) is
     (λ i p l h. came first i rows (omega (arith, long, fit)) (omega (arith, long, l)) p h
-    ∙ over_news n first nano s sent edge (first + i) p refl long (omega (arith, fit, l)) h (λ k q below small. are.each k below q small)
+    ∙ over_news n first nano s sent edge (first + i) p refl long (omega (arith, fit, l)) h
+    (λ k q below small. are.each k below q small)
     ∙ over_news_in n nano (Edge (bits_of edge)) s (first + i) p news)
 
 -- and along the chains
@@ -124,7 +131,8 @@ unfolding part_after
 chips_stay n nano edge old new first is rows fit =
     let s : Part = part_of first (length old) old [] [] 0 in
     ap (λ (after : Part). length after.chips) (is 0 first 0 [] [] rows fit)
-    ∙ length-each_from first (length old) (λ c. chip_after nano (incoming_in n nano (Edge (bits_of edge)) s c) (chip_in s c))
+    ∙ length-each_from first (length old)
+    (λ c. chip_after nano (incoming_in n nano (Edge (bits_of edge)) s c) (chip_in s c))
 
 module _ (dims room first : ℕ) (parts : Parts) (old : KeptPart) (nano : Nano) (edge : List ℕ) (run : Chips)
     (sent incoming : Vec ℕ) (view : kept_part dims room first parts ≡ old) (was : IsKeptPart dims room first parts)
@@ -185,14 +193,18 @@ edge_place : (n : ℕ) (dir : Dir) (s : Part) (column : ℕ) → is_vertical dir
     ≡ record { chip = s.first + (edge_from dir s.count (chip_columns n) + column / 4); proc = at_edge dir (column % 4) }
 edge_place n North s column vertical band = by band.first where
   by : AreRows n s.first → place_at n (edge_row n North s) column
-      ≡ record { chip = s.first + (edge_from North s.count (chip_columns n) + column / 4); proc = at_edge North (column % 4) }
+      ≡ record {
+        chip = s.first + (edge_from North s.count (chip_columns n) + column / 4);
+        proc = at_edge North (column % 4);
+      }
   by (above, begin) =
       let row : s.first / chip_columns n ≡ above = rows_counted s.first above (chip_columns n) begin (columns_some n) in
       λ t. record {
         chip = (ap (λ (y : ℕ). 4 * y / 4 * chip_columns n + column / 4) row
             ∙ ap (λ (y : ℕ). y * chip_columns n + column / 4) (let e : 4 * above / 4 ≡ above = omega arith in e)
             ∙ (let e : above * chip_columns n + column / 4 ≡ s.first + (0 + column / 4) = omega (arith, begin) in e)) t;
-        proc = (let e : 4 * (4 * (s.first / chip_columns n) % 4) + column % 4 ≡ 4 * 0 + column % 4 = omega arith in e) t;
+        proc = (let e : 4 * (4 * (s.first / chip_columns n) % 4) + column % 4
+            ≡ 4 * 0 + column % 4 = omega arith in e) t;
       }
 edge_place n South s column vertical band = by band.first band.count where
   w : ℕ
@@ -243,19 +255,22 @@ edge_due n cap nano s planes edge vertical band chips long wide sent is fit =
     is (column / 4) (column % 4) (omega (arith, inside, wide)) (omega arith)
     ∙ ap (λ (k : ℕ). bit (get_or planes k 0) proc) here
     ∙ sent.each at (omega (arith, inside, fit, chips)) proc (at_edge-lt nano.dir (column % 4) (omega arith))
-    ∙ ap (λ (k : ℕ). flag_output nano (processor_at (chip_at s.chips k) proc)) (let e : at ≡ s.first + at - s.first = omega arith in e)
+    ∙ ap (λ (k : ℕ). flag_output nano (processor_at (chip_at s.chips k) proc))
+    (let e : at ≡ s.first + at - s.first = omega arith in e)
     ∙ ap (output nano (chip_in s)) (sym (edge_place n nano.dir s column vertical band))))
 
 -- a row of chips lies within a band
 pub edge_inside : (n : ℕ) (dir : Dir) (s : Part) → IsBand n s
     → (chip_columns n ≤ s.count) × (edge_from dir s.count (chip_columns n) + chip_columns n ≤ s.count)
 edge_inside n dir s band = by band.count dir where
-  by : AreRows n s.count → (dir : Dir) → (chip_columns n ≤ s.count) × (edge_from dir s.count (chip_columns n) + chip_columns n ≤ s.count)
+  by : AreRows n s.count → (dir : Dir)
+      → (chip_columns n ≤ s.count) × (edge_from dir s.count (chip_columns n) + chip_columns n ≤ s.count)
   by (zero, size) dir = absurd (omega (arith, band.some, size))
   by (suc rows, size) dir =
       let is : suc rows * chip_columns n ≡ rows * chip_columns n + chip_columns n = omega arith in
       (omega (arith, is, size), within dir (omega (arith, is, size))) where
-        within : (dir : Dir) → chip_columns n ≤ s.count → edge_from dir s.count (chip_columns n) + chip_columns n ≤ s.count
+        within : (dir : Dir) → chip_columns n ≤ s.count
+            → edge_from dir s.count (chip_columns n) + chip_columns n ≤ s.count
         within North h = omega arith
         within South h = omega arith
         within West h = omega arith

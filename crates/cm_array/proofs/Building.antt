@@ -1,5 +1,6 @@
 -- A machine that is being built stays one.
-use Rattle.std.proofs.Common.{◌≡◌, ℕ, ◌^◌, ◌+◌, ◌<◌, ◌≤◌, List, [], ◌∷◌, ◌++◌, false, length, set, refl, sym, ap, ◌∙◌, subst, arith}
+use Rattle.std.proofs.Common.{◌≡◌, ℕ, ◌^◌, ◌+◌, ◌<◌, ◌≤◌, List, [], ◌∷◌, ◌++◌, false, length, set, refl, sym, ap}
+use Rattle.std.proofs.Common.{◌∙◌, subst, arith}
 use Rattle.std.proofs.lemmas.List.{length-set, length-append}
 use Rattle.std.proofs.lemmas.List.Elements.{All-nil, All-cons, All-append}
 use Rattle.std.specs.List.{All}
@@ -163,7 +164,8 @@ IsMachine-finished n cap machine h apart = record {
 -- its messages gathered
 pub AreParts-finished : (n cap : ℕ) (parts : Parts) (crossing : UnderWay) → AreUnfinished n cap parts
     → crossing.buffers ≡ parts.crossing.buffers → IsTrue crossing.gathered
-    → has_tag_twice (standing_messages (machine_of parts)) ≡ false → AreParts n cap (record parts { crossing = crossing })
+    → has_tag_twice (standing_messages (machine_of parts)) ≡ false
+    → AreParts n cap (record parts { crossing = crossing })
 AreParts-finished n cap parts crossing h same gathered apart = record {
   dimension = h.dimension;
   some_room = h.some_room;

@@ -1,5 +1,6 @@
 -- Parts that are cut out of a machine.
-use Rattle.std.proofs.Common.{◌≡◌, ℕ, ◌+◌, ◌-◌, ◌^◌, ◌<◌, ◌≤◌, List, [], length, get_or, take, drop, map, sym, ap, ◌∙◌, arith}
+use Rattle.std.proofs.Common.{◌≡◌, ℕ, ◌+◌, ◌-◌, ◌^◌, ◌<◌, ◌≤◌, List, [], length, get_or, take, drop, map, sym}
+use Rattle.std.proofs.Common.{ap, ◌∙◌, arith}
 use Rattle.std.proofs.lemmas.List.{length-map, take-map, drop-map}
 use Rattle.std.proofs.lemmas.List.Elements.{All-from_get_or}
 use Rattle.std.specs.List.{All, slice_range}
@@ -14,7 +15,8 @@ use Rattle.cm_array.specs.Cuts.{IsKeptPart, HaveLogRoom}
 use Rattle.cm_array.proofs.Machines.{few_chips}
 
 -- no chip of a machine has more messages than any router has room for, and no machine has more chips than this
-pub within_fifteen : (n cap : ℕ) (parts : Parts) → AreParts n cap parts → All (λ ms. length ms ≤ 15) parts.crossing.buffers
+pub within_fifteen : (n cap : ℕ) (parts : Parts) → AreParts n cap parts
+    → All (λ ms. length ms ≤ 15) parts.crossing.buffers
 within_fifteen n cap parts h =
     All-from_get_or (λ (ms : List Message). length ms ≤ 15) parts.crossing.buffers []
     (λ c l. omega (arith, h.machine.room c (omega (arith, h.machine.buffer_count, l)), h.most_room))
@@ -47,7 +49,8 @@ module _ (n cap first count : ℕ) (old new : Parts) (were : AreParts n cap old)
 
   length-buffers_cut : length new.crossing.buffers ≡ count
   length-buffers_cut =
-      ap length are.buffers ∙ length-cut first count old.crossing.buffers (omega (arith, there, were.machine.buffer_count))
+      ap length are.buffers
+      ∙ length-cut first count old.crossing.buffers (omega (arith, there, were.machine.buffer_count))
 
   length-logs_cut : length new.logs.items ≡ count
   length-logs_cut =

@@ -24,17 +24,20 @@ each_stepped n nano chips coming long same =
     ∙ same_each_below [] (2 ^ n) (λ c. chip_after nano (coming c) (chip_at chips c))
     (λ c. chip_after nano (incoming n nano chips c) (chip_at chips c)) same
 
-sent_by_all : (n : ℕ) (nano : Nano) (chips : Chips) (sent : List ℕ) → length chips ≡ 2 ^ n → AreSent nano chips sent → AreFlagOutputs n nano chips sent
+sent_by_all : (n : ℕ) (nano : Nano) (chips : Chips) (sent : List ℕ) → length chips ≡ 2 ^ n → AreSent nano chips sent
+    → AreFlagOutputs n nano chips sent
 sent_by_all n nano chips sent long are = record { each = λ c p below h. are.each c (omega arith) p h }
 
 -- over NEWS: the plane that comes in has the bits that the instruction step names
-pub over_grid : (n : ℕ) (nano : Nano) (chips : Chips) (sent : List ℕ) (c plane : ℕ) → length chips ≡ 2 ^ n → AreSent nano chips sent → c < 2 ^ n → nano.write ≡ 10
+pub over_grid : (n : ℕ) (nano : Nano) (chips : Chips) (sent : List ℕ) (c plane : ℕ) → length chips ≡ 2 ^ n
+    → AreSent nano chips sent → c < 2 ^ n → nano.write ≡ 10
     → IsPlane plane (λ p. bit_of_place sent (source n nano.dir (record { chip = c; proc = p })))
     → chip_after nano (bit plane) (chip_at chips c) ≡ chip_after nano (incoming n nano chips c) (chip_at chips c)
 over_grid n nano chips sent c plane long are inside news is =
     let outputs : AreFlagOutputs n nano chips sent = sent_by_all n nano chips sent long are in
     let test : (nano.write == 10) ≡ true = eq-eqb nano.write 10 news in
-    same_chip nano (bit plane) (incoming n nano chips c) (chip_at chips c) (λ p h takes. is p h ∙ over_news n nano chips sent c p outputs inside h test)
+    same_chip nano (bit plane) (incoming n nano chips c) (chip_at chips c)
+    (λ p h takes. is p h ∙ over_news n nano chips sent c p outputs inside h test)
 
 -- along the chain: where nothing comes in over NEWS, a chip needs no other
 own_chain : (n : ℕ) (nano : Nano) (chips : Chips) (c p : ℕ) → (nano.write == 10) ≡ false

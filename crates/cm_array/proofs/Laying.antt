@@ -26,7 +26,8 @@ pub one_comes : {X : Type 0} (lists : List (List X)) (c : ℕ) (ys rest : List X
     → set (set lists c (ys ++ take i rest)) c (list_at (set lists c (ys ++ take i rest)) c ++ m ∷ [])
     ≡ set lists c (ys ++ take (i + 1) rest)
 one_comes lists c ys rest i m inside l is =
-    ap (λ z. set (set lists c (ys ++ take i rest)) c (z ++ m ∷ [])) (get_or-set_same lists c (ys ++ take i rest) [] inside)
+    ap (λ z. set (set lists c (ys ++ take i rest)) c (z ++ m ∷ []))
+    (get_or-set_same lists c (ys ++ take i rest) [] inside)
     ∙ set-set lists c (ys ++ take i rest) ((ys ++ take i rest) ++ m ∷ [])
     ∙ ap (set lists c) (append_assoc ys (take i rest) (m ∷ [])
     ∙ ap (λ z. ys ++ z) (ap (λ z. take i rest ++ z ∷ []) is ∙ sym (take_more rest i m l)))

@@ -1,5 +1,6 @@
 -- Lists that are made or written element by element, and rows that are lent.
-use Rattle.std.proofs.Common.{◌≡◌, ◌≢◌, ℕ, suc, ◌<◌, ◌==◌, true, false, List, [], ◌∷◌, map, length, get_or, set, ◌+◌, refl, sym, ap, ◌∙◌, subst, arith, ⊎_elim, get_or-set_same, get_or-set_other}
+use Rattle.std.proofs.Common.{◌≡◌, ◌≢◌, ℕ, suc, ◌<◌, ◌==◌, true, false, List, [], ◌∷◌, map, length, get_or, set, ◌+◌}
+use Rattle.std.proofs.Common.{refl, sym, ap, ◌∙◌, subst, arith, ⊎_elim, get_or-set_same, get_or-set_other}
 use Rattle.std.proofs.lemmas.Bool.{cases_Bool, eqb-true, eqb-false}
 use Rattle.std.proofs.lemmas.List.{with_items_is}
 use Rattle.std.specs.List.{range_with_len}
@@ -23,16 +24,19 @@ each_after_set P xs d i x count long each new k below =
 
 -- where a reading of each element is alike, the readings are one for each number, from any number on
 alike-after : {X Y : Type 0} (read : X → Y) (y : Y) (xs : List X) (first : ℕ)
-    → ((k : ℕ) (d : X) → k < length xs → read (get_or xs k d) ≡ y) → map read xs ≡ map (λ (c : ℕ). y) (range_with_len first (length xs))
+    → ((k : ℕ) (d : X) → k < length xs → read (get_or xs k d) ≡ y)
+    → map read xs ≡ map (λ (c : ℕ). y) (range_with_len first (length xs))
 alike-after read y [] first each = refl
 alike-after read y (x ∷ xs) first each =
-    λ i. each 0 x (omega arith) i ∷ alike-after read y xs (first + 1) (λ k d below. each (suc k) d (omega (arith, below))) i
+    λ i. each 0 x (omega arith) i
+    ∷ alike-after read y xs (first + 1) (λ k d below. each (suc k) d (omega (arith, below))) i
 
 -- the same, from 0 on
 pub readings-alike : {X Y : Type 0} (read : X → Y) (y : Y) (xs : List X) (count : ℕ) → length xs ≡ count
     → ((k : ℕ) (d : X) → k < length xs → read (get_or xs k d) ≡ y) → map read xs ≡ each_from 0 count (λ c. y)
 unfolding each_from
-readings-alike read y xs count long each = alike-after read y xs 0 each ∙ ap (λ (n : ℕ). map (λ (c : ℕ). y) (range_with_len 0 n)) long
+readings-alike read y xs count long each = alike-after read y xs 0 each
+    ∙ ap (λ (n : ℕ). map (λ (c : ℕ). y) (range_with_len 0 n)) long
 
 -- where a reading of each element is the same, so are the readings
 pub same_readings : {X Y : Type 0} (read : X → Y) (xs ys : List X) → length xs ≡ length ys
@@ -41,8 +45,10 @@ same_readings read [] [] long each = refl
 same_readings read [] (y ∷ ys) long each = absurd (omega (arith, long))
 same_readings read (x ∷ xs) [] long each = absurd (omega (arith, long))
 same_readings read (x ∷ xs) (y ∷ ys) long each =
-    λ i. each 0 x (omega arith) i ∷ same_readings read xs ys (omega (arith, long)) (λ k d below. each (suc k) d (omega (arith, below))) i
+    λ i. each 0 x (omega arith) i
+    ∷ same_readings read xs ys (omega (arith, long)) (λ k d below. each (suc k) d (omega (arith, below))) i
 
 -- a row whose slice was lent whole has what was written to the slice
-pub items-lent : {X : Type 0} (row : Vec X) (now : List X) → length now ≡ length row.items → (with_items row now).items ≡ now
+pub items-lent : {X : Type 0} (row : Vec X) (now : List X) → length now ≡ length row.items
+    → (with_items row now).items ≡ now
 items-lent row now same = with_items_is row now (same ∙ sym row.ok.0)

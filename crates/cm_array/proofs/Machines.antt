@@ -29,7 +29,8 @@ use Rattle.cm_array.proofs.Searching.{AreOf}
 use Rattle.cm_array.proofs.Wholes.{IsChip-with_flag}
 
 -- a machine with other whole chips
-pub IsMachine-with_chips : (n cap : ℕ) (machine : Machine) (chips : Chips) → length chips ≡ 2 ^ n → ((c : ℕ) → c < 2 ^ n → IsChip (chip_at chips c))
+pub IsMachine-with_chips : (n cap : ℕ) (machine : Machine) (chips : Chips) → length chips ≡ 2 ^ n
+    → ((c : ℕ) → c < 2 ^ n → IsChip (chip_at chips c))
     → IsMachine n cap machine → IsMachine n cap (record machine { chips = chips })
 unfolding account all_injected
 IsMachine-with_chips n cap machine chips long whole h = record {
@@ -60,9 +61,11 @@ AreUnderWay-parts n cap parts h = record {
 -- and once the messages are gathered they are the parts of a machine between two lists
 pub machine_of-gathered : (parts : Parts) (crossing : UnderWay) → crossing.buffers ≡ parts.crossing.buffers
     → machine_of (record parts { crossing = crossing }) ≡ machine_of parts
-machine_of-gathered parts crossing same = λ i. record { chips = parts.run; buffers = same i; logs = events_of parts.logs.items; clock = parts.clock }
+machine_of-gathered parts crossing same =
+    λ i. record { chips = parts.run; buffers = same i; logs = events_of parts.logs.items; clock = parts.clock }
 
-pub AreParts-gathered : (n cap : ℕ) (parts : Parts) (crossing : UnderWay) → crossing.buffers ≡ parts.crossing.buffers → IsTrue crossing.gathered
+pub AreParts-gathered : (n cap : ℕ) (parts : Parts) (crossing : UnderWay) → crossing.buffers ≡ parts.crossing.buffers
+    → IsTrue crossing.gathered
     → AreUnderWay n cap parts → AreParts n cap (record parts { crossing = crossing })
 AreParts-gathered n cap parts crossing same gathered h = record {
   dimension = h.dimension;
@@ -76,8 +79,10 @@ AreParts-gathered n cap parts crossing same gathered h = record {
 }
 
 -- after an act the parts are the parts of a machine, if sizes are as before
-pub AreUnderWay-after_act : (n cap : ℕ) (a : Act) (before after : Parts) → AreUnderWay n cap before → machine_of after ≡ after_act n cap (machine_of before) a
-    → length after.sent.items ≡ length before.sent.items → length after.incoming.items ≡ length before.incoming.items → after.clock < 2 ^ 63 → AreUnderWay n cap after
+pub AreUnderWay-after_act : (n cap : ℕ) (a : Act) (before after : Parts) → AreUnderWay n cap before
+    → machine_of after ≡ after_act n cap (machine_of before) a
+    → length after.sent.items ≡ length before.sent.items → length after.incoming.items ≡ length before.incoming.items
+    → after.clock < 2 ^ 63 → AreUnderWay n cap after
 AreUnderWay-after_act n cap a before after h is same_sent same_incoming clock = record {
   dimension = h.dimension;
   some_room = h.some_room;
@@ -85,12 +90,15 @@ AreUnderWay-after_act n cap a before after h is same_sent same_incoming clock = 
   sent_count = same_sent ∙ h.sent_count;
   incoming_count = same_incoming ∙ h.incoming_count;
   clock = clock;
-  machine = subst (λ (m : Machine). IsMachine n cap m) (sym is) (IsMachine-after_act n cap (machine_of before) a h.machine);
+  machine = subst (λ (m : Machine). IsMachine n cap m) (sym is)
+      (IsMachine-after_act n cap (machine_of before) a h.machine);
 }
 
 -- after an instruction
-pub AreUnderWay-instructed : (n cap : ℕ) (nano : Nano) (before after : Parts) → AreUnderWay n cap before → after.run ≡ after_nano n nano before.run
-    → after.logs ≡ before.logs → after.clock ≡ before.clock → length after.sent.items ≡ 2 ^ n → length after.incoming.items ≡ 2 ^ n → after.crossing ≡ before.crossing → AreUnderWay n cap after
+pub AreUnderWay-instructed : (n cap : ℕ) (nano : Nano) (before after : Parts) → AreUnderWay n cap before
+    → after.run ≡ after_nano n nano before.run
+    → after.logs ≡ before.logs → after.clock ≡ before.clock → length after.sent.items ≡ 2 ^ n
+    → length after.incoming.items ≡ 2 ^ n → after.crossing ≡ before.crossing → AreUnderWay n cap after
 AreUnderWay-instructed n cap nano before after h chips logs clock sent incoming crossing =
     AreUnderWay-after_act n cap (act.Nano nano) before after h
     (λ i. record { chips = chips i; buffers = (crossing i).buffers; logs = events_of (logs i).items; clock = clock i })
@@ -101,7 +109,8 @@ pub length-logs : (n cap : ℕ) (parts : Parts) → AreUnderWay n cap parts → 
 length-logs n cap parts h = sym (length-map parts.logs.items (λ (log : Log). log.items)) ∙ h.machine.log_count
 
 -- they are the routers of a cube
-pub AreRouters-parts : (n cap : ℕ) (parts : Parts) → AreUnderWay n cap parts → AreRouters n cap parts.run parts.crossing.buffers parts.logs.items
+pub AreRouters-parts : (n cap : ℕ) (parts : Parts) → AreUnderWay n cap parts
+    → AreRouters n cap parts.run parts.crossing.buffers parts.logs.items
 AreRouters-parts n cap parts h = record {
   chip_count = h.machine.chip_count;
   buffer_count = h.machine.buffer_count;
@@ -111,7 +120,8 @@ AreRouters-parts n cap parts h = record {
 }
 
 -- with another whole chip in its place it is still a machine
-IsMachine-with_chip : (n cap : ℕ) (machine : Machine) (i : ℕ) (chip : List Processor) → IsChip chip → IsMachine n cap machine
+IsMachine-with_chip : (n cap : ℕ) (machine : Machine) (i : ℕ) (chip : List Processor) → IsChip chip
+    → IsMachine n cap machine
     → IsMachine n cap (record machine { chips = set machine.chips i chip })
 IsMachine-with_chip n cap machine i chip whole h =
     IsMachine-with_chips n cap machine (set machine.chips i chip) (length-set machine.chips i chip ∙ h.chip_count)
@@ -122,7 +132,8 @@ pub few_chips : (n : ℕ) → n ≤ 12 → 2 ^ n ≤ 4096
 few_chips n small = let most : 2 ^ n ≤ 2 ^ 12 = pow-le-pow_right (omega arith) small in omega (arith, most)
 
 -- its messages and logs, as they were read, are those of the machine
-pub AreOf-parts : (n cap : ℕ) (parts : Parts) (machine : Machine) (buffers : List (List Message)) (logs : List Log) → AreParts n cap parts → machine_of parts ≡ machine
+pub AreOf-parts : (n cap : ℕ) (parts : Parts) (machine : Machine) (buffers : List (List Message)) (logs : List Log)
+    → AreParts n cap parts → machine_of parts ≡ machine
     → buffers ≡ parts.crossing.buffers → logs ≡ parts.logs.items → AreOf n machine buffers logs
 AreOf-parts n cap parts machine buffers logs h view same_buffers same_logs = record {
   buffers = same_buffers ∙ ap (λ (m : Machine). m.buffers) view;
@@ -139,15 +150,20 @@ pub machine_of-blank : (n count : ℕ) (parts : Parts) → count ≡ 2 ^ n → p
     → machine_of parts ≡ record (blank_machine n) { clock = parts.clock }
 unfolding blank_machine
 machine_of-blank n count parts all chips buffers logs =
-    let all_chips : parts.run ≡ each_from 0 (2 ^ n) (λ c. blank_chip) = chips ∙ ap (λ (k : ℕ). each_from 0 k (λ c. blank_chip)) all in
-    let all_buffers : parts.crossing.buffers ≡ each_from 0 (2 ^ n) (λ c. []) = buffers ∙ ap (λ (k : ℕ). each_from 0 k (λ c. [])) all in
-    let all_logs : events_of parts.logs.items ≡ each_from 0 (2 ^ n) (λ c. []) = logs ∙ ap (λ (k : ℕ). each_from 0 k (λ c. [])) all in
+    let all_chips : parts.run ≡ each_from 0 (2 ^ n) (λ c. blank_chip) = chips
+    ∙ ap (λ (k : ℕ). each_from 0 k (λ c. blank_chip)) all in
+    let all_buffers : parts.crossing.buffers ≡ each_from 0 (2 ^ n) (λ c. []) = buffers
+    ∙ ap (λ (k : ℕ). each_from 0 k (λ c. [])) all in
+    let all_logs : events_of parts.logs.items ≡ each_from 0 (2 ^ n) (λ c. []) = logs
+    ∙ ap (λ (k : ℕ). each_from 0 k (λ c. [])) all in
     λ i. record { chips = all_chips i; buffers = all_buffers i; logs = all_logs i; clock = parts.clock }
 
 -- they are the parts of a machine
-pub AreParts-blank : (n cap count : ℕ) (parts : Parts) → n ≤ 12 → 1 ≤ cap → cap ≤ 15 → count ≡ 2 ^ n → parts.run ≡ each_from 0 count (λ c. blank_chip)
+pub AreParts-blank : (n cap count : ℕ) (parts : Parts) → n ≤ 12 → 1 ≤ cap → cap ≤ 15 → count ≡ 2 ^ n
+    → parts.run ≡ each_from 0 count (λ c. blank_chip)
     → parts.crossing.buffers ≡ each_from 0 count (λ c. []) → events_of parts.logs.items ≡ each_from 0 count (λ c. [])
-    → length parts.sent.items ≡ count → length parts.incoming.items ≡ count → IsTrue parts.crossing.gathered → parts.clock < 2 ^ 63 → AreParts n cap parts
+    → length parts.sent.items ≡ count → length parts.incoming.items ≡ count → IsTrue parts.crossing.gathered
+    → parts.clock < 2 ^ 63 → AreParts n cap parts
 AreParts-blank n cap count parts few some most all chips buffers logs same_sent same_incoming gathered clock = record {
   dimension = few;
   some_room = some;
@@ -156,7 +172,8 @@ AreParts-blank n cap count parts few some most all chips buffers logs same_sent 
   incoming_count = same_incoming ∙ all;
   clock = clock;
   gathered = gathered;
-  machine = subst (λ (m : Machine). IsMachine n cap m) (sym (machine_of-blank n count parts all chips buffers logs)) (IsMachine-blank_at n cap parts.clock);
+  machine = subst (λ (m : Machine). IsMachine n cap m) (sym (machine_of-blank n count parts all chips buffers logs))
+      (IsMachine-blank_at n cap parts.clock);
 }
 
 -- the blank machine counts from 0
@@ -180,8 +197,8 @@ AreParts-with_chip n cap parts run i chip whole is h = record {
 }
 
 -- with a flag put, or not
-pub AreParts-poked_flag : {X Y : Type 0} (result : Result X Y) (n cap : ℕ) (parts : Parts) (run : Chips) (i p number : ℕ)
-    (b : Bool) → i < 2 ^ n → (IsErr result ↔ (number ≡ 8))
+pub AreParts-poked_flag : {X Y : Type 0} (result : Result X Y) (n cap : ℕ) (parts : Parts) (run : Chips)
+    (i p number : ℕ) (b : Bool) → i < 2 ^ n → (IsErr result ↔ (number ≡ 8))
     → OnOk result (run ≡ set parts.run i (with_flag (chip_at parts.run i) p number b))
     → OnErr result (run ≡ parts.run) → AreParts n cap parts → AreParts n cap (record parts { run = run })
 AreParts-poked_flag (Ok x) n cap parts run i p number b below refused ok err h =
@@ -193,7 +210,8 @@ AreParts-poked_flag (Err y) n cap parts run i p number b below refused ok err h 
 
 -- a copy of the parts of a machine, with working room of its own, are the parts of a machine
 pub AreParts-copied : (n cap count : ℕ) (parts copy : Parts) → AreParts n cap parts → count ≡ length parts.run
-    → copy.run ≡ parts.run → copy.crossing ≡ parts.crossing → events_of copy.logs.items ≡ events_of parts.logs.items → copy.clock ≡ parts.clock
+    → copy.run ≡ parts.run → copy.crossing ≡ parts.crossing → events_of copy.logs.items ≡ events_of parts.logs.items
+    → copy.clock ≡ parts.clock
     → length copy.sent.items ≡ count → length copy.incoming.items ≡ count → AreParts n cap copy
 AreParts-copied n cap count parts copy h counted chips crossing logs clock sent incoming =
     let all : count ≡ 2 ^ n = counted ∙ h.machine.chip_count in
@@ -206,5 +224,11 @@ AreParts-copied n cap count parts copy h counted chips crossing logs clock sent 
       clock = omega (arith, clock, h.clock);
       gathered = subst (λ (u : UnderWay). IsTrue u.gathered) (sym crossing) h.gathered;
       machine = subst (λ (m : Machine). IsMachine n cap m)
-          (λ i. record { chips = sym chips i; buffers = (sym crossing i).buffers; logs = sym logs i; clock = sym clock i }) h.machine;
+          (λ i. record {
+            chips = sym chips i;
+            buffers = (sym crossing i).buffers;
+            logs = sym logs i;
+            clock = sym clock i;
+          })
+          h.machine;
     }

@@ -1,5 +1,6 @@
 -- Parts that are put together, one after another.
-use Rattle.std.proofs.Common.{◌≡◌, ℕ, ◌+◌, ◌-◌, ◌<◌, ◌≤◌, ◌^◌, List, [], ◌∷◌, ◌++◌, length, get_or, take, map, refl, sym, ap}
+use Rattle.std.proofs.Common.{◌≡◌, ℕ, ◌+◌, ◌-◌, ◌<◌, ◌≤◌, ◌^◌, List, [], ◌∷◌, ◌++◌, length, get_or, take, map}
+use Rattle.std.proofs.Common.{refl, sym, ap}
 use Rattle.std.proofs.Common.{◌∙◌, subst, arith, ⊎_elim, ext_get_or}
 use Rattle.std.proofs.lemmas.Bool.{cases_lt}
 use Rattle.std.proofs.lemmas.List.{take_more, take_all, length-append, get_or-map, length-map}
@@ -36,8 +37,9 @@ next_fits lists_of pieces j at s now l is put =
     omega (arith, put.end, length-flat_map-take lists_of pieces j s l, ap (λ x. length (lists_of x)) is)
 
 -- one piece more
-pub next_put : {A X : Type 0} (lists_of : A → List (List X)) (pieces : List A) (j at : ℕ) (s : A) (now new : List (List X))
-    (next end : ℕ) → j < length pieces → s ≡ get_or pieces j s → next ≡ j + 1 → end ≡ at + length (lists_of s)
+pub next_put : {A X : Type 0} (lists_of : A → List (List X)) (pieces : List A) (j at : ℕ)
+    (s : A) (now new : List (List X)) (next end : ℕ) → j < length pieces → s ≡ get_or pieces j s → next ≡ j + 1
+    → end ≡ at + length (lists_of s)
     → IsPut lists_of pieces j at now → IsLaid at (lists_of s) now new → IsPut lists_of pieces next end new
 next_put {A} {X} lists_of pieces j at s now new next end l is after there put laid =
     let more : flat_map lists_of (take (j + 1) pieces) ≡ flat_map lists_of (take j pieces) ++ (lists_of s ++ []) =

@@ -1,5 +1,6 @@
 -- Sorted tags: a tag that stands twice stands beside itself.
-use Rattle.std.proofs.Common.{◌≡◌, ◌≢◌, ℕ, zero, suc, ◌+◌, ◌-◌, ◌<◌, ◌≤◌, ◌==◌, ◌&&◌, Bool, true, false, cond, List, [], ◌∷◌, ◌++◌, length, map, get_or, take, refl, sym, ap, ◌∙◌, subst, ⊎_elim, arith}
+use Rattle.std.proofs.Common.{◌≡◌, ◌≢◌, ℕ, zero, suc, ◌+◌, ◌-◌, ◌<◌, ◌≤◌, ◌==◌, ◌&&◌, Bool, true, false, cond}
+use Rattle.std.proofs.Common.{List, [], ◌∷◌, ◌++◌, length, map, get_or, take, refl, sym, ap, ◌∙◌, subst, ⊎_elim, arith}
 use Rattle.std.proofs.lemmas.Bool.{cases_Bool, and_parts, eqb-true}
 use Rattle.std.proofs.lemmas.Cmp.{nat_cmp_total, on_total, then_total, tied_itself}
 use Rattle.std.proofs.lemmas.List.{map-append, append-nil, take_more, take_all, get_or_default}
@@ -19,7 +20,8 @@ use Rattle.cm_model.specs.declared.message.Tag.{Tag}
 use Rattle.cm_model.specs.Found.{same_tag}
 use Rattle.cm_model.specs.Unlogged.{has_tag_twice}
 use Rattle.cm_model.proofs.Counting.{sum_by-map}
-use Rattle.cm_model.proofs.Unlogged.{same_tag-true, same_tag-self, counted_more, counted_yes, counted_no, counted_once, counted_twice}
+use Rattle.cm_model.proofs.Unlogged.{same_tag-true, same_tag-self, counted_more, counted_yes}
+use Rattle.cm_model.proofs.Unlogged.{counted_no, counted_once, counted_twice}
 use Rattle.cm_array.specs.Tags.{Key, key_of, no_key, HasEqualNeighbours, AreNeighboursApart}
 
 -- ---- the order of keys

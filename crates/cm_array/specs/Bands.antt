@@ -22,7 +22,8 @@ pub record IsBand (n : ℕ) (s : Part) : Type 0 where
   pub count : AreRows n s.count
   pub some : 0 < s.count
 
--- an instruction that takes in nothing from outside a part: over NEWS northward or southward that is where the part is the whole cube
+-- an instruction that takes in nothing from outside a part:
+-- over NEWS northward or southward that is where the part is the whole cube
 abbrev pub IsAlone : ℕ → Part → Nano → Type 0
 IsAlone n s nano = nano.write ≡ NEWS → IsTrue (is_vertical nano.dir) → s.count ≡ 2 ^ n
 
@@ -30,7 +31,8 @@ IsAlone n s nano = nano.write ≡ NEWS → IsTrue (is_vertical nano.dir) → s.c
 
 -- the chips of a band after an instruction, wherever it begins, when these bits come in over its edge
 abbrev pub IsStepped : ℕ → Nano → List ℕ → Chips → Chips → Type 0
-IsStepped n nano edge old new = (cap first clock : ℕ) (buffers : List (List Message)) (logs : List Log) → AreRows n first
+IsStepped n nano edge old new = (cap first clock : ℕ) (buffers : List (List Message)) (logs : List Log)
+    → AreRows n first
     → first + length old ≤ 2 ^ n
     → part_of first (length old) new buffers logs clock
     ≡ part_after n cap (Instruct nano) (Edge (bits_of edge)) (part_of first (length old) old buffers logs clock)

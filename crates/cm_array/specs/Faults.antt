@@ -1,5 +1,7 @@
--- Why a machine of given sizes cannot be, why what was built is none, and whether acts were refused for want of a thread: ours.
-use Rattle.std.specs.Prelude.{◌≢◌, ℕ, ◌+◌, ◌%◌, ◌^◌, Bool, true, false, ◌==◌, ◌||◌, ltb, Option, Some, None, if◌then◌else◌}
+-- Why a machine of given sizes cannot be, why what was built is none,
+-- and whether acts were refused for want of a thread: ours.
+use Rattle.std.specs.Prelude.{◌≢◌, ℕ, ◌+◌, ◌%◌, ◌^◌, Bool, true, false, ◌==◌, ◌||◌, ltb}
+use Rattle.std.specs.Prelude.{Option, Some, None, if◌then◌else◌}
 use Rattle.cm_model.specs.Machine.{Machine}
 use Rattle.cm_model.specs.Unlogged.{standing_messages, has_tag_twice}
 use Rattle.cm_array.specs.declared.machine.MachineFault.{MachineFault}

@@ -20,7 +20,9 @@ machine_with_flag machine c p number b =
 -- the machine with another plane at an address of a chip: bit p goes to processor p
 abbrev pub machine_with_plane : Machine → ℕ → ℕ → ℕ → Machine
 machine_with_plane machine c address plane =
-    record machine { chips = slice_set machine.chips c (with_memory_plane (chip_at machine.chips c) address (bit plane)) }
+    record machine {
+      chips = slice_set machine.chips c (with_memory_plane (chip_at machine.chips c) address (bit plane));
+    }
 
 -- the machine with another plane in a flag of a chip
 abbrev pub machine_with_flag_plane : Machine → ℕ → ℕ → ℕ → Machine

@@ -97,7 +97,8 @@ impl<const N: usize, const CAP: usize> Runner<N, CAP> for Plain {
         ensures threads { MatchResult result
             (λ _. plain_threads_lacked self.new ≡ plain_threads_lacked self.old)
             (λ fault. plain_threads_lacked self.new
-            ≡ cond (is_no_thread fault) (one_more_lacked (plain_threads_lacked self.old)) (plain_threads_lacked self.old)) }
+            ≡ cond (is_no_thread fault) (one_more_lacked (plain_threads_lacked self.old))
+            (plain_threads_lacked self.old)) }
         ensures ok { OnOk result (machine.new.machine ≡ run_of N CAP machine.old.machine acts.now) }
         ensures account { OnOk result (SameLines (account N machine.new.machine)
             (account N machine.old.machine ++ newly_injected N machine.old.machine machine.new.machine)) }

@@ -1,5 +1,6 @@
 -- Bands of the torus: so many rows of chips each, and which row lies over the edge.
-use Rattle.std.proofs.Common.{◌≡◌, ℕ, zero, suc, ◌+◌, ◌-◌, ◌*◌, ◌/◌, ◌%◌, ◌^◌, ◌<◌, ◌≤◌, ◌⊎◌, inl, inr, ◌∙◌, ap, sym, arith}
+use Rattle.std.proofs.Common.{◌≡◌, ℕ, zero, suc, ◌+◌, ◌-◌, ◌*◌, ◌/◌, ◌%◌, ◌^◌, ◌<◌, ◌≤◌, ◌⊎◌, inl, inr, ◌∙◌}
+use Rattle.std.proofs.Common.{ap, sym, arith}
 use Rattle.std.proofs.lemmas.Nat.{pow-add, mul-le, div_below, le-div}
 use Rattle.std.proofs.Math.Nat.{mod_self}
 use Rattle.std.proofs.lemmas.Bool.{cases_lt}
@@ -106,7 +107,8 @@ row_on all r b y some l from below =
         ∙ ap (λ (z : ℕ). 4 * (z * r)) (sym (on-other b all more))))
     by_edge fit (inr edge) (inr last) =
         let whole : all ≡ b + 1 = omega arith in
-        let split : all * r ≡ b * r + r = ap (λ (z : ℕ). z * r) whole ∙ (let e : (b + 1) * r ≡ b * r + r = grind arith in e) in
+        let split : all * r ≡ b * r + r = ap (λ (z : ℕ). z * r) whole
+        ∙ (let e : (b + 1) * r ≡ b * r + r = grind arith in e) in
         let round : (b + 1) % all ≡ 0 = ap (λ (z : ℕ). z % all) (sym whole) ∙ mod_self all in
         inr (ap (λ (z : ℕ). z % (4 * (all * r))) (let e : y + 1 ≡ 4 * (all * r) = omega arith in e)
         ∙ (mod_self (4 * (all * r))

@@ -1,5 +1,6 @@
 -- At a round, sending first and taking in then is the step.
-use Rattle.std.proofs.Common.{◌≡◌, ℕ, ◌+◌, ◌-◌, ◌*◌, ◌<◌, ◌≤◌, ◌^◌, ◌++◌, true, false, List, [], length, subst, refl, sym, ◌∙◌, ap, ◌⊎◌, inl, inr, get_or, ⊎_elim, arith}
+use Rattle.std.proofs.Common.{◌≡◌, ℕ, ◌+◌, ◌-◌, ◌*◌, ◌<◌, ◌≤◌, ◌^◌, ◌++◌, true, false, List, [], length, subst, refl}
+use Rattle.std.proofs.Common.{sym, ◌∙◌, ap, ◌⊎◌, inl, inr, get_or, ⊎_elim, arith}
 use Rattle.std.proofs.lemmas.Bool.{cases_Bool, cases_lt}
 use Rattle.std.proofs.lemmas.Bool.Decides.{nat_tests}
 use Rattle.std.proofs.lemmas.Nat.{mul-le, pow_pos, xor_comm}
@@ -73,7 +74,8 @@ dimension n cap k b d machine parcel high =
     (λ i inside.
     let e : first + i - first ≡ i = omega arith in
     let kept : buffer_in (less cap (Cross d) s) (first + i) ≡ stays (first + i) =
-    ap (λ (z : ℕ). get_or (less cap (Cross d) s).buffers z []) e ∙ get_or-each_from first (size n k) stays i [] inside in
+    ap (λ (z : ℕ). get_or (less cap (Cross d) s).buffers z []) e
+    ∙ get_or-each_from first (size n k) stays i [] inside in
     let out : is_within s (bit_xor (first + i) (2 ^ d)) ≡ false = leads_out n k b d machine i high inside in
     ap (λ z. z ++ option_to_list (mail_in parcel (first + i - first))) kept ∙ rw out refl) in
     λ j. record s { buffers = buffers j }

@@ -5,7 +5,8 @@ use Rattle.cm_model.specs.Array.{chip_at, list_at}
 use Rattle.cm_model.specs.Letters.{senders_taken, messages_sent, chip_after_injection, can_receive, chip_after_delivery}
 use Rattle.cm_model.specs.Machine.{Machine}
 use Rattle.cm_model.specs.Steps.{Inject, Deliver}
-use Rattle.cm_model.specs.Buffers.{taken_in, sent_in, machine_after_injection, delivered, kept, delivered_in, machine_after_delivery}
+use Rattle.cm_model.specs.Buffers.{taken_in, sent_in, machine_after_injection, delivered}
+use Rattle.cm_model.specs.Buffers.{kept, delivered_in, machine_after_delivery}
 use Rattle.cm_blocks.specs.Parts.{Part, part, chip_in, buffer_in, log_in}
 use Rattle.cm_blocks.specs.Parcels.{Parcel}
 use Rattle.cm_blocks.specs.Steps.{taken_of, sent_of, delivered_of, part_after}
@@ -28,7 +29,8 @@ unfolding part
 read-log first count machine c from below = read-cut first count machine.logs c [] from below
 
 pub part-injection : (n cap first count : ℕ) (machine : Machine) (parcel : Parcel) → first + count ≤ 2 ^ n
-    → part first count (machine_after_injection n cap machine) ≡ part_after n cap Inject parcel (part first count machine)
+    → part first count (machine_after_injection n cap machine)
+    ≡ part_after n cap Inject parcel (part first count machine)
 unfolding part machine_after_injection part_after
 part-injection n cap first count machine parcel h =
     let s : Part = part first count machine in
@@ -41,7 +43,8 @@ part-injection n cap first count machine parcel h =
     let chips = cut-same [] first count (2 ^ n)
     (λ c. chip_after_injection (taken_in cap machine c) (chip_at machine.chips c))
     (λ c. chip_after_injection (taken_of cap s c) (chip_in s c)) h
-    (λ i l. λ j. chip_after_injection (senders_taken cap (length (sym (here i l) j)) (sym (chip i l) j)) (sym (chip i l) j)) in
+    (λ i l. λ j. chip_after_injection (senders_taken cap (length (sym (here i l) j)) (sym (chip i l) j))
+    (sym (chip i l) j)) in
     let buffers = cut-same [] first count (2 ^ n)
     (λ c. list_at machine.buffers c ++ sent_in n cap machine c)
     (λ c. buffer_in s c ++ sent_of n cap s c) h
@@ -52,7 +55,14 @@ part-injection n cap first count machine parcel h =
     (λ c. log_in s c ++ map Injected (sent_of n cap s c)) h
     (λ i l. λ j. sym (told i l) j ++ map Injected (messages_sent n machine.clock (first + i) (sym (chip i l) j)
     (senders_taken cap (length (sym (here i l) j)) (sym (chip i l) j)))) in
-    λ j. record { first = first; count = count; chips = chips j; buffers = buffers j; logs = logs j; clock = machine.clock }
+    λ j. record {
+      first = first;
+      count = count;
+      chips = chips j;
+      buffers = buffers j;
+      logs = logs j;
+      clock = machine.clock;
+    }
 
 pub part-delivery : (n cap first count : ℕ) (machine : Machine) (parcel : Parcel) → first + count ≤ 2 ^ n
     → part first count (machine_after_delivery n machine) ≡ part_after n cap Deliver parcel (part first count machine)
@@ -68,7 +78,8 @@ part-delivery n cap first count machine parcel h =
     let chips = cut-same [] first count (2 ^ n)
     (λ c. chip_after_delivery (delivered_in machine c) (chip_at machine.chips c))
     (λ c. chip_after_delivery (delivered_of s c) (chip_in s c)) h
-    (λ i l. λ j. chip_after_delivery (delivered (can_receive (sym (chip i l) j)) [] (sym (here i l) j)) (sym (chip i l) j)) in
+    (λ i l. λ j. chip_after_delivery (delivered (can_receive (sym (chip i l) j)) [] (sym (here i l) j))
+    (sym (chip i l) j)) in
     let buffers = cut-same [] first count (2 ^ n)
     (λ c. kept (can_receive (chip_at machine.chips c)) [] (list_at machine.buffers c))
     (λ c. kept (can_receive (chip_in s c)) [] (buffer_in s c)) h
@@ -78,4 +89,11 @@ part-delivery n cap first count machine parcel h =
     (λ c. log_in s c ++ map (λ m. Delivered m c) (delivered_of s c)) h
     (λ i l. λ j. sym (told i l) j ++ map (λ m. Delivered m (first + i))
     (delivered (can_receive (sym (chip i l) j)) [] (sym (here i l) j))) in
-    λ j. record { first = first; count = count; chips = chips j; buffers = buffers j; logs = logs j; clock = machine.clock + 1 }
+    λ j. record {
+      first = first;
+      count = count;
+      chips = chips j;
+      buffers = buffers j;
+      logs = logs j;
+      clock = machine.clock + 1;
+    }

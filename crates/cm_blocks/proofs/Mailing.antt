@@ -1,5 +1,6 @@
 -- A dimension step at a block: within it from the chip across, over its bounds from the parcel at the chip's own place.
-use Rattle.std.proofs.Common.{◌≡◌, ℕ, ◌+◌, ◌-◌, ◌*◌, ◌<◌, ◌≤◌, ◌^◌, true, false, [], None, get_or, sym, ◌∙◌, ap, ⊎_elim, arith}
+use Rattle.std.proofs.Common.{◌≡◌, ℕ, ◌+◌, ◌-◌, ◌*◌, ◌<◌, ◌≤◌, ◌^◌, true, false, [], None, get_or, sym, ◌∙◌}
+use Rattle.std.proofs.Common.{ap, ⊎_elim, arith}
 use Rattle.std.proofs.lemmas.Bool.{cases_Bool, cases_lt, both_ways}
 use Rattle.std.proofs.lemmas.Nat.{xor_block, xor_lt, pow_below, pow-add, pow_pos, mul-le}
 use Rattle.std.specs.Prelude.{bit_xor}
@@ -19,8 +20,10 @@ use Rattle.cm_blocks.proofs.Local.{read-buffer}
 -- block b ends within the machine
 pub block-fits : (n k b : ℕ) → k ≤ n → b < 2 ^ k → b * size n k + size n k ≤ 2 ^ n
 block-fits n k b h l =
-    let whole : 2 ^ n ≡ 2 ^ k * 2 ^ (n - k) = ap (λ (z : ℕ). 2 ^ z) (let e : n ≡ k + (n - k) = omega arith in e) ∙ pow-add 2 k (n - k) in
-    let most : (b + 1) * 2 ^ (n - k) ≤ 2 ^ k * 2 ^ (n - k) = mul-le (b + 1) (2 ^ (n - k)) (2 ^ k) (2 ^ (n - k)) (omega arith) (omega arith) in
+    let whole : 2 ^ n ≡ 2 ^ k * 2 ^ (n - k) = ap (λ (z : ℕ). 2 ^ z) (let e : n ≡ k + (n - k) = omega arith in e)
+    ∙ pow-add 2 k (n - k) in
+    let most : (b + 1) * 2 ^ (n - k) ≤ 2 ^ k * 2 ^ (n - k) =
+    mul-le (b + 1) (2 ^ (n - k)) (2 ^ k) (2 ^ (n - k)) (omega arith) (omega arith) in
     let split : (b + 1) * 2 ^ (n - k) ≡ b * 2 ^ (n - k) + 2 ^ (n - k) = grind arith in
     omega (arith, whole, most, split)
 
@@ -73,7 +76,8 @@ mail_is n cap k b d machine i h l below inside =
     (λ (high : m ≤ d).
     let there : other ≡ from * size n k + i = high_across m b i d high inside in
     let place : b * size n k + i - b * size n k ≡ i = omega arith in
-    ap (λ (z : ℕ). get_or (each_from (from * size n k) (size n k) (λ c. outgoing cap d (buffer_in sent c))) z None) place
+    ap (λ (z : ℕ). get_or (each_from (from * size n k) (size n k) (λ c. outgoing cap d (buffer_in sent c))) z None)
+    place
     ∙ (get_or-each_from (from * size n k) (size n k) (λ c. outgoing cap d (buffer_in sent c)) i None inside
     ∙ ap (outgoing cap d)
     (read-buffer (from * size n k) (size n k) machine (from * size n k + i) (omega arith) (omega arith)
@@ -83,7 +87,8 @@ mail_is n cap k b d machine i h l below inside =
 
 pub block-cross : (n cap k b d : ℕ) (machine : Machine) → k ≤ n → b < 2 ^ k → d < n →
     block n k b (machine_after_dimension n cap d machine)
-    ≡ part_after n cap (Cross d) (due n cap (Cross d) (block n k (sender n k (Cross d) b) machine)) (block n k b machine)
+    ≡ part_after n cap (Cross d) (due n cap (Cross d) (block n k (sender n k (Cross d) b) machine))
+    (block n k b machine)
 unfolding part machine_after_dimension part_after
 block-cross n cap k b d machine h l below =
     let first : ℕ = b * size n k in

@@ -1,5 +1,6 @@
 -- An instruction at a block: over NEWS from within, or from the sender's edge row in the same column.
-use Rattle.std.proofs.Common.{◌≡◌, ℕ, ◌+◌, ◌-◌, ◌*◌, ◌/◌, ◌%◌, ◌^◌, ◌<◌, ◌≤◌, ◌==◌, Bool, true, false, List, [], sym, ◌∙◌, ap, ⊎_elim, inl, inr, ◌⊎◌, arith}
+use Rattle.std.proofs.Common.{◌≡◌, ℕ, ◌+◌, ◌-◌, ◌*◌, ◌/◌, ◌%◌, ◌^◌, ◌<◌, ◌≤◌, ◌==◌, Bool, true, false, List, [], sym}
+use Rattle.std.proofs.Common.{◌∙◌, ap, ⊎_elim, inl, inr, ◌⊎◌, arith}
 use Rattle.std.proofs.lemmas.Bool.{cases_Bool, both_ways}
 use Rattle.std.proofs.lemmas.Nat.{pow_pos}
 use Rattle.std.proofs.Math.Nat.{mod-lt, mul-div_cancel}
@@ -7,7 +8,8 @@ use Rattle.cm_bits.specs.declared.place.Place.{Place}
 use Rattle.cm_bits.specs.declared.plane.Dir.{Dir}
 use Rattle.cm_bits.specs.declared.plane.Dir.TheVariants.{North, East, West, South}
 use Rattle.cm_model.specs.declared.act.Nano.{Nano}
-use Rattle.cm_model.specs.Place.{chip_columns, rows, columns, row_of, column_of, place_at, neighbour, source, predecessor}
+use Rattle.cm_model.specs.Place.{chip_columns, rows, columns, row_of, column_of, place_at}
+use Rattle.cm_model.specs.Place.{neighbour, source, predecessor}
 use Rattle.cm_model.specs.Processor.{Processor, NEWS}
 use Rattle.cm_model.specs.Instruction.{flag_output}
 use Rattle.cm_model.specs.Chip.{processor_at, chip_after}
@@ -20,7 +22,8 @@ use Rattle.cm_model.proofs.Torus.{columns_some, column_of-lt}
 use Rattle.cm_blocks.specs.Parts.{Part, part, block, size, is_within, chip_in}
 use Rattle.cm_blocks.specs.Parcels.{Parcel, edge_row, due, sender_over, sender}
 use Rattle.cm_blocks.specs.Steps.{news_in, incoming_in, part_after}
-use Rattle.cm_blocks.proofs.Bands.{band, size-band, rows-band, block-row, row-from, row-below, its_row-from, its_row-below, row_back, row_on}
+use Rattle.cm_blocks.proofs.Bands.{band, size-band, rows-band, block-row, row-from, row-below, its_row-from}
+use Rattle.cm_blocks.proofs.Bands.{its_row-below, row_back, row_on}
 use Rattle.cm_blocks.proofs.Cutting.{cut-same, within-part, within-from, within-below}
 use Rattle.cm_blocks.proofs.Local.{read-chip}
 use Rattle.cm_blocks.proofs.Mailing.{block-fits}
@@ -66,7 +69,8 @@ band_rows n k h = ap (λ (z : ℕ). z / chip_columns n) (size-band n k h) ∙ mu
 
 -- a source out of a block: it stands at the sender's edge, in the same column
 pub record IsOver (n k b : ℕ) (dir : Dir) (machine : Machine) (place : Place) : Type 0 where
-  pub same : source n dir place ≡ place_at n (edge_row n dir (block n k (sender_over k dir b) machine)) (column_of n place)
+  pub same : source n dir place
+      ≡ place_at n (edge_row n dir (block n k (sender_over k dir b) machine)) (column_of n place)
   pub from : sender_over k dir b * size n k ≤ (source n dir place).chip
   pub below : (source n dir place).chip < sender_over k dir b * size n k + size n k
 
@@ -80,7 +84,8 @@ over n k b East machine place h l from below proc out =
     let q : Place = place_at n (row_of n place) ((column_of n place + columns n - 1) % columns n) in
     absurd (both_ways (is_within (block n k b machine) q.chip) out
     (within-part (block n k b machine) q.chip
-    (from-row n k b (row_of n place) ((column_of n place + columns n - 1) % columns n) h (row-of-block n k b place h from))
+    (from-row n k b (row_of n place) ((column_of n place + columns n - 1) % columns n) h
+    (row-of-block n k b place h from))
     (below-row n k b (row_of n place) ((column_of n place + columns n - 1) % columns n) h
     (row-in-block n k b place h below proc) column)))
 over n k b West machine place h l from below proc out =
@@ -93,7 +98,8 @@ over n k b West machine place h l from below proc out =
     (below-row n k b (row_of n place) ((column_of n place + 1) % columns n) h
     (row-in-block n k b place h below proc) column)))
 over n k b South machine place h l from below proc out =
-    by_edge (row_back (2 ^ k) (band n k) b (row_of n place) (pow_pos (n - k - n / 2)) l (row-of-block n k b place h from)
+    by_edge (row_back (2 ^ k) (band n k) b (row_of n place) (pow_pos (n - k - n / 2)) l
+    (row-of-block n k b place h from)
     (row-in-block n k b place h below proc))
   where
     wide : column_of n place < columns n
@@ -110,7 +116,8 @@ over n k b South machine place h l from below proc out =
 
     by_edge : ((row_of n place + 4 * (2 ^ k * band n k) - 1) % (4 * (2 ^ k * band n k)) ≡ row_of n place - 1)
         × (4 * (b * band n k) < row_of n place)
-        ⊎ ((row_of n place + 4 * (2 ^ k * band n k) - 1) % (4 * (2 ^ k * band n k)) ≡ 4 * (other * band n k) + 4 * band n k - 1)
+        ⊎ ((row_of n place + 4 * (2 ^ k * band n k) - 1) % (4 * (2 ^ k * band n k))
+        ≡ 4 * (other * band n k) + 4 * band n k - 1)
         → IsOver n k b South machine place
     by_edge (inl (inside, after)) =
         let is : back ≡ row_of n place - 1 = back-is ∙ inside in
@@ -176,7 +183,8 @@ news_is n cap k b nano machine c p h l from below proc =
     let sent : Part = block n k (sender_over k nano.dir b) machine in
     let q : Place = source n nano.dir place in
     let row : ℕ → Bool = λ column. output nano (chip_in sent) (place_at n (edge_row n nano.dir sent) column) in
-    let reads : (chip : List Processor) → chip ≡ chip_at machine.chips q.chip → flag_output nano (processor_at chip q.proc)
+    let reads : (chip : List Processor) → chip ≡ chip_at machine.chips q.chip
+    → flag_output nano (processor_at chip q.proc)
     ≡ flag_output nano (processor_of machine.chips q) =
     λ chip same. ap (λ (z : List Processor). flag_output nano (processor_at z q.proc)) same in
     ⊎_elim
@@ -194,7 +202,8 @@ news_is n cap k b nano machine c p h l from below proc =
 incoming_is : (n cap k b : ℕ) (nano : Nano) (machine : Machine) (c p : ℕ) → k ≤ n - n / 2 → b < 2 ^ k
     → b * size n k ≤ c → c < b * size n k + size n k → p < 16 →
     incoming n nano machine.chips c p
-    ≡ incoming_in n nano (due n cap (Instruct nano) (block n k (sender_over k nano.dir b) machine)) (block n k b machine) c p
+    ≡ incoming_in n nano (due n cap (Instruct nano) (block n k (sender_over k nano.dir b) machine))
+    (block n k b machine) c p
 unfolding incoming incoming_in
 incoming_is n cap k b nano machine c p h l from below proc =
     ⊎_elim

@@ -1,5 +1,6 @@
 -- From round to round: the steps between two rounds are told alone, and after the last the run is over.
-use Rattle.std.proofs.Common.{◌≡◌, ℕ, zero, suc, ◌+◌, ◌-◌, ◌/◌, ◌^◌, ◌<◌, ◌≤◌, Bool, true, false, cond, List, [], ◌∷◌, ◌++◌, length, Option, Some, None, refl, sym, ◌∙◌, ap, subst, ⊎_elim, arith}
+use Rattle.std.proofs.Common.{◌≡◌, ℕ, zero, suc, ◌+◌, ◌-◌, ◌/◌, ◌^◌, ◌<◌, ◌≤◌, Bool, true, false, cond, List, [], ◌∷◌}
+use Rattle.std.proofs.Common.{◌++◌, length, Option, Some, None, refl, sym, ◌∙◌, ap, subst, ⊎_elim, arith}
 use Rattle.std.proofs.lemmas.Bool.{cases_Bool, cond_both}
 use Rattle.std.proofs.lemmas.List.{map-append}
 use Rattle.std.specs.Prelude.{slice_get}
@@ -84,7 +85,8 @@ AreSteps-beyond n zero is (x ∷ xs) h =
 AreSteps-beyond n (suc r) is (x ∷ xs) h = AreSteps-beyond n (cond (is x) r (suc r)) is xs h.1
 
 AreSteps-phases : (n : ℕ) (acts : List Act) → AreSteps n (steps_in (phases n acts))
-AreSteps-phases n acts = subst (λ (s : List Step). AreSteps n s) (sym (steps_in-phases_from n 0 acts)) (AreSteps-all n acts)
+AreSteps-phases n acts = subst (λ (s : List Step). AreSteps n s)
+    (sym (steps_in-phases_from n 0 acts)) (AreSteps-all n acts)
 
 AreSteps-last : (n : ℕ) (xs : List Step) (step : Step) (ys : List Step) → AreSteps n (xs ++ step ∷ ys) → IsStep n step
 AreSteps-last n [] step ys h = h.0

@@ -11,12 +11,23 @@ use Rattle.cm_blocks.specs.Parcels.{sender, sender_over, edge_row}
 
 -- NEWS northward, and DAISY
 abbrev north : Nano
-north = record { a = 0; b = 0; read = 0; write = 10; cond = 8; sense = false; mem_table = 0xf0; flag_table = 0xaa; dir = North }
+north = record {
+  a = 0;
+  b = 0;
+  read = 0;
+  write = 10;
+  cond = 8;
+  sense = false;
+  mem_table = 0xf0;
+  flag_table = 0xaa;
+  dir = North;
+}
 
 abbrev daisy : Nano
 daisy = record north { write = 11 }
 
--- ---- two chips in two blocks: NEWS northward is a round, the chain is none, the last dimension of each petit cycle is one
+-- ---- two chips in two blocks: NEWS northward is a round, the chain is none,
+-- the last dimension of each petit cycle is one
 
 four_acts_have_two_rounds :
     steps_in (rounds 1 1 (act.Nano north ∷ act.Nano daisy ∷ act.Sense ∷ act.Cycle ∷ [])) ≡ Instruct north ∷ Cross 0 ∷ []

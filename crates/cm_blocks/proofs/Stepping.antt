@@ -1,5 +1,6 @@
 -- Every step at a block: with the parcel that is due to it, and without one where the step is no round.
-use Rattle.std.proofs.Common.{◌≡◌, ℕ, ◌+◌, ◌-◌, ◌*◌, ◌/◌, ◌%◌, ◌^◌, ◌<◌, ◌≤◌, ◌==◌, ◌&&◌, Bool, true, false, not, [], refl, sym, ◌∙◌, ap, subst, ⊎_elim, arith}
+use Rattle.std.proofs.Common.{◌≡◌, ℕ, ◌+◌, ◌-◌, ◌*◌, ◌/◌, ◌%◌, ◌^◌, ◌<◌, ◌≤◌, ◌==◌, ◌&&◌, Bool, true, false, not, []}
+use Rattle.std.proofs.Common.{refl, sym, ◌∙◌, ap, subst, ⊎_elim, arith}
 use Rattle.std.proofs.lemmas.Bool.{cases_Bool}
 use Rattle.std.proofs.lemmas.Bool.Decides.{nat_tests}
 use Rattle.std.specs.Prelude.{bit_xor}
@@ -41,7 +42,8 @@ block-step n cap k b machine Deliver h l s =
 -- ---- steps that are no round
 
 -- at a local instruction over NEWS a block would send to itself
-sender-own : (k : ℕ) (dir : Dir) (b : ℕ) → b < 2 ^ k → (not (k == 0) && is_vertical dir) ≡ false → sender_over k dir b ≡ b
+sender-own : (k : ℕ) (dir : Dir) (b : ℕ) → b < 2 ^ k → (not (k == 0) && is_vertical dir) ≡ false
+    → sender_over k dir b ≡ b
 sender-own k East b l h = refl
 sender-own k West b l h = refl
 sender-own k North b l h =
@@ -95,7 +97,8 @@ any-bit n k b nano machine parcel other c p h l from below proc local =
 
 any-instruction : (n cap k b : ℕ) (nano : Nano) (machine : Machine) (parcel other : Parcel) → k ≤ n - n / 2 → b < 2 ^ k
     → is_round n k (Instruct nano) ≡ false →
-    part_after n cap (Instruct nano) parcel (block n k b machine) ≡ part_after n cap (Instruct nano) other (block n k b machine)
+    part_after n cap (Instruct nano) parcel (block n k b machine)
+    ≡ part_after n cap (Instruct nano) other (block n k b machine)
 unfolding part part_after
 any-instruction n cap k b nano machine parcel other h l local =
     let s : Part = block n k b machine in

@@ -26,6 +26,7 @@ injections steps = count_by is_injection steps
 abbrev pub deliveries : List Step → ℕ
 deliveries steps = count_by is_delivery steps
 
--- the most events of a chip in some steps: four at an injection, and at a delivery one for each message that there is room for
+-- the most events of a chip in some steps: four at an injection,
+-- and at a delivery one for each message that there is room for
 abbrev pub events_in : ℕ → List Step → ℕ
 events_in room steps = 4 * injections steps + room * deliveries steps

@@ -44,7 +44,8 @@ due n cap Inject s = Blank
 due n cap (Cross d) s = Mail (each_from s.first s.count (λ c. outgoing cap d (buffer_in s c)))
 due n cap Deliver s = Blank
 
--- the block of 2 ^ k from which block b gets its parcel: over NEWS northward the one below it, southward the one above, round the torus
+-- the block of 2 ^ k from which block b gets its parcel: over NEWS northward the one below it,
+-- southward the one above, round the torus
 abbrev pub sender_over : ℕ → Dir → ℕ → ℕ
 sender_over k North b = (b + 1) % 2 ^ k
 sender_over k South b = (b + 2 ^ k - 1) % 2 ^ k

@@ -1,5 +1,6 @@
 -- Rounds: the steps of a run at which bands of a machine have to exchange, and the steps between them. Ours.
-use Rattle.std.specs.Prelude.{ℕ, zero, suc, ◌-◌, ◌==◌, ◌&&◌, Bool, true, false, not, List, [], ◌∷◌, nat_le, if◌then◌else◌}
+use Rattle.std.specs.Prelude.{ℕ, zero, suc, ◌-◌, ◌==◌, ◌&&◌, Bool, true, false, not}
+use Rattle.std.specs.Prelude.{List, [], ◌∷◌, nat_le, if◌then◌else◌}
 use Rattle.std.specs.List.{filter}
 use Rattle.cm_bits.specs.declared.plane.Dir.{Dir}
 use Rattle.cm_bits.specs.declared.plane.Dir.TheVariants.{North, East, West, South}
@@ -16,7 +17,8 @@ is_vertical South = true
 is_vertical East = false
 is_vertical West = false
 
--- a step at which the 2 ^ k bands of a cube of n dimensions have to exchange: NEWS northward or southward, and each of the last k dimensions
+-- a step at which the 2 ^ k bands of a cube of n dimensions have to exchange: NEWS northward or southward,
+-- and each of the last k dimensions
 abbrev pub is_round : ℕ → ℕ → Step → Bool
 is_round n k (Instruct nano) = not (k == 0) && (nano.write == NEWS && is_vertical nano.dir)
 is_round n k Look = false

@@ -1,5 +1,7 @@
--- What a step does to a part of a machine, where a parcel has come: chip by chip, with what comes in from outside read from the parcel. Ours.
-use Rattle.std.specs.Prelude.{ℕ, ◌+◌, ◌-◌, ◌^◌, ◌==◌, Bool, List, [], ◌∷◌, ◌++◌, Option, length, map, bit_xor, if◌then◌else◌}
+-- What a step does to a part of a machine, where a parcel has come: chip by chip,
+-- with what comes in from outside read from the parcel. Ours.
+use Rattle.std.specs.Prelude.{ℕ, ◌+◌, ◌-◌, ◌^◌, ◌==◌, Bool, List, [], ◌∷◌, ◌++◌, Option, length}
+use Rattle.std.specs.Prelude.{map, bit_xor, if◌then◌else◌}
 use Rattle.std.specs.Option.{option_to_list}
 use Rattle.cm_model.specs.declared.act.Nano.{Nano}
 use Rattle.cm_model.specs.declared.message.Message.{Message}
@@ -30,7 +32,8 @@ incoming_in n nano parcel s c p =
 -- the message that comes over a dimension to a chip: from within, or the parcel's at the chip's place
 abbrev pub mail_for : ℕ → ℕ → Parcel → Part → ℕ → Option Message
 mail_for cap d parcel s c =
-    if is_within s (bit_xor c (2 ^ d)) then outgoing cap d (buffer_in s (bit_xor c (2 ^ d))) else mail_in parcel (c - s.first)
+    if is_within s (bit_xor c (2 ^ d)) then outgoing cap d (buffer_in s (bit_xor c (2 ^ d)))
+    else mail_in parcel (c - s.first)
 
 -- the processors whose messages are taken at a chip, and the messages
 abbrev pub taken_of : ℕ → Part → ℕ → List ℕ
@@ -75,7 +78,9 @@ unfoldable pub less : ℕ → Step → Part → Part
 less cap (Instruct nano) s = s
 less cap Look s = s
 less cap Inject s = s
-less cap (Cross d) s = record s { buffers = each_from s.first s.count (λ c. without (buffer_in s c) (leaving_place cap d (buffer_in s c))) }
+less cap (Cross d) s = record s {
+  buffers = each_from s.first s.count (λ c. without (buffer_in s c) (leaving_place cap d (buffer_in s c)));
+}
 less cap Deliver s = s
 
 -- a part from which the leavers are gone, after a parcel was taken in
@@ -84,5 +89,7 @@ absorbed n cap (Instruct nano) parcel s = part_after n cap (Instruct nano) parce
 absorbed n cap Look parcel s = s
 absorbed n cap Inject parcel s = s
 absorbed n cap (Cross d) parcel s =
-    record s { buffers = each_from s.first s.count (λ c. buffer_in s c ++ option_to_list (mail_in parcel (c - s.first))) }
+    record s {
+      buffers = each_from s.first s.count (λ c. buffer_in s c ++ option_to_list (mail_in parcel (c - s.first)));
+    }
 absorbed n cap Deliver parcel s = s

@@ -1,6 +1,7 @@
 //! Laws over the definitions: what each function is named for holds, of every machine and every cut.
 
-ghost use Rattle.cm_blocks.specs.Laws.{BlocksStepAlone, LocalStepsNeedNoParcel, BlocksBegin, BlocksGoOn, RoundsEndTheRun, BlocksAreTheWhole, LeavingThenTakingIn, LeavingMakesRoom};
+ghost use Rattle.cm_blocks.specs.Laws.{BlocksStepAlone, LocalStepsNeedNoParcel, BlocksBegin, BlocksGoOn};
+ghost use Rattle.cm_blocks.specs.Laws.{RoundsEndTheRun, BlocksAreTheWhole, LeavingThenTakingIn, LeavingMakesRoom};
 
 /// A block after a step of the whole is the block after the step, with the parcel that is due to it.
 pub fn blocks_step_alone()

@@ -14,7 +14,8 @@ use Rattle.cm_cli.specs.Session.{chip_left}
 abbrev pub chips_after : List Instruction → ℕ → Chips
 chips_after nanos count = (run_of 0 7 (blank_machine 0) (map Nano (take count nanos))).chips
 
-pub run-begun : (run : Chips) (nanos : List Instruction) → run ≡ each_from 0 1 (λ c. blank_chip) → run ≡ chips_after nanos 0
+pub run-begun : (run : Chips) (nanos : List Instruction) → run ≡ each_from 0 1 (λ c. blank_chip)
+    → run ≡ chips_after nanos 0
 unfolding run_of blank_machine each_from opened closed
 run-begun run nanos blank = blank
 

@@ -1,5 +1,9 @@
 -- How far acts have come that are run stretch by stretch.
-use Rattle.std.proofs.Common.{◌≡◌, ℕ, zero, suc, ◌+◌, ◌-◌, ◌<◌, ◌≤◌, ◌⊎◌, inl, inr, ◌&&◌, Bool, true, false, cond, List, [], ◌∷◌, ◌++◌, length, take, drop, length-drop, drop-drop, take-add, take-append-drop, slice_index_or, refl, ap, ◌∙◌, sym, subst, arith, append_assoc, nat_lt, lt-ltb, le-ltb, Result, Ok, Err, OnErr}
+use Rattle.std.proofs.Common.{◌≡◌, ℕ, zero, suc, ◌+◌, ◌-◌, ◌<◌, ◌≤◌, ◌⊎◌, inl, inr, ◌&&◌, Bool, true, false, cond}
+use Rattle.std.proofs.Common.{List, [], ◌∷◌, ◌++◌, length, take, drop, length-drop}
+use Rattle.std.proofs.Common.{drop-drop, take-add, take-append-drop}
+use Rattle.std.proofs.Common.{slice_index_or, refl, ap, ◌∙◌, sym, subst, arith, append_assoc, nat_lt, lt-ltb, le-ltb}
+use Rattle.std.proofs.Common.{Result, Ok, Err, OnErr}
 use Rattle.std.proofs.lemmas.Bool.{cases_lt}
 use Rattle.std.proofs.lemmas.Grind.{common_steps}
 use Rattle.cm_model.specs.declared.act.Act.{Act}
@@ -12,43 +16,54 @@ use Rattle.cm_session.specs.Ends.{IsOnTheWay}
 use Rattle.cm_session.proofs.Stretching.{going-stretch, going-rises, arrived-rises}
 
 -- acts whose first ones are a stretch
-pub stretch_first : (n cap : ℕ) (stops : ℕ → Bool) (session : Session) (acts : List Act) (first : Act) (count : ℕ) → 0 < length acts
+pub stretch_first : (n cap : ℕ) (stops : ℕ → Bool) (session : Session) (acts : List Act) (first : Act) (count : ℕ)
+    → 0 < length acts
     → first ≡ slice_index_or acts 0 first → 0 < count
     → IsStretch stops session.report session.position session.machine.clock (take count acts)
     → going n cap stops session acts
-    ≡ preceded_by (told_by session first) (arrived n cap stops (acts_on n cap session (take count acts)) (drop count acts))
+    ≡ preceded_by (told_by session first)
+    (arrived n cap stops (acts_on n cap session (take count acts)) (drop count acts))
 stretch_first n cap stops session [] first count some is above stretch = absurd (omega arith)
 stretch_first n cap stops session (a ∷ acts) first zero some is above stretch = absurd (omega arith)
 stretch_first n cap stops session (a ∷ acts) first (suc count) some is above stretch =
     ap (λ (xs : List Act). going n cap stops session (a ∷ xs)) (sym (take-append-drop count acts))
     ∙ going-stretch n cap stops session a (take count acts) (drop count acts) stretch
-    ∙ ap (λ (b : Act). preceded_by (told_by session b) (arrived n cap stops (acts_on n cap session (take (suc count) (a ∷ acts))) (drop count acts))) (sym is)
+    ∙ ap (λ (b : Act). preceded_by (told_by session b)
+    (arrived n cap stops (acts_on n cap session (take (suc count) (a ∷ acts))) (drop count acts))) (sym is)
 
 whole_rest : (place : ℕ) (acts : List Act) → take (length acts - place) (drop place acts) ≡ drop place acts
 whole_rest place acts = grind (arith, common_steps)
 
 -- the bytes that a stretch tells, and what is told after it, are what is told from its beginning on
-pub stretch_told : (n cap : ℕ) (stops : ℕ → Bool) (session : Session) (acts rest : List Act) (first : Act) (count : ℕ) (text told : List ℕ)
-    (machine : Machine) (clock : ℕ) → session.position < length acts → rest ≡ take (length acts - session.position) (drop session.position acts)
+pub stretch_told : (n cap : ℕ) (stops : ℕ → Bool) (session : Session) (acts rest : List Act)
+    (first : Act) (count : ℕ) (text told : List ℕ) (machine : Machine) (clock : ℕ) → session.position < length acts
+    → rest ≡ take (length acts - session.position) (drop session.position acts)
     → first ≡ slice_index_or rest 0 first → 0 < count → count ≤ length rest
     → clock ≡ session.machine.clock → IsStretch stops session.report session.position clock (take count rest)
     → told ≡ text ++ told_by session first → machine ≡ run_of n cap session.machine (take count rest)
     → (text ++ (going n cap stops session (drop session.position acts)).answer
-    ≡ told ++ (arrived n cap stops (record session { machine = machine; position = session.position + count }) (drop (session.position + count) acts)).answer)
+    ≡ told ++ (arrived n cap stops (record session { machine = machine; position = session.position + count })
+    (drop (session.position + count) acts)).answer)
     × ((going n cap stops session (drop session.position acts)).session
-    ≡ (arrived n cap stops (record session { machine = machine; position = session.position + count }) (drop (session.position + count) acts)).session)
-stretch_told n cap stops session acts rest first count text told machine clock inside is head above within at stretch says ran =
+    ≡ (arrived n cap stops (record session { machine = machine; position = session.position + count })
+    (drop (session.position + count) acts)).session)
+stretch_told n cap stops session acts rest first count text told machine clock inside is head above
+    within at stretch says ran =
     let whole : rest ≡ drop session.position acts = is ∙ whole_rest session.position acts in
     let some : 0 < length rest = omega (arith, ap length whole, length-drop session.position acts) in
-    let first_of : going n cap stops session rest ≡ preceded_by (told_by session first) (arrived n cap stops (acts_on n cap session (take count rest)) (drop count rest)) =
+    let first_of : going n cap stops session rest ≡ preceded_by (told_by session first)
+    (arrived n cap stops (acts_on n cap session (take count rest)) (drop count rest)) =
     stretch_first n cap stops session rest first count some head above
     (subst (λ (k : ℕ). IsStretch stops session.report session.position k (take count rest)) at stretch) in
     let long : length (take count rest) ≡ count = taken count rest within in
-    let left : drop count rest ≡ drop (session.position + count) acts = ap (drop count) whole ∙ drop-drop count session.position acts ∙ ap (λ (k : ℕ). drop k acts) (omega arith) in
-    let on : acts_on n cap session (take count rest) ≡ record session { machine = machine; position = session.position + count } =
+    let left : drop count rest ≡ drop (session.position + count) acts = ap (drop count) whole
+    ∙ drop-drop count session.position acts ∙ ap (λ (k : ℕ). drop k acts) (omega arith) in
+    let on : acts_on n cap session (take count rest)
+    ≡ record session { machine = machine; position = session.position + count } =
     (λ i. record session { machine = sym ran i; position = session.position + long i }) in
     let rested : Answered = arrived n cap stops (acts_on n cap session (take count rest)) (drop count rest) in
-    let same : rested ≡ arrived n cap stops (record session { machine = machine; position = session.position + count }) (drop (session.position + count) acts) =
+    let same : rested ≡ arrived n cap stops (record session { machine = machine; position = session.position + count })
+    (drop (session.position + count) acts) =
     (λ i. arrived n cap stops (on i) (left i)) in
     let gone : going n cap stops session (drop session.position acts) ≡ preceded_by (told_by session first) rested =
     ap (going n cap stops session) (sym whole) ∙ first_of in (
@@ -65,7 +80,8 @@ HasCome n cap acts before from to machine =
     ((to ≡ from) × (machine ≡ before)) ⊎ (machine ≡ run_of n cap before (take (to - from) (drop from acts)))
 
 -- a stretch more
-pub comes : (n cap : ℕ) (acts : List Act) (before : Machine) (from to on : ℕ) (machine after : Machine) → from ≤ to → to ≤ on
+pub comes : (n cap : ℕ) (acts : List Act) (before : Machine) (from to on : ℕ) (machine after : Machine)
+    → from ≤ to → to ≤ on
     → HasCome n cap acts before from to machine → after ≡ run_of n cap machine (take (on - to) (drop to acts))
     → HasCome n cap acts before from on after
 comes n cap acts before from to on machine after rises further (inl stays) is =
@@ -81,7 +97,8 @@ comes n cap acts before from to on machine after rises further (inr came) is =
     ∙ ap (run_of n cap before) (sym both))
 
 -- wherever it has come, it is on the way
-pub on_the_way : (n cap : ℕ) (acts : List Act) (before after : Session) (to : ℕ) (machine : Machine) → before.position ≤ to → to ≤ after.position
+pub on_the_way : (n cap : ℕ) (acts : List Act) (before after : Session) (to : ℕ) (machine : Machine)
+    → before.position ≤ to → to ≤ after.position
     → HasCome n cap acts before.machine before.position to machine → IsOnTheWay n cap acts before after machine
 on_the_way n cap acts before after to machine rises within (inl stays) = inl stays.1
 on_the_way n cap acts before after to machine rises within (inr came) =
@@ -111,7 +128,8 @@ unfolding going one_on
 refused_first n cap stops session [] first some is lacks = absurd (omega arith)
 refused_first n cap stops session (a ∷ rest) first some is lacks =
     ap (λ (b : Bool). cond b (told session (refused_line CLOCK)) (preceded_by (told_by session a)
-    (arrived n cap stops (acts_on n cap session (a ∷ [])) rest))) (ap (lacks_room session.machine.clock) (sym is) ∙ lacks)
+    (arrived n cap stops (acts_on n cap session (a ∷ [])) rest)))
+    (ap (lacks_room session.machine.clock) (sym is) ∙ lacks)
 
 -- a petit cycle without room is refused
 pub refused_here : (n cap : ℕ) (stops : ℕ → Bool) (session : Session) (acts rest : List Act) (first : Act) (clock : ℕ)
@@ -129,24 +147,30 @@ pub ended_here : (n cap : ℕ) (stops : ℕ → Bool) (session : Session) (acts 
     → going n cap stops session (drop session.position acts) ≡ told session end_line
 unfolding going
 ended_here n cap stops session acts beyond =
-    ap (going n cap stops session) (nothing (drop session.position acts) (omega (arith, length-drop session.position acts))) where
+    ap (going n cap stops session)
+    (nothing (drop session.position acts) (omega (arith, length-drop session.position acts))) where
       nothing : (xs : List Act) → length xs ≡ 0 → xs ≡ []
       nothing [] h = refl
       nothing (x ∷ xs) h = absurd (omega arith)
 
 -- where it stops
-pub stopped_here : (n cap : ℕ) (stops : ℕ → Bool) (session : Session) (rest : List Act) → (stops session.position && has_acts rest) ≡ true
+pub stopped_here : (n cap : ℕ) (stops : ℕ → Bool) (session : Session) (rest : List Act)
+    → (stops session.position && has_acts rest) ≡ true
     → arrived n cap stops session rest ≡ told session (at_line session.position)
-stopped_here n cap stops session rest is = ap (λ (b : Bool). cond b (told session (at_line session.position)) (going n cap stops session rest)) is
+stopped_here n cap stops session rest is =
+    ap (λ (b : Bool). cond b (told session (at_line session.position)) (going n cap stops session rest)) is
 
 -- and where it does not
-pub goes_on : (n cap : ℕ) (stops : ℕ → Bool) (session : Session) (rest : List Act) → (stops session.position && has_acts rest) ≡ false
+pub goes_on : (n cap : ℕ) (stops : ℕ → Bool) (session : Session) (rest : List Act)
+    → (stops session.position && has_acts rest) ≡ false
     → arrived n cap stops session rest ≡ going n cap stops session rest
-goes_on n cap stops session rest is = ap (λ (b : Bool). cond b (told session (at_line session.position)) (going n cap stops session rest)) is
+goes_on n cap stops session rest is =
+    ap (λ (b : Bool). cond b (told session (at_line session.position)) (going n cap stops session rest)) is
 
 -- ---- where a session is when it breaks off
 
-pub broken : (n cap : ℕ) (stops : ℕ → Bool) (acts rest : List Act) (before session : Session) (after : Session) → before.position ≤ session.position
+pub broken : (n cap : ℕ) (stops : ℕ → Bool) (acts rest : List Act) (before session : Session) (after : Session)
+    → before.position ≤ session.position
     → (going n cap stops session rest).session ≡ after
     → HasCome n cap acts before.machine before.position session.position session.machine
     → IsOnTheWay n cap acts before after session.machine
@@ -154,7 +178,8 @@ broken n cap stops acts rest before session after rises same come =
     on_the_way n cap acts before after session.position session.machine rises
     (omega (arith, going-rises n cap stops session rest, ap (λ (s : Session). s.position) same)) come
 
-pub broken_at : (n cap : ℕ) (stops : ℕ → Bool) (acts rest : List Act) (before session : Session) (after : Session) → before.position ≤ session.position
+pub broken_at : (n cap : ℕ) (stops : ℕ → Bool) (acts rest : List Act) (before session : Session) (after : Session)
+    → before.position ≤ session.position
     → (arrived n cap stops session rest).session ≡ after
     → HasCome n cap acts before.machine before.position session.position session.machine
     → IsOnTheWay n cap acts before after session.machine

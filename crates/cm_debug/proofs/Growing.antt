@@ -1,5 +1,6 @@
 -- A stretch that grows by one act.
-use Rattle.std.proofs.Common.{◌≡◌, ℕ, ◌+◌, ◌^◌, ◌<◌, ◌≤◌, ◌⊎◌, inl, inr, ◌&&◌, Bool, false, cond, List, length, take, slice_index_or, ap, ◌∙◌, sym, arith}
+use Rattle.std.proofs.Common.{◌≡◌, ℕ, ◌+◌, ◌^◌, ◌<◌, ◌≤◌, ◌⊎◌, inl, inr, ◌&&◌, Bool, false, cond, List, length, take}
+use Rattle.std.proofs.Common.{slice_index_or, ap, ◌∙◌, sym, arith}
 use Rattle.std.proofs.lemmas.Bool.{cases_lt}
 use Rattle.std.proofs.lemmas.Grind.{common_steps}
 use Rattle.std.proofs.lemmas.List.Sums.{sum_by_more}
@@ -14,15 +15,19 @@ pub one_more : (acts : List Act) (count : ℕ) (act : Act) → count < length ac
 one_more acts count act inside is = sum_by_more (λ a. cond (is_cycle a) 1 0) acts count act inside
     ∙ ap (λ (a : Act). cycles_in (take count acts) + cond (is_cycle a) 1 0) (sym is)
 
-any_other : (acts : List Act) (i : ℕ) (act : Act) → i < length acts → slice_index_or acts i Cycle ≡ slice_index_or acts i act
+any_other : (acts : List Act) (i : ℕ) (act : Act) → i < length acts
+    → slice_index_or acts i Cycle ≡ slice_index_or acts i act
 any_other acts i act inside = grind (arith, common_steps)
 
-same_act : (acts : List Act) (i count : ℕ) → i < count → slice_index_or (take count acts) i Cycle ≡ slice_index_or acts i Cycle
+same_act : (acts : List Act) (i count : ℕ) → i < count
+    → slice_index_or (take count acts) i Cycle ≡ slice_index_or acts i Cycle
 same_act acts i count inside = grind (arith, common_steps)
 
 -- an act that is not told, not stopped at, and has room
-pub grows : (stops : ℕ → Bool) (report : Bool) (position clock : ℕ) (acts : List Act) (count : ℕ) (act : Act) → count < length acts
-    → act ≡ slice_index_or acts count act → IsStretch stops report position clock (take count acts) → (report && is_look act) ≡ false
+pub grows : (stops : ℕ → Bool) (report : Bool) (position clock : ℕ) (acts : List Act) (count : ℕ) (act : Act)
+    → count < length acts
+    → act ≡ slice_index_or acts count act → IsStretch stops report position clock (take count acts)
+    → (report && is_look act) ≡ false
     → stops (position + count) ≡ false → clock + (cycles_in (take count acts) + cond (is_cycle act) 1 0) < 2 ^ 63
     → IsStretch stops report position clock (take (count + 1) acts)
 grows stops report position clock acts count act inside found stretch silent goes room = record {
@@ -39,7 +44,8 @@ grows stops report position clock acts count act inside found stretch silent goe
   by_silent : (i : ℕ) → 0 < i → i < length (take (count + 1) acts) → (i < count) ⊎ (count ≤ i)
       → (report && looks_at (take (count + 1) acts) i) ≡ false
   by_silent i some within (inl before) =
-      ap (λ (act : Act). report && is_look act) (same_act acts i (count + 1) (omega arith) ∙ sym (same_act acts i count before))
+      ap (λ (act : Act). report && is_look act)
+      (same_act acts i (count + 1) (omega arith) ∙ sym (same_act acts i count before))
       ∙ stretch.silent i some (omega (arith, shorter))
   by_silent i some within (inr last) =
       let is : i ≡ count = omega (arith, longer) in
@@ -47,7 +53,8 @@ grows stops report position clock acts count act inside found stretch silent goe
       ∙ ap (λ (k : ℕ). report && is_look (slice_index_or acts k Cycle)) is
       ∙ ap (λ (a : Act). report && is_look a) (any_other acts count act inside ∙ sym found) ∙ silent
 
-  by_goes : (i : ℕ) → 0 < i → i < length (take (count + 1) acts) → (i < count) ⊎ (count ≤ i) → stops (position + i) ≡ false
+  by_goes : (i : ℕ) → 0 < i → i < length (take (count + 1) acts) → (i < count) ⊎ (count ≤ i)
+      → stops (position + i) ≡ false
   by_goes i some within (inl before) = stretch.goes i some (omega (arith, shorter))
   by_goes i some within (inr last) =
       let is : i ≡ count = omega (arith, longer) in

@@ -4,7 +4,8 @@ use Rattle.cm_session.specs.Answer.{line}
 
 -- nine parts, put together in two ways
 nine_parts : (text word a b c d e f end : List ℕ)
-    → text ++ word ++ a ++ b ++ c ++ d ++ e ++ f ++ end ≡ text ++ ((word ++ (a ++ (b ++ (c ++ (d ++ (e ++ f)))))) ++ end)
+    → text ++ word ++ a ++ b ++ c ++ d ++ e ++ f ++ end
+    ≡ text ++ ((word ++ (a ++ (b ++ (c ++ (d ++ (e ++ f)))))) ++ end)
 nine_parts text word a b c d e f end = simp append_assoc
 
 -- seven words

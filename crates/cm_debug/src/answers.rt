@@ -3,7 +3,8 @@
 ghost use Rattle.std.specs.Prelude.{◌≡◌, ◌<◌, ◌++◌, ◌∷◌, [], OnOk, flat_map, length, codes, decimal};
 ghost use Rattle.cm_bits.specs.Bit.{bit_number};
 ghost use Rattle.cm_language.specs.Listing.{hex_digit};
-ghost use Rattle.cm_session.specs.Answer.{line, payload_word, message_words, standing_line, buffer_lines, event_line, log_lines, found_line, refused_line, at_line, end_line, sense_line};
+ghost use Rattle.cm_session.specs.Answer.{line, payload_word, message_words, standing_line, buffer_lines, event_line};
+ghost use Rattle.cm_session.specs.Answer.{log_lines, found_line, refused_line, at_line, end_line, sense_line};
 
 use cm_model::{Event, Found, Message, Tag};
 use itoa::Buffer;

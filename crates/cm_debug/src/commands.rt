@@ -126,7 +126,8 @@ fn push_field<const N: usize, const CAP: usize>(
 ) -> Result<(), AllocError>
     requires chip { place.chip < 2 ^ N }
     ensures ok { OnOk result (text.new.items ≡ text.old.items
-        ++ line (codes "field" ∷ decimal (field_value (processor_of machine.now.machine.chips place) field.at field.len) ∷ [])) }
+        ++ line (codes "field"
+        ∷ decimal (field_value (processor_of machine.now.machine.chips place) field.at field.len) ∷ [])) }
 {
     let value = machine.chip(place.chip).field(place.proc, field);
     push_number(text, b"field", value)
@@ -140,7 +141,8 @@ fn push_flag<const N: usize, const CAP: usize>(
 ) -> Result<(), AllocError>
     requires chip { place.chip < 2 ^ N }
     ensures ok { OnOk result (text.new.items ≡ text.old.items
-        ++ line (codes "flag" ∷ decimal (bit_number (flag (processor_of machine.now.machine.chips place) number)) ∷ [])) }
+        ++ line (codes "flag"
+        ∷ decimal (bit_number (flag (processor_of machine.now.machine.chips place) number)) ∷ [])) }
 {
     push_bit(
         text,

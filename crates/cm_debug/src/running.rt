@@ -64,12 +64,14 @@ pub fn run_on<const N: usize, const CAP: usize, R: Runner<N, CAP>>(
 /// Whether acts are left and the session stops before them.
 #[tactic(auto, using(crate::proofs::Coming::drop_has_acts))]
 fn stops_here(desk: &Desk, stops: Stops, acts: &[Act]) -> bool
-    ensures value { result ≡ (stops_at stops desk.now.breaks.items desk.now.position && has_acts (drop desk.now.position acts.now)) }
+    ensures value { result
+        ≡ (stops_at stops desk.now.breaks.items desk.now.position && has_acts (drop desk.now.position acts.now)) }
 {
     desk.position < acts.len() && desk.stops(stops, desk.position)
 }
 
-/// Runs the next stretch of acts, and tells what its first act tells. A runner that refuses leaves the machine as it was.
+/// Runs the next stretch of acts, and tells what its first act tells.
+/// A runner that refuses leaves the machine as it was.
 fn run_stretch<const N: usize, const CAP: usize, R: Runner<N, CAP>>(
     machine: &mut Machine<N, CAP>,
     acts: &[Act],

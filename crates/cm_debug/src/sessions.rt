@@ -18,8 +18,8 @@ const LIMIT: usize = 1048576;
 
 const PIECE: usize = 4096;
 
-/// Answers commands line by line, at most 1,048,576 bytes of them, and leaves the machine as they leave it. No bytes are
-/// asked for while a line that has ended is not answered.
+/// Answers commands line by line, at most 1,048,576 bytes of them, and leaves the machine as they leave it. No bytes
+/// are asked for while a line that has ended is not answered.
 ///
 /// After a fault of reading, and after too much, the lines that ended before are answered. After a failed write, or for
 /// want of memory or of a thread, a front of the answers is written, and the machine is that after a front of the lines

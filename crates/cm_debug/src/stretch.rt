@@ -1,6 +1,7 @@
 //! How many acts are run at once.
 
-ghost use Rattle.std.specs.Prelude.{◌≡◌, ◌+◌, ◌&&◌, ◌^◌, ◌<◌, ◌≤◌, false, true, length, take, cond, slice_index_or, IsFalse};
+ghost use Rattle.std.specs.Prelude.{◌≡◌, ◌+◌, ◌&&◌, ◌^◌, ◌<◌, ◌≤◌, false, true, length, take};
+ghost use Rattle.std.specs.Prelude.{cond, slice_index_or, IsFalse};
 ghost use Rattle.cm_model.specs.declared.act.Act.TheVariants as act;
 ghost use Rattle.cm_array.specs.Acts.{cycles_in, is_cycle, is_long};
 ghost use Rattle.cm_session.specs.Session.{lacks_room};

@@ -1,5 +1,7 @@
 -- The planes of one chip among the rows of many.
-use Rattle.std.proofs.Common.{◌≡◌, ◌≢◌, inl, inr, ℕ, ◌+◌, ◌*◌, ◌<◌, ◌≤◌, zero, suc, List, [], length, get_or, set, replicate, refl, sym, ap, ◌∙◌, ⊎_elim, arith, lit<, ext_get_or, get_or-set_same, get_or-set_other, length-set}
+use Rattle.std.proofs.Common.{◌≡◌, ◌≢◌, inl, inr, ℕ, ◌+◌, ◌*◌, ◌<◌, ◌≤◌, zero, suc, List, [], length, get_or, set}
+use Rattle.std.proofs.Common.{replicate, refl, sym, ap, ◌∙◌, ⊎_elim, arith, lit<, ext_get_or}
+use Rattle.std.proofs.Common.{get_or-set_same, get_or-set_other, length-set}
 use Rattle.std.proofs.lemmas.Bool.{cases_lt}
 use Rattle.std.proofs.lemmas.Nat.{mul-le}
 use Rattle.std.proofs.lemmas.List.{get_or_read}
@@ -14,7 +16,8 @@ use Rattle.cm_model.specs.Whole.{IsChip}
 use Rattle.cm_element.specs.Runs.{column, chip_in, chips_of, AreRows}
 use Rattle.cm_element.proofs.Planes.{blank_planes, memory_bit-chip_of, flag-chip_of, planes_are_whole}
 
-pub get_or-column : (rows : List ℕ) (stride count c i : ℕ) → i < count → get_or (column rows stride count c) i 0 ≡ get_or rows (i * stride + c) 0
+pub get_or-column : (rows : List ℕ) (stride count c i : ℕ) → i < count
+    → get_or (column rows stride count c) i 0 ≡ get_or rows (i * stride + c) 0
 unfolding column
 get_or-column rows stride count c i h = get_or-each_below count (λ i. get_or rows (i * stride + c) 0) i 0 h
 
@@ -22,7 +25,8 @@ pub length-column : (rows : List ℕ) (stride count c : ℕ) → length (column 
 unfolding column
 length-column rows stride count c = length-each_from 0 count (λ i. get_or rows (i * stride + c) 0)
 
-pub chip_at-chips_of : (memory flags : List ℕ) (stride chips c : ℕ) → c < chips → get_or (chips_of memory flags stride chips) c [] ≡ chip_in memory flags stride c
+pub chip_at-chips_of : (memory flags : List ℕ) (stride chips c : ℕ) → c < chips
+    → get_or (chips_of memory flags stride chips) c [] ≡ chip_in memory flags stride c
 unfolding chips_of
 chip_at-chips_of memory flags stride chips c h = get_or-each_below chips (chip_in memory flags stride) c [] h
 
@@ -59,22 +63,29 @@ pub record IsRowChanged (row stride chips : ℕ) (old new : List ℕ) : Type 0 w
 
 -- then one plane of a chip was changed
 pub column-changed : (row stride chips count c : ℕ) (old new : List ℕ) → chips ≤ stride → c < chips → row < count
-    → IsRowChanged row stride chips old new → column new stride count c ≡ set (column old stride count c) row (get_or new (row * stride + c) 0)
+    → IsRowChanged row stride chips old new
+    → column new stride count c ≡ set (column old stride count c) row (get_or new (row * stride + c) 0)
 column-changed row stride chips count c old new few here inside is =
     let word : ℕ = get_or new (row * stride + c) 0 in
     let long : length (column old stride count c) ≡ count = length-column old stride count c in
     let in_column : row < length (column old stride count c) = omega (arith, long) in
     ext_get_or 0 (column new stride count c) (set (column old stride count c) row (get_or new (row * stride + c) 0))
-    (length-column new stride count c ∙ sym (length-set (column old stride count c) row (get_or new (row * stride + c) 0) ∙ long))
+    (length-column new stride count c
+    ∙ sym (length-set (column old stride count c) row (get_or new (row * stride + c) 0) ∙ long))
     (λ i h. let below : i < count = omega (arith, length-column new stride count c) in
     get_or-column new stride count c i below ∙ sym (elsewhere in_column i below)) where
-      elsewhere : row < length (column old stride count c) → (i : ℕ) → i < count → get_or (set (column old stride count c) row (get_or new (row * stride + c) 0)) i 0 ≡ get_or new (i * stride + c) 0
+      elsewhere : row < length (column old stride count c) → (i : ℕ) → i < count → get_or
+          (set (column old stride count c) row (get_or new (row * stride + c) 0)) i 0 ≡ get_or new (i * stride + c) 0
       elsewhere in_column i below = ⊎_elim
-          (λ (h : i < row). let other : i ≢ row = omega arith in let far : i * stride + stride ≤ row * stride = next_row i row stride h in
-          get_or-set_other (column old stride count c) row i (get_or new (row * stride + c) 0) 0 other ∙ get_or-column old stride count c i below ∙ sym (is.below (i * stride + c) (omega arith)))
+          (λ (h : i < row). let other : i ≢ row = omega arith in
+          let far : i * stride + stride ≤ row * stride = next_row i row stride h in
+          get_or-set_other (column old stride count c) row i (get_or new (row * stride + c) 0) 0 other
+          ∙ get_or-column old stride count c i below ∙ sym (is.below (i * stride + c) (omega arith)))
           (λ (h : row ≤ i). ⊎_elim
-          (λ (more : row < i). let other : i ≢ row = omega arith in let far : row * stride + stride ≤ i * stride = next_row row i stride more in
-          get_or-set_other (column old stride count c) row i (get_or new (row * stride + c) 0) 0 other ∙ get_or-column old stride count c i below ∙ sym (is.above (i * stride + c) (omega arith)))
+          (λ (more : row < i). let other : i ≢ row = omega arith in
+          let far : row * stride + stride ≤ i * stride = next_row row i stride more in
+          get_or-set_other (column old stride count c) row i (get_or new (row * stride + c) 0) 0 other
+          ∙ get_or-column old stride count c i below ∙ sym (is.above (i * stride + c) (omega arith)))
           (λ (no_more : i ≤ row). let same : i ≡ row = omega arith in
           rw same (get_or-set_same (column old stride count c) row (get_or new (row * stride + c) 0) 0 in_column))
           (cases_lt row i))
@@ -86,46 +97,60 @@ get_or-zeros zero i = refl
 get_or-zeros (suc n) zero = refl
 get_or-zeros (suc n) (suc i) = get_or-zeros n i
 
-column-zeros : (rows : List ℕ) (n stride count c : ℕ) → rows ≡ replicate n 0 → column rows stride count c ≡ replicate count 0
+column-zeros : (rows : List ℕ) (n stride count c : ℕ) → rows ≡ replicate n 0
+    → column rows stride count c ≡ replicate count 0
 column-zeros rows n stride count c is =
     ext_get_or 0 (column rows stride count c) (replicate count 0)
     (length-column rows stride count c ∙ sym (length-replicate count 0))
     (λ i h. let below : i < count = omega (arith, length-column rows stride count c) in
-    get_or-column rows stride count c i below ∙ ap (λ ws. get_or ws (i * stride + c) 0) is ∙ get_or-zeros n (i * stride + c) ∙ sym (get_or-zeros count i))
+    get_or-column rows stride count c i below ∙ ap (λ ws. get_or ws (i * stride + c) 0) is
+    ∙ get_or-zeros n (i * stride + c) ∙ sym (get_or-zeros count i))
 
-pub blank_rows : (memory flags : List ℕ) (n m stride chips : ℕ) → memory ≡ replicate n 0 → flags ≡ replicate m 0 → chips_of memory flags stride chips ≡ each_from 0 chips (λ c. blank_chip)
+pub blank_rows : (memory flags : List ℕ) (n m stride chips : ℕ) → memory ≡ replicate n 0 → flags ≡ replicate m 0
+    → chips_of memory flags stride chips ≡ each_from 0 chips (λ c. blank_chip)
 unfolding chips_of
 blank_rows memory flags n m stride chips memory_is flags_is =
     same_each_below [] chips (chip_in memory flags stride) (λ c. blank_chip)
-    (λ c h. blank_planes (column memory stride 4096 c) (column flags stride 16 c) (column-zeros memory n stride 4096 c memory_is) (column-zeros flags m stride 16 c flags_is))
+    (λ c h. blank_planes (column memory stride 4096 c) (column flags stride 16 c)
+    (column-zeros memory n stride 4096 c memory_is) (column-zeros flags m stride 16 c flags_is))
 
 -- the same of two places
-pub apart_at : (i j stride chips first second : ℕ) → first ≡ i * stride → second ≡ j * stride → chips ≤ stride → IsApart first second chips
-apart_at i j stride chips first second first_is second_is few = rw (first_is, second_is) (rows_apart i j stride chips few)
+pub apart_at : (i j stride chips first second : ℕ) → first ≡ i * stride → second ≡ j * stride → chips ≤ stride
+    → IsApart first second chips
+apart_at i j stride chips first second first_is second_is few =
+    rw (first_is, second_is) (rows_apart i j stride chips few)
 
 -- what is read at a chip's word of a row is its plane
-pub plane_in : (memory flags : List ℕ) (stride chips chip at index word : ℕ) → chip < chips → at < 4096 → index < length memory
+pub plane_in : (memory flags : List ℕ) (stride chips chip at index word : ℕ) → chip < chips
+    → at < 4096 → index < length memory
     → index ≡ at * stride + chip → word ≡ get_or memory index word
-    → (p : ℕ) → p < 16 → bit word p ≡ memory_bit (processor_at (get_or (chips_of memory flags stride chips) chip []) p) at
+    → (p : ℕ) → p < 16 → bit word p
+    ≡ memory_bit (processor_at (get_or (chips_of memory flags stride chips) chip []) p) at
 plane_in memory flags stride chips chip at index word here below inside is read p h =
-    ap (λ (w : ℕ). bit w p) (get_or_read memory index word inside read 0 ∙ ap (λ (i : ℕ). get_or memory i 0) is ∙ sym (get_or-column memory stride 4096 chip at below))
+    ap (λ (w : ℕ). bit w p) (get_or_read memory index word inside read 0 ∙ ap (λ (i : ℕ). get_or memory i 0) is
+    ∙ sym (get_or-column memory stride 4096 chip at below))
     ∙ sym (memory_bit-chip_of (column memory stride 4096 chip) (column flags stride 16 chip) p at h)
     ∙ sym (ap (λ c. memory_bit (processor_at c p) at) (chip_at-chips_of memory flags stride chips chip here))
 
-pub flag_plane_in : (memory flags : List ℕ) (stride chips chip number index word : ℕ) → chip < chips → number < 16 → index < length flags
+pub flag_plane_in : (memory flags : List ℕ) (stride chips chip number index word : ℕ) → chip < chips
+    → number < 16 → index < length flags
     → index ≡ number * stride + chip → word ≡ get_or flags index word
     → (p : ℕ) → p < 16 → bit word p ≡ flag (processor_at (get_or (chips_of memory flags stride chips) chip []) p) number
 flag_plane_in memory flags stride chips chip number index word here below inside is read p h =
-    ap (λ (w : ℕ). bit w p) (get_or_read flags index word inside read 0 ∙ ap (λ (i : ℕ). get_or flags i 0) is ∙ sym (get_or-column flags stride 16 chip number below))
+    ap (λ (w : ℕ). bit w p) (get_or_read flags index word inside read 0 ∙ ap (λ (i : ℕ). get_or flags i 0) is
+    ∙ sym (get_or-column flags stride 16 chip number below))
     ∙ sym (flag-chip_of (column memory stride 4096 chip) (column flags stride 16 chip) p number h)
     ∙ sym (ap (λ c. flag (processor_at c p) number) (chip_at-chips_of memory flags stride chips chip here))
 
 -- a chip of the run has a word in each row
-pub has_word : (memory flags : List ℕ) (stride chips chip : ℕ) → AreRows memory flags stride chips → chip < length (chips_of memory flags stride chips) → chip < stride
-has_word memory flags stride chips chip rows here = omega (arith, here, length-chips_of memory flags stride chips, rows.within)
+pub has_word : (memory flags : List ℕ) (stride chips chip : ℕ) → AreRows memory flags stride chips
+    → chip < length (chips_of memory flags stride chips) → chip < stride
+has_word memory flags stride chips chip rows here =
+    omega (arith, here, length-chips_of memory flags stride chips, rows.within)
 
 -- every chip of the rows is whole
-pub chip_is_whole : (memory flags : List ℕ) (stride chips chip : ℕ) → AreRows memory flags stride chips → chip < length (chips_of memory flags stride chips)
+pub chip_is_whole : (memory flags : List ℕ) (stride chips chip : ℕ) → AreRows memory flags stride chips
+    → chip < length (chips_of memory flags stride chips)
     → IsChip (get_or (chips_of memory flags stride chips) chip [])
 chip_is_whole memory flags stride chips chip rows here =
     let below : chip < chips = omega (arith, here, length-chips_of memory flags stride chips) in

@@ -1,5 +1,7 @@
 -- The value of a memory field, from its top bit down, or sixteen bits at once.
-use Rattle.std.proofs.Common.{◌≡◌, ℕ, ◌+◌, ◌-◌, ◌*◌, ◌^◌, ◌<◌, ◌≤◌, zero, suc, Bool, true, false, List, [], ◌∷◌, length, map, take, drop, get_or, refl, sym, ap, ◌∙◌, arith, add-one, pow-suc, lit<, ext_get_or, length-drop}
+use Rattle.std.proofs.Common.{◌≡◌, ℕ, ◌+◌, ◌-◌, ◌*◌, ◌^◌, ◌<◌, ◌≤◌, zero, suc, Bool, true, false, List, [], ◌∷◌, length}
+use Rattle.std.proofs.Common.{map, take, drop, get_or, refl, sym, ap, ◌∙◌, arith, add-one, pow-suc}
+use Rattle.std.proofs.Common.{lit<, ext_get_or, length-drop}
 use Rattle.std.proofs.Math.Nat.{mul-zero, mul_comm, mul_assoc}
 use Rattle.std.proofs.Math.Seq.{drop-cons, drop-drop}
 use Rattle.std.proofs.lemmas.List.{length-map, length-take-le, get_or-take, get_or-drop}
@@ -21,47 +23,57 @@ value-nothing zero = refl
 value-nothing (suc n) = refl
 
 -- the lowest bits of a number, and the others
-value-parts : (low high : ℕ) (bits : List Bool) → value (take (low + high) bits) ≡ value (take low bits) + 2 ^ low * value (take high (drop low bits))
+value-parts : (low high : ℕ) (bits : List Bool)
+    → value (take (low + high) bits) ≡ value (take low bits) + 2 ^ low * value (take high (drop low bits))
 value-parts zero high bits =
     let all : 0 + high ≡ high = omega arith in
     let alone : value (take high bits) ≡ 0 + 1 * value (take high bits) = omega arith in
     ap (λ (n : ℕ). value (take n bits)) all ∙ alone
 value-parts (suc low) high [] =
-    let above : 2 ^ suc low * value (take high []) ≡ 0 = ap (λ (n : ℕ). 2 ^ suc low * n) (value-nothing high) ∙ mul-zero (2 ^ suc low) in
+    let above : 2 ^ suc low * value (take high []) ≡ 0 = ap (λ (n : ℕ). 2 ^ suc low * n) (value-nothing high)
+    ∙ mul-zero (2 ^ suc low) in
     let both : 0 ≡ 0 + 2 ^ suc low * value (take high []) = omega (arith, above) in
     value-nothing (suc low + high) ∙ both
 value-parts (suc low) high (b ∷ bits) =
     let next : suc low + high ≡ suc (low + high) = omega arith in
-    let rest : value (take (low + high) bits) ≡ value (take low bits) + 2 ^ low * value (take high (drop low bits)) = value-parts low high bits in
+    let rest : value (take (low + high) bits) ≡ value (take low bits) + 2 ^ low * value (take high (drop low bits)) =
+    value-parts low high bits in
     let twice : 2 ^ suc low * value (take high (drop low bits)) ≡ 2 * (2 ^ low * value (take high (drop low bits))) =
-    ap (λ (n : ℕ). n * value (take high (drop low bits))) (pow-suc 2 low ∙ mul_comm (2 ^ low) 2) ∙ mul_assoc 2 (2 ^ low) (value (take high (drop low bits))) in
+    ap (λ (n : ℕ). n * value (take high (drop low bits))) (pow-suc 2 low ∙ mul_comm (2 ^ low) 2)
+    ∙ mul_assoc 2 (2 ^ low) (value (take high (drop low bits))) in
     ap (λ (n : ℕ). value (take n (b ∷ bits))) next ∙ omega (arith, rest, twice)
 
 -- sixteen more bits below the topmost bits of a field
-pub field-sixteen_lower : (processor : Processor) (at n top number : ℕ) → top ≡ field_value processor (at + 16) n → number ≡ field_value processor at 16
+pub field-sixteen_lower : (processor : Processor) (at n top number : ℕ) → top ≡ field_value processor (at + 16) n
+    → number ≡ field_value processor at 16
     → top * 65536 + number ≡ field_value processor at (16 + n)
 unfolding field_value
 field-sixteen_lower processor at n top number top_is number_is =
-    let both : value (take (16 + n) (drop at processor.memory)) ≡ value (take 16 (drop at processor.memory)) + 65536 * value (take n (drop 16 (drop at processor.memory))) =
+    let both : value (take (16 + n) (drop at processor.memory))
+    ≡ value (take 16 (drop at processor.memory)) + 65536 * value (take n (drop 16 (drop at processor.memory))) =
     value-parts 16 n (drop at processor.memory) in
-    let above : value (take n (drop 16 (drop at processor.memory))) ≡ value (take n (drop (at + 16) processor.memory)) = ap (λ bits. value (take n bits)) (drop-drop 16 at processor.memory) in
+    let above : value (take n (drop 16 (drop at processor.memory))) ≡ value (take n (drop (at + 16) processor.memory)) =
+    ap (λ bits. value (take n bits)) (drop-drop 16 at processor.memory) in
     omega (arith, both, above, top_is, number_is)
 
 -- a field's value is below any power of two of as many bits or more
-pub field_below : (processor : Processor) (at len most number : ℕ) → number ≡ field_value processor at len → len ≤ most → number < 2 ^ most
+pub field_below : (processor : Processor) (at len most number : ℕ) → number ≡ field_value processor at len
+    → len ≤ most → number < 2 ^ most
 field_below processor at len most number is few =
     let more : 2 ^ len ≤ 2 ^ most = pow_mono few in
     omega (arith, is, field_value-lt processor at len, more)
 
 -- sixteen bits of a field, as they stand in the planes
-pub sixteen_planes : (processor : Processor) (planes : List ℕ) (p at : ℕ) → length planes ≡ 16 → at + 16 ≤ length processor.memory
+pub sixteen_planes : (processor : Processor) (planes : List ℕ) (p at : ℕ) → length planes ≡ 16
+    → at + 16 ≤ length processor.memory
     → ((k : ℕ) → k < 16 → bit (get_or planes k 0) p ≡ memory_bit processor (at + k))
     → value (map (λ plane. bit plane p) planes) ≡ field_value processor at 16
 unfolding field_value
 sixteen_planes processor planes p at long inside are =
     let bits : List Bool = map (λ plane. bit plane p) planes in
     let field : List Bool = take 16 (drop at processor.memory) in
-    let count : length field ≡ 16 = length-take-le 16 (drop at processor.memory) (omega (arith, inside, length-drop at processor.memory)) in
+    let count : length field ≡ 16 =
+    length-take-le 16 (drop at processor.memory) (omega (arith, inside, length-drop at processor.memory)) in
     let bits_long : length bits ≡ 16 = length-map planes (λ plane. bit plane p) ∙ long in
     ap value (ext_get_or false bits field (bits_long ∙ sym count)
     (λ k h. let below : k < 16 = omega (arith, bits_long) in
@@ -76,8 +88,10 @@ pub field-one_lower : (processor : Processor) (at len n top number : ℕ) → n 
 field-one_lower processor at len n top number below within top_is number_is =
     let inside : at + (len - (n + 1)) < length processor.memory = omega arith in
     let above : suc (at + (len - (n + 1))) ≡ at + (len - n) = omega arith in
-    let more : field_value processor (at + (len - (n + 1))) (n + 1) ≡ bit_number (memory_bit processor (at + (len - (n + 1)))) + 2 * field_value processor (at + (len - n)) n =
-    ap (field_value processor (at + (len - (n + 1)))) (add-one n) ∙ field-lowest processor (at + (len - (n + 1))) n inside
+    let more : field_value processor (at + (len - (n + 1))) (n + 1)
+    ≡ bit_number (memory_bit processor (at + (len - (n + 1)))) + 2 * field_value processor (at + (len - n)) n =
+    ap (field_value processor (at + (len - (n + 1)))) (add-one n)
+    ∙ field-lowest processor (at + (len - (n + 1))) n inside
     ∙ ap (λ (a : ℕ). bit_number (memory_bit processor (at + (len - (n + 1)))) + 2 * field_value processor a n) above in
     omega (arith, more, top_is, number_is)
 

@@ -1,5 +1,6 @@
 -- A plane of flags is 0 just where no processor of the chip has the flag, and so all planes of a run.
-use Rattle.std.proofs.Common.{◌≡◌, ℕ, ◌^◌, ◌<◌, ◌==◌, suc, Bool, true, false, not, ◌||◌, List, [], ◌∷◌, length, get_or, bit_or, refl, ap, ◌∙◌, sym, arith, eq-eqb, ne_eqb, w16}
+use Rattle.std.proofs.Common.{◌≡◌, ℕ, ◌^◌, ◌<◌, ◌==◌, suc, Bool, true, false, not, ◌||◌, List, [], ◌∷◌, length, get_or}
+use Rattle.std.proofs.Common.{bit_or, refl, ap, ◌∙◌, sym, arith, eq-eqb, ne_eqb, w16}
 use Rattle.std.specs.Int.{bit_at, trailing_zeros}
 use Rattle.std.specs.List.{list_any}
 use Rattle.std.proofs.lemmas.Bool.{eqb-true, eqb-false}
@@ -13,10 +14,12 @@ use Rattle.cm_model.proofs.Bits.{bit-zero}
 use Rattle.cm_element.specs.Flags.{has_flag}
 
 -- where the test fails at each index, nothing passes it
-none_passes : {X : Type 0} (test : X → Bool) (d : X) (xs : List X) → ((i : ℕ) → i < length xs → test (get_or xs i d) ≡ false) → list_any test xs ≡ false
+none_passes : {X : Type 0} (test : X → Bool) (d : X) (xs : List X)
+    → ((i : ℕ) → i < length xs → test (get_or xs i d) ≡ false) → list_any test xs ≡ false
 none_passes test d [] fails = refl
 none_passes test d (x ∷ xs) fails =
-    ap (λ (b : Bool). b || list_any test xs) (fails 0 (omega arith)) ∙ none_passes test d xs (λ i h. fails (suc i) (omega arith))
+    ap (λ (b : Bool). b || list_any test xs) (fails 0 (omega arith))
+    ∙ none_passes test d xs (λ i h. fails (suc i) (omega arith))
 
 -- the plane of a flag
 pub has_flag-plane : (number : ℕ) (chip : List Processor) (plane : ℕ) → plane < 2 ^ 16 → length chip ≡ 16
@@ -48,10 +51,12 @@ seen_more seen plane = by (seen == 0) (plane == 0) refl refl where
       ap not (ne_eqb (bit_or seen plane) 0 (λ e. not_zero (omega (arith, e, more))))
 
 -- two lists of which each passes its test where the other does
-pub list_any-same : {X Y : Type 0} (p : X → Bool) (q : Y → Bool) (d : X) (e : Y) (xs : List X) (ys : List Y) → length xs ≡ length ys
+pub list_any-same : {X Y : Type 0} (p : X → Bool) (q : Y → Bool) (d : X) (e : Y) (xs : List X) (ys : List Y)
+    → length xs ≡ length ys
     → ((i : ℕ) → i < length xs → p (get_or xs i d) ≡ q (get_or ys i e)) → list_any p xs ≡ list_any q ys
 list_any-same p q d e [] [] long same = refl
 list_any-same p q d e [] (y ∷ ys) long same = absurd (omega (arith, long))
 list_any-same p q d e (x ∷ xs) [] long same = absurd (omega (arith, long))
 list_any-same p q d e (x ∷ xs) (y ∷ ys) long same =
-    (λ j. same 0 (omega arith) j || list_any-same p q d e xs ys (omega (arith, long)) (λ i h. same (suc i) (omega arith)) j)
+    (λ j. same 0 (omega arith) j
+    || list_any-same p q d e xs ys (omega (arith, long)) (λ i h. same (suc i) (omega arith)) j)

@@ -1,5 +1,6 @@
 -- What the lanes of sixteen planes give of one processor.
-use Rattle.std.proofs.Common.{◌≡◌, ℕ, zero, suc, ◌+◌, ◌*◌, ◌^◌, ◌%◌, ◌<◌, Bool, true, false, cond, eqb, List, [], ◌∷◌, map, length, replicate, bit_and, w16, refl, ap, ◌∙◌, arith}
+use Rattle.std.proofs.Common.{◌≡◌, ℕ, zero, suc, ◌+◌, ◌*◌, ◌^◌, ◌%◌, ◌<◌, Bool, true, false, cond, eqb, List, [], ◌∷◌}
+use Rattle.std.proofs.Common.{map, length, replicate, bit_and, w16, refl, ap, ◌∙◌, arith}
 use Rattle.std.proofs.lemmas.Bool.{eq-eqb, ne_eqb}
 use Rattle.std.proofs.lemmas.List.{length-map}
 use Rattle.std.proofs.lemmas.Nat.{pow_pos}
@@ -23,13 +24,17 @@ bit_is (suc (suc n)) m few some = absurd (omega arith)
 
 -- the test of a lane finds the processor's bit
 test_is_bit : (p plane : ℕ) → eqb (bit_and plane (2 ^ p)) (2 ^ p) ≡ bit plane p
-test_is_bit p plane = ap (λ y. eqb y (2 ^ p)) (and_pow plane p) ∙ bit_is (bit_at plane p) (2 ^ p) (bit_at-lt plane p) (pow_pos p)
+test_is_bit p plane = ap (λ y. eqb y (2 ^ p)) (and_pow plane p)
+    ∙ bit_is (bit_at plane p) (2 ^ p) (bit_at-lt plane p) (pow_pos p)
 
 pub bits_found : (p here : ℕ) (planes : List ℕ) → length planes ≡ 16 → here ≡ 2 ^ p
-    → mask_l (map (top 15) (zip2 (λ x y. cond (eqb x y) 65535 0) (zip2 bit_and planes (replicate 16 here)) (replicate 16 here))) % 2 ^ 64 ≡ value (map (λ plane. bit plane p) planes)
+    → mask_l (map (top 15) (zip2 (λ x y. cond (eqb x y) 65535 0) (zip2 bit_and planes (replicate 16 here))
+    (replicate 16 here))) % 2 ^ 64 ≡ value (map (λ plane. bit plane p) planes)
 bits_found p here planes long is =
-    let lanes : zip2 bit_and planes (replicate 16 here) ≡ map (λ plane. bit_and plane here) planes = zip2_splat bit_and planes 16 here long in
-    bitmask_splat w16 eqb (zip2 bit_and planes (replicate 16 here)) 16 here (omega (arith, ap length lanes, length-map planes (λ plane. bit_and plane here), long)) (omega arith)
+    let lanes : zip2 bit_and planes (replicate 16 here) ≡ map (λ plane. bit_and plane here) planes =
+    zip2_splat bit_and planes 16 here long in
+    bitmask_splat w16 eqb (zip2 bit_and planes (replicate 16 here)) 16 here
+    (omega (arith, ap length lanes, length-map planes (λ plane. bit_and plane here), long)) (omega arith)
     ∙ ap (λ l. mask_l (map (λ x. eqb x here) l)) lanes
     ∙ ap mask_l (map-map (λ x. eqb x here) (λ plane. bit_and plane here) planes)
     ∙ ap (λ h. mask_l (map (λ plane. eqb (bit_and plane h) h) planes)) is

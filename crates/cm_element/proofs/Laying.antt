@@ -1,5 +1,6 @@
 -- Rows into which words of other rows were copied, and the chips of both.
-use Rattle.std.proofs.Common.{◌≡◌, ◌⊎◌, inl, inr, ℕ, ◌+◌, ◌-◌, ◌*◌, ◌<◌, ◌≤◌, List, [], length, get_or, take, drop, sym, ap, ◌∙◌, ⊎_elim, arith, length-take, length-drop}
+use Rattle.std.proofs.Common.{◌≡◌, ◌⊎◌, inl, inr, ℕ, ◌+◌, ◌-◌, ◌*◌, ◌<◌, ◌≤◌, List, [], length, get_or, take, drop, sym}
+use Rattle.std.proofs.Common.{ap, ◌∙◌, ⊎_elim, arith, length-take, length-drop}
 use Rattle.std.proofs.lemmas.Bool.{cases_lt}
 use Rattle.std.proofs.lemmas.List.{get_or-take, get_or-drop, get_or_past}
 use Rattle.cm_model.proofs.Each.{same_each_below}
@@ -12,11 +13,15 @@ use Rattle.cm_element.proofs.Columns.{next_row, chip_at-chips_of, length-chips_o
 -- ---- words
 
 -- a word of a part of a list
-pub get_or-part : (words : List ℕ) (at end count k : ℕ) → end - at ≡ count → k < count → get_or (take (end - at) (drop at words)) k 0 ≡ get_or words (at + k) 0
-get_or-part words at end count k few h = get_or-take (end - at) (drop at words) k 0 (omega (arith, few)) ∙ get_or-drop at words k 0
+pub get_or-part : (words : List ℕ) (at end count k : ℕ) → end - at ≡ count → k < count
+    → get_or (take (end - at) (drop at words)) k 0 ≡ get_or words (at + k) 0
+get_or-part words at end count k few h = get_or-take (end - at) (drop at words) k 0 (omega (arith, few))
+    ∙ get_or-drop at words k 0
 
-pub length-part : (words : List ℕ) (at end count : ℕ) → end - at ≡ count → at + count ≤ length words → length (take (end - at) (drop at words)) ≡ count
-length-part words at end count few inside = omega (arith, few, length-take (end - at) (drop at words), length-drop at words)
+pub length-part : (words : List ℕ) (at end count : ℕ) → end - at ≡ count → at + count ≤ length words
+    → length (take (end - at) (drop at words)) ≡ count
+length-part words at end count few inside =
+    omega (arith, few, length-take (end - at) (drop at words), length-drop at words)
 
 -- words were put into a list from a place on
 pub record IsPutAt (at count : ℕ) (part old new : List ℕ) : Type 0 where
@@ -28,8 +33,10 @@ pub record IsPutAt (at count : ℕ) (part old new : List ℕ) : Type 0 where
 pub laid_more : (here there : Band) (row count : ℕ) (from old new part : List ℕ) → here.first + count ≤ here.stride
     → IsPutAt (row * here.stride + here.first) count part old new
     → ((c : ℕ) → c < count → get_or part c 0 ≡ get_or from (row * there.stride + there.first + c) 0)
-    → ((i c : ℕ) → i < row → c < count → get_or old (i * here.stride + (here.first + c)) 0 ≡ get_or from (i * there.stride + (there.first + c)) 0)
-    → (i c : ℕ) → i < row + 1 → c < count → get_or new (i * here.stride + (here.first + c)) 0 ≡ get_or from (i * there.stride + (there.first + c)) 0
+    → ((i c : ℕ) → i < row → c < count
+    → get_or old (i * here.stride + (here.first + c)) 0 ≡ get_or from (i * there.stride + (there.first + c)) 0)
+    → (i c : ℕ) → i < row + 1 → c < count
+    → get_or new (i * here.stride + (here.first + c)) 0 ≡ get_or from (i * there.stride + (there.first + c)) 0
 laid_more here there row count from old new part wide put part_is before i c h few = ⊎_elim
     (λ (l : i < row). let far : i * here.stride + here.stride ≤ row * here.stride = next_row i row here.stride l in
     put.below (i * here.stride + (here.first + c)) (omega arith) ∙ before i c l few)
@@ -37,14 +44,17 @@ laid_more here there row count from old new part wide put part_is before i c h f
     let same : i ≡ row = omega arith in
     let place : row * here.stride + (here.first + c) ≡ row * here.stride + here.first + c = omega arith in
     let source : row * there.stride + there.first + c ≡ row * there.stride + (there.first + c) = omega arith in
-    rw same (ap (λ (k : ℕ). get_or new k 0) place ∙ put.value c few ∙ part_is c few ∙ ap (λ (k : ℕ). get_or from k 0) source))
+    rw same (ap (λ (k : ℕ). get_or new k 0) place ∙ put.value c few ∙ part_is c few
+    ∙ ap (λ (k : ℕ). get_or from k 0) source))
     (cases_lt i row)
 
 -- and the other words stay
 pub others_more : (here : Band) (row count : ℕ) (first old new part : List ℕ) → here.first + count ≤ here.stride
     → IsPutAt (row * here.stride + here.first) count part old new
-    → ((i k : ℕ) → k < here.stride → (row ≤ i) ⊎ ((k < here.first) ⊎ (here.first + count ≤ k)) → get_or old (i * here.stride + k) 0 ≡ get_or first (i * here.stride + k) 0)
-    → (i k : ℕ) → k < here.stride → (row + 1 ≤ i) ⊎ ((k < here.first) ⊎ (here.first + count ≤ k)) → get_or new (i * here.stride + k) 0 ≡ get_or first (i * here.stride + k) 0
+    → ((i k : ℕ) → k < here.stride → (row ≤ i) ⊎ ((k < here.first) ⊎ (here.first + count ≤ k))
+    → get_or old (i * here.stride + k) 0 ≡ get_or first (i * here.stride + k) 0)
+    → (i k : ℕ) → k < here.stride → (row + 1 ≤ i) ⊎ ((k < here.first) ⊎ (here.first + count ≤ k))
+    → get_or new (i * here.stride + k) 0 ≡ get_or first (i * here.stride + k) 0
 others_more here row count first old new part wide put before i k inside out = ⊎_elim
     (λ (l : row + 1 ≤ i). later l ∙ before i k inside (inl (omega arith)))
     (λ beside. ⊎_elim
@@ -52,7 +62,8 @@ others_more here row count first old new part wide put before i k inside out = �
     put.below (i * here.stride + k) (omega arith) ∙ before i k inside (inr beside))
     (λ (l : row ≤ i). ⊎_elim
     (λ (m : row < i). later (omega arith) ∙ before i k inside (inr beside))
-    (λ (m : i ≤ row). let same : i ≡ row = omega arith in let start : i * here.stride ≡ row * here.stride = ap (λ (n : ℕ). n * here.stride) same in
+    (λ (m : i ≤ row). let same : i ≡ row = omega arith in
+    let start : i * here.stride ≡ row * here.stride = ap (λ (n : ℕ). n * here.stride) same in
     ⊎_elim
     (λ (b : k < here.first). put.below (i * here.stride + k) (omega arith))
     (λ (a : here.first + count ≤ k). put.above (i * here.stride + k) (omega arith))
@@ -61,21 +72,25 @@ others_more here row count first old new part wide put before i k inside out = �
     (cases_lt i row))
     out where
       later : row + 1 ≤ i → get_or new (i * here.stride + k) 0 ≡ get_or old (i * here.stride + k) 0
-      later l = let far : row * here.stride + here.stride ≤ i * here.stride = next_row row i here.stride (omega arith) in
+      later l = let far : row * here.stride + here.stride ≤ i * here.stride =
+          next_row row i here.stride (omega arith) in
           put.above (i * here.stride + k) (omega arith)
 
 -- ---- chips
 
 -- the planes of a chip that was laid
-column-laid : (here there : Band) (rows count c : ℕ) (from old new : List ℕ) → AreLaidRows here there rows count from old new → c < count
+column-laid : (here there : Band) (rows count c : ℕ) (from old new : List ℕ)
+    → AreLaidRows here there rows count from old new → c < count
     → column new here.stride rows (here.first + c) ≡ column from there.stride rows (there.first + c)
 unfolding column
 column-laid here there rows count c from old new laid few =
-    same_each_below 0 rows (λ i. get_or new (i * here.stride + (here.first + c)) 0) (λ i. get_or from (i * there.stride + (there.first + c)) 0)
+    same_each_below 0 rows (λ i. get_or new (i * here.stride + (here.first + c)) 0)
+    (λ i. get_or from (i * there.stride + (there.first + c)) 0)
     (λ i h. laid.laid i c h few)
 
 -- those of another
-column-others : (here there : Band) (rows count k : ℕ) (from old new : List ℕ) → AreLaidRows here there rows count from old new → k < here.stride
+column-others : (here there : Band) (rows count k : ℕ) (from old new : List ℕ)
+    → AreLaidRows here there rows count from old new → k < here.stride
     → (k < here.first) ⊎ (here.first + count ≤ k) → column new here.stride rows k ≡ column old here.stride rows k
 unfolding column
 column-others here there rows count k from old new laid inside beside =
@@ -83,7 +98,8 @@ column-others here there rows count k from old new laid inside beside =
     (λ i h. laid.others i k h inside beside)
 
 -- two runs, and one that has chips of both
-pub record AreRunsLaid (here there : Band) (count : ℕ) (memory flags memory_from flags_from memory_new flags_new : List ℕ) (chips chips_from : ℕ) : Type 0 where
+pub record AreRunsLaid (here there : Band) (count : ℕ)
+    (memory flags memory_from flags_from memory_new flags_new : List ℕ) (chips chips_from : ℕ) : Type 0 where
   pub rows : AreRows memory flags here.stride chips
   pub rows_from : AreRows memory_from flags_from there.stride chips_from
   pub inside : here.first + count ≤ chips
@@ -91,51 +107,65 @@ pub record AreRunsLaid (here there : Band) (count : ℕ) (memory flags memory_fr
   pub laid : AreLaidRows here there 4096 count memory_from memory memory_new
   pub flags_laid : AreLaidRows here there 16 count flags_from flags flags_new
 
-other_chip : (here there : Band) (count : ℕ) (memory flags memory_from flags_from memory_new flags_new : List ℕ) (chips chips_from : ℕ)
+other_chip : (here there : Band) (count : ℕ) (memory flags memory_from flags_from memory_new flags_new : List ℕ)
+    (chips chips_from : ℕ)
     → AreRunsLaid here there count memory flags memory_from flags_from memory_new flags_new chips chips_from
     → (k : ℕ) → (k < here.first) ⊎ (here.first + count ≤ k)
-    → get_or (chips_of memory_new flags_new here.stride chips) k [] ≡ get_or (chips_of memory flags here.stride chips) k []
-other_chip here there count memory flags memory_from flags_from memory_new flags_new chips chips_from is k beside = ⊎_elim
+    → get_or (chips_of memory_new flags_new here.stride chips) k [] ≡ get_or
+    (chips_of memory flags here.stride chips) k []
+other_chip here there count memory flags memory_from flags_from memory_new flags_new chips
+    chips_from is k beside = ⊎_elim
     (λ (h : k < chips). let few : chips ≤ here.stride = is.rows.within in let inside : k < here.stride = omega arith in
     chip_at-chips_of memory_new flags_new here.stride chips k h
-    ∙ (λ j. chip_of (column-others here there 4096 count k memory_from memory memory_new is.laid inside beside j) (column-others here there 16 count k flags_from flags flags_new is.flags_laid inside beside j))
+    ∙ (λ j. chip_of (column-others here there 4096 count k memory_from memory memory_new is.laid inside beside j)
+    (column-others here there 16 count k flags_from flags flags_new is.flags_laid inside beside j))
     ∙ sym (chip_at-chips_of memory flags here.stride chips k h))
     (λ (h : chips ≤ k).
-    get_or_past (chips_of memory_new flags_new here.stride chips) k [] (omega (arith, h, length-chips_of memory_new flags_new here.stride chips))
-    ∙ sym (get_or_past (chips_of memory flags here.stride chips) k [] (omega (arith, h, length-chips_of memory flags here.stride chips))))
+    get_or_past (chips_of memory_new flags_new here.stride chips)
+    k [] (omega (arith, h, length-chips_of memory_new flags_new here.stride chips))
+    ∙ sym (get_or_past (chips_of memory flags here.stride chips)
+    k [] (omega (arith, h, length-chips_of memory flags here.stride chips))))
     (cases_lt k chips)
 
-pub chips_laid : (here there : Band) (count : ℕ) (memory flags memory_from flags_from memory_new flags_new : List ℕ) (chips chips_from : ℕ)
+pub chips_laid : (here there : Band) (count : ℕ) (memory flags memory_from flags_from memory_new flags_new : List ℕ)
+    (chips chips_from : ℕ)
     → AreRunsLaid here there count memory flags memory_from flags_from memory_new flags_new chips chips_from
-    → AreLaid here.first there.first count (chips_of memory_from flags_from there.stride chips_from) (chips_of memory flags here.stride chips) (chips_of memory_new flags_new here.stride chips)
+    → AreLaid here.first there.first count (chips_of memory_from flags_from there.stride chips_from)
+    (chips_of memory flags here.stride chips) (chips_of memory_new flags_new here.stride chips)
 chips_laid here there count memory flags memory_from flags_from memory_new flags_new chips chips_from is = record {
   chips = length-chips_of memory_new flags_new here.stride chips ∙ sym (length-chips_of memory flags here.stride chips);
   laid = λ c few. let inside = is.inside in let inside_from = is.inside_from in
       chip_at-chips_of memory_new flags_new here.stride chips (here.first + c) (omega arith)
-      ∙ (λ j. chip_of (column-laid here there 4096 count c memory_from memory memory_new is.laid few j) (column-laid here there 16 count c flags_from flags flags_new is.flags_laid few j))
+      ∙ (λ j. chip_of (column-laid here there 4096 count c memory_from memory memory_new is.laid few j)
+      (column-laid here there 16 count c flags_from flags flags_new is.flags_laid few j))
       ∙ sym (chip_at-chips_of memory_from flags_from there.stride chips_from (there.first + c) (omega arith));
-  below = λ c h. other_chip here there count memory flags memory_from flags_from memory_new flags_new chips chips_from is c (inl h);
-  above = λ c h. other_chip here there count memory flags memory_from flags_from memory_new flags_new chips chips_from is c (inr h);
+  below = λ c h. other_chip here there count memory flags memory_from flags_from memory_new flags_new chips
+      chips_from is c (inl h);
+  above = λ c h. other_chip here there count memory flags memory_from flags_from memory_new flags_new chips
+      chips_from is c (inr h);
 }
 
 -- the new rows are rows
-pub rows_laid : (here there : Band) (count : ℕ) (memory flags memory_from flags_from memory_new flags_new : List ℕ) (chips chips_from : ℕ)
+pub rows_laid : (here there : Band) (count : ℕ) (memory flags memory_from flags_from memory_new flags_new : List ℕ)
+    (chips chips_from : ℕ)
     → AreRunsLaid here there count memory flags memory_from flags_from memory_new flags_new chips chips_from
     → length memory_new ≡ length memory → length flags_new ≡ length flags
     → AreRows memory_new flags_new here.stride chips
-rows_laid here there count memory flags memory_from flags_from memory_new flags_new chips chips_from is memory_long flags_long = record {
-  memory_words = memory_long ∙ is.rows.memory_words;
-  flag_words = flags_long ∙ is.rows.flag_words;
-  within = is.rows.within;
-  few = is.rows.few;
-  zero = λ k h. let few : chips ≤ here.stride = is.rows.within in let inside_from = is.inside_from in ⊎_elim
-      (λ (b : k < here.first). is.flags_laid.others 8 k (omega arith) (omega arith) (inl b) ∙ is.rows.zero k h)
-      (λ (from : here.first ≤ k). ⊎_elim
-      (λ (l : k < here.first + count).
-      let place : 8 * here.stride + k ≡ 8 * here.stride + (here.first + (k - here.first)) = omega arith in
-      ap (λ (i : ℕ). get_or flags_new i 0) place ∙ is.flags_laid.laid 8 (k - here.first) (omega arith) (omega arith)
-      ∙ is.rows_from.zero (there.first + (k - here.first)) (omega arith))
-      (λ (a : here.first + count ≤ k). is.flags_laid.others 8 k (omega arith) (omega arith) (inr a) ∙ is.rows.zero k h)
-      (cases_lt k (here.first + count)))
-      (cases_lt k here.first);
-}
+rows_laid here there count memory flags memory_from flags_from memory_new flags_new chips chips_from is
+    memory_long flags_long = record {
+      memory_words = memory_long ∙ is.rows.memory_words;
+      flag_words = flags_long ∙ is.rows.flag_words;
+      within = is.rows.within;
+      few = is.rows.few;
+      zero = λ k h. let few : chips ≤ here.stride = is.rows.within in let inside_from = is.inside_from in ⊎_elim
+          (λ (b : k < here.first). is.flags_laid.others 8 k (omega arith) (omega arith) (inl b) ∙ is.rows.zero k h)
+          (λ (from : here.first ≤ k). ⊎_elim
+          (λ (l : k < here.first + count).
+          let place : 8 * here.stride + k ≡ 8 * here.stride + (here.first + (k - here.first)) = omega arith in
+          ap (λ (i : ℕ). get_or flags_new i 0) place ∙ is.flags_laid.laid 8 (k - here.first) (omega arith) (omega arith)
+          ∙ is.rows_from.zero (there.first + (k - here.first)) (omega arith))
+          (λ (a : here.first + count ≤ k). is.flags_laid.others 8 k (omega arith) (omega arith) (inr a)
+          ∙ is.rows.zero k h)
+          (cases_lt k (here.first + count)))
+          (cases_lt k here.first);
+    }

@@ -6,7 +6,8 @@ use Rattle.cm_model.specs.Chip.{each_processor}
 
 -- what processor p has of the planes of memory and of the flags
 abbrev pub processor_in : List ℕ → List ℕ → ℕ → Processor
-processor_in memory flags p = record { memory = map (λ plane. bit plane p) memory; flags = map (λ plane. bit plane p) flags }
+processor_in memory flags p =
+    record { memory = map (λ plane. bit plane p) memory; flags = map (λ plane. bit plane p) flags }
 
 -- the chip whose planes these are
 unfoldable pub chip_of : List ℕ → List ℕ → List Processor

@@ -43,7 +43,8 @@ pub record AreHolding (nano : Nano) (chips : Chips) (planes : List ℕ) : Type 0
   pub each : (c : ℕ) → c < length chips
       → IsPlane (slice_index planes c) (λ p. holds nano (processor_at (chip_at chips c) p))
 
--- in the row at a place each of so many planes was stored where its processors' condition holds; the list is else as it was
+-- in the row at a place each of so many planes was stored where its processors' condition holds;
+-- the list is else as it was
 pub record IsStored (row : ℕ) (holds planes old new : List ℕ) : Type 0 where
   pub each : (c : ℕ) → c < length planes → (p : ℕ) → bit (slice_index new (row + c)) p
       ≡ cond (bit (slice_index holds c) p) (bit (slice_index planes c) p) (bit (slice_index old (row + c)) p)
@@ -53,4 +54,5 @@ pub record IsStored (row : ℕ) (holds planes old new : List ℕ) : Type 0 where
 -- each plane has what comes in where the condition holds, else what the written flag has
 pub record AreMerged (sense : Bool) (at : Places) (flags old new : List ℕ) : Type 0 where
   pub each : (c : ℕ) → c < length old → IsPlane (slice_index new c)
-      (λ p. cond (beq (bit (slice_index flags (at.cond + c)) p) sense) (bit (slice_index old c) p) (bit (slice_index flags (at.write + c)) p))
+      (λ p. cond (beq (bit (slice_index flags (at.cond + c)) p) sense) (bit (slice_index old c) p)
+      (bit (slice_index flags (at.write + c)) p))

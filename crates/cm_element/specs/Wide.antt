@@ -12,9 +12,11 @@ with_memory_field chip p at len number =
 -- the chip with what the function gives for each processor in a flag
 unfoldable pub with_flag_plane : List Processor → ℕ → (ℕ → Bool) → List Processor
 with_flag_plane chip number plane =
-    each_processor (λ p. record (processor_at chip p) { flags = slice_set (processor_at chip p).flags number (plane p) })
+    each_processor
+    (λ p. record (processor_at chip p) { flags = slice_set (processor_at chip p).flags number (plane p) })
 
 -- the chip with what the function gives for each processor at an address of memory
 unfoldable pub with_memory_plane : List Processor → ℕ → (ℕ → Bool) → List Processor
 with_memory_plane chip address plane =
-    each_processor (λ p. record (processor_at chip p) { memory = slice_set (processor_at chip p).memory address (plane p) })
+    each_processor
+    (λ p. record (processor_at chip p) { memory = slice_set (processor_at chip p).memory address (plane p) })

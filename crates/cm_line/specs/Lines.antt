@@ -34,7 +34,8 @@ list_app = with_rule (without_help_flag (new_app (codes "list"))) (required_oper
 -- the subcommand `fresh`, whose operands are a dimension, a room and a file
 abbrev pub fresh_app : App
 fresh_app =
-    with_rule (with_rule (with_rule (without_help_flag (new_app (codes "fresh"))) (required_operand (codes "n"))) (required_operand (codes "cap"))) (required_operand (codes "file"))
+    with_rule (with_rule (with_rule (without_help_flag (new_app (codes "fresh"))) (required_operand (codes "n")))
+    (required_operand (codes "cap"))) (required_operand (codes "file"))
 
 -- an option `--name VALUE` or `--name=VALUE`, which may stand there, once
 abbrev pub option_with_value : Text → Rule

@@ -1,9 +1,12 @@
-ghost use Rattle.std.specs.Prelude.{◌≡◌, ℕ, List, [], ◌∷◌, Option, Some, None, IfOk, IfSome, IsErrOf, String, codes, string_bytes, false};
+ghost use Rattle.std.specs.Prelude.{◌≡◌, ℕ, List, [], ◌∷◌, Option, Some, None, IfOk, IfSome, IsErrOf, String};
+ghost use Rattle.std.specs.Prelude.{codes, string_bytes, false};
 ghost use Rattle.clap.specs.Walk.{first_of, rows_of, texts};
 ghost use Rattle.clap.specs.Matches.{found_of};
 ghost use Rattle.clap.specs.Simple.{app_of, with_rule, with_subcommand};
 ghost use Rattle.clap.specs.declared.builder.command.Command.TheViews.{out-Command as fields_of};
-ghost use Rattle.cm_line.specs.Lines.{AsksFor, IsBadLine, IsLine, IsFreshLine, IsRunLine, IsNumberOperand, IsNumberOption, required_operand, option_with_value, chip_app, list_app, fresh_app, run_app, texts_app, program_app};
+ghost use Rattle.cm_line.specs.Lines.{AsksFor, IsBadLine, IsLine, IsFreshLine, IsRunLine, IsNumberOperand};
+ghost use Rattle.cm_line.specs.Lines.{IsNumberOption, required_operand, option_with_value, chip_app, list_app};
+ghost use Rattle.cm_line.specs.Lines.{fresh_app, run_app, texts_app, program_app};
 
 use crate::fault::LineFault;
 use clap::error::ErrorKind;
@@ -150,7 +153,8 @@ fn run_line(alloc: Global, operands: &ArgMatches) -> Result<Line, LineFault>
 
 /// The number that was found for an operand, if it is one of this range.
 fn number_operand(operands: &ArgMatches, name: &str, least: u8, most: u8) -> Option<u8>
-    ensures some { IfSome result (λ number. IsNumberOperand name.now (rows_of (found_of operands.now)) least most number) }
+    ensures some { IfSome result
+        (λ number. IsNumberOperand name.now (rows_of (found_of operands.now)) least most number) }
     ensures none { result ≡ None
         → (number : ℕ) → ¬ IsNumberOperand name.now (rows_of (found_of operands.now)) least most number }
 {
@@ -318,7 +322,8 @@ fn adding_operand<'a>(
     command: Command<'a>,
     name: &'a str,
 ) -> Result<Command<'a>, AllocError>
-    ensures app { IfOk result (λ made. app_of made ≡ with_rule (app_of command.entry) (required_operand name.entry.now)) }
+    ensures app { IfOk result
+        (λ made. app_of made ≡ with_rule (app_of command.entry) (required_operand name.entry.now)) }
     ensures local { (fields_of command.entry).has_globals ≡ false
         → IfOk result (λ made. (fields_of made).has_globals ≡ false) }
 {
@@ -331,7 +336,8 @@ fn adding_option<'a>(
     command: Command<'a>,
     name: &'a str,
 ) -> Result<Command<'a>, AllocError>
-    ensures app { IfOk result (λ made. app_of made ≡ with_rule (app_of command.entry) (option_with_value name.entry.now)) }
+    ensures app { IfOk result
+        (λ made. app_of made ≡ with_rule (app_of command.entry) (option_with_value name.entry.now)) }
     ensures local { (fields_of command.entry).has_globals ≡ false
         → IfOk result (λ made. (fields_of made).has_globals ≡ false) }
 {
@@ -344,7 +350,8 @@ fn adding_subcommand<'a>(
     subcommand: Command<'a>,
 ) -> Result<Command<'a>, AllocError>
     requires local { (fields_of subcommand).has_globals ≡ false }
-    ensures app { IfOk result (λ made. app_of made ≡ with_subcommand (app_of command.entry) (app_of subcommand.entry).top) }
+    ensures app { IfOk result
+        (λ made. app_of made ≡ with_subcommand (app_of command.entry) (app_of subcommand.entry).top) }
     ensures local { (fields_of command.entry).has_globals ≡ false
         → IfOk result (λ made. (fields_of made).has_globals ≡ false) }
 {

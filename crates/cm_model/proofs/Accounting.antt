@@ -1,5 +1,6 @@
 -- The account over a whole run.
-use Rattle.std.proofs.Common.{◌≡◌, ℕ, zero, suc, ◌+◌, ◌<◌, ◌≤◌, ◌^◌, Bool, true, false, not, List, [], ◌∷◌, ◌++◌, length, drop, map, refl, sym, ◌∙◌, ap, ⊎_elim, arith, append_assoc}
+use Rattle.std.proofs.Common.{◌≡◌, ℕ, zero, suc, ◌+◌, ◌<◌, ◌≤◌, ◌^◌, Bool, true, false, not, List, [], ◌∷◌, ◌++◌}
+use Rattle.std.proofs.Common.{length, drop, map, refl, sym, ◌∙◌, ap, ⊎_elim, arith, append_assoc}
 use Rattle.std.proofs.lemmas.Bool.{cases_Bool}
 use Rattle.std.proofs.lemmas.List.{append-nil, drop_at}
 use Rattle.std.proofs.lemmas.List.Elements.{filter_map-append}
@@ -15,16 +16,20 @@ use Rattle.cm_model.specs.Array.{chip_at, list_at}
 use Rattle.cm_model.specs.Router.{Standing, leaves, after_dimension}
 use Rattle.cm_model.specs.Letters.{messages_sent}
 use Rattle.cm_model.specs.Steps.{Step, Instruct, Look, Inject, Cross, Deliver, IsStep, steps_of, all_steps}
-use Rattle.cm_model.specs.Cycle.{State, taken_at, new_record, new_records, after_injection, is_delivered, delivered_at, after_delivery, state_after, state_after_all}
+use Rattle.cm_model.specs.Cycle.{State, taken_at, new_record, new_records, after_injection, is_delivered, delivered_at}
+use Rattle.cm_model.specs.Cycle.{after_delivery, state_after, state_after_all}
 use Rattle.cm_model.specs.Machine.{Machine, records_from, opened, closed, run_of}
 use Rattle.cm_model.specs.Buffers.{after_act}
-use Rattle.cm_model.specs.Account.{Triple, standing_triple, delivered_triple, injected_triple, account_at, account, new_events, newly_injected, all_injected, SameLines, HasLines}
+use Rattle.cm_model.specs.Account.{Triple, standing_triple, delivered_triple, injected_triple, account_at, account}
+use Rattle.cm_model.specs.Account.{new_events, newly_injected, all_injected, SameLines, HasLines}
 use Rattle.cm_model.proofs.Each.{get_or-each_below}
 use Rattle.cm_model.proofs.Flips.{across_below}
 use Rattle.cm_model.proofs.Crossing.{step_of_record}
 use Rattle.cm_model.proofs.Opening.{buffer-opened, list_at-closed}
 use Rattle.cm_model.proofs.Counting.{AllInCube, sum_by-plus, sum_by-flat_map, sum_by-range}
-use Rattle.cm_model.proofs.Conserving.{one, chips_of, injected_count, amount, account-closed, amount-after_injection, injected-after_injection, standing_count-after_dimension, AllInCube-filter, amount-after_delivery, injected-after_delivery}
+use Rattle.cm_model.proofs.Conserving.{one, chips_of, injected_count, amount, account-closed, amount-after_injection}
+use Rattle.cm_model.proofs.Conserving.{injected-after_injection, standing_count-after_dimension, AllInCube-filter}
+use Rattle.cm_model.proofs.Conserving.{amount-after_delivery, injected-after_delivery}
 
 -- ---- records stay in the cube
 
@@ -80,8 +85,7 @@ AreSteps-act n (act.Nano nano) = (tt, tt)
 AreSteps-act n act.Sense = (tt, tt)
 AreSteps-act n act.Cycle = (
   tt,
-  AreSteps-append n (map Cross (range_with_len 0 n)) (Deliver ∷ []) (AreSteps-crossings n 0 n (omega arith))
-      (tt, tt),
+  AreSteps-append n (map Cross (range_with_len 0 n)) (Deliver ∷ []) (AreSteps-crossings n 0 n (omega arith)) (tt, tt),
 )
 
 pub AreSteps-all : (n : ℕ) (acts : List Act) → AreSteps n (all_steps n acts)

@@ -1,6 +1,8 @@
 -- What injection tells the processors of a chip, and what one delivery takes.
-use Rattle.std.proofs.Common.{◌≡◌, ℕ, ◌+◌, ◌<◌, ◌≤◌, Bool, true, false, not, cond, eqb, ◌&&◌, List, [], ◌∷◌, length, refl, sym, ◌∙◌, ap, subst, ⊎_elim, arith}
-use Rattle.std.proofs.lemmas.Bool.{cases_Bool, cases_eq, and_parts, and_right, or_left, or_right, eq-eqb, ne_eqb, both_ways, not-true}
+use Rattle.std.proofs.Common.{◌≡◌, ℕ, ◌+◌, ◌<◌, ◌≤◌, Bool, true, false, not, cond, eqb, ◌&&◌, List, [], ◌∷◌, length}
+use Rattle.std.proofs.Common.{refl, sym, ◌∙◌, ap, subst, ⊎_elim, arith}
+use Rattle.std.proofs.lemmas.Bool.{cases_Bool, cases_eq, and_parts, and_right, or_left, or_right, eq-eqb}
+use Rattle.std.proofs.lemmas.Bool.{ne_eqb, both_ways, not-true}
 use Rattle.std.proofs.lemmas.List.{length-set, get_or-set_same, get_or-set_other}
 use Rattle.std.proofs.lemmas.List.Elements.{All-nil, All-cons}
 use Rattle.std.proofs.lemmas.List.Sums.{sum_by-cons}
@@ -10,7 +12,8 @@ use Rattle.cm_model.specs.declared.message.Message.{Message}
 use Rattle.cm_model.specs.Processor.{Processor, SEND, ACK, flag}
 use Rattle.cm_model.specs.Chip.{processor_at, no_processor}
 use Rattle.cm_model.specs.Whole.{IsProcessor, IsChip}
-use Rattle.cm_model.specs.Letters.{is_among, is_for, has_arrived, processor_after_injection, chip_after_injection, IsAcknowledged, AreDeliveries}
+use Rattle.cm_model.specs.Letters.{is_among, is_for, has_arrived, processor_after_injection}
+use Rattle.cm_model.specs.Letters.{chip_after_injection, IsAcknowledged, AreDeliveries}
 use Rattle.cm_model.specs.Buffers.{is_accepted, arrived_for, delivered}
 use Rattle.cm_model.proofs.Each.{get_or-each_below}
 

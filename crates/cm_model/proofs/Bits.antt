@@ -1,8 +1,10 @@
 -- The bits of a plane under the operations of the code, and truth values that are chosen by exclusive or.
-use Rattle.std.proofs.Common.{◌≡◌, ℕ, ◌+◌, ◌-◌, ◌/◌, ◌%◌, ◌^◌, ◌<◌, zero, suc, min, max, Bool, true, false, not, cond, ◌&&◌, ◌||◌, ◌==◌, refl, ap, ◌∙◌, sym, arith, bit_and, bit_or, bit_xor, w16}
+use Rattle.std.proofs.Common.{◌≡◌, ℕ, ◌+◌, ◌-◌, ◌/◌, ◌%◌, ◌^◌, ◌<◌, zero, suc, min, max, Bool, true, false, not, cond}
+use Rattle.std.proofs.Common.{◌&&◌, ◌||◌, ◌==◌, refl, ap, ◌∙◌, sym, arith, bit_and, bit_or, bit_xor, w16}
 use Rattle.std.specs.Bool.{beq}
 use Rattle.std.specs.Int.{bit_at, bit_not}
-use Rattle.std.proofs.lemmas.Nat.Bits.{bit_at_and, bit_at_or, bit_at_xor, bit_at_not, bit_at-lt, bit_at-zero, bit_at_cat_low}
+use Rattle.std.proofs.lemmas.Nat.Bits.{bit_at_and, bit_at_or, bit_at_xor, bit_at_not}
+use Rattle.std.proofs.lemmas.Nat.Bits.{bit_at-lt, bit_at-zero, bit_at_cat_low}
 use Rattle.std.proofs.lemmas.Nat.{shr_split}
 use Rattle.cm_bits.specs.Bit.{bit, differ}
 

@@ -1,11 +1,13 @@
 -- The leaver is who the words of since say it is.
-use Rattle.std.proofs.Common.{◌≡◌, ℕ, zero, suc, ◌<◌, Bool, true, false, cond, eqb, List, [], ◌∷◌, length, get_or, Option, Some, None, refl, sym, ap, subst, ⊎_elim, inl, inr, arith}
+use Rattle.std.proofs.Common.{◌≡◌, ℕ, zero, suc, ◌<◌, Bool, true, false, cond, eqb, List, [], ◌∷◌, length, get_or}
+use Rattle.std.proofs.Common.{Option, Some, None, refl, sym, ap, subst, ⊎_elim, inl, inr, arith}
 use Rattle.std.proofs.lemmas.Bool.{cases_Bool, cond_both, eqb-true, eqb-false, both_ways}
 use Rattle.std.proofs.lemmas.Bool.Decides.{nat_tests}
 use Rattle.std.proofs.lemmas.List.Elements.{All-nil, All-cons, All-contains}
 use Rattle.std.specs.List.{All, Contains, filter}
 use Rattle.std.specs.Option.{option_or}
-use Rattle.cm_model.specs.Router.{Since, Standing, is_before, same_since, has_to_cross, standing_at, crossing, earlier, earliest, later, latest, referred, leaver}
+use Rattle.cm_model.specs.Router.{Since, Standing, is_before, same_since, has_to_cross, standing_at, crossing, earlier}
+use Rattle.cm_model.specs.Router.{earliest, later, latest, referred, leaver}
 use Rattle.cm_model.specs.Leaver.{HasLeastSince, HasGreatestSince, IsReferred, Leaves, IsLeaver, SincesDiffer}
 use Rattle.cm_model.proofs.Order.{NoneBefore, before_itself, not_both_before, before_transitive, none_before_later}
 

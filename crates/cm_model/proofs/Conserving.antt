@@ -1,5 +1,6 @@
 -- The account is conserved by each step: what stands, what was delivered, and what was injected.
-use Rattle.std.proofs.Common.{◌≡◌, ℕ, ◌+◌, ◌<◌, ◌^◌, Bool, true, false, not, cond, ◌&&◌, List, [], ◌∷◌, ◌++◌, map, Option, refl, sym, ◌∙◌, ap, ⊎_elim, arith}
+use Rattle.std.proofs.Common.{◌≡◌, ℕ, ◌+◌, ◌<◌, ◌^◌, Bool, true, false, not, cond, ◌&&◌, List, [], ◌∷◌, ◌++◌, map}
+use Rattle.std.proofs.Common.{Option, refl, sym, ◌∙◌, ap, ⊎_elim, arith}
 use Rattle.std.proofs.lemmas.Bool.{cases_Bool, eqb-true, and_parts}
 use Rattle.std.proofs.lemmas.List.Elements.{filter_map-append}
 use Rattle.std.proofs.lemmas.List.Filters.{sum_by-filter_both}
@@ -14,7 +15,8 @@ use Rattle.cm_model.specs.Array.{Chips, each_chip, chip_at, list_at}
 use Rattle.cm_model.specs.Router.{Standing, is_at, standing_at, leaves, record_across, after_dimension}
 use Rattle.cm_model.specs.Order.{in_order, queue, messages_of}
 use Rattle.cm_model.specs.Letters.{message_sent, messages_sent, has_arrived, can_receive}
-use Rattle.cm_model.specs.Cycle.{State, taken_at, new_record, new_records, after_injection, is_rival, is_delivered, delivered_at, after_delivery}
+use Rattle.cm_model.specs.Cycle.{State, taken_at, new_record, new_records, after_injection, is_rival}
+use Rattle.cm_model.specs.Cycle.{is_delivered, delivered_at, after_delivery}
 use Rattle.cm_model.specs.Machine.{closed}
 use Rattle.cm_model.specs.Account.{Triple, standing_triple, delivered_triple, injected_triple, account_at, account}
 use Rattle.cm_model.proofs.Each.{get_or-each_below}
@@ -22,7 +24,8 @@ use Rattle.cm_model.proofs.Flips.{xor_across}
 use Rattle.cm_model.proofs.Crossing.{step_of_record}
 use Rattle.cm_model.proofs.Delivering.{filter_twice}
 use Rattle.cm_model.proofs.Opening.{list_at-closed}
-use Rattle.cm_model.proofs.Counting.{AllInCube, sum_by-plus, sum_by-map, sum_by-flat_map, sum_by-same, sum_by-none, sum_by-range, sum_by-in_order, sum_by_chips}
+use Rattle.cm_model.proofs.Counting.{AllInCube, sum_by-plus, sum_by-map, sum_by-flat_map, sum_by-same, sum_by-none}
+use Rattle.cm_model.proofs.Counting.{sum_by-range, sum_by-in_order, sum_by_chips}
 
 -- ---- what is counted
 
@@ -226,8 +229,7 @@ sum_by-filter_same t f g (x ∷ xs) same =
       sum_by-cons f x (filter t xs),
       sum_by-cons g x (filter t xs),
       same x e,
-      sum_by-filter_same t f
-          g xs same,
+      sum_by-filter_same t f g xs same,
     )))
     (λ (e : t x ≡ false). rw e (sum_by-filter_same t f g xs same)) (cases_Bool (t x))
 

@@ -1,5 +1,6 @@
 -- Sums over sets, over chips and over what many chips add.
-use Rattle.std.proofs.Common.{◌≡◌, ℕ, zero, suc, ◌+◌, ◌<◌, ◌≤◌, ◌^◌, true, false, cond, eqb, List, [], ◌∷◌, map, refl, sym, ◌∙◌, ap, ⊎_elim, arith}
+use Rattle.std.proofs.Common.{◌≡◌, ℕ, zero, suc, ◌+◌, ◌<◌, ◌≤◌, ◌^◌, true, false, cond, eqb, List, [], ◌∷◌, map, refl}
+use Rattle.std.proofs.Common.{sym, ◌∙◌, ap, ⊎_elim, arith}
 use Rattle.std.proofs.lemmas.Bool.{cases_Bool, cases_eq, eq-eqb, ne_eqb}
 use Rattle.std.proofs.lemmas.List.Sums.{sum_by-cons, sum_by-append}
 use Rattle.std.specs.List.{flat_map, sum_by, range_with_len}
@@ -50,8 +51,7 @@ sum_by-past g c a (suc k) h =
     omega (
       arith,
       sum_by-cons (λ b. cond (eqb c b) (g b) 0) a (range_with_len (a + 1) k),
-      sum_by-past g c (a + 1) k
-          (omega arith),
+      sum_by-past g c (a + 1) k (omega arith),
     )
 
 pub sum_by-single : (g : ℕ → ℕ) (c a k : ℕ) → a ≤ c → c < a + k
@@ -64,16 +64,14 @@ sum_by-single g c a (suc k) h l =
     omega (
       arith,
       sum_by-cons (λ b. cond (eqb c b) (g b) 0) a (range_with_len (a + 1) k),
-      sum_by-past g c (a + 1) k
-          (omega arith),
+      sum_by-past g c (a + 1) k (omega arith),
     ))
     (λ (e : c ≡ a → ⊥).
     let other : cond (eqb c a) (g a) 0 ≡ 0 = rw (ne_eqb c a e) refl in
     omega (
       arith,
       sum_by-cons (λ b. cond (eqb c b) (g b) 0) a (range_with_len (a + 1) k),
-      sum_by-single g c (a + 1) k
-          (omega arith) (omega arith),
+      sum_by-single g c (a + 1) k (omega arith) (omega arith),
     ))
     (cases_eq c a)
 
@@ -115,7 +113,6 @@ sum_by_chips n f (r ∷ set) h =
     ∙ omega (
       arith,
       sum_by-single (λ c. f c r) r.chip 0 (2 ^ n) (omega arith) (omega (arith, h.0)),
-      sum_by_chips n f
-          set h.1,
+      sum_by_chips n f set h.1,
       sum_by-cons (λ q. f q.chip q) r set,
     ))

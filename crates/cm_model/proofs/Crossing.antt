@@ -1,12 +1,15 @@
 -- What a dimension step makes of a chip's queue, whoever leaves: the stayers, and then those that come.
-use Rattle.std.proofs.Common.{◌≡◌, ℕ, ◌+◌, ◌^◌, Bool, true, false, not, List, [], ◌∷◌, ◌++◌, map, refl, sym, ◌∙◌, ap, ⊎_elim}
+use Rattle.std.proofs.Common.{◌≡◌, ℕ, ◌+◌, ◌^◌, Bool, true, false, not, List, [], ◌∷◌, ◌++◌, map, refl, sym}
+use Rattle.std.proofs.Common.{◌∙◌, ap, ⊎_elim}
 use Rattle.std.proofs.lemmas.Bool.{cases_Bool}
 use Rattle.std.specs.Prelude.{bit_xor, if◌then◌else◌}
 use Rattle.std.specs.List.{filter}
-use Rattle.cm_model.specs.Router.{Since, Standing, is_at, is_before, standing_at, target, leaves, record_across, after_dimension}
+use Rattle.cm_model.specs.Router.{Since, Standing, is_at, is_before, standing_at, target}
+use Rattle.cm_model.specs.Router.{leaves, record_across, after_dimension}
 use Rattle.cm_model.specs.Order.{put, in_order, queue}
 use Rattle.cm_model.proofs.Flips.{across_is, xor_across}
-use Rattle.cm_model.proofs.Order.{AllBefore, NoneBefore, IsSorted-in_order, before_itself, filter-put_yes, filter-put_no, put-append, put_last, put_front, not_both_before}
+use Rattle.cm_model.proofs.Order.{AllBefore, NoneBefore, IsSorted-in_order, before_itself, filter-put_yes}
+use Rattle.cm_model.proofs.Order.{filter-put_no, put-append, put_last, put_front, not_both_before}
 
 abbrev pub time_across : ℕ → ℕ → Since
 time_across d cycle = record { cycle = cycle; turn = 16 + d }

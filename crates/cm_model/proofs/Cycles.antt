@@ -6,7 +6,8 @@ use Rattle.cm_model.specs.declared.act.Act.{Act}
 use Rattle.cm_model.specs.declared.act.Act.TheVariants as act
 use Rattle.cm_model.specs.Steps.{Cross, Deliver}
 use Rattle.cm_model.specs.Machine.{Machine}
-use Rattle.cm_model.specs.Buffers.{machine_after_injection, machine_after_dimension, machine_after_delivery, after_steps, after_act}
+use Rattle.cm_model.specs.Buffers.{machine_after_injection, machine_after_dimension, machine_after_delivery}
+use Rattle.cm_model.specs.Buffers.{after_steps, after_act}
 use Rattle.cm_model.proofs.Runs.{after_steps-append}
 
 -- one number more

@@ -1,5 +1,6 @@
 -- Each message that is delivered is received, as it was.
-use Rattle.std.proofs.Common.{◌≡◌, ℕ, zero, suc, ◌<◌, ◌≤◌, ◌^◌, Bool, true, false, cond, List, [], ◌∷◌, ◌++◌, map, Some, refl, sym, ◌∙◌, ap, subst, ⊎_elim, arith}
+use Rattle.std.proofs.Common.{◌≡◌, ℕ, zero, suc, ◌<◌, ◌≤◌, ◌^◌, Bool, true, false, cond, List, [], ◌∷◌, ◌++◌, map, Some}
+use Rattle.std.proofs.Common.{refl, sym, ◌∙◌, ap, subst, ⊎_elim, arith}
 use Rattle.std.proofs.lemmas.Bool.{cases_Bool, cond_both, eq-eqb, eqb-true}
 use Rattle.std.proofs.lemmas.List.Elements.{All-contains, Contains-append_right}
 use Rattle.std.proofs.lemmas.List.Sums.{sum_by-cons}
@@ -86,8 +87,10 @@ delivered_are_received n cap machine c m l h inside =
     found_once (is_for m.proc) out m (apart.apart m.proc) inside (eq-eqb m.proc m.proc refl) in
     let chips : chip_at (machine_after_delivery n machine).chips c ≡ chip_after_delivery out chip =
     get_or-each_below (2 ^ n) (λ b. chip_after_delivery (delivered_in machine b) (chip_at machine.chips b)) c [] l in
-    let logs : list_at (machine_after_delivery n machine).logs c ≡ list_at machine.logs c ++ map (λ q. Delivered q c) out =
-    get_or-each_below (2 ^ n) (λ b. list_at machine.logs b ++ map (λ q. Delivered q b) (delivered_in machine b)) c [] l in
+    let logs : list_at (machine_after_delivery n machine).logs c
+    ≡ list_at machine.logs c ++ map (λ q. Delivered q c) out =
+    get_or-each_below (2 ^ n)
+    (λ b. list_at machine.logs b ++ map (λ q. Delivered q b) (delivered_in machine b)) c [] l in
     record {
       stood = stands;
       arrived = eqb-true m.rel 0 home;

@@ -1,5 +1,6 @@
 -- Where the message of a tag is found, there it is.
-use Rattle.std.proofs.Common.{◌≡◌, ℕ, zero, suc, ◌+◌, ◌<◌, ◌≤◌, ◌^◌, Bool, true, false, List, [], ◌∷◌, ◌++◌, Option, Some, None, refl, sym, ◌∙◌, ap, ⊎_elim, arith}
+use Rattle.std.proofs.Common.{◌≡◌, ℕ, zero, suc, ◌+◌, ◌<◌, ◌≤◌, ◌^◌, Bool, true, false, List, [], ◌∷◌, ◌++◌}
+use Rattle.std.proofs.Common.{Option, Some, None, refl, sym, ◌∙◌, ap, ⊎_elim, arith}
 use Rattle.std.proofs.lemmas.Bool.{cases_Bool, cases_eq, or_parts}
 use Rattle.std.proofs.lemmas.List.Elements.{All-nil, All-cons}
 use Rattle.std.proofs.lemmas.List.Folds.{Any-from_list_any}
@@ -8,7 +9,8 @@ use Rattle.cm_bits.specs.declared.place.Place.{Place}
 use Rattle.cm_model.specs.declared.message.Tag.{Tag}
 use Rattle.cm_model.specs.Array.{list_at}
 use Rattle.cm_model.specs.Machine.{Machine}
-use Rattle.cm_model.specs.Found.{same_tag, router_of, delivery_place, delivery_places, found_from, found_in, IsWhereabouts}
+use Rattle.cm_model.specs.Found.{same_tag, router_of, delivery_place, delivery_places}
+use Rattle.cm_model.specs.Found.{found_from, found_in, IsWhereabouts}
 
 -- ---- the routers
 
@@ -104,8 +106,7 @@ found_there n machine tag None (place ∷ places) h e =
     in (
       found.0,
       omega (arith, found.1),
-      first_of_filter (delivery_place tag) (list_at machine.logs found.0) place found.2
-          found.3,
+      first_of_filter (delivery_place tag) (list_at machine.logs found.0) place found.2 found.3,
     )
 found_there n machine tag None [] h e =
     λ c l. record {

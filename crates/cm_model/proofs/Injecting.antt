@@ -1,5 +1,6 @@
 -- Injection, on the set and by the buffers.
-use Rattle.std.proofs.Common.{◌≡◌, ℕ, zero, suc, ◌+◌, ◌-◌, ◌<◌, ◌≤◌, ◌^◌, Bool, true, false, min, List, [], ◌∷◌, ◌++◌, length, map, take, refl, sym, ◌∙◌, ap, subst, ⊎_elim, arith}
+use Rattle.std.proofs.Common.{◌≡◌, ℕ, zero, suc, ◌+◌, ◌-◌, ◌<◌, ◌≤◌, ◌^◌, Bool, true, false, min, List, [], ◌∷◌, ◌++◌}
+use Rattle.std.proofs.Common.{length, map, take, refl, sym, ◌∙◌, ap, subst, ⊎_elim, arith}
 use Rattle.std.proofs.lemmas.Bool.{cases_Bool, cases_lt, eq-eqb}
 use Rattle.std.proofs.lemmas.Bool.Decides.{nat_tests}
 use Rattle.std.proofs.lemmas.List.{map-append, append-nil}
@@ -14,7 +15,8 @@ use Rattle.cm_model.specs.Letters.{senders, senders_taken, message_sent, message
 use Rattle.cm_model.specs.Cycle.{State, taken_at, new_record, new_records}
 use Rattle.cm_model.proofs.Order.{AllBefore, AllAfter, IsRising, Precedes, in_order-append}
 use Rattle.cm_model.proofs.Crossing.{AllBefore-filter, AllBefore-in_order}
-use Rattle.cm_model.proofs.Readiness.{IsReady, AllAt, AllBefore-later, AllBefore-append, AllBefore-flat_map, IsRising-append, gathered, gathered_past}
+use Rattle.cm_model.proofs.Readiness.{IsReady, AllAt, AllBefore-later, AllBefore-append, AllBefore-flat_map}
+use Rattle.cm_model.proofs.Readiness.{IsRising-append, gathered, gathered_past}
 
 -- ---- the taken rise, and are processors of a chip
 

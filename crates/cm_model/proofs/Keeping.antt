@@ -15,7 +15,9 @@ use Rattle.cm_model.specs.Array.{each_chip, chip_at, incoming, after_nano, list_
 use Rattle.cm_model.specs.Letters.{chip_after_injection, chip_after_delivery, can_receive}
 use Rattle.cm_model.specs.Steps.{Step, Instruct, Look, Inject, Cross, Deliver, IsStep, steps_of}
 use Rattle.cm_model.specs.Machine.{Machine, run_of}
-use Rattle.cm_model.specs.Buffers.{taken_in, sent_in, machine_after_injection, outgoing, buffer_after_dimension, machine_after_dimension, kept, delivered_in, machine_after_delivery, after_step, after_steps, after_act, after_acts}
+use Rattle.cm_model.specs.Buffers.{taken_in, sent_in, machine_after_injection, outgoing, buffer_after_dimension}
+use Rattle.cm_model.specs.Buffers.{machine_after_dimension, kept, delivered_in, machine_after_delivery, after_step}
+use Rattle.cm_model.specs.Buffers.{after_steps, after_act, after_acts}
 use Rattle.cm_model.specs.Account.{account, all_injected, HasLines}
 use Rattle.cm_model.specs.Keeping.{IsMessage, IsEventOf, BornBefore, HasTagsOnce, IsSound, IsMachine}
 use Rattle.cm_model.proofs.Each.{length-each_from, get_or-each_below}
@@ -26,7 +28,8 @@ use Rattle.cm_model.proofs.Rooms.{HasRoom-after_injection, HasRoom-after_dimensi
 use Rattle.cm_model.proofs.Accounting.{AreSteps, AreSteps-act, injected_stand_in_the_account}
 use Rattle.cm_model.proofs.Tags.{tags_stay_once, births_stay_before}
 use Rattle.cm_model.proofs.Wholes.{IsChip-after, IsChip-after_injection, IsChip-after_delivery}
-use Rattle.cm_model.proofs.Messages.{AllMessages-sent, AllMessages-after_dimension, AllMessages-kept, AllEvents-sent, AllEvents-delivered}
+use Rattle.cm_model.proofs.Messages.{AllMessages-sent, AllMessages-after_dimension, AllMessages-kept}
+use Rattle.cm_model.proofs.Messages.{AllEvents-sent, AllEvents-delivered}
 
 -- chips that are made one by one
 made_whole : (n : ℕ) (f : ℕ → List Processor) → ((c : ℕ) → c < 2 ^ n → IsChip (f c)) → (c : ℕ) → c < 2 ^ n

@@ -1,5 +1,7 @@
 -- Who leaves a chip: by since in the set, and by place in the buffer.
-use Rattle.std.proofs.Common.{◌≡◌, ℕ, zero, suc, ◌+◌, ◌-◌, ◌<◌, ◌≤◌, ◌^◌, Bool, true, false, not, eqb, ltb, List, [], ◌∷◌, ◌++◌, length, take, drop, map, Option, Some, None, refl, sym, ◌∙◌, ap, subst, ⊎_elim, arith}
+use Rattle.std.proofs.Common.{◌≡◌, ℕ, zero, suc, ◌+◌, ◌-◌, ◌<◌, ◌≤◌, ◌^◌, Bool, true, false, not, eqb, ltb}
+use Rattle.std.proofs.Common.{List, [], ◌∷◌, ◌++◌, length, take, drop, map, Option, Some, None, refl, sym, ◌∙◌, ap}
+use Rattle.std.proofs.Common.{subst, ⊎_elim, arith}
 use Rattle.std.proofs.lemmas.Bool.{cases_Bool, cond_both, ltb-true, ltb-false, eqb-true}
 use Rattle.std.proofs.lemmas.List.{length-map, map-append, take-map, drop-map, take_all, drop_all, append-nil}
 use Rattle.std.proofs.lemmas.List.Folds.{find_at}
@@ -7,10 +9,13 @@ use Rattle.std.proofs.lemmas.Option.{slice_get_past, slice_get-map, same_Some}
 use Rattle.std.specs.Prelude.{bit_xor}
 use Rattle.std.specs.List.{filter, find, position, position_or_len, slice_get, remove}
 use Rattle.std.specs.Option.{option_or, option_map, option_to_list}
-use Rattle.cm_model.specs.Router.{Since, Standing, is_at, is_before, same_since, standing_at, has_to_cross, crossing, earliest, referred, leaver, is_since, leaves, message_across, record_across, after_dimension}
+use Rattle.cm_model.specs.Router.{Since, Standing, is_at, is_before, same_since, standing_at, has_to_cross, crossing}
+use Rattle.cm_model.specs.Router.{earliest, referred, leaver, is_since, leaves}
+use Rattle.cm_model.specs.Router.{message_across, record_across, after_dimension}
 use Rattle.cm_model.specs.Order.{in_order, queue, messages_of, buffer}
 use Rattle.cm_model.specs.Buffers.{leaving_place, referred_place, element_at, without, outgoing, buffer_after_dimension}
-use Rattle.cm_model.proofs.Order.{AllAfter, AllBefore, IsRising, first_of_list, last_of_list, earliest_is, latest_is, filter-in_order, length-in_order, same_itself, same_not_before, same_not_after}
+use Rattle.cm_model.proofs.Order.{AllAfter, AllBefore, IsRising, first_of_list, last_of_list, earliest_is, latest_is}
+use Rattle.cm_model.proofs.Order.{filter-in_order, length-in_order, same_itself, same_not_before, same_not_after}
 use Rattle.cm_model.proofs.Crossing.{comers, time_across, queue-crossed}
 
 -- ---- places in any list

@@ -1,5 +1,6 @@
 -- Every step keeps the messages of a cube within it.
-use Rattle.std.proofs.Common.{◌≡◌, ℕ, zero, suc, ◌*◌, ◌<◌, ◌≤◌, ◌^◌, Bool, true, false, not, ◌&&◌, List, [], ◌∷◌, length, map, take, drop, Option, Some, None, refl, ⊎_elim, arith}
+use Rattle.std.proofs.Common.{◌≡◌, ℕ, zero, suc, ◌*◌, ◌<◌, ◌≤◌, ◌^◌, Bool, true, false, not, ◌&&◌, List, [], ◌∷◌}
+use Rattle.std.proofs.Common.{length, map, take, drop, Option, Some, None, refl, ⊎_elim, arith}
 use Rattle.std.proofs.lemmas.Bool.{cases_Bool, and_parts, eqb-true}
 use Rattle.std.proofs.lemmas.List.{length-take}
 use Rattle.std.proofs.lemmas.List.Elements.{All-nil, All-cons, All-head, All-tail, All-append, All-take, All-drop}
@@ -16,7 +17,8 @@ use Rattle.cm_model.specs.Processor.{Processor, value, field_value}
 use Rattle.cm_model.specs.Chip.{processor_at}
 use Rattle.cm_model.specs.Router.{message_across}
 use Rattle.cm_model.specs.Letters.{message_sent, messages_sent, has_arrived, is_among}
-use Rattle.cm_model.specs.Buffers.{leaving_place, element_at, without, outgoing, buffer_after_dimension, is_accepted, arrived_for, delivered, kept}
+use Rattle.cm_model.specs.Buffers.{leaving_place, element_at, without, outgoing, buffer_after_dimension, is_accepted}
+use Rattle.cm_model.specs.Buffers.{arrived_for, delivered, kept}
 use Rattle.cm_model.specs.Keeping.{IsMessage, IsEventOf}
 use Rattle.cm_model.proofs.Flips.{across_below}
 use Rattle.cm_model.proofs.Injecting.{AllBelow}

@@ -1,19 +1,24 @@
 -- A run at each of its steps: the set and the buffers go on telling one machine.
-use Rattle.std.proofs.Common.{◌≡◌, ℕ, zero, suc, ◌+◌, ◌-◌, ◌<◌, ◌≤◌, ◌^◌, List, [], ◌∷◌, ◌++◌, length, map, take, refl, sym, ◌∙◌, ap, subst, ⊎_elim, arith}
+use Rattle.std.proofs.Common.{◌≡◌, ℕ, zero, suc, ◌+◌, ◌-◌, ◌<◌, ◌≤◌, ◌^◌, List, [], ◌∷◌, ◌++◌, length, map, take, refl}
+use Rattle.std.proofs.Common.{sym, ◌∙◌, ap, subst, ⊎_elim, arith}
 use Rattle.std.proofs.lemmas.Bool.{cases_lt}
 use Rattle.std.proofs.lemmas.List.{map-append, take-append-le}
 use Rattle.cm_model.specs.declared.act.Act.{Act}
 use Rattle.cm_model.specs.declared.act.Act.TheVariants as act
-use Rattle.cm_model.specs.Steps.{Step, Cross, Deliver, steps_of, all_steps, Phase, phases_of, phases_from, phases, steps_in}
+use Rattle.cm_model.specs.Steps.{Step, Cross, Deliver, steps_of, all_steps, Phase, phases_of}
+use Rattle.cm_model.specs.Steps.{phases_from, phases, steps_in}
 use Rattle.cm_model.specs.Cycle.{State, after_injection, after_delivery, state_after, state_after_all}
 use Rattle.cm_model.specs.Order.{queue}
 use Rattle.cm_model.specs.Machine.{Machine, opened, closed, run_of}
-use Rattle.cm_model.specs.Buffers.{machine_after_injection, machine_after_delivery, after_step, after_steps, after_act, after_acts}
+use Rattle.cm_model.specs.Buffers.{machine_after_injection, machine_after_delivery, after_step, after_steps}
+use Rattle.cm_model.specs.Buffers.{after_act, after_acts}
 use Rattle.cm_model.specs.Keeping.{HasRoom}
 use Rattle.cm_model.proofs.Order.{IsRising}
 use Rattle.cm_model.proofs.Opening.{IsReady-opened}
 use Rattle.cm_model.proofs.Rooms.{HasRoom-after_step}
-use Rattle.cm_model.proofs.Runs.{run_of-acted, crossings, IsDue, IsRested, one_crossing, after_injection_due, after_delivery_rested, after_act_rested, opened_rested, state_after_all-append, after_steps-append}
+use Rattle.cm_model.proofs.Runs.{run_of-acted, crossings, IsDue, IsRested, one_crossing, after_injection_due}
+use Rattle.cm_model.proofs.Runs.{after_delivery_rested, after_act_rested, opened_rested}
+use Rattle.cm_model.proofs.Runs.{state_after_all-append, after_steps-append}
 use Rattle.cm_model.proofs.Accounting.{AreSteps, AreSteps-all}
 
 -- ---- a beginning of a list
@@ -46,9 +51,11 @@ part_of_crossings : (n cap a len k : ℕ) (state : State) (machine : Machine) �
     → AreOne n cap state machine (take k (crossings a len ++ Deliver ∷ []))
 part_of_crossings n cap a len zero state machine h due = one-due n a state machine due
 part_of_crossings n cap a zero (suc zero) state machine h due =
-    one-rested n (after_delivery n state) (machine_after_delivery n machine) (after_delivery_rested n a state machine due)
+    one-rested n (after_delivery n state) (machine_after_delivery n machine)
+    (after_delivery_rested n a state machine due)
 part_of_crossings n cap a zero (suc (suc k)) state machine h due =
-    one-rested n (after_delivery n state) (machine_after_delivery n machine) (after_delivery_rested n a state machine due)
+    one-rested n (after_delivery n state) (machine_after_delivery n machine)
+    (after_delivery_rested n a state machine due)
 part_of_crossings n cap a (suc len) (suc k) state machine h due =
     part_of_crossings n cap (a + 1) len k (state_after n cap state (Cross a)) (after_step n cap machine (Cross a))
     (omega arith) (one_crossing n cap a state machine (omega arith) due)

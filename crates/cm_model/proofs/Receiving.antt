@@ -1,5 +1,6 @@
 -- What is delivered to a processor reads back from its memory.
-use Rattle.std.proofs.Common.{◌≡◌, ℕ, ◌+◌, ◌%◌, ◌<◌, ◌≤◌, ◌^◌, Bool, true, false, List, ◌++◌, length, take, drop, Option, Some, sym, ◌∙◌, ap, subst, arith}
+use Rattle.std.proofs.Common.{◌≡◌, ℕ, ◌+◌, ◌%◌, ◌<◌, ◌≤◌, ◌^◌, Bool, true, false, List, ◌++◌, length, take, drop}
+use Rattle.std.proofs.Common.{Option, Some, sym, ◌∙◌, ap, subst, arith}
 use Rattle.std.proofs.lemmas.List.{length-take-le, drop_at, take_at, get_or-set_same}
 use Rattle.std.proofs.Math.Nat.{mod-eq_of_lt, div-one}
 use Rattle.std.specs.List.{find}
@@ -8,7 +9,8 @@ use Rattle.cm_model.specs.declared.message.Message.{Message}
 use Rattle.cm_model.specs.Processor.{Processor, RECV, value, field_value}
 use Rattle.cm_model.specs.Chip.{processor_at, no_processor}
 use Rattle.cm_model.specs.Whole.{IsProcessor, IsChip}
-use Rattle.cm_model.specs.Letters.{is_for, bits_of, with_field, processor_after_delivery, chip_after_delivery, HasReceived}
+use Rattle.cm_model.specs.Letters.{is_for, bits_of, with_field, processor_after_delivery}
+use Rattle.cm_model.specs.Letters.{chip_after_delivery, HasReceived}
 use Rattle.cm_model.proofs.Each.{get_or-each_below}
 use Rattle.cm_model.proofs.Values.{value-bits}
 use Rattle.cm_model.proofs.Wholes.{length-bits_of}

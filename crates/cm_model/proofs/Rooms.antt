@@ -1,5 +1,6 @@
 -- No buffer overflows: injection, a dimension step and delivery keep room.
-use Rattle.std.proofs.Common.{◌≡◌, ℕ, ◌+◌, ◌-◌, ◌<◌, ◌≤◌, ◌^◌, min, Bool, true, false, eqb, ltb, List, [], ◌∷◌, ◌++◌, length, Option, Some, None, refl, sym, ap, subst, ⊎_elim, arith}
+use Rattle.std.proofs.Common.{◌≡◌, ℕ, ◌+◌, ◌-◌, ◌<◌, ◌≤◌, ◌^◌, min, Bool, true, false, eqb, ltb, List, [], ◌∷◌, ◌++◌}
+use Rattle.std.proofs.Common.{length, Option, Some, None, refl, sym, ap, subst, ⊎_elim, arith}
 use Rattle.std.proofs.lemmas.Bool.{cases_Bool, cases_lt, cond_both, ltb-true, eqb-false}
 use Rattle.std.proofs.lemmas.List.{length-append, length-map, length-take, nil_from_length}
 use Rattle.std.proofs.lemmas.List.Edits.{length-remove}
@@ -13,7 +14,9 @@ use Rattle.cm_model.specs.Router.{has_to_cross, message_across}
 use Rattle.cm_model.specs.Letters.{senders, senders_taken, message_sent, can_receive}
 use Rattle.cm_model.specs.Steps.{Step, Instruct, Look, Inject, Cross, Deliver, IsStep}
 use Rattle.cm_model.specs.Machine.{Machine}
-use Rattle.cm_model.specs.Buffers.{taken_in, sent_in, machine_after_injection, leaving_place, referred_place, element_at, without, outgoing, buffer_after_dimension, machine_after_dimension, is_accepted, arrived_for, kept, machine_after_delivery, after_step}
+use Rattle.cm_model.specs.Buffers.{taken_in, sent_in, machine_after_injection, leaving_place, referred_place}
+use Rattle.cm_model.specs.Buffers.{element_at, without, outgoing, buffer_after_dimension, machine_after_dimension}
+use Rattle.cm_model.specs.Buffers.{is_accepted, arrived_for, kept, machine_after_delivery, after_step}
 use Rattle.cm_model.specs.Keeping.{HasRoom}
 use Rattle.cm_model.proofs.Each.{get_or-each_below}
 use Rattle.cm_model.proofs.Flips.{across_below}

@@ -1,5 +1,6 @@
 -- A run is the fold of steps told by the buffers alone; so it may be cut in two.
-use Rattle.std.proofs.Common.{◌≡◌, ℕ, zero, suc, ◌+◌, ◌<◌, ◌≤◌, ◌^◌, not, List, [], ◌∷◌, ◌++◌, length, map, refl, sym, ◌∙◌, ap, subst, arith}
+use Rattle.std.proofs.Common.{◌≡◌, ℕ, zero, suc, ◌+◌, ◌<◌, ◌≤◌, ◌^◌, not, List, [], ◌∷◌, ◌++◌, length, map, refl, sym}
+use Rattle.std.proofs.Common.{◌∙◌, ap, subst, arith}
 use Rattle.std.proofs.lemmas.List.{length-map}
 use Rattle.std.proofs.lemmas.List.Concat.{flat_map-append}
 use Rattle.std.proofs.lemmas.Bool.Decides.{nat_tests}
@@ -13,9 +14,12 @@ use Rattle.cm_model.specs.Router.{Since, Standing, standing_at, after_dimension}
 use Rattle.cm_model.specs.Order.{queue, buffer}
 use Rattle.cm_model.specs.Letters.{senders_taken, messages_sent, chip_after_injection, chip_after_delivery, can_receive}
 use Rattle.cm_model.specs.Steps.{Step, Instruct, Cross, Deliver, steps_of, all_steps}
-use Rattle.cm_model.specs.Cycle.{State, taken_at, after_injection, delivered_at, after_delivery, is_delivered, state_after, state_after_all}
+use Rattle.cm_model.specs.Cycle.{State, taken_at, after_injection, delivered_at, after_delivery}
+use Rattle.cm_model.specs.Cycle.{is_delivered, state_after, state_after_all}
 use Rattle.cm_model.specs.Machine.{Machine, opened, closed, run_of}
-use Rattle.cm_model.specs.Buffers.{taken_in, sent_in, machine_after_injection, outgoing, buffer_after_dimension, machine_after_dimension, delivered, kept, delivered_in, machine_after_delivery, after_step, after_steps, after_act, after_acts}
+use Rattle.cm_model.specs.Buffers.{taken_in, sent_in, machine_after_injection, outgoing, buffer_after_dimension}
+use Rattle.cm_model.specs.Buffers.{machine_after_dimension, delivered, kept, delivered_in, machine_after_delivery}
+use Rattle.cm_model.specs.Buffers.{after_step, after_steps, after_act, after_acts}
 use Rattle.cm_model.proofs.Each.{length-each_from, same_each_below}
 use Rattle.cm_model.proofs.Flips.{across_below}
 use Rattle.cm_model.proofs.Order.{IsRising, length-in_order}

@@ -20,7 +20,8 @@ put_holds : (r : Standing) (xs : List Standing) → Contains (put r xs) r
 put_holds r [] = contains_first r []
 put_holds r (x ∷ xs) =
     ⊎_elim (λ (e : is_before x.since r.since ≡ true). rw e (contains_later x r (put r xs) (put_holds r xs)))
-    (λ (e : is_before x.since r.since ≡ false). rw e (contains_first r (x ∷ xs))) (cases_Bool (is_before x.since r.since))
+    (λ (e : is_before x.since r.since ≡ false). rw e (contains_first r (x ∷ xs)))
+    (cases_Bool (is_before x.since r.since))
 
 put_keeps : (r q : Standing) (xs : List Standing) → Contains xs q → Contains (put r xs) q
 put_keeps r q [] h = absurd (omega (arith, h.1))

@@ -1,6 +1,8 @@
 -- Tags and births over a whole run: each new tag has the counter for its birth, and its own origin.
-use Rattle.std.proofs.Common.{◌≡◌, ℕ, zero, suc, ◌+◌, ◌<◌, ◌≤◌, ◌^◌, Bool, true, false, not, cond, eqb, ltb, ◌&&◌, List, [], ◌∷◌, length, refl, sym, ◌∙◌, ap, subst, ⊎_elim, arith}
-use Rattle.std.proofs.lemmas.Bool.{cases_Bool, cases_eq, eqb-true, eq-eqb, ne_eqb, lt-ltb, le-ltb, ltb-true, and_parts, and_right}
+use Rattle.std.proofs.Common.{◌≡◌, ℕ, zero, suc, ◌+◌, ◌<◌, ◌≤◌, ◌^◌, Bool, true, false, not, cond, eqb, ltb, ◌&&◌}
+use Rattle.std.proofs.Common.{List, [], ◌∷◌, length, refl, sym, ◌∙◌, ap, subst, ⊎_elim, arith}
+use Rattle.std.proofs.lemmas.Bool.{cases_Bool, cases_eq, eqb-true, eq-eqb, ne_eqb, lt-ltb, le-ltb}
+use Rattle.std.proofs.lemmas.Bool.{ltb-true, and_parts, and_right}
 use Rattle.std.proofs.lemmas.Bool.Decides.{nat_tests}
 use Rattle.std.proofs.lemmas.List.Elements.{All-head, All-tail, All-cons, All-nil}
 use Rattle.std.proofs.lemmas.List.Sums.{sum_by-cons, sum_by-le-sum_by}
@@ -22,8 +24,10 @@ use Rattle.cm_model.specs.Keeping.{BornBefore, HasGoodTags, HasTagsOnce}
 use Rattle.cm_model.proofs.Injecting.{AllAbove, IsAscending, IsAscending-taken}
 use Rattle.cm_model.proofs.Runs.{crossings, state_after_all-append}
 use Rattle.cm_model.proofs.Counting.{AllInCube, sum_by-none, sum_by-past}
-use Rattle.cm_model.proofs.Conserving.{one, chips_of, triple_of, delivered_count, amount, fresh_count, amount-after_injection, standing_count-after_dimension, amount-after_delivery}
-use Rattle.cm_model.proofs.Accounting.{AreSteps-crossings, AreSteps-act, state_after_all_follows, state_left, AllInCube-opened, account-opened, account-run_of}
+use Rattle.cm_model.proofs.Conserving.{one, chips_of, triple_of, delivered_count, amount, fresh_count}
+use Rattle.cm_model.proofs.Conserving.{amount-after_injection, standing_count-after_dimension, amount-after_delivery}
+use Rattle.cm_model.proofs.Accounting.{AreSteps-crossings, AreSteps-act, state_after_all_follows, state_left}
+use Rattle.cm_model.proofs.Accounting.{AllInCube-opened, account-opened, account-run_of}
 
 -- ---- what a petit cycle adds to the account
 
@@ -110,8 +114,7 @@ one_in_range k a (suc len) =
     omega (
       arith,
       sum_by-cons (λ x. cond (eqb k x) 1 0) a (range_with_len (a + 1) len),
-      sum_by-past (λ x. 1) k (a + 1)
-          len (omega arith),
+      sum_by-past (λ x. 1) k (a + 1) len (omega arith),
     ))
     (λ (e : k ≡ a → ⊥).
     let other : ◌≡◌ {A = ℕ} (cond (eqb k a) 1 0) 0 = rw (ne_eqb k a e) refl in
@@ -174,8 +177,7 @@ sent_here tag n cap state c =
     let away : eqb c tag.chip ≡ false = ne_eqb c tag.chip (λ s. e (sym s)) in
     omega (
       arith,
-      sum_by-none (λ q. one (has_tag tag) (sent_line n state c q)) (taken_at cap state c)
-          (λ q. rw away refl),
+      sum_by-none (λ q. one (has_tag tag) (sent_line n state c q)) (taken_at cap state c) (λ q. rw away refl),
     ))
     (cases_eq tag.chip c)
 
@@ -225,8 +227,7 @@ cycle_once n cap state tag h =
       arith,
       amount-cycle (has_tag tag) n cap state h.cube,
       h.born,
-      amount_le (has_tag tag) (is_late state.clock)
-          n state (λ t. tag_is_late tag state.clock t e),
+      amount_le (has_tag tag) (is_late state.clock) n state (λ t. tag_is_late tag state.clock t e),
       fresh_once tag n cap state,
     ))
     (λ (e : tag.birth ≡ state.clock → ⊥).
@@ -234,8 +235,7 @@ cycle_once n cap state tag h =
       arith,
       amount-cycle (has_tag tag) n cap state h.cube,
       h.once tag,
-      fresh_none (has_tag tag) n cap state
-          (λ c q. other_birth tag state.clock (sent_line n state c q) e refl),
+      fresh_none (has_tag tag) n cap state (λ c q. other_birth tag state.clock (sent_line n state c q) e refl),
     ))
     (cases_eq tag.birth state.clock)
 
@@ -290,8 +290,7 @@ none_late clock (x ∷ xs) h =
     omega (
       arith,
       sum_by-cons (one (is_late clock)) x xs,
-      none_late clock xs
-          (All-tail (λ triple. triple.tag.birth < clock) x xs h),
+      none_late clock xs (All-tail (λ triple. triple.tag.birth < clock) x xs h),
     )
 
 all_early : (clock : ℕ) (xs : List Triple) → count_by (is_late clock) xs ≡ 0

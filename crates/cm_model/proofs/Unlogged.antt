@@ -1,5 +1,6 @@
 -- Tags and births of a machine without logs: its account is the messages in its buffers.
-use Rattle.std.proofs.Common.{◌≡◌, ℕ, zero, suc, ◌+◌, ◌<◌, ◌≤◌, ◌^◌, ◌&&◌, ◌==◌, Bool, true, false, cond, List, [], ◌∷◌, ◌++◌, length, map, refl, sym, ap, ◌∙◌, subst, ⊎_elim, arith}
+use Rattle.std.proofs.Common.{◌≡◌, ℕ, zero, suc, ◌+◌, ◌<◌, ◌≤◌, ◌^◌, ◌&&◌, ◌==◌, Bool, true, false, cond, List, [], ◌∷◌}
+use Rattle.std.proofs.Common.{◌++◌, length, map, refl, sym, ap, ◌∙◌, subst, ⊎_elim, arith}
 use Rattle.std.proofs.lemmas.Bool.{cases_Bool, and_parts, and_from, eqb-true, eq-eqb, or_parts, or_cases}
 use Rattle.std.proofs.lemmas.List.{append-nil}
 use Rattle.std.proofs.lemmas.List.Elements.{All-nil, All-head, All-tail, All-cons, All-append}
@@ -13,7 +14,8 @@ use Rattle.cm_model.specs.Each.{each_from}
 use Rattle.cm_model.specs.Array.{list_at}
 use Rattle.cm_model.specs.Machine.{Machine}
 use Rattle.cm_model.specs.Found.{same_tag}
-use Rattle.cm_model.specs.Account.{Triple, standing_triple, delivered_triple, injected_triple, account_at, account, all_injected, HasLines}
+use Rattle.cm_model.specs.Account.{Triple, standing_triple, delivered_triple, injected_triple, account_at}
+use Rattle.cm_model.specs.Account.{account, all_injected, HasLines}
 use Rattle.cm_model.specs.Keeping.{BornBefore, HasTagsOnce}
 use Rattle.cm_model.specs.Unlogged.{IsUnlogged, standing_messages, has_tag_twice}
 use Rattle.cm_model.proofs.Each.{get_or-each_below, is_each}

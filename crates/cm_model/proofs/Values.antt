@@ -1,5 +1,6 @@
 -- Numbers by their bits: a word is the value of its bits, and a plane is told by them.
-use Rattle.std.proofs.Common.{◌≡◌, ℕ, ◌+◌, ◌*◌, ◌/◌, ◌%◌, ◌^◌, ◌<◌, zero, suc, Bool, map, ◌==◌, refl, sym, ap, ◌∙◌, arith, div-one, mod-eq_of_lt, add-one, lit<, false, pow-suc, pow_pos}
+use Rattle.std.proofs.Common.{◌≡◌, ℕ, ◌+◌, ◌*◌, ◌/◌, ◌%◌, ◌^◌, ◌<◌, zero, suc, Bool, map, ◌==◌, refl, sym, ap, ◌∙◌}
+use Rattle.std.proofs.Common.{arith, div-one, mod-eq_of_lt, add-one, lit<, false, pow-suc, pow_pos}
 use Rattle.std.proofs.Math.Nat.{div-div-eq-div-mul, mod-one}
 use Rattle.std.proofs.Math.Arith.{mod-mul}
 use Rattle.std.specs.Int.{bit_at}

@@ -1,5 +1,6 @@
 -- Every step keeps a chip whole: sixteen processors with all their bits and flags, and flag ZERO at 0.
-use Rattle.std.proofs.Common.{◌≡◌, ℕ, ◌+◌, ◌<◌, ◌≤◌, Bool, true, false, eqb, List, ◌++◌, length, get_or, set, take, drop, Option, Some, None, refl, sym, ◌∙◌, subst, arith}
+use Rattle.std.proofs.Common.{◌≡◌, ℕ, ◌+◌, ◌<◌, ◌≤◌, Bool, true, false, eqb, List, ◌++◌, length, get_or, set, take}
+use Rattle.std.proofs.Common.{drop, Option, Some, None, refl, sym, ◌∙◌, subst, arith}
 use Rattle.std.proofs.lemmas.Bool.{cond_both, eqb-false}
 use Rattle.std.proofs.lemmas.List.{length-set, length-append, length-take, length-drop, get_or-set_other}
 use Rattle.std.proofs.lemmas.List.FromFn.{length-map-range_with_len}
@@ -14,7 +15,8 @@ use Rattle.cm_model.specs.Each.{each_from}
 use Rattle.cm_model.specs.Instruction.{holds, memory_output, flag_output, takes_incoming, flags_after, processor_after}
 use Rattle.cm_model.specs.Chip.{processor_at, no_processor, chip_after}
 use Rattle.cm_model.specs.Whole.{IsProcessor, IsChip}
-use Rattle.cm_model.specs.Letters.{is_among, is_for, bits_of, with_field, processor_after_injection, chip_after_injection, processor_after_delivery, chip_after_delivery}
+use Rattle.cm_model.specs.Letters.{is_among, is_for, bits_of, with_field, processor_after_injection}
+use Rattle.cm_model.specs.Letters.{chip_after_injection, processor_after_delivery, chip_after_delivery}
 use Rattle.cm_model.proofs.Each.{length-each_from, get_or-each_below}
 
 -- ---- flags

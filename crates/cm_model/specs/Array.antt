@@ -38,7 +38,8 @@ abbrev pub chain_output : Nano → List Processor → Option ℕ → Bool
 chain_output nano chip None = false
 chain_output nano chip (Some p) = flag_output nano (processor_at chip p)
 
--- the bit that comes in at a place: over NEWS the flag output of the place whose neighbour this is, over DAISY that of the predecessor
+-- the bit that comes in at a place: over NEWS the flag output of the place whose neighbour this is,
+-- over DAISY that of the predecessor
 unfoldable pub incoming : ℕ → Nano → Chips → ℕ → ℕ → Bool
 incoming n nano chips c p =
     if nano.write == NEWS

@@ -1,5 +1,6 @@
 -- The same steps told by the buffers alone, chip by chip: this is what a router's code keeps. Ours.
-use Rattle.std.specs.Prelude.{ℕ, ◌+◌, ◌-◌, ◌^◌, ◌==◌, ◌&&◌, Bool, not, List, [], ◌∷◌, ◌++◌, Option, Some, None, length, map, slice_get, bit_xor, if◌then◌else◌}
+use Rattle.std.specs.Prelude.{ℕ, ◌+◌, ◌-◌, ◌^◌, ◌==◌, ◌&&◌, Bool, not, List, [], ◌∷◌, ◌++◌, Option, Some, None, length}
+use Rattle.std.specs.Prelude.{map, slice_get, bit_xor, if◌then◌else◌}
 use Rattle.std.specs.List.{position, remove}
 use Rattle.std.specs.Option.{option_or, option_map, option_to_list}
 use Rattle.cm_model.specs.declared.act.Act.{Act}
@@ -7,7 +8,8 @@ use Rattle.cm_model.specs.declared.message.Message.{Message}
 use Rattle.cm_model.specs.declared.message.Event.TheVariants.{Injected, Delivered}
 use Rattle.cm_model.specs.Array.{each_chip, chip_at, after_nano, list_at}
 use Rattle.cm_model.specs.Router.{has_to_cross, message_across}
-use Rattle.cm_model.specs.Letters.{senders_taken, messages_sent, is_among, chip_after_injection, can_receive, has_arrived, chip_after_delivery}
+use Rattle.cm_model.specs.Letters.{senders_taken, messages_sent, is_among, chip_after_injection}
+use Rattle.cm_model.specs.Letters.{can_receive, has_arrived, chip_after_delivery}
 use Rattle.cm_model.specs.Steps.{Step, Instruct, Look, Inject, Cross, Deliver, steps_of}
 use Rattle.cm_model.specs.Machine.{Machine}
 

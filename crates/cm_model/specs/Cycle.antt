@@ -1,4 +1,5 @@
--- A machine while it runs, with the set of its standing messages, and the steps of a petit cycle: Hillis 1985; their limits are ours.
+-- A machine while it runs, with the set of its standing messages, and the steps of a petit cycle: Hillis 1985;
+-- their limits are ours.
 use Rattle.std.specs.Prelude.{ℕ, ◌+◌, ◌^◌, ◌&&◌, Bool, not, List, [], ◌∷◌, ◌++◌, length, map}
 use Rattle.std.specs.List.{filter, flat_map, list_any, range_with_len}
 use Rattle.cm_model.specs.declared.message.Message.{Message}
@@ -7,7 +8,8 @@ use Rattle.cm_model.specs.declared.message.Event.TheVariants.{Injected, Delivere
 use Rattle.cm_model.specs.Array.{Chips, each_chip, list_at, chip_at, after_nano}
 use Rattle.cm_model.specs.Router.{Standing, is_at, is_before, standing_at, after_dimension}
 use Rattle.cm_model.specs.Order.{in_order, messages_of}
-use Rattle.cm_model.specs.Letters.{senders_taken, message_sent, messages_sent, chip_after_injection, can_receive, has_arrived, is_for, chip_after_delivery}
+use Rattle.cm_model.specs.Letters.{senders_taken, message_sent, messages_sent, chip_after_injection, can_receive}
+use Rattle.cm_model.specs.Letters.{has_arrived, is_for, chip_after_delivery}
 use Rattle.cm_model.specs.Steps.{Step, Instruct, Look, Inject, Cross, Deliver}
 
 -- a machine while it runs: its messages are a set of records
@@ -71,7 +73,8 @@ unfoldable pub after_delivery : ℕ → State → State
 after_delivery n state = record {
   chips = each_chip n (λ c. chip_after_delivery (delivered_at state.chips state.standing c) (chip_at state.chips c));
   standing = filter (λ r. not (is_delivered state.chips state.standing r)) state.standing;
-  logs = each_chip n (λ c. list_at state.logs c ++ map (λ m. Delivered m c) (delivered_at state.chips state.standing c));
+  logs = each_chip n (λ c. list_at state.logs c
+      ++ map (λ m. Delivered m c) (delivered_at state.chips state.standing c));
   clock = state.clock + 1;
   cycle = state.cycle + 1;
 }

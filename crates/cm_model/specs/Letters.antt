@@ -1,5 +1,7 @@
--- What injection takes out of the memory of a chip's processors, and what delivery leaves there: where they stand is ours.
-use Rattle.std.specs.Prelude.{◌≡◌, ℕ, ◌≤◌, ◌+◌, ◌-◌, ◌^◌, ◌%◌, ◌==◌, ◌&&◌, Bool, true, false, not, List, ◌++◌, Option, Some, None, min, map, take, drop, slice_set, if◌then◌else◌}
+-- What injection takes out of the memory of a chip's processors, and what delivery leaves there:
+-- where they stand is ours.
+use Rattle.std.specs.Prelude.{◌≡◌, ℕ, ◌≤◌, ◌+◌, ◌-◌, ◌^◌, ◌%◌, ◌==◌, ◌&&◌, Bool, true, false, not, List, ◌++◌}
+use Rattle.std.specs.Prelude.{Option, Some, None, min, map, take, drop, slice_set, if◌then◌else◌}
 use Rattle.std.specs.List.{All, count_by, filter, find, list_any, range_with_len}
 use Rattle.cm_bits.specs.Bit.{bit}
 use Rattle.cm_model.specs.declared.letters.TheConstants.{SENT_REL, SENT_PROC, SENT_PAYLOAD, RECEIVED_PAYLOAD}

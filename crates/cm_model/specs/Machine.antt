@@ -61,7 +61,8 @@ abbrev pub machine_at : ℕ → ℕ → Machine → List Act → ℕ → Machine
 machine_at n cap machine acts count =
     closed n (state_after_all n cap (opened n machine) (take count (all_steps n acts)))
 
--- the machine after a list of acts, one after another, on a cube of n dimensions whose routers have room for cap messages each
+-- the machine after a list of acts, one after another, on a cube of n dimensions whose routers have room
+-- for cap messages each
 unfoldable pub run_of : ℕ → ℕ → Machine → List Act → Machine
 run_of n cap machine acts = closed n (state_after_all n cap (opened n machine) (all_steps n acts))
 

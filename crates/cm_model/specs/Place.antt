@@ -1,4 +1,5 @@
--- Places, their rows and columns on the NEWS grid, and their neighbours on its torus: Hillis 1985; the numbering is ours.
+-- Places, their rows and columns on the NEWS grid, and their neighbours on its torus: Hillis 1985;
+-- the numbering is ours.
 use Rattle.std.specs.Prelude.{ℕ, ◌+◌, ◌-◌, ◌*◌, ◌/◌, ◌%◌, ◌^◌, ◌==◌, Option, Some, None, if◌then◌else◌}
 use Rattle.cm_bits.specs.declared.place.Place.{Place}
 use Rattle.cm_bits.specs.declared.plane.Dir.{Dir}

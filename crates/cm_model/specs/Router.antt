@@ -1,5 +1,6 @@
 -- Standing messages, and how they cross the cube in a dimension step: Hillis 1985; which message goes first is ours.
-use Rattle.std.specs.Prelude.{ℕ, ◌+◌, ◌^◌, ◌==◌, ◌&&◌, ◌||◌, Bool, false, List, [], ◌∷◌, Option, Some, None, length, map, nat_lt, bit_xor, if◌then◌else◌}
+use Rattle.std.specs.Prelude.{ℕ, ◌+◌, ◌^◌, ◌==◌, ◌&&◌, ◌||◌, Bool, false, List, [], ◌∷◌, Option, Some, None, length}
+use Rattle.std.specs.Prelude.{map, nat_lt, bit_xor, if◌then◌else◌}
 use Rattle.std.specs.List.{filter}
 use Rattle.std.specs.Option.{option_or}
 use Rattle.cm_bits.specs.Bit.{bit}
@@ -69,7 +70,8 @@ has_to_cross d m = bit m.rel d
 abbrev pub crossing : ℕ → List Standing → List Standing
 crossing d set = filter (λ r. has_to_cross d r.message) set
 
--- who is referred at a chip where these stand, in routers with room for cap messages: at a full chip the latest, else nobody
+-- who is referred at a chip where these stand, in routers with room for cap messages:
+-- at a full chip the latest, else nobody
 abbrev pub referred : ℕ → List Standing → Option Standing
 referred cap here = if length here == cap then latest here else None
 

@@ -10,7 +10,8 @@ use Rattle.cm_model.specs.declared.message.Message.{Message}
 use Rattle.cm_model.specs.Processor.{Processor}
 use Rattle.cm_model.specs.Chip.{processor_at}
 use Rattle.cm_model.specs.Whole.{IsChip}
-use Rattle.cm_model.specs.Letters.{is_among, chip_after_injection, is_for, chip_after_delivery, IsAcknowledged, AreDeliveries, IsHeldBack, HasReceived}
+use Rattle.cm_model.specs.Letters.{is_among, chip_after_injection, is_for, chip_after_delivery}
+use Rattle.cm_model.specs.Letters.{IsAcknowledged, AreDeliveries, IsHeldBack, HasReceived}
 use Rattle.cm_model.specs.Steps.{Step, IsStep}
 use Rattle.cm_model.specs.Machine.{Machine}
 use Rattle.cm_model.specs.Buffers.{leaving_place, element_at, delivered, kept, after_step, after_act}
@@ -22,7 +23,8 @@ abbrev pub SendersAreAcknowledged : Type 0
 SendersAreAcknowledged = (taken : List ℕ) (chip : List Processor) (p : ℕ) → IsChip chip → p < 16 →
     IsAcknowledged (is_among p taken) (processor_at chip p) (processor_at (chip_after_injection taken chip) p)
 
--- who leaves is the one with the least since of those that have to cross, or is referred with the greatest, or is nobody
+-- who leaves is the one with the least since of those that have to cross, or is referred with the greatest,
+-- or is nobody
 abbrev pub LeaversHaveTheirSince : Type 0
 LeaversHaveTheirSince = (cap d c : ℕ) (set : List Standing) → IsLeaver cap d c set (leaver cap d c set)
 

@@ -1,7 +1,12 @@
 //! Laws over the definitions: what each function is named for holds, at every size of the machine.
 
-ghost use Rattle.cm_model.specs.Laws.{NeighboursLeadBack, MessagesAreFound, InjectedStandInTheAccount, BlankIsMachine, StepsAreToldByBuffers, RunsKeepRoom, RunsCanBeCut, RunsAreToldByBuffers, LogsOnlyGrow, AccountIsConserved, TagsStayApart, MachinesAreKept, RunsKeepMachines};
-ghost use Rattle.cm_model.specs.StepLaws.{SendersAreAcknowledged, DeliveriesAreApart, NobodyIsPassedOver, PayloadsAreReceived, LeaversHaveTheirSince, LeaversAreUnique, LeaversStandAtTheirPlace, TargetsAreKept, RoomIsKept, InstructionsKeepTheAccount};
+ghost use Rattle.cm_model.specs.Laws.{NeighboursLeadBack, MessagesAreFound, InjectedStandInTheAccount, BlankIsMachine};
+ghost use Rattle.cm_model.specs.Laws.{StepsAreToldByBuffers, RunsKeepRoom, RunsCanBeCut, RunsAreToldByBuffers};
+ghost use Rattle.cm_model.specs.Laws.{LogsOnlyGrow, AccountIsConserved, TagsStayApart};
+ghost use Rattle.cm_model.specs.Laws.{MachinesAreKept, RunsKeepMachines};
+ghost use Rattle.cm_model.specs.StepLaws.{SendersAreAcknowledged, DeliveriesAreApart, NobodyIsPassedOver, PayloadsAreReceived};
+ghost use Rattle.cm_model.specs.StepLaws.{LeaversHaveTheirSince, LeaversAreUnique, LeaversStandAtTheirPlace};
+ghost use Rattle.cm_model.specs.StepLaws.{TargetsAreKept, RoomIsKept, InstructionsKeepTheAccount};
 
 /// A step on the grid and one back end where they began.
 pub fn neighbours_lead_back()

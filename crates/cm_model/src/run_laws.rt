@@ -1,6 +1,7 @@
 //! Laws of a run at each of its steps: what each function is named for holds, at every size of the machine.
 
-ghost use Rattle.cm_model.specs.RunLaws.{SincesStayApart, RunsAreToldByPhases, MachinesAreSound, StepsKeepSoundness, DeliveredAreReceived};
+ghost use Rattle.cm_model.specs.RunLaws.{SincesStayApart, RunsAreToldByPhases, MachinesAreSound};
+ghost use Rattle.cm_model.specs.RunLaws.{StepsKeepSoundness, DeliveredAreReceived};
 
 /// At no step of a run have two messages at a chip come there at once, so who leaves is one and no other.
 pub fn sinces_stay_apart()

@@ -1,6 +1,8 @@
 -- What comes in at a band of whole rows of chips: which chips of it lead to one another, and where its edge is read.
-use Rattle.std.proofs.Common.{◌≡◌, ◌≢◌, ℕ, zero, suc, ◌+◌, ◌-◌, ◌*◌, ◌/◌, ◌%◌, ◌^◌, ◌<◌, ◌≤◌, ◌&&◌, ◌||◌, Bool, true, false, List, length}
-use Rattle.std.proofs.Common.{Some, None, not, ne_eqb, if◌then◌else◌, get_or, bit_and, nat_le, nat_lt, refl, sym, ap, ◌∙◌, subst, ⊎_elim}
+use Rattle.std.proofs.Common.{◌≡◌, ◌≢◌, ℕ, zero, suc, ◌+◌, ◌-◌, ◌*◌, ◌/◌, ◌%◌, ◌^◌, ◌<◌, ◌≤◌, ◌&&◌, ◌||◌}
+use Rattle.std.proofs.Common.{Bool, true, false, List, length}
+use Rattle.std.proofs.Common.{Some, None, not, ne_eqb, if◌then◌else◌, get_or, bit_and, nat_le, nat_lt, refl, sym, ap}
+use Rattle.std.proofs.Common.{◌∙◌, subst, ⊎_elim}
 use Rattle.std.proofs.Common.{arith}
 use Rattle.std.proofs.Math.Bool.{or-false}
 use Rattle.std.proofs.lemmas.Bool.{cases_lt}
@@ -15,7 +17,8 @@ use Rattle.cm_model.specs.Chip.{IsPlane, plane_bit}
 use Rattle.cm_model.specs.Laws.{IsPlace}
 use Rattle.cm_model.specs.Place.{chip_columns, column_of, source, opposite}
 use Rattle.cm_model.proofs.Each.{get_or-each_below}
-use Rattle.cm_model.proofs.Torus.{back-first, back-other, on-last, on-other, columns_some, chip_row-lt, chip_column-lt, chip-own}
+use Rattle.cm_model.proofs.Torus.{back-first, back-other, on-last, on-other, columns_some}
+use Rattle.cm_model.proofs.Torus.{chip_row-lt, chip_column-lt, chip-own}
 use Rattle.cm_model.proofs.Torus.{neighbours_lead_back}
 use Rattle.cm_news.specs.Bands.{AreRows, is_open, bits_of, bit_for, IsEntered, AreEntered}
 use Rattle.cm_news.specs.Moves.{is_entry, one_back, sender, at_edge, along, bit_of_place}
@@ -78,7 +81,8 @@ edge_bit edge k i there h =
 
 -- the low four bits of an edge come in
 pub entered : (dir : Dir) (own edge plane : ℕ)
-    → IsPlane plane (λ p. plane_bit own (sender dir p) || (if is_entry dir p then bit (bit_and edge 15) (along dir p) else false))
+    → IsPlane plane (λ p. plane_bit own (sender dir p)
+    || (if is_entry dir p then bit (bit_and edge 15) (along dir p) else false))
     → IsEntered dir own edge plane
 entered dir own edge plane is p h = is p h ∙ by (is_entry dir p) where
   by : (entry : Bool) → (plane_bit own (if entry then None else Some (one_back dir p))
@@ -92,14 +96,17 @@ joined_in_band : (n : ℕ) (dir : Dir) (first i j plane : ℕ) (planes edge : Li
     → i < length planes → j < length planes → chip_before n dir (first + i) ≡ first + j
     → IsJoined dir (get_or planes i 0) (get_or planes j 0) plane
     → IsPlane plane (λ p. bit_for n dir first planes edge (record { chip = first + i; proc = p }))
-joined_in_band n dir first i j plane planes edge there here inside before is p h = is p h ∙ by (is_entry dir p) refl where
-  by : (entry : Bool) → is_entry dir p ≡ entry
-      → (if entry then bit (get_or planes j 0) (at_edge dir (along dir p)) else bit (get_or planes i 0) (one_back dir p))
-      ≡ bit_for n dir first planes edge (record { chip = first + i; proc = p })
-  by true entry = sym (within_is n dir first (first + i) p j (at_edge dir (along dir p)) planes edge
-      (over_edge n dir (first + i) p there h entry ∙ (λ t. record { chip = before t; proc = at_edge dir (along dir p) })) inside)
-  by false entry = sym (within_is n dir first (first + i) p i (one_back dir p) planes edge
-      ((steps_are_the_torus n dir (first + i) p there h).inside entry) here)
+joined_in_band n dir first i j plane planes edge there here inside before is p h = is p h
+    ∙ by (is_entry dir p) refl where
+      by : (entry : Bool) → is_entry dir p ≡ entry
+          → (if entry then bit (get_or planes j 0) (at_edge dir (along dir p))
+          else bit (get_or planes i 0) (one_back dir p))
+          ≡ bit_for n dir first planes edge (record { chip = first + i; proc = p })
+      by true entry = sym (within_is n dir first (first + i) p j (at_edge dir (along dir p)) planes edge
+          (over_edge n dir (first + i) p there h entry
+          ∙ (λ t. record { chip = before t; proc = at_edge dir (along dir p) })) inside)
+      by false entry = sym (within_is n dir first (first + i) p i (one_back dir p) planes edge
+          ((steps_are_the_torus n dir (first + i) p there h).inside entry) here)
 
 -- and one that took in what stands at its place of the edge
 entered_in_band : (n : ℕ) (dir : Dir) (first i k plane : ℕ) (planes edge : List ℕ) → first + i < 2 ^ n
@@ -107,17 +114,19 @@ entered_in_band : (n : ℕ) (dir : Dir) (first i k plane : ℕ) (planes edge : L
     → ((p : ℕ) → column_of n (record { chip = first + i; proc = p }) ≡ 4 * k + along dir p)
     → IsEntered dir (get_or planes i 0) (get_or edge k 0) plane
     → IsPlane plane (λ p. bit_for n dir first planes edge (record { chip = first + i; proc = p }))
-entered_in_band n dir first i k plane planes edge there here wide out column is p h = is p h ∙ by (is_entry dir p) refl where
-  by : (entry : Bool) → is_entry dir p ≡ entry
-      → (if entry then bit (get_or edge k 0) (along dir p) else bit (get_or planes i 0) (one_back dir p))
-      ≡ bit_for n dir first planes edge (record { chip = first + i; proc = p })
-  by true entry =
-      sym (outside_is n dir first (first + i) p planes edge
-      (record { chip = chip_before n dir (first + i); proc = at_edge dir (along dir p) })
-      (over_edge n dir (first + i) p there h entry) out
-      ∙ ap (λ (x : ℕ). get_or (bits_of edge) x false) (column p) ∙ edge_bit edge k (along dir p) wide (along-lt dir p h))
-  by false entry = sym (within_is n dir first (first + i) p i (one_back dir p) planes edge
-      ((steps_are_the_torus n dir (first + i) p there h).inside entry) here)
+entered_in_band n dir first i k plane planes edge there here wide out column is p h = is p h
+    ∙ by (is_entry dir p) refl where
+      by : (entry : Bool) → is_entry dir p ≡ entry
+          → (if entry then bit (get_or edge k 0) (along dir p) else bit (get_or planes i 0) (one_back dir p))
+          ≡ bit_for n dir first planes edge (record { chip = first + i; proc = p })
+      by true entry =
+          sym (outside_is n dir first (first + i) p planes edge
+          (record { chip = chip_before n dir (first + i); proc = at_edge dir (along dir p) })
+          (over_edge n dir (first + i) p there h entry) out
+          ∙ ap (λ (x : ℕ). get_or (bits_of edge) x false) (column p)
+          ∙ edge_bit edge k (along dir p) wide (along-lt dir p h))
+      by false entry = sym (within_is n dir first (first + i) p i (one_back dir p) planes edge
+          ((steps_are_the_torus n dir (first + i) p there h).inside entry) here)
 
 -- ---- rows of chips
 
@@ -164,8 +173,8 @@ module _ (n c : ℕ) (there : c < 2 ^ n) where
       (sym (chip-own n c)) (total n) (chip_row-lt n c there) (chip_column-lt n c) past
 
 -- a band that is not all chips: its far rows lead out of it
-module _ (n first count i above rows : ℕ) (begin : first ≡ above * chip_columns n) (size : count ≡ rows * chip_columns n)
-    (fit : first + count ≤ 2 ^ n) (part : count ≢ 2 ^ n) (here : i < count) where
+module _ (n first count i above rows : ℕ) (begin : first ≡ above * chip_columns n)
+    (size : count ≡ rows * chip_columns n) (fit : first + count ≤ 2 ^ n) (part : count ≢ 2 ^ n) (here : i < count) where
   some_less : count + chip_columns n ≤ 2 ^ n
   some_less =
       let less : rows * chip_columns n < chip_rows n * chip_columns n = omega (arith, size, total n, fit, part) in
@@ -175,7 +184,8 @@ module _ (n first count i above rows : ℕ) (begin : first ≡ above * chip_colu
 
   width : chip_columns n ≤ count
   width =
-      let least : chip_columns n ≤ rows * chip_columns n = one_at_least rows (chip_columns n) (omega (arith, size, here)) in
+      let least : chip_columns n ≤ rows * chip_columns n =
+      one_at_least rows (chip_columns n) (omega (arith, size, here)) in
       omega (arith, least, size)
 
   north_out : count ≤ i + chip_columns n → is_among first count (chip_before n North (first + i)) ≡ false
@@ -185,7 +195,8 @@ module _ (n first count i above rows : ℕ) (begin : first ≡ above * chip_colu
       (λ (l : 2 ^ n ≤ first + i + chip_columns n). not_below first count (chip_before n North (first + i))
       (let is = on_round n (first + i) (omega arith) l in
       let gap = some_less in
-      let least : chip_columns n ≤ above * chip_columns n = one_at_least above (chip_columns n) (omega (arith, begin, l, gap, here)) in
+      let least : chip_columns n ≤ above * chip_columns n =
+      one_at_least above (chip_columns n) (omega (arith, begin, l, gap, here)) in
       omega (arith, is, least, begin, l, fit, here, gap)))
       (cases_lt (first + i + chip_columns n) (2 ^ n))
 
@@ -196,7 +207,8 @@ module _ (n first count i above rows : ℕ) (begin : first ≡ above * chip_colu
       let gap = some_less in
       let none : first ≡ 0 = ⊎_elim (λ (e : first < 1). omega arith)
       (λ (e : 1 ≤ first).
-      let least : chip_columns n ≤ above * chip_columns n = one_at_least above (chip_columns n) (omega (arith, begin, e)) in
+      let least : chip_columns n ≤ above * chip_columns n =
+      one_at_least above (chip_columns n) (omega (arith, begin, e)) in
       absurd (omega (arith, least, begin, l, gap)))
       (cases_lt first 1) in
       omega (arith, is, gap, none)))
@@ -233,7 +245,8 @@ straight_from_zero : (dir : Dir) (planes : List ℕ) (count by k plane : ℕ) �
     → k + by < count → IsJoined dir (get_or planes k 0) (get_or planes (k + by) 0) plane
 straight_from_zero dir planes count by k plane is l =
     subst (λ (x : ℕ). IsJoined dir (get_or planes x 0) (get_or planes (k + by) 0) plane) (zero_on k)
-    (subst (λ (y : ℕ). IsJoined dir (get_or planes (0 + k) 0) (get_or planes y 0) plane) (zero_on (k + by)) (is.straight l))
+    (subst (λ (y : ℕ). IsJoined dir (get_or planes (0 + k) 0) (get_or planes y 0) plane)
+    (zero_on (k + by)) (is.straight l))
 
 over_from_zero : (dir : Dir) (planes : List ℕ) (count by k j plane : ℕ) → IsTurned dir planes 0 count by k plane
     → count ≤ k + by → k - (count - by) ≡ j → IsJoined dir (get_or planes k 0) (get_or planes j 0) plane
@@ -255,7 +268,8 @@ band_north n by planes edge old mid new by_is (rows, size) part wide turned ente
     let least : w ≤ count = width n first count i above rows begin size fit part here in
     ⊎_elim
     (λ (l : i + w < count).
-    subst (λ (plane : ℕ). IsPlane plane (λ p. bit_for n North first planes edge (record { chip = first + i; proc = p })))
+    subst (λ (plane : ℕ). IsPlane plane
+    (λ p. bit_for n North first planes edge (record { chip = first + i; proc = p })))
     (sym (entered.below i (omega (arith, l, by_is)) ∙ ap (λ (x : ℕ). get_or mid x 0) (sym (zero_on i))))
     (joined_in_band n North first i (i + by) (get_or mid (0 + i) 0) planes edge (omega (arith, fit, here)) here
     (omega (arith, l, by_is))
@@ -268,7 +282,8 @@ band_north n by planes edge old mid new by_is (rows, size) part wide turned ente
     entered_in_band n North first i k (get_or new i 0) planes edge (omega (arith, fit, here)) here inside
     (north_out n first count i above rows begin size fit part here l)
     (λ p. ap (λ (c : ℕ). 4 * c + p % 4) (last_column n first count i above rows begin size fit part here l))
-    (subst (λ (x : ℕ). IsEntered North (get_or planes x 0) (get_or edge k 0) (get_or new x 0)) at (entered.each k inside)))
+    (subst (λ (x : ℕ). IsEntered North (get_or planes x 0) (get_or edge k 0) (get_or new x 0))
+    at (entered.each k inside)))
     (cases_lt (i + w) count)
 
 pub band_south : (n by : ℕ) (planes edge old mid new : List ℕ) → by ≡ chip_columns n → AreRows n (length planes)
@@ -289,7 +304,8 @@ band_south n by planes edge old mid new by_is (rows, size) part wide turned ente
     (subst (λ (x : ℕ). IsEntered South (get_or planes x 0) (get_or edge i 0) (get_or new x 0)) (zero_on i)
     (entered.each i inside)))
     (λ (l : w ≤ i).
-    subst (λ (plane : ℕ). IsPlane plane (λ p. bit_for n South first planes edge (record { chip = first + i; proc = p })))
+    subst (λ (plane : ℕ). IsPlane plane
+    (λ p. bit_for n South first planes edge (record { chip = first + i; proc = p })))
     (sym (entered.above i (omega (arith, l, wide)) ∙ ap (λ (x : ℕ). get_or mid x 0) (sym (zero_on i))))
     (joined_in_band n South first i (i - w) (get_or mid (0 + i) 0) planes edge (omega (arith, fit, here)) here
     (omega (arith, here))
@@ -303,18 +319,21 @@ band_south n by planes edge old mid new by_is (rows, size) part wide turned ente
 -- the row and the column of chips, of a chip told by those in its band
 module _ (n first above q r : ℕ) (begin : first ≡ above * chip_columns n) (small : r < chip_columns n) where
   its_number : first + (q * chip_columns n + r) ≡ (above + q) * chip_columns n + r
-  its_number = let e : (above + q) * chip_columns n ≡ above * chip_columns n + q * chip_columns n = omega arith in omega (arith, begin, e)
+  its_number = let e : (above + q) * chip_columns n ≡ above * chip_columns n + q * chip_columns n = omega arith in
+      omega (arith, begin, e)
 
   its_row : (first + (q * chip_columns n + r)) / chip_columns n * chip_columns n ≡ first + q * chip_columns n
   its_row =
       ap (λ (c : ℕ). c / chip_columns n * chip_columns n) its_number
       ∙ ap (λ (c : ℕ). c * chip_columns n) (div-mul-add (above + q) (chip_columns n) r small)
-      ∙ (let e : (above + q) * chip_columns n ≡ above * chip_columns n + q * chip_columns n = omega arith in omega (arith, begin, e))
+      ∙ (let e : (above + q) * chip_columns n ≡ above * chip_columns n + q * chip_columns n = omega arith in
+      omega (arith, begin, e))
 
   its_column : (first + (q * chip_columns n + r)) % chip_columns n ≡ r
   its_column = ap (λ (c : ℕ). c % chip_columns n) its_number ∙ mod-mul-add (above + q) (chip_columns n) r small
 
-  west_of : chip_before n West (first + (q * chip_columns n + r)) ≡ first + (q * chip_columns n + (r + 1) % chip_columns n)
+  west_of : chip_before n West (first + (q * chip_columns n + r))
+      ≡ first + (q * chip_columns n + (r + 1) % chip_columns n)
   west_of = (λ t. its_row t + (its_column t + 1) % chip_columns n) ∙ omega arith
 
   east_of : chip_before n East (first + (q * chip_columns n + r))
@@ -352,14 +371,16 @@ turned_in_band n dir by planes edge new on before below straight over rows size 
     let there : q * w + r < length planes = in_rows q rows r w (length planes) size row small in
     let with_other : ℕ → Type 0 =
     λ x. IsJoined dir (get_or planes (q * w + r) 0) (get_or planes (q * w + x) 0) (get_or new (q * w + r) 0) in
-    let joined : IsJoined dir (get_or planes (q * w + r) 0) (get_or planes (q * w + on r) 0) (get_or new (q * w + r) 0) =
+    let joined : IsJoined dir (get_or planes (q * w + r) 0) (get_or planes (q * w + on r) 0)
+    (get_or new (q * w + r) 0) =
     ⊎_elim
     (λ (l : r + by < w). subst with_other
     (straight r small l) (is.straight l))
     (λ (l : w ≤ r + by). subst with_other
     (over r small l) (is.over l))
     (cases_lt (r + by) w) in
-    subst (λ (x : ℕ). IsPlane (get_or new x 0) (λ p. bit_for n dir first planes edge (record { chip = first + x; proc = p })))
+    subst (λ (x : ℕ). IsPlane (get_or new x 0)
+    (λ p. bit_for n dir first planes edge (record { chip = first + x; proc = p })))
     (chip-own n i)
     (joined_in_band n dir first (q * w + r) (q * w + on r) (get_or new (q * w + r) 0) planes edge
     (omega (arith, fit, there)) there (in_rows q rows (on r) w (length planes) size row (below r small))
@@ -370,7 +391,8 @@ rows_counted : (count rows w : ℕ) → count ≡ rows * w → 0 < w → count /
 rows_counted count rows w size some = ap (λ (c : ℕ). c / w) size ∙ mul-div_cancel rows some
 
 -- whole rows are as long as all their chips
-pub rows_and_columns : (n count columns : ℕ) → columns ≡ chip_columns n → AreRows n count → count / columns * columns ≡ count
+pub rows_and_columns : (n count columns : ℕ) → columns ≡ chip_columns n → AreRows n count
+    → count / columns * columns ≡ count
 rows_and_columns n count columns columns_is (rows, size) =
     ap (λ (w : ℕ). count / w * w) columns_is
     ∙ ap (λ (q : ℕ). q * chip_columns n) (rows_counted count rows (chip_columns n) size (columns_some n)) ∙ sym size
@@ -387,8 +409,10 @@ band_west n columns planes edge new columns_is (rows, size) turned =
     (λ r small. mod-lt (r + 1) (columns_some n))
     (λ r small l. sym (on-other r w l))
     (λ r small l. let last : r ≡ w - 1 = omega (arith, l, small) in
-    (let e : r - (w - 1) ≡ 0 = omega (arith, last) in e) ∙ sym (ap (λ (k : ℕ). (k + 1) % w) last ∙ on-last w (columns_some n)))
-    rows size (λ q r below. at q r (let e = rows_counted (length planes) rows w size (columns_some n) in omega (arith, e, below)))
+    (let e : r - (w - 1) ≡ 0 = omega (arith, last) in e)
+    ∙ sym (ap (λ (k : ℕ). (k + 1) % w) last ∙ on-last w (columns_some n)))
+    rows size (λ q r below. at q r (let e = rows_counted (length planes) rows w size (columns_some n) in
+    omega (arith, e, below)))
 
 pub band_east : (n columns : ℕ) (planes edge new : List ℕ) → columns ≡ chip_columns n → AreRows n (length planes)
     → ((q r : ℕ) → q < length planes / columns → r < columns
@@ -397,12 +421,14 @@ pub band_east : (n columns : ℕ) (planes edge new : List ℕ) → columns ≡ c
 band_east n columns planes edge new columns_is (rows, size) turned =
     let w : ℕ = chip_columns n in
     let some : 0 < w = columns_some n in
-    let at : (q r : ℕ) → q < length planes / w → r < w → IsTurned East planes (q * w) w (w - 1) r (get_or new (q * w + r) 0) =
+    let at : (q r : ℕ) → q < length planes / w → r < w
+    → IsTurned East planes (q * w) w (w - 1) r (get_or new (q * w + r) 0) =
     rw columns_is at turned in
     turned_in_band n East (w - 1) planes edge new (λ r. (r + w - 1) % w) (east_of n)
     (λ r small. mod-lt (r + w - 1) some)
     (λ r small l. let first : r ≡ 0 = omega (arith, l, small, some) in
-    (let e : r + (w - 1) ≡ w - 1 = omega (arith, first) in e) ∙ sym (ap (λ (k : ℕ). (k + w - 1) % w) first ∙ back-first w some))
+    (let e : r + (w - 1) ≡ w - 1 = omega (arith, first) in e)
+    ∙ sym (ap (λ (k : ℕ). (k + w - 1) % w) first ∙ back-first w some))
     (λ r small l. let later : 0 < r = omega (arith, l, small, some) in
     (let e : r - (w - (w - 1)) ≡ r - 1 = omega (arith, some, later) in e) ∙ sym (back-other r w later small))
     rows size (λ q r below. at q r (let e = rows_counted (length planes) rows w size some in omega (arith, e, below)))
@@ -410,7 +436,8 @@ band_east n columns planes edge new columns_is (rows, size) turned =
 -- ---- all chips
 
 pub band_of_all : (n : ℕ) (dir : Dir) (planes edge new : List ℕ) → length planes ≡ 2 ^ n
-    → ((c : ℕ) → c < 2 ^ n → IsPlane (get_or new c 0) (λ p. bit_of_place planes (source n dir (record { chip = c; proc = p }))))
+    → ((c : ℕ) → c < 2 ^ n
+    → IsPlane (get_or new c 0) (λ p. bit_of_place planes (source n dir (record { chip = c; proc = p }))))
     → ComesIn n dir planes edge new
 band_of_all n dir planes edge new all came first i begin fit here p h =
     let none : first ≡ 0 = omega (arith, fit, all) in

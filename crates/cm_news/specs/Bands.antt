@@ -1,5 +1,7 @@
--- What comes in at bands of whole rows of chips, where an edge has what comes from outside: Hillis 1985; the numbering is ours.
-use Rattle.std.specs.Prelude.{◌≡◌, ℕ, ◌+◌, ◌-◌, ◌*◌, ◌/◌, ◌%◌, ◌^◌, ◌<◌, ◌≤◌, ◌==◌, ◌&&◌, Bool, false, not, List, length, nat_le, nat_lt}
+-- What comes in at bands of whole rows of chips, where an edge has what comes from outside: Hillis 1985;
+-- the numbering is ours.
+use Rattle.std.specs.Prelude.{◌≡◌, ℕ, ◌+◌, ◌-◌, ◌*◌, ◌/◌, ◌%◌, ◌^◌, ◌<◌, ◌≤◌, ◌==◌, ◌&&◌, Bool, false, not, List}
+use Rattle.std.specs.Prelude.{length, nat_le, nat_lt}
 use Rattle.std.specs.Prelude.{slice_index, slice_index_or, if◌then◌else◌}
 use Rattle.cm_bits.specs.Bit.{bit}
 use Rattle.cm_bits.specs.declared.place.Place.{Place}
@@ -25,8 +27,8 @@ is_open n West count = false
 abbrev pub bits_of : List ℕ → List Bool
 bits_of edge = each_from 0 (4 * length edge) (λ column. bit (slice_index edge (column / 4)) (column % 4))
 
--- the bit that comes in at a place of a band that begins with this chip: of a plane for each chip where it comes from within,
--- else the edge's of that column
+-- the bit that comes in at a place of a band that begins with this chip: of a plane for each chip where it comes from
+-- within, else the edge's of that column
 abbrev pub bit_for : ℕ → Dir → ℕ → List ℕ → List ℕ → Place → Bool
 bit_for n dir first planes edge place =
     if nat_le first (source n dir place).chip && nat_lt (source n dir place).chip (first + length planes)

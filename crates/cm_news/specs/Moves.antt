@@ -1,5 +1,6 @@
 -- Steps on the grid as one chip sees them, four by four processors: Hillis 1985; the numbering is ours.
-use Rattle.std.specs.Prelude.{ℕ, ◌+◌, ◌-◌, ◌*◌, ◌/◌, ◌%◌, ◌==◌, Bool, List, Option, Some, None, slice_index, if◌then◌else◌}
+use Rattle.std.specs.Prelude.{ℕ, ◌+◌, ◌-◌, ◌*◌, ◌/◌, ◌%◌, ◌==◌, Bool, List}
+use Rattle.std.specs.Prelude.{Option, Some, None, slice_index, if◌then◌else◌}
 use Rattle.cm_bits.specs.Bit.{bit}
 use Rattle.cm_bits.specs.declared.place.Place.{Place}
 use Rattle.cm_bits.specs.declared.plane.Dir.{Dir}
@@ -35,7 +36,8 @@ one_back East p = number_in (row p) (column p - 1)
 abbrev pub sender : Dir → ℕ → Option ℕ
 sender dir p = if is_entry dir p then None else Some (one_back dir p)
 
--- the processor from which bit i of the edge in this direction is: the edge goes from west to east, or from north to south
+-- the processor from which bit i of the edge in this direction is: the edge goes from west to east,
+-- or from north to south
 abbrev pub at_edge : Dir → ℕ → ℕ
 at_edge North i = number_in 0 i
 at_edge South i = number_in 3 i

@@ -1,5 +1,6 @@
 -- Injection, chip after chip.
-use Rattle.std.proofs.Common.{◌≡◌, ℕ, ◌+◌, ◌-◌, ◌^◌, ◌<◌, ◌≤◌, ◌++◌, List, [], length, map, set, get_or, refl, sym, ap, subst, ◌∙◌}
+use Rattle.std.proofs.Common.{◌≡◌, ℕ, ◌+◌, ◌-◌, ◌^◌, ◌<◌, ◌≤◌, ◌++◌, List, [], length, map, set, get_or, refl, sym}
+use Rattle.std.proofs.Common.{ap, subst, ◌∙◌}
 use Rattle.std.proofs.Common.{arith, vec_len, vec_capacity}
 use Rattle.std.proofs.lemmas.List.{length-map}
 use Rattle.cm_model.specs.declared.message.Message.{Message}
@@ -62,7 +63,8 @@ pub injected_more : (n cap first span clock : ℕ) (chips_before : Chips) (buffe
     → next_log.items ≡ log.items
     ++ map Injected (messages_sent n clock (first + i) chip (senders_taken cap (length ms) chip))
     → vec_len next_log ≤ vec_len log + 4 → vec_capacity log ≤ vec_capacity next_log
-    → IsInjected n cap (part_of first (2 ^ span) chips_before buffers_before logs_before clock) logs_before chips buffers
+    → IsInjected n cap (part_of first (2 ^ span) chips_before buffers_before logs_before clock)
+    logs_before chips buffers
     logs i
     → IsInjected n cap (part_of first (2 ^ span) chips_before buffers_before logs_before clock) logs_before
     (set chips i next_chip) (set buffers i next_ms) (set logs i next_log) (i + 1)
@@ -94,7 +96,8 @@ injected_more n cap first span clock chips_before buffers_before logs_before chi
 pub injected_all : (n cap first span clock : ℕ) (chips_before : Chips) (buffers_before : List (List Message))
     (logs_before : List Log) (chips : Chips) (buffers : List (List Message)) (logs : List Log) (last : ℕ)
     → AreAsMany span chips_before buffers_before logs_before → 2 ^ span ≤ last
-    → IsInjected n cap (part_of first (2 ^ span) chips_before buffers_before logs_before clock) logs_before chips buffers
+    → IsInjected n cap (part_of first (2 ^ span) chips_before buffers_before logs_before clock)
+    logs_before chips buffers
     logs last
     → part_of first (2 ^ span) chips buffers logs clock
     ≡ part_after n cap Inject Blank (part_of first (2 ^ span) chips_before buffers_before logs_before clock)
@@ -105,7 +108,8 @@ injected_all n cap first span clock chips_before buffers_before logs_before chip
     is.chips_made in
     let buffers_are = made_all_from [] (injected_buffer n cap s) buffers_before buffers first (2 ^ span) last
     are.buffer_count all is.buffers_made in
-    let logs_are = made_all_from [] (injected_log n cap s) (events_of logs_before) (events_of logs) first (2 ^ span) last
+    let logs_are = made_all_from [] (injected_log n cap s) (events_of logs_before)
+    (events_of logs) first (2 ^ span) last
     (length-map logs_before (λ (l : Log). l.items) ∙ are.log_count) all is.logs_made in
     λ k. record {
       first = first;

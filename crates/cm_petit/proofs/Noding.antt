@@ -44,7 +44,8 @@ pub injected_node : (n cap clock : ℕ) (chips_before : Chips) (nodes_before : L
     chips (buffers_of nodes) logs i
     → IsInjected n cap (part_of 0 (2 ^ n) chips_before (buffers_of nodes_before) logs_before clock) logs_before
     next_chips (buffers_of (set nodes i next_node)) (set logs i next_log) (i + 1)
-injected_node n cap clock chips_before nodes_before logs_before chips next_chips nodes logs i node next_node log next_log
+injected_node n cap clock chips_before nodes_before logs_before chips next_chips nodes logs i
+    node next_node log next_log
     are below in_nodes in_logs node_read log_read rooms chips_is node_is log_is longer kept was =
     let room_is : node.room ≡ cap = ap (λ (b : Buffer). b.room) node_read ∙ rooms i node in_nodes in
     let place : 0 + i ≡ i = omega arith in

@@ -1,5 +1,6 @@
 -- A petit cycle of a router without messages.
-use Rattle.std.proofs.Common.{◌≡◌, ℕ, zero, suc, ◌+◌, ◌-◌, ◌<◌, ◌≤◌, ◌^◌, ◌++◌, List, [], length, map, Option, Some, None}
+use Rattle.std.proofs.Common.{◌≡◌, ℕ, zero, suc, ◌+◌, ◌-◌, ◌<◌, ◌≤◌, ◌^◌, ◌++◌, List, [], length, map}
+use Rattle.std.proofs.Common.{Option, Some, None}
 use Rattle.std.proofs.Common.{refl, sym, ap, ◌∙◌, arith}
 use Rattle.std.specs.Prelude.{bit_xor}
 use Rattle.std.specs.Option.{option_map}
@@ -97,7 +98,8 @@ rest_is_quiet n cap machine h = ap (machine_after_delivery n) (crossings_of_noth
 -- ---- injection
 
 -- where each chip of a part is idle
-pub injection_of_nothing : (n cap first span clock : ℕ) (chips : Chips) (buffers : List (List Message)) (logs : List Log)
+pub injection_of_nothing : (n cap first span clock : ℕ) (chips : Chips)
+    (buffers : List (List Message)) (logs : List Log)
     → AreRouters span cap chips buffers logs → ((c : ℕ) → c < 2 ^ span → IsIdle (chip_at chips c))
     → part_of first (2 ^ span) chips buffers logs clock
     ≡ part_after n cap Inject Blank (part_of first (2 ^ span) chips buffers logs clock)

@@ -1,6 +1,7 @@
 //! Delivery of one message, wherever it stands.
 
-ghost use Rattle.std.specs.Prelude.{◌≡◌, ℕ, ◌<◌, ◌≤◌, ◌+◌, ◌&&◌, List, [], ◌∷◌, ◌++◌, IsFalse, false, length, slice_set};
+ghost use Rattle.std.specs.Prelude.{◌≡◌, ℕ, ◌<◌, ◌≤◌, ◌+◌, ◌&&◌, List, [], ◌∷◌, ◌++◌, IsFalse};
+ghost use Rattle.std.specs.Prelude.{false, length, slice_set};
 ghost use Rattle.std.specs.Prelude.{if◌then◌else◌, vec_len, vec_capacity};
 ghost use Rattle.cm_model.specs.declared.message.Message.{Message};
 ghost use Rattle.cm_model.specs.Processor.{Processor};

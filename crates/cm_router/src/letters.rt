@@ -1,6 +1,7 @@
 //! What the router takes from the processors of a chip, and what it leaves there.
 
-ghost use Rattle.std.specs.Prelude.{◌≡◌, ℕ, ◌+◌, ◌^◌, ◌<◌, ◌≤◌, ◌&&◌, not, IsFalse, IsTrue, List, [], ◌∷◌, ◌++◌, length, slice_set, vec_len, vec_capacity};
+ghost use Rattle.std.specs.Prelude.{◌≡◌, ℕ, ◌+◌, ◌^◌, ◌<◌, ◌≤◌, ◌&&◌, not, IsFalse, IsTrue, List, [], ◌∷◌, ◌++◌};
+ghost use Rattle.std.specs.Prelude.{length, slice_set, vec_len, vec_capacity};
 ghost use Rattle.cm_bits.specs.Bit.{bit};
 ghost use Rattle.std.specs.List.{list_any};
 ghost use Rattle.cm_element.specs.Flags.{has_flag};
@@ -8,7 +9,8 @@ ghost use Rattle.cm_model.specs.Processor.{SEND, ACK, RECV, flag, field_value};
 ghost use Rattle.cm_model.specs.Chip.{IsPlane, processor_at};
 ghost use Rattle.cm_model.specs.Array.{chip_at};
 ghost use Rattle.cm_model.specs.Whole.{IsChip};
-ghost use Rattle.cm_model.specs.Letters.{senders_taken, is_among, message_sent, chip_after_injection, chip_after_delivery};
+ghost use Rattle.cm_model.specs.Letters.{senders_taken, is_among, message_sent};
+ghost use Rattle.cm_model.specs.Letters.{chip_after_injection, chip_after_delivery};
 ghost use Rattle.cm_router.specs.Idle.{IsIdle};
 
 use cm_bits::{Field, FlagNo, Plane, Proc};

@@ -1,6 +1,7 @@
 //! The node of one chip: a buffer of messages.
 
-ghost use Rattle.std.specs.Prelude.{◌≡◌, ◌<◌, ◌≤◌, ◌==◌, ◌-◌, [], ◌∷◌, ◌++◌, ◌+◌, length, map, position, slice_set, IfSome};
+ghost use Rattle.std.specs.Prelude.{◌≡◌, ◌<◌, ◌≤◌, ◌==◌, ◌-◌, [], ◌∷◌, ◌++◌, ◌+◌, length, map};
+ghost use Rattle.std.specs.Prelude.{position, slice_set, IfSome};
 ghost use Rattle.std.specs.Prelude.{vec_len, vec_capacity};
 ghost use Rattle.cm_model.specs.Processor.{SEND, flag};
 ghost use Rattle.cm_model.specs.Chip.{IsPlane, processor_at};

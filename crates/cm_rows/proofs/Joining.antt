@@ -1,5 +1,6 @@
 -- Words of rows that are computed one part after another.
-use Rattle.std.proofs.Common.{◌≡◌, ◌≢◌, inl, inr, ℕ, ◌+◌, ◌-◌, ◌<◌, ◌≤◌, Bool, List, length, cond, get_or, set, get_or-set_same, get_or-set_other, ap, refl, ◌∙◌, ⊎_elim, arith}
+use Rattle.std.proofs.Common.{◌≡◌, ◌≢◌, inl, inr, ℕ, ◌+◌, ◌-◌, ◌<◌, ◌≤◌, Bool, List, length, cond, get_or, set}
+use Rattle.std.proofs.Common.{get_or-set_same, get_or-set_other, ap, refl, ◌∙◌, ⊎_elim, arith}
 use Rattle.std.proofs.lemmas.Bool.{cases_lt}
 use Rattle.cm_bits.specs.Bit.{bit}
 use Rattle.cm_model.specs.Chip.{IsPlane}
@@ -42,7 +43,8 @@ pub kept_moved : (table : ℕ) (chained always sense : Bool) (a a2 b b2 f f2 c c
     → IsKept table chained (λ p. stores always sense (bit c2 p)) a2 b2 f2 old2 new2
 kept_moved table chained always sense a a2 b b2 f f2 c c2 old old2 new new2 a_is b_is f_is c_is old_is new_is kept p h =
     ap (λ (w : ℕ). bit w p) new_is ∙ kept p h
-    ∙ (λ j. cond (stores always sense (bit (c_is j) p)) (output table chained (a_is j) (b_is j) (f_is j) p) (bit (old_is j) p))
+    ∙ (λ j. cond (stores always sense (bit (c_is j) p))
+    (output table chained (a_is j) (b_is j) (f_is j) p) (bit (old_is j) p))
 
 -- a row ends before another also at fewer words
 pub apart_sooner : (written read few many : ℕ) → few ≤ many → IsApart written read many → IsApart written read few
@@ -57,7 +59,8 @@ apart_sooner written read few many fewer apart = ⊎_elim
       cases_before h = inr h
 
 pub unread_memory : (at : Places) (from mid to : ℕ) (memory memory_mid flags : List ℕ)
-    → IsWithin at.a from mid memory memory_mid → IsApart at.a at.b to → AreUnread at mid to memory memory_mid flags flags
+    → IsWithin at.a from mid memory memory_mid → IsApart at.a at.b to
+    → AreUnread at mid to memory memory_mid flags flags
 unread_memory at from mid to memory memory_mid flags m b_apart = record {
   a = λ k low high. m.above (at.a + k) (omega arith);
   b = apart_kept at.a at.b from mid to memory memory_mid b_apart m;
@@ -66,25 +69,31 @@ unread_memory at from mid to memory memory_mid flags m b_apart = record {
 }
 
 -- one part after another is both
-pub joined : (table : ℕ) (chained always sense : Bool) (at : Places) (row from mid to : ℕ) (memory memory_mid flags flags_mid old old_mid new : List ℕ)
+pub joined : (table : ℕ) (chained always sense : Bool) (at : Places) (row from mid to : ℕ)
+    (memory memory_mid flags flags_mid old old_mid new : List ℕ)
     → from ≤ mid → mid ≤ to
     → IsComputed table chained always sense at row from mid memory flags old old_mid
     → IsComputed table chained always sense at row mid to memory_mid flags_mid old_mid new
     → AreUnread at mid to memory memory_mid flags flags_mid
     → IsComputed table chained always sense at row from to memory flags old new
-joined table chained always sense at row from mid to memory memory_mid flags flags_mid old old_mid new lower upper first second same = record {
-  each = λ k low high. ⊎_elim
-      (λ (before : k < mid). let here : row + k < row + mid = omega arith in λ p h. ap (λ (w : ℕ). bit w p) (second.below (row + k) here) ∙ first.each k low before p h)
-      (λ (after : mid ≤ k). let there : row + mid ≤ row + k = omega arith in kept_moved table chained always sense
-      (get_or memory_mid (at.a + k) 0) (get_or memory (at.a + k) 0) (get_or memory_mid (at.b + k) 0) (get_or memory (at.b + k) 0)
-      (get_or flags_mid (at.read + k) 0) (get_or flags (at.read + k) 0) (get_or flags_mid (at.cond + k) 0) (get_or flags (at.cond + k) 0)
-      (get_or old_mid (row + k) 0) (get_or old (row + k) 0) (get_or new (row + k) 0) (get_or new (row + k) 0)
-      (same.a k after high) (same.b k after high) (same.read k after high) (same.cond k after high) (first.above (row + k) there) refl
-      (second.each k after high))
-      (cases_lt k mid);
-  below = λ i h. second.below i (omega arith) ∙ first.below i h;
-  above = λ i h. second.above i h ∙ first.above i (omega arith);
-}
+joined table chained always sense at row from mid to memory memory_mid flags flags_mid old old_mid new lower upper
+    first second same = record {
+      each = λ k low high. ⊎_elim
+          (λ (before : k < mid). let here : row + k < row + mid = omega arith in
+          λ p h. ap (λ (w : ℕ). bit w p) (second.below (row + k) here) ∙ first.each k low before p h)
+          (λ (after : mid ≤ k). let there : row + mid ≤ row + k = omega arith in kept_moved table chained always sense
+          (get_or memory_mid (at.a + k) 0) (get_or memory (at.a + k) 0) (get_or memory_mid (at.b + k) 0)
+          (get_or memory (at.b + k) 0)
+          (get_or flags_mid (at.read + k) 0) (get_or flags (at.read + k) 0) (get_or flags_mid (at.cond + k) 0)
+          (get_or flags (at.cond + k) 0)
+          (get_or old_mid (row + k) 0) (get_or old (row + k) 0) (get_or new (row + k) 0) (get_or new (row + k) 0)
+          (same.a k after high) (same.b k after high) (same.read k after high) (same.cond k after high)
+          (first.above (row + k) there) refl
+          (second.each k after high))
+          (cases_lt k mid);
+      below = λ i h. second.below i (omega arith) ∙ first.below i h;
+      above = λ i h. second.above i h ∙ first.above i (omega arith);
+    }
 
 -- what is computed leaves the rest
 pub within : (table : ℕ) (chained always sense : Bool) (at : Places) (row from to : ℕ) (memory flags old new : List ℕ)
@@ -100,17 +109,24 @@ nothing table chained always sense at row from memory flags old = record {
   above = λ i h. refl;
 }
 
-kept_chosen : (table : ℕ) (chained : Bool) (choice : ℕ) (stored : ℕ → Bool) (a b f old word : ℕ) → IsPlane choice stored → IsKept table chained (bit choice) a b f old word → IsKept table chained stored a b f old word
-kept_chosen table chained choice stored a b f old word is kept p h = kept p h ∙ ap (λ v. cond v (output table chained a b f p) (bit old p)) (is p h)
+kept_chosen : (table : ℕ) (chained : Bool) (choice : ℕ) (stored : ℕ → Bool) (a b f old word : ℕ) → IsPlane choice stored
+    → IsKept table chained (bit choice) a b f old word → IsKept table chained stored a b f old word
+kept_chosen table chained choice stored a b f old word is kept p h = kept p h
+    ∙ ap (λ v. cond v (output table chained a b f p) (bit old p)) (is p h)
 
 -- one word
-pub one_word : (table : ℕ) (chained always sense : Bool) (at : Places) (row k choice word : ℕ) (memory flags old : List ℕ) → row + k < length old
+pub one_word : (table : ℕ) (chained always sense : Bool) (at : Places) (row k choice word : ℕ)
+    (memory flags old : List ℕ) → row + k < length old
     → IsPlane choice (λ p. stores always sense (bit (get_or flags (at.cond + k) 0) p))
-    → IsKept table chained (bit choice) (get_or memory (at.a + k) 0) (get_or memory (at.b + k) 0) (get_or flags (at.read + k) 0) (get_or old (row + k) 0) word
+    → IsKept table chained (bit choice) (get_or memory (at.a + k) 0) (get_or memory (at.b + k) 0)
+    (get_or flags (at.read + k) 0) (get_or old (row + k) 0) word
     → IsComputed table chained always sense at row k (k + 1) memory flags old (set old (row + k) word)
 one_word table chained always sense at row k choice word memory flags old inside chosen kept = record {
-  each = λ j low high. let same : j ≡ k = omega arith in rw same (λ p h. ap (λ (w : ℕ). bit w p) (get_or-set_same old (row + k) word 0 inside)
-      ∙ kept_chosen table chained choice (λ q. stores always sense (bit (get_or flags (at.cond + k) 0) q)) (get_or memory (at.a + k) 0) (get_or memory (at.b + k) 0) (get_or flags (at.read + k) 0) (get_or old (row + k) 0) word chosen kept p h);
+  each = λ j low high. let same : j ≡ k = omega arith in
+      rw same (λ p h. ap (λ (w : ℕ). bit w p) (get_or-set_same old (row + k) word 0 inside)
+      ∙ kept_chosen table chained choice (λ q. stores always sense (bit (get_or flags (at.cond + k) 0) q))
+      (get_or memory (at.a + k) 0) (get_or memory (at.b + k) 0) (get_or flags (at.read + k) 0)
+      (get_or old (row + k) 0) word chosen kept p h);
   below = λ i h. let other : i ≢ row + k = omega arith in get_or-set_other old (row + k) i word 0 other;
   above = λ i h. let other : i ≢ row + k = omega arith in get_or-set_other old (row + k) i word 0 other;
 }
@@ -119,27 +135,38 @@ one_word table chained always sense at row k choice word memory flags old inside
 abbrev pub AreLanes : List ℕ → List ℕ → ℕ → Type 0
 AreLanes lanes words at = (k : ℕ) → k < 32 → get_or lanes k 0 ≡ get_or words (at + k) 0
 
-lane_of : (lanes words : List ℕ) (row from j : ℕ) → AreLanes lanes words (row + from) → from ≤ j → j < from + 32 → get_or lanes (j - from) 0 ≡ get_or words (row + j) 0
-lane_of lanes words row from j are low high = are (j - from) (omega arith) ∙ ap (λ (i : ℕ). get_or words i 0) (omega arith)
+lane_of : (lanes words : List ℕ) (row from j : ℕ) → AreLanes lanes words (row + from) → from ≤ j → j < from + 32
+    → get_or lanes (j - from) 0 ≡ get_or words (row + j) 0
+lane_of lanes words row from j are low high = are (j - from) (omega arith)
+    ∙ ap (λ (i : ℕ). get_or words i 0) (omega arith)
 
 -- thirty-two words
-pub one_block : (table : ℕ) (chained always sense : Bool) (at : Places) (row from : ℕ) (memory flags old new : List ℕ) (a b f here condition choice outputs : List ℕ)
-    → AreLanes a memory (at.a + from) → AreLanes b memory (at.b + from) → AreLanes f flags (at.read + from) → AreLanes here old (row + from) → AreLanes condition flags (at.cond + from)
+pub one_block : (table : ℕ) (chained always sense : Bool) (at : Places) (row from : ℕ) (memory flags old new : List ℕ)
+    (a b f here condition choice outputs : List ℕ)
+    → AreLanes a memory (at.a + from) → AreLanes b memory (at.b + from) → AreLanes f flags (at.read + from)
+    → AreLanes here old (row + from) → AreLanes condition flags (at.cond + from)
     → ((k : ℕ) → k < 32 → IsPlane (get_or choice k 0) (λ p. stores always sense (bit (get_or condition k 0) p)))
-    → ((k : ℕ) → k < 32 → IsKept table chained (bit (get_or choice k 0)) (get_or a k 0) (get_or b k 0) (get_or f k 0) (get_or here k 0) (get_or outputs k 0))
+    → ((k : ℕ) → k < 32 → IsKept table chained (bit (get_or choice k 0)) (get_or a k 0) (get_or b k 0) (get_or f k 0)
+    (get_or here k 0) (get_or outputs k 0))
     → ((k : ℕ) → k < 32 → get_or new (row + from + k) 0 ≡ get_or outputs k 0)
     → ((i : ℕ) → i < row + from → get_or new i 0 ≡ get_or old i 0)
     → ((i : ℕ) → row + from + 32 ≤ i → get_or new i 0 ≡ get_or old i 0)
     → IsComputed table chained always sense at row from (from + 32) memory flags old new
-one_block table chained always sense at row from memory flags old new a b f here condition choice outputs a_is b_is f_is here_is condition_is chosen kept put below above = record {
-  each = λ j low high. let k : ℕ = j - from in let few : j - from < 32 = omega arith in
-      kept_moved table chained always sense
-      (get_or a k 0) (get_or memory (at.a + j) 0) (get_or b k 0) (get_or memory (at.b + j) 0) (get_or f k 0) (get_or flags (at.read + j) 0)
-      (get_or condition k 0) (get_or flags (at.cond + j) 0) (get_or here k 0) (get_or old (row + j) 0) (get_or outputs k 0) (get_or new (row + j) 0)
-      (lane_of a memory at.a from j a_is low high) (lane_of b memory at.b from j b_is low high) (lane_of f flags at.read from j f_is low high)
-      (lane_of condition flags at.cond from j condition_is low high) (lane_of here old row from j here_is low high)
-      (ap (λ (i : ℕ). get_or new i 0) (omega arith) ∙ put k few)
-      (kept_chosen table chained (get_or choice k 0) (λ p. stores always sense (bit (get_or condition k 0) p)) (get_or a k 0) (get_or b k 0) (get_or f k 0) (get_or here k 0) (get_or outputs k 0) (chosen k few) (kept k few));
-  below = below;
-  above = λ i h. above i (omega arith);
-}
+one_block table chained always sense at row from memory flags old new a b f here condition choice outputs a_is b_is f_is
+    here_is condition_is chosen kept put below above = record {
+      each = λ j low high. let k : ℕ = j - from in let few : j - from < 32 = omega arith in
+          kept_moved table chained always sense
+          (get_or a k 0) (get_or memory (at.a + j) 0) (get_or b k 0) (get_or memory (at.b + j) 0) (get_or f k 0)
+          (get_or flags (at.read + j) 0)
+          (get_or condition k 0) (get_or flags (at.cond + j) 0) (get_or here k 0) (get_or old (row + j) 0)
+          (get_or outputs k 0) (get_or new (row + j) 0)
+          (lane_of a memory at.a from j a_is low high) (lane_of b memory at.b from j b_is low high)
+          (lane_of f flags at.read from j f_is low high)
+          (lane_of condition flags at.cond from j condition_is low high) (lane_of here old row from j here_is low high)
+          (ap (λ (i : ℕ). get_or new i 0) (omega arith) ∙ put k few)
+          (kept_chosen table chained (get_or choice k 0)
+          (λ p. stores always sense (bit (get_or condition k 0) p)) (get_or a
+          k 0) (get_or b k 0) (get_or f k 0) (get_or here k 0) (get_or outputs k 0) (chosen k few) (kept k few));
+      below = below;
+      above = λ i h. above i (omega arith);
+    }

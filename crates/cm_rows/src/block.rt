@@ -51,7 +51,8 @@ pub(crate) fn kept_lanes(
     requires f { length f ≡ 32 }
     requires old { length old ≡ 32 }
     ensures count { length result ≡ 32 }
-    ensures value { (k : ℕ) → k < 32 → IsKept table chained (bit (slice_index choice k)) (slice_index a k) (slice_index b k)
+    ensures value { (k : ℕ) → k < 32
+        → IsKept table chained (bit (slice_index choice k)) (slice_index a k) (slice_index b k)
         (slice_index f k) (slice_index old k) (slice_index result k) }
 {
     let output = output_lanes(table, chained, a, b, f);

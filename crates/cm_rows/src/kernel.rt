@@ -48,7 +48,8 @@ pub fn compute(
     requires read_apart { IsApart at.write at.read count }
     requires cond_apart { IsApart at.write at.cond count }
     ensures memory { IsComputed tables.0 false always sense at at.a 0 count memory.old flags.old memory.old memory.new }
-    ensures flags { IsComputed tables.1 chained always sense at at.write 0 count memory.old flags.old flags.old flags.new }
+    ensures flags { IsComputed tables.1 chained always sense at at.write 0 count
+        memory.old flags.old flags.old flags.new }
 {
     let whole = count / LANES;
     all_blocks(tables, chained, always, sense, memory, flags, at, whole);
@@ -84,8 +85,10 @@ fn all_blocks(
     requires b_apart { IsApart at.a at.b (32 * whole) }
     requires read_apart { IsApart at.write at.read (32 * whole) }
     requires cond_apart { IsApart at.write at.cond (32 * whole) }
-    ensures memory { IsComputed tables.0 false always sense at at.a 0 (32 * whole) memory.old flags.old memory.old memory.new }
-    ensures flags { IsComputed tables.1 chained always sense at at.write 0 (32 * whole) memory.old flags.old flags.old flags.new }
+    ensures memory { IsComputed tables.0 false always sense at at.a 0 (32 * whole)
+        memory.old flags.old memory.old memory.new }
+    ensures flags { IsComputed tables.1 chained always sense at at.write 0 (32 * whole)
+        memory.old flags.old flags.old flags.new }
 {
     if whole == 0 {
         return;
@@ -116,8 +119,10 @@ fn blocks_always(
     requires b_apart { IsApart at.a at.b (32 * whole) }
     requires read_apart { IsApart at.write at.read (32 * whole) }
     requires cond_apart { IsApart at.write at.cond (32 * whole) }
-    ensures memory { IsComputed tables.0 false true sense at at.a 0 (32 * whole) memory.old flags.old memory.old memory.new }
-    ensures flags { IsComputed tables.1 false true sense at at.write 0 (32 * whole) memory.old flags.old flags.old flags.new }
+    ensures memory { IsComputed tables.0 false true sense at at.a 0 (32 * whole)
+        memory.old flags.old memory.old memory.new }
+    ensures flags { IsComputed tables.1 false true sense at at.write 0 (32 * whole)
+        memory.old flags.old flags.old flags.new }
 {
     by_tables!(true, tables, sense, memory, flags, at, whole)
 }
@@ -139,8 +144,10 @@ fn blocks_under_condition(
     requires b_apart { IsApart at.a at.b (32 * whole) }
     requires read_apart { IsApart at.write at.read (32 * whole) }
     requires cond_apart { IsApart at.write at.cond (32 * whole) }
-    ensures memory { IsComputed tables.0 false false sense at at.a 0 (32 * whole) memory.old flags.old memory.old memory.new }
-    ensures flags { IsComputed tables.1 false false sense at at.write 0 (32 * whole) memory.old flags.old flags.old flags.new }
+    ensures memory { IsComputed tables.0 false false sense at at.a 0 (32 * whole)
+        memory.old flags.old memory.old memory.new }
+    ensures flags { IsComputed tables.1 false false sense at at.write 0 (32 * whole)
+        memory.old flags.old flags.old flags.new }
 {
     by_tables!(false, tables, sense, memory, flags, at, whole)
 }
@@ -165,8 +172,10 @@ fn compute_blocks(
     requires b_apart { IsApart at.a at.b (32 * whole) }
     requires read_apart { IsApart at.write at.read (32 * whole) }
     requires cond_apart { IsApart at.write at.cond (32 * whole) }
-    ensures memory { IsComputed tables.0 false always sense at at.a 0 (32 * whole) memory.old flags.old memory.old memory.new }
-    ensures flags { IsComputed tables.1 chained always sense at at.write 0 (32 * whole) memory.old flags.old flags.old flags.new }
+    ensures memory { IsComputed tables.0 false always sense at at.a 0 (32 * whole)
+        memory.old flags.old memory.old memory.new }
+    ensures flags { IsComputed tables.1 chained always sense at at.write 0 (32 * whole)
+        memory.old flags.old flags.old flags.new }
 {
     for t in 0..whole {
         block(tables, chained, always, sense, memory, flags, at, LANES * t);
@@ -195,7 +204,8 @@ fn compute_words(
     requires read_apart { IsApart at.write at.read to }
     requires cond_apart { IsApart at.write at.cond to }
     ensures memory { IsComputed tables.0 false always sense at at.a from to memory.old flags.old memory.old memory.new }
-    ensures flags { IsComputed tables.1 chained always sense at at.write from to memory.old flags.old flags.old flags.new }
+    ensures flags { IsComputed tables.1 chained always sense at at.write from to
+        memory.old flags.old flags.old flags.new }
 {
     for k in from..to {
         word(tables, chained, always, sense, memory, flags, at, k);
@@ -219,8 +229,10 @@ fn block(
     requires read { at.read + from + 32 ≤ length flags.old }
     requires write { at.write + from + 32 ≤ length flags.old }
     requires cond { at.cond + from + 32 ≤ length flags.old }
-    ensures memory { IsComputed tables.0 false always sense at at.a from (from + 32) memory.old flags.old memory.old memory.new }
-    ensures flags { IsComputed tables.1 chained always sense at at.write from (from + 32) memory.old flags.old flags.old flags.new }
+    ensures memory { IsComputed tables.0 false always sense at at.a from (from + 32)
+        memory.old flags.old memory.old memory.new }
+    ensures flags { IsComputed tables.1 chained always sense at at.write from (from + 32)
+        memory.old flags.old flags.old flags.new }
 {
     let a = load(memory, at.a + from);
     let b = load(memory, at.b + from);
@@ -250,8 +262,10 @@ fn word(
     requires read { at.read + from + 1 ≤ length flags.old }
     requires write { at.write + from + 1 ≤ length flags.old }
     requires cond { at.cond + from + 1 ≤ length flags.old }
-    ensures memory { IsComputed tables.0 false always sense at at.a from (from + 1) memory.old flags.old memory.old memory.new }
-    ensures flags { IsComputed tables.1 chained always sense at at.write from (from + 1) memory.old flags.old flags.old flags.new }
+    ensures memory { IsComputed tables.0 false always sense at at.a from (from + 1)
+        memory.old flags.old memory.old memory.new }
+    ensures flags { IsComputed tables.1 chained always sense at at.write from (from + 1)
+        memory.old flags.old flags.old flags.new }
 {
     let a = memory[at.a + from];
     let b = memory[at.b + from];

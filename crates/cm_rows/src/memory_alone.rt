@@ -69,7 +69,8 @@ fn all_blocks(
     requires read { at.read + 32 * whole ≤ length flags.now }
     requires cond { at.cond + 32 * whole ≤ length flags.now }
     requires b_apart { IsApart at.a at.b (32 * whole) }
-    ensures memory { IsComputed table false always sense at at.a 0 (32 * whole) memory.old flags.now memory.old memory.new }
+    ensures memory { IsComputed table false always sense at at.a 0 (32 * whole)
+        memory.old flags.now memory.old memory.new }
 {
     if always {
         blocks_always(table, sense, memory, flags, at, whole);
@@ -92,7 +93,8 @@ fn blocks_always(
     requires read { at.read + 32 * whole ≤ length flags.now }
     requires cond { at.cond + 32 * whole ≤ length flags.now }
     requires b_apart { IsApart at.a at.b (32 * whole) }
-    ensures memory { IsComputed table false true sense at at.a 0 (32 * whole) memory.old flags.now memory.old memory.new }
+    ensures memory { IsComputed table false true sense at at.a 0 (32 * whole)
+        memory.old flags.now memory.old memory.new }
 {
     by_table!(true, table, sense, memory, flags, at, whole)
 }
@@ -111,7 +113,8 @@ fn blocks_under_condition(
     requires read { at.read + 32 * whole ≤ length flags.now }
     requires cond { at.cond + 32 * whole ≤ length flags.now }
     requires b_apart { IsApart at.a at.b (32 * whole) }
-    ensures memory { IsComputed table false false sense at at.a 0 (32 * whole) memory.old flags.now memory.old memory.new }
+    ensures memory { IsComputed table false false sense at at.a 0 (32 * whole)
+        memory.old flags.now memory.old memory.new }
 {
     by_table!(false, table, sense, memory, flags, at, whole)
 }
@@ -132,7 +135,8 @@ fn compute_blocks(
     requires read { at.read + 32 * whole ≤ length flags.now }
     requires cond { at.cond + 32 * whole ≤ length flags.now }
     requires b_apart { IsApart at.a at.b (32 * whole) }
-    ensures memory { IsComputed table false always sense at at.a 0 (32 * whole) memory.old flags.now memory.old memory.new }
+    ensures memory { IsComputed table false always sense at at.a 0 (32 * whole)
+        memory.old flags.now memory.old memory.new }
 {
     for t in 0..whole {
         block(table, always, sense, memory, flags, at, LANES * t);
@@ -178,7 +182,8 @@ fn block(
     requires b { at.b + from + 32 ≤ length memory.old }
     requires read { at.read + from + 32 ≤ length flags.now }
     requires cond { at.cond + from + 32 ≤ length flags.now }
-    ensures memory { IsComputed table false always sense at at.a from (from + 32) memory.old flags.now memory.old memory.new }
+    ensures memory { IsComputed table false always sense at at.a from (from + 32)
+        memory.old flags.now memory.old memory.new }
 {
     let a = load(memory, at.a + from);
     let b = load(memory, at.b + from);
@@ -203,7 +208,8 @@ fn word(
     requires b { at.b + from + 1 ≤ length memory.old }
     requires read { at.read + from + 1 ≤ length flags.now }
     requires cond { at.cond + from + 1 ≤ length flags.now }
-    ensures memory { IsComputed table false always sense at at.a from (from + 1) memory.old flags.now memory.old memory.new }
+    ensures memory { IsComputed table false always sense at at.a from (from + 1)
+        memory.old flags.now memory.old memory.new }
 {
     let a = memory[at.a + from];
     let b = memory[at.b + from];

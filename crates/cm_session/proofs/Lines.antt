@@ -1,5 +1,6 @@
 -- Lines in two parts, and a text as its lines that have ended and what follows them.
-use Rattle.std.proofs.Common.{◌≡◌, ℕ, ◌+◌, ◌-◌, ◌<◌, ◌≤◌, Bool, true, false, cond, nat_le, List, [], ◌∷◌, ◌++◌, length, take, refl, ap, ◌∙◌, sym, arith, append_assoc, append-nil}
+use Rattle.std.proofs.Common.{◌≡◌, ℕ, ◌+◌, ◌-◌, ◌<◌, ◌≤◌, Bool, true, false, cond, nat_le, List, [], ◌∷◌, ◌++◌, length}
+use Rattle.std.proofs.Common.{take, refl, ap, ◌∙◌, sym, arith, append_assoc, append-nil}
 use Rattle.std.proofs.lemmas.Bool.{le-leb}
 use Rattle.std.proofs.Math.Seq.{take-append-add}
 use Rattle.std.specs.List.{onto_first, slice_split}
@@ -12,13 +13,15 @@ use Rattle.cm_session.specs.Laws.{BeginsWith}
 
 -- ---- lines
 
-preceded_by-twice : (first second : List ℕ) (rest : Answered) → preceded_by first (preceded_by second rest) ≡ preceded_by (first ++ second) rest
+preceded_by-twice : (first second : List ℕ) (rest : Answered)
+    → preceded_by first (preceded_by second rest) ≡ preceded_by (first ++ second) rest
 preceded_by-twice first second rest = ap (told rest.session) (sym (append_assoc first second rest.answer))
 
 -- lines in two parts: the second part is answered by the session that the first part leaves
 pub after_lines-append : (n cap : ℕ) (acts : List Act) (session : Session) (lines more : List (List ℕ))
     → after_lines n cap acts session (lines ++ more)
-    ≡ preceded_by (after_lines n cap acts session lines).answer (after_lines n cap acts (after_lines n cap acts session lines).session more)
+    ≡ preceded_by (after_lines n cap acts session lines).answer
+    (after_lines n cap acts (after_lines n cap acts session lines).session more)
 unfolding after_lines
 after_lines-append n cap acts session [] more = refl
 after_lines-append n cap acts session (line ∷ lines) more =
@@ -50,18 +53,21 @@ parted (part ∷ next ∷ parts) some = ap (λ (ps : List (List ℕ)). part ∷ 
 abbrev pub joined : List (List ℕ) → List (List ℕ) → List (List ℕ)
 joined parts more = but_last parts ++ onto_first_part (last_of parts) more
 
-joined-cons : (part : List ℕ) (parts more : List (List ℕ)) → 0 < length parts → joined (part ∷ parts) more ≡ part ∷ joined parts more
+joined-cons : (part : List ℕ) (parts more : List (List ℕ)) → 0 < length parts
+    → joined (part ∷ parts) more ≡ part ∷ joined parts more
 joined-cons part [] more some = absurd (omega arith)
 joined-cons part (next ∷ parts) more some = refl
 
-onto_joined : (byte : ℕ) (parts more : List (List ℕ)) → 0 < length parts → onto_first byte (joined parts more) ≡ joined (onto_first byte parts) more
+onto_joined : (byte : ℕ) (parts more : List (List ℕ)) → 0 < length parts
+    → onto_first byte (joined parts more) ≡ joined (onto_first byte parts) more
 onto_joined byte [] more some = absurd (omega arith)
 onto_joined byte (part ∷ []) [] some = refl
 onto_joined byte (part ∷ []) (other ∷ others) some = refl
 onto_joined byte (part ∷ next ∷ parts) more some = refl
 
 -- the parts of a text and more: the last part of the one and the first of the other are one
-pub split-append : (text more : List ℕ) → slice_split is_line_end (text ++ more) ≡ joined (slice_split is_line_end text) (slice_split is_line_end more)
+pub split-append : (text more : List ℕ)
+    → slice_split is_line_end (text ++ more) ≡ joined (slice_split is_line_end text) (slice_split is_line_end more)
 split-append [] more = sym (none_onto (slice_split is_line_end more) (some_parts more))
 split-append (byte ∷ text) more = by (is_line_end byte) (split-append text more) where
   parts : List (List ℕ)
@@ -76,12 +82,15 @@ split-append (byte ∷ text) more = by (is_line_end byte) (split-append text mor
   by true rest = ap (λ (ps : List (List ℕ)). [] ∷ ps) rest ∙ sym (joined-cons [] parts others (some_parts text))
   by false rest = ap (onto_first byte) rest ∙ onto_joined byte parts others (some_parts text)
 
-but_last-append : (parts : List (List ℕ)) (part : List ℕ) (more : List (List ℕ)) → but_last (parts ++ part ∷ more) ≡ parts ++ but_last (part ∷ more)
+but_last-append : (parts : List (List ℕ)) (part : List ℕ) (more : List (List ℕ))
+    → but_last (parts ++ part ∷ more) ≡ parts ++ but_last (part ∷ more)
 but_last-append [] part more = refl
 but_last-append (first ∷ []) part more = refl
-but_last-append (first ∷ next ∷ parts) part more = ap (λ (ps : List (List ℕ)). first ∷ ps) (but_last-append (next ∷ parts) part more)
+but_last-append (first ∷ next ∷ parts) part more =
+    ap (λ (ps : List (List ℕ)). first ∷ ps) (but_last-append (next ∷ parts) part more)
 
-last_of-append : (parts : List (List ℕ)) (part : List ℕ) (more : List (List ℕ)) → last_of (parts ++ part ∷ more) ≡ last_of (part ∷ more)
+last_of-append : (parts : List (List ℕ)) (part : List ℕ) (more : List (List ℕ))
+    → last_of (parts ++ part ∷ more) ≡ last_of (part ∷ more)
 last_of-append [] part more = refl
 last_of-append (first ∷ []) part more = refl
 last_of-append (first ∷ next ∷ parts) part more = last_of-append (next ∷ parts) part more
@@ -114,7 +123,8 @@ one_part : (byte : ℕ) → is_line_end byte ≡ false → slice_split is_line_e
 one_part byte other = slice_split-cons_no is_line_end byte [] other
 
 -- any other byte is one more of the open line
-pub ended_lines-more : (text : List ℕ) (byte : ℕ) → is_line_end byte ≡ false → ended_lines (text ++ byte ∷ []) ≡ ended_lines text
+pub ended_lines-more : (text : List ℕ) (byte : ℕ) → is_line_end byte ≡ false
+    → ended_lines (text ++ byte ∷ []) ≡ ended_lines text
 unfolding ended_lines
 ended_lines-more text byte other =
     let parts : List (List ℕ) = slice_split is_line_end text in
@@ -122,7 +132,8 @@ ended_lines-more text byte other =
     ∙ but_last-append (but_last parts) (last_of parts ++ byte ∷ []) []
     ∙ append-nil (but_last parts)
 
-pub open_line-more : (text : List ℕ) (byte : ℕ) → is_line_end byte ≡ false → open_line (text ++ byte ∷ []) ≡ open_line text ++ byte ∷ []
+pub open_line-more : (text : List ℕ) (byte : ℕ) → is_line_end byte ≡ false
+    → open_line (text ++ byte ∷ []) ≡ open_line text ++ byte ∷ []
 unfolding open_line
 open_line-more text byte other =
     let parts : List (List ℕ) = slice_split is_line_end text in
@@ -136,14 +147,16 @@ pub lines_of-open : (text : List ℕ) → lines_of text ≡ ended_lines text ++ 
 unfolding ended_lines open_line
 lines_of-open text =
     let parts : List (List ℕ) = slice_split is_line_end text in
-    ap without_empty_last (parted parts (some_parts text)) ∙ without_empty_last-append (but_last parts) (last_of parts) []
+    ap without_empty_last (parted parts (some_parts text))
+    ∙ without_empty_last-append (but_last parts) (last_of parts) []
 
 -- the lines of a text and more that have not ended in the text
 unfoldable pub lines_after : List ℕ → List ℕ → List (List ℕ)
 lines_after text more = without_empty_last (onto_first_part (open_line text) (slice_split is_line_end more))
 
 onto_some : (bytes : List ℕ) (parts more : List (List ℕ))
-    → without_empty_last (parts ++ onto_first_part bytes more) ≡ parts ++ without_empty_last (onto_first_part bytes more)
+    → without_empty_last (parts ++ onto_first_part bytes more)
+    ≡ parts ++ without_empty_last (onto_first_part bytes more)
 onto_some bytes parts [] = without_empty_last-append parts bytes []
 onto_some bytes parts (part ∷ more) = without_empty_last-append parts (bytes ++ part) more
 
@@ -151,13 +164,15 @@ pub lines_of-append : (text more : List ℕ) → lines_of (text ++ more) ≡ end
 unfolding ended_lines open_line lines_after
 lines_of-append text more =
     let parts : List (List ℕ) = slice_split is_line_end text in
-    ap without_empty_last (split-append text more) ∙ onto_some (last_of parts) (but_last parts) (slice_split is_line_end more)
+    ap without_empty_last (split-append text more)
+    ∙ onto_some (last_of parts) (but_last parts) (slice_split is_line_end more)
 
 -- the lines of a text and more that end in what is more
 unfoldable pub ended_after : List ℕ → List ℕ → List (List ℕ)
 ended_after text more = but_last (onto_first_part (open_line text) (slice_split is_line_end more))
 
-onto_ended : (bytes : List ℕ) (parts more : List (List ℕ)) → but_last (parts ++ onto_first_part bytes more) ≡ parts ++ but_last (onto_first_part bytes more)
+onto_ended : (bytes : List ℕ) (parts more : List (List ℕ))
+    → but_last (parts ++ onto_first_part bytes more) ≡ parts ++ but_last (onto_first_part bytes more)
 onto_ended bytes parts [] = but_last-append parts bytes []
 onto_ended bytes parts (part ∷ more) = but_last-append parts (bytes ++ part) more
 
@@ -171,10 +186,12 @@ ended_lines-append text more =
 
 -- of a text within the limit, all
 pub heard_whole : (text : List ℕ) → length text ≤ LIMIT → heard_lines text ≡ lines_of text
-heard_whole text within = ap (λ (b : Bool). cond b (lines_of text) (ended_lines (take LIMIT text))) (le-leb (length text) LIMIT within)
+heard_whole text within = ap (λ (b : Bool). cond b (lines_of text) (ended_lines (take LIMIT text)))
+    (le-leb (length text) LIMIT within)
 
 -- those that ended in a front within the limit come first
-pub heard_first : (front more : List ℕ) → length front ≤ LIMIT → BeginsWith (heard_lines (front ++ more)) (ended_lines front)
+pub heard_first : (front more : List ℕ) → length front ≤ LIMIT
+    → BeginsWith (heard_lines (front ++ more)) (ended_lines front)
 heard_first front more within = by (nat_le (length (front ++ more)) LIMIT) where
   rest : ℕ
   rest = LIMIT - length front
@@ -182,7 +199,8 @@ heard_first front more within = by (nat_le (length (front ++ more)) LIMIT) where
   long : LIMIT ≡ length front + rest
   long = omega (arith, within)
 
-  by : (b : Bool) → BeginsWith (cond b (lines_of (front ++ more)) (ended_lines (take LIMIT (front ++ more)))) (ended_lines front)
+  by : (b : Bool)
+      → BeginsWith (cond b (lines_of (front ++ more)) (ended_lines (take LIMIT (front ++ more)))) (ended_lines front)
   by true = record { more = lines_after front more; is = lines_of-append front more }
   by false = record {
     more = ended_after front (take rest more);

@@ -1,4 +1,5 @@
--- Worked values of the definitions, which the checker computes: faults of a line in their order, breakpoints, looks, pokes.
+-- Worked values of the definitions, which the checker computes: faults of a line in their order,
+-- breakpoints, looks, pokes.
 use Rattle.std.proofs.Common.{◌≡◌, ℕ, ◌-◌, ◌^◌, List, [], ◌∷◌, Some, None, Ok, Err, Option, Result, codes, refl}
 use Rattle.std.specs.Fmt.{digits}
 use Rattle.cm_model.specs.declared.act.Act.{Act}
@@ -78,20 +79,24 @@ nothing_to_run : of_blank [] (codes "run" ∷ codes "step" ∷ []) ≡ codes "en
 unfolding going after_line after_lines line
 nothing_to_run = refl
 
-a_step_is_one_act : of_blank looks (codes "step" ∷ codes "step" ∷ codes "step" ∷ codes "step" ∷ []) ≡ codes "at 1\nat 2\nend\nend\n"
+a_step_is_one_act : of_blank looks (codes "step" ∷ codes "step" ∷ codes "step" ∷ codes "step" ∷ [])
+    ≡ codes "at 1\nat 2\nend\nend\n"
 unfolding going one_on after_line after_lines line digits
 a_step_is_one_act = refl
 
 the_first_act_runs_at_a_breakpoint_too :
-    of_blank looks (codes "break 0" ∷ codes "break 1" ∷ codes "run" ∷ codes "run" ∷ []) ≡ codes "break 0\nbreak 1\nat 1\nend\n"
+    of_blank looks (codes "break 0" ∷ codes "break 1" ∷ codes "run" ∷ codes "run" ∷ [])
+    ≡ codes "break 0\nbreak 1\nat 1\nend\n"
 unfolding going one_on after_line after_lines line digits
 the_first_act_runs_at_a_breakpoint_too = refl
 
-a_breakpoint_is_taken_away : of_blank looks (codes "break 2" ∷ codes "clear 2" ∷ codes "clear 1" ∷ codes "run" ∷ []) ≡ codes "break 2\nclear 2\nclear 1\nend\n"
+a_breakpoint_is_taken_away : of_blank looks (codes "break 2" ∷ codes "clear 2" ∷ codes "clear 1" ∷ codes "run" ∷ [])
+    ≡ codes "break 2\nclear 2\nclear 1\nend\n"
 unfolding going one_on after_line after_lines line digits
 a_breakpoint_is_taken_away = refl
 
-refused_lines_change_nothing : of_blank looks (codes "stop" ∷ [] ∷ codes "break 3" ∷ codes "step" ∷ []) ≡ codes "? 15\n? 2\nat 1\n"
+refused_lines_change_nothing : of_blank looks (codes "stop" ∷ [] ∷ codes "break 3" ∷ codes "step" ∷ [])
+    ≡ codes "? 15\n? 2\nat 1\n"
 unfolding going one_on after_line after_lines line digits
 refused_lines_change_nothing = refl
 
@@ -103,14 +108,18 @@ a_cycle_without_room_is_refused_where_it_stands = refl
 -- ---- what is told of a machine
 
 pokes_are_read_back :
-    of_blank looks (codes "poke 0 3 5 1" ∷ codes "field 0 3 4 2" ∷ codes "flag 0 3 9" ∷ codes "pokeflag 0 3 9 1" ∷ codes "flag 0 3 9" ∷ codes "wire show" ∷ [])
+    of_blank looks (codes "poke 0 3 5 1" ∷ codes "field 0 3 4 2" ∷ codes "flag 0 3 9" ∷ codes "pokeflag 0 3 9 1"
+    ∷ codes "flag 0 3 9" ∷ codes "wire show" ∷ [])
     ≡ codes "ok\nfield 2\nflag 0\nok\nflag 1\nwire 1\n"
-unfolding going one_on after_line after_lines line digits blank_machine blank_chip blank_processor with_memory_bit with_flag field_value wire each_from
+unfolding going one_on after_line after_lines line digits blank_machine blank_chip blank_processor with_memory_bit
+    with_flag field_value wire each_from
 pokes_are_read_back = refl
 
 looks_are_told_before_the_last_line :
-    of_blank looks (codes "wire on" ∷ codes "run" ∷ codes "wire off" ∷ codes "run" ∷ []) ≡ codes "wire on\nsense 0 0\nsense 1 0\nsense 2 0\nend\nwire off\nend\n"
-unfolding going one_on after_line after_lines line digits run_of opened closed blank_machine blank_chip blank_processor wire each_from
+    of_blank looks (codes "wire on" ∷ codes "run" ∷ codes "wire off" ∷ codes "run" ∷ [])
+    ≡ codes "wire on\nsense 0 0\nsense 1 0\nsense 2 0\nend\nwire off\nend\n"
+unfolding going one_on after_line after_lines line digits run_of opened closed blank_machine blank_chip
+    blank_processor wire each_from
 looks_are_told_before_the_last_line = refl
 
 nothing_is_there :
@@ -119,7 +128,8 @@ unfolding after_line after_lines line digits buffer_lines log_lines blank_machin
 nothing_is_there = refl
 
 a_message_is_told_by_seven_words :
-    line (message_words (codes "msg") (record { rel = 1; proc = 5; payload = 0xdeadbeef; tag = record { chip = 2; proc = 15; birth = 10 } }))
+    line (message_words (codes "msg")
+    (record { rel = 1; proc = 5; payload = 0xdeadbeef; tag = record { chip = 2; proc = 15; birth = 10 } }))
     ≡ codes "msg 1 5 0xdeadbeef 2 15 10\n"
 unfolding line digits
 a_message_is_told_by_seven_words = refl

@@ -1,5 +1,6 @@
 -- A stretch is answered as its acts are, one after another.
-use Rattle.std.proofs.Common.{◌≡◌, ℕ, suc, ◌+◌, ◌-◌, ◌^◌, ◌<◌, ◌≤◌, ◌==◌, ◌&&◌, Bool, true, false, cond, List, [], ◌∷◌, ◌++◌, length, refl, ap, ◌∙◌, sym, subst, arith, rules}
+use Rattle.std.proofs.Common.{◌≡◌, ℕ, suc, ◌+◌, ◌-◌, ◌^◌, ◌<◌, ◌≤◌, ◌==◌, ◌&&◌, Bool, true, false, cond, List, [], ◌∷◌}
+use Rattle.std.proofs.Common.{◌++◌, length, refl, ap, ◌∙◌, sym, subst, arith, rules}
 use Rattle.cm_model.specs.declared.act.Act.{Act}
 use Rattle.cm_model.specs.declared.act.Act.TheVariants as act
 use Rattle.cm_model.specs.Array.{wire}
@@ -20,8 +21,10 @@ has_room clock act.Cycle acts room = differs clock (omega (arith, cycles_in-cons
   differs k small = grind arith
 
 -- one act that has room
-pub going-one : (n cap : ℕ) (stops : ℕ → Bool) (session : Session) (a : Act) (more : List Act) → lacks_room session.machine.clock a ≡ false
-    → going n cap stops session (a ∷ more) ≡ preceded_by (told_by session a) (arrived n cap stops (acts_on n cap session (a ∷ [])) more)
+pub going-one : (n cap : ℕ) (stops : ℕ → Bool) (session : Session) (a : Act) (more : List Act)
+    → lacks_room session.machine.clock a ≡ false
+    → going n cap stops session (a ∷ more)
+    ≡ preceded_by (told_by session a) (arrived n cap stops (acts_on n cap session (a ∷ [])) more)
 unfolding going one_on
 going-one n cap stops session a more room =
     ap (λ (b : Bool). cond b (told session (refused_line CLOCK)) (preceded_by (told_by session a)
@@ -38,13 +41,16 @@ tells_nothing session act.Cycle h = refl
 tells_nothing session act.Sense h = untold session.report h (sense_line session.position (wire session.machine.chips))
 
 -- the stretch after its first act
-after_first : (n cap : ℕ) (stops : ℕ → Bool) (session : Session) (a b : Act) (acts : List Act) → IsStretch stops session.report session.position session.machine.clock (a ∷ b ∷ acts)
+after_first : (n cap : ℕ) (stops : ℕ → Bool) (session : Session) (a b : Act) (acts : List Act)
+    → IsStretch stops session.report session.position session.machine.clock (a ∷ b ∷ acts)
     → IsStretch stops session.report (session.position + 1) (run_of n cap session.machine (a ∷ [])).clock (b ∷ acts)
 after_first n cap stops session a b acts stretch = record {
   silent = λ i some inside. stretch.silent (suc i) (omega arith) (omega arith);
-  goes = λ i some inside. subst (λ (k : ℕ). stops k ≡ false) (omega arith) (stretch.goes (suc i) (omega arith) (omega arith));
+  goes = λ i some inside. subst (λ (k : ℕ). stops k ≡ false) (omega arith)
+      (stretch.goes (suc i) (omega arith) (omega arith));
   room =
-      let clock : (run_of n cap session.machine (a ∷ [])).clock ≡ session.machine.clock + cycles_in (a ∷ []) = clock-run_of n cap session.machine (a ∷ []) in
+      let clock : (run_of n cap session.machine (a ∷ [])).clock ≡ session.machine.clock + cycles_in (a ∷ []) =
+      clock-run_of n cap session.machine (a ∷ []) in
       let one : cycles_in (a ∷ []) ≡ cond (is_cycle a) 1 0 + cycles_in [] = cycles_in-cons a [] in
       let all : cycles_in (a ∷ b ∷ acts) ≡ cond (is_cycle a) 1 0 + cycles_in (b ∷ acts) = cycles_in-cons a (b ∷ acts) in
       omega (arith, stretch.room, clock, one, all);
@@ -54,7 +60,8 @@ after_first n cap stops session a b acts stretch = record {
 acts_on-cons : (n cap : ℕ) (session : Session) (a : Act) (acts : List Act)
     → acts_on n cap (acts_on n cap session (a ∷ [])) acts ≡ acts_on n cap session (a ∷ acts)
 acts_on-cons n cap session a acts =
-    let machine : run_of n cap (run_of n cap session.machine (a ∷ [])) acts ≡ run_of n cap session.machine (a ∷ acts) = sym (run_of-append n cap session.machine (a ∷ []) acts) in
+    let machine : run_of n cap (run_of n cap session.machine (a ∷ [])) acts ≡ run_of n cap session.machine (a ∷ acts) =
+    sym (run_of-append n cap session.machine (a ∷ []) acts) in
     let position : session.position + 1 + length acts ≡ session.position + suc (length acts) = omega arith in
     λ i. record session { machine = machine i; position = position i }
 
@@ -65,8 +72,10 @@ going-stretch n cap stops session a (b ∷ acts) more stretch =
     let next : Session = acts_on n cap session (a ∷ []) in
     let goes : stops (session.position + 1) ≡ false = stretch.goes 1 (omega arith) (omega arith) in
     let goes_on : arrived n cap stops next ((b ∷ acts) ++ more) ≡ going n cap stops next ((b ∷ acts) ++ more) =
-    ap (λ (stop : Bool). cond (stop && true) (told next (at_line next.position)) (going n cap stops next ((b ∷ acts) ++ more))) goes in
-    let rest : going n cap stops next ((b ∷ acts) ++ more) ≡ preceded_by (told_by next b) (arrived n cap stops (acts_on n cap next (b ∷ acts)) more) =
+    ap (λ (stop : Bool). cond (stop && true) (told next (at_line next.position))
+    (going n cap stops next ((b ∷ acts) ++ more))) goes in
+    let rest : going n cap stops next ((b ∷ acts) ++ more)
+    ≡ preceded_by (told_by next b) (arrived n cap stops (acts_on n cap next (b ∷ acts)) more) =
     going-stretch n cap stops next b acts more (after_first n cap stops session a b acts stretch) in
     let silent : told_by next b ≡ [] = tells_nothing next b (stretch.silent 1 (omega arith) (omega arith)) in
     going-one n cap stops session a ((b ∷ acts) ++ more) (has_room session.machine.clock a (b ∷ acts) stretch.room)
@@ -78,7 +87,8 @@ going-stretch n cap stops session a (b ∷ acts) more stretch =
 
 arriving : (n cap : ℕ) (stops : ℕ → Bool) (session : Session) (acts : List Act)
     → session.position ≤ (going n cap stops session acts).session.position
-    → (stop : Bool) → session.position ≤ (cond stop (told session (at_line session.position)) (going n cap stops session acts)).session.position
+    → (stop : Bool) → session.position
+    ≤ (cond stop (told session (at_line session.position)) (going n cap stops session acts)).session.position
 arriving n cap stops session acts rest true = omega arith
 arriving n cap stops session acts rest false = rest
 
@@ -88,13 +98,15 @@ pub going-rises : (n cap : ℕ) (stops : ℕ → Bool) (session : Session) (acts
 unfolding going one_on
 going-rises n cap stops session [] = omega arith
 going-rises n cap stops session (a ∷ acts) =
-    by (lacks_room session.machine.clock a) (arriving n cap stops next acts (going-rises n cap stops next acts) (stops next.position && has_acts acts))
+    by (lacks_room session.machine.clock a)
+    (arriving n cap stops next acts (going-rises n cap stops next acts) (stops next.position && has_acts acts))
   where
     next : Session
     next = acts_on n cap session (a ∷ [])
 
     by : (refused : Bool) → session.position + 1 ≤ (arrived n cap stops next acts).session.position → session.position
-        ≤ (cond refused (told session (refused_line CLOCK)) (preceded_by (told_by session a) (arrived n cap stops next acts))).session.position
+        ≤ (cond refused (told session (refused_line CLOCK))
+        (preceded_by (told_by session a) (arrived n cap stops next acts))).session.position
     by true h = omega arith
     by false h = omega (arith, h)
 

@@ -17,13 +17,15 @@ line words = spaced words ++ 10 ∷ []
 -- a payload: `0x` and eight digits
 abbrev pub payload_word : ℕ → List ℕ
 payload_word x =
-    48 ∷ 120 ∷ hex_digit (x / 268435456) ∷ hex_digit (x / 16777216 % 16) ∷ hex_digit (x / 1048576 % 16) ∷ hex_digit (x / 65536 % 16)
+    48 ∷ 120 ∷ hex_digit (x / 268435456) ∷ hex_digit (x / 16777216 % 16) ∷ hex_digit (x / 1048576 % 16)
+    ∷ hex_digit (x / 65536 % 16)
     ∷ hex_digit (x / 4096 % 16) ∷ hex_digit (x / 256 % 16) ∷ hex_digit (x / 16 % 16) ∷ hex_digit (x % 16) ∷ []
 
 -- a message after a word: relative address, processor, payload, and its tag
 abbrev pub message_words : List ℕ → Message → List (List ℕ)
 message_words word m =
-    word ∷ decimal m.rel ∷ decimal m.proc ∷ payload_word m.payload ∷ decimal m.tag.chip ∷ decimal m.tag.proc ∷ decimal m.tag.birth ∷ []
+    word ∷ decimal m.rel ∷ decimal m.proc ∷ payload_word m.payload ∷ decimal m.tag.chip ∷ decimal m.tag.proc
+    ∷ decimal m.tag.birth ∷ []
 
 -- the line of a message that stands in a router
 unfoldable pub standing_line : Message → List ℕ

@@ -1,5 +1,6 @@
 -- The command of a line of a session, by its words: ours.
-use Rattle.std.specs.Prelude.{ℕ, ◌^◌, if◌then◌else◌, Option, Some, None, Result, Ok, Err, List, [], ◌∷◌, codes, bytes_eq}
+use Rattle.std.specs.Prelude.{ℕ, ◌^◌, if◌then◌else◌, Option, Some, None, Result, Ok, Err}
+use Rattle.std.specs.Prelude.{List, [], ◌∷◌, codes, bytes_eq}
 use Rattle.cm_bits.specs.Field.{field_fault}
 use Rattle.cm_session.specs.declared.command.Command.{Command}
 use Rattle.cm_session.specs.declared.command.Command.TheVariants as command
@@ -53,7 +54,8 @@ poke_of n _ = Err Operands
 abbrev pub poke_flag_of : ℕ → List (List ℕ) → Result Command Refusal
 poke_flag_of n (c ∷ p ∷ f ∷ b ∷ []) =
     number c >>= λ c'. number p >>= λ p'. number f >>= λ f'. number b >>= λ b'.
-    place n c' p' >>= λ there. below 16 f' >>= λ flag. one_bit b' >>= λ bit. pokeable flag >>= λ poked. Ok (command.PokeFlag there poked bit)
+    place n c' p' >>= λ there. below 16 f' >>= λ flag. one_bit b' >>= λ bit. pokeable flag >>= λ poked.
+    Ok (command.PokeFlag there poked bit)
 poke_flag_of n _ = Err Operands
 
 -- a chip

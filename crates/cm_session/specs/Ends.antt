@@ -1,5 +1,6 @@
 -- How a session ends: what it wrote and the machine that it left, after each of its faults too. Ours.
-use Rattle.std.specs.Prelude.{◌≡◌, ℕ, ◌+◌, ◌<◌, ◌≤◌, ◌⊎◌, Bool, true, false, if◌then◌else◌, nat_le, Option, Some, Result, Ok, Err, List, [], ◌∷◌, ◌++◌, length, take, drop}
+use Rattle.std.specs.Prelude.{◌≡◌, ℕ, ◌+◌, ◌<◌, ◌≤◌, ◌⊎◌, Bool, true, false, if◌then◌else◌, nat_le, Option, Some}
+use Rattle.std.specs.Prelude.{Result, Ok, Err, List, [], ◌∷◌, ◌++◌, length, take, drop}
 use Rattle.std.specs.List.{slice_split}
 use Rattle.std.specs.Io.KnownBytes.{Appends, Consumes}
 use Rattle.cm_bits.specs.Text.{is_line_end, lines_of}
@@ -38,7 +39,8 @@ abbrev pub session_after : ℕ → ℕ → List Act → Machine → List (List �
 session_after n cap acts start lines = (after_lines n cap acts (opening start (length acts)) lines).session
 
 -- these lines are all answered, and the machine is that after them
-pub record IsAnswered (n cap : ℕ) (acts : List Act) (start : Machine) (held : Option (List ℕ)) (lines : List (List ℕ)) (machine : Machine)
+pub record IsAnswered (n cap : ℕ) (acts : List Act) (start : Machine) (held : Option (List ℕ))
+    (lines : List (List ℕ)) (machine : Machine)
     (holds : Option (List ℕ)) : Type 0 where
   pub written : Appends held holds (answers n cap start acts lines)
   pub machine_is : machine ≡ left n cap start acts lines
@@ -56,10 +58,12 @@ IsOnTheWay n cap acts before after machine = (machine ≡ before.machine) ⊎ Is
 -- the machine before the first of these lines, or in the midst of it
 abbrev pub IsBeforeOrAmid : ℕ → ℕ → List Act → Session → List (List ℕ) → Machine → Type 0
 IsBeforeOrAmid n cap acts before [] machine = machine ≡ before.machine
-IsBeforeOrAmid n cap acts before (line ∷ lines) machine = IsOnTheWay n cap acts before (after_line n cap acts before line).session machine
+IsBeforeOrAmid n cap acts before (line ∷ lines) machine =
+    IsOnTheWay n cap acts before (after_line n cap acts before line).session machine
 
 -- so many bytes of the answers to these lines are written; some lines are done, and perhaps some acts of the next
-pub record IsStopped (n cap : ℕ) (acts : List Act) (start : Machine) (held : Option (List ℕ)) (lines : List (List ℕ)) (machine : Machine)
+pub record IsStopped (n cap : ℕ) (acts : List Act) (start : Machine) (held : Option (List ℕ))
+    (lines : List (List ℕ)) (machine : Machine)
     (holds : Option (List ℕ)) (count : ℕ) : Type 0 where
   pub within : count < length (answers n cap start acts lines)
   pub written : Appends held holds (take count (answers n cap start acts lines))
@@ -68,8 +72,10 @@ pub record IsStopped (n cap : ℕ) (acts : List Act) (start : Machine) (held : O
   pub lines_are : lines ≡ done ++ undone
   pub machine_is : IsBeforeOrAmid n cap acts (session_after n cap acts start done) undone machine
 
--- a source that has this text gave these bytes, not more than the most, and the lines that ended in them are all answered
-pub record IsAnsweredSoFar (n cap : ℕ) (acts : List Act) (text : List ℕ) (rest : Option (List ℕ)) (start : Machine) (held : Option (List ℕ))
+-- a source that has this text gave these bytes, not more than the most,
+-- and the lines that ended in them are all answered
+pub record IsAnsweredSoFar (n cap : ℕ) (acts : List Act) (text : List ℕ) (rest : Option (List ℕ)) (start : Machine)
+    (held : Option (List ℕ))
     (machine : Machine) (holds : Option (List ℕ)) : Type 0 where
   pub taken : List ℕ
   pub consumed : Consumes (Some text) rest taken
@@ -77,7 +83,8 @@ pub record IsAnsweredSoFar (n cap : ℕ) (acts : List Act) (text : List ℕ) (re
   pub answered : IsAnswered n cap acts start held (ended_lines taken) machine holds
 
 -- some of these lines are done and their answers written, no byte more; and perhaps some acts of the next are run
-pub record IsBrokenOff (n cap : ℕ) (acts : List Act) (start : Machine) (held : Option (List ℕ)) (lines : List (List ℕ)) (machine : Machine)
+pub record IsBrokenOff (n cap : ℕ) (acts : List Act) (start : Machine) (held : Option (List ℕ))
+    (lines : List (List ℕ)) (machine : Machine)
     (holds : Option (List ℕ)) : Type 0 where
   pub done : List (List ℕ)
   pub undone : List (List ℕ)
@@ -94,12 +101,16 @@ abbrev pub Ends : ℕ → ℕ → List Act → List ℕ → Option (List ℕ) �
     → Result (Unit {0}) SessionFault → Type 0
 Ends n cap acts text rest start held machine holds (Ok done) =
     (length text ≤ LIMIT) × IsAnswered n cap acts start held (lines_of text) machine holds
-Ends n cap acts text rest start held machine holds (Err Read) = IsAnsweredSoFar n cap acts text rest start held machine holds
-Ends n cap acts text rest start held machine holds (Err (Write count)) = IsStopped n cap acts start held (heard_lines text) machine holds count
+Ends n cap acts text rest start held machine holds (Err Read) =
+    IsAnsweredSoFar n cap acts text rest start held machine holds
+Ends n cap acts text rest start held machine holds (Err (Write count)) =
+    IsStopped n cap acts start held (heard_lines text) machine holds count
 Ends n cap acts text rest start held machine holds (Err TooMuch) =
     (LIMIT < length text) × IsAnswered n cap acts start held (ended_lines (take LIMIT text)) machine holds
-Ends n cap acts text rest start held machine holds (Err Memory) = IsBrokenOff n cap acts start held (heard_lines text) machine holds
-Ends n cap acts text rest start held machine holds (Err NoThread) = IsBrokenOff n cap acts start held (heard_lines text) machine holds
+Ends n cap acts text rest start held machine holds (Err Memory) =
+    IsBrokenOff n cap acts start held (heard_lines text) machine holds
+Ends n cap acts text rest start held machine holds (Err NoThread) =
+    IsBrokenOff n cap acts start held (heard_lines text) machine holds
 
 -- it ended by a write
 abbrev pub is_write : Result (Unit {0}) SessionFault → Bool

@@ -9,7 +9,8 @@ use Rattle.cm_session.specs.Ends.{ended_lines}
 abbrev pub LinesCanBeParted : Type 0
 LinesCanBeParted = (n cap : ℕ) (acts : List Act) (session : Session) (lines more : List (List ℕ)) →
     after_lines n cap acts session (lines ++ more)
-    ≡ preceded_by (after_lines n cap acts session lines).answer (after_lines n cap acts (after_lines n cap acts session lines).session more)
+    ≡ preceded_by (after_lines n cap acts session lines).answer
+    (after_lines n cap acts (after_lines n cap acts session lines).session more)
 
 -- the lines of a text begin with those whose end stands in its front
 pub record BeginsWith (lines first : List (List ℕ)) : Type 0 where

@@ -1,5 +1,7 @@
 -- A session: what it does and answers line by line, one act after another. Ours.
-use Rattle.std.specs.Prelude.{ℕ, ◌+◌, ◌-◌, ◌^◌, ◌==◌, ◌&&◌, Bool, true, false, if◌then◌else◌, Option, Some, None, Result, Ok, Err, List, [], ◌∷◌, ◌++◌, length, drop, replicate, slice_index_or, slice_set, codes, decimal}
+use Rattle.std.specs.Prelude.{ℕ, ◌+◌, ◌-◌, ◌^◌, ◌==◌, ◌&&◌, Bool, true, false, if◌then◌else◌, Option, Some, None}
+use Rattle.std.specs.Prelude.{Result, Ok, Err, List, [], ◌∷◌, ◌++◌, length, drop, replicate, slice_index_or}
+use Rattle.std.specs.Prelude.{slice_set, codes, decimal}
 use Rattle.cm_bits.specs.Bit.{bit_number}
 use Rattle.cm_bits.specs.Text.{words_of}
 use Rattle.cm_model.specs.declared.act.Act.{Act}
@@ -13,7 +15,8 @@ use Rattle.cm_session.specs.declared.command.Command.{Command}
 use Rattle.cm_session.specs.declared.command.Command.TheVariants as command
 use Rattle.cm_session.specs.declared.command.Refusal.{Refusal}
 use Rattle.cm_session.specs.Commands.{command_of}
-use Rattle.cm_session.specs.Answer.{line, buffer_lines, log_lines, found_line, refusal_number, CLOCK, refused_line, at_line, end_line, sense_line}
+use Rattle.cm_session.specs.Answer.{line, buffer_lines, log_lines, found_line, refusal_number, CLOCK, refused_line}
+use Rattle.cm_session.specs.Answer.{at_line, end_line, sense_line}
 
 -- a session between two lines
 pub record Session : Type 0 where
@@ -58,14 +61,16 @@ told_by session (Nano nano) = []
 
 -- the session one act on, on a cube of n dimensions whose routers have room for cap messages each
 unfoldable pub one_on : ℕ → ℕ → Session → Act → Session
-one_on n cap session act = record session { machine = run_of n cap session.machine (act ∷ []); position = session.position + 1 }
+one_on n cap session act =
+    record session { machine = run_of n cap session.machine (act ∷ []); position = session.position + 1 }
 
 -- there are acts
 abbrev pub has_acts : List Act → Bool
 has_acts [] = false
 has_acts (act ∷ acts) = true
 
--- acts are run, one after another, until a place is reached where the session stops, or their end, or a petit cycle without room
+-- acts are run, one after another, until a place is reached where the session stops, or their end,
+-- or a petit cycle without room
 unfoldable pub going : ℕ → ℕ → (ℕ → Bool) → Session → List Act → Answered
 going n cap stops session [] = told session end_line
 going n cap stops session (act ∷ acts) =
@@ -99,18 +104,24 @@ obeyed n cap acts session command.Step = going n cap everywhere session (drop se
 obeyed n cap acts session command.Run = going n cap (at_breaks session.breaks) session (drop session.position acts)
 obeyed n cap acts session (command.Break i) = told (with_break session i true) (line (codes "break" ∷ decimal i ∷ []))
 obeyed n cap acts session (command.Clear i) = told (with_break session i false) (line (codes "clear" ∷ decimal i ∷ []))
-obeyed n cap acts session command.WireOn = told (record session { report = true }) (line (codes "wire" ∷ codes "on" ∷ []))
-obeyed n cap acts session command.WireOff = told (record session { report = false }) (line (codes "wire" ∷ codes "off" ∷ []))
+obeyed n cap acts session command.WireOn =
+    told (record session { report = true }) (line (codes "wire" ∷ codes "on" ∷ []))
+obeyed n cap acts session command.WireOff =
+    told (record session { report = false }) (line (codes "wire" ∷ codes "off" ∷ []))
 obeyed n cap acts session command.WireShow =
     told session (line (codes "wire" ∷ decimal (bit_number (wire session.machine.chips)) ∷ []))
 obeyed n cap acts session (command.Field place bits) =
-    told session (line (codes "field" ∷ decimal (field_value (processor_of session.machine.chips place) bits.at bits.len) ∷ []))
+    told session
+    (line (codes "field" ∷ decimal (field_value (processor_of session.machine.chips place) bits.at bits.len) ∷ []))
 obeyed n cap acts session (command.Flag place number) =
-    told session (line (codes "flag" ∷ decimal (bit_number (flag (processor_of session.machine.chips place) number)) ∷ []))
+    told session
+    (line (codes "flag" ∷ decimal (bit_number (flag (processor_of session.machine.chips place) number)) ∷ []))
 obeyed n cap acts session (command.Poke place address b) =
-    told (with_machine session (machine_with_memory_bit session.machine place.chip place.proc address b)) (line (codes "ok" ∷ []))
+    told (with_machine session (machine_with_memory_bit session.machine place.chip place.proc address b))
+    (line (codes "ok" ∷ []))
 obeyed n cap acts session (command.PokeFlag place number b) =
-    told (with_machine session (machine_with_flag session.machine place.chip place.proc number b)) (line (codes "ok" ∷ []))
+    told (with_machine session (machine_with_flag session.machine place.chip place.proc number b))
+    (line (codes "ok" ∷ []))
 obeyed n cap acts session (command.Buffer c) = told session (buffer_lines (list_at session.machine.buffers c))
 obeyed n cap acts session (command.Find tag) = told session (found_line (found_in n session.machine tag))
 obeyed n cap acts session (command.Events c) = told session (log_lines (list_at session.machine.logs c))
@@ -131,7 +142,8 @@ after_line n cap acts session line = answered n cap acts session (command_of n (
 unfoldable pub after_lines : ℕ → ℕ → List Act → Session → List (List ℕ) → Answered
 after_lines n cap acts session [] = told session []
 after_lines n cap acts session (line ∷ lines) =
-    preceded_by (after_line n cap acts session line).answer (after_lines n cap acts (after_line n cap acts session line).session lines)
+    preceded_by (after_line n cap acts session line).answer
+    (after_lines n cap acts (after_line n cap acts session line).session lines)
 
 -- what a session of these lines answers
 abbrev pub answers : ℕ → ℕ → Machine → List Act → List (List ℕ) → List ℕ

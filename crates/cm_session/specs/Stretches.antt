@@ -1,5 +1,6 @@
 -- Stretches: acts that a session hands to its runner at once, and the law that it answers the same. Ours.
-use Rattle.std.specs.Prelude.{◌≡◌, ℕ, ◌+◌, ◌^◌, ◌<◌, ◌&&◌, Bool, true, false, if◌then◌else◌, List, ◌∷◌, ◌++◌, length, slice_index_or}
+use Rattle.std.specs.Prelude.{◌≡◌, ℕ, ◌+◌, ◌^◌, ◌<◌, ◌&&◌, Bool, true, false, if◌then◌else◌, List, ◌∷◌}
+use Rattle.std.specs.Prelude.{◌++◌, length, slice_index_or}
 use Rattle.cm_model.specs.declared.act.Act.{Act}
 use Rattle.cm_model.specs.declared.act.Act.TheVariants.{Nano, Sense, Cycle}
 use Rattle.cm_model.specs.Machine.{run_of}
@@ -17,8 +18,8 @@ is_look (Nano nano) = false
 abbrev pub looks_at : List Act → ℕ → Bool
 looks_at acts i = is_look (slice_index_or acts i Cycle)
 
--- from a position and a count of petit cycles on: after the first act none is a look that is told, none is at a place where the
--- session stops, and the counter has room for all
+-- from a position and a count of petit cycles on: after the first act none is a look that is told, none is at a place
+-- where the session stops, and the counter has room for all
 pub record IsStretch (stops : ℕ → Bool) (report : Bool) (position clock : ℕ) (acts : List Act) : Type 0 where
   pub silent : (i : ℕ) → 0 < i → i < length acts → (report && looks_at acts i) ≡ false
   pub goes : (i : ℕ) → 0 < i → i < length acts → stops (position + i) ≡ false
@@ -32,9 +33,11 @@ acts_on n cap session acts =
 -- where the session has come to a place: it stops there, or goes on
 abbrev pub arrived : ℕ → ℕ → (ℕ → Bool) → Session → List Act → Answered
 arrived n cap stops session acts =
-    if stops session.position && has_acts acts then told session (at_line session.position) else going n cap stops session acts
+    if stops session.position && has_acts acts then told session (at_line session.position)
+    else going n cap stops session acts
 
--- acts that begin with a stretch are answered as the stretch is at once: what its first act tells, and then what comes after
+-- acts that begin with a stretch are answered as the stretch is at once: what its first act tells,
+-- and then what comes after
 abbrev pub StretchesAreAnsweredAlike : Type 0
 StretchesAreAnsweredAlike = (n cap : ℕ) (stops : ℕ → Bool) (session : Session) (first : Act) (acts more : List Act)
     → IsStretch stops session.report session.position session.machine.clock (first ∷ acts)

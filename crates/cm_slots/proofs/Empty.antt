@@ -11,7 +11,8 @@ use Rattle.cm_slots.specs.declared.ticket.Ticket.{Ticket}
 use Rattle.cm_slots.specs.declared.tile.Tile.{Tile}
 use Rattle.cm_slots.specs.Tickets.{ticket_of}
 use Rattle.cm_slots.specs.Slots.{slot_behind, AreSlots}
-use Rattle.cm_slots.specs.Tiles.{slots_of, no_tile, tile_at, tickets_of, queues_in, IsShaped, IsTile, AreEmpty, AreTiles}
+use Rattle.cm_slots.specs.Tiles.{slots_of, no_tile, tile_at, tickets_of, queues_in, IsShaped}
+use Rattle.cm_slots.specs.Tiles.{IsTile, AreEmpty, AreTiles}
 use Rattle.cm_slots.proofs.Standing.{zeros, get_or-zeros, standing_is}
 
 -- the rows of a new tile

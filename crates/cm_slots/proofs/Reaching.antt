@@ -15,7 +15,10 @@ pub same_place : {X : Type 0} (test : X → Bool) (room reach : ℕ) (xs : List 
     → place_of_leaver test reach xs ≡ place_of_leaver test room xs
 unfolding place_of_leaver
 same_place test room reach xs less few =
-    rw (ne_eqb (length xs) reach (λ e. absurd (omega (arith, e))), ne_eqb (length xs) room (λ e. absurd (omega (arith, e)))) refl
+    rw (
+      ne_eqb (length xs) reach (λ e. absurd (omega (arith, e))),
+      ne_eqb (length xs) room (λ e. absurd (omega (arith, e))),
+    ) refl
 
 -- the room is all, or at each chip stand fewer
 abbrev pub IsReach : ℕ → ℕ → Tile → Type 0

@@ -23,7 +23,8 @@ use Rattle.cm_slots.specs.Tickets.{ticket_of, ticket_in, has_to_go, ticket_going
 use Rattle.cm_slots.specs.Slots.{is_taken, crosses, slot_across, comers, AreSlots}
 use Rattle.cm_slots.specs.Tiles.{no_tile, tile_at, leavers_at, tile_across, place_across, arriving, slots_of}
 use Rattle.cm_slots.specs.Tiles.{standing_at}
-use Rattle.cm_slots.specs.Tiles.{number_leaving, ticket_leaving, tickets_of, queues_in, IsShaped, IsQuiet, IsTile, HasLeft, HasTakenIn}
+use Rattle.cm_slots.specs.Tiles.{number_leaving, ticket_leaving, tickets_of, queues_in, IsShaped, IsQuiet}
+use Rattle.cm_slots.specs.Tiles.{IsTile, HasLeft, HasTakenIn}
 use Rattle.cm_slots.proofs.Numbers.{flip, leaver_comes, leaver_is_taken, leaver_ticket, comers-few, stayers-tickets}
 use Rattle.cm_slots.proofs.Numbers.{exchanged-tickets}
 use Rattle.cm_slots.proofs.Standing.{standing_is}
@@ -264,7 +265,8 @@ module _ (room d count : ℕ) (old left : List Tile) (leaving : List (Option (Li
     unfolding xs
     leaving_ticket =
         ap ticket_in leaves_as
-        ∙ leaver_ticket d 15 room (slots_of (tile_at old (c / 64)) (c % 64)) xs (slots_are (c / 64) (c % 64) h place_low)
+        ∙ leaver_ticket d 15 room (slots_of (tile_at old (c / 64)) (c % 64)) xs
+        (slots_are (c / 64) (c % 64) h place_low)
 
     pub leaving_taken : number_leaving leaving c ≢ 0 → is_taken (number_leaving leaving c) ≡ true
     unfolding xs

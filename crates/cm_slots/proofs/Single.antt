@@ -17,7 +17,8 @@ use Rattle.cm_model.proofs.Leaving.{map-without}
 use Rattle.cm_slots.specs.declared.ticket.Ticket.{Ticket}
 use Rattle.cm_slots.specs.declared.tile.Tile.{Tile}
 use Rattle.cm_slots.specs.Tickets.{ticket_of}
-use Rattle.cm_slots.specs.Tiles.{no_tile, tile_at, tickets_of, queues_in, standing_at, slots_of, IsQuiet, IsTile, AreTiles}
+use Rattle.cm_slots.specs.Tiles.{no_tile, tile_at, tickets_of, queues_in, standing_at, slots_of}
+use Rattle.cm_slots.specs.Tiles.{IsQuiet, IsTile, AreTiles}
 use Rattle.cm_slots.specs.Tiles.{HasChanged, IsChanged}
 use Rattle.cm_slots.proofs.Runs.{items-lent}
 use Rattle.cm_slots.specs.Slots.{is_taken}

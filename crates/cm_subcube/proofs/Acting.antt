@@ -1,5 +1,6 @@
 -- Blocks that go through acts until a round.
-use Rattle.std.proofs.Common.{◌≡◌, ℕ, ◌-◌, ◌+◌, ◌<◌, ◌≤◌, Bool, true, false, List, [], ◌∷◌, ◌++◌, length, get_or, map, take, drop, refl}
+use Rattle.std.proofs.Common.{◌≡◌, ℕ, ◌-◌, ◌+◌, ◌<◌, ◌≤◌, Bool, true, false, List, [], ◌∷◌, ◌++◌, length, get_or, map}
+use Rattle.std.proofs.Common.{take, drop, refl}
 use Rattle.std.proofs.Common.{sym, ◌∙◌, ap, arith, length-drop}
 use Rattle.std.proofs.lemmas.List.{take_all}
 use Rattle.std.specs.List.{range_with_len}
@@ -12,7 +13,8 @@ use Rattle.cm_array.specs.Cuts.{KeptPart}
 use Rattle.cm_subcube.specs.Blocks.{KeptBlock, IsBlock, CanGo, HasGone}
 use Rattle.cm_subcube.specs.Local.{is_through}
 use Rattle.cm_subcube.proofs.Stopping.{until_round-through, until_round-stopped, until_round-all, begins}
-use Rattle.cm_subcube.proofs.Stopping.{all_steps-more, all_steps-split, is_through-more, cycle_stops, cycle_goes_through}
+use Rattle.cm_subcube.proofs.Stopping.{all_steps-more, all_steps-split, is_through-more}
+use Rattle.cm_subcube.proofs.Stopping.{cycle_stops, cycle_goes_through}
 use Rattle.cm_subcube.proofs.Going.{HasGone-none, HasGone-append, CanGo-first, CanGo-second, HasGone-same, CanGo-same}
 
 -- ---- steps in two
@@ -43,7 +45,8 @@ module _ (done : List Step) (here rest : ℕ → List Step) (old mid : KeptBlock
   can_go_on : CanGo (until_round old.kept.dims old.k (done ++ both)) old → CanGo (steps_for here mid) mid
   can_go_on can =
       let first = begins old.kept.dims old.k (here old.kept.dims) (rest old.kept.dims) in
-      let all = CanGo-same (until_round old.kept.dims old.k (done ++ both)) (done ++ (steps_for here old ++ first.0)) old
+      let all = CanGo-same (until_round old.kept.dims old.k (done ++ both))
+      (done ++ (steps_for here old ++ first.0)) old
       (split ∙ ap (λ z. done ++ z) first.1) can in
       CanGo-same (steps_for here old) (steps_for here mid) mid (sym (same_steps done here old mid gone))
       (CanGo-first (steps_for here old) first.0 mid
@@ -97,7 +100,8 @@ module _ (acts : List Act) (i : ℕ) (one : Act) (below : i < length acts) (is :
   pub act_can_go : CanGo (steps_for (λ m. all_steps m acts) old) old → CanGo (steps_for here mid) mid
   act_can_go can =
       can_go_on done here rest old mid gone through
-      (CanGo-same (steps_for (λ m. all_steps m acts) old) (until_round n old.k (done ++ (here n ++ rest n))) old parted can)
+      (CanGo-same (steps_for (λ m. all_steps m acts) old)
+      (until_round n old.k (done ++ (here n ++ rest n))) old parted can)
 
   -- where a round of it came, all that was to do is done
   pub act_stopped : (new : KeptBlock) → HasGone (steps_for here mid) mid new
@@ -150,7 +154,8 @@ module _ (behind : List Step) (acts : List Act) (at : ℕ) (old mid : KeptBlock)
   tail_can_go can =
       CanGo-same until (steps_for taken mid) mid (sym same_until)
       (CanGo-second behind until old mid
-      (CanGo-same (until_round old.kept.dims old.k (behind ++ all_steps old.kept.dims tail)) (behind ++ until) old whole can)
+      (CanGo-same (until_round old.kept.dims old.k (behind ++ all_steps old.kept.dims tail))
+      (behind ++ until) old whole can)
       done_behind)
 
   pub tail_done : (new : KeptBlock) → HasGone (steps_for taken mid) mid new
@@ -158,7 +163,8 @@ module _ (behind : List Step) (acts : List Act) (at : ℕ) (old mid : KeptBlock)
   tail_done new more =
       HasGone-same (behind ++ until) (until_round old.kept.dims old.k (behind ++ all_steps old.kept.dims tail)) old new
       (sym whole)
-      (HasGone-append behind until old mid new done_behind (HasGone-same (steps_for taken mid) until mid new same_until more))
+      (HasGone-append behind until old mid new done_behind
+      (HasGone-same (steps_for taken mid) until mid new same_until more))
 
 -- ---- a petit cycle
 

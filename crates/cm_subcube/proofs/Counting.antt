@@ -1,5 +1,6 @@
 -- Steps from round to round, and counts of them.
-use Rattle.std.proofs.Common.{◌≡◌, ℕ, zero, suc, ◌+◌, ◌*◌, Bool, true, false, cond, List, [], ◌∷◌, ◌++◌, map, None, refl, sym, ◌∙◌, ap}
+use Rattle.std.proofs.Common.{◌≡◌, ℕ, zero, suc, ◌+◌, ◌*◌, Bool, true, false, cond, List, [], ◌∷◌, ◌++◌, map, None}
+use Rattle.std.proofs.Common.{refl, sym, ◌∙◌, ap}
 use Rattle.std.proofs.Common.{⊎_elim, arith, mul_comm}
 use Rattle.std.proofs.Math.Nat.{mul-add}
 use Rattle.std.specs.List.{count_by, range_with_len}
@@ -7,7 +8,8 @@ use Rattle.std.proofs.lemmas.Bool.{cases_Bool}
 use Rattle.std.proofs.lemmas.List.Sums.{sum_by-cons, sum_by-append}
 use Rattle.cm_model.specs.declared.act.Act.{Act}
 use Rattle.cm_model.specs.declared.act.Act.TheVariants as act
-use Rattle.cm_model.specs.Steps.{Step, Instruct, Look, Inject, Cross, Deliver, Phase, steps_of, all_steps, phases, steps_in}
+use Rattle.cm_model.specs.Steps.{Step, Instruct, Look, Inject, Cross, Deliver, Phase, steps_of}
+use Rattle.cm_model.specs.Steps.{all_steps, phases, steps_in}
 use Rattle.cm_model.proofs.Parts.{steps_in-phases_from}
 use Rattle.cm_blocks.specs.Rounds.{is_round, until, beyond, until_round, steps_until, steps_between, ahead}
 use Rattle.cm_blocks.specs.Counts.{is_injection, is_delivery, injections, deliveries, events_in}

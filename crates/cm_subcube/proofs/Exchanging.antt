@@ -1,5 +1,6 @@
 -- Blocks and parcels in a round.
-use Rattle.std.proofs.Common.{◌≡◌, ◌<◌, ◌↔◌, ◌-◌, ◌*◌, ◌/◌, ◌%◌, ◌==◌, ℕ, Bool, false, List, [], length, get_or, ap, sym, ◌∙◌, subst}
+use Rattle.std.proofs.Common.{◌≡◌, ◌<◌, ◌↔◌, ◌-◌, ◌*◌, ◌/◌, ◌%◌, ◌==◌, ℕ, Bool, false, List, [], length, get_or, ap}
+use Rattle.std.proofs.Common.{sym, ◌∙◌, subst}
 use Rattle.std.proofs.Common.{arith, Ok, Err}
 use Rattle.std.specs.Prelude.{Option, None}
 use Rattle.std.specs.List.{All}
@@ -49,10 +50,12 @@ lane_of (Edge row) = []
 pub lanes_of_blank : (n k d : ℕ) (lane : List (Option Message)) → Mail lane ≡ blank_parcel n k (kind.Dim d)
     → length lane ≡ size n k
 unfolding lane_of
-lanes_of_blank n k d lane is = ap (λ (p : Parcel). length (lane_of p)) is ∙ length-each_from {X = Option Message} 0 (size n k) (λ c. None)
+lanes_of_blank n k d lane is = ap (λ (p : Parcel). length (lane_of p)) is
+    ∙ length-each_from {X = Option Message} 0 (size n k) (λ c. None)
 
 -- where no message is left in it, it is blank
-pub blank_again : (n k d : ℕ) (lane : List (Option Message)) → length lane ≡ size n k → All (λ leaver. leaver ≡ None) lane
+pub blank_again : (n k d : ℕ) (lane : List (Option Message)) → length lane ≡ size n k
+    → All (λ leaver. leaver ≡ None) lane
     → Mail lane ≡ blank_parcel n k (kind.Dim d)
 blank_again n k d lane long none =
     ap Mail (is_each None (size n k) (λ place. None) lane long (λ i l. none i None (omega (arith, l, long))))
@@ -133,7 +136,8 @@ blank_mail n k kind.South before now was same none = absurd was
 blank_mail n k (kind.Dim d) before now was same none = blank_again n k d now (same ∙ was) none
 
 -- nothing leaves a part over its edge
-pub less-edge : (n k cap : ℕ) (one : Kind) (act : Act) (nano : Nano) (edge : List Bool) (s : Part) → Edge edge ≡ blank_parcel n k one
+pub less-edge : (n k cap : ℕ) (one : Kind) (act : Act) (nano : Nano) (edge : List Bool) (s : Part)
+    → Edge edge ≡ blank_parcel n k one
     → act ≡ acts.Nano nano → less cap (step_in act one) s ≡ s
 unfolding less
 less-edge n k cap kind.North act nano edge s is one = ap (λ (a : Act). less cap (step_in a kind.North) s) one
@@ -148,7 +152,8 @@ no_error x y e h = cc
 -- ---- a lane without messages
 
 pub no_lane : (lane : List (Option Message)) (count : ℕ) → length lane ≡ count
-    → ((k : ℕ) (d : Option Message) → k < length lane → get_or lane k d ≡ None) → lane ≡ each_from 0 count (λ place. None)
+    → ((k : ℕ) (d : Option Message) → k < length lane → get_or lane k d ≡ None)
+    → lane ≡ each_from 0 count (λ place. None)
 no_lane lane count long none =
     is_each None count (λ place. None) lane long (λ i l. none i None (omega (arith, l, long)))
 

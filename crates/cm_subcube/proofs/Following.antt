@@ -1,5 +1,6 @@
 -- What stands behind a round of a run is told by the round alone.
-use Rattle.std.proofs.Common.{◌≡◌, ℕ, zero, suc, ◌+◌, ◌-◌, ◌<◌, ◌==◌, ◌&&◌, Bool, true, false, not, cond, List, [], ◌∷◌, ◌++◌, length}
+use Rattle.std.proofs.Common.{◌≡◌, ℕ, zero, suc, ◌+◌, ◌-◌, ◌<◌, ◌==◌, ◌&&◌, Bool, true, false, not, cond}
+use Rattle.std.proofs.Common.{List, [], ◌∷◌, ◌++◌, length}
 use Rattle.std.proofs.Common.{map, drop, Some, None, refl, sym, ◌∙◌, ap, subst, ⊎_elim, arith}
 use Rattle.std.specs.Prelude.{slice_get, nat_le}
 use Rattle.std.specs.List.{filter, range_with_len}
@@ -12,7 +13,8 @@ use Rattle.cm_model.specs.declared.act.Act.{Act}
 use Rattle.cm_model.specs.declared.act.Act.TheVariants as act
 use Rattle.cm_model.specs.declared.act.Nano.{Nano}
 use Rattle.cm_model.specs.Processor.{NEWS}
-use Rattle.cm_model.specs.Steps.{Step, IsStep, Instruct, Cross, Deliver, Phase, all_steps, phases, phases_from, steps_in}
+use Rattle.cm_model.specs.Steps.{Step, IsStep, Instruct, Cross, Deliver, Phase, all_steps}
+use Rattle.cm_model.specs.Steps.{phases, phases_from, steps_in}
 use Rattle.cm_model.proofs.Parts.{steps_in-phases_from}
 use Rattle.cm_blocks.specs.Rounds.{is_round, is_vertical, rounds, beyond, until_round}
 use Rattle.cm_subcube.specs.Parcels.{IsExchangeBy}
@@ -81,9 +83,12 @@ is_at (suc at) (x ∷ all) one more h =
 
 -- an instruction at which blocks exchange
 exchange_over : (n k : ℕ) (nano : Nano) (over : Dir) → nano.dir ≡ over
-    → (not (k == 0) && (nano.write == NEWS && is_vertical over)) ≡ true → IsExchangeBy n k (act.Nano nano) (kind_over over)
-exchange_over n k nano dir.North is h = record { blocks = grind (arith, nat_tests); news = grind (arith, nat_tests); dir = is }
-exchange_over n k nano dir.South is h = record { blocks = grind (arith, nat_tests); news = grind (arith, nat_tests); dir = is }
+    → (not (k == 0) && (nano.write == NEWS && is_vertical over)) ≡ true
+    → IsExchangeBy n k (act.Nano nano) (kind_over over)
+exchange_over n k nano dir.North is h =
+    record { blocks = grind (arith, nat_tests); news = grind (arith, nat_tests); dir = is }
+exchange_over n k nano dir.South is h =
+    record { blocks = grind (arith, nat_tests); news = grind (arith, nat_tests); dir = is }
 exchange_over n k nano dir.East is h = absurd (grind (arith, nat_tests))
 exchange_over n k nano dir.West is h = absurd (grind (arith, nat_tests))
 
@@ -174,7 +179,8 @@ pub round_is_followed : (n k r : ℕ) (acts : List Act) (phase : Phase) → slic
     → IsFollowed n k r acts phase
 round_is_followed n k r acts phase at =
     let told : Follows n k acts phase (beyond (λ p. is_round n k p.step) r (phases n acts)) =
-    behind (λ (p : Phase). is_round n k p.step) (Follows n k acts) r (phases n acts) phase (follow-acts n k acts 0 acts refl)
+    behind (λ (p : Phase). is_round n k p.step) (Follows n k acts) r (phases n acts) phase
+    (follow-acts n k acts 0 acts refl)
     at in
     record {
       between = steps_between-ahead n k r acts ∙ ap (until_round n k) told.steps;

@@ -1,5 +1,6 @@
 -- Blocks that go through steps by themselves.
-use Rattle.std.proofs.Common.{◌≡◌, ℕ, ◌+◌, ◌<◌, Bool, cond, List, [], ◌∷◌, ◌++◌, length, refl, sym, ◌∙◌, ap, subst, arith}
+use Rattle.std.proofs.Common.{◌≡◌, ℕ, ◌+◌, ◌<◌, Bool, cond, List, [], ◌∷◌, ◌++◌, length, refl, sym, ◌∙◌}
+use Rattle.std.proofs.Common.{ap, subst, arith}
 use Rattle.std.proofs.lemmas.List.Sums.{sum_by-cons, sum_by-append}
 use Rattle.cm_model.specs.Steps.{Step, Instruct, Look, Inject, Cross, Deliver}
 use Rattle.cm_blocks.specs.Counts.{is_injection, is_delivery, injections, deliveries, events_in}
@@ -12,7 +13,8 @@ use Rattle.cm_subcube.proofs.Counting.{weighed}
 
 -- ---- what a step keeps
 
-part_after-first : (n cap : ℕ) (step : Step) (parcel : Parcel) (s : Part) → (part_after n cap step parcel s).first ≡ s.first
+part_after-first : (n cap : ℕ) (step : Step) (parcel : Parcel) (s : Part)
+    → (part_after n cap step parcel s).first ≡ s.first
 unfolding part_after
 part_after-first n cap (Instruct nano) parcel s = refl
 part_after-first n cap Look parcel s = refl
@@ -20,7 +22,8 @@ part_after-first n cap Inject parcel s = refl
 part_after-first n cap (Cross d) parcel s = refl
 part_after-first n cap Deliver parcel s = refl
 
-part_after-count : (n cap : ℕ) (step : Step) (parcel : Parcel) (s : Part) → (part_after n cap step parcel s).count ≡ s.count
+part_after-count : (n cap : ℕ) (step : Step) (parcel : Parcel) (s : Part)
+    → (part_after n cap step parcel s).count ≡ s.count
 unfolding part_after
 part_after-count n cap (Instruct nano) parcel s = refl
 part_after-count n cap Look parcel s = refl
@@ -55,7 +58,8 @@ part_after_all-append n cap (step ∷ first) second s =
 events_in-append : (room : ℕ) (first second : List Step)
     → events_in room (first ++ second) ≡ events_in room first + events_in room second
 events_in-append room first second =
-    sym (weighed room (injections (first ++ second)) (deliveries (first ++ second)) (injections first) (deliveries first)
+    sym (weighed room (injections (first ++ second)) (deliveries (first ++ second))
+    (injections first) (deliveries first)
     (injections second) (deliveries second)
     (sym (sum_by-append (λ (x : Step). cond (is_injection x) 1 0) first second))
     (sym (sum_by-append (λ (x : Step). cond (is_delivery x) 1 0) first second)))
@@ -121,7 +125,8 @@ HasGone-none block = record {
   log_room = loses_nothing (events_in block.kept.room []) block.kept.log_rooms;
 }
 
-pub HasGone-append : (first second : List Step) (old mid new : KeptBlock) → HasGone first old mid → HasGone second mid new
+pub HasGone-append : (first second : List Step) (old mid new : KeptBlock) → HasGone first old mid
+    → HasGone second mid new
     → HasGone (first ++ second) old new
 HasGone-append first second old mid new before after =
     let n = old.kept.dims in
@@ -155,7 +160,8 @@ CanGo-first first second block can =
     }
 
 -- and then through the others
-pub CanGo-second : (first second : List Step) (old mid : KeptBlock) → CanGo (first ++ second) old → HasGone first old mid
+pub CanGo-second : (first second : List Step) (old mid : KeptBlock) → CanGo (first ++ second) old
+    → HasGone first old mid
     → CanGo second mid
 CanGo-second first second old mid can gone =
     let cap = old.kept.room in
@@ -177,5 +183,6 @@ pub HasGone-same : (steps others : List Step) (old new : KeptBlock) → steps �
     → HasGone others old new
 HasGone-same steps others old new same gone = subst (λ (s : List Step). HasGone s old new) same gone
 
-pub CanGo-same : (steps others : List Step) (block : KeptBlock) → steps ≡ others → CanGo steps block → CanGo others block
+pub CanGo-same : (steps others : List Step) (block : KeptBlock) → steps ≡ others
+    → CanGo steps block → CanGo others block
 CanGo-same steps others block same can = subst (λ (s : List Step). CanGo s block) same can

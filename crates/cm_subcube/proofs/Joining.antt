@@ -36,7 +36,8 @@ module _ (n cap k : ℕ) (machine : Machine) (within : k ≤ n) (is : IsMachine 
   unfolding each_from
   joined-blocks = λ i. record {
     chips = (flat_map-map (λ (s : Part). s.chips) (λ b. block n k b machine) (range_with_len 0 (2 ^ k)) ∙ are.chips) i;
-    buffers = (flat_map-map (λ (s : Part). s.buffers) (λ b. block n k b machine) (range_with_len 0 (2 ^ k)) ∙ are.buffers) i;
+    buffers = (flat_map-map (λ (s : Part). s.buffers) (λ b. block n k b machine) (range_with_len 0 (2 ^ k))
+        ∙ are.buffers) i;
     logs = (flat_map-map (λ (s : Part). s.logs) (λ b. block n k b machine) (range_with_len 0 (2 ^ k)) ∙ are.logs) i;
     clock = first_clock-blocks i;
   }

@@ -1,5 +1,6 @@
 -- The rounds of a run, act by act.
-use Rattle.std.proofs.Common.{◌≡◌, ℕ, zero, suc, ◌+◌, ◌-◌, ◌<◌, ◌≤◌, Bool, true, false, List, [], ◌∷◌, ◌++◌, length, get_or, take, map, refl, sym, ap}
+use Rattle.std.proofs.Common.{◌≡◌, ℕ, zero, suc, ◌+◌, ◌-◌, ◌<◌, ◌≤◌, Bool, true, false, List, [], ◌∷◌, ◌++◌, length}
+use Rattle.std.proofs.Common.{get_or, take, map, refl, sym, ap}
 use Rattle.std.proofs.Common.{◌∙◌, arith, append_assoc, ⊎_elim}
 use Rattle.std.proofs.lemmas.Bool.{cases_Bool}
 use Rattle.std.specs.Prelude.{nat_le}
@@ -89,5 +90,6 @@ pub crossings-more : (from d : ℕ) (at : ℕ) → from ≤ d
     → map (crossing_at at) (range_with_len from (d + 1 - from))
     ≡ map (crossing_at at) (range_with_len from (d - from)) ++ crossing_at at d ∷ []
 crossings-more from d at h =
-    ap (λ (z : ℕ). map (crossing_at at) (range_with_len from z)) (let e : d + 1 - from ≡ (d - from) + 1 = omega arith in e)
+    ap (λ (z : ℕ). map (crossing_at at) (range_with_len from z))
+    (let e : d + 1 - from ≡ (d - from) + 1 = omega arith in e)
     ∙ map-range_with_len_more (crossing_at at) from (d - from) d (omega arith)

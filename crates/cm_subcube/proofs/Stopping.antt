@@ -1,5 +1,6 @@
 -- Steps until a round: all of them where none is a round, and what a petit cycle has before its first.
-use Rattle.std.proofs.Common.{◌≡◌, ℕ, zero, suc, ◌+◌, ◌-◌, ◌<◌, ◌≤◌, ◌||◌, Bool, true, false, not, List, [], ◌∷◌, ◌++◌, length, get_or}
+use Rattle.std.proofs.Common.{◌≡◌, ℕ, zero, suc, ◌+◌, ◌-◌, ◌<◌, ◌≤◌, ◌||◌, Bool, true, false, not, List, [], ◌∷◌}
+use Rattle.std.proofs.Common.{◌++◌, length, get_or}
 use Rattle.std.proofs.Common.{map, take, drop, refl, sym, ◌∙◌, ap, subst, ⊎_elim, arith}
 use Rattle.std.specs.Prelude.{nat_le}
 use Rattle.std.specs.List.{list_any, range_with_len}
@@ -54,8 +55,7 @@ begins n k xs ys =
     ⊎_elim
     (λ (e : is_through n k xs ≡ true). (
       until_round n k ys,
-      until_round-through n k xs ys e
-          ∙ ap (λ z. z ++ until_round n k ys) (sym (until_round-all n k xs e)),
+      until_round-through n k xs ys e ∙ ap (λ z. z ++ until_round n k ys) (sym (until_round-all n k xs e)),
     ))
     (λ (e : is_through n k xs ≡ false). ([], until_round-stopped n k xs ys e ∙ sym (append-nil (until_round n k xs))))
     (cases_Bool (is_through n k xs))
@@ -197,4 +197,5 @@ behind_stops n k d from below =
 pub behind_ends : (n d : ℕ) → d < n → n ≤ d + 1
     → map Cross (range_with_len (d + 1) (n - d - 1)) ++ Deliver ∷ [] ≡ Deliver ∷ []
 behind_ends n d below last =
-    ap (λ (z : ℕ). map Cross (range_with_len (d + 1) z) ++ Deliver ∷ []) (let e : n - d - 1 ≡ 0 = omega (arith, below, last) in e)
+    ap (λ (z : ℕ). map Cross (range_with_len (d + 1) z) ++ Deliver ∷ [])
+    (let e : n - d - 1 ≡ 0 = omega (arith, below, last) in e)

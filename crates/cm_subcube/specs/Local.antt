@@ -1,5 +1,7 @@
--- What a block does by itself between two rounds: the steps behind a round are told by its act, its place and its kind. Ours.
-use Rattle.std.specs.Prelude.{◌≡◌, ℕ, ◌+◌, ◌-◌, ◌<◌, Bool, not, List, [], ◌∷◌, ◌++◌, Option, Some, None, length, map, drop, slice_get}
+-- What a block does by itself between two rounds: the steps behind a round are told by its act,
+-- its place and its kind. Ours.
+use Rattle.std.specs.Prelude.{◌≡◌, ℕ, ◌+◌, ◌-◌, ◌<◌, Bool, not, List, [], ◌∷◌, ◌++◌, Option, Some, None, length}
+use Rattle.std.specs.Prelude.{map, drop, slice_get}
 use Rattle.std.specs.List.{range_with_len, list_any}
 use Rattle.cm_model.specs.declared.act.Act.{Act}
 use Rattle.cm_model.specs.Steps.{Step, Cross, Deliver, all_steps}

@@ -117,7 +117,8 @@ impl Block {
     fn receive_edge(&mut self, nano: &Nano, edge: &mut [u8])
         requires lanes { length edge.old ≡ chip_columns self.old.kept.dims }
         ensures kept { self.new.kept ≡ record self.old.kept {
-          part = absorbed self.old.kept.dims self.old.kept.room (Instruct nano.now) (Edge (bits_of edge.old)) self.old.kept.part;
+          part = absorbed self.old.kept.dims self.old.kept.room (Instruct nano.now)
+              (Edge (bits_of edge.old)) self.old.kept.part;
         } }
         ensures blocks { self.new.k ≡ self.old.k }
         ensures blank { All (λ four. four ≡ 0) edge.new }

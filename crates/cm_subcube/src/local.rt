@@ -31,7 +31,8 @@ impl Block {
         ensures value { self.new.kept.part ≡ part_after_all self.old.kept.dims self.old.kept.room
             (local_after self.old.kept.dims self.old.k acts.now (option_copied after.entry)) self.old.kept.part }
         ensures log_room { LoseAtMost
-            (events_in self.old.kept.room (local_after self.old.kept.dims self.old.k acts.now (option_copied after.entry)))
+            (events_in self.old.kept.room
+            (local_after self.old.kept.dims self.old.k acts.now (option_copied after.entry)))
             self.old.kept.log_rooms self.new.kept.log_rooms }
 
         // what stays
@@ -59,10 +60,13 @@ impl Block {
     /// Goes on behind a round to the end of its act, or until the next round; tells whether it came to the end.
     fn finish(&mut self, round: &Round) -> bool
         requires exchange { IsExchange self.old.kept.dims self.old.k round.now }
-        requires room { CanGo (until_round self.old.kept.dims self.old.k (steps_behind self.old.kept.dims round.now.kind)) self.old }
-        ensures gone { HasGone (until_round self.old.kept.dims self.old.k (steps_behind self.old.kept.dims round.now.kind))
+        requires room { CanGo
+            (until_round self.old.kept.dims self.old.k (steps_behind self.old.kept.dims round.now.kind)) self.old }
+        ensures gone { HasGone
+            (until_round self.old.kept.dims self.old.k (steps_behind self.old.kept.dims round.now.kind))
             self.old self.new }
-        ensures through { result ≡ is_through self.old.kept.dims self.old.k (steps_behind self.old.kept.dims round.now.kind) }
+        ensures through { result
+            ≡ is_through self.old.kept.dims self.old.k (steps_behind self.old.kept.dims round.now.kind) }
     {
         let Kind::Dim(dim) = round.kind else {
             return true;
@@ -77,7 +81,8 @@ impl Block {
 
     /// Goes through acts until a round comes.
     fn go(&mut self, acts: &[Act])
-        requires room { CanGo (until_round self.old.kept.dims self.old.k (all_steps self.old.kept.dims acts.now)) self.old }
+        requires room { CanGo
+            (until_round self.old.kept.dims self.old.k (all_steps self.old.kept.dims acts.now)) self.old }
         ensures gone { HasGone (until_round self.old.kept.dims self.old.k (all_steps self.old.kept.dims acts.now))
             self.old self.new }
     {
@@ -90,7 +95,8 @@ impl Block {
 
     /// Goes through an act, or until a round of it comes; tells whether it came to the end.
     fn go_through(&mut self, act: &Act) -> bool
-        requires room { CanGo (until_round self.old.kept.dims self.old.k (steps_of self.old.kept.dims act.now)) self.old }
+        requires room { CanGo
+            (until_round self.old.kept.dims self.old.k (steps_of self.old.kept.dims act.now)) self.old }
         ensures gone { HasGone (until_round self.old.kept.dims self.old.k (steps_of self.old.kept.dims act.now))
             self.old self.new }
         ensures through { result ≡ is_through self.old.kept.dims self.old.k (steps_of self.old.kept.dims act.now) }
@@ -110,7 +116,8 @@ impl Block {
 
     /// Goes through a petit cycle, or until its first round comes.
     fn go_through_cycle(&mut self) -> bool
-        requires room { CanGo (until_round self.old.kept.dims self.old.k (steps_of self.old.kept.dims Act.Cycle)) self.old }
+        requires room { CanGo
+            (until_round self.old.kept.dims self.old.k (steps_of self.old.kept.dims Act.Cycle)) self.old }
         ensures gone { HasGone (until_round self.old.kept.dims self.old.k (steps_of self.old.kept.dims Act.Cycle))
             self.old self.new }
         ensures through { result ≡ is_through self.old.kept.dims self.old.k (steps_of self.old.kept.dims Act.Cycle) }

@@ -1,5 +1,6 @@
 -- A machine cut into blocks for a run, and the machine that these are afterwards.
-use Rattle.std.proofs.Common.{◌≡◌, ℕ, ◌+◌, ◌-◌, ◌*◌, ◌/◌, ◌<◌, ◌≤◌, ◌^◌, List, [], ◌∷◌, ◌++◌, true, length, map, get_or, ap, sym, subst, ◌∙◌, arith}
+use Rattle.std.proofs.Common.{◌≡◌, ℕ, ◌+◌, ◌-◌, ◌*◌, ◌/◌, ◌<◌, ◌≤◌, ◌^◌, List, [], ◌∷◌, ◌++◌, true, length, map, get_or}
+use Rattle.std.proofs.Common.{ap, sym, subst, ◌∙◌, arith}
 use Rattle.std.specs.List.{All}
 use Rattle.std.proofs.lemmas.List.{length-map, get_or-map}
 use Rattle.std.proofs.lemmas.List.Elements.{All-get_or}
@@ -25,13 +26,16 @@ use Rattle.cm_workers.specs.Posts.{blank_post}
 use Rattle.cm_workers.specs.Runs.{StandAt, AreAfter}
 
 -- blocks that were just cut stand at the first turn of a run
-pub stand_first : (n cap k cycles : ℕ) (machine : Machine) (acts : List Act) (blocks : List KeptBlock) (posts : List Post)
-    → map (λ (b : KeptBlock). b.kept.part) blocks ≡ all_blocks n k machine → All (IsFresh n cap k (cycles * (4 + cap))) blocks
+pub stand_first : (n cap k cycles : ℕ) (machine : Machine) (acts : List Act)
+    (blocks : List KeptBlock) (posts : List Post)
+    → map (λ (b : KeptBlock). b.kept.part) blocks ≡ all_blocks n k machine
+    → All (IsFresh n cap k (cycles * (4 + cap))) blocks
     → length posts ≡ length blocks → All (λ (post : Post). post ≡ blank_post n k) posts
     → cycles_in acts ≡ cycles → machine.clock + cycles < 2 ^ 63 → StandAt n k cap machine acts 0 blocks posts
 stand_first n cap k cycles machine acts blocks posts cut fresh as_many blank counted late =
     let count : length blocks ≡ 2 ^ k =
-    sym (length-map blocks (λ (b : KeptBlock). b.kept.part)) ∙ ap length cut ∙ length-each_from 0 (2 ^ k) (λ b. block n k b machine) in
+    sym (length-map blocks (λ (b : KeptBlock). b.kept.part)) ∙ ap length cut
+    ∙ length-each_from 0 (2 ^ k) (λ b. block n k b machine) in
     record {
       block_count = count;
       post_count = as_many ∙ count;
@@ -47,10 +51,13 @@ stand_first n cap k cycles machine acts blocks posts cut fresh as_many blank cou
             dims = one.dims;
             room_is = one.room;
             part = is;
-            come = All-get_or (λ (post : Post). post ≡ blank_post n k) posts b y (omega (arith, l, count, as_many)) blank;
+            come = All-get_or (λ (post : Post). post ≡ blank_post n k) posts b y
+                (omega (arith, l, count, as_many)) blank;
             space = tt;
-            log_room = subst (λ (e : ℕ). HaveLogRoom (e * (4 + cap)) (get_or blocks b x).kept.log_rooms) (sym counted) one.log_room;
-            clock = let at : (get_or blocks b x).kept.part.clock ≡ machine.clock = ap (λ (s : Part). s.clock) is ∙ clock-block n k b machine in
+            log_room = subst (λ (e : ℕ). HaveLogRoom (e * (4 + cap)) (get_or blocks b x).kept.log_rooms)
+                (sym counted) one.log_room;
+            clock = let at : (get_or blocks b x).kept.part.clock ≡ machine.clock = ap (λ (s : Part). s.clock) is
+                ∙ clock-block n k b machine in
                 omega (arith, at, counted, late);
           };
     }
@@ -63,17 +70,20 @@ no_block n k machine = record {
 }
 
 -- blocks after a run are those of the machine after it
-pub after_are : (n cap k : ℕ) (machine : Machine) (acts : List Act) (blocks : List KeptBlock) (one : KeptBlock) → IsMachine n cap machine
+pub after_are : (n cap k : ℕ) (machine : Machine) (acts : List Act) (blocks : List KeptBlock) (one : KeptBlock)
+    → IsMachine n cap machine
     → AreAfter n k cap machine acts blocks
     → map (λ (b : KeptBlock). b.kept.part) blocks ≡ all_blocks n k (run_of n cap machine acts)
 after_are n cap k machine acts blocks one is after =
-    is_each (block n k 0 machine) (2 ^ k) (λ b. block n k b (run_of n cap machine acts)) (map (λ (b : KeptBlock). b.kept.part) blocks)
+    is_each (block n k 0 machine) (2 ^ k) (λ b. block n k b (run_of n cap machine acts))
+    (map (λ (b : KeptBlock). b.kept.part) blocks)
     (length-map blocks (λ (b : KeptBlock). b.kept.part) ∙ after.count)
     (λ b l. let below : b < length blocks = omega (arith, l, after.count) in
     get_or-map (λ (z : KeptBlock). z.kept.part) blocks b one (block n k 0 machine) below ∙ after.each b one l
     ∙ ap (λ (m : Machine). block n k b m) (rounds_end_the_run n cap k machine acts is.buffer_count))
 
-pub parts_after : (n cap dims k : ℕ) (machine : Machine) (acts : List Act) (blocks : List KeptBlock) → dims ≡ n → IsMachine n cap machine
+pub parts_after : (n cap dims k : ℕ) (machine : Machine) (acts : List Act) (blocks : List KeptBlock) → dims ≡ n
+    → IsMachine n cap machine
     → AreAfter dims k cap machine acts blocks
     → map (λ (b : KeptBlock). b.kept.part) blocks ≡ all_blocks n k (run_of n cap machine acts)
 parts_after n cap dims k machine acts blocks same is after =
@@ -81,14 +91,16 @@ parts_after n cap dims k machine acts blocks same is after =
     (subst (λ (d : ℕ). AreAfter d k cap machine acts blocks) same after)
 
 -- they are a whole machine
-pub whole_after : (n cap k : ℕ) (machine : Machine) (acts : List Act) (parts : List Part) → k ≤ n → IsMachine n cap machine
+pub whole_after : (n cap k : ℕ) (machine : Machine) (acts : List Act) (parts : List Part) → k ≤ n
+    → IsMachine n cap machine
     → parts ≡ all_blocks n k (run_of n cap machine acts) → AreWhole n cap parts
 whole_after n cap k machine acts parts within is are =
     subst (λ (s : List Part). AreWhole n cap s) (sym are)
     (AreWhole-blocks n cap k (run_of n cap machine acts) within (IsMachine-run_of n cap machine acts is))
 
 -- and that machine
-pub joined_after : (n cap k : ℕ) (machine : Machine) (acts : List Act) (parts : List Part) → k ≤ n → IsMachine n cap machine
+pub joined_after : (n cap k : ℕ) (machine : Machine) (acts : List Act) (parts : List Part) → k ≤ n
+    → IsMachine n cap machine
     → parts ≡ all_blocks n k (run_of n cap machine acts) → joined parts ≡ run_of n cap machine acts
 joined_after n cap k machine acts parts within is are =
     ap joined are ∙ joined-blocks n cap k (run_of n cap machine acts) within (IsMachine-run_of n cap machine acts is)

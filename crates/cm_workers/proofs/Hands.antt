@@ -1,5 +1,6 @@
 -- Things dealt out, one more and one less.
-use Rattle.std.proofs.Common.{rules, ◌≡◌, ◌≢◌, ◌↔◌, ℕ, ◌+◌, ◌-◌, ◌*◌, ◌/◌, ◌%◌, ◌<◌, ◌≤◌, ◌++◌, [], ◌∷◌, ◌⊎◌, inl, inr, ⊎_elim, List, length, reverse, get_or, Vec, sym, ap, ◌∙◌, refl, subst, arith}
+use Rattle.std.proofs.Common.{rules, ◌≡◌, ◌≢◌, ◌↔◌, ℕ, ◌+◌, ◌-◌, ◌*◌, ◌/◌, ◌%◌, ◌<◌, ◌≤◌, ◌++◌, [], ◌∷◌, ◌⊎◌, inl, inr}
+use Rattle.std.proofs.Common.{⊎_elim, List, length, reverse, get_or, Vec, sym, ap, ◌∙◌, refl, subst, arith}
 use Rattle.std.specs.declared.alloc.Global.{Global}
 use Rattle.std.proofs.lemmas.List.{length-append, length-reverse, get_or_append_left, get_or_push, get_or-reverse}
 use Rattle.std.proofs.lemmas.Nat.{div-add-mod', mul-le}
@@ -16,7 +17,8 @@ pub turn : (count j L : ℕ) → ((q : ℕ) → (q < L) ↔ (q * count + j % cou
 turn count j L shares =
     let whole = div-add-mod' j count in
     ⊎_elim
-    (λ (l : L < j / count). absurd (let f = rows count L (j / count) l in let no = (shares L).1 (omega (arith, f, whole)) in omega (arith, no)))
+    (λ (l : L < j / count). absurd (let f = rows count L (j / count) l in
+    let no = (shares L).1 (omega (arith, f, whole)) in omega (arith, no)))
     (λ (l : j / count ≤ L). ⊎_elim
     (λ (m : j / count < L). absurd (let no = (shares (j / count)).0 m in omega (arith, no, whole)))
     (λ (m : L ≤ j / count). omega (arith, l, m))
@@ -51,15 +53,18 @@ none_dealt count hands empty = record {
 }
 
 -- the hand whose turn it is
-next_hand : {X : Type 0} (count j : ℕ) (hands : List (Vec X Global)) (e : Vec X Global) → 0 < count → AreShares count j hands
+next_hand : {X : Type 0} (count j : ℕ) (hands : List (Vec X Global)) (e : Vec X Global) → 0 < count
+    → AreShares count j hands
     → length (hand hands e (j % count)) ≡ j / count
-next_hand count j hands e some shares = turn count j (length (hand hands e (j % count))) (λ q. shares (j % count) q e (mod-lt j some))
+next_hand count j hands e some shares =
+    turn count j (length (hand hands e (j % count))) (λ q. shares (j % count) q e (mod-lt j some))
 
 -- two numbers are the same or are not
 pub either_same : (m n : ℕ) → (m ≡ n) ⊎ (m ≢ n)
 either_same m n = ⊎_elim
     (λ (l : m < n). inr (λ (same : m ≡ n). absurd (omega (arith, l, same))))
-    (λ (l : n ≤ m). ⊎_elim (λ (k : n < m). inr (λ (same : m ≡ n). absurd (omega (arith, k, same)))) (λ (k : m ≤ n). inl (omega (arith, l, k))) (cases_lt n m))
+    (λ (l : n ≤ m). ⊎_elim (λ (k : n < m). inr (λ (same : m ≡ n). absurd (omega (arith, k, same))))
+    (λ (k : m ≤ n). inl (omega (arith, l, k))) (cases_lt n m))
     (cases_lt m n)
 
 -- no more, and not the same, is less
@@ -74,21 +79,25 @@ shares_more {X} count j thing old new some shares put r q e below =
     (λ (same : r ≡ j % count).
     let long = next_hand count j old e some shares in
     let grown : length (hand new e r) ≡ j / count + 1 =
-    ap (λ (s : ℕ). length (hand new e s)) same ∙ ap length (put.here e) ∙ length-append (hand old e (j % count)) (thing ∷ []) ∙ ap (λ (n : ℕ). n + 1) long in
+    ap (λ (s : ℕ). length (hand new e s)) same ∙ ap length (put.here e)
+    ∙ length-append (hand old e (j % count)) (thing ∷ []) ∙ ap (λ (n : ℕ). n + 1) long in
     let whole = div-add-mod' j count in (
       (λ (l : q < length (hand new e r)). ⊎_elim
           (λ (k : q < j / count). let f = rows count q (j / count) k in omega (arith, f, whole, same))
-          (λ (k : j / count ≤ q). let here : q ≡ j / count = omega (arith, k, l, grown) in let p : q * count ≡ j / count * count = ap (λ (x : ℕ). x * count) here in omega (arith, p, whole, same))
+          (λ (k : j / count ≤ q). let here : q ≡ j / count = omega (arith, k, l, grown) in
+          let p : q * count ≡ j / count * count = ap (λ (x : ℕ). x * count) here in omega (arith, p, whole, same))
           (cases_lt q (j / count))),
       (λ (l : q * count + r < j + 1). ⊎_elim
-          (λ (k : j / count < q). absurd (let f = rows count (j / count) q k in let rest = mod-lt j some in omega (arith, f, whole, same, l, rest)))
+          (λ (k : j / count < q). absurd (let f = rows count (j / count) q k in let rest = mod-lt j some in
+          omega (arith, f, whole, same, l, rest)))
           (λ (k : q ≤ j / count). omega (arith, k, grown))
           (cases_lt (j / count) q)),
     ))
     (λ (other : r ≢ j % count).
     let were = put.others r e other in
     let old_ones = shares r q e below in (
-      (λ (l : q < length (hand new e r)). let k = old_ones.0 (subst (λ (xs : List X). q < length xs) were l) in omega (arith, k)),
+      (λ (l : q < length (hand new e r)). let k = old_ones.0 (subst (λ (xs : List X). q < length xs) were l) in
+          omega (arith, k)),
       (λ (l : q * count + r < j + 1).
           let not_it : q * count + r ≢ j = λ (at : q * count + r ≡ j). other (place count j r q some below at).0 in
           subst (λ (xs : List X). q < length xs) (sym were) (old_ones.1 (less_than (q * count + r) j l not_it))),
@@ -96,11 +105,13 @@ shares_more {X} count j thing old new some shares put r q e below =
     (either_same r (j % count))
 
 pub one_dealt : {X : Type 0} (count : ℕ) (things : List X) (thing : X) (old new : List (Vec X Global)) → 0 < count
-    → AreDealt count things old → HasPut (length things % count) thing old new → AreDealt count (things ++ thing ∷ []) new
+    → AreDealt count things old → HasPut (length things % count) thing old new
+    → AreDealt count (things ++ thing ∷ []) new
 one_dealt {X} count things thing old new some dealt put =
     let many = length-append things (thing ∷ []) in record {
       len = put.len ∙ dealt.len;
-      shares = subst (λ (n : ℕ). AreShares count n new) (sym many) (shares_more count (length things) thing old new some dealt.shares put);
+      shares = subst (λ (n : ℕ). AreShares count n new) (sym many)
+          (shares_more count (length things) thing old new some dealt.shares put);
       each = λ r q e d below l. ⊎_elim
           (λ (k : q * count + r < length things).
           let same : get_or (hand new e r) q d ≡ get_or (hand old e r) q d = ⊎_elim
@@ -135,7 +146,8 @@ pub record AreLeft {X : Type 0} (count many i : ℕ) (whole now : List (Vec X Gl
   pub back : (r q : ℕ) (e : Vec X Global) (d : X) → r < count → q * count + r < many → many ≤ q * count + r + i
       → get_or taken (many - 1 - (q * count + r)) d ≡ get_or (hand whole e r) q d
 
-pub none_taken : {X : Type 0} (count many : ℕ) (hands : List (Vec X Global)) → length hands ≡ count → AreShares count many hands
+pub none_taken : {X : Type 0} (count many : ℕ) (hands : List (Vec X Global)) → length hands ≡ count
+    → AreShares count many hands
     → AreLeft count many 0 hands hands []
 none_taken count many hands len shares = record {
   len = len;
@@ -147,7 +159,8 @@ none_taken count many hands len shares = record {
 }
 
 -- the hand from which the last thing is taken
-pub last_hand : {X : Type 0} (count many i : ℕ) (whole now : List (Vec X Global)) (taken : List X) (e : Vec X Global) → 0 < count → i < many
+pub last_hand : {X : Type 0} (count many i : ℕ) (whole now : List (Vec X Global)) (taken : List X) (e : Vec X Global)
+    → 0 < count → i < many
     → AreLeft count many i whole now taken → 0 < length (hand now e ((many - 1 - i) % count))
 last_hand count many i whole now taken e some below left =
     let j = many - 1 - i in
@@ -155,8 +168,8 @@ last_hand count many i whole now taken e some below left =
     let has = (left.shares (j % count) (j / count) e (mod-lt j some)).1 (omega (arith, at, below)) in
     omega (arith, has)
 
-module _ {X : Type 0} (count j : ℕ) (thing : X) (old new : List (Vec X Global)) (some : 0 < count) (shares : AreShares count (j + 1) old)
-    (put : HasPut (j % count) thing new old) where
+module _ {X : Type 0} (count j : ℕ) (thing : X) (old new : List (Vec X Global)) (some : 0 < count)
+    (shares : AreShares count (j + 1) old) (put : HasPut (j % count) thing new old) where
   -- how many it has then
   fewer : (e : Vec X Global) → length (hand new e (j % count)) ≡ j / count
   fewer e =
@@ -164,11 +177,13 @@ module _ {X : Type 0} (count j : ℕ) (thing : X) (old new : List (Vec X Global)
       let grown = ap length (put.here e) ∙ length-append (hand new e (j % count)) (thing ∷ []) in
       ⊎_elim
       (λ (l : length (hand new e (j % count)) < j / count).
-      absurd (let has = (shares (j % count) (j / count) e (mod-lt j some)).1 (omega (arith, at)) in omega (arith, has, grown, l)))
+      absurd (let has = (shares (j % count) (j / count) e (mod-lt j some)).1 (omega (arith, at)) in
+      omega (arith, has, grown, l)))
       (λ (l : j / count ≤ length (hand new e (j % count))). ⊎_elim
       (λ (k : j / count < length (hand new e (j % count))).
       absurd (let f = rows count (j / count) (j / count + 1) (omega arith) in
-      let has = (shares (j % count) (j / count + 1) e (mod-lt j some)).0 (omega (arith, grown, k)) in omega (arith, has, at, f)))
+      let has = (shares (j % count) (j / count + 1) e (mod-lt j some)).0 (omega (arith, grown, k)) in
+      omega (arith, has, at, f)))
       (λ (k : length (hand new e (j % count)) ≤ j / count). omega (arith, l, k))
       (cases_lt (j / count) (length (hand new e (j % count)))))
       (cases_lt (length (hand new e (j % count))) (j / count))
@@ -179,10 +194,12 @@ module _ {X : Type 0} (count j : ℕ) (thing : X) (old new : List (Vec X Global)
       (λ (same : r ≡ j % count).
       let at = div-add-mod' j count in
       let long : length (hand new e r) ≡ j / count = ap (λ (s : ℕ). length (hand new e s)) same ∙ fewer e in (
-        (λ (l : q < length (hand new e r)). let f = rows count q (j / count) (omega (arith, l, long)) in omega (arith, f, at, same)),
+        (λ (l : q < length (hand new e r)). let f = rows count q (j / count) (omega (arith, l, long)) in
+            omega (arith, f, at, same)),
         (λ (l : q * count + r < j). ⊎_elim
             (λ (k : q < j / count). omega (arith, k, long))
-            (λ (k : j / count ≤ q). absurd (let f = mul-le (j / count) count q count k (omega arith) in omega (arith, f, at, same, l)))
+            (λ (k : j / count ≤ q). absurd (let f = mul-le (j / count) count q count k (omega arith) in
+            omega (arith, f, at, same, l)))
             (cases_lt q (j / count))),
       ))
       (λ (other : r ≢ j % count).
@@ -196,22 +213,26 @@ module _ {X : Type 0} (count j : ℕ) (thing : X) (old new : List (Vec X Global)
       ))
       (either_same r (j % count))
 
-  pub same_before : (r q : ℕ) (e : Vec X Global) (d : X) → r < count → q * count + r < j → get_or (hand new e r) q d ≡ get_or (hand old e r) q d
+  pub same_before : (r q : ℕ) (e : Vec X Global) (d : X) → r < count → q * count + r < j
+      → get_or (hand new e r) q d ≡ get_or (hand old e r) q d
   same_before r q e d below l = ⊎_elim
       (λ (here : r ≡ j % count).
       ap (λ (s : ℕ). get_or (hand new e s) q d) here
-      ∙ sym (get_or_append_left (hand new e (j % count)) (thing ∷ []) d q (subst (λ (s : ℕ). q < length (hand new e s)) here ((shares_fewer r q e below).1 l)))
+      ∙ sym (get_or_append_left (hand new e (j % count)) (thing ∷ []) d q
+      (subst (λ (s : ℕ). q < length (hand new e s)) here ((shares_fewer r q e below).1 l)))
       ∙ sym (ap (λ (s : ℕ). get_or (hand old e s) q d) here ∙ ap (λ (xs : List X). get_or xs q d) (put.here e)))
       (λ (other : r ≢ j % count). sym (ap (λ (xs : List X). get_or xs q d) (put.others r e other)))
       (either_same r (j % count))
 
-  pub the_last : (r q : ℕ) (e : Vec X Global) (d : X) → r < count → q * count + r ≡ j → thing ≡ get_or (hand old e r) q d
+  pub the_last : (r q : ℕ) (e : Vec X Global) (d : X) → r < count → q * count + r ≡ j
+      → thing ≡ get_or (hand old e r) q d
   the_last r q e d below at =
       let it = place count j r q some below at in
       sym (ap (λ (s : ℕ). get_or (hand old e s) q d) it.0 ∙ ap (λ (xs : List X). get_or xs q d) (put.here e)
       ∙ get_or_push (hand new e (j % count)) thing d q (fewer e ∙ sym it.1))
 
-pub one_taken : {X : Type 0} (count many i : ℕ) (whole old new : List (Vec X Global)) (taken : List X) (thing : X) → 0 < count → i < many
+pub one_taken : {X : Type 0} (count many i : ℕ) (whole old new : List (Vec X Global)) (taken : List X) (thing : X)
+    → 0 < count → i < many
     → AreLeft count many i whole old taken → HasPut ((many - 1 - i) % count) thing new old
     → AreLeft count many (i + 1) whole new (taken ++ thing ∷ [])
 one_taken {X} count many i whole old new taken thing some below left put =
@@ -221,7 +242,8 @@ one_taken {X} count many i whole old new taken thing some below left put =
     let shares = subst (λ (n : ℕ). AreShares count n old) before left.shares in record {
       len = sym put.len ∙ left.len;
       within = omega (arith, below);
-      shares = subst (λ (n : ℕ). AreShares count n new) (sym after) (shares_fewer count j thing old new some shares put);
+      shares = subst (λ (n : ℕ). AreShares count n new) (sym after)
+          (shares_fewer count j thing old new some shares put);
       same = λ r q e d l m. same_before count j thing old new some shares put r q e d l (omega (arith, m, after))
           ∙ left.same r q e d l (omega (arith, m));
       long = length-append taken (thing ∷ []) ∙ ap (λ (n : ℕ). n + 1) left.long;
@@ -240,8 +262,10 @@ one_taken {X} count many i whole old new taken thing some below left put =
           (either_same (q * count + r) j);
     }
 
-pub all_taken : {X : Type 0} (count many : ℕ) (whole now : List (Vec X Global)) (taken things : List X) → length whole ≡ count
-    → AreShares count many whole → AreLeft count many many whole now taken → things ≡ reverse taken → AreDealt count things whole
+pub all_taken : {X : Type 0} (count many : ℕ) (whole now : List (Vec X Global)) (taken things : List X)
+    → length whole ≡ count
+    → AreShares count many whole → AreLeft count many many whole now taken → things ≡ reverse taken
+    → AreDealt count things whole
 all_taken {X} count many whole now taken things len shares left is =
     let long : length things ≡ many = ap length is ∙ length-reverse taken ∙ left.long in record {
       len = len;

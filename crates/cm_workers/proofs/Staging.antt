@@ -1,5 +1,7 @@
 -- Blocks from turn to turn of a run.
-use Rattle.std.proofs.Common.{◌≡◌, ◌≢◌, ℕ, zero, suc, ◌+◌, ◌-◌, ◌*◌, ◌/◌, ◌%◌, ◌<◌, ◌≤◌, ◌^◌, Bool, true, false, List, [], ◌∷◌, cond, Option, Some, None, length, map, get_or, refl, ap, sym, subst, ◌∙◌, arith}
+use Rattle.std.proofs.Common.{◌≡◌, ◌≢◌, ℕ, zero, suc, ◌+◌, ◌-◌, ◌*◌, ◌/◌, ◌%◌, ◌<◌, ◌≤◌, ◌^◌, Bool, true, false}
+use Rattle.std.proofs.Common.{List, [], ◌∷◌, cond, Option, Some, None, length, map, get_or, refl, ap, sym}
+use Rattle.std.proofs.Common.{subst, ◌∙◌, arith}
 use Rattle.std.specs.Prelude.{slice_get, slice_index}
 use Rattle.std.specs.Option.{option_map}
 use Rattle.std.proofs.lemmas.Option.{slice_get-map}
@@ -36,7 +38,8 @@ use Rattle.cm_subcube.proofs.Counting.{steps_until-first, deliveries_shared, eve
 use Rattle.cm_subcube.proofs.Following.{round_is_followed}
 use Rattle.cm_workers.specs.declared.post.Post.{Post}
 use Rattle.cm_workers.specs.Posts.{lane_in, post_of, blank_post, giver}
-use Rattle.cm_workers.specs.Turns.{round_before, taken_in, gone_on, left_in, sent_by, IsFollowing, HasComeBefore, HaveSpaceIn, CanGo, HasGone}
+use Rattle.cm_workers.specs.Turns.{round_before, taken_in, gone_on, left_in, sent_by, IsFollowing, HasComeBefore}
+use Rattle.cm_workers.specs.Turns.{HaveSpaceIn, CanGo, HasGone}
 use Rattle.cm_workers.proofs.Turning.{clock_stands}
 use Rattle.cm_workers.specs.Runs.{part_at, post_at, come_in, without_sent, HaveSpaceAt, StandsAt, StandAt}
 
@@ -71,19 +74,23 @@ module _ (n k room : ℕ) (machine : Machine) (acts : List Act) (within : k ≤ 
       let lane : lane_in (kind_of phase.step) post ≡ parcel =
       ap (λ (p : Post). lane_in (kind_of phase.step) p) (came ∙ ap (λ (o : Option Phase). come_in n k room o b now) at)
       ∙ lane_of_post n k (kind_of phase.step) parcel in
-      let left : s ≡ less room phase.step (block n k b now) = is ∙ ap (λ (o : Option Phase). without_sent room o (block n k b now)) at in
-      let taken : absorbed n room (step_of (round_of phase)) (lane_in (kind_of phase.step) post) s ≡ part_after n room phase.step parcel (block n k b now) =
+      let left : s ≡ less room phase.step (block n k b now) = is
+      ∙ ap (λ (o : Option Phase). without_sent room o (block n k b now)) at in
+      let taken : absorbed n room (step_of (round_of phase)) (lane_in (kind_of phase.step) post) s
+      ≡ part_after n room phase.step parcel (block n k b now) =
       ap (λ (step : Step). absorbed n room step (lane_in (kind_of phase.step) post) s) told.step
       ∙ ap (λ (p : Parcel). absorbed n room phase.step p s) lane
       ∙ ap (λ (x : Part). absorbed n room phase.step parcel x) left
       ∙ leaving_then_taking_in n room k b now phase.step (omega (arith, within)) below told.is_step told.exchanges in
       ap (λ (x : Part). part_after_all n room (local_after n k acts (Some (round_of phase))) x) taken
-      ∙ ap (λ (steps : List Step). part_after_all n room steps (part_after n room phase.step parcel (block n k b now))) (sym told.between)
+      ∙ ap (λ (steps : List Step). part_after_all n room steps (part_after n room phase.step parcel (block n k b now)))
+      (sym told.between)
       ∙ sym (blocks_go_on n room k b r machine acts phase within below at)
 
 -- ---- counters, and what a round sends
 
-pub clock_after : (n room : ℕ) (step : Step) (parcel : Parcel) (s : Part) → (part_after n room step parcel s).clock ≡ s.clock + deliveries (step ∷ [])
+pub clock_after : (n room : ℕ) (step : Step) (parcel : Parcel) (s : Part)
+    → (part_after n room step parcel s).clock ≡ s.clock + deliveries (step ∷ [])
 unfolding part_after
 clock_after n room (Instruct nano) parcel s = let e : s.clock ≡ s.clock + 0 = omega arith in e
 clock_after n room Look parcel s = let e : s.clock ≡ s.clock + 0 = omega arith in e
@@ -91,14 +98,16 @@ clock_after n room Inject parcel s = let e : s.clock ≡ s.clock + 0 = omega ari
 clock_after n room (Cross d) parcel s = let e : s.clock ≡ s.clock + 0 = omega arith in e
 clock_after n room Deliver parcel s = refl
 
-deliveries-cons : (step : Step) (steps : List Step) → deliveries (step ∷ steps) ≡ deliveries (step ∷ []) + deliveries steps
+deliveries-cons : (step : Step) (steps : List Step)
+    → deliveries (step ∷ steps) ≡ deliveries (step ∷ []) + deliveries steps
 deliveries-cons (Instruct nano) steps = sum_by-cons (λ y. cond (is_delivery y) 1 0) (Instruct nano) steps
 deliveries-cons Look steps = sum_by-cons (λ y. cond (is_delivery y) 1 0) Look steps
 deliveries-cons Inject steps = sum_by-cons (λ y. cond (is_delivery y) 1 0) Inject steps
 deliveries-cons (Cross d) steps = sum_by-cons (λ y. cond (is_delivery y) 1 0) (Cross d) steps
 deliveries-cons Deliver steps = sum_by-cons (λ y. cond (is_delivery y) 1 0) Deliver steps
 
-pub clock_after_all : (n room : ℕ) (steps : List Step) (s : Part) → (part_after_all n room steps s).clock ≡ s.clock + deliveries steps
+pub clock_after_all : (n room : ℕ) (steps : List Step) (s : Part)
+    → (part_after_all n room steps s).clock ≡ s.clock + deliveries steps
 clock_after_all n room [] s = let e : s.clock ≡ s.clock + 0 = omega arith in e
 clock_after_all n room (step ∷ steps) s =
     let more = clock_after_all n room steps (part_after n room step Blank s) in
@@ -114,7 +123,8 @@ clock_left room Inject s = refl
 clock_left room (Cross d) s = refl
 clock_left room Deliver s = refl
 
-over_columns : (n k : ℕ) (over : Dir) (row : List Bool) → length row ≡ columns n → IsOfKind n k (kind_over over) (Edge row)
+over_columns : (n k : ℕ) (over : Dir) (row : List Bool) → length row ≡ columns n
+    → IsOfKind n k (kind_over over) (Edge row)
 over_columns n k dir.North row long = long
 over_columns n k dir.East row long = long
 over_columns n k dir.West row long = long
@@ -125,14 +135,17 @@ pub due_of_kind : (n k room : ℕ) (step : Step) (s : Part) → is_round n k ste
     → IsOfKind n k (kind_of step) (due n room step s)
 unfolding due
 due_of_kind n k room (Instruct nano) s round count =
-    over_columns n k nano.dir _ (length-each_from 0 (columns n) (λ column. output nano (chip_in s) (place_at n (edge_row n nano.dir s) column)))
+    over_columns n k nano.dir _
+    (length-each_from 0 (columns n) (λ column. output nano (chip_in s) (place_at n (edge_row n nano.dir s) column)))
 due_of_kind n k room Look s round count = absurd (let wrong : false ≡ true = round in cc)
 due_of_kind n k room Inject s round count = absurd (let wrong : false ≡ true = round in cc)
-due_of_kind n k room (Cross d) s round count = length-each_from s.first s.count (λ c. outgoing room d (buffer_in s c)) ∙ count
+due_of_kind n k room (Cross d) s round count =
+    length-each_from s.first s.count (λ c. outgoing room d (buffer_in s c)) ∙ count
 due_of_kind n k room Deliver s round count = absurd (let wrong : false ≡ true = round in cc)
 
 -- the giver of a kind is the sender at the step
-pub giver_is_sender : (n k : ℕ) (step : Step) (b : ℕ) → is_round n k step ≡ true → giver n k (kind_of step) b ≡ sender n k step b
+pub giver_is_sender : (n k : ℕ) (step : Step) (b : ℕ) → is_round n k step ≡ true
+    → giver n k (kind_of step) b ≡ sender n k step b
 giver_is_sender n k (Instruct nano) b round = over nano.dir (grind (arith, nat_tests))
   where
     over : (to : Dir) → is_vertical to ≡ true → giver n k (kind_over to) b ≡ sender_over k to b
@@ -148,7 +161,8 @@ giver_is_sender n k Deliver b round = absurd (let wrong : false ≡ true = round
 -- ---- one turn of one block
 
 -- log room that is left
-pub room_left : (most more all : ℕ) (old new : List ℕ) → most + more ≡ all → HaveLogRoom all old → LoseAtMost most old new → HaveLogRoom more new
+pub room_left : (most more all : ℕ) (old new : List ℕ) → most + more ≡ all → HaveLogRoom all old
+    → LoseAtMost most old new → HaveLogRoom more new
 room_left most more all old new whole has lost i below =
     let l : i < length old = omega (arith, below, lost.same) in
     let f = lost.few i l in let h = has i l in omega (arith, f, h, whole)
@@ -160,12 +174,14 @@ less_room few all rooms l has i below = let h = has i below in omega (arith, l, 
 following_none : (n k : ℕ) (acts : List Act) → IsFollowing n k acts None
 following_none n k acts round is = absurd (let wrong : None ≡ Some round = is in cc)
 
-following_phase : (n k r : ℕ) (acts : List Act) (phase : Phase) → slice_get (rounds n k acts) r ≡ Some phase → IsFollowing n k acts (Some (round_of phase))
+following_phase : (n k r : ℕ) (acts : List Act) (phase : Phase) → slice_get (rounds n k acts) r ≡ Some phase
+    → IsFollowing n k acts (Some (round_of phase))
 following_phase n k r acts phase at round is =
     let same : round_of phase ≡ round = cc in
     subst (λ (x : Round). IsRoundOf n k acts x) same (round_is_followed n k r acts phase at).round
 
-following_at : (n k r : ℕ) (acts : List Act) (one : Option Phase) → slice_get (rounds n k acts) r ≡ one → IsFollowing n k acts (option_map round_of one)
+following_at : (n k r : ℕ) (acts : List Act) (one : Option Phase) → slice_get (rounds n k acts) r ≡ one
+    → IsFollowing n k acts (option_map round_of one)
 following_at n k r acts None at = following_none n k acts
 following_at n k r acts (Some phase) at = following_phase n k r acts phase at
 
@@ -185,23 +201,30 @@ count_of_block n k b machine = refl
 
 -- ---- ready for a turn
 
-module _ (n k room : ℕ) (machine : Machine) (acts : List Act) (b : ℕ) (next : Option Round) (kept : KeptBlock) (post : Post)
-    (dims : kept.kept.dims ≡ n) (blocks : kept.k ≡ k) (rooms : kept.kept.room ≡ room) (ahead_is : IsFollowing n k acts next) where
+module _ (n k room : ℕ) (machine : Machine) (acts : List Act) (b : ℕ) (next : Option Round)
+    (kept : KeptBlock) (post : Post) (dims : kept.kept.dims ≡ n) (blocks : kept.k ≡ k) (rooms : kept.kept.room ≡ room)
+    (ahead_is : IsFollowing n k acts next) where
   -- what is told of these sizes is told of the block's own
   as_own : (before : Option Round) → IsFollowing n k acts before → HasComeBefore n k room before kept.kept.part post
       → HaveLogRoom (events_in room (local_after n k acts before)) kept.kept.log_rooms
       → kept.kept.part.clock + deliveries (local_after n k acts before) < 2 ^ 63 → CanGo acts before next kept post
   as_own before behind come log_room clock = record {
-    behind = subst (λ (d : ℕ). IsFollowing d kept.k acts before) (sym dims) (subst (λ (j : ℕ). IsFollowing n j acts before) (sym blocks) behind);
-    ahead = subst (λ (d : ℕ). IsFollowing d kept.k acts next) (sym dims) (subst (λ (j : ℕ). IsFollowing n j acts next) (sym blocks) ahead_is);
+    behind = subst (λ (d : ℕ). IsFollowing d kept.k acts before) (sym dims)
+        (subst (λ (j : ℕ). IsFollowing n j acts before) (sym blocks) behind);
+    ahead = subst (λ (d : ℕ). IsFollowing d kept.k acts next) (sym dims)
+        (subst (λ (j : ℕ). IsFollowing n j acts next) (sym blocks) ahead_is);
     come = subst (λ (d : ℕ). HasComeBefore d kept.k kept.kept.room before kept.kept.part post) (sym dims)
         (subst (λ (j : ℕ). HasComeBefore n j kept.kept.room before kept.kept.part post) (sym blocks)
         (subst (λ (r : ℕ). HasComeBefore n k r before kept.kept.part post) (sym rooms) come));
-    log_room = subst (λ (d : ℕ). HaveLogRoom (events_in kept.kept.room (local_after d kept.k acts before)) kept.kept.log_rooms) (sym dims)
-        (subst (λ (j : ℕ). HaveLogRoom (events_in kept.kept.room (local_after n j acts before)) kept.kept.log_rooms) (sym blocks)
-        (subst (λ (r : ℕ). HaveLogRoom (events_in r (local_after n k acts before)) kept.kept.log_rooms) (sym rooms) log_room));
+    log_room = subst (λ (d : ℕ). HaveLogRoom (events_in kept.kept.room (local_after d kept.k acts before))
+        kept.kept.log_rooms) (sym dims)
+        (subst (λ (j : ℕ). HaveLogRoom (events_in kept.kept.room (local_after n j acts before)) kept.kept.log_rooms)
+        (sym blocks)
+        (subst (λ (r : ℕ). HaveLogRoom (events_in r (local_after n k acts before)) kept.kept.log_rooms)
+        (sym rooms) log_room));
     clock = subst (λ (d : ℕ). kept.kept.part.clock + deliveries (local_after d kept.k acts before) < 2 ^ 63) (sym dims)
-        (subst (λ (j : ℕ). kept.kept.part.clock + deliveries (local_after n j acts before) < 2 ^ 63) (sym blocks) clock);
+        (subst (λ (j : ℕ). kept.kept.part.clock + deliveries (local_after n j acts before) < 2 ^ 63)
+        (sym blocks) clock);
   }
 
   pub ready_first : StandsAt n k room machine acts 0 b kept post → CanGo acts None next kept post
@@ -211,20 +234,23 @@ module _ (n k room : ℕ) (machine : Machine) (acts : List Act) (b : ℕ) (next 
       (let f = (events_shared room).first n k acts in omega (arith, f)) at.log_room)
       (let f = deliveries_shared.first n k acts in let c = at.clock in omega (arith, f, c))
 
-  pub ready_later : (r : ℕ) (phase : Phase) → slice_get (rounds n k acts) r ≡ Some phase → StandsAt n k room machine acts (suc r) b kept post
+  pub ready_later : (r : ℕ) (phase : Phase) → slice_get (rounds n k acts) r ≡ Some phase
+      → StandsAt n k room machine acts (suc r) b kept post
       → CanGo acts (Some (round_of phase)) next kept post
   ready_later r phase is at =
       let now : Machine = before_round n room k machine acts r in
       let told = round_is_followed n k r acts phase is in
       let sent : Part = block n k (sender n k phase.step b) now in
       let parcel : Parcel = due n room phase.step sent in
-      let came : post ≡ post_of n k (kind_of phase.step) parcel = at.come ∙ ap (λ (o : Option Phase). come_in n k room o b now) is in
+      let came : post ≡ post_of n k (kind_of phase.step) parcel = at.come
+      ∙ ap (λ (o : Option Phase). come_in n k room o b now) is in
       let lane : lane_in (kind_of phase.step) post ≡ parcel =
       ap (λ (p : Post). lane_in (kind_of phase.step) p) came ∙ lane_of_post n k (kind_of phase.step) parcel in
       let steps = sym told.between in
       as_own (Some (round_of phase)) (following_phase n k r acts phase is)
       (record {
-        kind = subst (λ (p : Parcel). IsOfKind n k (kind_of phase.step) p) (sym lane) (due_of_kind n k room phase.step sent told.exchanges (count_of_block n k (sender n k phase.step b) now));
+        kind = subst (λ (p : Parcel). IsOfKind n k (kind_of phase.step) p) (sym lane)
+            (due_of_kind n k room phase.step sent told.exchanges (count_of_block n k (sender n k phase.step b) now));
         space = subst (λ (o : Option Phase). HaveSpaceAt room o kept.kept.part) is at.space;
         other = came ∙ ap (λ (p : Parcel). post_of n k (kind_of phase.step) p) (sym lane);
       })
@@ -237,7 +263,8 @@ module _ (n k room : ℕ) (machine : Machine) (acts : List Act) (b : ℕ) (next 
 -- ---- after it
 
 -- what block b has sent when turn t is over, at a round if there is one ahead
-pub record HasSentAt (n k room : ℕ) (machine : Machine) (acts : List Act) (t b : ℕ) (ahead_it : Option Phase) (kept : KeptBlock) (sent : Post) : Type 0 where
+pub record HasSentAt (n k room : ℕ) (machine : Machine) (acts : List Act) (t b : ℕ) (ahead_it : Option Phase)
+    (kept : KeptBlock) (sent : Post) : Type 0 where
   pub blocks : kept.k ≡ k
   pub dims : kept.kept.dims ≡ n
   pub room_is : kept.kept.room ≡ room
@@ -250,35 +277,42 @@ pub record HasSentAt (n k room : ℕ) (machine : Machine) (acts : List Act) (t b
 left_as_phase : (n k room t : ℕ) (acts : List Act) (one : Option Phase) (s : Part) → slice_get (rounds n k acts) t ≡ one
     → left_in room (option_map round_of one) s ≡ without_sent room one s
 left_as_phase n k room t acts None s is = refl
-left_as_phase n k room t acts (Some phase) s is = ap (λ (step : Step). less room step s) (round_is_followed n k t acts phase is).step
+left_as_phase n k room t acts (Some phase) s is =
+    ap (λ (step : Step). less room step s) (round_is_followed n k t acts phase is).step
 
 sent_as_phase : (n k room t : ℕ) (acts : List Act) (one : Option Phase) (s : Part) → slice_get (rounds n k acts) t ≡ one
     → sent_by n k room (option_map round_of one) s ≡ sent_at n k room one s
 sent_as_phase n k room t acts None s is = refl
 sent_as_phase n k room t acts (Some phase) s is =
-    ap (λ (step : Step). post_of n k (kind_of phase.step) (due n room step s)) (round_is_followed n k t acts phase is).step
+    ap (λ (step : Step). post_of n k (kind_of phase.step) (due n room step s))
+    (round_is_followed n k t acts phase is).step
 
 clock_without : (room : ℕ) (one : Option Phase) (s : Part) → (without_sent room one s).clock ≡ s.clock
 clock_without room None s = refl
 clock_without room (Some phase) s = clock_left room phase.step s
 
-clock_taken : (n room : ℕ) (before : Option Round) (post : Post) (s : Part) → (taken_in n room before post s).clock ≡ s.clock
+clock_taken : (n room : ℕ) (before : Option Round) (post : Post) (s : Part)
+    → (taken_in n room before post s).clock ≡ s.clock
 clock_taken n room None post s = refl
 clock_taken n room (Some round) post s = clock_stands n room (step_of round) (lane_in round.kind post) s
 
-space_as_phase : (room : ℕ) (one : Option Phase) (block : KeptBlock) → block.kept.room ≡ room → HaveSpaceIn (option_map round_of one) block
+space_as_phase : (room : ℕ) (one : Option Phase) (block : KeptBlock) → block.kept.room ≡ room
+    → HaveSpaceIn (option_map round_of one) block
     → HaveSpaceAt room one block.kept.part
 space_as_phase room None block is space = tt
 space_as_phase room (Some phase) block is space =
     subst (λ (r : ℕ). HaveSpaceFor (kind_of phase.step) r block.kept.part.buffers) is space
 
-module _ (n k room t b : ℕ) (machine : Machine) (acts : List Act) (before : Option Round) (one : Option Phase) (kept new : KeptBlock) (post sent : Post)
-    (dims : kept.kept.dims ≡ n) (blocks : kept.k ≡ k) (rooms : kept.kept.room ≡ room) (is : slice_get (rounds n k acts) t ≡ one) where
+module _ (n k room t b : ℕ) (machine : Machine) (acts : List Act) (before : Option Round)
+    (one : Option Phase) (kept new : KeptBlock) (post sent : Post) (dims : kept.kept.dims ≡ n) (blocks : kept.k ≡ k)
+    (rooms : kept.kept.room ≡ room) (is : slice_get (rounds n k acts) t ≡ one) where
   pub has_sent : gone_on n k room acts before post kept.kept.part ≡ block n k b (before_round n room k machine acts t)
-      → (all_events all_cycles : ℕ) → events_in room (local_after n k acts before) + events_in room (ahead n k acts t) ≡ all_events
+      → (all_events all_cycles : ℕ)
+      → events_in room (local_after n k acts before) + events_in room (ahead n k acts t) ≡ all_events
       → deliveries (local_after n k acts before) + deliveries (ahead n k acts t) ≡ all_cycles
       → HaveLogRoom all_events kept.kept.log_rooms → kept.kept.part.clock + all_cycles < 2 ^ 63
-      → HasGone acts before (option_map round_of one) kept post new sent → HasSentAt n k room machine acts t b one new sent
+      → HasGone acts before (option_map round_of one) kept post new sent
+      → HasSentAt n k room machine acts t b one new sent
   has_sent reached all_events all_cycles events cycles log_room clock gone =
       let now : Part = block n k b (before_round n room k machine acts t) in
       let own : Part = gone_on kept.kept.dims kept.k kept.kept.room acts before post kept.kept.part in
@@ -287,7 +321,8 @@ module _ (n k room t b : ℕ) (machine : Machine) (acts : List Act) (before : Op
       ∙ ap (λ (j : ℕ). gone_on n j kept.kept.room acts before post kept.kept.part) blocks
       ∙ ap (λ (r : ℕ). gone_on n k r acts before post kept.kept.part) rooms ∙ reached in
       let part : new.kept.part ≡ without_sent room one now =
-      gone.part ∙ ap (λ (r : ℕ). left_in r (option_map round_of one) own) rooms ∙ ap (λ (s : Part). left_in room (option_map round_of one) s) own_is
+      gone.part ∙ ap (λ (r : ℕ). left_in r (option_map round_of one) own) rooms
+      ∙ ap (λ (s : Part). left_in room (option_map round_of one) s) own_is
       ∙ left_as_phase n k room t acts one now is in
       let counted : now.clock ≡ kept.kept.part.clock + deliveries (local_after n k acts before) =
       ap (λ (s : Part). s.clock) (sym reached)
@@ -296,9 +331,12 @@ module _ (n k room t b : ℕ) (machine : Machine) (acts : List Act) (before : Op
       let clock_now : new.kept.part.clock ≡ kept.kept.part.clock + deliveries (local_after n k acts before) =
       ap (λ (s : Part). s.clock) part ∙ clock_without room one now ∙ counted in
       let lost : LoseAtMost (events_in room (local_after n k acts before)) kept.kept.log_rooms new.kept.log_rooms =
-      subst (λ (d : ℕ). LoseAtMost (events_in room (local_after d k acts before)) kept.kept.log_rooms new.kept.log_rooms) dims
-      (subst (λ (j : ℕ). LoseAtMost (events_in room (local_after kept.kept.dims j acts before)) kept.kept.log_rooms new.kept.log_rooms) blocks
-      (subst (λ (r : ℕ). LoseAtMost (events_in r (local_after kept.kept.dims kept.k acts before)) kept.kept.log_rooms new.kept.log_rooms) rooms gone.log_room)) in
+      subst (λ (d : ℕ). LoseAtMost (events_in room (local_after d k acts before))
+      kept.kept.log_rooms new.kept.log_rooms) dims
+      (subst (λ (j : ℕ). LoseAtMost (events_in room (local_after kept.kept.dims j acts before))
+      kept.kept.log_rooms new.kept.log_rooms) blocks
+      (subst (λ (r : ℕ). LoseAtMost (events_in r (local_after kept.kept.dims kept.k acts before))
+      kept.kept.log_rooms new.kept.log_rooms) rooms gone.log_room)) in
       record {
         blocks = gone.same.blocks ∙ blocks;
         dims = gone.same.dims ∙ dims;
@@ -310,16 +348,19 @@ module _ (n k room t b : ℕ) (machine : Machine) (acts : List Act) (before : Op
             ∙ ap (λ (s : Part). sent_by n k room (option_map round_of one) s) own_is
             ∙ sent_as_phase n k room t acts one now is;
         space = space_as_phase room one new (gone.same.room ∙ rooms) gone.space;
-        log_room = room_left (events_in room (local_after n k acts before)) (events_in room (ahead n k acts t)) all_events kept.kept.log_rooms new.kept.log_rooms
+        log_room = room_left (events_in room (local_after n k acts before)) (events_in room (ahead n k acts t))
+            all_events kept.kept.log_rooms new.kept.log_rooms
             events log_room lost;
         clock = omega (arith, clock_now, cycles, clock);
       }
 
 -- ---- what came is what the sender sent
 
-pub stands_next : (n k room t b : ℕ) (machine : Machine) (acts : List Act) (phase : Phase) (kept giver_kept : KeptBlock) (came gave : Post)
+pub stands_next : (n k room t b : ℕ) (machine : Machine) (acts : List Act) (phase : Phase)
+    (kept giver_kept : KeptBlock) (came gave : Post)
     → slice_get (rounds n k acts) t ≡ Some phase → HasSentAt n k room machine acts t b (Some phase) kept gave
-    → came ≡ sent_at n k room (Some phase) (block n k (giver n k (kind_of phase.step) b) (before_round n room k machine acts t))
+    → came ≡ sent_at n k room (Some phase)
+    (block n k (giver n k (kind_of phase.step) b) (before_round n room k machine acts t))
     → StandsAt n k room machine acts (suc t) b kept came
 stands_next n k room t b machine acts phase kept giver_kept came gave is at came_is =
     let now : Machine = before_round n room k machine acts t in
@@ -329,7 +370,8 @@ stands_next n k room t b machine acts phase kept giver_kept came gave is at came
       room_is = at.room_is;
       part = at.part ∙ ap (λ (o : Option Phase). without_sent room o (block n k b now)) (sym is);
       come = came_is
-          ∙ ap (λ (from : ℕ). post_of n k (kind_of phase.step) (due n room phase.step (block n k from now))) (giver_is_sender n k phase.step b told.exchanges)
+          ∙ ap (λ (from : ℕ). post_of n k (kind_of phase.step) (due n room phase.step (block n k from now)))
+          (giver_is_sender n k phase.step b told.exchanges)
           ∙ ap (λ (o : Option Phase). come_in n k room o b now) (sym is);
       space = subst (λ (o : Option Phase). HaveSpaceAt room o kept.kept.part) (sym is) at.space;
       log_room = at.log_room;

@@ -17,7 +17,8 @@ pub record HasPut {X : Type 0} (r : ℕ) (thing : X) (old new : List (Vec X Glob
   pub here : (e : Vec X Global) → hand new e r ≡ hand old e r ++ thing ∷ []
   pub others : (s : ℕ) (e : Vec X Global) → s ≢ r → hand new e s ≡ hand old e s
 
--- each hand has as many of so many things as it gets, if they are dealt out in turn: thing q * count + r comes to hand r
+-- each hand has as many of so many things as it gets, if they are dealt out in turn:
+-- thing q * count + r comes to hand r
 abbrev pub AreShares : {X : Type 0} → ℕ → ℕ → List (Vec X Global) → Type 0
 AreShares count many hands = (r q : ℕ) (e : _) → r < count → (q < length (hand hands e r)) ↔ (q * count + r < many)
 

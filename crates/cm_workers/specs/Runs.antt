@@ -1,5 +1,6 @@
 -- How blocks stand in a run: at the beginning of each turn, and after all. Ours.
-use Rattle.std.specs.Prelude.{◌≡◌, ℕ, zero, suc, ◌+◌, ◌*◌, ◌<◌, ◌≤◌, ◌^◌, List, Option, Some, None, length, get_or, slice_get}
+use Rattle.std.specs.Prelude.{◌≡◌, ℕ, zero, suc, ◌+◌, ◌*◌, ◌<◌, ◌≤◌, ◌^◌, List, Option, Some, None}
+use Rattle.std.specs.Prelude.{length, get_or, slice_get}
 use Rattle.cm_model.specs.declared.act.Act.{Act}
 use Rattle.cm_model.specs.Machine.{Machine}
 use Rattle.cm_model.specs.Steps.{Phase}
@@ -24,14 +25,16 @@ without_sent room (Some phase) s = less room phase.step s
 -- what has come for it
 abbrev pub come_in : ℕ → ℕ → ℕ → Option Phase → ℕ → Machine → Post
 come_in n k room None b machine = blank_post n k
-come_in n k room (Some phase) b machine = post_of n k (kind_of phase.step) (due n room phase.step (block n k (sender n k phase.step b) machine))
+come_in n k room (Some phase) b machine =
+    post_of n k (kind_of phase.step) (due n room phase.step (block n k (sender n k phase.step b) machine))
 
 -- there is room for it
 abbrev pub HaveSpaceAt : ℕ → Option Phase → Part → Type 0
 HaveSpaceAt room None s = Unit {0}
 HaveSpaceAt room (Some phase) s = HaveSpaceFor (kind_of phase.step) room s.buffers
 
--- the part of block b when turn t begins: as it was cut out, and then as it is before the round at which the turn begins, without what it sent
+-- the part of block b when turn t begins: as it was cut out, and then as it is before the round at which
+-- the turn begins, without what it sent
 abbrev pub part_at : ℕ → ℕ → ℕ → Machine → List Act → ℕ → ℕ → Part
 part_at n k room machine acts zero b = block n k b machine
 part_at n k room machine acts (suc r) b =
@@ -40,7 +43,8 @@ part_at n k room machine acts (suc r) b =
 -- its post: with nothing in it, and then with what its sender sent
 abbrev pub post_at : ℕ → ℕ → ℕ → Machine → List Act → ℕ → ℕ → Post
 post_at n k room machine acts zero b = blank_post n k
-post_at n k room machine acts (suc r) b = come_in n k room (slice_get (rounds n k acts) r) b (before_round n room k machine acts r)
+post_at n k room machine acts (suc r) b =
+    come_in n k room (slice_get (rounds n k acts) r) b (before_round n room k machine acts r)
 
 abbrev pub HasSpaceIn : ℕ → ℕ → ℕ → List Act → ℕ → Part → Type 0
 HasSpaceIn n k room acts zero s = Unit {0}
@@ -56,7 +60,8 @@ cycles_left n k acts zero = cycles_in acts * 1
 cycles_left n k acts (suc r) = deliveries (ahead n k acts r)
 
 -- block b and its post when turn t of a run begins
-pub record StandsAt (n k room : ℕ) (machine : Machine) (acts : List Act) (t b : ℕ) (kept : KeptBlock) (post : Post) : Type 0 where
+pub record StandsAt (n k room : ℕ) (machine : Machine) (acts : List Act) (t b : ℕ) (kept : KeptBlock)
+    (post : Post) : Type 0 where
   pub blocks : kept.k ≡ k
   pub dims : kept.kept.dims ≡ n
   pub room_is : kept.kept.room ≡ room
@@ -67,10 +72,12 @@ pub record StandsAt (n k room : ℕ) (machine : Machine) (acts : List Act) (t b 
   pub clock : kept.kept.part.clock + cycles_left n k acts t < 2 ^ 63
 
 -- all of them
-pub record StandAt (n k room : ℕ) (machine : Machine) (acts : List Act) (t : ℕ) (blocks : List KeptBlock) (posts : List Post) : Type 0 where
+pub record StandAt (n k room : ℕ) (machine : Machine) (acts : List Act) (t : ℕ) (blocks : List KeptBlock)
+    (posts : List Post) : Type 0 where
   pub block_count : length blocks ≡ 2 ^ k
   pub post_count : length posts ≡ 2 ^ k
-  pub each : (b : ℕ) (x : KeptBlock) (y : Post) → b < 2 ^ k → StandsAt n k room machine acts t b (get_or blocks b x) (get_or posts b y)
+  pub each : (b : ℕ) (x : KeptBlock) (y : Post) → b < 2 ^ k
+      → StandsAt n k room machine acts t b (get_or blocks b x) (get_or posts b y)
 
 -- the blocks after a run
 pub record AreAfter (n k room : ℕ) (machine : Machine) (acts : List Act) (blocks : List KeptBlock) : Type 0 where

@@ -11,7 +11,8 @@ use Rattle.cm_workers.specs.Each.{AreEach}
 use Rattle.cm_workers.specs.Turns.{round_before, CanAllGo, HasGone}
 
 -- a promise of a turn of these blocks and posts
-pub record IsPromised (acts : List Act) (rounds : List Round) (number : ℕ) (blocks : List KeptBlock) (posts : List Post) (promise : HasHad) : Type 0 where
+pub record IsPromised (acts : List Act) (rounds : List Round) (number : ℕ) (blocks : List KeptBlock) (posts : List Post)
+    (promise : HasHad) : Type 0 where
   pub acts_are : promise.acts.now ≡ acts
   pub rounds_are : promise.rounds.now ≡ rounds
   pub number_is : promise.number ≡ number
@@ -21,17 +22,20 @@ pub record IsPromised (acts : List Act) (rounds : List Round) (number : ℕ) (bl
 -- it is kept by these
 abbrev pub IsKept : HasHad → List KeptBlock → List Post → Type 0
 IsKept promise blocks posts =
-    AreEach (HasGone promise.acts.now (round_before promise.rounds.now promise.number) (slice_get promise.rounds.now promise.number))
+    AreEach (HasGone promise.acts.now (round_before promise.rounds.now promise.number)
+    (slice_get promise.rounds.now promise.number))
     promise.was.value.blocks.items promise.was.value.posts.items blocks posts
 
 -- all hands are ready for a turn
-pub record CanHandsGo (acts : List Act) (before next : Option Round) (blocks : List (Vec KeptBlock Global)) (posts : List (Vec Post Global)) : Type 0 where
+pub record CanHandsGo (acts : List Act) (before next : Option Round) (blocks : List (Vec KeptBlock Global))
+    (posts : List (Vec Post Global)) : Type 0 where
   pub len : length posts ≡ length blocks
-  pub each : (w : ℕ) (e : Vec KeptBlock Global) (f : Vec Post Global) → w < length blocks → CanAllGo acts before next (hand blocks e w) (hand posts f w)
+  pub each : (w : ℕ) (e : Vec KeptBlock Global) (f : Vec Post Global) → w < length blocks
+      → CanAllGo acts before next (hand blocks e w) (hand posts f w)
 
 -- all hands have had it
-pub record HandsHaveGone (acts : List Act) (before next : Option Round) (blocks : List (Vec KeptBlock Global)) (posts : List (Vec Post Global))
-    (now : List (Vec KeptBlock Global)) (sent : List (Vec Post Global)) : Type 0 where
+pub record HandsHaveGone (acts : List Act) (before next : Option Round) (blocks : List (Vec KeptBlock Global))
+    (posts : List (Vec Post Global)) (now : List (Vec KeptBlock Global)) (sent : List (Vec Post Global)) : Type 0 where
   pub first_len : length now ≡ length blocks
   pub second_len : length sent ≡ length posts
   pub each : (w : ℕ) (e : Vec KeptBlock Global) (f : Vec Post Global) → w < length blocks

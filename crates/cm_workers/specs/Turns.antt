@@ -1,4 +1,5 @@
--- A turn: what a block does from one exchange to the next. It takes in what came in the round before, goes on by itself, and sends what is due in the next. Ours.
+-- A turn: what a block does from one exchange to the next. It takes in what came in the round before,
+-- goes on by itself, and sends what is due in the next. Ours.
 use Rattle.std.specs.Prelude.{◌≡◌, ℕ, zero, suc, ◌+◌, ◌<◌, ◌^◌, List, Option, Some, None, length, get_or, slice_get}
 use Rattle.std.specs.Option.{ForSome}
 use Rattle.cm_model.specs.declared.act.Act.{Act}
@@ -27,7 +28,8 @@ taken_in n room (Some round) post s = absorbed n room (step_of round) (lane_in r
 
 -- and then went through the steps until the next round
 abbrev pub gone_on : ℕ → ℕ → ℕ → List Act → Option Round → Post → Part → Part
-gone_on n k room acts before post s = part_after_all n room (local_after n k acts before) (taken_in n room before post s)
+gone_on n k room acts before post s =
+    part_after_all n room (local_after n k acts before) (taken_in n room before post s)
 
 -- what is left of it when it has sent what is due in the next, and what it sends
 abbrev pub left_in : ℕ → Option Round → Part → Part
@@ -57,7 +59,8 @@ pub record CanGo (acts : List Act) (before next : Option Round) (block : KeptBlo
   pub behind : IsFollowing block.kept.dims block.k acts before
   pub ahead : IsFollowing block.kept.dims block.k acts next
   pub come : HasComeBefore block.kept.dims block.k block.kept.room before block.kept.part post
-  pub log_room : HaveLogRoom (events_in block.kept.room (local_after block.kept.dims block.k acts before)) block.kept.log_rooms
+  pub log_room : HaveLogRoom (events_in block.kept.room (local_after block.kept.dims block.k acts before))
+      block.kept.log_rooms
   pub clock : block.kept.part.clock + deliveries (local_after block.kept.dims block.k acts before) < 2 ^ 63
 
 -- a block of the same sizes
@@ -67,11 +70,13 @@ pub record IsSame (old new : KeptBlock) : Type 0 where
   pub blocks : new.k ≡ old.k
 
 -- it has taken in what came, and has gone on until the next round
-pub record HasGoneOn (acts : List Act) (before : Option Round) (old : KeptBlock) (post : Post) (new : KeptBlock) (blank : Post) : Type 0 where
+pub record HasGoneOn (acts : List Act) (before : Option Round) (old : KeptBlock) (post : Post) (new : KeptBlock)
+    (blank : Post) : Type 0 where
   pub same : IsSame old new
   pub part : new.kept.part ≡ gone_on old.kept.dims old.k old.kept.room acts before post old.kept.part
   pub sent : blank ≡ blank_post old.kept.dims old.k
-  pub log_room : LoseAtMost (events_in old.kept.room (local_after old.kept.dims old.k acts before)) old.kept.log_rooms new.kept.log_rooms
+  pub log_room : LoseAtMost (events_in old.kept.room (local_after old.kept.dims old.k acts before))
+      old.kept.log_rooms new.kept.log_rooms
 
 -- there is room for what comes in a round, if there is one
 abbrev pub HaveSpaceIn : Option Round → KeptBlock → Type 0
@@ -87,20 +92,24 @@ pub record HasSent (next : Option Round) (old : KeptBlock) (blank : Post) (new :
   pub space : HaveSpaceIn next new
 
 -- it has had its turn
-pub record HasGone (acts : List Act) (before next : Option Round) (old : KeptBlock) (came : Post) (new : KeptBlock) (sent : Post) : Type 0 where
+pub record HasGone (acts : List Act) (before next : Option Round) (old : KeptBlock) (came : Post) (new : KeptBlock)
+    (sent : Post) : Type 0 where
   pub same : IsSame old new
   pub part : new.kept.part
       ≡ left_in old.kept.room next (gone_on old.kept.dims old.k old.kept.room acts before came old.kept.part)
   pub sends : sent
       ≡ sent_by old.kept.dims old.k old.kept.room next
       (gone_on old.kept.dims old.k old.kept.room acts before came old.kept.part)
-  pub log_room : LoseAtMost (events_in old.kept.room (local_after old.kept.dims old.k acts before)) old.kept.log_rooms new.kept.log_rooms
+  pub log_room : LoseAtMost (events_in old.kept.room (local_after old.kept.dims old.k acts before))
+      old.kept.log_rooms new.kept.log_rooms
   pub space : HaveSpaceIn next new
 
 -- so of all blocks of a worker, and their posts
-pub record CanAllGo (acts : List Act) (before next : Option Round) (blocks : List KeptBlock) (posts : List Post) : Type 0 where
+pub record CanAllGo (acts : List Act) (before next : Option Round) (blocks : List KeptBlock)
+    (posts : List Post) : Type 0 where
   pub len : length posts ≡ length blocks
-  pub each : (i : ℕ) (b : KeptBlock) (p : Post) → i < length blocks → CanGo acts before next (get_or blocks i b) (get_or posts i p)
+  pub each : (i : ℕ) (b : KeptBlock) (p : Post) → i < length blocks
+      → CanGo acts before next (get_or blocks i b) (get_or posts i p)
 
 -- a block as it was, but that it may be read now
 pub record IsShown (old new : KeptBlock) : Type 0 where
@@ -125,4 +134,5 @@ pub record CanSend (next : Option Round) (block : KeptBlock) (post : Post) : Typ
 -- so of all blocks of a worker
 pub record CanAllSend (next : Option Round) (blocks : List KeptBlock) (posts : List Post) : Type 0 where
   pub len : length posts ≡ length blocks
-  pub each : (i : ℕ) (b : KeptBlock) (p : Post) → i < length blocks → CanSend next (get_or blocks i b) (get_or posts i p)
+  pub each : (i : ℕ) (b : KeptBlock) (p : Post) → i < length blocks
+      → CanSend next (get_or blocks i b) (get_or posts i p)

@@ -25,7 +25,8 @@ pub(crate) fn hand_over<T: Drop>(things: &mut [T], dims: u8, k: u8, kind: Kind)
 fn swap_across<T: Drop>(things: &mut [T], bit: usize)
     requires bit { IsBitBelow bit (length things.old) }
     ensures len { length things.new ≡ length things.old }
-    ensures value { (b : ℕ) (d : _) → b < length things.old → get_or things.new b d ≡ get_or things.old (bit_xor b bit) d }
+    ensures value { (b : ℕ) (d : _) → b < length things.old
+        → get_or things.new b d ≡ get_or things.old (bit_xor b bit) d }
 {
     for b in 0..things.len() {
         let across = b ^ bit;

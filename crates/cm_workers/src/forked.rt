@@ -1,7 +1,8 @@
 //! The runner of many threads.
 
 ghost use Rattle.std.specs.Prelude.{◌≡◌, ◌↔◌, ℕ, ◌+◌, ◌-◌, ◌*◌, ◌/◌, ◌^◌, ◌<◌, ◌≤◌, ◌++◌, [], None, List};
-ghost use Rattle.std.specs.Prelude.{cond, IfOk, IfSome, IsErrOf, IsFalse, IsOk, IsTrue, ltb, MatchResult, OnOk, OnErr, length};
+ghost use Rattle.std.specs.Prelude.{cond, IfOk, IfSome, IsErrOf, IsFalse, IsOk, IsTrue, ltb, MatchResult};
+ghost use Rattle.std.specs.Prelude.{OnOk, OnErr, length};
 ghost use Rattle.std.specs.Thread.{IsSync};
 ghost use Rattle.std.specs.List.{All};
 ghost use Rattle.cm_model.specs.declared.act.Act.{Act};
@@ -50,8 +51,8 @@ pub struct Forked<'a, R> {
 }
 
 impl<'a, R: Threads + Wait> Forked<'a, R> {
-    /// One that cuts machines of 2^`N` chips into 2^`k` blocks for so many workers, which go through the passage. It runs
-    /// smaller machines too, in as many blocks as they can be cut into, with no more workers than blocks.
+    /// One that cuts machines of 2^`N` chips into 2^`k` blocks for so many workers, which go through the passage. It
+    /// runs smaller machines too, in as many blocks as they can be cut into, with no more workers than blocks.
     pub fn new<const N: usize>(
         rt: &'a R,
         alloc: Global,
@@ -105,8 +106,8 @@ impl<'a, const N: usize, const CAP: usize, R: Threads + Wait> Runner<N, CAP> for
 
     ghost threads_lacked = { λ runner. runner.threads_lacked };
 
-    /// Takes memory for a copy of the machine, for what its blocks exchange, and for the logs of all petit cycles in the
-    /// list. Of a list that is not empty each worker is admitted before any is started. Where memory or a thread is
+    /// Takes memory for a copy of the machine, for what its blocks exchange, and for the logs of all petit cycles in
+    /// the list. Of a list that is not empty each worker is admitted before any is started. Where memory or a thread is
     /// wanting the machine stays as it was.
     fn go(&mut self, machine: &mut Machine<N, CAP>, acts: &[Act]) -> Result<(), RunFault>
         requires runner { IsSync R.row }

@@ -7,9 +7,9 @@ use cm_subcube::Block;
 
 /// Looks at the workers of a run, from within their threads.
 pub trait Gate: Sync + Send + Drop {
-    /// Whether a worker may begin. It is asked once for each list of acts, the worker with the lowest number first, before
-    /// memory is asked for; no further one once a worker was refused. It is not asked for a list that is empty or refused
-    /// as too long or too late, nor for workers that a smaller machine has no blocks for.
+    /// Whether a worker may begin. It is asked once for each list of acts, the worker with the lowest number first,
+    /// before memory is asked for; no further one once a worker was refused. It is not asked for a list that is empty
+    /// or refused as too long or too late, nor for workers that a smaller machine has no blocks for.
     fn admit(&self, worker: u16) -> bool;
 
     /// Called in a worker's thread before it sends in the round of that number, with its blocks as they are then, that

@@ -45,7 +45,8 @@ pub fn run_blocks<R: Threads + Wait>(
     requires few { sizes.workers ≤ 64 }
     requires rounds { rounds.now ≡ rounds_of sizes.dims sizes.k acts.now }
     requires begun { HaveBegun sizes.dims sizes.k acts.now 0 all.blocks.items all.posts.items }
-    ensures value { (room : ℕ) (machine : Machine) → StandAt sizes.dims sizes.k room machine acts.now 0 all.blocks.items all.posts.items
+    ensures value { (room : ℕ) (machine : Machine)
+        → StandAt sizes.dims sizes.k room machine acts.now 0 all.blocks.items all.posts.items
         → IfOk result (λ now. AreAfter sizes.dims sizes.k room machine acts.now now.blocks.items) }
 {
     let mut all = all;
@@ -82,8 +83,10 @@ fn to_round<R: Threads + Wait>(
     requires rounds { rounds.now ≡ rounds_of sizes.dims sizes.k acts.now }
     requires number { number < length rounds.now }
     requires begun { HaveBegun sizes.dims sizes.k acts.now number all.blocks.items all.posts.items }
-    ensures value { (room : ℕ) (machine : Machine) → StandAt sizes.dims sizes.k room machine acts.now number all.blocks.items all.posts.items
-        → IfOk result (λ now. StandAt sizes.dims sizes.k room machine acts.now (number + 1) now.blocks.items now.posts.items) }
+    ensures value { (room : ℕ) (machine : Machine)
+        → StandAt sizes.dims sizes.k room machine acts.now number all.blocks.items all.posts.items
+        → IfOk result (λ now. StandAt sizes.dims sizes.k room machine acts.now (number + 1)
+        now.blocks.items now.posts.items) }
 {
     let mut now = shift(rt, alloc, acts, rounds, number, passage, sizes.workers, all)?;
     hand_over(&mut now.posts, sizes.dims, sizes.k, rounds[number].kind);

@@ -1,6 +1,7 @@
 //! A turn of all workers at once, each in a thread of its own.
 
-ghost use Rattle.std.specs.Prelude.{◌≡◌, ℕ, ◌<◌, ◌≤◌, IfOk, IsErrOf, get_or, [], length, slice_get, vec_len, vec_capacity};
+ghost use Rattle.std.specs.Prelude.{◌≡◌, ℕ, ◌<◌, ◌≤◌, IfOk, IsErrOf, get_or, [], length};
+ghost use Rattle.std.specs.Prelude.{slice_get, vec_len, vec_capacity};
 ghost use Rattle.std.specs.Option.{option_copied};
 ghost use Rattle.std.specs.Thread.{IsSync};
 ghost use Rattle.cm_workers.specs.Dealing.{hand};
@@ -37,7 +38,8 @@ impl<'a> Promise<Crew> for HasHad<'a> {
     ghost use Rattle.cm_workers.specs.Shifts.{IsPromised, IsKept, CanHandsGo, HandsHaveGone};
     ghost use Rattle.cm_workers.specs.Turns.{round_before, HasGone};
 
-    ghost kept_by = { λ p r. AreEach (HasGone p.acts.now (round_before p.rounds.now p.number) (slice_get p.rounds.now p.number))
+    ghost kept_by = { λ p r. AreEach
+        (HasGone p.acts.now (round_before p.rounds.now p.number) (slice_get p.rounds.now p.number))
         p.was.value.blocks.items p.was.value.posts.items r.blocks.items r.posts.items };
 }
 
@@ -51,9 +53,11 @@ fn start<'s, E>(
     crew: Crew,
     worker: u16,
 ) -> Result<PromisedHandle<Crew, HasHad<'s>>, Want>
-    requires ready { CanAllGo acts.now (round_before rounds.now number) (slice_get rounds.now number) crew.blocks.items crew.posts.items }
+    requires ready { CanAllGo acts.now (round_before rounds.now number) (slice_get rounds.now number)
+        crew.blocks.items crew.posts.items }
     ensures memory { ¬ IsErrOf result Want.Memory }
-    ensures ok { IfOk result (λ handle. IsPromised acts.entry.now rounds.entry.now number crew.blocks.items crew.posts.items handle.promise) }
+    ensures ok { IfOk result (λ handle.
+        IsPromised acts.entry.now rounds.entry.now number crew.blocks.items crew.posts.items handle.promise) }
 {
     let was = Snapshot::of(&crew);
     let started = scope.spawn_with(
@@ -64,8 +68,10 @@ fn start<'s, E>(
             was,
         },
         move || -> Crew
-            requires { CanAllGo acts.now (round_before rounds.now number) (slice_get rounds.now number) crew.blocks.items crew.posts.items }
-            ensures { AreEach (HasGone acts.entry.now (round_before rounds.entry.now number) (slice_get rounds.entry.now number))
+            requires { CanAllGo acts.now (round_before rounds.now number) (slice_get rounds.now number)
+                crew.blocks.items crew.posts.items }
+            ensures { AreEach (HasGone acts.entry.now (round_before rounds.entry.now number)
+                (slice_get rounds.entry.now number))
                 crew.blocks.items crew.posts.items result.blocks.items result.posts.items }
         { crew.go(acts, rounds, number, worker, passage) },
     );
@@ -92,11 +98,13 @@ fn start_all<'s, E>(
     passage: &'s Passage,
     mut hands: Hands,
 ) -> Result<Vec<PromisedHandle<Crew, HasHad<'s>>>, Want>
-    requires ready { CanHandsGo acts.now (round_before rounds.now number) (slice_get rounds.now number) hands.blocks.items hands.posts.items }
+    requires ready { CanHandsGo acts.now (round_before rounds.now number) (slice_get rounds.now number)
+        hands.blocks.items hands.posts.items }
     requires few { length hands.blocks.items ≤ 64 }
     ensures count { IfOk result (λ handles. length handles.items ≡ length hands.blocks.items) }
     ensures promised { IfOk result (λ handles. (w : ℕ) (d : _) (e f : _) → w < length hands.blocks.items
-        → IsPromised acts.entry.now rounds.entry.now number (hand hands.blocks.items e w) (hand hands.posts.items f w) (get_or handles.items w d).promise) }
+        → IsPromised acts.entry.now rounds.entry.now number (hand hands.blocks.items e w) (hand hands.posts.items f w)
+        (get_or handles.items w d).promise) }
 {
     let count = hands.blocks.len();
     let mut handles = room_for(alloc, count)?;
@@ -143,10 +151,11 @@ fn start_and_join<'s, E, R: Threads>(
     passage: &'s Passage,
     hands: Hands,
 ) -> Result<Hands, Want>
-    requires ready { CanHandsGo acts.now (round_before rounds.now number) (slice_get rounds.now number) hands.blocks.items
-        hands.posts.items }
+    requires ready { CanHandsGo acts.now (round_before rounds.now number) (slice_get rounds.now number)
+        hands.blocks.items hands.posts.items }
     requires few { length hands.blocks.items ≤ 64 }
-    ensures value { IfOk result (λ now. HandsHaveGone acts.entry.now (round_before rounds.entry.now number) (slice_get rounds.entry.now number)
+    ensures value { IfOk result
+        (λ now. HandsHaveGone acts.entry.now (round_before rounds.entry.now number) (slice_get rounds.entry.now number)
         hands.blocks.items hands.posts.items now.blocks.items now.posts.items) }
 {
     let handles = start_all(scope, alloc, acts, rounds, number, passage, hands)?;
@@ -163,19 +172,21 @@ fn turn_hands<R: Threads + Wait>(
     passage: &Passage,
     hands: Hands,
 ) -> Result<Hands, Want>
-    requires ready { CanHandsGo acts.now (round_before rounds.now number) (slice_get rounds.now number) hands.blocks.items
-        hands.posts.items }
+    requires ready { CanHandsGo acts.now (round_before rounds.now number) (slice_get rounds.now number)
+        hands.blocks.items hands.posts.items }
     requires few { length hands.blocks.items ≤ 64 }
-    ensures value { IfOk result (λ now. HandsHaveGone acts.now (round_before rounds.now number) (slice_get rounds.now number)
+    ensures value { IfOk result
+        (λ now. HandsHaveGone acts.now (round_before rounds.now number) (slice_get rounds.now number)
         hands.blocks.items hands.posts.items now.blocks.items now.posts.items) }
 {
     thread::scope(
         thread::scope_env(),
         rt,
         |scope| -> Result<Hands, Want>
-            requires { CanHandsGo acts.now (round_before rounds.now number) (slice_get rounds.now number) hands.blocks.items
-                hands.posts.items × (length hands.blocks.items ≤ 64) }
-            ensures { IfOk result (λ now. HandsHaveGone acts.entry.now (round_before rounds.entry.now number) (slice_get rounds.entry.now number)
+            requires { CanHandsGo acts.now (round_before rounds.now number) (slice_get rounds.now number)
+                hands.blocks.items hands.posts.items × (length hands.blocks.items ≤ 64) }
+            ensures { IfOk result (λ now. HandsHaveGone acts.entry.now (round_before rounds.entry.now number)
+                (slice_get rounds.entry.now number)
                 hands.blocks.items hands.posts.items now.blocks.items now.posts.items) }
         { start_and_join(scope, rt, alloc, acts, rounds, number, passage, hands) },
     )
@@ -195,8 +206,10 @@ pub(crate) fn shift<R: Threads + Wait>(
 ) -> Result<Crew, Want>
     requires some { 0 < workers }
     requires few { workers ≤ 64 }
-    requires ready { CanAllGo acts.now (round_before rounds.now number) (slice_get rounds.now number) all.blocks.items all.posts.items }
-    ensures value { IfOk result (λ now. AreEach (HasGone acts.now (round_before rounds.now number) (slice_get rounds.now number))
+    requires ready { CanAllGo acts.now (round_before rounds.now number) (slice_get rounds.now number)
+        all.blocks.items all.posts.items }
+    ensures value { IfOk result
+        (λ now. AreEach (HasGone acts.now (round_before rounds.now number) (slice_get rounds.now number))
         all.blocks.items all.posts.items now.blocks.items now.posts.items) }
 {
     let count = usize::from(workers);

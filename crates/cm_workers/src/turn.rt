@@ -8,7 +8,8 @@ ghost use Rattle.cm_subcube.specs.Rounds.{step_of};
 ghost use Rattle.cm_subcube.specs.Parcels.{IsExchange};
 ghost use Rattle.cm_workers.specs.Posts.{lane_in, blank_post};
 ghost use Rattle.cm_workers.specs.Each.{AreEach};
-ghost use Rattle.cm_workers.specs.Turns.{round_before, CanGo, CanAllGo, CanSend, CanAllSend, HasCome, HasGoneOn, HasSent, HasGone, AreShown};
+ghost use Rattle.cm_workers.specs.Turns.{round_before, CanGo, CanAllGo, CanSend, CanAllSend, HasCome, HasGoneOn};
+ghost use Rattle.cm_workers.specs.Turns.{HasSent, HasGone, AreShown};
 
 use crate::gate::Passage;
 use crate::post::Post;
@@ -88,7 +89,8 @@ fn have_turn(
     worker: u16,
     passage: &Passage,
 )
-    requires ready { CanAllGo turn.now.acts.now (option_copied turn.now.before) (option_copied turn.now.next) blocks.old posts.old }
+    requires ready { CanAllGo turn.now.acts.now (option_copied turn.now.before)
+        (option_copied turn.now.next) blocks.old posts.old }
     ensures value { AreEach (HasGone turn.now.acts.now (option_copied turn.now.before) (option_copied turn.now.next))
         blocks.old posts.old blocks.new posts.new }
 {
@@ -99,8 +101,10 @@ fn have_turn(
 
 /// Each block takes in what came for it, and goes on until the next round.
 fn go_on_all(blocks: &mut [Block], posts: &mut [Post], turn: &Turn<'_>)
-    requires ready { CanAllGo turn.now.acts.now (option_copied turn.now.before) (option_copied turn.now.next) blocks.old posts.old }
-    ensures value { AreEach (HasGoneOn turn.now.acts.now (option_copied turn.now.before)) blocks.old posts.old blocks.new posts.new }
+    requires ready { CanAllGo turn.now.acts.now (option_copied turn.now.before)
+        (option_copied turn.now.next) blocks.old posts.old }
+    ensures value { AreEach (HasGoneOn turn.now.acts.now (option_copied turn.now.before))
+        blocks.old posts.old blocks.new posts.new }
 {
     for i in 0..blocks.len() {
         go_on(&mut blocks[i], &mut posts[i], turn);
@@ -108,7 +112,8 @@ fn go_on_all(blocks: &mut [Block], posts: &mut [Post], turn: &Turn<'_>)
 }
 
 fn go_on(block: &mut Block, post: &mut Post, turn: &Turn<'_>)
-    requires ready { CanGo turn.now.acts.now (option_copied turn.now.before) (option_copied turn.now.next) block.old post.old }
+    requires ready { CanGo turn.now.acts.now (option_copied turn.now.before)
+        (option_copied turn.now.next) block.old post.old }
     ensures value { HasGoneOn turn.now.acts.now (option_copied turn.now.before) block.old post.old block.new post.new }
 {
     if let Some(round) = turn.before {
@@ -122,7 +127,8 @@ fn take_in(block: &mut Block, post: &mut Post, round: &Round)
     requires exchange { IsExchange block.old.kept.dims block.old.k round.now }
     requires come { HasCome block.old.kept.dims block.old.k block.old.kept.room round.now block.old.kept.part post.old }
     ensures value { block.new.kept ≡ record block.old.kept {
-      part = absorbed block.old.kept.dims block.old.kept.room (step_of round.now) (lane_in round.now.kind post.old) block.old.kept.part;
+      part = absorbed block.old.kept.dims block.old.kept.room (step_of round.now)
+          (lane_in round.now.kind post.old) block.old.kept.part;
       gathered = block.new.kept.gathered;
     } }
     ensures blocks { block.new.k ≡ block.old.k }

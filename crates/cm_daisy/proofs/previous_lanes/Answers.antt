@@ -14,6 +14,7 @@ returns-clause-value c = λ k h p below.
     let inside = c.requires.planes in
     let twice : lane + lane ≡ lane * 2 = omega arith in
     ap (λ (w : ℕ). bit w p)
-    (get_or-zip2 (λ x y. (x + y) % 65536) c.args.planes c.args.planes k 0 0 0 (omega (arith, h, inside)) (omega (arith, h, inside))
+    (get_or-zip2 (λ x y. (x + y) % 65536) c.args.planes c.args.planes k 0 0 0 (omega (arith, h, inside))
+    (omega (arith, h, inside))
     ∙ ap (λ (n : ℕ). n % 65536) twice)
     ∙ bit-shifted lane p below

@@ -5,4 +5,5 @@ use Rattle.cm_model.specs.Found.{delivery_place}
 use Rattle.cm_array.proofs.finding.delivered_in.Given as goal
 
 abbrev pub invariant-loop-event : goal.invariant-loop-event
-invariant-loop-event l = slice_get (filter_map (delivery_place l.tag) l.log) 0 ≡ slice_get (filter_map (delivery_place l.tag) (drop l.event-index l.log)) 0
+invariant-loop-event l = slice_get (filter_map (delivery_place l.tag) l.log) 0
+    ≡ slice_get (filter_map (delivery_place l.tag) (drop l.event-index l.log)) 0

@@ -12,6 +12,9 @@ use Rattle.cm_array.proofs.finding.delivered_to.Goals as goal
 pub loop-c-preserved : goal.loop-c-preserved
 loop-c-preserved c =
     let first : List Event → Option Place = λ es. slice_get (filter_map (delivery_place c.args.tag.now) es) 0 in
-    let read = list_at-events_of c.args.logs.now c.loop-c.c c.index-logs-c.result c.loop-c-test.true c.index-logs-c.is in
-    let here : first (list_at (events_of c.args.logs.now) c.loop-c.c) ≡ None = ap first (read ∙ sym c.deref.ensures.value) ∙ sym c.delivered_in.ensures.value ∙ c.in_default.is in
-    c.loop-c.invariant ∙ first_next (λ (k : ℕ). filter_map (delivery_place c.args.tag.now) (list_at (events_of c.args.logs.now) k)) c.loop-c.c (length c.args.logs.now) c.loop-c-test.true here
+    let read = list_at-events_of c.args.logs.now c.loop-c.c c.index-logs-c.result
+    c.loop-c-test.true c.index-logs-c.is in
+    let here : first (list_at (events_of c.args.logs.now) c.loop-c.c) ≡ None =
+    ap first (read ∙ sym c.deref.ensures.value) ∙ sym c.delivered_in.ensures.value ∙ c.in_default.is in
+    c.loop-c.invariant ∙ first_next (λ (k : ℕ). filter_map (delivery_place c.args.tag.now)
+    (list_at (events_of c.args.logs.now) k)) c.loop-c.c (length c.args.logs.now) c.loop-c-test.true here

@@ -13,7 +13,10 @@ returns-then-has_tag c =
     let inside : c.loop-c.c < length buffers = omega (arith, c.loop-c-test.true, c.chips-c-end.ensures.value) in
     let here : stands (list_at buffers c.loop-c.c) ≡ true =
     ap stands (sym c.buffer.ensures.value) ∙ sym c.has_tag.ensures.value ∙ c.if-has_tag.true in
-    record { value = sym (c.loop-c.invariant ∙ find_here (λ (k : ℕ). stands (list_at buffers k)) c.loop-c.c (length buffers) inside here) }
+    record {
+      value = sym (c.loop-c.invariant
+          ∙ find_here (λ (k : ℕ). stands (list_at buffers k)) c.loop-c.c (length buffers) inside here);
+    }
 
 pub loop-c-preserved : goal.loop-c-preserved
 loop-c-preserved c =

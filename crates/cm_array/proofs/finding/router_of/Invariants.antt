@@ -6,5 +6,7 @@ use Rattle.cm_array.proofs.finding.router_of.Given as goal
 
 abbrev pub invariant-loop-c : goal.invariant-loop-c
 invariant-loop-c l =
-    find (λ c. list_any (λ m. same_tag m.tag l.tag) (list_at l.crossing.buffers c)) (range_with_len 0 (length l.crossing.buffers))
-    ≡ find (λ c. list_any (λ m. same_tag m.tag l.tag) (list_at l.crossing.buffers c)) (range_with_len l.c (length l.crossing.buffers - l.c))
+    find (λ c. list_any (λ m. same_tag m.tag l.tag) (list_at l.crossing.buffers c))
+    (range_with_len 0 (length l.crossing.buffers))
+    ≡ find (λ c. list_any (λ m. same_tag m.tag l.tag) (list_at l.crossing.buffers c))
+    (range_with_len l.c (length l.crossing.buffers - l.c))

@@ -20,7 +20,14 @@ arrive-requires c =
     let here = length_come old c.args.chip ys c.requires.chip in
     record {
       chip = omega (arith, ap length is, length-set old c.args.chip ys);
-      room = omega (arith, ap (λ (lists : List (List Message)). length (list_at lists c.args.chip)) is, here, all, few, c.requires.room);
+      room = omega (
+        arith,
+        ap (λ (lists : List (List Message)). length (list_at lists c.args.chip)) is,
+        here,
+        all,
+        few,
+        c.requires.room,
+      );
     }
 
 pub loop-message-preserved : goal.loop-message-preserved
@@ -28,7 +35,8 @@ loop-message-preserved c =
     let old = c.args.to.now.buffers in
     let i = c.loop-message.message-index in
     c.arrive.ensures.value
-    ∙ ap (λ (lists : List (List Message)). set lists c.args.chip (list_at lists c.args.chip ++ c.message-item.result ∷ []))
+    ∙ ap (λ (lists : List (List Message)). set lists c.args.chip
+    (list_at lists c.args.chip ++ c.message-item.result ∷ []))
     c.loop-message.invariant
     ∙ one_comes old c.args.chip (list_at old c.args.chip) c.args.messages.now i c.message-item.result c.requires.chip
     c.loop-message-test.true c.message-item.is

@@ -15,5 +15,6 @@ returns c =
     let none : ℕ → List Processor = λ k. blank_chip in
     record {
       value = chips_cut c.args.first c.args.count c.args.from.now c.in_ok-run.run' c.lay.new.self
-          (ap length c.in_ok-run.ensures.value ∙ length-each_from 0 c.args.count none) c.requires.there c.lay.ensures.value;
+          (ap length c.in_ok-run.ensures.value ∙ length-each_from 0 c.args.count none)
+          c.requires.there c.lay.ensures.value;
     }

@@ -13,7 +13,8 @@ use Rattle.cm_array.proofs.parts.run.Goals as goal
 
 pub loop-act-init : goal.loop-act-init
 loop-act-init c = record {
-  ran = sym (run_of-nil c.args.sizes.dims c.args.sizes.room (machine_of c.args.parts.now) c.requires.parts.machine.buffer_count);
+  ran = sym (run_of-nil c.args.sizes.dims c.args.sizes.room (machine_of c.args.parts.now)
+      c.requires.parts.machine.buffer_count);
   parts = AreUnderWay-parts c.args.sizes.dims c.args.sizes.room c.args.parts.now c.requires.parts;
   clock = omega arith;
   room = λ k. omega arith;
@@ -24,9 +25,13 @@ run_one-requires-clause-log_room c =
     let acts = c.args.acts.now in
     let i = c.loop-act.act-index in
     let more = cycles_in-more acts i c.act-item.result c.loop-act-test.true c.act-item.is in
-    let fits : cycles_in (take i acts) + cycles_in (c.act-item.result ∷ []) ≤ cycles_in acts = omega (arith, more, cycles_in-part acts (i + 1)) in
-    HasLogRoom-left (cycles_in acts) (cycles_in (take i acts)) (cycles_in (c.act-item.result ∷ [])) (4 + c.args.sizes.room) c.args.parts.now.logs.items c.loop-act.parts.logs.items fits
-    (length-logs c.args.sizes.dims c.args.sizes.room c.loop-act.parts c.loop-act.invariant.parts ∙ sym (length-logs c.args.sizes.dims c.args.sizes.room c.args.parts.now (AreUnderWay-parts c.args.sizes.dims c.args.sizes.room c.args.parts.now c.requires.parts)))
+    let fits : cycles_in (take i acts) + cycles_in (c.act-item.result ∷ []) ≤ cycles_in acts =
+    omega (arith, more, cycles_in-part acts (i + 1)) in
+    HasLogRoom-left (cycles_in acts) (cycles_in (take i acts)) (cycles_in (c.act-item.result ∷ []))
+    (4 + c.args.sizes.room) c.args.parts.now.logs.items c.loop-act.parts.logs.items fits
+    (length-logs c.args.sizes.dims c.args.sizes.room c.loop-act.parts c.loop-act.invariant.parts
+    ∙ sym (length-logs c.args.sizes.dims c.args.sizes.room c.args.parts.now
+    (AreUnderWay-parts c.args.sizes.dims c.args.sizes.room c.args.parts.now c.requires.parts)))
     c.requires.log_room c.loop-act.invariant.room
 
 pub loop-act-preserved : goal.loop-act-preserved
@@ -45,8 +50,10 @@ loop-act-preserved c =
           (ap (λ (x : Act). first ++ x ∷ []) c.act-item.is ∙ sym (take_more acts i a c.loop-act-test.true));
       parts = c.run_one.ensures.parts;
       clock = omega (arith, c.run_one.ensures.clock, c.loop-act.invariant.clock, more);
-      room = subst (λ (count : ℕ). LosesAtMost (count * (4 + c.args.sizes.room)) before.logs.items c.run_one.new.parts.logs.items) (sym more)
-          (LosesAtMost-more (cycles_in first) (cycles_in (a ∷ [])) (4 + c.args.sizes.room) before.logs.items c.loop-act.parts.logs.items c.run_one.new.parts.logs.items
+      room = subst (λ (count : ℕ). LosesAtMost (count * (4 + c.args.sizes.room))
+          before.logs.items c.run_one.new.parts.logs.items) (sym more)
+          (LosesAtMost-more (cycles_in first) (cycles_in (a ∷ [])) (4 + c.args.sizes.room)
+          before.logs.items c.loop-act.parts.logs.items c.run_one.new.parts.logs.items
           c.loop-act.invariant.room c.run_one.ensures.log_room);
     }
 
@@ -58,6 +65,7 @@ returns c =
       value = machine_of-gathered c.loop-act.parts c.gather.new.self c.gather.ensures.value
           ∙ c.loop-act.invariant.ran
           ∙ ap (run_of c.args.sizes.dims c.args.sizes.room (machine_of c.args.parts.now)) all;
-      parts = AreParts-gathered c.args.sizes.dims c.args.sizes.room c.loop-act.parts c.gather.new.self c.gather.ensures.value
+      parts = AreParts-gathered c.args.sizes.dims c.args.sizes.room c.loop-act.parts
+          c.gather.new.self c.gather.ensures.value
           c.gather.ensures.gathered c.loop-act.invariant.parts;
     }

@@ -10,5 +10,6 @@ invariant-loop-act l = record {
   ran : machine_of l.parts ≡ run_of l.sizes.dims l.sizes.room (machine_of l.fn.parts) (take l.act-index l.acts);
   parts : AreUnderWay l.sizes.dims l.sizes.room l.parts;
   clock : l.parts.clock ≡ l.fn.parts.clock + cycles_in (take l.act-index l.acts);
-  room : LosesAtMost (cycles_in (take l.act-index l.acts) * (4 + l.sizes.room)) l.fn.parts.logs.items l.parts.logs.items;
+  room : LosesAtMost (cycles_in (take l.act-index l.acts) * (4 + l.sizes.room))
+      l.fn.parts.logs.items l.parts.logs.items;
 }

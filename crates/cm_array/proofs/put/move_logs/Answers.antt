@@ -10,9 +10,11 @@ loop-i-preserved c =
     let here : at + i < length c.loop-i.to = omega (arith, c.requires.here, c.loop-i-test.true, c.loop-i.auto.to) in
     let there : i < length c.loop-i.from = omega (arith, c.loop-i-test.true, c.loop-i.auto.from) in
     record {
-      laid = log_laid at i c.loop-i.to c.loop-i.from (events_of c.args.from.now) c.swap.new.x c.index-from-i.result here there
+      laid = log_laid at i c.loop-i.to c.loop-i.from (events_of c.args.from.now)
+          c.swap.new.x c.index-from-i.result here there
           c.swap.ensures.x_after c.loop-i.invariant.laid (c.loop-i.invariant.rest i (omega arith));
-      rest = λ k l. log_left c.loop-i.from i k c.swap.new.y (omega (arith, l)) ∙ c.loop-i.invariant.rest k (omega (arith, l));
+      rest = λ k l. log_left c.loop-i.from i k c.swap.new.y (omega (arith, l))
+          ∙ c.loop-i.invariant.rest k (omega (arith, l));
       below = λ k l. log_left c.loop-i.to (at + i) k c.swap.new.x (omega (arith, l)) ∙ c.loop-i.invariant.below k l;
       above = λ k l. log_left c.loop-i.to (at + i) k c.swap.new.x (omega (arith, l))
           ∙ c.loop-i.invariant.above k (omega (arith, l));

@@ -19,9 +19,11 @@ loop-piece-init g c =
       chips = none_put (λ (s : Part). s.chips) parts c.args.parts.now.run;
       buffers = none_put (λ (s : Part). s.buffers) parts c.clear.new.self.buffers;
       logs = none_put (λ (s : Part). s.logs) parts (events_of c.args.parts.now.logs.items);
-      empty = λ k l. none_stand (length c.args.parts.now.crossing.buffers) c.clear.new.self.buffers k c.clear.ensures.value;
+      empty = λ k l. none_stand (length c.args.parts.now.crossing.buffers)
+          c.clear.new.self.buffers k c.clear.ensures.value;
       chip_count = refl;
-      buffer_count = ap length c.clear.ensures.value ∙ length-each_from 0 (length c.args.parts.now.crossing.buffers) none;
+      buffer_count = ap length c.clear.ensures.value
+          ∙ length-each_from 0 (length c.args.parts.now.crossing.buffers) none;
       log_count = refl;
       sent_count = refl;
       incoming_count = refl;
@@ -36,7 +38,8 @@ put_one-at-requires-clause-chips g c =
     let j = length c.loop-piece.yielded in
     let s = c.into_part.result.part in
     let gives = c.into_iter-piece-iterator.ensures.into_iter_gives in
-    let turn = YieldsList-turn (YieldsList-from_vec {s = c.into_iter-piece-iterator.result} pieces gives.0 (gives.1 ∙ c.args.pieces.ok.0)) c.loop-piece.yielded
+    let turn = YieldsList-turn (YieldsList-from_vec {s = c.into_iter-piece-iterator.result} pieces gives.0
+    (gives.1 ∙ c.args.pieces.ok.0)) c.loop-piece.yielded
     c.loop-piece.piece-iterator
     c.loop-piece.yielded_by c.next.result c.next.new.self c.in-Some.piece c.in-Some.is c.next.ensures.steps in
     let next = next_held g.P.IntoPart.held pieces j c.in-Some.piece c.into_part.result turn c.into_part.ensures.value in
@@ -56,7 +59,8 @@ loop-piece-preserved g c =
     let at = c.loop-piece.at in
     let s = c.into_part.result.part in
     let gives = c.into_iter-piece-iterator.ensures.into_iter_gives in
-    let turn = YieldsList-turn (YieldsList-from_vec {s = c.into_iter-piece-iterator.result} pieces gives.0 (gives.1 ∙ c.args.pieces.ok.0)) c.loop-piece.yielded
+    let turn = YieldsList-turn (YieldsList-from_vec {s = c.into_iter-piece-iterator.result} pieces gives.0
+    (gives.1 ∙ c.args.pieces.ok.0)) c.loop-piece.yielded
     c.loop-piece.piece-iterator
     c.loop-piece.yielded_by c.next.result c.next.new.self c.in-Some.piece c.in-Some.is c.next.ensures.steps in
     let next = next_held g.P.IntoPart.held pieces j c.in-Some.piece c.into_part.result turn c.into_part.ensures.value in
@@ -69,7 +73,8 @@ loop-piece-preserved g c =
     record {
       chips = next_put (λ (x : Part). x.chips) parts j at s old.run new.run _ _ next.0 next.1 more put.end
           were.chips put.chips;
-      buffers = next_put (λ (x : Part). x.buffers) parts j at s old.crossing.buffers new.crossing.buffers _ _ next.0 next.1
+      buffers = next_put (λ (x : Part). x.buffers)
+          parts j at s old.crossing.buffers new.crossing.buffers _ _ next.0 next.1
           more (put.end ∙ ap (λ (k : ℕ). at + k) (sym put.buffer_count)) were.buffers put.buffers;
       logs = next_put (λ (x : Part). x.logs) parts j at s (events_of old.logs.items) (events_of new.logs.items) _ _
           next.0 next.1 more (put.end ∙ ap (λ (k : ℕ). at + k) (sym put.log_count)) were.logs put.logs;
@@ -92,7 +97,8 @@ returns g c =
     let j = length c.loop-piece.yielded in
     let at = c.loop-piece.at in
     let gives = c.into_iter-piece-iterator.ensures.into_iter_gives in
-    let end = YieldsList-end (YieldsList-from_vec {s = c.into_iter-piece-iterator.result} pieces gives.0 (gives.1 ∙ c.args.pieces.ok.0)) c.loop-piece.yielded
+    let end = YieldsList-end (YieldsList-from_vec {s = c.into_iter-piece-iterator.result} pieces gives.0
+    (gives.1 ∙ c.args.pieces.ok.0)) c.loop-piece.yielded
     c.loop-piece.piece-iterator
     c.loop-piece.yielded_by c.next.result c.next.new.self c.in-None.is c.next.ensures.steps in
     let all = end.1 ∙ sym (length-map pieces (λ (piece : g.row.P.Denot). (g.P.IntoPart.held piece).part)) in
@@ -100,7 +106,8 @@ returns g c =
     let were = c.loop-piece.invariant in
     let events : Log → List Event = λ log. log.items in
     let long = were.chip_count ∙ c.requires.many.chips in
-    let some = some_put (λ (x : Part). x.chips) parts j at now.run all long (omega (arith, were.chip_count, c.requires.some)) in
+    let some = some_put (λ (x : Part). x.chips) parts j at now.run all long
+    (omega (arith, were.chip_count, c.requires.some)) in
     record {
       value = λ i. record {
         chips = all_put (λ (x : Part). x.chips) parts j at now.run all long were.chips i;

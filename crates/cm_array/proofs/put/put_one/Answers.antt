@@ -36,6 +36,8 @@ returns-clause-logs c =
     IsLaid c.args.at events (events_of c.deref_mut.result.now) (events_of c.move_logs.new.to))
     (ap events_of c.deref_mut-2.ensures.value ∙ ap (λ (k : KeptPart). k.part.logs) c.into_parts-from.ensures.value)
     c.move_logs.ensures.value in
-    let next = subst (λ (logs : List Log). IsLaid c.args.at c.args.piece.part.logs (events_of logs) (events_of c.move_logs.new.to))
+    let next = subst (λ (logs : List Log). IsLaid c.args.at c.args.piece.part.logs (events_of logs)
+    (events_of c.move_logs.new.to))
     is first in
-    subst (λ (logs : List Log). IsLaid c.args.at c.args.piece.part.logs (events_of old) (events_of logs)) (sym lent) next
+    subst (λ (logs : List Log). IsLaid c.args.at c.args.piece.part.logs (events_of old) (events_of logs))
+    (sym lent) next

@@ -8,7 +8,8 @@ pub returns-clause-ends : goal.returns-clause-ends
 returns-clause-ends g c =
     some_either (g.I.Source.left c.args.commands.now) c.run_with.result
     (λ lines result. EndsRun c.args.image.items (g.T.Text.gives c.args.text) c.args.sharing lines
-    (g.I.Source.left c.run_with.new.commands) (g.O.Sink.contents c.args.out.now) (g.O.Sink.contents c.run_with.new.out) c.args.keeps result)
+    (g.I.Source.left c.run_with.new.commands) (g.O.Sink.contents c.args.out.now)
+    (g.O.Sink.contents c.run_with.new.out) c.args.keeps result)
     (lift_ok c.run_with.result
     (λ kept. lift_some (g.I.Source.left c.args.commands.now) (λ lines h. record {
       start = record { n = g.row.N; cap = g.row.CAP; machine = c.in_ok-machine.machine.machine };

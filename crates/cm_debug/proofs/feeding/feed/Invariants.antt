@@ -13,6 +13,7 @@ invariant-loop-byte g l = record {
   told : (start : Machine) (held : Option (List ℕ)) (taken : List ℕ)
       → IsTold g.row.N g.row.CAP l.acts start held taken (session_of l.initial.machine.machine l.initial.desk)
       (g.O.Sink.contents l.initial.out) l.initial.sent l.initial.line.items
-      → IsTold g.row.N g.row.CAP l.acts start held (taken ++ take l.byte-index l.piece) (session_of l.machine.machine l.desk)
+      → IsTold g.row.N g.row.CAP l.acts start held (taken ++ take l.byte-index l.piece)
+      (session_of l.machine.machine l.desk)
       (g.O.Sink.contents l.out) l.sent l.line.items;
 }

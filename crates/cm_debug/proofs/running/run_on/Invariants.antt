@@ -10,7 +10,8 @@ invariant-loop-desk g l = record {
   report : l.desk.report ≡ l.initial.desk.report;
   threads : g.R.Runner.threads_lacked l.runner ≡ g.R.Runner.threads_lacked l.initial.runner;
   rises : l.initial.desk.position ≤ l.desk.position;
-  come : HasCome g.row.N g.row.CAP l.acts l.initial.machine.machine l.initial.desk.position l.desk.position l.machine.machine;
+  come : HasCome g.row.N g.row.CAP l.acts l.initial.machine.machine l.initial.desk.position
+      l.desk.position l.machine.machine;
   answer : l.text.items ++ (gone g.row.N g.row.CAP l.stops l.machine.machine l.desk l.acts).answer
       ≡ l.initial.text.items ++ (gone g.row.N g.row.CAP l.stops l.initial.machine.machine l.initial.desk l.acts).answer;
   session : (gone g.row.N g.row.CAP l.stops l.machine.machine l.desk l.acts).session

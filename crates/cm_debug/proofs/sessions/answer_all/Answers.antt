@@ -2,19 +2,23 @@ use Rattle.std.proofs.Common.{List, ℕ, [], refl, sym, subst, arith}
 use Rattle.std.proofs.KnownBytes.{Consumes-nil}
 use Rattle.cm_debug.specs.Desk.{session_of}
 use Rattle.cm_debug.specs.Telling.{IsTold}
-use Rattle.cm_debug.proofs.Ending.{is_none, has_some, ends_first, told_first, desk_first, ends_in_read, ends_over, ends_closed, ends_answered, ends_broken}
+use Rattle.cm_debug.proofs.Ending.{is_none, has_some, ends_first, told_first, desk_first, ends_in_read, ends_over}
+use Rattle.cm_debug.proofs.Ending.{ends_closed, ends_answered, ends_broken}
 use Rattle.cm_debug.proofs.sessions.answer_all.Goals as goal
 
 pub returns-in_default-clause-ends : goal.returns-in_default-clause-ends
 returns-in_default-clause-ends g c =
-    ends_first g.row.N g.row.CAP c.args.acts.now c.args.machine.now.machine (g.O.Sink.contents c.args.out.now) (g.I.Source.left c.args.commands.now)
+    ends_first g.row.N g.row.CAP c.args.acts.now c.args.machine.now.machine (g.O.Sink.contents c.args.out.now)
+    (g.I.Source.left c.args.commands.now)
 
 pub loop-count-init : goal.loop-count-init
 loop-count-init g c = record {
   text = [];
   consumed = Consumes-nil (g.I.Source.left c.args.commands.now);
-  told = told_first g.row.N g.row.CAP c.args.acts.now c.args.machine.now.machine (g.O.Sink.contents c.args.out.now) c.in-Ok.desk
-      c.new-line.result.items c.in-Ok.ensures.position c.in-Ok.ensures.breaks c.in-Ok.ensures.report c.new-line.ensures.items;
+  told = told_first g.row.N g.row.CAP c.args.acts.now c.args.machine.now.machine
+      (g.O.Sink.contents c.args.out.now) c.in-Ok.desk
+      c.new-line.result.items c.in-Ok.ensures.position c.in-Ok.ensures.breaks c.in-Ok.ensures.report
+      c.new-line.ensures.items;
   desk = desk_first c.args.acts.now c.in-Ok.desk c.in-Ok.ensures.position c.in-Ok.ensures.breaks;
   count = refl;
   within = omega arith;
@@ -29,7 +33,8 @@ returns-in-Err-clause-ends g c =
     let so = c.loop-count.invariant in
     ends_in_read g.row.N g.row.CAP c.args.acts.now c.args.machine.now.machine (g.O.Sink.contents c.args.out.now)
     (g.I.Source.left c.args.commands.now) (g.I.Source.left c.loop-count.commands) (g.I.Source.left c.read.new.self)
-    so.text c.read.new.buf c.in-Ok-read.count c.min-room.result c.loop-count.taken c.feed.new.machine.machine (g.O.Sink.contents c.feed.new.out) c.in-Err.fault
+    so.text c.read.new.buf c.in-Ok-read.count c.min-room.result c.loop-count.taken c.feed.new.machine.machine
+    (g.O.Sink.contents c.feed.new.out) c.in-Err.fault
     c.min-room.ensures so.count so.within so.consumed c.in-Ok-read.ensures.bytes.0
     (c.in-Err.ensures.err c.args.machine.now.machine (g.O.Sink.contents c.args.out.now) so.text so.told)
 
@@ -38,9 +43,11 @@ returns-then-room-count-clause-ends g c =
     let so = c.loop-count.invariant in
     ends_over g.row.N g.row.CAP c.args.acts.now c.args.machine.now.machine (g.O.Sink.contents c.args.out.now)
     (g.I.Source.left c.args.commands.now) (g.I.Source.left c.loop-count.commands) (g.I.Source.left c.read.new.self)
-    so.text c.read.new.buf c.in-Ok-read.count c.min-room.result c.loop-count.taken (session_of c.feed.new.machine.machine c.feed.new.desk)
+    so.text c.read.new.buf c.in-Ok-read.count c.min-room.result c.loop-count.taken
+    (session_of c.feed.new.machine.machine c.feed.new.desk)
     (g.O.Sink.contents c.feed.new.out) c.feed.new.sent c.feed.new.line.items
-    c.in-Ok-read.ensures.bound.0 c.min-room.ensures c.if-room-count.true so.count so.within so.consumed c.in-Ok-read.ensures.bytes.0
+    c.in-Ok-read.ensures.bound.0 c.min-room.ensures c.if-room-count.true so.count so.within so.consumed
+    c.in-Ok-read.ensures.bytes.0
     (c.in-Ok-feed.ensures.ok c.args.machine.now.machine (g.O.Sink.contents c.args.out.now) so.text so.told)
 
 pub returns-then-is_empty-clause-ends : goal.returns-then-is_empty-clause-ends
@@ -48,24 +55,33 @@ returns-then-is_empty-clause-ends g c =
     let so = c.loop-count.invariant in
     ends_closed g.row.N g.row.CAP c.args.acts.now c.args.machine.now.machine (g.O.Sink.contents c.args.out.now)
     (g.I.Source.left c.args.commands.now) (g.I.Source.left c.loop-count.commands) (g.I.Source.left c.read.new.self)
-    so.text c.read.new.buf c.in-Ok-read.count c.loop-count.taken (session_of c.loop-count.machine.machine c.loop-count.desk)
+    so.text c.read.new.buf c.in-Ok-read.count c.loop-count.taken
+    (session_of c.loop-count.machine.machine c.loop-count.desk)
     (g.O.Sink.contents c.loop-count.out) c.loop-count.sent c.loop-count.line.items
     c.if-count-eq0.true so.count so.within so.consumed c.in-Ok-read.ensures.bytes.0
-    (c.in-Ok-read.ensures.bytes.1 c.if-count-eq0.true (omega arith)) (is_none c.loop-count.line.items c.loop-count.line.len c.is_empty.result (omega (arith, c.loop-count.line.ok.0)) c.is_empty.ensures c.if-is_empty.true) so.told
+    (c.in-Ok-read.ensures.bytes.1 c.if-count-eq0.true (omega arith))
+    (is_none c.loop-count.line.items c.loop-count.line.len c.is_empty.result (omega (arith, c.loop-count.line.ok.0))
+    c.is_empty.ensures c.if-is_empty.true) so.told
 
 pub returns-in-Ok-tell_line-clause-ends : goal.returns-in-Ok-tell_line-clause-ends
 returns-in-Ok-tell_line-clause-ends g c =
     let so = c.loop-count.invariant in
     ends_answered g.row.N g.row.CAP c.args.acts.now c.args.machine.now.machine (g.O.Sink.contents c.args.out.now)
     (g.I.Source.left c.args.commands.now) (g.I.Source.left c.loop-count.commands) (g.I.Source.left c.read.new.self)
-    so.text c.read.new.buf c.in-Ok-read.count c.loop-count.taken (session_of c.loop-count.machine.machine c.loop-count.desk)
-    (session_of c.tell_line.new.machine.machine c.tell_line.new.desk) (g.O.Sink.contents c.loop-count.out) (g.O.Sink.contents c.tell_line.new.out)
-    c.loop-count.sent c.as_slice.result.now c.if-count-eq0.true so.count so.within so.consumed c.in-Ok-read.ensures.bytes.0
+    so.text c.read.new.buf c.in-Ok-read.count c.loop-count.taken
+    (session_of c.loop-count.machine.machine c.loop-count.desk)
+    (session_of c.tell_line.new.machine.machine c.tell_line.new.desk) (g.O.Sink.contents c.loop-count.out)
+    (g.O.Sink.contents c.tell_line.new.out)
+    c.loop-count.sent c.as_slice.result.now c.if-count-eq0.true so.count so.within so.consumed
+    c.in-Ok-read.ensures.bytes.0
     (c.in-Ok-read.ensures.bytes.1 c.if-count-eq0.true (omega arith))
-    (has_some c.loop-count.line.items c.as_slice.result.now c.loop-count.line.len c.is_empty.result (omega (arith, c.loop-count.line.ok.0))
+    (has_some c.loop-count.line.items c.as_slice.result.now c.loop-count.line.len c.is_empty.result
+    (omega (arith, c.loop-count.line.ok.0))
     c.is_empty.ensures c.if-is_empty.false c.as_slice.ensures.value)
-    (subst (λ (l : List ℕ). IsTold g.row.N g.row.CAP c.args.acts.now c.args.machine.now.machine (g.O.Sink.contents c.args.out.now) so.text
-    (session_of c.loop-count.machine.machine c.loop-count.desk) (g.O.Sink.contents c.loop-count.out) c.loop-count.sent l)
+    (subst (λ (l : List ℕ). IsTold g.row.N g.row.CAP c.args.acts.now c.args.machine.now.machine
+    (g.O.Sink.contents c.args.out.now) so.text
+    (session_of c.loop-count.machine.machine c.loop-count.desk)
+    (g.O.Sink.contents c.loop-count.out) c.loop-count.sent l)
     (sym c.as_slice.ensures.value) so.told)
     c.in-Ok-tell_line.ensures.session c.in-Ok-tell_line.ensures.written
 
@@ -74,13 +90,18 @@ returns-clause-ends g c =
     let so = c.loop-count.invariant in
     ends_broken g.row.N g.row.CAP c.args.acts.now c.args.machine.now.machine (g.O.Sink.contents c.args.out.now)
     (g.I.Source.left c.args.commands.now) (g.I.Source.left c.loop-count.commands) (g.I.Source.left c.read.new.self)
-    so.text c.read.new.buf c.in-Ok-read.count c.loop-count.taken (session_of c.loop-count.machine.machine c.loop-count.desk)
+    so.text c.read.new.buf c.in-Ok-read.count c.loop-count.taken
+    (session_of c.loop-count.machine.machine c.loop-count.desk)
     (g.O.Sink.contents c.loop-count.out) (g.O.Sink.contents c.tell_line.new.out)
-    c.loop-count.sent c.as_slice.result.now c.tell_line.new.machine.machine c.in-Err-tell_line.fault c.if-count-eq0.true so.count so.within so.consumed c.in-Ok-read.ensures.bytes.0
+    c.loop-count.sent c.as_slice.result.now c.tell_line.new.machine.machine c.in-Err-tell_line.fault c.if-count-eq0.true
+    so.count so.within so.consumed c.in-Ok-read.ensures.bytes.0
     (c.in-Ok-read.ensures.bytes.1 c.if-count-eq0.true (omega arith))
-    (has_some c.loop-count.line.items c.as_slice.result.now c.loop-count.line.len c.is_empty.result (omega (arith, c.loop-count.line.ok.0))
+    (has_some c.loop-count.line.items c.as_slice.result.now c.loop-count.line.len c.is_empty.result
+    (omega (arith, c.loop-count.line.ok.0))
     c.is_empty.ensures c.if-is_empty.false c.as_slice.ensures.value)
-    (subst (λ (l : List ℕ). IsTold g.row.N g.row.CAP c.args.acts.now c.args.machine.now.machine (g.O.Sink.contents c.args.out.now) so.text
-    (session_of c.loop-count.machine.machine c.loop-count.desk) (g.O.Sink.contents c.loop-count.out) c.loop-count.sent l)
+    (subst (λ (l : List ℕ). IsTold g.row.N g.row.CAP c.args.acts.now c.args.machine.now.machine
+    (g.O.Sink.contents c.args.out.now) so.text
+    (session_of c.loop-count.machine.machine c.loop-count.desk)
+    (g.O.Sink.contents c.loop-count.out) c.loop-count.sent l)
     (sym c.as_slice.ensures.value) so.told)
     c.in-Err-tell_line.ensures.err

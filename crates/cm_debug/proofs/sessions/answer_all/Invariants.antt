@@ -9,7 +9,8 @@ abbrev pub invariant-loop-count : goal.invariant-loop-count
 invariant-loop-count g l = record {
   text : List ℕ;
   consumed : Consumes (g.I.Source.left l.fn.commands) (g.I.Source.left l.commands) text;
-  told : IsTold g.row.N g.row.CAP l.acts l.fn.machine.machine (g.O.Sink.contents l.fn.out) text (session_of l.machine.machine l.desk)
+  told : IsTold g.row.N g.row.CAP l.acts l.fn.machine.machine (g.O.Sink.contents l.fn.out) text
+      (session_of l.machine.machine l.desk)
       (g.O.Sink.contents l.out) l.sent l.line.items;
   desk : IsDeskOf l.acts l.desk;
   count : l.taken ≡ length text;

@@ -7,7 +7,8 @@ pub loop-count-preserved : goal.loop-count-preserved
 loop-count-preserved c =
     let told = c.if-ends_at.ensures in
     let l = c.loop-count in
-    let more : cycles_in (take (l.count + 1) c.args.acts.now) ≡ cycles_in (take l.count c.args.acts.now) + cond (is_cycle c.index-acts-count.result) 1 0 =
+    let more : cycles_in (take (l.count + 1) c.args.acts.now)
+    ≡ cycles_in (take l.count c.args.acts.now) + cond (is_cycle c.index-acts-count.result) 1 0 =
     one_more _ _ _ c.loop-count-test.true c.index-acts-count.is in
     record {
       some = omega arith;
@@ -15,6 +16,7 @@ loop-count-preserved c =
       few = omega (arith, c.if-count-lt-LONGEST.true);
       cycles = omega (arith, more, l.invariant.cycles, c.cycle_count-cycles-in-loop-count.ensures.value);
       few_cycles = omega (arith, told.few refl, c.cycle_count-cycles-in-loop-count.ensures.value);
-      stretch = grows _ _ _ _ _ _ c.index-acts-count.result c.loop-count-test.true c.index-acts-count.is l.invariant.stretch (told.silent refl)
+      stretch = grows _ _ _ _ _ _ c.index-acts-count.result c.loop-count-test.true c.index-acts-count.is
+          l.invariant.stretch (told.silent refl)
           (told.goes refl) (omega (arith, told.room refl, l.invariant.cycles));
     }

@@ -11,7 +11,8 @@ invariant-loop-count l = record {
   few : l.count ≤ 4096;
   cycles : l.cycles ≡ cycles_in (take l.count l.acts);
   few_cycles : l.cycles ≤ 64;
-  stretch : IsStretch (stops_at l.stops l.desk.breaks.items) l.desk.report l.desk.position l.clock (take l.count l.acts);
+  stretch : IsStretch (stops_at l.stops l.desk.breaks.items)
+      l.desk.report l.desk.position l.clock (take l.count l.acts);
 }
 
 abbrev pub decreases-loop-count : goal.decreases-loop-count

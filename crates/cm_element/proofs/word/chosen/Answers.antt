@@ -4,5 +4,6 @@ use Rattle.cm_element.proofs.word.chosen.Goals as goal
 
 pub returns : goal.returns
 returns c = record {
-  value = λ p. rw (bit-bit_xor, bit-bit_and, bit-bit_xor) (differ_chosen (bit c.args.choice p) (bit c.args.clear p) (bit c.args.set p));
+  value = λ p. rw (bit-bit_xor, bit-bit_and, bit-bit_xor)
+      (differ_chosen (bit c.args.choice p) (bit c.args.clear p) (bit c.args.set p));
 }

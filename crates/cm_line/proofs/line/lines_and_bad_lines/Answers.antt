@@ -9,8 +9,22 @@ returns-clause-fresh c = λ file is. record {
   subcommand = (
     refl,
     record {
-      dimension = record { text = codes "12"; given = refl; digits = (lit< tt, (lit< tt, (lit< tt, tt))); value = refl; not_less = lit≤ tt; not_more = lit≤ tt };
-      room = record { text = codes "7"; given = refl; digits = (lit< tt, (lit< tt, tt)); value = refl; not_less = lit≤ tt; not_more = lit≤ tt };
+      dimension = record {
+        text = codes "12";
+        given = refl;
+        digits = (lit< tt, (lit< tt, (lit< tt, tt)));
+        value = refl;
+        not_less = lit≤ tt;
+        not_more = lit≤ tt;
+      };
+      room = record {
+        text = codes "7";
+        given = refl;
+        digits = (lit< tt, (lit< tt, tt));
+        value = refl;
+        not_less = lit≤ tt;
+        not_more = lit≤ tt;
+      };
       named = ap (λ (text : List ℕ). Some text) (sym is);
     },
   );

@@ -7,11 +7,13 @@ use Rattle.cm_line.proofs.line.run_line.Goals as goal
 
 pub returns-in_default-clause-none : goal.returns-in_default-clause-none
 returns-in_default-clause-none c = λ e image program split workers out line.
-    let wrong : ◌≡◌ {A = Option Text} None (Some image) = c.in_default.ensures ∙ (first_value-rows (found_of c.args.operands.now) (codes "image") ∙ line.start) in absurd (cc)
+    let wrong : ◌≡◌ {A = Option Text} None (Some image) = c.in_default.ensures
+    ∙ (first_value-rows (found_of c.args.operands.now) (codes "image") ∙ line.start) in absurd (cc)
 
 pub returns-in_default-get_str-clause-none : goal.returns-in_default-get_str-clause-none
 returns-in_default-get_str-clause-none c = λ e image program split workers out line.
-    let wrong : ◌≡◌ {A = Option Text} None (Some program) = c.in_default-get_str.ensures ∙ (first_value-rows (found_of c.args.operands.now) (codes "program") ∙ line.text) in absurd (cc)
+    let wrong : ◌≡◌ {A = Option Text} None (Some program) = c.in_default-get_str.ensures
+    ∙ (first_value-rows (found_of c.args.operands.now) (codes "program") ∙ line.text) in absurd (cc)
 
 pub returns-in_default-number_option-clause-none : goal.returns-in_default-number_option-clause-none
 returns-in_default-number_option-clause-none c = λ e image program split workers out line.
@@ -25,13 +27,18 @@ pub returns-clause-value : goal.returns-clause-value
 returns-clause-value c = (
   refl,
   record {
-    start = sym (first_value-rows (found_of c.args.operands.now) (codes "image")) ∙ sym c.in-Some.ensures ∙ ap (λ (text : List ℕ). Some text) (sym c.in_ok-from_str.ensures.ok);
-    text = sym (first_value-rows (found_of c.args.operands.now) (codes "program")) ∙ sym c.in-Some-get_str.ensures ∙ ap (λ (text : List ℕ). Some text) (sym c.in_ok-from_str-2.ensures.ok);
+    start = sym (first_value-rows (found_of c.args.operands.now) (codes "image")) ∙ sym c.in-Some.ensures
+        ∙ ap (λ (text : List ℕ). Some text) (sym c.in_ok-from_str.ensures.ok);
+    text = sym (first_value-rows (found_of c.args.operands.now) (codes "program")) ∙ sym c.in-Some-get_str.ensures
+        ∙ ap (λ (text : List ℕ). Some text) (sym c.in_ok-from_str-2.ensures.ok);
     cuts = c.in-Some-number_option.ensures.some;
     crew = c.in-Some-number_option-2.ensures.some;
     left = elim c.match-get_str-3.branch [
-      | in-Some-get_str-2+in_ok-from_str-in-Some-get_str-2 w ↦ rw w.out-is (sym (first_value-rows (found_of c.args.operands.now) (codes "out")) ∙ sym w.in-Some-get_str-2.ensures ∙ ap (λ (text : List ℕ). Some text) (sym w.in_ok-from_str-in-Some-get_str-2.ensures.ok))
-      | in-None w ↦ rw w.out-is (sym (first_value-rows (found_of c.args.operands.now) (codes "out")) ∙ sym w.in-None.ensures)
+      | in-Some-get_str-2+in_ok-from_str-in-Some-get_str-2 w ↦ rw w.out-is
+          (sym (first_value-rows (found_of c.args.operands.now) (codes "out")) ∙ sym w.in-Some-get_str-2.ensures
+          ∙ ap (λ (text : List ℕ). Some text) (sym w.in_ok-from_str-in-Some-get_str-2.ensures.ok))
+      | in-None w ↦ rw w.out-is (sym (first_value-rows (found_of c.args.operands.now) (codes "out"))
+          ∙ sym w.in-None.ensures)
     ];
   },
 )

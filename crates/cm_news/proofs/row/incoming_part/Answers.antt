@@ -1,5 +1,6 @@
 use Rattle.std.proofs.Common.{length}
-use Rattle.cm_news.proofs.Banding.{rows_and_columns, band_north, band_south, band_west, band_east, open_north, open_south}
+use Rattle.cm_news.proofs.Banding.{rows_and_columns, band_north, band_south, band_west}
+use Rattle.cm_news.proofs.Banding.{band_east, open_north, open_south}
 use Rattle.cm_news.proofs.row.incoming_part.Goals as goal
 
 pub turn_rows-requires-clause-planes : goal.turn_rows-requires-clause-planes
@@ -15,7 +16,8 @@ turn_rows-requires-in-East-clause-planes c =
 pub returns-in-North : goal.returns-in-North
 returns-in-North c = record {
   value = rw c.in-North.is
-      (band_north c.args.dims c.power_of_two-columns.result c.args.planes.now c.args.edge.now c.args.out.now c.turn.new.out
+      (band_north c.args.dims c.power_of_two-columns.result c.args.planes.now c.args.edge.now
+      c.args.out.now c.turn.new.out
       c.enter.new.out c.power_of_two-columns.ensures.value c.requires.rows c.requires.part
       (c.requires.edge (open_north c.args.dims (length c.args.planes.now) c.args.dir c.in-North.is c.requires.part))
       (rw c.in-North.is at c.turn.ensures.value) (rw c.in-North.is at c.enter.ensures.value));
@@ -25,7 +27,8 @@ pub returns-in-South : goal.returns-in-South
 returns-in-South c = record {
   value = rw c.in-South.is
       (band_south c.args.dims c.power_of_two-columns.result c.args.planes.now c.args.edge.now c.args.out.now
-      c.turn-in-South.new.out c.enter-in-South.new.out c.power_of_two-columns.ensures.value c.requires.rows c.requires.part
+      c.turn-in-South.new.out c.enter-in-South.new.out c.power_of_two-columns.ensures.value
+      c.requires.rows c.requires.part
       (c.requires.edge (open_south c.args.dims (length c.args.planes.now) c.args.dir c.in-South.is c.requires.part))
       (rw c.in-South.is at c.turn-in-South.ensures.value) (rw c.in-South.is at c.enter-in-South.ensures.value));
 }

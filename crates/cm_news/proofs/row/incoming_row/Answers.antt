@@ -4,49 +4,60 @@ use Rattle.cm_news.proofs.row.incoming_row.Goals as goal
 
 pub turn-requires-clause-planes : goal.turn-requires-clause-planes
 turn-requires-clause-planes c =
-    let all = rows_of_columns c.args.dims c.power_of_two-rows.result c.power_of_two-columns.result c.power_of_two-rows.ensures.value c.power_of_two-columns.ensures.value in
+    let all = rows_of_columns c.args.dims c.power_of_two-rows.result c.power_of_two-columns.result
+    c.power_of_two-rows.ensures.value c.power_of_two-columns.ensures.value in
     omega (arith, all, c.requires.planes)
 
 pub turn-requires-in-South-clause-planes : goal.turn-requires-in-South-clause-planes
 turn-requires-in-South-clause-planes c =
-    let all = rows_of_columns c.args.dims c.power_of_two-rows.result c.power_of_two-columns.result c.power_of_two-rows.ensures.value c.power_of_two-columns.ensures.value in
+    let all = rows_of_columns c.args.dims c.power_of_two-rows.result c.power_of_two-columns.result
+    c.power_of_two-rows.ensures.value c.power_of_two-columns.ensures.value in
     omega (arith, all, c.requires.planes)
 
 pub turn_rows-requires-clause-planes : goal.turn_rows-requires-clause-planes
 turn_rows-requires-clause-planes c =
-    rows_of_columns c.args.dims c.power_of_two-rows.result c.power_of_two-columns.result c.power_of_two-rows.ensures.value c.power_of_two-columns.ensures.value ∙ sym c.requires.planes
+    rows_of_columns c.args.dims c.power_of_two-rows.result c.power_of_two-columns.result
+    c.power_of_two-rows.ensures.value c.power_of_two-columns.ensures.value ∙ sym c.requires.planes
 
 pub turn_rows-requires-in-East-clause-planes : goal.turn_rows-requires-in-East-clause-planes
 turn_rows-requires-in-East-clause-planes c =
-    rows_of_columns c.args.dims c.power_of_two-rows.result c.power_of_two-columns.result c.power_of_two-rows.ensures.value c.power_of_two-columns.ensures.value ∙ sym c.requires.planes
+    rows_of_columns c.args.dims c.power_of_two-rows.result c.power_of_two-columns.result
+    c.power_of_two-rows.ensures.value c.power_of_two-columns.ensures.value ∙ sym c.requires.planes
 
 pub returns-in-North : goal.returns-in-North
 returns-in-North c =
-    let all = rows_of_columns c.args.dims c.power_of_two-rows.result c.power_of_two-columns.result c.power_of_two-rows.ensures.value c.power_of_two-columns.ensures.value in
+    let all = rows_of_columns c.args.dims c.power_of_two-rows.result c.power_of_two-columns.result
+    c.power_of_two-rows.ensures.value c.power_of_two-columns.ensures.value in
     record {
       value = rw c.in-North.is
-          (all_north c.args.dims _ _ c.args.planes.now c.args.out.now c.turn.new.out all c.power_of_two-columns.ensures.value (rw c.in-North.is at c.turn.ensures.value));
+          (all_north c.args.dims _ _ c.args.planes.now c.args.out.now c.turn.new.out all
+          c.power_of_two-columns.ensures.value (rw c.in-North.is at c.turn.ensures.value));
     }
 
 pub returns-in-South : goal.returns-in-South
 returns-in-South c =
-    let all = rows_of_columns c.args.dims c.power_of_two-rows.result c.power_of_two-columns.result c.power_of_two-rows.ensures.value c.power_of_two-columns.ensures.value in
-    let by = ap (λ (k : ℕ). c.power_of_two-rows.result * c.power_of_two-columns.result - k) c.power_of_two-columns.ensures.value in
+    let all = rows_of_columns c.args.dims c.power_of_two-rows.result c.power_of_two-columns.result
+    c.power_of_two-rows.ensures.value c.power_of_two-columns.ensures.value in
+    let by = ap (λ (k : ℕ). c.power_of_two-rows.result * c.power_of_two-columns.result - k)
+    c.power_of_two-columns.ensures.value in
     record {
       value = rw c.in-South.is
-          (all_south c.args.dims _ _ c.args.planes.now c.args.out.now c.turn-in-South.new.out all by (rw c.in-South.is at c.turn-in-South.ensures.value));
+          (all_south c.args.dims _ _ c.args.planes.now c.args.out.now c.turn-in-South.new.out all by
+          (rw c.in-South.is at c.turn-in-South.ensures.value));
     }
 
 pub returns-in-West : goal.returns-in-West
 returns-in-West c = record {
   value = rw c.in-West.is
-      (all_west c.args.dims c.power_of_two-columns.result c.args.planes.now c.turn_rows.new.out c.power_of_two-columns.ensures.value
+      (all_west c.args.dims c.power_of_two-columns.result c.args.planes.now c.turn_rows.new.out
+      c.power_of_two-columns.ensures.value
       (rw (c.in-West.is, c.power_of_two-rows.ensures.value) at c.turn_rows.ensures.value));
 }
 
 pub returns-in-East : goal.returns-in-East
 returns-in-East c = record {
   value = rw c.in-East.is
-      (all_east c.args.dims c.power_of_two-columns.result c.args.planes.now c.turn_rows-in-East.new.out c.power_of_two-columns.ensures.value
+      (all_east c.args.dims c.power_of_two-columns.result c.args.planes.now c.turn_rows-in-East.new.out
+      c.power_of_two-columns.ensures.value
       (rw (c.in-East.is, c.power_of_two-rows.ensures.value) at c.turn_rows-in-East.ensures.value));
 }

@@ -21,7 +21,8 @@ loop-c-preserved c =
     record {
       delivered = delivered_node n cap c.args.run.now c.args.nodes.now c.args.logs.now here.run c.deliver.new.run
           here.nodes here.logs here.c node c.deliver.new.self c.index-logs-c.result c.deliver.new.log c.requires.nodes
-          below in_nodes (omega (arith, here.auto.logs, c.requires.nodes.log_count)) c.index-nodes-c.is c.index-logs-c.is
+          below in_nodes (omega (arith, here.auto.logs, c.requires.nodes.log_count))
+          c.index-nodes-c.is c.index-logs-c.is
           here.invariant.rooms chip_is node_is log_is longer kept here.invariant.delivered;
       rooms = rooms_kept cap here.nodes here.c node c.deliver.new.self (kept_by node (chip_at here.run here.c)) in_nodes
           c.index-nodes-c.is node_is here.invariant.rooms;

@@ -45,7 +45,8 @@ returns c =
     record {
       value = written_twice nodes i j left_here left_there c.welcome.new.node c.welcome-2.new.node c.requires.apart
           ∙ ap (λ (b : Buffer). set (set nodes i b) j c.welcome-2.new.node)
-          (exchanged_is c.args.dim (node_at nodes i) (node_at nodes j) left_here c.welcome.new.node c.leave-coming.result
+          (exchanged_is c.args.dim (node_at nodes i) (node_at nodes j)
+          left_here c.welcome.new.node c.leave-coming.result
           stays_here coming came_here)
           ∙ ap (λ (b : Buffer). set (set nodes i (exchanged c.args.dim (node_at nodes i) (node_at nodes j))) j b)
           (exchanged_is c.args.dim (node_at nodes j) (node_at nodes i) left_there c.welcome-2.new.node

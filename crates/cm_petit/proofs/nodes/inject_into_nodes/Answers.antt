@@ -21,7 +21,8 @@ loop-c-preserved c =
     record {
       injected = injected_node n cap c.args.clock c.args.run.now c.args.nodes.now c.args.logs.now here.run
           c.inject.new.run here.nodes here.logs here.c node c.inject.new.self c.index-logs-c.result c.inject.new.log
-          c.requires.nodes below in_nodes (omega (arith, here.auto.logs, c.requires.nodes.log_count)) c.index-nodes-c.is c.index-logs-c.is
+          c.requires.nodes below in_nodes (omega (arith, here.auto.logs, c.requires.nodes.log_count))
+          c.index-nodes-c.is c.index-logs-c.is
           here.invariant.rooms chip_is node_is log_is longer kept here.invariant.injected;
       rooms = rooms_kept cap here.nodes here.c node c.inject.new.self
           (node.messages ++ sent_to node n c.args.clock here.c (chip_at here.run here.c)) in_nodes c.index-nodes-c.is

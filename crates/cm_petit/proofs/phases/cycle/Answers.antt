@@ -16,7 +16,8 @@ loop-dim-preserved c =
     let begun : Machine = machine_after_injection c.args.sizes.dims c.args.sizes.room
     (machine_of c.args.run.now c.args.crossing.now.buffers c.args.logs.now c.args.clock.now) in
     record {
-      crossed = crossed_machine c.args.sizes.dims c.args.sizes.room c.loop-dim.dim c.inject.new.run c.loop-dim.crossing.buffers
+      crossed = crossed_machine c.args.sizes.dims c.args.sizes.room c.loop-dim.dim c.inject.new.run
+          c.loop-dim.crossing.buffers
           c.cross.new.self.buffers c.inject.new.logs c.args.clock.now (rw c.requires.all at c.cross.ensures.value)
           ∙ ap (machine_after_dimension c.args.sizes.dims c.args.sizes.room c.loop-dim.dim) c.loop-dim.invariant.crossed
           ∙ sym (after_crossings-more c.args.sizes.dims c.args.sizes.room begun c.loop-dim.dim);
@@ -43,7 +44,8 @@ returns-then-is_empty-clause-value c =
       empty = λ k l. c.is_empty.ensures.none.0 c.if-is_empty.true k [] (omega (arith, are.buffer_count));
     } in
     sym (rest_is_quiet c.args.sizes.dims c.args.sizes.room after quiet)
-    ∙ ap (λ (m : Machine). machine_after_delivery c.args.sizes.dims (after_crossings c.args.sizes.dims c.args.sizes.room m c.args.sizes.dims))
+    ∙ ap (λ (m : Machine). machine_after_delivery c.args.sizes.dims
+    (after_crossings c.args.sizes.dims c.args.sizes.room m c.args.sizes.dims))
     begun
     ∙ sym (after_cycle-is c.args.sizes.dims c.args.sizes.room before)
 

@@ -5,7 +5,8 @@ use Rattle.cm_model.specs.Letters.{chip_after_delivery}
 use Rattle.cm_crossing.specs.Standing.{delivered_of, kept_of}
 use Rattle.cm_petit.specs.Routers.{part_of}
 use Rattle.cm_petit.proofs.Made.{as_many}
-use Rattle.cm_petit.proofs.Delivering.{IsDelivered, delivered_begins, delivered_past, room_to_deliver, delivered_more, delivered_all}
+use Rattle.cm_petit.proofs.Delivering.{IsDelivered, delivered_begins, delivered_past, room_to_deliver}
+use Rattle.cm_petit.proofs.Delivering.{delivered_more, delivered_all}
 use Rattle.cm_petit.proofs.phases.deliver.Goals as goal
 
 pub loop-c-init : goal.loop-c-init
@@ -14,7 +15,13 @@ loop-c-init c = record {
       c.args.crossing.now.buffers c.args.logs.now c.args.run.now c.args.crossing.now.buffers c.args.logs.now 0
       c.next_occupied-c.result
       (λ k h. c.pass_over.ensures.same k
-      (omega (arith, h, c.next_occupied-c.ensures.most, c.requires.routers.chip_count, c.requires.routers.buffer_count)))
+      (omega (
+        arith,
+        h,
+        c.next_occupied-c.ensures.most,
+        c.requires.routers.chip_count,
+        c.requires.routers.buffer_count,
+      )))
       (omega arith) c.next_occupied-c.ensures.none
       (delivered_begins c.args.sizes.room c.args.first c.args.sizes.span c.args.run.now
       c.args.crossing.now.buffers c.args.logs.now);

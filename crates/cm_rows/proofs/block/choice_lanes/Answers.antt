@@ -7,6 +7,11 @@ use Rattle.cm_rows.proofs.block.choice_lanes.Goals.{then-always, else-always}
 pub returns-clause-value : goal.returns-clause-value
 returns-clause-value c = λ k h p below. elim c.if-always.branch [
   | then-always w ↦ rw (w.result-is, w.if-always.true, get_or-replicate {A = ℕ} 32 k 65535 0 h) (bit-all p below)
-  | else-always w ↦ rw (w.result-is, get_or-zip2 bit_xor c.args.condition (replicate 32 w.turned.result) k 0 0 0 (omega (arith, c.requires.condition)) h, get_or-replicate {A = ℕ} 32 k w.turned.result 0 h)
-      (bit-asked c.args.always c.args.sense (get_or c.args.condition k 0) w.turned.result p w.if-always.false w.turned.ensures.value below)
+  | else-always w ↦ rw (
+    w.result-is,
+    get_or-zip2 bit_xor c.args.condition (replicate 32 w.turned.result) k 0 0 0 (omega (arith, c.requires.condition)) h,
+    get_or-replicate {A = ℕ} 32 k w.turned.result 0 h,
+  )
+      (bit-asked c.args.always c.args.sense (get_or c.args.condition k 0)
+      w.turned.result p w.if-always.false w.turned.ensures.value below)
 ]

@@ -6,5 +6,6 @@ returns-then-always c = record { value = λ p h. rw c.if-always.true (bit-all p 
 
 pub returns-else-always : goal.returns-else-always
 returns-else-always c = record {
-  value = λ p h. bit-asked c.args.always c.args.sense c.args.condition c.turned.result p c.if-always.false c.turned.ensures.value h;
+  value = λ p h. bit-asked c.args.always c.args.sense c.args.condition c.turned.result p c.if-always.false
+      c.turned.ensures.value h;
 }

@@ -4,5 +4,6 @@ use Rattle.cm_rows.proofs.block.kept.Goals as goal
 
 pub returns : goal.returns
 returns c = record {
-  value = λ p h. rw (bit-bit_xor, bit-bit_and, bit-bit_xor, ← c.output.ensures.value p h) (differ_chosen (bit c.args.choice p) (bit c.args.old p) (bit c.output.result p));
+  value = λ p h. rw (bit-bit_xor, bit-bit_and, bit-bit_xor, ← c.output.ensures.value p h)
+      (differ_chosen (bit c.args.choice p) (bit c.args.old p) (bit c.output.result p));
 }

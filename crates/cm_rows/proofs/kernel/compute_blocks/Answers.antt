@@ -12,14 +12,18 @@ loop-t-preserved c =
     let now = c.loop-t.invariant in
     let same : AreUnread at mid to c.args.memory.now c.loop-t.memory c.args.flags.now c.loop-t.flags =
     unread at 0 mid to c.args.memory.now c.loop-t.memory c.args.flags.now c.loop-t.flags
-    (within c.args.tables.0 false c.args.always c.args.sense at at.a 0 mid c.args.memory.now c.args.flags.now c.args.memory.now c.loop-t.memory now.memory)
-    (within c.args.tables.1 c.args.chained c.args.always c.args.sense at at.write 0 mid c.args.memory.now c.args.flags.now c.args.flags.now c.loop-t.flags now.flags)
+    (within c.args.tables.0 false c.args.always c.args.sense at at.a 0 mid c.args.memory.now c.args.flags.now
+    c.args.memory.now c.loop-t.memory now.memory)
+    (within c.args.tables.1 c.args.chained c.args.always c.args.sense at at.write 0 mid c.args.memory.now
+    c.args.flags.now c.args.flags.now c.loop-t.flags now.flags)
     (apart_sooner at.a at.b to (32 * c.args.whole) few c.requires.b_apart)
     (apart_sooner at.write at.read to (32 * c.args.whole) few c.requires.read_apart)
     (apart_sooner at.write at.cond to (32 * c.args.whole) few c.requires.cond_apart) in
     rw next (record {
-      memory = joined c.args.tables.0 false c.args.always c.args.sense at at.a 0 mid to c.args.memory.now c.loop-t.memory c.args.flags.now c.loop-t.flags c.args.memory.now c.loop-t.memory c.block.new.memory
+      memory = joined c.args.tables.0 false c.args.always c.args.sense at at.a 0 mid to c.args.memory.now
+          c.loop-t.memory c.args.flags.now c.loop-t.flags c.args.memory.now c.loop-t.memory c.block.new.memory
           (omega arith) (omega arith) now.memory c.block.ensures.memory same;
-      flags = joined c.args.tables.1 c.args.chained c.args.always c.args.sense at at.write 0 mid to c.args.memory.now c.loop-t.memory c.args.flags.now c.loop-t.flags c.args.flags.now c.loop-t.flags c.block.new.flags
+      flags = joined c.args.tables.1 c.args.chained c.args.always c.args.sense at at.write 0 mid to c.args.memory.now
+          c.loop-t.memory c.args.flags.now c.loop-t.flags c.args.flags.now c.loop-t.flags c.block.new.flags
           (omega arith) (omega arith) now.flags c.block.ensures.flags same;
     })

@@ -12,14 +12,19 @@ loop-k-preserved c =
     let now = c.loop-k.invariant in
     let same : AreUnread at mid to c.args.memory.now c.loop-k.memory c.args.flags.now c.loop-k.flags =
     unread at c.args.from mid to c.args.memory.now c.loop-k.memory c.args.flags.now c.loop-k.flags
-    (within c.args.tables.0 false c.args.always c.args.sense at at.a c.args.from mid c.args.memory.now c.args.flags.now c.args.memory.now c.loop-k.memory now.memory)
-    (within c.args.tables.1 c.args.chained c.args.always c.args.sense at at.write c.args.from mid c.args.memory.now c.args.flags.now c.args.flags.now c.loop-k.flags now.flags)
+    (within c.args.tables.0 false c.args.always c.args.sense at at.a c.args.from mid c.args.memory.now c.args.flags.now
+    c.args.memory.now c.loop-k.memory now.memory)
+    (within c.args.tables.1 c.args.chained c.args.always c.args.sense at at.write c.args.from mid c.args.memory.now
+    c.args.flags.now c.args.flags.now c.loop-k.flags now.flags)
     (apart_sooner at.a at.b to c.args.to few c.requires.b_apart)
     (apart_sooner at.write at.read to c.args.to few c.requires.read_apart)
     (apart_sooner at.write at.cond to c.args.to few c.requires.cond_apart) in
     record {
-      memory = joined c.args.tables.0 false c.args.always c.args.sense at at.a c.args.from mid to c.args.memory.now c.loop-k.memory c.args.flags.now c.loop-k.flags c.args.memory.now c.loop-k.memory c.word.new.memory
+      memory = joined c.args.tables.0 false c.args.always c.args.sense at at.a c.args.from mid to c.args.memory.now
+          c.loop-k.memory c.args.flags.now c.loop-k.flags c.args.memory.now c.loop-k.memory c.word.new.memory
           low (omega arith) now.memory c.word.ensures.memory same;
-      flags = joined c.args.tables.1 c.args.chained c.args.always c.args.sense at at.write c.args.from mid to c.args.memory.now c.loop-k.memory c.args.flags.now c.loop-k.flags c.args.flags.now c.loop-k.flags c.word.new.flags
+      flags = joined c.args.tables.1 c.args.chained c.args.always c.args.sense at at.write
+          c.args.from mid to c.args.memory.now c.loop-k.memory c.args.flags.now c.loop-k.flags c.args.flags.now
+          c.loop-k.flags c.word.new.flags
           low (omega arith) now.flags c.word.ensures.flags same;
     }

@@ -9,8 +9,10 @@ loop-t-preserved c =
     let to : ℕ = 32 * c.loop-t.t + 32 in
     let next : 32 * (c.loop-t.t + 1) ≡ 32 * c.loop-t.t + 32 = omega arith in
     let few : 32 * c.loop-t.t + 32 ≤ 32 * c.args.whole = omega arith in
-    rw next (joined c.args.table false c.args.always c.args.sense at at.a 0 mid to c.args.memory.now c.loop-t.memory c.args.flags.now c.args.flags.now c.args.memory.now c.loop-t.memory c.block.new.memory
+    rw next (joined c.args.table false c.args.always c.args.sense at at.a 0 mid to c.args.memory.now c.loop-t.memory
+    c.args.flags.now c.args.flags.now c.args.memory.now c.loop-t.memory c.block.new.memory
     (omega arith) (omega arith) c.loop-t.invariant c.block.ensures.memory
     (unread_memory at 0 mid to c.args.memory.now c.loop-t.memory c.args.flags.now
-    (within c.args.table false c.args.always c.args.sense at at.a 0 mid c.args.memory.now c.args.flags.now c.args.memory.now c.loop-t.memory c.loop-t.invariant)
+    (within c.args.table false c.args.always c.args.sense at at.a 0 mid c.args.memory.now c.args.flags.now
+    c.args.memory.now c.loop-t.memory c.loop-t.invariant)
     (apart_sooner at.a at.b to (32 * c.args.whole) few c.requires.b_apart)))

@@ -11,5 +11,6 @@ leave-requires-clause-within c =
 
 pub loop-t-preserved : goal.loop-t-preserved
 loop-t-preserved c = one_more_left c.args.room c.args.dim c.args.tiles.now c.loop-t.tiles c.loop-t.leaving c.loop-t.t
-    c.leave.new.self c.leave.new.leavers (omega (arith, c.loop-t-test.true, c.loop-t.invariant.long)) c.leave.ensures.value
+    c.leave.new.self c.leave.new.leavers
+    (omega (arith, c.loop-t-test.true, c.loop-t.invariant.long)) c.leave.ensures.value
     c.loop-t.invariant

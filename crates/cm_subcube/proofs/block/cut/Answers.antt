@@ -7,21 +7,24 @@ pub overflow_mul-b : goal.overflow_mul-b
 overflow_mul-b g c =
     let same : c.power_of_two-size.result ≡ size g.row.N c.args.k =
     c.power_of_two-size.ensures.value ∙ ap (λ (d : ℕ). 2 ^ (d - c.args.k)) c.dims.ensures.value in
-    let fits = band_fits g.row.N c.args.k c.args.b c.power_of_two-size.result c.dims.ensures.sizes.dimension c.requires.within c.requires.block same in
+    let fits = band_fits g.row.N c.args.k c.args.b c.power_of_two-size.result c.dims.ensures.sizes.dimension
+    c.requires.within c.requires.block same in
     omega (arith, fits.0, fits.1)
 
 pub part-requires : goal.part-requires
 part-requires g c =
     let same : c.power_of_two-size.result ≡ size g.row.N c.args.k =
     c.power_of_two-size.ensures.value ∙ ap (λ (d : ℕ). 2 ^ (d - c.args.k)) c.dims.ensures.value in
-    let fits = band_fits g.row.N c.args.k c.args.b c.power_of_two-size.result c.dims.ensures.sizes.dimension c.requires.within c.requires.block same in
+    let fits = band_fits g.row.N c.args.k c.args.b c.power_of_two-size.result c.dims.ensures.sizes.dimension
+    c.requires.within c.requires.block same in
     (lit< tt, fits.0)
 
 pub invariant_of-result : goal.invariant_of-result
 invariant_of-result g c =
     let same : c.power_of_two-size.result ≡ size g.row.N c.args.k =
     c.power_of_two-size.ensures.value ∙ ap (λ (d : ℕ). 2 ^ (d - c.args.k)) c.dims.ensures.value in
-    IsBlock-cut g.row.N c.args.k c.args.b c.args.machine.now.machine c.in_ok-part.part c.requires.within c.requires.block
+    IsBlock-cut g.row.N c.args.k c.args.b c.args.machine.now.machine c.in_ok-part.part
+    c.requires.within c.requires.block
     c.in_ok-part.ensures.dims
     (c.in_ok-part.ensures.value ∙ ap (λ (s : ℕ). part (c.args.b * s) s c.args.machine.now.machine) same)
 

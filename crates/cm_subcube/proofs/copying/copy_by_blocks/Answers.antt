@@ -30,5 +30,6 @@ returns g c =
       ok = c.join.ensures.value ∙ ap joined c.in_ok-blocks.ensures.value
           ∙ joined-blocks g.row.N g.row.CAP c.args.k c.args.from.now.machine within c.clock-clock.ensures.whole;
       err = tt;
-      split = still_no_error c.in_ok-blocks.blocks tt Split (g.row.N - g.row.N / 2 < c.args.k) c.in_ok-blocks.ensures.split;
+      split = still_no_error c.in_ok-blocks.blocks tt Split (g.row.N - g.row.N / 2 < c.args.k)
+          c.in_ok-blocks.ensures.split;
     }

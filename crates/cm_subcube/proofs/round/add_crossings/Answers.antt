@@ -14,4 +14,5 @@ loop-dim-preserved c =
     c.in_ok-add.ensures.ok
     ∙ ap (λ (rounds : List Round). rounds ++ crossing_at at d ∷ []) c.loop-dim.invariant
     ∙ append_assoc c.args.rounds.now.items done (crossing_at at d ∷ [])
-    ∙ ap (λ (rounds : List Round). c.args.rounds.now.items ++ rounds) (sym (crossings-more from d at (omega (arith, c.loop-dim.auto.dim))))
+    ∙ ap (λ (rounds : List Round). c.args.rounds.now.items ++ rounds)
+    (sym (crossings-more from d at (omega (arith, c.loop-dim.auto.dim))))

@@ -10,7 +10,8 @@ pub returns-in-Cycle : goal.returns-in-Cycle
 returns-in-Cycle c =
     let old = c.args.rounds.now.items in
     record {
-      ok = subst (λ (act : Act). OnOk c.add_crossings.result (c.add_crossings.new.rounds.items ≡ old ++ rounds_from c.args.dims c.args.k c.args.at (act ∷ [])))
+      ok = subst (λ (act : Act). OnOk c.add_crossings.result
+          (c.add_crossings.new.rounds.items ≡ old ++ rounds_from c.args.dims c.args.k c.args.at (act ∷ [])))
           (sym c.in-Cycle.is)
           (subst (λ (more : List Round). OnOk c.add_crossings.result (c.add_crossings.new.rounds.items ≡ old ++ more))
           (rounds_of_cycle c.args.dims c.args.k c.args.at c.requires.within) c.add_crossings.ensures.ok);

@@ -7,10 +7,12 @@ use Rattle.cm_workers.proofs.exchange.hand_over.Goals as goal
 
 pub returns-in-South : goal.returns-in-South
 returns-in-South g c = record {
-  value = subst (λ (one : Kind). AreHandedOver c.args.dims c.args.k one c.args.things.now c.rotate_right.new.self) (sym c.in-South.is)
+  value = subst (λ (one : Kind). AreHandedOver c.args.dims c.args.k one c.args.things.now c.rotate_right.new.self)
+      (sym c.in-South.is)
       (record {
         len = c.rotate_right.ensures.len;
         each = λ b d below. from_before (2 ^ c.args.k) c.args.things.now c.rotate_right.new.self
-            (subst (λ (n : ℕ). RotatedRight c.args.things.now c.rotate_right.new.self n 1) c.requires.blocks c.rotate_right.ensures.by_index) b d below;
+            (subst (λ (n : ℕ). RotatedRight c.args.things.now c.rotate_right.new.self n 1)
+            c.requires.blocks c.rotate_right.ensures.by_index) b d below;
       });
 }

@@ -16,28 +16,35 @@ pub run_blocks-requires-clause-begun : goal.run_blocks-requires-clause-begun
 run_blocks-requires-clause-begun g c = record {
   room = g.row.CAP;
   machine = c.args.machine.now.machine;
-  at = subst (λ (n : ℕ). StandAt n c.args.sizes.k g.row.CAP c.args.machine.now.machine c.args.acts.now 0 c.in_ok-all.all.blocks.items c.in_ok-all.all.posts.items)
+  at = subst (λ (n : ℕ). StandAt n c.args.sizes.k g.row.CAP c.args.machine.now.machine c.args.acts.now 0
+      c.in_ok-all.all.blocks.items c.in_ok-all.all.posts.items)
       (sym c.requires.dimension) (c.in_ok-all.ensures.value c.args.acts.now (sym c.requires.cycles));
 }
 
 pub join-requires : goal.join-requires
 join-requires g c = (
   lit< tt,
-  whole_after g.row.N g.row.CAP c.args.sizes.k c.args.machine.now.machine c.args.acts.now _ (omega (arith, c.requires.within)) c.clock-clock.ensures.whole
-      (parts_after g.row.N g.row.CAP c.args.sizes.dims c.args.sizes.k c.args.machine.now.machine c.args.acts.now c.in_ok-after.after.blocks.items
+  whole_after g.row.N g.row.CAP c.args.sizes.k c.args.machine.now.machine c.args.acts.now _
+      (omega (arith, c.requires.within)) c.clock-clock.ensures.whole
+      (parts_after g.row.N g.row.CAP c.args.sizes.dims c.args.sizes.k c.args.machine.now.machine c.args.acts.now
+      c.in_ok-after.after.blocks.items
       c.requires.dimension c.clock-clock.ensures.whole
       (c.in_ok-after.ensures.value g.row.CAP c.args.machine.now.machine
-      (subst (λ (n : ℕ). StandAt n c.args.sizes.k g.row.CAP c.args.machine.now.machine c.args.acts.now 0 c.in_ok-all.all.blocks.items c.in_ok-all.all.posts.items)
+      (subst (λ (n : ℕ). StandAt n c.args.sizes.k g.row.CAP c.args.machine.now.machine c.args.acts.now 0
+      c.in_ok-all.all.blocks.items c.in_ok-all.all.posts.items)
       (sym c.requires.dimension) (c.in_ok-all.ensures.value c.args.acts.now (sym c.requires.cycles))))),
 )
 
 pub returns : goal.returns
 returns g c =
-    let is = c.join.ensures.value ∙ joined_after g.row.N g.row.CAP c.args.sizes.k c.args.machine.now.machine c.args.acts.now _ (omega (arith, c.requires.within)) c.clock-clock.ensures.whole
-    (parts_after g.row.N g.row.CAP c.args.sizes.dims c.args.sizes.k c.args.machine.now.machine c.args.acts.now c.in_ok-after.after.blocks.items
+    let is = c.join.ensures.value ∙ joined_after g.row.N g.row.CAP c.args.sizes.k c.args.machine.now.machine
+    c.args.acts.now _ (omega (arith, c.requires.within)) c.clock-clock.ensures.whole
+    (parts_after g.row.N g.row.CAP c.args.sizes.dims c.args.sizes.k c.args.machine.now.machine c.args.acts.now
+    c.in_ok-after.after.blocks.items
     c.requires.dimension c.clock-clock.ensures.whole
     (c.in_ok-after.ensures.value g.row.CAP c.args.machine.now.machine
-    (subst (λ (n : ℕ). StandAt n c.args.sizes.k g.row.CAP c.args.machine.now.machine c.args.acts.now 0 c.in_ok-all.all.blocks.items c.in_ok-all.all.posts.items)
+    (subst (λ (n : ℕ). StandAt n c.args.sizes.k g.row.CAP c.args.machine.now.machine c.args.acts.now 0
+    c.in_ok-all.all.blocks.items c.in_ok-all.all.posts.items)
     (sym c.requires.dimension) (c.in_ok-all.ensures.value c.args.acts.now (sym c.requires.cycles))))) in
     record {
       ok = is;

@@ -13,13 +13,16 @@ pub shift-requires-clause-ready : goal.shift-requires-clause-ready
 shift-requires-clause-ready g c =
     let n = c.args.sizes.dims in let k = c.args.sizes.k in let acts = c.args.acts.now in
     let begun = c.requires.begun in
-    let last : c.loop-number.number ≡ length c.args.rounds.now = omega (arith, c.loop-number-test.false, c.loop-number.auto.number-end) in
-    can_over n k (length c.args.rounds.now) acts c.args.rounds.now c.loop-number.all.blocks.items c.loop-number.all.posts.items
+    let last : c.loop-number.number ≡ length c.args.rounds.now =
+    omega (arith, c.loop-number-test.false, c.loop-number.auto.number-end) in
+    can_over n k (length c.args.rounds.now) acts c.args.rounds.now c.loop-number.all.blocks.items
+    c.loop-number.all.posts.items
     c.requires.within c.requires.rounds (omega arith)
     (record {
       room = begun.room;
       machine = begun.machine;
-      at = subst (λ (t : ℕ). StandAt n k begun.room begun.machine acts t c.loop-number.all.blocks.items c.loop-number.all.posts.items) last
+      at = subst (λ (t : ℕ). StandAt n k begun.room begun.machine acts t c.loop-number.all.blocks.items
+          c.loop-number.all.posts.items) last
           (c.loop-number.invariant begun.room begun.machine begun.at);
     })
 
@@ -29,10 +32,14 @@ returns g c = record {
       let n = c.args.sizes.dims in let k = c.args.sizes.k in let acts = c.args.acts.now in
       let rounds = c.args.rounds.now in
       let blocks = c.loop-number.all.blocks.items in let posts = c.loop-number.all.posts.items in
-      let last : c.loop-number.number ≡ length rounds = omega (arith, c.loop-number-test.false, c.loop-number.auto.number-end) in
-      let at = subst (λ (t : ℕ). StandAt n k room machine acts t blocks posts) last (c.loop-number.invariant room machine stands) in
-      let Gone : Crew → Type 0 = λ now. AreEach (HasGone acts (round_before rounds (length rounds)) (slice_get rounds (length rounds))) blocks posts now.blocks.items now.posts.items in
+      let last : c.loop-number.number ≡ length rounds =
+      omega (arith, c.loop-number-test.false, c.loop-number.auto.number-end) in
+      let at = subst (λ (t : ℕ). StandAt n k room machine acts t blocks posts) last
+      (c.loop-number.invariant room machine stands) in
+      let Gone : Crew → Type 0 = λ now. AreEach (HasGone acts (round_before rounds (length rounds))
+      (slice_get rounds (length rounds))) blocks posts now.blocks.items now.posts.items in
       if_came c.shift.result Gone Gone Gone (λ now. AreAfter n k room machine acts now.blocks.items)
-      (λ now gone same too. last_over n k room machine acts rounds blocks now.blocks.items posts now.posts.items c.requires.within c.requires.rounds at gone)
+      (λ now gone same too. last_over n k room machine acts rounds blocks now.blocks.items posts now.posts.items
+      c.requires.within c.requires.rounds at gone)
       c.shift.ensures.value c.shift.ensures.value c.shift.ensures.value;
 }

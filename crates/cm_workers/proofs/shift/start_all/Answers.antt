@@ -11,15 +11,22 @@ loop-w-preserved g c =
     let inv = c.loop-w.invariant in
     let acts = c.args.acts.now in let rounds = c.args.rounds.now in let number = c.args.number in
     let blocks = c.args.hands.blocks.items in let posts = c.args.hands.posts.items in
-    let here = first_taken blocks c.loop-w.hands.blocks.items c.loop-w.w c.remove.result inv.blocks (search rules) c.remove.ensures.value in
-    let there = first_taken posts c.loop-w.hands.posts.items c.loop-w.w c.remove-in-loop-w.result inv.posts (search rules) c.remove-in-loop-w.ensures.value in
+    let here = first_taken blocks c.loop-w.hands.blocks.items c.loop-w.w c.remove.result inv.blocks (search rules)
+    c.remove.ensures.value in
+    let there = first_taken posts c.loop-w.hands.posts.items c.loop-w.w c.remove-in-loop-w.result inv.posts
+    (search rules) c.remove-in-loop-w.ensures.value in
     record {
       started = search rules;
       room = search rules;
-      blocks = rest_left blocks c.loop-w.hands.blocks.items c.remove.new.self.items c.loop-w.w inv.blocks c.remove.ensures.by_index.2;
-      posts = rest_left posts c.loop-w.hands.posts.items c.remove-in-loop-w.new.self.items c.loop-w.w inv.posts c.remove-in-loop-w.ensures.by_index.2;
-      promised = push_promised (λ bs ps one. IsPromised acts rounds number bs ps one.promise) c.loop-w.handles.items c.push_reserved.new.self.items
+      blocks = rest_left blocks c.loop-w.hands.blocks.items c.remove.new.self.items c.loop-w.w inv.blocks
+          c.remove.ensures.by_index.2;
+      posts = rest_left posts c.loop-w.hands.posts.items c.remove-in-loop-w.new.self.items c.loop-w.w inv.posts
+          c.remove-in-loop-w.ensures.by_index.2;
+      promised = push_promised (λ bs ps one. IsPromised acts rounds number bs ps one.promise)
+          c.loop-w.handles.items c.push_reserved.new.self.items
           blocks posts c.in_ok-start.field-0 c.loop-w.w inv.started c.push_reserved.ensures.items inv.promised
-          (λ e f. subst (λ (bs : List KeptBlock). IsPromised acts rounds number bs (hand posts f c.loop-w.w) c.in_ok-start.field-0.promise) (here e)
-          (subst (λ (ps : List Post). IsPromised acts rounds number c.remove.result.items ps c.in_ok-start.field-0.promise) (there f) c.in_ok-start.ensures.ok));
+          (λ e f. subst (λ (bs : List KeptBlock). IsPromised acts rounds number bs (hand posts f c.loop-w.w)
+          c.in_ok-start.field-0.promise) (here e)
+          (subst (λ (ps : List Post). IsPromised acts rounds number c.remove.result.items ps
+          c.in_ok-start.field-0.promise) (there f) c.in_ok-start.ensures.ok));
     }

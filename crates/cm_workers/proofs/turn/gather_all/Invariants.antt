@@ -4,4 +4,5 @@ use Rattle.cm_workers.specs.Turns.{IsShown}
 use Rattle.cm_workers.proofs.turn.gather_all.Given as goal
 
 abbrev pub invariant-loop-i : goal.invariant-loop-i
-invariant-loop-i l = AreEachBelow l.i (λ old same new now. IsShown old new × IsTrue new.kept.gathered) l.initial.blocks l.initial.blocks l.blocks l.blocks
+invariant-loop-i l = AreEachBelow l.i (λ old same new now. IsShown old new × IsTrue new.kept.gathered)
+    l.initial.blocks l.initial.blocks l.blocks l.blocks

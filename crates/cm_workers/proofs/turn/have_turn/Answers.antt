@@ -7,14 +7,17 @@ send_all-requires g c =
     let turn = c.args.turn.now in
     record {
       ready =
-          all_ready turn.acts.now (option_copied turn.before) (option_copied turn.next) c.args.blocks.now c.go_on_all.new.blocks c.show.new.blocks
+          all_ready turn.acts.now (option_copied turn.before) (option_copied turn.next)
+          c.args.blocks.now c.go_on_all.new.blocks c.show.new.blocks
           c.args.posts.now c.go_on_all.new.posts c.requires.ready c.go_on_all.ensures.value c.show.ensures.value;
     }
 
 pub returns : goal.returns
 returns g c = record {
   value = let turn = c.args.turn.now in
-      all_gone turn.acts.now (option_copied turn.before) (option_copied turn.next) c.args.blocks.now c.go_on_all.new.blocks c.show.new.blocks
-      c.send_all.new.blocks c.args.posts.now c.go_on_all.new.posts c.send_all.new.posts c.go_on_all.ensures.value c.show.ensures.value
+      all_gone turn.acts.now (option_copied turn.before) (option_copied turn.next)
+      c.args.blocks.now c.go_on_all.new.blocks c.show.new.blocks
+      c.send_all.new.blocks c.args.posts.now c.go_on_all.new.posts c.send_all.new.posts
+      c.go_on_all.ensures.value c.show.ensures.value
       c.send_all.ensures.value;
 }

@@ -8,12 +8,14 @@ pub send-requires : goal.send-requires
 send-requires c =
     record {
       ready =
-          still_so (HasSent (option_copied c.args.next)) (CanSend (option_copied c.args.next)) c.args.blocks.now c.args.posts.now c.loop-i.blocks
+          still_so (HasSent (option_copied c.args.next)) (CanSend (option_copied c.args.next))
+          c.args.blocks.now c.args.posts.now c.loop-i.blocks
           c.loop-i.posts c.loop-i.i _ _ c.loop-i-test.true c.loop-i.invariant c.requires.ready.each;
     }
 
 pub loop-i-preserved : goal.loop-i-preserved
 loop-i-preserved c =
-    next_place (HasSent (option_copied c.args.next)) c.args.blocks.now c.args.posts.now c.loop-i.blocks c.loop-i.posts c.loop-i.i
+    next_place (HasSent (option_copied c.args.next))
+    c.args.blocks.now c.args.posts.now c.loop-i.blocks c.loop-i.posts c.loop-i.i
     c.send.new.block c.index-blocks-i.result c.send.new.post c.index-posts-i.result
     c.loop-i-test.true (omega (arith, c.loop-i-test.true, c.requires.ready.len)) c.loop-i.invariant c.send.ensures.value

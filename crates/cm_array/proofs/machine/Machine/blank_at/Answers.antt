@@ -7,7 +7,8 @@ new-requires g c = record { few = omega (arith, c.chip_count-count.ensures.value
 
 pub invariant_of-result : goal.invariant_of-result
 invariant_of-result g c =
-    AreParts-blank g.row.N g.row.CAP c.chip_count-count.result _ (omega arith) (omega arith) (omega arith) c.chip_count-count.ensures.value
+    AreParts-blank g.row.N g.row.CAP c.chip_count-count.result _ (omega arith) (omega arith) (omega arith)
+    c.chip_count-count.ensures.value
     c.in_ok-run.ensures.value c.in_ok-crossing.ensures.value c.in_ok-logs.ensures.value
     c.in_ok-sent.ensures.count c.in_ok-incoming.ensures.count
     c.in_ok-crossing.ensures.gathered c.requires.clock
@@ -15,5 +16,12 @@ invariant_of-result g c =
 pub returns-clause-value : goal.returns-clause-value
 returns-clause-value g c =
     machine_of-blank g.row.N c.chip_count-count.result
-    (record { run = c.in_ok-run.run'; logs = c.in_ok-logs.logs; clock = c.args.clock; sent = c.in_ok-sent.sent; incoming = c.in_ok-incoming.incoming; crossing = c.in_ok-crossing.crossing })
+    (record {
+      run = c.in_ok-run.run';
+      logs = c.in_ok-logs.logs;
+      clock = c.args.clock;
+      sent = c.in_ok-sent.sent;
+      incoming = c.in_ok-incoming.incoming;
+      crossing = c.in_ok-crossing.crossing;
+    })
     c.chip_count-count.ensures.value c.in_ok-run.ensures.value c.in_ok-crossing.ensures.value c.in_ok-logs.ensures.value

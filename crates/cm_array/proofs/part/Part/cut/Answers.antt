@@ -35,7 +35,8 @@ are_cut c =
     let old = c.args.parts.now in
     let at = c.from-at.result in
     let chips = c.from-chips.result in
-    let lent = items-lent c.in_ok-logs.logs c.reserve.new.logs (c.reserve.auto.logs ∙ ap length c.deref_mut.ensures.value) in
+    let lent = items-lent c.in_ok-logs.logs c.reserve.new.logs
+    (c.reserve.auto.logs ∙ ap length c.deref_mut.ensures.value) in
     record {
       run = c.in_ok-run.ensures.value;
       buffers = c.in_ok-crossing.ensures.value
@@ -66,6 +67,7 @@ returns-clause-value c =
 
 pub returns-clause-log_room : goal.returns-clause-log_room
 returns-clause-log_room c =
-    let same = items-lent c.in_ok-logs.logs c.reserve.new.logs (c.reserve.auto.logs ∙ ap length c.deref_mut.ensures.value) in
+    let same = items-lent c.in_ok-logs.logs c.reserve.new.logs
+    (c.reserve.auto.logs ∙ ap length c.deref_mut.ensures.value) in
     subst (λ (logs : List Log). HaveLogRoom c.args.more (log_rooms_of logs)) (sym same)
     (HaveLogRoom-logs c.args.more c.reserve.new.logs c.in_ok-reserve.ensures.ok)

@@ -10,7 +10,8 @@ use Rattle.cm_array.proofs.part.Part.leave.Goals as goal
 pub leave-requires : goal.leave-requires
 leave-requires c =
     let inside = c.self.inside in
-    let long = chips_in_band inside.dims inside.room inside.first c.args.span inside.parts c.args.self.now c.self.view_is
+    let long = chips_in_band inside.dims inside.room inside.first c.args.span inside.parts
+    c.args.self.now c.self.view_is
     c.requires.band in
     record {
       sizes = c.self.invariant.sizes;
@@ -23,7 +24,8 @@ leave-requires c =
 pub invariant_of-self : goal.invariant_of-self
 invariant_of-self c =
     let inside = c.self.inside in
-    let long = chips_in_band inside.dims inside.room inside.first c.args.span inside.parts c.args.self.now c.self.view_is
+    let long = chips_in_band inside.dims inside.room inside.first c.args.span inside.parts
+    c.args.self.now c.self.view_is
     c.requires.band in
     IsKeptPart-crossed inside.dims inside.room inside.first inside.parts c.leave.new.crossing c.self.invariant
     (c.leave.ensures.count ∙ sym long)

@@ -11,19 +11,22 @@ use Rattle.cm_array.proofs.part.Part.take_in.Goals as goal
 pub take_in-requires : goal.take_in-requires
 take_in-requires c =
     let inside = c.self.inside in
-    let long = chips_in_band inside.dims inside.room inside.first c.args.span inside.parts c.args.self.now c.self.view_is
+    let long = chips_in_band inside.dims inside.room inside.first c.args.span inside.parts
+    c.args.self.now c.self.view_is
     c.requires.band in
     record {
       sizes = c.self.invariant.sizes;
       count = c.self.invariant.buffer_count ∙ long;
       lanes = c.requires.lanes;
-      space = subst (λ (k : KeptPart). All (λ ms. length ms < k.room) k.part.buffers) (sym c.self.view_is) c.requires.space;
+      space = subst (λ (k : KeptPart). All (λ ms. length ms < k.room) k.part.buffers)
+          (sym c.self.view_is) c.requires.space;
     }
 
 pub invariant_of-self : goal.invariant_of-self
 invariant_of-self c =
     let inside = c.self.inside in
-    let long = chips_in_band inside.dims inside.room inside.first c.args.span inside.parts c.args.self.now c.self.view_is
+    let long = chips_in_band inside.dims inside.room inside.first c.args.span inside.parts
+    c.args.self.now c.self.view_is
     c.requires.band in
     IsKeptPart-crossed inside.dims inside.room inside.first inside.parts c.take_in.new.crossing c.self.invariant
     (c.take_in.ensures.count ∙ sym long) c.take_in.ensures.within

@@ -33,6 +33,7 @@ returns c =
       value = near_put far near c.poke_flag_plane.new.self first run.width run.chips (chip - first) chip
           (λ (v : List Processor). with_flag_plane v c.args.number (bit c.args.plane))
           c.come_near-first.ensures.near here place c.poke_flag_plane.ensures.value
-          ∙ ap (λ (chips : Chips). set chips chip (with_flag_plane (chip_at chips chip) c.args.number (bit c.args.plane)))
+          ∙ ap (λ (chips : Chips). set chips chip
+          (with_flag_plane (chip_at chips chip) c.args.number (bit c.args.plane)))
           same;
     }

@@ -18,9 +18,12 @@ loop-below_top-preserved c =
     let processor : Processor = processor_at (get_or c.args.self.now c.args.chip []) p in
     let lowest : at + (len - 1 - n) ≡ at + (len - (n + 1)) = omega arith in
     let number_is : c.from.result ≡ bit_number (memory_bit processor (at + (len - (n + 1)))) =
-    c.from.ensures ∙ bool_byte-is c.is_one.result ∙ ap bit_number (c.is_one.ensures.value ∙ c.memory_word-plane.ensures.value p c.is_one.ensures.in_range ∙ ap (memory_bit processor) lowest) in
+    c.from.ensures ∙ bool_byte-is c.is_one.result ∙ ap bit_number (c.is_one.ensures.value
+    ∙ c.memory_word-plane.ensures.value p c.is_one.ensures.in_range ∙ ap (memory_bit processor) lowest) in
     let whole = (c.memory_word-plane.ensures.whole.each p c.is_one.ensures.in_range).memory in
     record {
-      value = field-one_lower processor at len n c.loop-below_top.value c.from.result c.loop-below_top-test.true (omega arith) c.loop-below_top.invariant.value number_is;
-      below = one_more_bit c.loop-below_top.value c.from.result n c.loop-below_top.invariant.below (rw number_is (bit_number-lt (memory_bit processor (at + (len - (n + 1))))));
+      value = field-one_lower processor at len n c.loop-below_top.value c.from.result c.loop-below_top-test.true
+          (omega arith) c.loop-below_top.invariant.value number_is;
+      below = one_more_bit c.loop-below_top.value c.from.result n c.loop-below_top.invariant.below
+          (rw number_is (bit_number-lt (memory_bit processor (at + (len - (n + 1))))));
     }

@@ -7,6 +7,7 @@ use Rattle.cm_element.proofs.run.Run.few_bits.Given as goal
 -- the value of the field's topmost bits
 abbrev pub invariant-loop-below_top : goal.invariant-loop-below_top
 invariant-loop-below_top l = record {
-  value : l.value ≡ field_value (processor_at (chip_at l.self l.chip) l.proc) (l.at + (l.len - l.below_top)) l.below_top;
+  value : l.value
+      ≡ field_value (processor_at (chip_at l.self l.chip) l.proc) (l.at + (l.len - l.below_top)) l.below_top;
   below : l.value < 2 ^ l.below_top;
 }

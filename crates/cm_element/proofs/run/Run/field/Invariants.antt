@@ -7,4 +7,5 @@ use Rattle.cm_element.proofs.run.Run.field.Given as goal
 -- the value of the field's topmost bits
 abbrev pub invariant-loop-below_top : goal.invariant-loop-below_top
 invariant-loop-below_top l =
-    l.value ≡ field_value (processor_at (chip_at l.self l.chip) l.proc) (l.at + (l.sixteens - l.below_top) * 16) (l.below_top * 16 + l.len % 16)
+    l.value ≡ field_value (processor_at (chip_at l.self l.chip) l.proc) (l.at + (l.sixteens - l.below_top) * 16)
+    (l.below_top * 16 + l.len % 16)

@@ -15,15 +15,19 @@ returns c =
     let f = run.flags.items in
     let first : ℕ = c.row-first.result in
     let number : c.from.result ≡ c.args.number = c.from.ensures ∙ c.get.ensures.value in
-    let place : first ≡ c.args.number * run.stride = c.row-first.ensures.value ∙ ap (λ (i : ℕ). i * run.stride) number in
+    let place : first ≡ c.args.number * run.stride = c.row-first.ensures.value
+    ∙ ap (λ (i : ℕ). i * run.stride) number in
     let few : first + run.chips - first ≡ run.chips = omega arith in
-    let inside : first + run.chips ≤ length f = omega (arith, c.row-first.ensures.within, c.self.invariant.within, c.self.invariant.flag_words) in
+    let inside : first + run.chips ≤ length f =
+    omega (arith, c.row-first.ensures.within, c.self.invariant.within, c.self.invariant.flag_words) in
     let count : length (chips_of m f run.stride run.chips) ≡ run.chips = length-chips_of m f run.stride run.chips in
     rw (← c.self.view_is, c.deref.ensures.value) (record {
       count = length-part f first (first + run.chips) run.chips few inside ∙ sym count;
       value = λ k h p below. let here : k < run.chips = omega (arith, h, count) in
-          ap (λ (w : ℕ). bit w p) (get_or-part f first (first + run.chips) run.chips k few here ∙ ap (λ (i : ℕ). get_or f (i + k) 0) place
-          ∙ sym (get_or-column f run.stride 16 k c.args.number (omega (arith, c.get.ensures.value, c.get.ensures.in_range))))
+          ap (λ (w : ℕ). bit w p) (get_or-part f first (first + run.chips) run.chips k few here
+          ∙ ap (λ (i : ℕ). get_or f (i + k) 0) place
+          ∙ sym (get_or-column f run.stride 16 k c.args.number
+          (omega (arith, c.get.ensures.value, c.get.ensures.in_range))))
           ∙ sym (flag-chip_of (column m run.stride 4096 k) (column f run.stride 16 k) p c.args.number below)
           ∙ sym (ap (λ v. flag (processor_at v p) c.args.number) (chip_at-chips_of m f run.stride run.chips k here));
       whole = λ k h. chip_is_whole m f run.stride run.chips k c.self.invariant h;

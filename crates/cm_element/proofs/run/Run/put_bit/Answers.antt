@@ -10,7 +10,8 @@ use Rattle.cm_element.proofs.run.Run.put_bit.Goals as goal
 
 pub word_at-here-requires-clause-chip : goal.word_at-here-requires-clause-chip
 word_at-here-requires-clause-chip c =
-    has_word c.self.inside.memory.items c.self.inside.flags.items c.self.inside.stride c.self.inside.chips c.args.chip c.self.invariant (rw (← c.self.view_is) at c.requires.chip)
+    has_word c.self.inside.memory.items c.self.inside.flags.items c.self.inside.stride c.self.inside.chips c.args.chip
+    c.self.invariant (rw (← c.self.view_is) at c.requires.chip)
 
 pub returns-clause-value : goal.returns-clause-value
 returns-clause-value c =
@@ -20,15 +21,21 @@ returns-clause-value c =
     let chip = c.args.chip in
     let here = rw (← c.self.view_is, length-chips_of m f run.stride run.chips) at c.requires.chip in
     let place : c.word_at-here.result ≡ c.args.at * run.stride + chip = c.word_at-here.ensures.value in
-    let inside : c.word_at-here.result < length m = omega (arith, c.word_at-here.ensures.within, c.self.invariant.memory_words) in
+    let inside : c.word_at-here.result < length m =
+    omega (arith, c.word_at-here.ensures.within, c.self.invariant.memory_words) in
     let old : c.index.result.now ≡ get_or (column m run.stride 4096 chip) c.args.at 0 =
-    get_or_read m c.word_at-here.result c.index.result.now inside c.index.ensures 0 ∙ ap (λ (i : ℕ). get_or m i 0) place ∙ sym (get_or-column m run.stride 4096 chip c.args.at c.requires.at) in
+    get_or_read m c.word_at-here.result c.index.result.now inside c.index.ensures 0 ∙ ap (λ (i : ℕ). get_or m i 0) place
+    ∙ sym (get_or-column m run.stride 4096 chip c.args.at c.requires.at) in
     rw (← c.self.view_is, place)
-    (memory_set m f run.stride run.chips chip c.args.at c.with_bit.result (with_memory_bit (get_or (chips_of m f run.stride run.chips) chip []) c.args.proc c.args.at c.args.bit) c.self.invariant here c.requires.at
-    (put_memory (column m run.stride 4096 chip) (column f run.stride 16 chip) c.args.proc c.args.at c.with_bit.result c.args.bit c.with_bit.ensures.in_range
+    (memory_set m f run.stride run.chips chip c.args.at c.with_bit.result (with_memory_bit (get_or (chips_of m f
+    run.stride run.chips) chip []) c.args.proc c.args.at c.args.bit) c.self.invariant here c.requires.at
+    (put_memory (column m run.stride 4096 chip) (column f run.stride 16 chip)
+    c.args.proc c.args.at c.with_bit.result c.args.bit c.with_bit.ensures.in_range
     (λ q h. c.with_bit.ensures.value q h ∙ ap (λ (w : ℕ). if q == c.args.proc then c.args.bit else bit w q) old)
-    ∙ ap (λ v. with_memory_bit v c.args.proc c.args.at c.args.bit) (sym (chip_at-chips_of m f run.stride run.chips chip here))))
+    ∙ ap (λ v. with_memory_bit v c.args.proc c.args.at c.args.bit)
+    (sym (chip_at-chips_of m f run.stride run.chips chip here))))
 
 pub returns-clause-whole : goal.returns-clause-whole
 returns-clause-whole c = rw (← c.self.view_is)
-    (chip_is_whole c.self.inside.memory.items c.self.inside.flags.items c.self.inside.stride c.self.inside.chips c.args.chip c.self.invariant (rw (← c.self.view_is) at c.requires.chip))
+    (chip_is_whole c.self.inside.memory.items c.self.inside.flags.items c.self.inside.stride c.self.inside.chips
+    c.args.chip c.self.invariant (rw (← c.self.view_is) at c.requires.chip))

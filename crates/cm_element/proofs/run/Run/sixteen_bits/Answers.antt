@@ -1,4 +1,5 @@
-use Rattle.std.proofs.Common.{◌≢◌, ◌<◌, ◌∙◌, length, refl, arith, below_more, get_or-set_same, get_or-set_other, length-set}
+use Rattle.std.proofs.Common.{◌≢◌, ◌<◌, ◌∙◌, length, refl, arith, below_more}
+use Rattle.std.proofs.Common.{get_or-set_same, get_or-set_other, length-set}
 use Rattle.cm_model.specs.Chip.{processor_at}
 use Rattle.cm_model.specs.Array.{chip_at}
 use Rattle.cm_element.proofs.Fields.{sixteen_planes}
@@ -14,7 +15,8 @@ loop-i-preserved c =
     record {
       count = length-set c.loop-i.planes k c.memory_word.result ∙ now.count;
       each = below_more _ _ (λ j h. let ne : j ≢ k = omega arith in rw get_or-set_other (now.each j h))
-          (let lt : k < length c.loop-i.planes = omega (arith, now.count) in λ p h. rw get_or-set_same (c.memory_word.ensures.value p h));
+          (let lt : k < length c.loop-i.planes = omega (arith, now.count) in
+          λ p h. rw get_or-set_same (c.memory_word.ensures.value p h));
       whole = λ h. c.memory_word.ensures.whole;
     }
 

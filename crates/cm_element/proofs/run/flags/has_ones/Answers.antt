@@ -16,6 +16,7 @@ loop-plane-preserved c =
 pub returns : goal.returns
 returns c = record {
   value = c.loop-plane.invariant
-      ∙ ap (list_any (λ plane. not (plane == 0))) (take_all c.loop-plane.plane-index c.args.planes.now c.loop-plane-test.false);
+      ∙ ap (list_any (λ plane. not (plane == 0)))
+      (take_all c.loop-plane.plane-index c.args.planes.now c.loop-plane-test.false);
   words = λ k. (c.type_inv.planes k).fits;
 }

@@ -4,7 +4,8 @@ use Rattle.cm_element.proofs.run.lay.lay_rows.Given as goal
 -- the rows that were laid, and all else as it was
 abbrev pub invariant-loop-row : goal.invariant-loop-row
 invariant-loop-row l = record {
-  laid : (i c : ℕ) → i < l.row → c < l.count → get_or l.to (i * l.here.stride + (l.here.first + c)) 0 ≡ get_or l.from (i * l.there.stride + (l.there.first + c)) 0;
+  laid : (i c : ℕ) → i < l.row → c < l.count → get_or l.to (i * l.here.stride + (l.here.first + c)) 0
+      ≡ get_or l.from (i * l.there.stride + (l.there.first + c)) 0;
   others : (i k : ℕ) → k < l.here.stride → (l.row ≤ i) ⊎ ((k < l.here.first) ⊎ (l.here.first + l.count ≤ k))
       → get_or l.to (i * l.here.stride + k) 0 ≡ get_or l.initial.to (i * l.here.stride + k) 0;
 }

@@ -12,8 +12,10 @@ loop-c-preserved c =
 pub returns : goal.returns
 returns c = record {
   value = record {
-    each = λ chip h p below. let here : chip < c.args.chips = omega (arith, h, length-chips_of c.args.memory.now c.args.flags.now c.args.stride c.args.chips) in
-        chip_holds c.args.nano.now c.args.memory.now c.args.flags.now c.args.stride c.args.chips chip c.places-at.result (get_or c.loop-c.found chip 0) p
+    each = λ chip h p below. let here : chip < c.args.chips =
+        omega (arith, h, length-chips_of c.args.memory.now c.args.flags.now c.args.stride c.args.chips) in
+        chip_holds c.args.nano.now c.args.memory.now c.args.flags.now c.args.stride c.args.chips chip c.places-at.result
+        (get_or c.loop-c.found chip 0) p
         c.places-at.ensures.value here below (c.loop-c.invariant chip (omega arith) p below);
   };
 }

@@ -1,4 +1,5 @@
-use Rattle.std.proofs.Common.{◌≢◌, ℕ, ◌+◌, ◌<◌, cond, length, get_or, ap, ◌∙◌, arith, below_more, get_or-set_same, get_or-set_other}
+use Rattle.std.proofs.Common.{◌≢◌, ℕ, ◌+◌, ◌<◌, cond, length, get_or, ap, ◌∙◌, arith}
+use Rattle.std.proofs.Common.{below_more, get_or-set_same, get_or-set_other}
 use Rattle.cm_bits.specs.Bit.{bit}
 use Rattle.cm_element.proofs.run.outputs.store_row.Goals as goal
 
@@ -10,7 +11,8 @@ loop-c-preserved c =
     record {
       each = below_more _ _ (λ j h. let ne : at + j ≢ at + k = omega arith in rw get_or-set_other (now.each j h))
           (let lt : at + k < length c.loop-c.rows = omega arith in λ p. rw get_or-set_same
-          (c.chosen.ensures.value p ∙ ap (λ (w : ℕ). cond (bit (get_or c.args.holds.now k 0) p) (bit (get_or c.args.planes.now k 0) p) (bit w p)) (now.above (at + k) (omega arith))));
+          (c.chosen.ensures.value p ∙ ap (λ (w : ℕ). cond (bit (get_or c.args.holds.now k 0) p)
+          (bit (get_or c.args.planes.now k 0) p) (bit w p)) (now.above (at + k) (omega arith))));
       below = λ i h. let ne : i ≢ at + k = omega arith in rw get_or-set_other (now.below i h);
       above = λ i h. let ne : i ≢ at + k = omega arith in rw get_or-set_other (now.above i (omega arith));
     }

@@ -1,4 +1,5 @@
-use Rattle.std.proofs.Common.{◌≢◌, ◌+◌, ◌<◌, length, cond, get_or, ◌∙◌, arith, below_more, get_or-set_same, get_or-set_other}
+use Rattle.std.proofs.Common.{◌≢◌, ◌+◌, ◌<◌, length, cond, get_or, ◌∙◌, arith}
+use Rattle.std.proofs.Common.{below_more, get_or-set_same, get_or-set_other}
 use Rattle.cm_bits.specs.Bit.{bit}
 use Rattle.cm_element.proofs.run.rows.merge.Goals as goal
 
@@ -9,6 +10,7 @@ loop-c-preserved c =
     record {
       done = below_more _ _ (λ j h. let ne : j ≢ k = omega arith in rw get_or-set_other (now.done j h))
           (let lt : k < length c.loop-c.incoming = omega arith in λ p h. rw get_or-set_same
-          (c.chosen.ensures.value p ∙ (λ j. cond (c.holding-holds.ensures.value p h j) (bit (now.rest k (omega arith) j) p) (bit (get_or c.args.flags.now (c.args.at.write + k) 0) p))));
+          (c.chosen.ensures.value p ∙ (λ j. cond (c.holding-holds.ensures.value p h j)
+          (bit (now.rest k (omega arith) j) p) (bit (get_or c.args.flags.now (c.args.at.write + k) 0) p))));
       rest = λ j h. let ne : j ≢ k = omega arith in rw get_or-set_other (now.rest j (omega arith));
     }

@@ -8,6 +8,7 @@ use Rattle.cm_element.proofs.run.rows.merge.Given as goal
 abbrev pub invariant-loop-c : goal.invariant-loop-c
 invariant-loop-c l = record {
   done : (k : ℕ) → k < l.c → IsPlane (get_or l.incoming k 0)
-      (λ p. cond (beq (bit (get_or l.flags (l.at.cond + k) 0) p) l.sense) (bit (get_or l.initial.incoming k 0) p) (bit (get_or l.flags (l.at.write + k) 0) p));
+      (λ p. cond (beq (bit (get_or l.flags (l.at.cond + k) 0) p) l.sense) (bit (get_or l.initial.incoming k 0) p)
+      (bit (get_or l.flags (l.at.write + k) 0) p));
   rest : (k : ℕ) → l.c ≤ k → get_or l.incoming k 0 ≡ get_or l.initial.incoming k 0;
 }

@@ -9,19 +9,23 @@ use Rattle.cm_element.proofs.run.rows.step_rows.Goals as goal
 
 pub compute_memory-requires-clause-b_apart : goal.compute_memory-requires-clause-b_apart
 compute_memory-requires-clause-b_apart c =
-    apart_at c.args.nano.now.a c.args.nano.now.b c.args.stride c.args.chips c.places-at.result.a c.places-at.result.b c.places-at.ensures.value.a c.places-at.ensures.value.b c.requires.rows.within
+    apart_at c.args.nano.now.a c.args.nano.now.b c.args.stride c.args.chips c.places-at.result.a c.places-at.result.b
+    c.places-at.ensures.value.a c.places-at.ensures.value.b c.requires.rows.within
 
 pub compute-requires-clause-b_apart : goal.compute-requires-clause-b_apart
 compute-requires-clause-b_apart c =
-    apart_at c.args.nano.now.a c.args.nano.now.b c.args.stride c.args.chips c.places-at.result.a c.places-at.result.b c.places-at.ensures.value.a c.places-at.ensures.value.b c.requires.rows.within
+    apart_at c.args.nano.now.a c.args.nano.now.b c.args.stride c.args.chips c.places-at.result.a c.places-at.result.b
+    c.places-at.ensures.value.a c.places-at.ensures.value.b c.requires.rows.within
 
 pub compute-requires-clause-read_apart : goal.compute-requires-clause-read_apart
 compute-requires-clause-read_apart c =
-    apart_at c.args.nano.now.write c.args.nano.now.read c.args.stride c.args.chips c.places-at.result.write c.places-at.result.read c.places-at.ensures.value.write c.places-at.ensures.value.read c.requires.rows.within
+    apart_at c.args.nano.now.write c.args.nano.now.read c.args.stride c.args.chips c.places-at.result.write
+    c.places-at.result.read c.places-at.ensures.value.write c.places-at.ensures.value.read c.requires.rows.within
 
 pub compute-requires-clause-cond_apart : goal.compute-requires-clause-cond_apart
 compute-requires-clause-cond_apart c =
-    apart_at c.args.nano.now.write c.args.nano.now.cond c.args.stride c.args.chips c.places-at.result.write c.places-at.result.cond c.places-at.ensures.value.write c.places-at.ensures.value.cond c.requires.rows.within
+    apart_at c.args.nano.now.write c.args.nano.now.cond c.args.stride c.args.chips c.places-at.result.write
+    c.places-at.result.cond c.places-at.ensures.value.write c.places-at.ensures.value.cond c.requires.rows.within
 
 pub returns-then-eq-clause-value : goal.returns-then-eq-clause-value
 returns-then-eq-clause-value c =
@@ -30,7 +34,8 @@ returns-then-eq-clause-value c =
     let flags = c.args.flags.now in
     let zero_flag : (nano.write == 8) ≡ true = sym c.eq.ensures ∙ c.if-eq.true in
     rows_stepped_along nano memory flags c.compute_memory.new.memory flags c.args.stride c.args.chips
-    (λ chip h. chip_stepped_alone nano c.is_always-always.result memory flags c.compute_memory.new.memory c.args.stride c.args.chips chip c.places-at.result
+    (λ chip h. chip_stepped_alone nano c.is_always-always.result memory flags c.compute_memory.new.memory c.args.stride
+    c.args.chips chip c.places-at.result
     (along_chain nano (chip_in memory flags c.args.stride chip))
     (record {
       rows = c.requires.rows;
@@ -49,8 +54,11 @@ returns-else-eq-clause-rows c =
       flag_words = omega (arith, c.compute.auto.flags, c.requires.rows.flag_words);
       within = c.requires.rows.within;
       few = c.requires.rows.few;
-      zero = zero_kept nano c.args.stride c.args.chips c.args.memory.now c.args.flags.now c.compute.new.flags c.requires.rows other
-          (row_changed nano.flag_table c.eq-else-eq.result c.is_always-always.result nano.sense c.places-at.result c.places-at.result.write nano.write c.args.stride c.args.chips c.args.memory.now c.args.flags.now c.args.flags.now c.compute.new.flags
+      zero = zero_kept nano c.args.stride c.args.chips c.args.memory.now c.args.flags.now
+          c.compute.new.flags c.requires.rows other
+          (row_changed nano.flag_table c.eq-else-eq.result c.is_always-always.result nano.sense c.places-at.result
+          c.places-at.result.write nano.write c.args.stride c.args.chips c.args.memory.now c.args.flags.now
+          c.args.flags.now c.compute.new.flags
           c.places-at.ensures.value.write c.compute.ensures.flags);
     }
 
@@ -60,8 +68,10 @@ returns-else-eq-clause-value c =
     let other : (nano.write == 8) ≡ false = sym c.eq.ensures ∙ c.if-eq.false in
     let apart : (nano.write == 10) ≡ false = ne_eqb nano.write 10 c.requires.apart in
     let taken : takes_incoming nano ≡ c.eq-else-eq.result = rw apart (sym c.eq-else-eq.ensures) in
-    rows_stepped_along nano c.args.memory.now c.args.flags.now c.compute.new.memory c.compute.new.flags c.args.stride c.args.chips
-    (λ chip h. chip_stepped nano c.is_always-always.result c.eq-else-eq.result c.args.memory.now c.args.flags.now c.compute.new.memory c.compute.new.flags c.args.stride c.args.chips chip c.places-at.result
+    rows_stepped_along nano c.args.memory.now c.args.flags.now c.compute.new.memory c.compute.new.flags
+    c.args.stride c.args.chips
+    (λ chip h. chip_stepped nano c.is_always-always.result c.eq-else-eq.result c.args.memory.now c.args.flags.now
+    c.compute.new.memory c.compute.new.flags c.args.stride c.args.chips chip c.places-at.result
     (record {
       rows = c.requires.rows;
       places = c.places-at.ensures.value;

@@ -6,20 +6,24 @@ use Rattle.cm_element.proofs.run.rows.take_rows.Goals as goal
 
 pub compute_memory-requires-clause-b_apart : goal.compute_memory-requires-clause-b_apart
 compute_memory-requires-clause-b_apart c =
-    apart_at c.args.nano.now.a c.args.nano.now.b c.args.stride c.args.chips c.places-at.result.a c.places-at.result.b c.places-at.ensures.value.a c.places-at.ensures.value.b c.requires.rows.within
+    apart_at c.args.nano.now.a c.args.nano.now.b c.args.stride c.args.chips c.places-at.result.a c.places-at.result.b
+    c.places-at.ensures.value.a c.places-at.ensures.value.b c.requires.rows.within
 
 pub returns-clause-rows : goal.returns-clause-rows
 returns-clause-rows c =
-    let changed : IsRowChanged c.args.nano.now.write c.args.stride c.args.chips c.args.flags.now c.put_row.new.rows = record {
+    let changed : IsRowChanged c.args.nano.now.write c.args.stride c.args.chips c.args.flags.now
+    c.put_row.new.rows = record {
       below = λ i h. c.put_row.ensures.below i (omega (arith, h, c.places-at.ensures.value.write));
-      above = λ i h. c.put_row.ensures.above i (omega (arith, h, c.places-at.ensures.value.write, c.merge.auto.incoming, c.requires.incoming));
+      above = λ i h. c.put_row.ensures.above i
+          (omega (arith, h, c.places-at.ensures.value.write, c.merge.auto.incoming, c.requires.incoming));
     } in
     record {
       memory_words = omega (arith, c.compute_memory.auto.memory, c.requires.rows.memory_words);
       flag_words = omega (arith, c.put_row.auto.rows, c.requires.rows.flag_words);
       within = c.requires.rows.within;
       few = c.requires.rows.few;
-      zero = zero_kept c.args.nano.now c.args.stride c.args.chips c.args.memory.now c.args.flags.now c.put_row.new.rows c.requires.rows (taker_is_not_zero c.args.nano.now c.requires.taken) changed;
+      zero = zero_kept c.args.nano.now c.args.stride c.args.chips c.args.memory.now c.args.flags.now c.put_row.new.rows
+          c.requires.rows (taker_is_not_zero c.args.nano.now c.requires.taken) changed;
     }
 
 pub returns-clause-value : goal.returns-clause-value
@@ -29,11 +33,15 @@ returns-clause-value c =
     let places = c.places-at.ensures.value in
     let changed : IsRowChanged nano.write c.args.stride c.args.chips c.args.flags.now c.put_row.new.rows = record {
       below = λ i h. c.put_row.ensures.below i (omega (arith, h, places.write));
-      above = λ i h. c.put_row.ensures.above i (omega (arith, h, places.write, c.merge.auto.incoming, c.requires.incoming));
+      above = λ i h. c.put_row.ensures.above i
+          (omega (arith, h, places.write, c.merge.auto.incoming, c.requires.incoming));
     } in
-    rows_stepped nano c.args.memory.now c.args.flags.now c.compute_memory.new.memory c.put_row.new.rows c.args.stride c.args.chips (λ i. bit (get_or c.args.incoming.now i 0))
-    (λ chip h. let here : chip < length c.merge.new.incoming = omega (arith, h, c.merge.auto.incoming, c.requires.incoming) in
-    chip_taken nano c.is_always.result c.args.memory.now c.args.flags.now c.compute_memory.new.memory c.put_row.new.rows c.merge.new.incoming c.args.stride c.args.chips chip at c.args.incoming.now
+    rows_stepped nano c.args.memory.now c.args.flags.now c.compute_memory.new.memory c.put_row.new.rows c.args.stride
+    c.args.chips (λ i. bit (get_or c.args.incoming.now i 0))
+    (λ chip h. let here : chip < length c.merge.new.incoming =
+    omega (arith, h, c.merge.auto.incoming, c.requires.incoming) in
+    chip_taken nano c.is_always.result c.args.memory.now c.args.flags.now c.compute_memory.new.memory c.put_row.new.rows
+    c.merge.new.incoming c.args.stride c.args.chips chip at c.args.incoming.now
     (record {
       rows = c.requires.rows;
       places = places;

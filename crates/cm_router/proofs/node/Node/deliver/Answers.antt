@@ -8,7 +8,8 @@ use Rattle.cm_router.proofs.node.Node.deliver.Goals as goal
 pub loop-place-init : goal.loop-place-init
 loop-place-init c = record {
   scan = rw (ap (λ node. node.messages) c.self.view_is)
-      (scan_begins (get_or c.args.run.now c.args.chip []) c.args.self.now.messages c.args.log.now.items c.args.here c.begin.ensures.gone);
+      (scan_begins (get_or c.args.run.now c.args.chip [])
+      c.args.self.now.messages c.args.log.now.items c.args.here c.begin.ensures.gone);
   others = sym (set-get_or c.args.run.now c.args.chip []);
   log_room = let room_is : c.self.inside.room ≡ c.args.self.now.room = ap (λ node. node.room) c.self.view_is in
       omega (arith, c.requires.room, c.self.invariant.within);
@@ -35,7 +36,8 @@ loop-place-preserved-then-hand_over c =
     record {
       scan = rw (c.remove.ensures.items, told)
           (scan_accepts (get_or c.args.run.now c.args.chip []) c.args.self.now.messages c.args.log.now.items c.args.here
-          (get_or here.run c.args.chip []) (get_or c.hand_over.new.run c.args.chip []) now here.place here.log.items m here.invariant.scan inside next step);
+          (get_or here.run c.args.chip []) (get_or c.hand_over.new.run c.args.chip [])
+          now here.place here.log.items m here.invariant.scan inside next step);
       others = others_still c.args.run.now here.run c.hand_over.new.run c.args.chip here.invariant.others
           c.hand_over.ensures.others;
       log_room = omega (
@@ -69,7 +71,8 @@ loop-place-preserved c =
     record {
       scan = rw told
           (scan_keeps (get_or c.args.run.now c.args.chip []) c.args.self.now.messages c.args.log.now.items c.args.here
-          (get_or here.run c.args.chip []) (get_or c.hand_over.new.run c.args.chip []) now here.place here.log.items m here.invariant.scan inside next step);
+          (get_or here.run c.args.chip []) (get_or c.hand_over.new.run c.args.chip [])
+          now here.place here.log.items m here.invariant.scan inside next step);
       others = others_still c.args.run.now here.run c.hand_over.new.run c.args.chip here.invariant.others
           c.hand_over.ensures.others;
       log_room = omega (arith, here.invariant.log_room, len, c.hand_over.ensures.capacity);

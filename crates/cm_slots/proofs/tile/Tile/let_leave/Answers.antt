@@ -17,7 +17,8 @@ returns c = record {
         rest = c.leave.new.rest;
         awake = c.args.self.now.awake;
       })
-      c.flipped.result c.reach-reach.ensures.some (omega (arith, c.reach-reach.ensures.most, c.requires.most)) c.requires.whole
+      c.flipped.result c.reach-reach.ensures.some
+      (omega (arith, c.reach-reach.ensures.most, c.requires.most)) c.requires.whole
       (within_reach c.args.room c.reach-reach.result c.args.self.now c.requires.within c.reach-reach.ensures.few)
       (record {
         long = c.leave.ensures.long;

@@ -6,10 +6,12 @@ use Rattle.cm_slots.proofs.tile.Tile.take_in.Goals as goal
 
 pub returns-then-not-is_blank : goal.returns-then-not-is_blank
 returns-then-not-is_blank c = record {
-  value = taken_in_further c.args.room c.reach_behind-reach.result (λ i. slice_index c.args.coming.now i) c.args.self.now
+  value = taken_in_further c.args.room c.reach_behind-reach.result
+      (λ i. slice_index c.args.coming.now i) c.args.self.now
       (record { first = c.take_in.new.first; rest = c.take_in.new.rest; awake = true }) c.reach_behind-reach.ensures.few
       (taken_in c.reach_behind-reach.result c.args.coming.now c.args.self.now
-      (record { first = c.take_in.new.first; rest = c.take_in.new.rest; awake = true }) c.reach_behind-reach.ensures.some
+      (record { first = c.take_in.new.first; rest = c.take_in.new.rest; awake = true })
+      c.reach_behind-reach.ensures.some
       (omega (arith, c.reach_behind-reach.ensures.most, c.requires.most))
       (record {
         long = c.take_in.ensures.long;

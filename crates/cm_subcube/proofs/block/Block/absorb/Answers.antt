@@ -20,7 +20,8 @@ receive_edge-requires c =
     record {
       lanes = ap length c.deref_mut-in-Edge.ensures.value
           ∙ edge_as_wide n k one c.in-Edge.edge.items
-          (subst (λ (p : Parcel). IsOfKind n k one p) (sym (ap parcel_of (sym c.in-Edge.is) ∙ c.parcel.view_is)) c.requires.lanes);
+          (subst (λ (p : Parcel). IsOfKind n k one p)
+          (sym (ap parcel_of (sym c.in-Edge.is) ∙ c.parcel.view_is)) c.requires.lanes);
     }
 
 pub returns-clause-blank : goal.returns-clause-blank
@@ -44,5 +45,6 @@ returns-clause-blank c =
           let same = w.receive_edge.auto.edge ∙ ap length w.deref_mut-in-Edge.ensures.value in
           let lent = with_items_is before now (same ∙ sym before.ok.0) in
           rw w.parcel-inside-is (subst (λ (row : List ℕ). Edge (bits_of row) ≡ blank_parcel n k one) (sym lent)
-          (blank_edge n k one before.items now (of_kind (load.Edge before) w.in-Edge.is) same w.receive_edge.ensures.blank))
+          (blank_edge n k one before.items now (of_kind (load.Edge before) w.in-Edge.is)
+          same w.receive_edge.ensures.blank))
     ]

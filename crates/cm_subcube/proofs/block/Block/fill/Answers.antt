@@ -44,7 +44,8 @@ returns-clause-rest c =
       | in-Edge+in-Nano w ↦
           let blank = ap parcel_of (sym w.in-Edge.is) ∙ c.parcel.view_is ∙ c.requires.blank in
           subst rest (sym (w.self-is ∙ w.send_edge.ensures.others)) (λ t. record old {
-            part = sym (less-edge old.dims now.k old.room round.kind round.act w.in-Nano.nano (bits_of w.in-Edge.edge.items) old.part
+            part = sym (less-edge old.dims now.k old.room round.kind round.act w.in-Nano.nano
+                (bits_of w.in-Edge.edge.items) old.part
                 blank w.in-Nano.is) t;
           })
     ]

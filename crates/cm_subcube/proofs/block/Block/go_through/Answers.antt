@@ -8,13 +8,15 @@ use Rattle.cm_subcube.proofs.block.Block.go_through.Goals as goal
 
 pub returns-then-is_exchange-clause-gone : goal.returns-then-is_exchange-clause-gone
 returns-then-is_exchange-clause-gone c =
-    let round = is_round-asked c.self.inside.k c.self.inside.part c.args.self.now c.in-Nano.nano c.is_exchange.result true
+    let round = is_round-asked c.self.inside.k c.self.inside.part c.args.self.now c.in-Nano.nano
+    c.is_exchange.result true
     c.self.view_is c.is_exchange.ensures.value c.if-is_exchange.true in
     (exchange_stops c.args.self.now c.args.act.now c.in-Nano.nano c.in-Nano.is round).0
 
 pub returns-then-is_exchange-clause-through : goal.returns-then-is_exchange-clause-through
 returns-then-is_exchange-clause-through c =
-    let round = is_round-asked c.self.inside.k c.self.inside.part c.args.self.now c.in-Nano.nano c.is_exchange.result true
+    let round = is_round-asked c.self.inside.k c.self.inside.part c.args.self.now c.in-Nano.nano
+    c.is_exchange.result true
     c.self.view_is c.is_exchange.ensures.value c.if-is_exchange.true in
     (exchange_stops c.args.self.now c.args.act.now c.in-Nano.nano c.in-Nano.is round).1
 
@@ -26,14 +28,16 @@ instruct-requires c = record {
 
 pub returns-else-is_exchange-clause-gone : goal.returns-else-is_exchange-clause-gone
 returns-else-is_exchange-clause-gone c =
-    let local = is_round-asked c.self.inside.k c.self.inside.part c.args.self.now c.in-Nano.nano c.is_exchange.result false
+    let local = is_round-asked c.self.inside.k c.self.inside.part c.args.self.now c.in-Nano.nano
+    c.is_exchange.result false
     c.self.view_is c.is_exchange.ensures.value c.if-is_exchange.false in
     (instruction_goes_through c.args.self.now c.instruct.new.self c.args.act.now c.in-Nano.nano c.in-Nano.is local
     c.instruct.ensures.gone).0
 
 pub returns-else-is_exchange-clause-through : goal.returns-else-is_exchange-clause-through
 returns-else-is_exchange-clause-through c =
-    let local = is_round-asked c.self.inside.k c.self.inside.part c.args.self.now c.in-Nano.nano c.is_exchange.result false
+    let local = is_round-asked c.self.inside.k c.self.inside.part c.args.self.now c.in-Nano.nano
+    c.is_exchange.result false
     c.self.view_is c.is_exchange.ensures.value c.if-is_exchange.false in
     (instruction_goes_through c.args.self.now c.instruct.new.self c.args.act.now c.in-Nano.nano c.in-Nano.is local
     c.instruct.ensures.gone).1

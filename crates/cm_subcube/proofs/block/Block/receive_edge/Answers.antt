@@ -14,7 +14,8 @@ instruct-requires-clause-band c = IsBand-block c.self.inside.k c.self.inside.par
 pub invariant_of-self : goal.invariant_of-self
 invariant_of-self c =
     subst (λ (kept : KeptPart). IsBlock c.self.inside.k kept) (sym c.instruct.ensures.value)
-    (IsBlock-instructed c.self.inside.k c.args.nano.now (Edge (bits_of c.args.edge.now)) c.self.inside.part c.self.invariant)
+    (IsBlock-instructed c.self.inside.k c.args.nano.now (Edge (bits_of c.args.edge.now))
+    c.self.inside.part c.self.invariant)
 
 pub returns-clause-kept : goal.returns-clause-kept
 returns-clause-kept c =

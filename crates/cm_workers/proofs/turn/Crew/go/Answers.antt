@@ -10,15 +10,20 @@ pub have_turn-requires : goal.have_turn-requires
 have_turn-requires g c =
     record {
       ready =
-          ready_as_numbered c.args.acts.now (option_copied c.before-2.result) (round_before c.args.rounds.now c.args.number) (option_copied c.next.result)
-          (slice_get c.args.rounds.now c.args.number) c.args.self.blocks.items c.deref_mut.result.now c.args.self.posts.items c.deref_mut-2.result.now
-          c.before-2.ensures.value c.next.ensures.value c.deref_mut.ensures.value c.deref_mut-2.ensures.value c.requires.ready;
+          ready_as_numbered c.args.acts.now (option_copied c.before-2.result)
+          (round_before c.args.rounds.now c.args.number) (option_copied c.next.result)
+          (slice_get c.args.rounds.now c.args.number)
+          c.args.self.blocks.items c.deref_mut.result.now c.args.self.posts.items c.deref_mut-2.result.now
+          c.before-2.ensures.value c.next.ensures.value c.deref_mut.ensures.value
+          c.deref_mut-2.ensures.value c.requires.ready;
     }
 
 pub returns : goal.returns
 returns g c = record {
-  value = as_numbered c.args.acts.now (option_copied c.before-2.result) (round_before c.args.rounds.now c.args.number) (option_copied c.next.result)
-      (slice_get c.args.rounds.now c.args.number) c.args.self.blocks.items c.deref_mut.result.now c.have_turn.new.blocks _
+  value = as_numbered c.args.acts.now (option_copied c.before-2.result) (round_before c.args.rounds.now c.args.number)
+      (option_copied c.next.result)
+      (slice_get c.args.rounds.now c.args.number)
+      c.args.self.blocks.items c.deref_mut.result.now c.have_turn.new.blocks _
       c.args.self.posts.items c.deref_mut-2.result.now c.have_turn.new.posts _
       c.before-2.ensures.value c.next.ensures.value c.deref_mut.ensures.value c.deref_mut-2.ensures.value
       (written_back c.args.self.blocks.len c.have_turn.new.blocks c.args.self.blocks.items
