@@ -100,4 +100,5 @@ pub record AreDeliveries (receives : ℕ → Bool) (ms : List Message) : Type 0 
 -- a message that is kept, where these are delivered: it has not arrived, or its processor cannot receive,
 -- or one of these is for that processor
 abbrev pub IsHeldBack : (ℕ → Bool) → List Message → Message → Type 0
-IsHeldBack receives delivered m = has_arrived m ≡ true → receives m.proc ≡ true → list_any (is_for m.proc) delivered ≡ true
+IsHeldBack receives delivered m =
+    has_arrived m ≡ true → receives m.proc ≡ true → list_any (is_for m.proc) delivered ≡ true

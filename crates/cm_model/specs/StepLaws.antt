@@ -46,8 +46,8 @@ TargetsAreKept = (cap d cycle : ℕ) (set : List Standing) → map target (after
 abbrev pub DeliveriesAreApart : Type 0
 DeliveriesAreApart = (receives : ℕ → Bool) (here : List Message) → AreDeliveries receives (delivered receives [] here)
 
--- and passes nobody over: a message is kept only where it has not arrived, or its processor cannot receive, or another is
--- delivered to that one
+-- and passes nobody over: a message is kept only where it has not arrived, or its processor cannot receive, or
+-- another is delivered to that one
 abbrev pub NobodyIsPassedOver : Type 0
 NobodyIsPassedOver = (receives : ℕ → Bool) (here : List Message)
     → All (IsHeldBack receives (delivered receives [] here)) (kept receives [] here)

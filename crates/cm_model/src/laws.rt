@@ -4,7 +4,8 @@ ghost use Rattle.cm_model.specs.Laws.{NeighboursLeadBack, MessagesAreFound, Inje
 ghost use Rattle.cm_model.specs.Laws.{StepsAreToldByBuffers, RunsKeepRoom, RunsCanBeCut, RunsAreToldByBuffers};
 ghost use Rattle.cm_model.specs.Laws.{LogsOnlyGrow, AccountIsConserved, TagsStayApart};
 ghost use Rattle.cm_model.specs.Laws.{MachinesAreKept, RunsKeepMachines};
-ghost use Rattle.cm_model.specs.StepLaws.{SendersAreAcknowledged, DeliveriesAreApart, NobodyIsPassedOver, PayloadsAreReceived};
+ghost use Rattle.cm_model.specs.StepLaws.{SendersAreAcknowledged, DeliveriesAreApart, NobodyIsPassedOver};
+ghost use Rattle.cm_model.specs.StepLaws.{PayloadsAreReceived};
 ghost use Rattle.cm_model.specs.StepLaws.{LeaversHaveTheirSince, LeaversAreUnique, LeaversStandAtTheirPlace};
 ghost use Rattle.cm_model.specs.StepLaws.{TargetsAreKept, RoomIsKept, InstructionsKeepTheAccount};
 
