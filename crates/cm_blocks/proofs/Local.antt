@@ -5,8 +5,10 @@ use Rattle.cm_model.specs.Array.{chip_at, list_at}
 use Rattle.cm_model.specs.Letters.{senders_taken, messages_sent, chip_after_injection, can_receive, chip_after_delivery}
 use Rattle.cm_model.specs.Machine.{Machine}
 use Rattle.cm_model.specs.Steps.{Inject, Deliver}
-use Rattle.cm_model.specs.Buffers.{taken_in, sent_in, machine_after_injection, delivered}
-use Rattle.cm_model.specs.Buffers.{kept, delivered_in, machine_after_delivery}
+use Rattle.cm_model.specs.Buffers.{taken_in, sent_in, machine_after_injection}
+use Rattle.cm_model.specs.OneChip.{delivered}
+use Rattle.cm_model.specs.Buffers.{delivered_in, machine_after_delivery}
+use Rattle.cm_model.specs.OneChip.{kept}
 use Rattle.cm_blocks.specs.Parts.{Part, part, chip_in, buffer_in, log_in}
 use Rattle.cm_blocks.specs.Parcels.{Parcel}
 use Rattle.cm_blocks.specs.Steps.{taken_of, sent_of, delivered_of, part_after}

@@ -11,8 +11,9 @@ use Rattle.cm_model.specs.Place.{column_of, source, predecessor}
 use Rattle.cm_model.specs.Processor.{NEWS}
 use Rattle.cm_model.specs.Chip.{chip_after}
 use Rattle.cm_model.specs.Array.{output, chain_output}
-use Rattle.cm_model.specs.Letters.{senders_taken, messages_sent, chip_after_injection, can_receive, chip_after_delivery}
-use Rattle.cm_model.specs.Buffers.{leaving_place, without, outgoing, buffer_after_dimension, delivered, kept}
+use Rattle.cm_model.specs.Letters.{chip_after_injection, chip_after_delivery}
+use Rattle.cm_model.specs.Buffers.{leaving_place, without, outgoing, buffer_after_dimension}
+use Rattle.cm_model.specs.OneChip.{taken_here, sent_here, delivered_here, kept_here}
 use Rattle.cm_model.specs.Steps.{Step, Instruct, Look, Inject, Cross, Deliver}
 use Rattle.cm_blocks.specs.Parts.{Part, is_within, chip_in, buffer_in, log_in}
 use Rattle.cm_blocks.specs.Parcels.{Parcel, Blank, mail_in, bit_in}
@@ -37,14 +38,14 @@ mail_for cap d parcel s c =
 
 -- the processors whose messages are taken at a chip, and the messages
 abbrev pub taken_of : ℕ → Part → ℕ → List ℕ
-taken_of cap s c = senders_taken cap (length (buffer_in s c)) (chip_in s c)
+taken_of cap s c = taken_here cap (buffer_in s c) (chip_in s c)
 
 abbrev pub sent_of : ℕ → ℕ → Part → ℕ → List Message
-sent_of n cap s c = messages_sent n s.clock c (chip_in s c) (taken_of cap s c)
+sent_of n cap s c = sent_here n cap s.clock c (buffer_in s c) (chip_in s c)
 
 -- what is delivered at a chip
 abbrev pub delivered_of : Part → ℕ → List Message
-delivered_of s c = delivered (can_receive (chip_in s c)) [] (buffer_in s c)
+delivered_of s c = delivered_here (buffer_in s c) (chip_in s c)
 
 -- the part after a step; only a step that is a round reads the parcel
 unfoldable pub part_after : ℕ → ℕ → Step → Parcel → Part → Part
@@ -61,7 +62,7 @@ part_after n cap (Cross d) parcel s = record s {
 }
 part_after n cap Deliver parcel s = record s {
   chips = each_from s.first s.count (λ c. chip_after_delivery (delivered_of s c) (chip_in s c));
-  buffers = each_from s.first s.count (λ c. kept (can_receive (chip_in s c)) [] (buffer_in s c));
+  buffers = each_from s.first s.count (λ c. kept_here (buffer_in s c) (chip_in s c));
   logs = each_from s.first s.count (λ c. log_in s c ++ map (λ m. Delivered m c) (delivered_of s c));
   clock = s.clock + 1;
 }

@@ -5,8 +5,6 @@ use Rattle.std.specs.List.{All, slice_range}
 use Rattle.std.specs.declared.alloc.Global.{Global}
 use Rattle.cm_model.specs.declared.message.Message.{Message}
 use Rattle.cm_model.specs.Processor.{Processor}
-use Rattle.cm_model.specs.Letters.{senders_taken, messages_sent, can_receive}
-use Rattle.cm_model.specs.Buffers.{delivered, kept}
 use Rattle.cm_model.specs.Array.{list_at}
 use Rattle.cm_slots.specs.declared.ticket.Ticket.{Ticket}
 
@@ -17,23 +15,6 @@ pub record UnderWay : Type 0 where
   pub buffers : List (List Message)
   pub free : ℕ
   pub gathered : Bool
-
--- ---- one chip
-
--- the processors whose messages are taken in where these stand, at a chip with room for cap
-abbrev pub taken_with : ℕ → List Message → List Processor → List ℕ
-taken_with cap ms chip = senders_taken cap (length ms) chip
-
--- their messages, in a cube of n dimensions, from chip c, at this count of petit cycles
-abbrev pub sent_with : ℕ → ℕ → ℕ → ℕ → List Message → List Processor → List Message
-sent_with n cap clock c ms chip = messages_sent n clock c chip (taken_with cap ms chip)
-
--- what is delivered of these messages to a chip, and what stays
-abbrev pub delivered_of : List Message → List Processor → List Message
-delivered_of ms chip = delivered (can_receive chip) [] ms
-
-abbrev pub kept_of : List Message → List Processor → List Message
-kept_of ms chip = kept (can_receive chip) [] ms
 
 -- ---- tickets
 

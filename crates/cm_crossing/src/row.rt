@@ -8,7 +8,8 @@ ghost use Rattle.cm_model.specs.declared.message.Event.TheVariants as event;
 ghost use Rattle.cm_model.specs.Letters.{chip_after_delivery};
 ghost use Rattle.cm_model.specs.Array.{chip_at, list_at};
 ghost use Rattle.cm_crossing.specs.Standing.{message_of, standing, all_standing, AreKept, AreTogether};
-ghost use Rattle.cm_crossing.specs.Standing.{delivered_of, kept_of, IsKept, IsWritten};
+ghost use Rattle.cm_model.specs.OneChip.{delivered_here, kept_here};
+ghost use Rattle.cm_crossing.specs.Standing.{IsKept, IsWritten};
 
 use cm_element::Run;
 use cm_message::{Event, Message};
@@ -144,14 +145,14 @@ pub(crate) fn give_out(
     requires chip { chip < length run.old }
     requires room { vec_len log.old + length (list_at slots.old chip) ≤ vec_capacity log.old }
     ensures value { standing row.now (list_at slots.new chip)
-        ≡ kept_of (standing row.now (list_at slots.old chip)) (chip_at run.old chip) }
+        ≡ kept_here (standing row.now (list_at slots.old chip)) (chip_at run.old chip) }
     ensures kept { AreKept (length row.now) (list_at slots.new chip) }
     ensures fewer { length (list_at slots.new chip) ≤ length (list_at slots.old chip) }
     ensures others { IsWritten chip slots.old slots.new }
     ensures chip { run.new ≡ slice_set run.old chip (chip_after_delivery
-        (delivered_of (standing row.now (list_at slots.old chip)) (chip_at run.old chip)) (chip_at run.old chip)) }
+        (delivered_here (standing row.now (list_at slots.old chip)) (chip_at run.old chip)) (chip_at run.old chip)) }
     ensures log { log.new.items ≡ log.old.items ++ map (λ m. event.Delivered m here)
-        (delivered_of (standing row.now (list_at slots.old chip)) (chip_at run.old chip)) }
+        (delivered_here (standing row.now (list_at slots.old chip)) (chip_at run.old chip)) }
     ensures told { vec_len log.new ≤ vec_len log.old + length (list_at slots.old chip) }
     ensures log_room { vec_capacity log.old ≤ vec_capacity log.new }
 {

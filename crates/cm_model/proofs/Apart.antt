@@ -14,7 +14,7 @@ use Rattle.cm_model.specs.Chip.{processor_at, no_processor}
 use Rattle.cm_model.specs.Whole.{IsProcessor, IsChip}
 use Rattle.cm_model.specs.Letters.{is_among, is_for, has_arrived, processor_after_injection}
 use Rattle.cm_model.specs.Letters.{chip_after_injection, IsAcknowledged, AreDeliveries}
-use Rattle.cm_model.specs.Buffers.{is_accepted, arrived_for, delivered}
+use Rattle.cm_model.specs.OneChip.{is_accepted, arrived_for, delivered}
 use Rattle.cm_model.proofs.Each.{get_or-each_below}
 
 -- ---- injection

@@ -13,7 +13,8 @@ use Rattle.cm_model.specs.Chip.{processor_at}
 use Rattle.cm_model.specs.Array.{chip_at, list_at}
 use Rattle.cm_model.specs.Letters.{is_for, can_receive, has_arrived, chip_after_delivery, AreDeliveries, HasReceived}
 use Rattle.cm_model.specs.Machine.{Machine}
-use Rattle.cm_model.specs.Buffers.{is_accepted, arrived_for, delivered, delivered_in, machine_after_delivery}
+use Rattle.cm_model.specs.Buffers.{delivered_in, machine_after_delivery}
+use Rattle.cm_model.specs.OneChip.{is_accepted, arrived_for, delivered}
 use Rattle.cm_model.specs.Keeping.{IsMessage, IsSound}
 use Rattle.cm_model.specs.RunLaws.{IsReceived}
 use Rattle.cm_model.proofs.Each.{get_or-each_below}

@@ -9,7 +9,7 @@ use Rattle.cm_model.specs.Router.{Since, Standing, is_at, is_before, standing_at
 use Rattle.cm_model.specs.Order.{put, in_order, queue, messages_of, buffer}
 use Rattle.cm_model.specs.Letters.{can_receive, has_arrived, is_for, is_among}
 use Rattle.cm_model.specs.Cycle.{is_delivered, delivered_at}
-use Rattle.cm_model.specs.Buffers.{is_accepted, arrived_for, delivered, kept}
+use Rattle.cm_model.specs.OneChip.{is_accepted, arrived_for, delivered, kept}
 use Rattle.cm_model.proofs.Order.{AllBefore, AllAfter, IsRising, before_itself, not_both_before, filter-in_order}
 use Rattle.cm_model.proofs.Crossing.{AllBefore-filter}
 use Rattle.cm_model.proofs.Leaving.{filter-queue, filter-queue_same}

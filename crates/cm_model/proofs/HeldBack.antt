@@ -6,7 +6,7 @@ use Rattle.std.proofs.lemmas.List.Elements.{All-nil, All-cons, All-weaker}
 use Rattle.std.specs.List.{All, list_any}
 use Rattle.cm_model.specs.declared.message.Message.{Message}
 use Rattle.cm_model.specs.Letters.{is_among, is_for, has_arrived, IsHeldBack}
-use Rattle.cm_model.specs.Buffers.{is_accepted, arrived_for, delivered, kept}
+use Rattle.cm_model.specs.OneChip.{is_accepted, arrived_for, delivered, kept}
 
 -- one for its processor has arrived before, or is delivered
 abbrev IsBehind : (ℕ → Bool) → List ℕ → List Message → Message → Type 0

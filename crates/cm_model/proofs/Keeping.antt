@@ -16,7 +16,8 @@ use Rattle.cm_model.specs.Letters.{chip_after_injection, chip_after_delivery, ca
 use Rattle.cm_model.specs.Steps.{Step, Instruct, Look, Inject, Cross, Deliver, IsStep, steps_of}
 use Rattle.cm_model.specs.Machine.{Machine, run_of}
 use Rattle.cm_model.specs.Buffers.{taken_in, sent_in, machine_after_injection, outgoing, buffer_after_dimension}
-use Rattle.cm_model.specs.Buffers.{machine_after_dimension, kept, delivered_in, machine_after_delivery, after_step}
+use Rattle.cm_model.specs.Buffers.{machine_after_dimension, delivered_in, machine_after_delivery, after_step}
+use Rattle.cm_model.specs.OneChip.{kept}
 use Rattle.cm_model.specs.Buffers.{after_steps, after_act, after_acts}
 use Rattle.cm_model.specs.Account.{account, all_injected, HasLines}
 use Rattle.cm_model.specs.Keeping.{IsMessage, IsEventOf, BornBefore, HasTagsOnce, IsSound, IsMachine}

@@ -17,8 +17,9 @@ use Rattle.cm_model.specs.Processor.{Processor, value, field_value}
 use Rattle.cm_model.specs.Chip.{processor_at}
 use Rattle.cm_model.specs.Router.{message_across}
 use Rattle.cm_model.specs.Letters.{message_sent, messages_sent, has_arrived, is_among}
-use Rattle.cm_model.specs.Buffers.{leaving_place, element_at, without, outgoing, buffer_after_dimension, is_accepted}
-use Rattle.cm_model.specs.Buffers.{arrived_for, delivered, kept}
+use Rattle.cm_model.specs.Buffers.{leaving_place, element_at, without, outgoing, buffer_after_dimension}
+use Rattle.cm_model.specs.OneChip.{is_accepted}
+use Rattle.cm_model.specs.OneChip.{arrived_for, delivered, kept}
 use Rattle.cm_model.specs.Keeping.{IsMessage, IsEventOf}
 use Rattle.cm_model.proofs.Flips.{across_below}
 use Rattle.cm_model.proofs.Injecting.{AllBelow}

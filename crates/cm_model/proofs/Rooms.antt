@@ -16,7 +16,8 @@ use Rattle.cm_model.specs.Steps.{Step, Instruct, Look, Inject, Cross, Deliver, I
 use Rattle.cm_model.specs.Machine.{Machine}
 use Rattle.cm_model.specs.Buffers.{taken_in, sent_in, machine_after_injection, leaving_place, referred_place}
 use Rattle.cm_model.specs.Buffers.{element_at, without, outgoing, buffer_after_dimension, machine_after_dimension}
-use Rattle.cm_model.specs.Buffers.{is_accepted, arrived_for, kept, machine_after_delivery, after_step}
+use Rattle.cm_model.specs.Buffers.{machine_after_delivery, after_step}
+use Rattle.cm_model.specs.OneChip.{is_accepted, arrived_for, kept}
 use Rattle.cm_model.specs.Keeping.{HasRoom}
 use Rattle.cm_model.proofs.Each.{get_or-each_below}
 use Rattle.cm_model.proofs.Flips.{across_below}

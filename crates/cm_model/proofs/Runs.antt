@@ -18,7 +18,8 @@ use Rattle.cm_model.specs.Cycle.{State, taken_at, after_injection, delivered_at,
 use Rattle.cm_model.specs.Cycle.{is_delivered, state_after, state_after_all}
 use Rattle.cm_model.specs.Machine.{Machine, opened, closed, run_of}
 use Rattle.cm_model.specs.Buffers.{taken_in, sent_in, machine_after_injection, outgoing, buffer_after_dimension}
-use Rattle.cm_model.specs.Buffers.{machine_after_dimension, delivered, kept, delivered_in, machine_after_delivery}
+use Rattle.cm_model.specs.Buffers.{machine_after_dimension, delivered_in, machine_after_delivery}
+use Rattle.cm_model.specs.OneChip.{delivered, kept}
 use Rattle.cm_model.specs.Buffers.{after_step, after_steps, after_act, after_acts}
 use Rattle.cm_model.proofs.Each.{length-each_from, same_each_below}
 use Rattle.cm_model.proofs.Flips.{across_below}

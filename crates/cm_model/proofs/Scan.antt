@@ -8,7 +8,7 @@ use Rattle.cm_model.specs.declared.message.Event.{Event}
 use Rattle.cm_model.specs.declared.message.Event.TheVariants.{Delivered}
 use Rattle.cm_model.specs.Processor.{Processor}
 use Rattle.cm_model.specs.Letters.{can_receive, chip_after_delivery}
-use Rattle.cm_model.specs.Buffers.{delivered, kept}
+use Rattle.cm_model.specs.OneChip.{delivered, kept}
 use Rattle.cm_model.specs.Delivery.{HasGone, HasHandedOver}
 
 -- of a buffer, what a whole chip delivers and what stays

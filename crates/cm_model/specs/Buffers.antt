@@ -8,8 +8,8 @@ use Rattle.cm_model.specs.declared.message.Message.{Message}
 use Rattle.cm_model.specs.declared.message.Event.TheVariants.{Injected, Delivered}
 use Rattle.cm_model.specs.Array.{each_chip, chip_at, after_nano, list_at}
 use Rattle.cm_model.specs.Router.{has_to_cross, message_across}
-use Rattle.cm_model.specs.Letters.{senders_taken, messages_sent, is_among, chip_after_injection}
-use Rattle.cm_model.specs.Letters.{can_receive, has_arrived, chip_after_delivery}
+use Rattle.cm_model.specs.Letters.{has_arrived, chip_after_injection, chip_after_delivery}
+use Rattle.cm_model.specs.OneChip.{taken_here, sent_here, delivered_here, kept_here}
 use Rattle.cm_model.specs.Steps.{Step, Instruct, Look, Inject, Cross, Deliver, steps_of}
 use Rattle.cm_model.specs.Machine.{Machine}
 
@@ -17,11 +17,11 @@ use Rattle.cm_model.specs.Machine.{Machine}
 
 -- the processors of a chip whose messages are taken
 abbrev pub taken_in : ℕ → Machine → ℕ → List ℕ
-taken_in cap machine c = senders_taken cap (length (list_at machine.buffers c)) (chip_at machine.chips c)
+taken_in cap machine c = taken_here cap (list_at machine.buffers c) (chip_at machine.chips c)
 
 -- the messages that are taken there
 abbrev pub sent_in : ℕ → ℕ → Machine → ℕ → List Message
-sent_in n cap machine c = messages_sent n machine.clock c (chip_at machine.chips c) (taken_in cap machine c)
+sent_in n cap machine c = sent_here n cap machine.clock c (list_at machine.buffers c) (chip_at machine.chips c)
 
 -- all chips at once: the taken messages stand last in their buffers
 unfoldable pub machine_after_injection : ℕ → ℕ → Machine → Machine
@@ -69,37 +69,15 @@ machine_after_dimension n cap d machine = record machine {
 
 -- ---- delivery
 
--- it has arrived, its processor can receive, and none has arrived for that processor before it
-abbrev pub is_accepted : (ℕ → Bool) → List ℕ → Message → Bool
-is_accepted receives before m = has_arrived m && (receives m.proc && not (is_among m.proc before))
-
--- the processors for which messages have arrived, one message on
-abbrev pub arrived_for : List ℕ → Message → List ℕ
-arrived_for before m = if has_arrived m then m.proc ∷ before else before
-
--- what a buffer delivers, where messages for these processors have arrived before
-abbrev pub delivered : (ℕ → Bool) → List ℕ → List Message → List Message
-delivered receives before [] = []
-delivered receives before (m ∷ ms) =
-    if is_accepted receives before m then m ∷ delivered receives (arrived_for before m) ms else delivered receives
-    (arrived_for before m) ms
-
--- what it keeps
-abbrev pub kept : (ℕ → Bool) → List ℕ → List Message → List Message
-kept receives before [] = []
-kept receives before (m ∷ ms) =
-    if is_accepted receives before m then kept receives (arrived_for before m) ms else m ∷ kept receives
-    (arrived_for before m) ms
-
 -- what a chip delivers
 abbrev pub delivered_in : Machine → ℕ → List Message
-delivered_in machine c = delivered (can_receive (chip_at machine.chips c)) [] (list_at machine.buffers c)
+delivered_in machine c = delivered_here (list_at machine.buffers c) (chip_at machine.chips c)
 
 -- all chips at once: what is delivered is gone, and the counter is one more
 unfoldable pub machine_after_delivery : ℕ → Machine → Machine
 machine_after_delivery n machine = record {
   chips = each_chip n (λ c. chip_after_delivery (delivered_in machine c) (chip_at machine.chips c));
-  buffers = each_chip n (λ c. kept (can_receive (chip_at machine.chips c)) [] (list_at machine.buffers c));
+  buffers = each_chip n (λ c. kept_here (list_at machine.buffers c) (chip_at machine.chips c));
   logs = each_chip n (λ c. list_at machine.logs c ++ map (λ m. Delivered m c) (delivered_in machine c));
   clock = machine.clock + 1;
 }

@@ -4,7 +4,7 @@ use Rattle.cm_model.specs.declared.message.Message.{Message}
 use Rattle.cm_model.specs.Processor.{Processor}
 use Rattle.cm_model.specs.Whole.{IsChip}
 use Rattle.cm_model.specs.Letters.{can_receive, is_among, chip_after_delivery}
-use Rattle.cm_model.specs.Buffers.{arrived_for, delivered, kept}
+use Rattle.cm_model.specs.OneChip.{arrived_for, delivered, kept}
 
 -- the processors for which messages have arrived, these messages on
 abbrev pub arrived_in : List ℕ → List Message → List ℕ

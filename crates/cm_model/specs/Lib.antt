@@ -8,6 +8,7 @@ pub mod Array
 pub mod Router
 pub mod Order
 pub mod Letters
+pub mod OneChip
 pub mod Steps
 pub mod Cycle
 pub mod Machine

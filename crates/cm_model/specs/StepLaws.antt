@@ -14,7 +14,8 @@ use Rattle.cm_model.specs.Letters.{is_among, chip_after_injection, is_for, chip_
 use Rattle.cm_model.specs.Letters.{IsAcknowledged, AreDeliveries, IsHeldBack, HasReceived}
 use Rattle.cm_model.specs.Steps.{Step, IsStep}
 use Rattle.cm_model.specs.Machine.{Machine}
-use Rattle.cm_model.specs.Buffers.{leaving_place, element_at, delivered, kept, after_step, after_act}
+use Rattle.cm_model.specs.Buffers.{leaving_place, element_at, after_step, after_act}
+use Rattle.cm_model.specs.OneChip.{delivered, kept}
 use Rattle.cm_model.specs.Account.{account}
 use Rattle.cm_model.specs.Keeping.{HasRoom}
 

@@ -10,8 +10,9 @@ use Rattle.cm_model.specs.Processor.{Processor}
 use Rattle.cm_model.specs.Array.{Chips, chip_at, list_at}
 use Rattle.cm_model.specs.Machine.{Machine}
 use Rattle.cm_model.specs.Letters.{can_receive, chip_after_delivery}
-use Rattle.cm_model.specs.Buffers.{delivered_in, kept, machine_after_delivery}
-use Rattle.cm_crossing.specs.Standing.{delivered_of, kept_of}
+use Rattle.cm_model.specs.Buffers.{delivered_in, machine_after_delivery}
+use Rattle.cm_model.specs.OneChip.{kept}
+use Rattle.cm_model.specs.OneChip.{delivered_here, kept_here}
 use Rattle.cm_model.specs.Steps.{Deliver}
 use Rattle.cm_model.proofs.Each.{same_each_below}
 use Rattle.cm_blocks.specs.Parts.{Part, chip_in, buffer_in, log_in}
@@ -96,9 +97,9 @@ pub delivered_more : (cap first span : ℕ) (chips_before : Chips) (buffers_befo
     (chip next_chip : List Processor) (ms next_ms : List Message) (log next_log : Log)
     → AreAsMany span chips_before buffers_before logs_before → i < 2 ^ span → i < length logs
     → chip ≡ chip_at chips i → ms ≡ list_at buffers i → log ≡ get_or logs i log
-    → next_chip ≡ chip_after_delivery (delivered_of ms chip) chip
-    → next_ms ≡ kept_of ms chip
-    → next_log.items ≡ log.items ++ map (λ d. Delivered d (first + i)) (delivered_of ms chip)
+    → next_chip ≡ chip_after_delivery (delivered_here ms chip) chip
+    → next_ms ≡ kept_here ms chip
+    → next_log.items ≡ log.items ++ map (λ d. Delivered d (first + i)) (delivered_here ms chip)
     → vec_len next_log ≤ vec_len log + cap → vec_capacity log ≤ vec_capacity next_log
     → IsDelivered cap (part_of first (2 ^ span) chips_before buffers_before logs_before 0) logs_before chips buffers
     logs i

@@ -8,7 +8,8 @@ use Rattle.cm_model.specs.declared.message.Message.{Message}
 use Rattle.cm_model.specs.declared.message.Event.TheVariants.{Injected, Delivered}
 use Rattle.cm_model.specs.Array.{Chips, chip_at, list_at}
 use Rattle.cm_model.specs.Letters.{chip_after_injection, chip_after_delivery}
-use Rattle.cm_router.specs.Buffer.{Buffer, holding, buffers_of, taken_by, sent_to, delivered_by, kept_by}
+use Rattle.cm_model.specs.OneChip.{taken_here, sent_here, delivered_here, kept_here}
+use Rattle.cm_router.specs.Buffer.{Buffer, holding, buffers_of}
 use Rattle.cm_petit.specs.Routers.{Log, part_of}
 use Rattle.cm_petit.specs.Nodes.{AreNodes}
 use Rattle.cm_petit.proofs.Made.{AreAsMany}
@@ -36,9 +37,10 @@ pub injected_node : (n cap clock : ℕ) (chips_before : Chips) (nodes_before : L
     (log next_log : Log)
     → AreNodes n cap chips_before nodes_before logs_before → i < 2 ^ n → i < length nodes → i < length logs
     → node ≡ get_or nodes i node → log ≡ get_or logs i log → All (λ (b : Buffer). b.room ≡ cap) nodes
-    → next_chips ≡ set chips i (chip_after_injection (taken_by node (chip_at chips i)) (chip_at chips i))
-    → next_node ≡ holding node (node.messages ++ sent_to node n clock i (chip_at chips i))
-    → next_log.items ≡ log.items ++ map Injected (sent_to node n clock i (chip_at chips i))
+    → next_chips
+    ≡ set chips i (chip_after_injection (taken_here node.room node.messages (chip_at chips i)) (chip_at chips i))
+    → next_node ≡ holding node (node.messages ++ sent_here n node.room clock i node.messages (chip_at chips i))
+    → next_log.items ≡ log.items ++ map Injected (sent_here n node.room clock i node.messages (chip_at chips i))
     → vec_len next_log ≤ vec_len log + 4 → vec_capacity log ≤ vec_capacity next_log
     → IsInjected n cap (part_of 0 (2 ^ n) chips_before (buffers_of nodes_before) logs_before clock) logs_before
     chips (buffers_of nodes) logs i
@@ -51,7 +53,8 @@ injected_node n cap clock chips_before nodes_before logs_before chips next_chips
     let place : 0 + i ≡ i = omega arith in
     rw (chips_is, map-set (λ (b : Buffer). b.messages) nodes i next_node)
     (injected_more n cap 0 n clock chips_before (buffers_of nodes_before) logs_before chips (buffers_of nodes) logs i
-    (chip_at chips i) (chip_after_injection (taken_by node (chip_at chips i)) (chip_at chips i)) node.messages
+    (chip_at chips i) (chip_after_injection (taken_here node.room node.messages (chip_at chips i)) (chip_at chips i))
+    node.messages
     next_node.messages log next_log (many_nodes are) below in_logs refl (buffer_read nodes i node in_nodes node_read)
     log_read (rw room_is refl) (ap (λ (b : Buffer). b.messages) node_is ∙ rw (room_is, place) refl)
     (log_is ∙ rw (room_is, place) refl) longer kept was)
@@ -62,9 +65,9 @@ pub delivered_node : (n cap : ℕ) (chips_before : Chips) (nodes_before : List B
     (log next_log : Log)
     → AreNodes n cap chips_before nodes_before logs_before → i < 2 ^ n → i < length nodes → i < length logs
     → node ≡ get_or nodes i node → log ≡ get_or logs i log → All (λ (b : Buffer). b.room ≡ cap) nodes
-    → next_chips ≡ set chips i (chip_after_delivery (delivered_by node (chip_at chips i)) (chip_at chips i))
-    → next_node ≡ holding node (kept_by node (chip_at chips i))
-    → next_log.items ≡ log.items ++ map (λ m. Delivered m i) (delivered_by node (chip_at chips i))
+    → next_chips ≡ set chips i (chip_after_delivery (delivered_here node.messages (chip_at chips i)) (chip_at chips i))
+    → next_node ≡ holding node (kept_here node.messages (chip_at chips i))
+    → next_log.items ≡ log.items ++ map (λ m. Delivered m i) (delivered_here node.messages (chip_at chips i))
     → vec_len next_log ≤ vec_len log + node.room → vec_capacity log ≤ vec_capacity next_log
     → IsDelivered cap (part_of 0 (2 ^ n) chips_before (buffers_of nodes_before) logs_before 0) logs_before chips
     (buffers_of nodes) logs i
@@ -76,7 +79,8 @@ delivered_node n cap chips_before nodes_before logs_before chips next_chips node
     let place : 0 + i ≡ i = omega arith in
     rw (chips_is, map-set (λ (b : Buffer). b.messages) nodes i next_node)
     (delivered_more cap 0 n chips_before (buffers_of nodes_before) logs_before chips (buffers_of nodes) logs i
-    (chip_at chips i) (chip_after_delivery (delivered_by node (chip_at chips i)) (chip_at chips i)) node.messages
+    (chip_at chips i) (chip_after_delivery (delivered_here node.messages (chip_at chips i)) (chip_at chips i))
+    node.messages
     next_node.messages log next_log (many_nodes are) below in_logs refl (buffer_read nodes i node in_nodes node_read)
     log_read refl (ap (λ (b : Buffer). b.messages) node_is) (log_is ∙ rw place refl) (omega (arith, longer, room_is))
     kept_room was)

@@ -14,7 +14,8 @@ use Rattle.cm_model.specs.Router.{message_across}
 use Rattle.cm_model.specs.Letters.{chip_after_injection, can_receive, chip_after_delivery}
 use Rattle.cm_model.specs.Machine.{Machine}
 use Rattle.cm_model.specs.Buffers.{leaving_place, element_at, without, outgoing, buffer_after_dimension}
-use Rattle.cm_model.specs.Buffers.{machine_after_dimension, delivered_in, kept, machine_after_delivery}
+use Rattle.cm_model.specs.Buffers.{machine_after_dimension, delivered_in, machine_after_delivery}
+use Rattle.cm_model.specs.OneChip.{kept}
 use Rattle.cm_model.proofs.Each.{is_each}
 use Rattle.cm_model.proofs.Flips.{across_below}
 use Rattle.cm_model.proofs.Leaving.{remove_past}

@@ -4,7 +4,7 @@ use Rattle.std.proofs.Common.{ap, ◌∙◌, ⊎_elim}
 use Rattle.std.proofs.lemmas.Bool.{cases_Bool}
 use Rattle.std.proofs.lemmas.List.{take_more}
 use Rattle.cm_model.specs.declared.message.Message.{Message}
-use Rattle.cm_model.specs.Buffers.{is_accepted, arrived_for, delivered, kept}
+use Rattle.cm_model.specs.OneChip.{is_accepted, arrived_for, delivered, kept}
 
 -- the processors for which messages have arrived, after these messages
 abbrev pub arrived_after : List ℕ → List Message → List ℕ

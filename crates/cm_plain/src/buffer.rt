@@ -6,7 +6,7 @@ ghost use Rattle.std.specs.Option.{option_to_list};
 ghost use Rattle.cm_model.specs.Router.{has_to_cross, message_across};
 ghost use Rattle.cm_model.specs.Letters.{can_receive, is_among};
 ghost use Rattle.cm_model.specs.Buffers.{referred_place, leaving_place, outgoing, buffer_after_dimension, without};
-ghost use Rattle.cm_model.specs.Buffers.{arrived_for, is_accepted, delivered, kept};
+ghost use Rattle.cm_model.specs.OneChip.{arrived_for, is_accepted, delivered, kept};
 ghost use Rattle.cm_model.specs.declared.message.Event.TheVariants.{Injected, Delivered};
 
 use crate::letters::is_among;

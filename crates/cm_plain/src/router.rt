@@ -13,7 +13,8 @@ ghost use Rattle.cm_model.specs.Array.{each_chip, chip_at, after_nano, list_at};
 ghost use Rattle.cm_model.specs.Letters.{can_receive, chip_after_injection, chip_after_delivery};
 ghost use Rattle.cm_model.specs.Machine.{Machine, blank_machine, run_of};
 ghost use Rattle.cm_model.specs.Buffers.{taken_in, sent_in, machine_after_injection, outgoing, buffer_after_dimension};
-ghost use Rattle.cm_model.specs.Buffers.{machine_after_dimension, delivered_in, kept, machine_after_delivery};
+ghost use Rattle.cm_model.specs.Buffers.{machine_after_dimension, delivered_in, machine_after_delivery};
+ghost use Rattle.cm_model.specs.OneChip.{kept};
 ghost use Rattle.cm_model.specs.Buffers.{after_act};
 
 use crate::buffer::{PlainBuffer, PlainLog, Sorted};

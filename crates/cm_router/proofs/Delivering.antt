@@ -11,7 +11,7 @@ use Rattle.cm_model.specs.Chip.{processor_at, no_processor}
 use Rattle.cm_model.specs.Whole.{IsChip}
 use Rattle.cm_model.specs.Letters.{can_receive, has_arrived, is_for, is_among, processor_after_delivery}
 use Rattle.cm_model.specs.Letters.{chip_after_delivery}
-use Rattle.cm_model.specs.Buffers.{is_accepted}
+use Rattle.cm_model.specs.OneChip.{is_accepted}
 use Rattle.cm_model.proofs.Each.{is_each}
 use Rattle.cm_model.specs.Delivery.{arrived_in, HasGone, HasHandedOver}
 use Rattle.cm_model.proofs.Scan.{out_of}

@@ -14,7 +14,7 @@ use Rattle.cm_model.specs.Chip.{processor_at, no_processor, with_flag}
 use Rattle.cm_model.specs.Letters.{has_arrived, is_for, is_among, with_field, processor_after_delivery}
 use Rattle.cm_model.specs.Letters.{chip_after_delivery}
 use Rattle.cm_element.specs.Wide.{with_memory_field}
-use Rattle.cm_model.specs.Buffers.{is_accepted, arrived_for, delivered, kept}
+use Rattle.cm_model.specs.OneChip.{is_accepted, arrived_for, delivered, kept}
 use Rattle.cm_model.proofs.Each.{is_each, length-each_from, get_or-each_below}
 use Rattle.cm_model.specs.Delivery.{arrived_in}
 

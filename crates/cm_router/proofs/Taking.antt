@@ -23,7 +23,8 @@ use Rattle.cm_model.specs.Letters.{processor_after_injection, chip_after_injecti
 use Rattle.cm_model.proofs.Bits.{bit-bit_and, bit-bit_or, bit-bit_not, bit-zero}
 use Rattle.cm_model.proofs.Each.{same_each_below, get_or-each_below, is_each}
 use Rattle.cm_element.specs.Wide.{with_flag_plane}
-use Rattle.cm_router.specs.Buffer.{Buffer, taken_by}
+use Rattle.cm_model.specs.OneChip.{taken_here}
+use Rattle.cm_router.specs.Buffer.{Buffer}
 
 -- ---- the list
 
@@ -57,7 +58,7 @@ most_taken buffer = min 4 (buffer.room - length buffer.messages)
 
 -- past the last processor these are all
 pub taken_all : (buffer : Buffer) (chip : List Processor) (i : ℕ) → i ≡ 16
-    → taken_below (most_taken buffer) chip i ≡ taken_by buffer chip
+    → taken_below (most_taken buffer) chip i ≡ taken_here buffer.room buffer.messages chip
 unfolding senders
 taken_all buffer chip i e = ap (taken_below (most_taken buffer) chip) e
 
@@ -150,7 +151,8 @@ pub nobody_has : (chip : List Processor) → length chip ≡ 16 → list_any (λ
 nobody_has chip long none p below = bit-zero p ∙ sym (no_flag SEND chip long none p below)
 
 -- where nobody asks nobody is taken
-pub nobody_taken : (buffer : Buffer) (chip : List Processor) → IsPlane 0 (asks chip) → taken_by buffer chip ≡ []
+pub nobody_taken : (buffer : Buffer) (chip : List Processor) → IsPlane 0 (asks chip)
+    → taken_here buffer.room buffer.messages chip ≡ []
 nobody_taken buffer chip quiet = sym (taken_all buffer chip 16 refl)
     ∙ nobody_below (most_taken buffer) chip quiet 16 (omega arith)
 

@@ -9,7 +9,8 @@ ghost use Rattle.cm_model.specs.Array.{chip_at};
 ghost use Rattle.cm_model.specs.Router.{has_to_cross, message_across};
 ghost use Rattle.cm_model.specs.Letters.{is_among, chip_after_injection, chip_after_delivery};
 ghost use Rattle.cm_model.specs.Buffers.{leaving_place, outgoing, without};
-ghost use Rattle.cm_router.specs.Buffer.{IsBuffer, holding, taken_by, sent_to, delivered_by, kept_by};
+ghost use Rattle.cm_model.specs.OneChip.{taken_here, sent_here, delivered_here, kept_here};
+ghost use Rattle.cm_router.specs.Buffer.{IsBuffer, holding};
 
 use crate::delivery::{begin, hand_over};
 use crate::letters;
@@ -155,11 +156,13 @@ impl Node {
         requires dims { dims ≤ 12 }
         requires room { vec_len log.old + 4 ≤ vec_capacity log.old }
         ensures messages { self.new ≡ holding self.old
-            (self.old.messages ++ sent_to self.old dims clock here (chip_at run.old chip)) }
+            (self.old.messages ++ sent_here dims self.old.room clock here self.old.messages (chip_at run.old chip)) }
         ensures chip { run.new ≡ slice_set run.old chip
-            (chip_after_injection (taken_by self.old (chip_at run.old chip)) (chip_at run.old chip)) }
+            (chip_after_injection (taken_here self.old.room self.old.messages (chip_at run.old chip))
+            (chip_at run.old chip)) }
         ensures log { log.new.items
-            ≡ log.old.items ++ map Event.Injected (sent_to self.old dims clock here (chip_at run.old chip)) }
+            ≡ log.old.items
+            ++ map Event.Injected (sent_here dims self.old.room clock here self.old.messages (chip_at run.old chip)) }
         ensures within { vec_len log.new ≤ vec_len log.old + 4 }
         ensures log_room { vec_capacity log.old ≤ vec_capacity log.new }
     {
@@ -185,11 +188,11 @@ impl Node {
         requires asking { IsPlane asking (λ p. flag (processor_at chip.now p) SEND) }
         requires dims { dims ≤ 12 }
         requires room { vec_len log.old + 4 ≤ vec_capacity log.old }
-        ensures taken { IsPlane result (λ p. is_among p (taken_by self.old chip.now)) }
+        ensures taken { IsPlane result (λ p. is_among p (taken_here self.old.room self.old.messages chip.now)) }
         ensures messages { self.new ≡ holding self.old
-            (self.old.messages ++ sent_to self.old dims clock here chip.now) }
+            (self.old.messages ++ sent_here dims self.old.room clock here self.old.messages chip.now) }
         ensures log { log.new.items
-            ≡ log.old.items ++ map Event.Injected (sent_to self.old dims clock here chip.now) }
+            ≡ log.old.items ++ map Event.Injected (sent_here dims self.old.room clock here self.old.messages chip.now) }
         ensures within { vec_len log.new ≤ vec_len log.old + 4 }
         ensures log_room { vec_capacity log.old ≤ vec_capacity log.new }
     {
@@ -213,11 +216,12 @@ impl Node {
     pub fn deliver(&mut self, run: &mut Run, chip: u16, here: u16, log: &mut Vec<Event>)
         requires chip { chip < length run.old }
         requires room { vec_len log.old + self.old.room ≤ vec_capacity log.old }
-        ensures stays { self.new ≡ holding self.old (kept_by self.old (chip_at run.old chip)) }
+        ensures stays { self.new ≡ holding self.old (kept_here self.old.messages (chip_at run.old chip)) }
         ensures chip { run.new ≡ slice_set run.old chip
-            (chip_after_delivery (delivered_by self.old (chip_at run.old chip)) (chip_at run.old chip)) }
+            (chip_after_delivery (delivered_here self.old.messages (chip_at run.old chip)) (chip_at run.old chip)) }
         ensures log { log.new.items
-            ≡ log.old.items ++ map (λ m. Event.Delivered m here) (delivered_by self.old (chip_at run.old chip)) }
+            ≡ log.old.items
+            ++ map (λ m. Event.Delivered m here) (delivered_here self.old.messages (chip_at run.old chip)) }
         ensures within { vec_len log.new ≤ vec_len log.old + self.old.room }
         ensures log_room { vec_capacity log.old ≤ vec_capacity log.new }
     {

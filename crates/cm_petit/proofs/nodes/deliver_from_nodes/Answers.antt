@@ -1,6 +1,7 @@
 use Rattle.std.proofs.Common.{◌<◌, ◌^◌, length, refl, arith}
 use Rattle.cm_model.specs.Array.{chip_at}
-use Rattle.cm_router.specs.Buffer.{buffers_of, kept_by}
+use Rattle.cm_model.specs.OneChip.{kept_here}
+use Rattle.cm_router.specs.Buffer.{buffers_of}
 use Rattle.cm_petit.proofs.Delivering.{delivered_all, delivered_whole}
 use Rattle.cm_petit.proofs.Noding.{many_nodes, delivered_node, rooms_kept}
 use Rattle.cm_petit.proofs.nodes.deliver_from_nodes.Goals as goal
@@ -24,7 +25,8 @@ loop-c-preserved c =
           below in_nodes (omega (arith, here.auto.logs, c.requires.nodes.log_count))
           c.index-nodes-c.is c.index-logs-c.is
           here.invariant.rooms chip_is node_is log_is longer kept here.invariant.delivered;
-      rooms = rooms_kept cap here.nodes here.c node c.deliver.new.self (kept_by node (chip_at here.run here.c)) in_nodes
+      rooms = rooms_kept cap here.nodes here.c node c.deliver.new.self (kept_here node.messages (chip_at here.run here.c))
+          in_nodes
           c.index-nodes-c.is node_is here.invariant.rooms;
     }
 

@@ -1,6 +1,7 @@
 use Rattle.std.proofs.Common.{◌<◌, ◌^◌, length, ◌++◌, refl, arith}
 use Rattle.cm_model.specs.Array.{chip_at}
-use Rattle.cm_router.specs.Buffer.{buffers_of, sent_to}
+use Rattle.cm_model.specs.OneChip.{sent_here}
+use Rattle.cm_router.specs.Buffer.{buffers_of}
 use Rattle.cm_petit.proofs.Injecting.{injected_all, injected_whole}
 use Rattle.cm_petit.proofs.Noding.{many_nodes, injected_node, rooms_kept}
 use Rattle.cm_petit.proofs.nodes.inject_into_nodes.Goals as goal
@@ -25,7 +26,8 @@ loop-c-preserved c =
           c.index-nodes-c.is c.index-logs-c.is
           here.invariant.rooms chip_is node_is log_is longer kept here.invariant.injected;
       rooms = rooms_kept cap here.nodes here.c node c.inject.new.self
-          (node.messages ++ sent_to node n c.args.clock here.c (chip_at here.run here.c)) in_nodes c.index-nodes-c.is
+          (node.messages ++ sent_here n node.room c.args.clock here.c node.messages (chip_at here.run here.c))
+          in_nodes c.index-nodes-c.is
           node_is here.invariant.rooms;
     }
 

@@ -2,7 +2,7 @@ use Rattle.std.proofs.Common.{◌≡◌, ◌+◌, ◌<◌, ◌^◌, ◌∙◌, L
 use Rattle.cm_model.specs.declared.message.Message.{Message}
 use Rattle.cm_model.specs.Array.{list_at}
 use Rattle.cm_model.specs.Letters.{chip_after_delivery}
-use Rattle.cm_crossing.specs.Standing.{delivered_of, kept_of}
+use Rattle.cm_model.specs.OneChip.{delivered_here, kept_here}
 use Rattle.cm_petit.specs.Routers.{part_of}
 use Rattle.cm_petit.proofs.Made.{as_many}
 use Rattle.cm_petit.proofs.Delivering.{IsDelivered, delivered_begins, delivered_past, room_to_deliver}
@@ -56,7 +56,7 @@ loop-c-preserved c =
     rw (c.deliver.ensures.value, c.deliver.ensures.chip)
     (delivered_more c.args.sizes.room c.args.first c.args.sizes.span
     c.args.run.now c.args.crossing.now.buffers c.args.logs.now here.run here.crossing.buffers here.logs i
-    chip (chip_after_delivery (delivered_of ms chip) chip) ms (kept_of ms chip)
+    chip (chip_after_delivery (delivered_here ms chip) chip) ms (kept_here ms chip)
     c.index-logs-c.result c.deliver.new.log
     (as_many c.requires.routers) below (omega (arith, here.auto.logs, c.requires.routers.log_count))
     refl refl c.index-logs-c.is refl refl log_is longer kept here.invariant.delivered) in

@@ -4,7 +4,8 @@ use Rattle.std.proofs.lemmas.List.{length-map}
 use Rattle.cm_model.specs.declared.message.Message.{Message}
 use Rattle.cm_model.specs.Array.{list_at}
 use Rattle.cm_slots.specs.declared.ticket.Ticket.{Ticket}
-use Rattle.cm_crossing.specs.Standing.{UnderWay, standing, all_standing, kept_of}
+use Rattle.cm_model.specs.OneChip.{kept_here}
+use Rattle.cm_crossing.specs.Standing.{UnderWay, standing, all_standing}
 use Rattle.cm_crossing.proofs.Wholes.{tickets_within}
 use Rattle.cm_crossing.proofs.Changing.{written_standing, changed_within, standing_read}
 use Rattle.cm_crossing.proofs.crossing.Crossing.deliver.Goals as goal
@@ -49,9 +50,9 @@ returns c =
       value = ap (all_standing row) c.give_out.ensures.others ∙ written_standing row slots i queue
           ∙ ap (λ (ms : List Message). set (all_standing row slots) i ms)
           (rw c.deref.ensures.value at c.give_out.ensures.value)
-          ∙ ap (λ (u : UnderWay). set u.buffers i (kept_of (standing row (list_at slots i)) (get_or c.args.run.now i
+          ∙ ap (λ (u : UnderWay). set u.buffers i (kept_here (standing row (list_at slots i)) (get_or c.args.run.now i
           []))) c.self.view_is
-          ∙ ap (λ (ms : List Message). set c.args.self.now.buffers i (kept_of ms (get_or c.args.run.now i []))) stood;
+          ∙ ap (λ (ms : List Message). set c.args.self.now.buffers i (kept_here ms (get_or c.args.run.now i []))) stood;
       chip = rw (stood) at (rw c.deref.ensures.value at c.give_out.ensures.chip);
       log = rw (stood) at (rw c.deref.ensures.value at c.give_out.ensures.log);
       told = omega (arith, c.give_out.ensures.told, few);

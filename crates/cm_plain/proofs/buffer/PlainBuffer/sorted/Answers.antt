@@ -1,6 +1,6 @@
 use Rattle.std.proofs.Common.{List, ap, ◌∙◌, ℕ, arith}
 use Rattle.cm_model.specs.Letters.{can_receive}
-use Rattle.cm_model.specs.Buffers.{is_accepted}
+use Rattle.cm_model.specs.OneChip.{is_accepted}
 use Rattle.cm_plain.proofs.Sorting.{IsNext, delivered_in_turn, none_delivered_in_turn, kept_in_turn, none_kept_in_turn}
 use Rattle.cm_plain.proofs.Sorting.{arrived_in_turn}
 use Rattle.cm_plain.proofs.buffer.PlainBuffer.sorted.Goals as goal

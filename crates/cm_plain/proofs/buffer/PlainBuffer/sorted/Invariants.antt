@@ -1,6 +1,6 @@
 use Rattle.std.proofs.Common.{◌≡◌, [], take}
 use Rattle.cm_model.specs.Letters.{can_receive}
-use Rattle.cm_model.specs.Buffers.{delivered, kept}
+use Rattle.cm_model.specs.OneChip.{delivered, kept}
 use Rattle.cm_plain.proofs.Sorting.{arrived_after}
 use Rattle.cm_plain.proofs.buffer.PlainBuffer.sorted.Given as goal
 

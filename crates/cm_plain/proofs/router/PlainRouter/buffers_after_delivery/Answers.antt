@@ -2,7 +2,7 @@ use Rattle.std.proofs.Common.{rules, ◌≡◌, ℕ, ◌^◌, [], sym, ap, ◌�
 use Rattle.cm_model.specs.Each.{each_from}
 use Rattle.cm_model.specs.Array.{chip_at, list_at}
 use Rattle.cm_model.specs.Letters.{can_receive}
-use Rattle.cm_model.specs.Buffers.{kept}
+use Rattle.cm_model.specs.OneChip.{kept}
 use Rattle.cm_plain.proofs.Made.{each_from-zero, pushed}
 use Rattle.cm_plain.proofs.router.PlainRouter.buffers_after_delivery.Goals as goal
 

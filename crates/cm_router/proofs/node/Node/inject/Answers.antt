@@ -3,7 +3,8 @@ use Rattle.std.proofs.lemmas.List.{append-nil}
 use Rattle.cm_bits.specs.Bit.{bit}
 use Rattle.cm_model.specs.declared.message.Event.TheVariants.{Injected}
 use Rattle.cm_model.specs.Letters.{messages_sent, chip_after_injection}
-use Rattle.cm_router.specs.Buffer.{holding, taken_by}
+use Rattle.cm_model.specs.OneChip.{taken_here}
+use Rattle.cm_router.specs.Buffer.{holding}
 use Rattle.cm_router.proofs.Taking.{nobody_taken}
 use Rattle.cm_router.proofs.node.Node.inject.Goals as goal
 
@@ -11,7 +12,7 @@ pub returns-then-asking-eq0 : goal.returns-then-asking-eq0
 returns-then-asking-eq0 c =
     let old = c.args.self.now in
     let chip = get_or c.args.run.now c.args.chip [] in
-    let nobody : taken_by old chip ≡ [] =
+    let nobody : taken_here old.room old.messages chip ≡ [] =
     nobody_taken old chip (λ p h. ap (λ (w : ℕ). bit w p) (sym c.if-asking-eq0.true)
     ∙ c.asking-asking.ensures.value p h) in
     record {
