@@ -64,6 +64,7 @@ impl<'a, R: Threads + Wait> Forked<'a, R> {
         ensures refused { IfSome (fork_fault N k workers) (λ fault. IsErrOf result fault) }
         ensures blocks { IfOk result (λ runner. runner.k ≡ k) }
         ensures workers { IfOk result (λ runner. runner.workers ≡ workers) }
+        ensures passage { IfOk result (λ runner. runner.passage ≡ passage) }
         ensures lacked { IfOk result (λ runner. runner.threads_lacked ≡ 0) }
     {
         if usize::from(k) > N - N / 2 {
