@@ -1,6 +1,5 @@
 pub mod Made
-pub mod Injecting
-pub mod Delivering
+pub mod Making
 pub mod Dimensions
 pub mod Quiet
 pub mod Bands

@@ -129,14 +129,14 @@ not_yet_made_of g d f before now i y inside read was =
 
 -- ---- three rows
 
--- one chip, one buffer and one log for each number of a cube of n dimensions
-pub record AreAsMany (n : ℕ) (chips : Chips) (buffers : List (List Message)) (logs : List Log) : Type 0 where
-  pub chip_count : length chips ≡ 2 ^ n
-  pub buffer_count : length buffers ≡ 2 ^ n
-  pub log_count : length logs ≡ 2 ^ n
+-- so many chips, buffers and logs
+pub record AreAsMany (count : ℕ) (chips : Chips) (buffers : List (List Message)) (logs : List Log) : Type 0 where
+  pub chip_count : length chips ≡ count
+  pub buffer_count : length buffers ≡ count
+  pub log_count : length logs ≡ count
 
 pub as_many : {n cap : ℕ} {chips : Chips} {buffers : List (List Message)} {logs : List Log}
-    → AreRouters n cap chips buffers logs → AreAsMany n chips buffers logs
+    → AreRouters n cap chips buffers logs → AreAsMany (2 ^ n) chips buffers logs
 as_many are = record {
   chip_count = are.chip_count;
   buffer_count = are.buffer_count;

@@ -22,12 +22,12 @@ use Rattle.cm_model.proofs.Leaving.{remove_past}
 use Rattle.cm_model.proofs.Cycles.{after_crossings, after_crossings-more}
 use Rattle.cm_router.specs.Idle.{IsIdle}
 use Rattle.cm_model.specs.Steps.{Inject}
-use Rattle.cm_blocks.specs.Parts.{Part, chip_in, buffer_in, log_in}
+use Rattle.cm_blocks.specs.Parts.{Part}
 use Rattle.cm_blocks.specs.Parcels.{Blank}
-use Rattle.cm_blocks.specs.Steps.{taken_of, sent_of, part_after}
+use Rattle.cm_blocks.specs.Steps.{taken_of, part_after}
 use Rattle.cm_petit.specs.Routers.{Log, events_of, part_of, AreRouters}
-use Rattle.cm_petit.proofs.Made.{made_all_from}
-use Rattle.std.proofs.lemmas.List.{length-map}
+use Rattle.cm_petit.proofs.Made.{as_many}
+use Rattle.cm_petit.proofs.Making.{Making, injecting, none_done, passed_over, all_done}
 
 -- a machine of a cube of n dimensions in which no message stands
 pub record IsQuiet (n : ℕ) (machine : Machine) : Type 0 where
@@ -107,36 +107,14 @@ pub injection_of_nothing : (n cap first span clock : ℕ) (chips : Chips)
 unfolding part_after
 injection_of_nothing n cap first span clock chips buffers logs are idle =
     let s : Part = part_of first (2 ^ span) chips buffers logs clock in
+    let f : Making = injecting n cap s in
     let place : (i : ℕ) → first + i - first ≡ i = λ i. omega arith in
     let nobody : (i : ℕ) → i < 2 ^ span → taken_of cap s (first + i) ≡ [] =
     λ i l. rw (place i) ((idle i l).nobody cap (length (list_at buffers i))) in
-    let chips_are = made_all_from []
-    (λ c. chip_after_injection (taken_of cap s c) (chip_in s c)) chips chips first (2 ^ span) (2 ^ span) are.chip_count
-    (omega arith) (record {
-      long = refl;
-      done = λ i l. rw (nobody i l, place i) (idle i l).same;
-      rest = λ i l. refl;
-    }) in
-    let buffers_are = made_all_from []
-    (λ c. buffer_in s c ++ sent_of n cap s c) buffers buffers first (2 ^ span) (2 ^ span) are.buffer_count
-    (omega arith) (record {
-      long = refl;
-      done = λ i l. rw (nobody i l, place i) (sym (append-nil (list_at buffers i)));
-      rest = λ i l. refl;
-    }) in
-    let logs_are = made_all_from []
-    (λ c. log_in s c ++ map Injected (sent_of n cap s c)) (events_of logs) (events_of logs) first (2 ^ span) (2 ^ span)
-    (length-map logs (λ (log : Log). log.items) ∙ are.log_count)
-    (omega arith) (record {
-      long = refl;
-      done = λ i l. rw (nobody i l, place i) (sym (append-nil (list_at (events_of logs) i)));
-      rest = λ i l. refl;
-    }) in
-    λ k. record {
-      first = first;
-      count = 2 ^ span;
-      chips = chips_are k;
-      buffers = buffers_are k;
-      logs = logs_are k;
-      clock = clock;
-    }
+    all_done 4 f first (2 ^ span) clock chips buffers logs chips buffers logs (2 ^ span)
+    (passed_over 4 f first (2 ^ span) clock chips buffers logs chips buffers logs 0
+    (none_done 4 f first (2 ^ span) clock chips buffers logs) (2 ^ span) (omega arith)
+    (λ i from l. rw (nobody i l, place i) (idle i l).same)
+    (λ i from l. rw (nobody i l, place i) (sym (append-nil (list_at buffers i))))
+    (λ i from l. rw (nobody i l, place i) (sym (append-nil (list_at (events_of logs) i)))))
+    clock (as_many are) (omega arith)

@@ -1,8 +1,10 @@
-use Rattle.std.proofs.Common.{◌<◌, ◌^◌, length, ◌++◌, refl, arith}
+use Rattle.std.proofs.Common.{◌^◌, ◌++◌, arith}
 use Rattle.cm_model.specs.Array.{chip_at}
 use Rattle.cm_model.specs.OneChip.{sent_here}
+use Rattle.cm_blocks.specs.Steps.{part_after}
 use Rattle.cm_router.specs.Buffer.{buffers_of}
-use Rattle.cm_petit.proofs.Injecting.{injected_all, injected_whole}
+use Rattle.cm_petit.specs.Routers.{part_of}
+use Rattle.cm_petit.proofs.Making.{injecting, all_done, injected_whole}
 use Rattle.cm_petit.proofs.Noding.{many_nodes, injected_node, rooms_kept}
 use Rattle.cm_petit.proofs.nodes.inject_into_nodes.Goals as goal
 
@@ -10,34 +12,30 @@ pub loop-c-preserved : goal.loop-c-preserved
 loop-c-preserved c =
     let here = c.loop-c in
     let n = c.args.sizes.dims in
-    let cap = c.args.sizes.room in
     let node = c.index-nodes-c.result in
-    let below : here.c < 2 ^ n = omega (arith, c.requires.nodes.node_count) in
-    let chip_is = rw (← c.index-nodes-c.is) at c.inject.ensures.chip in
     let node_is = rw (← c.index-nodes-c.is) at c.inject.ensures.messages in
-    let log_is = rw (← c.index-nodes-c.is, ← c.index-logs-c.is) at c.inject.ensures.log in
-    let longer = rw (← c.index-logs-c.is) at c.inject.ensures.within in
-    let kept = rw (← c.index-logs-c.is) at c.inject.ensures.log_room in
-    let in_nodes : here.c < length here.nodes = omega (arith, c.requires.nodes.node_count, here.auto.nodes) in
     record {
-      injected = injected_node n cap c.args.clock c.args.run.now c.args.nodes.now c.args.logs.now here.run
-          c.inject.new.run here.nodes here.logs here.c node c.inject.new.self c.index-logs-c.result c.inject.new.log
-          c.requires.nodes below in_nodes (omega (arith, here.auto.logs, c.requires.nodes.log_count))
-          c.index-nodes-c.is c.index-logs-c.is
-          here.invariant.rooms chip_is node_is log_is longer kept here.invariant.injected;
-      rooms = rooms_kept cap here.nodes here.c node c.inject.new.self
+      injected = injected_node n c.args.sizes.room c.args.clock c.args.run.now c.args.nodes.now c.args.logs.now
+          here.run c.inject.new.run here.nodes here.logs here.c node c.inject.new.self
+          c.index-logs-c.result c.inject.new.log c.requires.nodes (omega (arith, here.auto.nodes))
+          here.auto.nodes here.auto.logs c.index-nodes-c.is c.index-logs-c.is here.invariant.rooms
+          (rw (← c.index-nodes-c.is) at c.inject.ensures.chip) node_is
+          (rw (← c.index-nodes-c.is, ← c.index-logs-c.is) at c.inject.ensures.log)
+          (rw (← c.index-logs-c.is) at c.inject.ensures.within) (rw (← c.index-logs-c.is) at c.inject.ensures.log_room)
+          here.invariant.injected;
+      rooms = rooms_kept c.args.sizes.room here.nodes here.c node c.inject.new.self
           (node.messages ++ sent_here n node.room c.args.clock here.c node.messages (chip_at here.run here.c))
-          in_nodes c.index-nodes-c.is
-          node_is here.invariant.rooms;
+          (omega (arith, here.auto.nodes)) c.index-nodes-c.is node_is here.invariant.rooms;
     }
 
 pub returns-clause-value : goal.returns-clause-value
+unfolding part_after
 returns-clause-value c =
     let here = c.loop-c in
     let n = c.args.sizes.dims in
-    let cap = c.args.sizes.room in
-    injected_whole n cap n c.args.clock c.args.run.now (buffers_of c.args.nodes.now) c.args.logs.now here.run
-    (buffers_of here.nodes) here.logs refl
-    (injected_all n cap 0 n c.args.clock c.args.run.now (buffers_of c.args.nodes.now) c.args.logs.now here.run
-    (buffers_of here.nodes) here.logs here.c (many_nodes c.requires.nodes) (omega (arith, c.requires.nodes.node_count))
-    here.invariant.injected)
+    let before = part_of 0 (2 ^ n) c.args.run.now (buffers_of c.args.nodes.now) c.args.logs.now c.args.clock in
+    injected_whole n c.args.sizes.room c.args.clock c.args.run.now (buffers_of c.args.nodes.now) c.args.logs.now
+    here.run (buffers_of here.nodes) here.logs
+    (all_done 4 (injecting n c.args.sizes.room before) 0 (2 ^ n) c.args.clock c.args.run.now
+    (buffers_of c.args.nodes.now) c.args.logs.now here.run (buffers_of here.nodes) here.logs here.c
+    here.invariant.injected c.args.clock (many_nodes c.requires.nodes) (omega (arith, c.requires.nodes.node_count)))

@@ -1,8 +1,7 @@
 use Rattle.std.proofs.Common.{◌≡◌, [], length, sym, ap, ◌∙◌, arith}
 use Rattle.std.proofs.lemmas.List.{length-map}
 use Rattle.cm_model.specs.Array.{chip_at}
-use Rattle.cm_petit.proofs.Injecting.{sixteen_after_injection, injected_whole}
-use Rattle.cm_petit.proofs.Delivering.{delivered_whole}
+use Rattle.cm_petit.proofs.Making.{injected_whole, sixteen_after_injection, delivered_whole}
 use Rattle.cm_petit.proofs.Quiet.{IsQuiet, rest_is_quiet}
 use Rattle.cm_model.specs.Machine.{Machine}
 use Rattle.cm_model.specs.Buffers.{machine_after_injection, machine_after_dimension, machine_after_delivery}
@@ -32,9 +31,9 @@ returns-then-is_empty-clause-value c =
     machine_of c.inject.new.run c.inject.new.crossing.buffers c.inject.new.logs c.args.clock.now in
     let are : AreRouters c.args.sizes.dims c.args.sizes.room c.inject.new.run c.inject.new.crossing.buffers
     c.inject.new.logs = rw c.requires.all at c.inject.ensures.routers in
-    let begun = injected_whole c.args.sizes.dims c.args.sizes.room c.args.sizes.span c.args.clock.now c.args.run.now
+    let begun = injected_whole c.args.sizes.dims c.args.sizes.room c.args.clock.now c.args.run.now
     c.args.crossing.now.buffers c.args.logs.now c.inject.new.run c.inject.new.crossing.buffers c.inject.new.logs
-    c.requires.all c.inject.ensures.value in
+    (rw c.requires.all at c.inject.ensures.value) in
     let quiet : IsQuiet c.args.sizes.dims after = record {
       chip_count = are.chip_count;
       buffer_count = are.buffer_count;
@@ -54,18 +53,18 @@ returns-clause-value c =
     let before : Machine = machine_of c.args.run.now c.args.crossing.now.buffers c.args.logs.now c.args.clock.now in
     let begun : Machine = machine_after_injection c.args.sizes.dims c.args.sizes.room before in
     let all : c.loop-dim.dim ≡ c.args.sizes.dims = omega arith in
-    delivered_whole c.args.sizes.dims c.args.sizes.room c.args.sizes.span c.args.clock.now c.inject.new.run
+    delivered_whole c.args.sizes.dims c.args.sizes.room c.args.clock.now c.inject.new.run
     c.loop-dim.crossing.buffers c.inject.new.logs c.deliver.new.run c.deliver.new.crossing.buffers c.deliver.new.logs
-    c.requires.all (c.deliver.ensures.value c.args.clock.now)
+    (rw c.requires.all at c.deliver.ensures.value c.args.clock.now)
     ∙ ap (machine_after_delivery c.args.sizes.dims)
     (c.loop-dim.invariant.crossed ∙ ap (after_crossings c.args.sizes.dims c.args.sizes.room begun) all)
     ∙ sym (after_cycle-is c.args.sizes.dims c.args.sizes.room before)
 
 pub loop-dim-init : goal.loop-dim-init
 loop-dim-init c = record {
-  crossed = injected_whole c.args.sizes.dims c.args.sizes.room c.args.sizes.span c.args.clock.now c.args.run.now
+  crossed = injected_whole c.args.sizes.dims c.args.sizes.room c.args.clock.now c.args.run.now
       c.args.crossing.now.buffers c.args.logs.now c.inject.new.run c.inject.new.crossing.buffers c.inject.new.logs
-      c.requires.all c.inject.ensures.value;
+      (rw c.requires.all at c.inject.ensures.value);
   count = rw c.requires.all at c.inject.ensures.routers.buffer_count;
   within = c.inject.ensures.routers.within;
 }
