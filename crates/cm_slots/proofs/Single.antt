@@ -80,8 +80,8 @@ changed_queues chips chip tickets old new inside enough step =
 
 -- ---- what a contract sees of the tiles
 
-module _ (chips : ℕ) (v : Vec Tile) (leaving : List (Option (List ℕ))) (q : List (List Ticket)) (lent : List Tile)
-    (chip : ℕ) (are : AreTiles chips v.items leaving) (view : queues_in chips v.items ≡ q) (is : lent ≡ v.items)
+module _ {chips : ℕ} {leaving : List (Option (List ℕ))} {q : List (List Ticket)} {lent : List Tile} {chip : ℕ}
+    (v : Vec Tile) (are : AreTiles chips v.items leaving) (view : queues_in chips v.items ≡ q) (is : lent ≡ v.items)
     (inside : chip < length q) where
   chip_inside : chip < chips
   chip_inside = omega (arith, inside, ap length view, length-each_from 0 chips (tickets_of v.items))

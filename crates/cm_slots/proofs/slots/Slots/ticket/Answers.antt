@@ -5,15 +5,12 @@ use Rattle.cm_slots.proofs.Single.{chip_lent, tickets_lent}
 use Rattle.cm_slots.proofs.slots.Slots.ticket.Goals as goal
 
 pub ticket-requires-clause-chip : goal.ticket-requires-clause-chip
-ticket-requires-clause-chip c = chip_lent c.self.inside.chips c.self.inside.tiles c.self.inside.leaving.items
-    c.args.self.now
-    c.deref.result.now c.args.chip c.self.invariant c.self.view_is c.deref.ensures.value c.requires.chip
+ticket-requires-clause-chip c =
+    chip_lent c.self.inside.tiles c.self.invariant c.self.view_is c.deref.ensures.value c.requires.chip
 
 pub returns : goal.returns
 returns c = record {
-  value = c.ticket.ensures.value
-      ∙ ap (λ (ts : List Ticket). slice_get ts c.args.place) (tickets_lent c.self.inside.chips c.self.inside.tiles
-      c.self.inside.leaving.items c.args.self.now
-      c.deref.result.now c.args.chip c.self.invariant c.self.view_is c.deref.ensures.value c.requires.chip);
+  value = c.ticket.ensures.value ∙ ap (λ (ts : List Ticket). slice_get ts c.args.place)
+      (tickets_lent c.self.inside.tiles c.self.invariant c.self.view_is c.deref.ensures.value c.requires.chip);
   most = c.ticket.ensures.most;
 }
