@@ -1,10 +1,10 @@
 -- The tiles of a cube of chips, before and after a dimension.
-use Rattle.std.proofs.Common.{◌≡◌, ℕ, ◌+◌, ◌-◌, ◌/◌, ◌^◌, ◌<◌, ◌≤◌, eqb, false, List, [], length, Option}
+use Rattle.std.proofs.Common.{◌≡◌, ℕ, ◌+◌, ◌-◌, ◌/◌, ◌^◌, ◌<◌, ◌≤◌, List, [], length, Option}
 use Rattle.std.proofs.Common.{refl, sym}
 use Rattle.std.proofs.Common.{◌∙◌, ap, ⊎_elim, arith}
 use Rattle.std.specs.Prelude.{bit_xor}
 use Rattle.std.specs.List.{All}
-use Rattle.std.proofs.lemmas.Bool.{cases_lt, ne_eqb}
+use Rattle.std.proofs.lemmas.Bool.{cases_lt}
 use Rattle.std.proofs.lemmas.Nat.{xor_shr}
 use Rattle.cm_model.specs.Array.{each_chip, list_at}
 use Rattle.cm_model.proofs.Each.{length-each_from}
@@ -14,16 +14,15 @@ use Rattle.cm_slots.specs.declared.tile.Tile.{Tile}
 use Rattle.cm_slots.specs.Queues.{place_of_leaver}
 use Rattle.cm_slots.specs.Tickets.{exchanged}
 use Rattle.cm_slots.specs.Tiles.{tile_across, tickets_of, queues_in, IsTile, AreTiles}
+use Rattle.cm_slots.proofs.Departures.{not_full}
 use Rattle.cm_slots.proofs.Runs.{tiles_of_cube, across_in, crossed}
 
 -- where nobody stands and nobody comes, nobody stands
 exchanged-nobody : (room d : ℕ) → 0 < room → exchanged room d [] [] ≡ []
 unfolding place_of_leaver
-exchanged-nobody room d some =
-    let other : eqb 0 room ≡ false = ne_eqb 0 room (λ e. absurd (omega (arith, e))) in
-    rw other refl
+exchanged-nobody room d some = rw (not_full room some) refl
 
-module _ (chips room dims d : ℕ) (old : List Tile) (leaving : List (Option (List ℕ))) (q : List (List Ticket))
+module _ {chips dims d : ℕ} {old : List Tile} {leaving : List (Option (List ℕ))} {q : List (List Ticket)}
     (are : AreTiles chips old leaving) (view : queues_in chips old ≡ q) (count : length q ≡ 2 ^ dims) (below : d < dims)
   where
     chips_are : chips ≡ 2 ^ dims
@@ -35,7 +34,7 @@ module _ (chips room dims d : ℕ) (old : List Tile) (leaving : List (Option (Li
     pub across_inside : (t : ℕ) → t < length old → tile_across d t < length old
     across_inside t h = rw tiles_are (across_in dims d t below (rw tiles_are at h))
 
-    module _ (new : List Tile) (long : length new ≡ length old) (some : 0 < room) (whole : All IsTile new)
+    module _ (room : ℕ) (new : List Tile) (long : length new ≡ length old) (some : 0 < room) (whole : All IsTile new)
         (each : (c : ℕ) → c / 64 < length old
         → tickets_of new c ≡ exchanged room d (tickets_of old c) (tickets_of old (bit_xor c (2 ^ d)))) where
       past_after : (c : ℕ) → chips ≤ c → c / 64 < length new → tickets_of new c ≡ []

@@ -1,43 +1,29 @@
 -- The tiles of a run of chips, where who leaves has been taken out.
 use Rattle.std.proofs.Common.{◌≡◌, ℕ, ◌/◌, ◌<◌, ◌≤◌, eqb, false, List, [], length, map, Option, None, refl, sym}
-use Rattle.std.proofs.Common.{◌∙◌, ap, ⊎_elim, arith}
+use Rattle.std.proofs.Common.{◌∙◌, ap, arith}
 use Rattle.std.specs.List.{All}
-use Rattle.std.proofs.lemmas.Bool.{cases_lt, ne_eqb}
+use Rattle.std.proofs.lemmas.Bool.{ne_eqb}
 use Rattle.cm_model.specs.Each.{each_from}
-use Rattle.cm_model.specs.Array.{list_at}
 use Rattle.cm_model.proofs.Each.{length-each_from, get_or-each_below, same_each_below, map-each_from}
 use Rattle.cm_slots.specs.declared.ticket.Ticket.{Ticket}
 use Rattle.cm_slots.specs.declared.tile.Tile.{Tile}
 use Rattle.cm_slots.specs.Queues.{place_of_leaver, stayers_of}
 use Rattle.cm_slots.specs.Tickets.{has_to_go, ticket_going}
 use Rattle.cm_slots.specs.Tiles.{ticket_leaving, tickets_of, queues_in, IsTile, AreTiles}
+use Rattle.cm_slots.proofs.Single.{as_many}
+
+-- no chip is full at which nobody stands
+pub not_full : (room : ℕ) → 0 < room → eqb 0 room ≡ false
+not_full room some = ne_eqb 0 room (λ e. absurd (omega (arith, e)))
 
 -- nobody stays where nobody stood
 stayers-nobody : (room d : ℕ) → 0 < room → stayers_of (has_to_go d) room [] ≡ []
 unfolding place_of_leaver
-stayers-nobody room d some =
-    let other : eqb 0 room ≡ false = ne_eqb 0 room (λ e. absurd (omega (arith, e))) in
-    rw other refl
+stayers-nobody room d some = rw (not_full room some) refl
 
-module _ (chips room : ℕ) (old : List Tile) (leaving : List (Option (List ℕ))) (q : List (List Ticket))
+module _ {chips : ℕ} {old : List Tile} {leaving : List (Option (List ℕ))} {q : List (List Ticket)}
     (are : AreTiles chips old leaving) (view : queues_in chips old ≡ q) where
-  pub as_many : length q ≡ chips
-  as_many = sym (ap length view) ∙ length-each_from 0 chips (tickets_of old)
-
-  pub ticket_list : (c : ℕ) → c < chips → tickets_of old c ≡ list_at q c
-  ticket_list c h =
-      sym (get_or-each_below chips (tickets_of old) c [] h) ∙ ap (λ (r : List (List Ticket)). list_at r c) view
-
-  pub within_everywhere : All (λ ts. length ts ≤ room) q → (c : ℕ) → c / 64 < length old
-      → length (tickets_of old c) ≤ room
-  within_everywhere within c h =
-      ⊎_elim
-      (λ (l : c < chips). let inside : c < length q = omega (arith, l, as_many) in
-      omega (arith, ap length (ticket_list c l), within c [] inside))
-      (λ (l : chips ≤ c). omega (arith, ap length (are.past c l h)))
-      (cases_lt c chips)
-
-  module _ (d : ℕ) (new : List Tile) (long : length new ≡ length old) (some : 0 < room) (whole : All IsTile new)
+  module _ (room d : ℕ) (new : List Tile) (long : length new ≡ length old) (some : 0 < room) (whole : All IsTile new)
       (each : (c : ℕ) → c / 64 < length old
       → tickets_of new c ≡ stayers_of (has_to_go d) room (tickets_of old c)) where
     pub tiles_left : (leaving_new : List (Option (List ℕ))) → length leaving_new ≡ length leaving
@@ -70,12 +56,12 @@ module _ (chips room : ℕ) (old : List Tile) (leaving : List (Option (List ℕ)
         )
 
   -- who leaves, by chip
-  pub going_left : (d : ℕ) (leaving_new : List (Option (List ℕ))) (leavers : List (Option Ticket)) (count : ℕ)
+  pub going_left : (room d : ℕ) (leaving_new : List (Option (List ℕ))) (leavers : List (Option Ticket)) (count : ℕ)
       → count ≡ length q → leavers ≡ each_from 0 count (ticket_leaving leaving_new)
       → ((c : ℕ) → c / 64 < length old → ticket_leaving leaving_new c ≡ ticket_going room d (tickets_of old c))
       → leavers ≡ map (λ ts. ticket_going room d ts) q
-  going_left d leaving_new leavers count same made each =
-      made ∙ ap (λ (n : ℕ). each_from 0 n (ticket_leaving leaving_new)) (same ∙ as_many)
+  going_left room d leaving_new leavers count same made each =
+      made ∙ ap (λ (n : ℕ). each_from 0 n (ticket_leaving leaving_new)) (same ∙ as_many are view)
       ∙ same_each_below None chips (ticket_leaving leaving_new) (λ c. ticket_going room d (tickets_of old c))
       (λ c h. each c (omega (arith, h, are.count)))
       ∙ sym (map-each_from (λ (ts : List Ticket). ticket_going room d ts) 0 chips (tickets_of old))

@@ -164,38 +164,37 @@ tiles_within room tiles within t h i l =
 -- ---- both passes
 
 -- who leaves the tiles may be taken in across
-module _ (room d count : ℕ) (old left : List Tile) (leaving : List (Option (List ℕ)))
-    (long : length old ≡ count) (long_left : length left ≡ count) (rows : length leaving ≡ count)
-    (whole : All IsTile old)
-    (gone : (t : ℕ) → t < count → HasLeft room d (tile_at old t) (tile_at left t) (leavers_at leaving t)) where
+module _ {room d : ℕ} (old left : List Tile) (leaving : List (Option (List ℕ)))
+    (long_left : length left ≡ length old) (rows : length leaving ≡ length old) (whole : All IsTile old)
+    (gone : (t : ℕ) → t < length old → HasLeft room d (tile_at old t) (tile_at left t) (leavers_at leaving t)) where
   pub left_shaped : All IsShaped left
   left_shaped = All-from_get_or IsShaped left no_tile (λ t h. (gone t (omega (arith, long_left))).shape)
 
   pub leaving_long : All IsLong leaving
   leaving_long = All-from_get_or IsLong leaving None (λ t h. (gone t (omega (arith, rows))).long)
 
-  slots_are : (t i : ℕ) → t < count → i < 64
+  slots_are : (t i : ℕ) → t < length old → i < 64
       → AreSlots 15 (slots_of (tile_at old t) i) (standing_at (tile_at old t) i)
-  slots_are t i h l = (whole t no_tile (omega (arith, long))).queues i l
+  slots_are t i h l = (whole t no_tile h).queues i l
 
   -- who comes, by tile and place, is taken in behind who stays
-  module _ (coming : ℕ → ℕ → ℕ) (new : List Tile) (long_new : length new ≡ count)
-      (come : (t : ℕ) → t < count → HasTakenIn room (coming t) (tile_at left t) (tile_at new t)) where
+  module _ (coming : ℕ → ℕ → ℕ) (new : List Tile) (long_new : length new ≡ length old)
+      (come : (t : ℕ) → t < length old → HasTakenIn room (coming t) (tile_at left t) (tile_at new t)) where
     -- what stands at a chip then
     after : ℕ → ℕ → List ℕ
     after t i = stayers_of (crosses d) room (standing_at (tile_at old t) i) ++ comers (coming t i)
 
-    slots_after : (t i : ℕ) → t < count → i < 64 → AreSlots 15 (slots_of (tile_at new t) i) (after t i)
+    slots_after : (t i : ℕ) → t < length old → i < 64 → AreSlots 15 (slots_of (tile_at new t) i) (after t i)
     unfolding after
     slots_after t i h l = (come t h).came i (stayers_of (crosses d) room (standing_at (tile_at old t) i)) l
         ((gone t h).few i l) ((gone t h).stay i l)
 
-    standing_after : (t i : ℕ) → t < count → i < 64 → standing_at (tile_at new t) i ≡ after t i
+    standing_after : (t i : ℕ) → t < length old → i < 64 → standing_at (tile_at new t) i ≡ after t i
     standing_after t i h l = standing_is 15 (slots_of (tile_at new t) i) (after t i) (slots_after t i h l)
 
     pub whole_after : All IsTile new
     whole_after = All-from_get_or IsTile new no_tile (λ t h.
-        let inside : t < count = omega (arith, long_new) in
+        let inside : t < length old = omega (arith, long_new) in
         record {
           shape = (come t inside).shape;
           queues = λ i l. subst (AreSlots 15 (slots_of (tile_at new t) i)) (sym (standing_after t i inside l))
@@ -204,7 +203,7 @@ module _ (room d count : ℕ) (old left : List Tile) (leaving : List (Option (Li
         })
 
     -- no more than there is room for
-    few_after : (t i : ℕ) → t < count → i < 64 → length (after t i) ≤ room
+    few_after : (t i : ℕ) → t < length old → i < 64 → length (after t i) ≤ room
     unfolding after
     few_after t i h l =
         let stayers : List ℕ = stayers_of (crosses d) room (standing_at (tile_at old t) i) in
@@ -215,7 +214,7 @@ module _ (room d count : ℕ) (old left : List Tile) (leaving : List (Option (Li
           comers-few (coming t i),
         )
 
-    pub within_after : (c : ℕ) → c / 64 < count → length (tickets_of new c) ≤ room
+    pub within_after : (c : ℕ) → c / 64 < length old → length (tickets_of new c) ≤ room
     within_after c h =
         let xs : List ℕ = standing_at (tile_at new (c / 64)) (c % 64) in
         omega (
@@ -226,21 +225,21 @@ module _ (room d count : ℕ) (old left : List Tile) (leaving : List (Option (Li
         )
 
   -- nobody comes: the others close up
-  module _ (new : List Tile) (long_new : length new ≡ count)
-      (come : (t : ℕ) → t < count → HasTakenIn room (λ i. 0) (tile_at left t) (tile_at new t)) where
-    closed_at : (t i : ℕ) → t < count → i < 64
+  module _ (new : List Tile) (long_new : length new ≡ length old)
+      (come : (t : ℕ) → t < length old → HasTakenIn room (λ i. 0) (tile_at left t) (tile_at new t)) where
+    closed_at : (t i : ℕ) → t < length old → i < 64
         → standing_at (tile_at new t) i ≡ stayers_of (crosses d) room (standing_at (tile_at old t) i)
     unfolding after
     closed_at t i h l = standing_after (λ s j. 0) new long_new come t i h l
         ∙ append-nil (stayers_of (crosses d) room (standing_at (tile_at old t) i))
 
-    pub closed_up : (c : ℕ) → c / 64 < count
+    pub closed_up : (c : ℕ) → c / 64 < length old
         → tickets_of new c ≡ stayers_of (has_to_go d) room (tickets_of old c)
     closed_up c h =
         ap (map ticket_of) (closed_at (c / 64) (c % 64) h (omega arith))
         ∙ stayers-tickets d room (standing_at (tile_at old (c / 64)) (c % 64))
 
-    pub space_after : (c : ℕ) → c / 64 < count → length (tickets_of new c) < room
+    pub space_after : (c : ℕ) → c / 64 < length old → length (tickets_of new c) < room
     space_after c h =
         omega (
           arith,
@@ -250,7 +249,7 @@ module _ (room d count : ℕ) (old left : List Tile) (leaving : List (Option (Li
         )
 
   -- who leaves a chip
-  module _ (c : ℕ) (h : c / 64 < count) where
+  module _ (c : ℕ) (h : c / 64 < length old) where
     xs : List ℕ
     xs = standing_at (tile_at old (c / 64)) (c % 64)
 
@@ -276,12 +275,12 @@ module _ (room d count : ℕ) (old left : List Tile) (leaving : List (Option (Li
         (slots_are (c / 64) (c % 64) h place_low))
 
   -- what leaves goes across, and the tile across is one of these
-  module _ (across : (t : ℕ) → t < count → tile_across d t < count) where
-    arriving_is : (t i : ℕ) → t < count → i < 64 → arriving d leaving t i ≡ slot_across d
+  module _ (across : (t : ℕ) → t < length old → tile_across d t < length old) where
+    arriving_is : (t i : ℕ) → t < length old → i < 64 → arriving d leaving t i ≡ slot_across d
         (unwrap_or (leaver_of (crosses d) room (standing_at (tile_at old (tile_across d t)) (place_across d i))) 0)
     arriving_is t i h l = (gone (tile_across d t) (across t h)).going (place_across d i) (place_in d i l)
 
-    pub arriving_taken : (t i : ℕ) → t < count → i < 64 → arriving d leaving t i ≢ 0
+    pub arriving_taken : (t i : ℕ) → t < length old → i < 64 → arriving d leaving t i ≢ 0
         → is_taken (arriving d leaving t i) ≡ true
     arriving_taken t i h l =
         subst (λ (x : ℕ). x ≢ 0 → is_taken x ≡ true) (sym (arriving_is t i h l))
@@ -290,9 +289,9 @@ module _ (room d count : ℕ) (old left : List Tile) (leaving : List (Option (Li
         (slots_are (tile_across d t) (place_across d i) (across t h) (place_in d i l)))
 
     -- who comes stands across
-    module _ (new : List Tile) (long_new : length new ≡ count)
-        (come : (t : ℕ) → t < count → HasTakenIn room (arriving d leaving t) (tile_at left t) (tile_at new t)) where
-      tickets_after : (t i : ℕ) → t < count → i < 64
+    module _ (new : List Tile) (long_new : length new ≡ length old)
+        (come : (t : ℕ) → t < length old → HasTakenIn room (arriving d leaving t) (tile_at left t) (tile_at new t)) where
+      tickets_after : (t i : ℕ) → t < length old → i < 64
           → map ticket_of (standing_at (tile_at new t) i)
           ≡ exchanged room d (map ticket_of (standing_at (tile_at old t) i))
           (map ticket_of (standing_at (tile_at old (tile_across d t)) (place_across d i)))
@@ -309,7 +308,7 @@ module _ (room d count : ℕ) (old left : List Tile) (leaving : List (Option (Li
           ∙ ap (λ (zs : List ℕ). stayers_of (crosses d) room xs ++ zs) comes)
           ∙ exchanged-tickets d room xs ys
 
-      pub chip_after : (c : ℕ) → c / 64 < count
+      pub chip_after : (c : ℕ) → c / 64 < length old
           → tickets_of new c ≡ exchanged room d (tickets_of old c) (tickets_of old (bit_xor c (2 ^ d)))
       chip_after c h =
           let tile : bit_xor c (2 ^ d) / 64 ≡ tile_across d (c / 64) = xor_shr c (2 ^ d) 6 in

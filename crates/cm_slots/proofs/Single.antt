@@ -80,19 +80,37 @@ changed_queues chips chip tickets old new inside enough step =
 
 -- ---- what a contract sees of the tiles
 
+module _ {chips : ℕ} {tiles : List Tile} {leaving : List (Option (List ℕ))} {q : List (List Ticket)}
+    (are : AreTiles chips tiles leaving) (view : queues_in chips tiles ≡ q) where
+  pub as_many : length q ≡ chips
+  as_many = sym (ap length view) ∙ length-each_from 0 chips (tickets_of tiles)
+
+  pub ticket_list : (c : ℕ) → c < chips → tickets_of tiles c ≡ list_at q c
+  ticket_list c h =
+      sym (get_or-each_below chips (tickets_of tiles) c [] h) ∙ ap (λ (r : List (List Ticket)). list_at r c) view
+
+  -- no more than so many stand anywhere, also behind the last chip
+  pub within_everywhere : (room : ℕ) → All (λ ts. length ts ≤ room) q → (c : ℕ) → c / 64 < length tiles
+      → length (tickets_of tiles c) ≤ room
+  within_everywhere room within c h =
+      ⊎_elim
+      (λ (l : c < chips). let inside : c < length q = omega (arith, l, as_many) in
+      omega (arith, ap length (ticket_list c l), within c [] inside))
+      (λ (l : chips ≤ c). omega (arith, ap length (are.past c l h)))
+      (cases_lt c chips)
+
+-- a chip of tiles that were lent
 module _ {chips : ℕ} {leaving : List (Option (List ℕ))} {q : List (List Ticket)} {lent : List Tile} {chip : ℕ}
     (v : Vec Tile) (are : AreTiles chips v.items leaving) (view : queues_in chips v.items ≡ q) (is : lent ≡ v.items)
     (inside : chip < length q) where
   chip_inside : chip < chips
-  chip_inside = omega (arith, inside, ap length view, length-each_from 0 chips (tickets_of v.items))
+  chip_inside = omega (arith, inside, as_many are view)
 
   pub chip_lent : chip / 64 < length lent
   chip_lent = omega (arith, chip_inside, are.count, ap length is)
 
   pub tickets_lent : tickets_of lent chip ≡ list_at q chip
-  tickets_lent =
-      rw is (sym (get_or-each_below chips (tickets_of v.items) chip [] chip_inside)
-      ∙ ap (λ (r : List (List Ticket)). list_at r chip) view)
+  tickets_lent = rw is (ticket_list are view chip chip_inside)
 
   pub changed_view : (tickets : List Ticket) (now : List Tile) → length now ≡ length lent
       → IsChanged chip tickets lent now
@@ -181,22 +199,6 @@ few_in_tile room tiles t inside few i h =
     ∙ ap (λ (s : ℕ). length (standing_at (tile_at tiles s) (c % 64))) tile_is
     ∙ ap (λ (p : ℕ). length (standing_at (tile_at tiles t) p)) place_is in
     omega (arith, there, few c (omega (arith, tile_is, inside)))
-
--- no more than so many stand anywhere, also behind the last chip
-pub within_tiles : (chips room : ℕ) (tiles : List Tile) (leaving : List (Option (List ℕ))) (q : List (List Ticket))
-    → AreTiles chips tiles leaving → queues_in chips tiles ≡ q → All (λ ts. length ts ≤ room) q
-    → (c : ℕ) → c / 64 < length tiles → length (tickets_of tiles c) ≤ room
-within_tiles chips room tiles leaving q are view few c h = ⊎_elim
-    (λ (l : c < chips).
-    let long : length q ≡ chips = sym (ap length view) ∙ length-each_from 0 chips (tickets_of tiles) in
-    omega (
-      arith,
-      ap length (get_or-each_below chips (tickets_of tiles) c [] l),
-      ap (λ (r : List (List Ticket)). length (list_at r c)) view,
-      few c [] (omega (arith, long)),
-    ))
-    (λ (l : chips ≤ c). omega (arith, ap length (are.past c l h)))
-    (cases_lt c chips)
 
 pub within_view : (chips room : ℕ) (tiles : List Tile) (q : List (List Ticket)) → queues_in chips tiles ≡ q
     → ((c : ℕ) → c < chips → length (tickets_of tiles c) ≤ room) → All (λ ts. length ts ≤ room) q

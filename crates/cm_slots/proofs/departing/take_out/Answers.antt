@@ -1,7 +1,6 @@
-use Rattle.std.proofs.Common.{◌≡◌, ◌<◌, ℕ, length, ◌∙◌, sym, arith, refl}
+use Rattle.std.proofs.Common.{length, ◌∙◌, sym, arith}
 use Rattle.cm_slots.proofs.Runs.{tiles_within, left_shaped, leaving_long, whole_after, closed_up, space_after}
 use Rattle.cm_slots.proofs.Runs.{leaving_ticket, leaving_taken}
-use Rattle.cm_slots.specs.Tiles.{HasTakenIn, tile_at}
 use Rattle.cm_slots.proofs.departing.take_out.Goals as goal
 
 pub leave-requires-clause-within : goal.leave-requires-clause-within
@@ -10,43 +9,34 @@ leave-requires-clause-within c = λ t i h l. tiles_within c.args.room c.args.til
 pub close_up-requires : goal.close_up-requires
 close_up-requires c =
     let old = c.args.tiles.now in
-    let count = length old in
-    let left = c.leave.new.tiles in
-    let leaving = c.leave.new.leaving in
-    let long_left : length left ≡ count = c.leave.auto.tiles in
-    let rows : length leaving ≡ count = c.leave.auto.leaving ∙ c.requires.rows in
+    let now = c.leave.new.tiles in
+    let out = c.leave.new.leaving in
+    let rows = c.leave.auto.leaving ∙ c.requires.rows in
     record {
       some = c.requires.some;
       most = c.requires.most;
-      rows = rows ∙ sym long_left;
-      shape = left_shaped c.args.room c.args.dim count old left leaving refl long_left rows
-          c.requires.whole c.leave.ensures.value;
-      quiet = λ t h. (c.leave.ensures.value t (omega (arith, long_left))).quiet;
+      rows = rows ∙ sym c.leave.auto.tiles;
+      shape = left_shaped old now out c.leave.auto.tiles rows c.requires.whole c.leave.ensures.value;
+      quiet = λ t h. (c.leave.ensures.value t (omega (arith, c.leave.auto.tiles))).quiet;
     }
 
 pub returns : goal.returns
 returns c =
     let old = c.args.tiles.now in
-    let count = length old in
-    let left = c.leave.new.tiles in
-    let leaving = c.leave.new.leaving in
-    let new = c.close_up.new.tiles in
-    let long_left : length left ≡ count = c.leave.auto.tiles in
-    let rows : length leaving ≡ count = c.leave.auto.leaving ∙ c.requires.rows in
-    let long_new : length new ≡ count = c.close_up.auto.tiles ∙ long_left in
-    let come : (t : ℕ) → t < count → HasTakenIn c.args.room (λ i. 0) (tile_at left t) (tile_at new t) =
-    λ t h. c.close_up.ensures.value t (omega (arith, long_left)) in
+    let now = c.leave.new.tiles in
+    let out = c.leave.new.leaving in
+    let left = c.leave.auto.tiles in
+    let rows = c.leave.auto.leaving ∙ c.requires.rows in
+    let gone = c.leave.ensures.value in
+    let long = c.close_up.auto.tiles ∙ left in
     record {
-      value = closed_up c.args.room c.args.dim count old left leaving refl long_left rows
-          c.requires.whole c.leave.ensures.value new long_new come;
-      going = leaving_ticket c.args.room c.args.dim count old left leaving refl long_left rows
-          c.requires.whole c.leave.ensures.value;
-      taken = leaving_taken c.args.room c.args.dim count old left leaving refl long_left rows
-          c.requires.whole c.leave.ensures.value;
-      long = leaving_long c.args.room c.args.dim count old left leaving refl long_left rows
-          c.requires.whole c.leave.ensures.value;
-      whole = whole_after c.args.room c.args.dim count old left leaving refl long_left rows
-          c.requires.whole c.leave.ensures.value (λ t i. 0) new long_new come;
-      space = space_after c.args.room c.args.dim count old left leaving refl long_left rows
-          c.requires.whole c.leave.ensures.value new long_new come;
+      value = closed_up old now out left rows c.requires.whole gone c.close_up.new.tiles long
+          (λ t h. c.close_up.ensures.value t (omega (arith, left)));
+      going = leaving_ticket old now out left rows c.requires.whole gone;
+      taken = leaving_taken old now out left rows c.requires.whole gone;
+      long = leaving_long old now out left rows c.requires.whole gone;
+      whole = whole_after old now out left rows c.requires.whole gone (λ t i. 0) c.close_up.new.tiles long
+          (λ t h. c.close_up.ensures.value t (omega (arith, left)));
+      space = space_after old now out left rows c.requires.whole gone c.close_up.new.tiles long
+          (λ t h. c.close_up.ensures.value t (omega (arith, left)));
     }

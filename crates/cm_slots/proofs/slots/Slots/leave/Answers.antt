@@ -1,81 +1,62 @@
-use Rattle.std.proofs.Common.{◌≡◌, ◌<◌, List, length, ap, ◌∙◌, subst, sym, arith}
+use Rattle.std.proofs.Common.{◌<◌, List, length, ap, ◌∙◌, subst, sym, arith}
 use Rattle.std.specs.List.{All}
 use Rattle.cm_slots.specs.declared.tile.Tile.{Tile}
-use Rattle.cm_slots.specs.Tiles.{queues_in, AreTiles}
+use Rattle.cm_slots.specs.Tiles.{queues_in}
 use Rattle.cm_slots.proofs.Runs.{items-lent}
-use Rattle.cm_slots.proofs.Departures.{as_many, within_everywhere, tiles_left, queues_left, space_left, going_left}
+use Rattle.cm_slots.proofs.Departures.{tiles_left, queues_left, space_left, going_left}
+use Rattle.cm_slots.proofs.Single.{as_many, within_everywhere}
 use Rattle.cm_slots.proofs.slots.Slots.leave.Goals as goal
 
 pub take_out-requires-clause-within : goal.take_out-requires-clause-within
 take_out-requires-clause-within c =
-    rw (c.from.ensures, c.deref_mut.ensures.value) (within_everywhere c.self.inside.chips c.args.room
-    c.self.inside.tiles.items c.self.inside.leaving.items c.args.self.now c.self.invariant c.self.view_is
-    c.requires.within)
+    rw (c.from.ensures, c.deref_mut.ensures.value)
+    (within_everywhere c.self.invariant c.self.view_is c.args.room c.requires.within)
 
 pub write_down-requires-clause-enough : goal.write_down-requires-clause-enough
 write_down-requires-clause-enough c =
-    let inside = c.self.inside in
-    let rows : length c.take_out.new.leaving ≡ length inside.leaving.items =
-    c.take_out.auto.leaving ∙ ap length c.deref_mut-2.ensures.value in
-    let written : c.deref.result.now ≡ c.take_out.new.leaving =
-    c.deref.ensures.value ∙ items-lent inside.leaving c.take_out.new.leaving rows in
-    let many : length c.args.self.now ≡ inside.chips =
-    as_many inside.chips c.args.room inside.tiles.items inside.leaving.items c.args.self.now c.self.invariant
-    c.self.view_is in
+    let rows = c.take_out.auto.leaving ∙ ap length c.deref_mut-2.ensures.value in
+    let written = c.deref.ensures.value ∙ items-lent c.self.inside.leaving c.take_out.new.leaving rows in
     λ k h. omega (
       arith,
       ap length written,
       rows,
       c.self.invariant.rows,
       c.self.invariant.count,
-      many,
+      as_many c.self.invariant c.self.view_is,
       c.requires.count,
     )
 
 pub invariant_of-self : goal.invariant_of-self
 invariant_of-self c =
     let inside = c.self.inside in
-    let long : length c.take_out.new.tiles ≡ length inside.tiles.items =
-    c.take_out.auto.tiles ∙ ap length c.deref_mut.ensures.value in
-    let rows : length c.take_out.new.leaving ≡ length inside.leaving.items =
-    c.take_out.auto.leaving ∙ ap length c.deref_mut-2.ensures.value in
-    let are : AreTiles inside.chips c.take_out.new.tiles c.take_out.new.leaving =
-    tiles_left inside.chips c.args.room inside.tiles.items inside.leaving.items c.args.self.now
-    c.self.invariant c.self.view_is c.args.dim c.take_out.new.tiles long c.requires.some
+    let new = c.take_out.new in
+    let long = c.take_out.auto.tiles ∙ ap length c.deref_mut.ensures.value in
+    let rows = c.take_out.auto.leaving ∙ ap length c.deref_mut-2.ensures.value in
+    rw (items-lent inside.tiles new.tiles long, items-lent inside.leaving new.leaving rows)
+    (tiles_left c.self.invariant c.self.view_is c.args.room c.args.dim new.tiles long c.requires.some
     c.take_out.ensures.whole (rw (c.from.ensures, c.deref_mut.ensures.value) at c.take_out.ensures.value)
-    c.take_out.new.leaving rows in
-    rw (items-lent inside.tiles c.take_out.new.tiles long, items-lent inside.leaving c.take_out.new.leaving rows) are
+    new.leaving rows)
 
 pub returns-clause-value : goal.returns-clause-value
 returns-clause-value c =
-    let inside = c.self.inside in
-    let long : length c.take_out.new.tiles ≡ length inside.tiles.items =
-    c.take_out.auto.tiles ∙ ap length c.deref_mut.ensures.value in
-    ap (queues_in inside.chips) (items-lent inside.tiles c.take_out.new.tiles long)
-    ∙ queues_left inside.chips c.args.room inside.tiles.items inside.leaving.items c.args.self.now
-    c.self.invariant c.self.view_is c.args.dim c.take_out.new.tiles long c.requires.some
+    let long = c.take_out.auto.tiles ∙ ap length c.deref_mut.ensures.value in
+    ap (queues_in c.self.inside.chips) (items-lent c.self.inside.tiles c.take_out.new.tiles long)
+    ∙ queues_left c.self.invariant c.self.view_is c.args.room c.args.dim c.take_out.new.tiles long c.requires.some
     c.take_out.ensures.whole (rw (c.from.ensures, c.deref_mut.ensures.value) at c.take_out.ensures.value)
 
 pub returns-clause-going : goal.returns-clause-going
 returns-clause-going c =
-    let inside = c.self.inside in
-    let rows : length c.take_out.new.leaving ≡ length inside.leaving.items =
-    c.take_out.auto.leaving ∙ ap length c.deref_mut-2.ensures.value in
-    let written : c.deref.result.now ≡ c.take_out.new.leaving =
-    c.deref.ensures.value ∙ items-lent inside.leaving c.take_out.new.leaving rows in
-    going_left inside.chips c.args.room inside.tiles.items inside.leaving.items c.args.self.now
-    c.self.invariant c.self.view_is c.args.dim c.take_out.new.leaving c.write_down.new.leavers
+    let rows = c.take_out.auto.leaving ∙ ap length c.deref_mut-2.ensures.value in
+    let written = c.deref.ensures.value ∙ items-lent c.self.inside.leaving c.take_out.new.leaving rows in
+    going_left c.self.invariant c.self.view_is c.args.room c.args.dim c.take_out.new.leaving c.write_down.new.leavers
     (length c.args.leavers.now) c.requires.count (rw written at c.write_down.ensures.value)
     (rw (c.from.ensures, c.deref_mut.ensures.value) at c.take_out.ensures.going)
 
 pub returns-clause-space : goal.returns-clause-space
 returns-clause-space c =
-    let inside = c.self.inside in
-    let long : length c.take_out.new.tiles ≡ length inside.tiles.items =
-    c.take_out.auto.tiles ∙ ap length c.deref_mut.ensures.value in
-    subst (λ (tiles : List Tile). All (λ ts. length ts < c.args.room) (queues_in inside.chips tiles))
-    (sym (items-lent inside.tiles c.take_out.new.tiles long))
-    (space_left inside.chips c.args.room inside.tiles.items inside.leaving.items c.args.self.now
-    c.self.invariant c.self.view_is c.args.dim c.take_out.new.tiles long c.requires.some
+    let long = c.take_out.auto.tiles ∙ ap length c.deref_mut.ensures.value in
+    subst (λ (tiles : List Tile). All (λ ts. length ts < c.args.room) (queues_in c.self.inside.chips tiles))
+    (sym (items-lent c.self.inside.tiles c.take_out.new.tiles long))
+    (space_left c.self.invariant c.self.view_is c.args.room c.args.dim c.take_out.new.tiles long c.requires.some
     c.take_out.ensures.whole (rw (c.from.ensures, c.deref_mut.ensures.value) at c.take_out.ensures.value)
     (rw (c.from.ensures, c.deref_mut.ensures.value) at c.take_out.ensures.space))
