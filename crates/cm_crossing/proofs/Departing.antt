@@ -10,6 +10,7 @@ use Rattle.cm_slots.specs.declared.ticket.Ticket.{Ticket}
 use Rattle.cm_slots.specs.Queues.{place_of_leaver, stayers_of}
 use Rattle.cm_slots.specs.Tickets.{has_to_go, ticket_going}
 use Rattle.cm_crossing.specs.Standing.{message_of, standing, all_standing, AreKept, IsKept}
+use Rattle.cm_crossing.proofs.Wholes.{as_many_stand}
 use Rattle.cm_crossing.proofs.Carrying.{same_place, without-standing, going-standing, without_kept, going_kept}
 
 -- ---- who stays
@@ -44,13 +45,7 @@ pub messages_below : (cap : ℕ) (row : List Message) (queues : List (List Ticke
     → All (λ ts. length ts < cap) queues → All (λ ms. length ms < cap) (all_standing row queues)
 messages_below cap row queues h k d l =
     let there : k < length queues = omega (arith, length-map queues (standing row)) in
-    let ts : List Ticket = get_or queues k [] in
-    omega (
-      arith,
-      h k [] there,
-      ap length (get_or-map (standing row) queues k [] d there),
-      length-map ts (λ (t : Ticket). message_of row t),
-    )
+    omega (arith, h k [] there, as_many_stand row queues k d l)
 
 -- ---- who leaves
 

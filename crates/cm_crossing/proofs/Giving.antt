@@ -1,9 +1,9 @@
 -- Delivery at one chip, ticket by ticket.
-use Rattle.std.proofs.Common.{◌≡◌, ℕ, suc, ◌<◌, List, [], ◌++◌, map, get_or, remove, set, take, drop, Some}
-use Rattle.std.proofs.Common.{sym, ap, ◌∙◌}
+use Rattle.std.proofs.Common.{◌≡◌, ℕ, suc, ◌<◌, List, [], ◌++◌, length, map, get_or, remove, set, take, drop, Some}
+use Rattle.std.proofs.Common.{sym, ap, ◌∙◌, arith}
 use Rattle.std.specs.List.{slice_get}
 use Rattle.std.proofs.lemmas.Option.{slice_get_within, get_or_from_slice_get}
-use Rattle.std.proofs.lemmas.List.{map-append, take-map, drop-map, get_or-map, set-set}
+use Rattle.std.proofs.lemmas.List.{length-map, map-append, take-map, drop-map, get_or-map, set-set}
 use Rattle.std.proofs.lemmas.List.Elements.{All-append, All-take, All-drop}
 use Rattle.cm_model.specs.declared.message.Message.{Message}
 use Rattle.cm_model.specs.Processor.{Processor}
@@ -28,6 +28,22 @@ pub read_standing : (row : List Message) (ts : List Ticket) (i : ℕ) (t : Ticke
     → get_or (standing row ts) i (message_of row t) ≡ message_of row t
 read_standing row ts i t found = get_or-map (message_of row) ts i t (message_of row t) (slice_get_within ts i t found)
     ∙ ap (message_of row) (get_or_from_slice_get ts i t t found)
+
+-- a ticket that was read stands at its place, and its message too
+pub record IsRead (row : List Message) (ts : List Ticket) (i : ℕ) (t : Ticket) : Type 0 where
+  pub inside : i < length ts
+  pub there : i < length (standing row ts)
+  pub message : get_or (standing row ts) i (message_of row t) ≡ message_of row t
+
+pub is_read : (row : List Message) (ts : List Ticket) (i : ℕ) (t : Ticket) → slice_get ts i ≡ Some t
+    → IsRead row ts i t
+is_read row ts i t found =
+    let low : i < length ts = slice_get_within ts i t found in
+    record {
+      inside = low;
+      there = omega (arith, low, length-map ts (message_of row));
+      message = read_standing row ts i t found;
+    }
 
 -- of all chips only this one was changed, once more
 pub others_still : (run now next : List (List Processor)) (c : ℕ) → now ≡ set run c (get_or now c [])

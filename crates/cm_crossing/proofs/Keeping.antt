@@ -1,9 +1,11 @@
 -- Tickets and the row of messages that they stand for, as a petit cycle begins and ends.
 use Rattle.std.proofs.Common.{◌≡◌, ◌≢◌, ℕ, suc, ◌+◌, ◌-◌, ◌<◌, ◌≤◌, ◌++◌, Some, List, []}
 use Rattle.std.proofs.Common.{◌∷◌, length, take, drop, set, get_or, refl, sym, ap, ◌∙◌, subst, arith, ⊎_elim}
-use Rattle.std.proofs.Common.{below_more}
+use Rattle.std.proofs.Common.{Bool, false, true, Option, below_more}
+use Rattle.std.specs.Prelude.{Vec}
+use Rattle.std.specs.declared.alloc.Global.{Global}
 use Rattle.std.proofs.Common.{get_or-set_same, get_or-set_other}
-use Rattle.std.specs.List.{slice_get, slice_range}
+use Rattle.std.specs.List.{All, slice_get, slice_range}
 use Rattle.std.proofs.Math.Seq.{drop-append_seam, take-length}
 use Rattle.std.proofs.lemmas.Bool.{cases_eq}
 use Rattle.std.proofs.lemmas.Option.{slice_get_within, get_or_from_slice_get}
@@ -16,7 +18,7 @@ use Rattle.cm_model.specs.declared.message.Message.{Message}
 use Rattle.cm_slots.specs.declared.ticket.Ticket.{Ticket}
 use Rattle.cm_model.specs.Array.{list_at}
 use Rattle.cm_crossing.specs.Standing.{no_message, message_of, standing, all_standing, AreKept, no_ticket, start_of}
-use Rattle.cm_crossing.specs.Standing.{AreTogether}
+use Rattle.cm_crossing.specs.Standing.{AreTogether, IsCrossing}
 
 -- ---- a longer row
 
@@ -263,3 +265,23 @@ laid_out_all row spare before queues last all is =
     let there : c < length before = omega (arith, is.long) in
     get_or-map (standing spare) queues c [] [] inside ∙ is.value c (omega arith) there
     ∙ sym (get_or-map (standing row) before c [] [] there))
+
+-- ---- other tickets for messages of the same row
+
+-- tickets have moved, as many queues and leavers as before
+pub still_crossing : {row spare : Vec Message Global} {places : ℕ} {old : List (List Ticket)}
+    {leavers leavers_now : Vec (Option Ticket) Global} {gathered : Bool}
+    → IsCrossing row spare places old leavers gathered → (now : List (List Ticket)) → length now ≡ length old
+    → length leavers_now.items ≡ length leavers.items → All (AreKept (length row.items)) now
+    → IsCrossing row spare places now leavers_now false
+still_crossing was now same many kept = record {
+  few = omega (arith, same, was.few);
+  enough = omega (arith, same, was.enough);
+  most = was.most;
+  capacity = was.capacity;
+  spare_capacity = was.spare_capacity;
+  filled = was.filled;
+  rows = many ∙ was.rows ∙ sym same;
+  kept = kept;
+  together = λ gathered. let wrong : false ≡ true = gathered in absurd cc;
+}

@@ -31,17 +31,26 @@ tickets_within cap row queues h k d l =
           (λ (t : Ticket). message_of row t),
     )
 
+-- a chip of which messages are told
+pub chip_inside : (row : List Message) (queues : List (List Ticket)) (buffers : List (List Message)) (i : ℕ)
+    → all_standing row queues ≡ buffers → i < length buffers → i < length queues
+chip_inside row queues buffers i view inside = omega (arith, inside, ap length view, length-map queues (standing row))
+
+-- a ticket for each message
+pub as_many_stand : (row : List Message) (queues : List (List Ticket)) (k : ℕ) (d : List Message)
+    → k < length (all_standing row queues)
+    → length (get_or (all_standing row queues) k d) ≡ length (get_or queues k [])
+as_many_stand row queues k d l =
+    ap length (get_or-map (standing row) queues k [] d (chip_inside row queues (all_standing row queues) k refl l))
+    ∙ length-map (get_or queues k []) (message_of row)
+
 pub messages_within : (cap : ℕ) (row : List Message) (queues : List (List Ticket))
     → All (λ ts. length ts ≤ cap) queues → All (λ ms. length ms ≤ cap) (all_standing row queues)
 messages_within cap row queues h k d l =
-    let there : k < length queues = omega (arith, length-map queues (standing row)) in
-    let ts : List Ticket = get_or queues k [] in
     omega (
       arith,
-      h k [] there,
-      ap length (get_or-map (standing row) queues k [] d there),
-      length-map ts
-          (λ (t : Ticket). message_of row t),
+      h k [] (chip_inside row queues (all_standing row queues) k refl l),
+      as_many_stand row queues k d l,
     )
 
 -- no more than none is none

@@ -15,7 +15,7 @@ use Rattle.cm_crossing.specs.Standing.{message_of, standing, AreKept}
 use Rattle.cm_crossing.proofs.Changing.{not_written, written_here, written_again, written_long}
 use Rattle.cm_model.proofs.Scan.{scan_begins, scan_accepts, scan_keeps, scan_ends}
 use Rattle.cm_crossing.proofs.Giving.{remove-standing, remove_kept}
-use Rattle.cm_crossing.proofs.Giving.{read_standing, others_still}
+use Rattle.cm_crossing.proofs.Giving.{is_read, others_still}
 use Rattle.cm_crossing.proofs.row.give_out.Goals as goal
 
 pub loop-ticket-init : goal.loop-ticket-init
@@ -68,15 +68,12 @@ loop-ticket-preserved-then-ticket-ne0 c =
     let t : Ticket = c.in-Some.ticket in
     let m : Message = message_of row t in
     let now : List Message = standing row queue in
-    let found : slice_get queue was.place ≡ Some t =
-    sym (rw c.from-at.ensures at c.ticket.ensures.value) ∙ c.in-Some.is in
-    let inside : was.place < length queue = slice_get_within queue was.place t found in
-    let there : was.place < length now = omega (arith, length-map queue (message_of row)) in
+    let read = is_read row queue was.place t (sym (rw c.from-at.ensures at c.ticket.ensures.value) ∙ c.in-Some.is) in
     let chip = get_or was.run here [] in
     let before = get_or c.args.run.now here [] in
     record {
       scan = scan_keeps before (standing row (list_at c.args.slots.now here)) c.args.log.now.items c.args.here chip chip
-          now was.place was.log.items m was.invariant.scan there (read_standing row queue was.place t found)
+          now was.place was.log.items m was.invariant.scan read.there read.message
           (λ seen gone. c.who_has_not_arrived_is_kept.ensures.law before seen m chip
           (ne_eqb t.rel 0 c.if-ticket-ne0.true) gone);
       run = was.invariant.run;
@@ -96,12 +93,9 @@ loop-ticket-preserved-then-hand_over c =
     let queue : List Ticket = list_at was.slots here in
     let m : Message = c.message_of-message.result in
     let now : List Message = standing row queue in
-    let found : slice_get queue was.place ≡ Some c.in-Some.ticket =
-    sym (rw c.from-at.ensures at c.ticket.ensures.value) ∙ c.in-Some.is in
-    let inside : was.place < length queue = slice_get_within queue was.place c.in-Some.ticket found in
-    let there : was.place < length now = omega (arith, length-map queue (message_of row)) in
-    let next : get_or now was.place m ≡ m =
-    rw c.message_of-message.ensures.value (read_standing row queue was.place c.in-Some.ticket found) in
+    let read = is_read row queue was.place c.in-Some.ticket
+    (sym (rw c.from-at.ensures at c.ticket.ensures.value) ∙ c.in-Some.is) in
+    let next : get_or now was.place m ≡ m = rw c.message_of-message.ensures.value read.message in
     let told = c.hand_over.ensures.log
     ∙ ap (λ (b : Bool). was.log.items ++ (if b then Delivered m c.args.here ∷ [] else [])) c.if-hand_over.true in
     let step = rw c.if-hand_over.true at (c.hand_over.ensures.step (get_or c.args.run.now c.args.chip [])) in
@@ -111,12 +105,12 @@ loop-ticket-preserved-then-hand_over c =
     written_here here was.slots c.remove.new.self (remove queue was.place) chip_there
     (rw c.from-at.ensures at c.remove.ensures.value) in
     let shorter : length (list_at c.remove.new.self here) + 1 ≡ length queue =
-    ap (λ (ts : List Ticket). length ts + 1) is ∙ length-remove queue was.place inside in
+    ap (λ (ts : List Ticket). length ts + 1) is ∙ length-remove queue was.place read.inside in
     record {
       scan = rw (is, told, remove-standing row queue was.place)
           (scan_accepts (get_or c.args.run.now c.args.chip []) (standing row (list_at c.args.slots.now here))
           c.args.log.now.items c.args.here (get_or was.run c.args.chip [])
-          (get_or c.hand_over.new.run c.args.chip []) now was.place was.log.items m was.invariant.scan there next
+          (get_or c.hand_over.new.run c.args.chip []) now was.place was.log.items m was.invariant.scan read.there next
           step);
       run = others_still c.args.run.now was.run c.hand_over.new.run c.args.chip was.invariant.run
           c.hand_over.ensures.others;
@@ -160,12 +154,9 @@ loop-ticket-preserved c =
     let queue : List Ticket = list_at was.slots here in
     let m : Message = c.message_of-message.result in
     let now : List Message = standing row queue in
-    let found : slice_get queue was.place ≡ Some c.in-Some.ticket =
-    sym (rw c.from-at.ensures at c.ticket.ensures.value) ∙ c.in-Some.is in
-    let inside : was.place < length queue = slice_get_within queue was.place c.in-Some.ticket found in
-    let there : was.place < length now = omega (arith, length-map queue (message_of row)) in
-    let next : get_or now was.place m ≡ m =
-    rw c.message_of-message.ensures.value (read_standing row queue was.place c.in-Some.ticket found) in
+    let read = is_read row queue was.place c.in-Some.ticket
+    (sym (rw c.from-at.ensures at c.ticket.ensures.value) ∙ c.in-Some.is) in
+    let next : get_or now was.place m ≡ m = rw c.message_of-message.ensures.value read.message in
     let told = c.hand_over.ensures.log
     ∙ ap (λ (b : Bool). was.log.items ++ (if b then Delivered m c.args.here ∷ [] else [])) c.if-hand_over.false
     ∙ append-nil was.log.items in
@@ -175,7 +166,7 @@ loop-ticket-preserved c =
       scan = rw told
           (scan_keeps (get_or c.args.run.now c.args.chip []) (standing row (list_at c.args.slots.now here))
           c.args.log.now.items c.args.here (get_or was.run c.args.chip [])
-          (get_or c.hand_over.new.run c.args.chip []) now was.place was.log.items m was.invariant.scan there next
+          (get_or c.hand_over.new.run c.args.chip []) now was.place was.log.items m was.invariant.scan read.there next
           step);
       run = others_still c.args.run.now was.run c.hand_over.new.run c.args.chip was.invariant.run
           c.hand_over.ensures.others;

@@ -9,9 +9,6 @@ leave-requires-clause-within c = λ t i h l. tiles_within c.args.room c.args.til
 
 pub take_in-requires : goal.take_in-requires
 take_in-requires c =
-    let old = c.args.tiles.now in
-    let now = c.leave.new.tiles in
-    let out = c.leave.new.leaving in
     let same = c.leave.auto.tiles in
     let many = c.leave.auto.leaving ∙ c.requires.rows in
     let gone = c.leave.ensures.value in
@@ -21,17 +18,14 @@ take_in-requires c =
       most = c.requires.most;
       rows = many ∙ sym same;
       across = λ t h. rw same (c.requires.across t (omega (arith, same)));
-      shape = left_shaped old now out same many c.requires.whole gone;
-      long = leaving_long old now out same many c.requires.whole gone;
+      shape = left_shaped _ _ _ same many c.requires.whole gone;
+      long = leaving_long _ _ _ same many c.requires.whole gone;
       quiet = λ t h. (gone t (omega (arith, same))).quiet;
-      taken = λ t i h. arriving_taken old now out same many c.requires.whole gone c.requires.across t i (omega (arith, same));
+      taken = λ t i h. arriving_taken _ _ _ same many c.requires.whole gone c.requires.across t i (omega (arith, same));
     }
 
 pub returns : goal.returns
 returns c =
-    let old = c.args.tiles.now in
-    let now = c.leave.new.tiles in
-    let out = c.leave.new.leaving in
     let same = c.leave.auto.tiles in
     let many = c.leave.auto.leaving ∙ c.requires.rows in
     let gone = c.leave.ensures.value in
@@ -39,10 +33,10 @@ returns c =
     let long = c.take_in.auto.tiles ∙ same in
     let coming = arriving c.args.dim c.leave.new.leaving in
     record {
-      value = chip_after old now out same many c.requires.whole gone c.requires.across new long
+      value = chip_after _ _ _ same many c.requires.whole gone c.requires.across new long
           (λ t h. c.take_in.ensures.value t (omega (arith, same)));
-      whole = whole_after old now out same many c.requires.whole gone coming new long
+      whole = whole_after _ _ _ same many c.requires.whole gone coming new long
           (λ t h. c.take_in.ensures.value t (omega (arith, same)));
-      within = within_after old now out same many c.requires.whole gone coming new long
+      within = within_after _ _ _ same many c.requires.whole gone coming new long
           (λ t h. c.take_in.ensures.value t (omega (arith, same)));
     }

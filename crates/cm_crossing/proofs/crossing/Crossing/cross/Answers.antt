@@ -1,4 +1,4 @@
-use Rattle.std.proofs.Common.{◌≡◌, ◌^◌, false, true, List, length, sym, ap, ◌∙◌, subst, arith}
+use Rattle.std.proofs.Common.{◌≡◌, ◌^◌, List, length, refl, sym, ap, ◌∙◌, subst}
 use Rattle.std.specs.Prelude.{bit_xor}
 use Rattle.std.specs.List.{All}
 use Rattle.std.proofs.lemmas.List.{length-map}
@@ -10,6 +10,7 @@ use Rattle.cm_slots.specs.declared.ticket.Ticket.{Ticket}
 use Rattle.cm_slots.specs.Tickets.{exchanged}
 use Rattle.cm_crossing.specs.Standing.{UnderWay, standing, all_standing, AreKept}
 use Rattle.cm_crossing.proofs.Wholes.{tickets_within, messages_within, crossed_standing, crossed_kept}
+use Rattle.cm_crossing.proofs.Keeping.{still_crossing}
 use Rattle.cm_crossing.proofs.crossing.Crossing.cross.Goals as goal
 
 pub cross-requires-clause-count : goal.cross-requires-clause-count
@@ -33,20 +34,11 @@ invariant_of-self c =
     ∙ length-each_from 0 (2 ^ c.args.sizes.span)
     (λ k. exchanged c.args.sizes.room c.args.dim (list_at old k) (list_at old (bit_xor k (2 ^ c.args.dim))))
     ∙ sym long in
-    record {
-      few = omega (arith, same, c.self.invariant.few);
-      enough = omega (arith, same, c.self.invariant.enough);
-      most = c.self.invariant.most;
-      capacity = c.self.invariant.capacity;
-      spare_capacity = c.self.invariant.spare_capacity;
-      together = λ gathered. let wrong : false ≡ true = gathered in absurd cc;
-      filled = c.self.invariant.filled;
-      rows = c.self.invariant.rows ∙ sym same;
-      kept = subst (λ (queues : List (List Ticket)). All (AreKept (length inside.row.items)) queues)
-          (sym c.cross.ensures.value)
-          (crossed_kept c.args.sizes.span c.args.sizes.room c.args.dim (length inside.row.items) old c.requires.dim long
-          c.self.invariant.kept);
-    }
+    still_crossing c.self.invariant new same refl
+    (subst (λ (queues : List (List Ticket)). All (AreKept (length inside.row.items)) queues)
+    (sym c.cross.ensures.value)
+    (crossed_kept c.args.sizes.span c.args.sizes.room c.args.dim (length inside.row.items) old c.requires.dim long
+    c.self.invariant.kept))
 
 pub returns-clause-value : goal.returns-clause-value
 returns-clause-value c =

@@ -1,12 +1,10 @@
 use Rattle.std.proofs.Common.{◌≡◌, ◌<◌, ◌≤◌, List, [], length, get_or, set, ap, ◌∙◌, arith}
-use Rattle.std.specs.List.{All}
-use Rattle.std.proofs.lemmas.List.{length-map}
 use Rattle.cm_model.specs.declared.message.Message.{Message}
 use Rattle.cm_model.specs.Array.{list_at}
 use Rattle.cm_slots.specs.declared.ticket.Ticket.{Ticket}
 use Rattle.cm_model.specs.OneChip.{kept_here}
 use Rattle.cm_crossing.specs.Standing.{UnderWay, standing, all_standing}
-use Rattle.cm_crossing.proofs.Wholes.{tickets_within}
+use Rattle.cm_crossing.proofs.Wholes.{chip_inside, tickets_within}
 use Rattle.cm_crossing.proofs.Changing.{written_standing, changed_within, standing_read}
 use Rattle.cm_crossing.proofs.crossing.Crossing.deliver.Goals as goal
 
@@ -14,17 +12,10 @@ pub give_out-requires-clause-room : goal.give_out-requires-clause-room
 give_out-requires-clause-room c =
     let slots : List (List Ticket) = c.self.inside.slots in
     let row : List Message = c.self.inside.row.items in
-    let inside : c.args.chip < length slots =
-    omega (
-      arith,
-      c.requires.chip,
-      ap (λ (u : UnderWay). length u.buffers) c.self.view_is,
-      length-map slots (standing
-          row),
-    ) in
-    let messages : All (λ (ms : List Message). length ms ≤ c.args.sizes.room) (all_standing row slots) =
-    rw (ap (λ (u : UnderWay). u.buffers) c.self.view_is) c.requires.within in
-    omega (arith, tickets_within c.args.sizes.room row slots messages c.args.chip [] inside, c.requires.room)
+    let view = ap (λ (u : UnderWay). u.buffers) c.self.view_is in
+    let inside = chip_inside row slots c.args.self.now.buffers c.args.chip view c.requires.chip in
+    let few = tickets_within c.args.sizes.room row slots (rw view c.requires.within) c.args.chip [] inside in
+    omega (arith, few, c.requires.room)
 
 pub returns : goal.returns
 returns c =
@@ -32,17 +23,10 @@ returns c =
     let row : List Message = c.self.inside.row.items in
     let i = c.args.chip in
     let queue : List Ticket = list_at c.give_out.new.slots i in
-    let inside : i < length slots =
-    omega (
-      arith,
-      c.requires.chip,
-      ap (λ (u : UnderWay). length u.buffers) c.self.view_is,
-      length-map slots (standing
-          row),
-    ) in
-    let messages : All (λ (ms : List Message). length ms ≤ c.args.sizes.room) (all_standing row slots) =
-    rw (ap (λ (u : UnderWay). u.buffers) c.self.view_is) c.requires.within in
-    let all_few = tickets_within c.args.sizes.room row slots messages in
+    let inside : i < length slots = chip_inside row slots c.args.self.now.buffers i
+    (ap (λ (u : UnderWay). u.buffers) c.self.view_is) c.requires.chip in
+    let all_few = tickets_within c.args.sizes.room row slots
+    (rw (ap (λ (u : UnderWay). u.buffers) c.self.view_is) c.requires.within) in
     let few : length (list_at slots i) ≤ c.args.sizes.room = all_few i [] inside in
     let stood : standing row (list_at slots i) ≡ list_at c.args.self.now.buffers i =
     standing_read row slots i inside ∙ ap (λ (u : UnderWay). list_at u.buffers i) c.self.view_is in

@@ -1,4 +1,4 @@
-use Rattle.std.proofs.Common.{◌≡◌, List, Option, false, true, length, map, sym, ap, ◌∙◌, subst, arith}
+use Rattle.std.proofs.Common.{◌≡◌, List, Option, length, map, sym, ap, ◌∙◌, subst}
 use Rattle.std.specs.List.{All}
 use Rattle.std.proofs.lemmas.List.{length-map, with_items_is}
 use Rattle.cm_model.specs.declared.message.Message.{Message}
@@ -7,6 +7,7 @@ use Rattle.cm_slots.specs.declared.ticket.Ticket.{Ticket}
 use Rattle.cm_slots.specs.Queues.{stayers_of}
 use Rattle.cm_slots.specs.Tickets.{has_to_go, ticket_going}
 use Rattle.cm_crossing.specs.Standing.{UnderWay, all_standing, AreKept, IsKept}
+use Rattle.cm_crossing.proofs.Keeping.{still_crossing}
 use Rattle.cm_crossing.proofs.Wholes.{tickets_within}
 use Rattle.cm_crossing.proofs.Departing.{all-stayers, stayers_kept, messages_below, all-going, leavers_kept}
 use Rattle.cm_crossing.proofs.crossing.Crossing.leave.Goals as goal
@@ -37,20 +38,11 @@ invariant_of-self c =
     ∙ length-map old (λ (ts : List Ticket). stayers_of (has_to_go c.args.dim) c.args.sizes.room ts) in
     let long : length c.leave.new.leavers ≡ length inside.leavers.items =
     c.leave.auto.leavers ∙ ap length c.deref_mut.ensures.value in
-    record {
-      few = omega (arith, same, c.self.invariant.few);
-      enough = omega (arith, same, c.self.invariant.enough);
-      most = c.self.invariant.most;
-      capacity = c.self.invariant.capacity;
-      spare_capacity = c.self.invariant.spare_capacity;
-      together = λ gathered. let wrong : false ≡ true = gathered in absurd cc;
-      filled = c.self.invariant.filled;
-      rows = ap length (with_items_is inside.leavers c.leave.new.leavers (long ∙ sym inside.leavers.ok.0)) ∙ long
-          ∙ c.self.invariant.rows ∙ sym same;
-      kept = subst (λ (queues : List (List Ticket)). All (AreKept (length inside.row.items)) queues)
-          (sym c.leave.ensures.value)
-          (stayers_kept (length inside.row.items) c.args.sizes.room c.args.dim old c.self.invariant.kept);
-    }
+    still_crossing c.self.invariant new same
+    (ap length (with_items_is inside.leavers c.leave.new.leavers (long ∙ sym inside.leavers.ok.0)) ∙ long)
+    (subst (λ (queues : List (List Ticket)). All (AreKept (length inside.row.items)) queues)
+    (sym c.leave.ensures.value)
+    (stayers_kept (length inside.row.items) c.args.sizes.room c.args.dim old c.self.invariant.kept))
 
 pub returns-clause-value : goal.returns-clause-value
 returns-clause-value c =

@@ -1,9 +1,9 @@
-use Rattle.std.proofs.Common.{◌<◌, ◌++◌, List, length, set, ap, ◌∙◌, arith}
-use Rattle.std.proofs.lemmas.List.{length-map}
+use Rattle.std.proofs.Common.{◌<◌, ◌++◌, List, length, set, ap, ◌∙◌}
 use Rattle.cm_model.specs.declared.message.Message.{Message}
 use Rattle.cm_model.specs.Array.{list_at}
 use Rattle.cm_slots.specs.declared.ticket.Ticket.{Ticket}
 use Rattle.cm_crossing.specs.Standing.{UnderWay, standing, all_standing}
+use Rattle.cm_crossing.proofs.Wholes.{chip_inside}
 use Rattle.cm_crossing.proofs.Changing.{changed_standing, standing_read}
 use Rattle.cm_crossing.proofs.crossing.Crossing.stand_in_row.Goals as goal
 
@@ -14,14 +14,8 @@ returns c =
     let i = c.args.chip in
     let queue : List Ticket = list_at c.stand.new.slots i in
     let ms : List Message = c.args.messages.now in
-    let inside : i < length slots =
-    omega (
-      arith,
-      c.requires.chip,
-      ap (λ (u : UnderWay). length u.buffers) c.self.view_is,
-      length-map slots (standing
-          row),
-    ) in
+    let inside : i < length slots = chip_inside row slots c.args.self.now.buffers i
+    (ap (λ (u : UnderWay). u.buffers) c.self.view_is) c.requires.chip in
     record {
       value = ap (all_standing c.stand.new.row.items) c.stand.ensures.others
           ∙ rw c.stand.ensures.items (changed_standing row ms slots i queue c.self.invariant.kept
