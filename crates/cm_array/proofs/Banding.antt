@@ -30,7 +30,8 @@ use Rattle.cm_blocks.specs.Steps.{part_after, incoming_in, news_in}
 use Rattle.cm_blocks.proofs.Cutting.{within-from, within-below}
 use Rattle.cm_news.specs.Bands.{AreRows, bits_of, bit_for}
 use Rattle.cm_news.specs.Moves.{at_edge}
-use Rattle.cm_petit.specs.Routers.{Log, part_of}
+use Rattle.cm_router.specs.Logs.{Log}
+use Rattle.cm_petit.specs.Routers.{part_of}
 use Rattle.cm_array.specs.declared.parts.Parts.{Parts}
 use Rattle.cm_array.specs.Cuts.{KeptPart, kept_part, IsKeptPart}
 use Rattle.cm_array.specs.Bands.{IsBand, IsStepped, edge_from, IsEdgeOf}

@@ -8,10 +8,11 @@ use Rattle.cm_model.specs.declared.message.Message.{Message}
 use Rattle.cm_model.specs.declared.message.Event.{Event}
 use Rattle.cm_blocks.specs.Parts.{cut, part}
 use Rattle.cm_blocks.proofs.Cutting.{length-cut, read-cut_at}
-use Rattle.cm_petit.specs.Routers.{Log, events_of, part_of, HasLogRoom, free_places}
+use Rattle.cm_router.specs.Logs.{Log, log_rooms_of}
+use Rattle.cm_petit.specs.Routers.{events_of, part_of}
 use Rattle.cm_array.specs.declared.parts.Parts.{Parts}
-use Rattle.cm_array.specs.Parts.{machine_of, log_rooms_of, AreParts}
-use Rattle.cm_array.specs.Cuts.{IsKeptPart, HaveLogRoom}
+use Rattle.cm_array.specs.Parts.{machine_of, AreParts}
+use Rattle.cm_array.specs.Cuts.{IsKeptPart}
 use Rattle.cm_array.proofs.Machines.{few_chips}
 
 -- no chip of a machine has more messages than any router has room for, and no machine has more chips than this
@@ -90,7 +91,3 @@ module _ (n cap first count : ℕ) (old new : Parts) (were : AreParts n cap old)
     logs = are.logs i;
     clock = are.clock i;
   }
-
--- logs with such room are seen to have it
-pub HaveLogRoom-logs : (more : ℕ) (logs : List Log) → HasLogRoom more logs → HaveLogRoom more (log_rooms_of logs)
-HaveLogRoom-logs more logs h = λ i l. h i (omega (arith, l, length-map logs free_places))

@@ -11,7 +11,8 @@ use Rattle.cm_model.specs.Array.{Chips, list_at}
 use Rattle.cm_blocks.specs.Parts.{cut}
 use Rattle.cm_blocks.proofs.Cutting.{length-cut, read-cut_at}
 use Rattle.cm_element.specs.Laid.{AreLaid}
-use Rattle.cm_petit.specs.Routers.{Log, events_of}
+use Rattle.cm_router.specs.Logs.{Log}
+use Rattle.cm_petit.specs.Routers.{events_of}
 use Rattle.cm_array.specs.Cuts.{IsLaid}
 
 -- ---- messages that come one after another

@@ -21,7 +21,8 @@ use Rattle.cm_model.specs.Keeping.{IsMachine}
 use Rattle.cm_model.proofs.Blanks.{IsMachine-blank_at}
 use Rattle.cm_model.proofs.Keeping.{IsMachine-after_act}
 use Rattle.cm_crossing.specs.Standing.{UnderWay}
-use Rattle.cm_petit.specs.Routers.{Log, events_of, AreRouters}
+use Rattle.cm_router.specs.Logs.{Log}
+use Rattle.cm_petit.specs.Routers.{events_of, AreRouters}
 use Rattle.cm_array.specs.declared.parts.Parts.{Parts}
 use Rattle.cm_array.specs.Parts.{machine_of, AreParts, AreUnderWay}
 use Rattle.cm_array.proofs.Lists.{each_after_set}

@@ -14,7 +14,8 @@ use Rattle.cm_blocks.specs.Rounds.{is_vertical}
 use Rattle.cm_blocks.specs.Steps.{part_after}
 use Rattle.cm_news.specs.Bands.{AreRows, bits_of}
 use Rattle.cm_news.specs.Moves.{at_edge}
-use Rattle.cm_petit.specs.Routers.{Log, part_of}
+use Rattle.cm_router.specs.Logs.{Log}
+use Rattle.cm_petit.specs.Routers.{part_of}
 
 -- a part is whole rows of chips of a cube of n dimensions, and at least one
 pub record IsBand (n : ℕ) (s : Part) : Type 0 where

@@ -7,7 +7,7 @@ use Rattle.cm_model.specs.Keeping.{AreSizes, IsMachine}
 use Rattle.cm_blocks.specs.Parts.{Part}
 use Rattle.cm_petit.specs.Routers.{part_of}
 use Rattle.cm_array.specs.declared.parts.Parts.{Parts}
-use Rattle.cm_array.specs.Parts.{log_rooms_of}
+use Rattle.cm_router.specs.Logs.{log_rooms_of}
 
 -- what contracts see of a part
 pub record KeptPart : Type 0 where
@@ -40,15 +40,6 @@ pub record IsKeptPart (n cap first : ℕ) (parts : Parts) : Type 0 where
   pub incoming_count : length parts.incoming.items ≡ length parts.run
   pub within : All (λ ms. length ms ≤ cap) parts.crossing.buffers
   pub clock : parts.clock < 2 ^ 63
-
--- each log takes so many events more
-abbrev pub HaveLogRoom : ℕ → List ℕ → Type 0
-HaveLogRoom count log_rooms = (i : ℕ) → i < length log_rooms → count ≤ slice_index log_rooms i
-
--- each log takes as many as before, less at most so many
-pub record LoseAtMost (count : ℕ) (before after : List ℕ) : Type 0 where
-  pub same : length after ≡ length before
-  pub few : (i : ℕ) → i < length before → slice_index before i ≤ slice_index after i + count
 
 -- ---- parts one after another
 

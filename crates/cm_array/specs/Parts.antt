@@ -1,17 +1,14 @@
 -- A machine as it is kept: chips, messages and logs by number, a counter, and working room by number. Ours.
-use Rattle.std.specs.Prelude.{◌≡◌, ℕ, ◌<◌, ◌≤◌, ◌^◌, IsTrue, List, length, map, slice_index}
+use Rattle.std.specs.Prelude.{◌≡◌, ℕ, ◌<◌, ◌≤◌, ◌^◌, IsTrue, List, length, slice_index}
 use Rattle.cm_model.specs.Machine.{Machine}
 use Rattle.cm_model.specs.Keeping.{IsMachine}
-use Rattle.cm_petit.specs.Routers.{Log, machine_of as machine_from, free_places}
+use Rattle.cm_router.specs.Logs.{log_rooms_of}
+use Rattle.cm_petit.specs.Routers.{machine_of as machine_from}
 use Rattle.cm_array.specs.declared.parts.Parts.{Parts}
 
 -- the machine that the parts are
 abbrev pub machine_of : Parts → Machine
 machine_of parts = machine_from parts.run parts.crossing.buffers parts.logs.items parts.clock
-
--- how many events more each log takes before it has to grow
-abbrev pub log_rooms_of : List Log → List ℕ
-log_rooms_of logs = map free_places logs
 
 -- a machine, and by chip how many events more its log takes before it has to grow
 pub record Kept : Type 0 where

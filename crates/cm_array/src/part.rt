@@ -10,7 +10,8 @@ ghost use Rattle.cm_blocks.specs.Parcels.{Mail, due};
 ghost use Rattle.cm_blocks.specs.Steps.{less, absorbed};
 ghost use Rattle.cm_blocks.specs.Parts.{cut, part, chip_in, buffer_in, log_in};
 ghost use Rattle.cm_array.specs.Parts.{machine_of, AreParts};
-ghost use Rattle.cm_array.specs.Cuts.{kept_part, IsKeptPart, HaveLogRoom, IsLaid};
+ghost use Rattle.cm_router.specs.Logs.{HaveLogRoom};
+ghost use Rattle.cm_array.specs.Cuts.{kept_part, IsKeptPart, IsLaid};
 
 use crate::parts::{Parts, blank_planes, copied_logs, reserve};
 use cm_bits::NoMemory;

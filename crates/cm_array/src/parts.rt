@@ -6,9 +6,10 @@ ghost use Rattle.cm_model.specs.Each.{each_from};
 ghost use Rattle.cm_model.specs.Array.{after_nano};
 ghost use Rattle.cm_model.specs.Machine.{run_of};
 ghost use Rattle.cm_model.specs.Buffers.{after_act};
-ghost use Rattle.cm_petit.specs.Routers.{events_of, HasLogRoom, LosesAtMost};
+ghost use Rattle.cm_router.specs.Logs.{log_rooms_of, HaveLogRoom, LoseAtMost};
+ghost use Rattle.cm_petit.specs.Routers.{events_of};
 ghost use Rattle.cm_array.specs.Acts.{cycles_in};
-ghost use Rattle.cm_array.specs.Parts.{machine_of, log_rooms_of, AreParts, AreUnderWay, LacksLogRoom};
+ghost use Rattle.cm_array.specs.Parts.{machine_of, AreParts, AreUnderWay, LacksLogRoom};
 
 use crate::stepping::step;
 use cm_bits::{NoMemory, Plane};
@@ -42,7 +43,7 @@ pub(crate) fn run(sizes: Sizes, parts: &mut Parts, acts: &[Act])
     requires all { sizes.span ≡ sizes.dims }
     requires parts { AreParts sizes.dims sizes.room parts.old }
     requires clock { parts.old.clock + cycles_in acts.now < 2 ^ 63 }
-    requires log_room { HasLogRoom (cycles_in acts.now * (4 + sizes.room)) parts.old.logs.items }
+    requires log_room { HaveLogRoom (cycles_in acts.now * (4 + sizes.room)) (log_rooms_of parts.old.logs.items) }
     ensures value { machine_of parts.new ≡ run_of sizes.dims sizes.room (machine_of parts.old) acts.now }
     ensures parts { AreParts sizes.dims sizes.room parts.new }
 {
@@ -56,12 +57,13 @@ fn run_one(sizes: Sizes, parts: &mut Parts, act: &Act)
     requires all { sizes.span ≡ sizes.dims }
     requires parts { AreUnderWay sizes.dims sizes.room parts.old }
     requires clock { parts.old.clock + cycles_in (act.now ∷ []) < 2 ^ 63 }
-    requires log_room { HasLogRoom (cycles_in (act.now ∷ []) * (4 + sizes.room)) parts.old.logs.items }
+    requires log_room { HaveLogRoom (cycles_in (act.now ∷ []) * (4 + sizes.room))
+        (log_rooms_of parts.old.logs.items) }
     ensures value { machine_of parts.new ≡ after_act sizes.dims sizes.room (machine_of parts.old) act.now }
     ensures parts { AreUnderWay sizes.dims sizes.room parts.new }
     ensures clock { parts.new.clock ≡ parts.old.clock + cycles_in (act.now ∷ []) }
-    ensures log_room { LosesAtMost (cycles_in (act.now ∷ []) * (4 + sizes.room))
-        parts.old.logs.items parts.new.logs.items }
+    ensures log_room { LoseAtMost (cycles_in (act.now ∷ []) * (4 + sizes.room))
+        (log_rooms_of parts.old.logs.items) (log_rooms_of parts.new.logs.items) }
 {
     match act {
         Act::Nano(nano) => instruct(sizes.dims, parts, nano),
@@ -101,7 +103,7 @@ fn instruct(dims: u8, parts: &mut Parts, nano: &Nano)
 /// Makes room in each log for so many events more.
 pub(crate) fn reserve(logs: &mut [Vec<Event>], more: usize) -> Result<(), NoMemory>
     ensures events { events_of logs.new ≡ events_of logs.old }
-    ensures ok { OnOk result (HasLogRoom more logs.new) }
+    ensures ok { OnOk result (HaveLogRoom more (log_rooms_of logs.new)) }
     ensures err { OnErr result (LacksLogRoom more (log_rooms_of logs.old)) }
     ensures no_more { more ≡ 0 → IsOk result }
 {

@@ -4,7 +4,7 @@ ghost use Rattle.std.specs.Prelude.{◌≡◌, ◌+◌, ◌%◌, ◌^◌, ◌<�
 ghost use Rattle.cm_model.specs.Steps.{Inject, Cross, Deliver};
 ghost use Rattle.cm_blocks.specs.Parcels.{Blank};
 ghost use Rattle.cm_blocks.specs.Steps.{part_after};
-ghost use Rattle.cm_array.specs.Cuts.{HaveLogRoom, LoseAtMost};
+ghost use Rattle.cm_router.specs.Logs.{HaveLogRoom, LoseAtMost};
 
 use crate::part::Part;
 use cm_crossing::Sizes;

@@ -12,6 +12,7 @@ ghost use Rattle.cm_model.specs.Array.{each_chip, chip_at, list_at};
 ghost use Rattle.cm_model.specs.Keeping.{AreSizes};
 ghost use Rattle.cm_model.specs.Buffers.{leaving_place, without, outgoing, buffer_after_dimension};
 ghost use Rattle.cm_model.specs.OneChip.{taken_here, sent_here, delivered_here, kept_here};
+ghost use Rattle.cm_router.specs.Logs.{log_room};
 
 use crate::row::{give_out, lay_out, read_off, read_out, stand};
 use crate::sizes::Sizes;
@@ -251,15 +252,15 @@ impl Crossing {
         requires chip { chip < length self.old.buffers }
         requires run { length run.old ≡ length self.old.buffers }
         requires within { All (λ ms. length ms ≤ sizes.room) self.old.buffers }
-        requires room { vec_len log.old + 4 ≤ vec_capacity log.old }
+        requires log_room { 4 ≤ log_room log.old }
         ensures value { self.new.buffers ≡ slice_set self.old.buffers chip (list_at self.old.buffers chip
             ++ sent_here sizes.dims sizes.room clock here (list_at self.old.buffers chip) (chip_at run.old chip)) }
         ensures chip { run.new ≡ slice_set run.old chip (chip_after_injection
             (taken_here sizes.room (list_at self.old.buffers chip) (chip_at run.old chip)) (chip_at run.old chip)) }
         ensures log { log.new.items ≡ log.old.items ++ map event.Injected
             (sent_here sizes.dims sizes.room clock here (list_at self.old.buffers chip) (chip_at run.old chip)) }
-        ensures told { vec_len log.new ≤ vec_len log.old + 4 }
-        ensures log_room { vec_capacity log.old ≤ vec_capacity log.new }
+        ensures len { vec_len log.new ≤ vec_len log.old + 4 }
+        ensures capacity { vec_capacity log.old ≤ vec_capacity log.new }
         ensures within { All (λ ms. length ms ≤ sizes.room) self.new.buffers }
     {
         let room = usize::from(sizes.room) - self.len(usize::from(chip));
@@ -338,15 +339,15 @@ impl Crossing {
         requires chip { chip < length self.old.buffers }
         requires run { length run.old ≡ length self.old.buffers }
         requires within { All (λ ms. length ms ≤ sizes.room) self.old.buffers }
-        requires room { vec_len log.old + sizes.room ≤ vec_capacity log.old }
+        requires log_room { sizes.room ≤ log_room log.old }
         ensures value { self.new.buffers ≡ slice_set self.old.buffers chip
             (kept_here (list_at self.old.buffers chip) (chip_at run.old chip)) }
         ensures chip { run.new ≡ slice_set run.old chip (chip_after_delivery
             (delivered_here (list_at self.old.buffers chip) (chip_at run.old chip)) (chip_at run.old chip)) }
         ensures log { log.new.items ≡ log.old.items ++ map (λ m. event.Delivered m here)
             (delivered_here (list_at self.old.buffers chip) (chip_at run.old chip)) }
-        ensures told { vec_len log.new ≤ vec_len log.old + sizes.room }
-        ensures log_room { vec_capacity log.old ≤ vec_capacity log.new }
+        ensures len { vec_len log.new ≤ vec_len log.old + sizes.room }
+        ensures capacity { vec_capacity log.old ≤ vec_capacity log.new }
         ensures within { All (λ ms. length ms ≤ sizes.room) self.new.buffers }
     {
         give_out(&self.row, &mut self.slots, run, chip, here, log);

@@ -10,6 +10,7 @@ ghost use Rattle.cm_model.specs.Array.{chip_at, list_at};
 ghost use Rattle.cm_crossing.specs.Standing.{message_of, standing, all_standing, AreKept, AreTogether};
 ghost use Rattle.cm_model.specs.OneChip.{delivered_here, kept_here};
 ghost use Rattle.cm_crossing.specs.Standing.{IsKept, IsWritten};
+ghost use Rattle.cm_router.specs.Logs.{log_room};
 
 use cm_element::Run;
 use cm_message::{Event, Message};
@@ -143,7 +144,7 @@ pub(crate) fn give_out(
     requires stands { chip < length slots.old }
     requires kept { AreKept (length row.now) (list_at slots.old chip) }
     requires chip { chip < length run.old }
-    requires room { vec_len log.old + length (list_at slots.old chip) ≤ vec_capacity log.old }
+    requires log_room { length (list_at slots.old chip) ≤ log_room log.old }
     ensures value { standing row.now (list_at slots.new chip)
         ≡ kept_here (standing row.now (list_at slots.old chip)) (chip_at run.old chip) }
     ensures kept { AreKept (length row.now) (list_at slots.new chip) }
@@ -153,8 +154,8 @@ pub(crate) fn give_out(
         (delivered_here (standing row.now (list_at slots.old chip)) (chip_at run.old chip)) (chip_at run.old chip)) }
     ensures log { log.new.items ≡ log.old.items ++ map (λ m. event.Delivered m here)
         (delivered_here (standing row.now (list_at slots.old chip)) (chip_at run.old chip)) }
-    ensures told { vec_len log.new ≤ vec_len log.old + length (list_at slots.old chip) }
-    ensures log_room { vec_capacity log.old ≤ vec_capacity log.new }
+    ensures len { vec_len log.new ≤ vec_len log.old + length (list_at slots.old chip) }
+    ensures capacity { vec_capacity log.old ≤ vec_capacity log.new }
 {
     begin(run, chip);
     who_has_not_arrived_is_kept();

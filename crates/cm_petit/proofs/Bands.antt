@@ -16,7 +16,8 @@ use Rattle.cm_model.proofs.Each.{length-each_from, get_or-each_from, get_or-each
 use Rattle.cm_blocks.specs.Parts.{Part, is_within, buffer_in}
 use Rattle.cm_blocks.specs.Parcels.{Blank, Mail, mail_in, due}
 use Rattle.cm_blocks.specs.Steps.{part_after, less, absorbed, mail_for}
-use Rattle.cm_petit.specs.Routers.{Log, part_of}
+use Rattle.cm_router.specs.Logs.{Log}
+use Rattle.cm_petit.specs.Routers.{part_of}
 
 -- what is made of each element is made by its number, wherever numbers begin
 mapped_from : {X Y : Type 0} (g : X → Y) (d : X) (e : Y) (first count : ℕ) (xs : List X) → length xs ≡ count

@@ -4,7 +4,8 @@ use Rattle.std.specs.Prelude.{◌^◌, bit_xor}
 use Rattle.cm_model.specs.declared.message.Message.{Message}
 use Rattle.cm_model.specs.Array.{Chips, each_chip, list_at}
 use Rattle.cm_model.specs.Buffers.{outgoing, buffer_after_dimension, machine_after_dimension}
-use Rattle.cm_petit.specs.Routers.{Log, machine_of}
+use Rattle.cm_router.specs.Logs.{Log}
+use Rattle.cm_petit.specs.Routers.{machine_of}
 
 -- a dimension more
 pub crossed_machine : (n cap d : ℕ) (chips : Chips) (before now : List (List Message)) (logs : List Log) (clock : ℕ)

@@ -7,7 +7,9 @@ use Rattle.cm_model.specs.Each.{each_from}
 use Rattle.cm_model.proofs.Each.{is_each, length-each_from, get_or-each_from}
 use Rattle.cm_model.specs.declared.message.Message.{Message}
 use Rattle.cm_model.specs.Array.{Chips}
-use Rattle.cm_petit.specs.Routers.{Log, free_places, free_at, AreRouters}
+use Rattle.cm_router.specs.Logs.{Log, log_room, log_rooms_of, LoseAtMost}
+use Rattle.cm_router.proofs.Rooms.{room_at, room_read, room_written, room_of_others}
+use Rattle.cm_petit.specs.Routers.{AreRouters}
 
 -- so many elements are what the function gives for their number, and the others are as before
 pub record AreMade {X : Type 0} (d : X) (f : ℕ → X) (before now : List X) (count : ℕ) : Type 0 where
@@ -63,20 +65,15 @@ made_all_from d f before now first count last long all was =
     ext_get_or d now (each_from first count f) (as_long ∙ sym (length-each_from first count f))
     (λ i h. was.done i (omega arith) ∙ sym (get_or-each_from first count f i d (omega arith)))
 
--- ---- the free places of logs
+-- ---- how many events more logs take
 
 -- the first logs take as many events as before, less at most so many, and the others as many
 pub record HaveLost (most : ℕ) (before now : List Log) (count : ℕ) : Type 0 where
-  pub done : (c : ℕ) → c < count → free_at before c ≤ free_at now c + most
-  pub rest : (c : ℕ) → count ≤ c → free_at now c ≡ free_at before c
+  pub done : (c : ℕ) → c < count → room_at before c ≤ room_at now c + most
+  pub rest : (c : ℕ) → count ≤ c → room_at now c ≡ room_at before c
 
 pub lost_begins : (most : ℕ) (logs : List Log) → HaveLost most logs logs 0
 lost_begins most logs = record { done = λ c h. absurd (omega arith); rest = λ c h. refl }
-
--- what a log takes that was read at its number
-pub free_read : (logs : List Log) (i : ℕ) (log : Log) → i < length logs → log ≡ get_or logs i log
-    → free_at logs i ≡ free_places log
-free_read logs i log inside read = get_or-map free_places logs i log 0 inside ∙ ap free_places (sym read)
 
 pub lost_past : (most : ℕ) (before now : List Log) (i j : ℕ) → i ≤ j → HaveLost most before now i
     → HaveLost most before now j
@@ -86,29 +83,29 @@ lost_past most before now i j on was = record {
 }
 
 pub lost_more : (most : ℕ) (before now : List Log) (i : ℕ) (log after : Log) → i < length now → log ≡ get_or now i log
-    → free_places log ≤ free_places after + most → HaveLost most before now i
+    → log_room log ≤ log_room after + most → HaveLost most before now i
     → HaveLost most before (set now i after) (i + 1)
 lost_more most before now i log after inside read fewer was =
-    let here : i < length (map free_places now) = omega (arith, length-map now free_places) in
-    let same : (c : ℕ) → c ≢ i → free_at (set now i after) c ≡ free_at now c =
-    λ c other. ap (λ (ns : List ℕ). get_or ns c 0) (map-set free_places now i after)
-    ∙ get_or-set_other (map free_places now) i c (free_places after) 0 other in
-    let new : free_at (set now i after) i ≡ free_places after =
-    ap (λ (ns : List ℕ). get_or ns i 0) (map-set free_places now i after)
-    ∙ get_or-set_same (map free_places now) i (free_places after) 0 here in
     record {
-      done = below_more (λ c. free_at before c ≤ free_at (set now i after) c + most) i
-          (λ c h. let other : c ≢ i = omega arith in omega (arith, same c other, was.done c h))
-          (omega (arith, new, was.rest i (omega arith), free_read now i log inside read, fewer));
-      rest = λ c h. let other : c ≢ i = omega arith in same c other ∙ was.rest c (omega arith);
+      done = below_more (λ c. room_at before c ≤ room_at (set now i after) c + most) i
+          (λ c h. let other : c ≢ i = omega arith in omega (arith, room_of_others now i c after other, was.done c h))
+          (omega (
+            arith,
+            room_written now i after inside,
+            was.rest i (omega arith),
+            room_read now i log inside read,
+            fewer,
+          ));
+      rest = λ c h. let other : c ≢ i = omega arith in room_of_others now i c after other ∙ was.rest c (omega arith);
     }
 
 -- all of them
 pub lost_all : (most last : ℕ) (before now : List Log) → length before ≤ last → length now ≡ length before
-    → HaveLost most before now last
-    → (c : ℕ) → free_at before c ≤ free_at now c + most
-lost_all most last before now all long was c =
-    ⊎_elim (λ (h : c < last). was.done c h) (λ (h : last ≤ c). omega (arith, was.rest c h)) (cases_lt c last)
+    → HaveLost most before now last → LoseAtMost most (log_rooms_of before) (log_rooms_of now)
+lost_all most last before now all long was = record {
+  same = length-map now log_room ∙ long ∙ sym (length-map before log_room);
+  few = λ i h. was.done i (omega (arith, length-map before log_room));
+}
 
 -- ---- rows that are read off others
 

@@ -18,9 +18,11 @@ use Rattle.cm_model.proofs.Each.{length-each_from, get_or-each_below, same_each_
 use Rattle.cm_blocks.specs.Parts.{Part, chip_in, buffer_in, log_in}
 use Rattle.cm_blocks.specs.Parcels.{Blank}
 use Rattle.cm_blocks.specs.Steps.{taken_of, sent_of, part_after, delivered_of as delivered_to}
-use Rattle.cm_petit.specs.Routers.{Log, free_at, events_of, machine_of, part_of, HasLogRoom}
+use Rattle.cm_router.specs.Logs.{Log, log_room, log_rooms_of, HaveLogRoom}
+use Rattle.cm_router.proofs.Rooms.{room_at, room_read}
+use Rattle.cm_petit.specs.Routers.{events_of, machine_of, part_of}
 use Rattle.cm_petit.proofs.Made.{AreMade, AreAsMany, HaveLost, made_begins, made_past, made_more, made_more_of}
-use Rattle.cm_petit.proofs.Made.{made_all_from, not_yet_made_of, lost_begins, lost_past, lost_more, free_read}
+use Rattle.cm_petit.proofs.Made.{made_all_from, not_yet_made_of, lost_begins, lost_past, lost_more}
 
 -- what a phase makes of each chip, of its buffer and of its log, by the chip's number
 pub record Making : Type 0 where
@@ -221,12 +223,12 @@ sixteen_after_injection n cap m c below =
 -- ---- delivery
 
 -- the next log has room for all that may be delivered
-pub room_to_deliver : (cap : ℕ) (logs_before logs : List Log) (i : ℕ) (log : Log) → HasLogRoom cap logs_before
-    → i < length logs_before → i < length logs → log ≡ get_or logs i log → vec_len log ≤ vec_capacity log
-    → HaveLost cap logs_before logs i → vec_len (get_or logs i log) + cap ≤ vec_capacity (get_or logs i log)
-room_to_deliver cap logs_before logs i log has below inside log_read held lost =
-    let enough : cap ≤ free_at logs_before i = has i below in
-    rw (← log_read) (omega (arith, enough, lost.rest i (omega arith), free_read logs i log inside log_read, held))
+pub room_to_deliver : (cap : ℕ) (logs_before logs : List Log) (i : ℕ) (log : Log)
+    → HaveLogRoom cap (log_rooms_of logs_before) → i < length logs_before → i < length logs → log ≡ get_or logs i log
+    → HaveLost cap logs_before logs i → cap ≤ log_room (get_or logs i log)
+room_to_deliver cap logs_before logs i log has below inside log_read lost =
+    let enough : cap ≤ room_at logs_before i = has i (omega (arith, length-map logs_before log_room)) in
+    rw (← log_read) (omega (arith, enough, lost.rest i (omega arith), room_read logs i log inside log_read))
 
 -- chips at which nobody stands are passed over
 pub delivered_past : (cap first count : ℕ) (chips_before : Chips) (buffers_before : List (List Message))

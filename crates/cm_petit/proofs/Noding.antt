@@ -10,7 +10,8 @@ use Rattle.cm_model.specs.Array.{Chips, chip_at, list_at}
 use Rattle.cm_model.specs.Letters.{chip_after_injection, chip_after_delivery}
 use Rattle.cm_model.specs.OneChip.{taken_here, sent_here, delivered_here, kept_here}
 use Rattle.cm_router.specs.Buffer.{Buffer, holding, buffers_of}
-use Rattle.cm_petit.specs.Routers.{Log, part_of}
+use Rattle.cm_router.specs.Logs.{Log}
+use Rattle.cm_petit.specs.Routers.{part_of}
 use Rattle.cm_petit.specs.Nodes.{AreNodes}
 use Rattle.cm_petit.proofs.Made.{AreAsMany}
 use Rattle.cm_petit.proofs.Making.{AreDone, injecting, injected_more, delivering, delivered_more}

@@ -25,7 +25,8 @@ use Rattle.cm_model.specs.Steps.{Inject}
 use Rattle.cm_blocks.specs.Parts.{Part}
 use Rattle.cm_blocks.specs.Parcels.{Blank}
 use Rattle.cm_blocks.specs.Steps.{taken_of, part_after}
-use Rattle.cm_petit.specs.Routers.{Log, events_of, part_of, AreRouters}
+use Rattle.cm_router.specs.Logs.{Log}
+use Rattle.cm_petit.specs.Routers.{events_of, part_of, AreRouters}
 use Rattle.cm_petit.proofs.Made.{as_many}
 use Rattle.cm_petit.proofs.Making.{Making, injecting, none_done, passed_over, all_done}
 

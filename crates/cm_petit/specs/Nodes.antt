@@ -4,7 +4,7 @@ use Rattle.std.specs.List.{All}
 use Rattle.cm_model.specs.Array.{Chips}
 use Rattle.cm_model.specs.Buffers.{outgoing, buffer_after_dimension}
 use Rattle.cm_router.specs.Buffer.{Buffer, holding}
-use Rattle.cm_petit.specs.Routers.{Log}
+use Rattle.cm_router.specs.Logs.{Log}
 
 -- one chip, one node with room for cap messages and one log for each number of a cube of n dimensions
 pub record AreNodes (n cap : ℕ) (chips : Chips) (nodes : List Buffer) (logs : List Log) : Type 0 where

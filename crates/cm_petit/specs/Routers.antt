@@ -7,11 +7,8 @@ use Rattle.cm_model.specs.declared.message.Message.{Message}
 use Rattle.cm_model.specs.declared.message.Event.{Event}
 use Rattle.cm_model.specs.Array.{Chips}
 use Rattle.cm_model.specs.Machine.{Machine}
+use Rattle.cm_router.specs.Logs.{Log}
 use Rattle.cm_blocks.specs.Parts.{Part}
-
--- the log of one chip
-abbrev pub Log : Type 0
-Log = Vec Event Global
 
 -- the events of each log
 abbrev pub events_of : List Log → List (List Event)
@@ -38,19 +35,3 @@ pub record AreRouters (n cap : ℕ) (chips : Chips) (buffers : List (List Messag
   pub buffer_count : length buffers ≡ 2 ^ n
   pub log_count : length logs ≡ 2 ^ n
   pub within : All (λ ms. length ms ≤ cap) buffers
-
--- how many events more a log takes before it has to grow
-abbrev pub free_places : Log → ℕ
-free_places log = vec_capacity log - vec_len log
-
--- how many the log of a chip takes
-abbrev pub free_at : List Log → ℕ → ℕ
-free_at logs c = slice_index (map free_places logs) c
-
--- each log takes so many
-abbrev pub HasLogRoom : ℕ → List Log → Type 0
-HasLogRoom count logs = (c : ℕ) → c < length logs → count ≤ free_at logs c
-
--- each log takes as many as before, less at most so many
-abbrev pub LosesAtMost : ℕ → List Log → List Log → Type 0
-LosesAtMost count before after = (c : ℕ) → free_at before c ≤ free_at after c + count

@@ -7,7 +7,8 @@ ghost use Rattle.cm_model.specs.Steps.{Cross};
 ghost use Rattle.cm_model.specs.Keeping.{AreSizes};
 ghost use Rattle.cm_blocks.specs.Parcels.{Blank, Mail, due};
 ghost use Rattle.cm_blocks.specs.Steps.{part_after, less, absorbed};
-ghost use Rattle.cm_petit.specs.Routers.{Log, part_of};
+ghost use Rattle.cm_router.specs.Logs.{Log};
+ghost use Rattle.cm_petit.specs.Routers.{part_of};
 
 use cm_crossing::{Crossing, Sizes};
 use cm_message::Message;

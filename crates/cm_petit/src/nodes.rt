@@ -9,7 +9,8 @@ ghost use Rattle.cm_model.specs.Buffers.{outgoing, buffer_after_dimension, machi
 ghost use Rattle.cm_model.specs.Buffers.{machine_after_delivery, after_act};
 ghost use Rattle.cm_model.specs.Keeping.{AreSizes};
 ghost use Rattle.cm_router.specs.Buffer.{buffers_of, holding};
-ghost use Rattle.cm_petit.specs.Routers.{machine_of, HasLogRoom, LosesAtMost};
+ghost use Rattle.cm_router.specs.Logs.{log_rooms_of, HaveLogRoom, LoseAtMost};
+ghost use Rattle.cm_petit.specs.Routers.{machine_of};
 ghost use Rattle.cm_petit.specs.Nodes.{AreNodes, node_at, exchanged};
 
 use cm_crossing::Sizes;
@@ -28,11 +29,11 @@ pub fn cycle_of_nodes(
 )
     requires sizes { AreSizes sizes.dims sizes.room }
     requires nodes { AreNodes sizes.dims sizes.room run.old nodes.old logs.old }
-    requires log_room { HasLogRoom (4 + sizes.room) logs.old }
+    requires log_room { HaveLogRoom (4 + sizes.room) (log_rooms_of logs.old) }
     ensures value { machine_of run.new (buffers_of nodes.new) logs.new (clock + 1)
         ≡ after_act sizes.dims sizes.room (machine_of run.old (buffers_of nodes.old) logs.old clock) act.Cycle }
     ensures nodes { AreNodes sizes.dims sizes.room run.new nodes.new logs.new }
-    ensures log_room { LosesAtMost (4 + sizes.room) logs.old logs.new }
+    ensures log_room { LoseAtMost (4 + sizes.room) (log_rooms_of logs.old) (log_rooms_of logs.new) }
 {
     inject_into_nodes(sizes, run, nodes, logs, clock);
     for dim in 0..sizes.dims {
@@ -51,11 +52,11 @@ fn inject_into_nodes(
 )
     requires sizes { AreSizes sizes.dims sizes.room }
     requires nodes { AreNodes sizes.dims sizes.room run.old nodes.old logs.old }
-    requires log_room { HasLogRoom 4 logs.old }
+    requires log_room { HaveLogRoom 4 (log_rooms_of logs.old) }
     ensures value { machine_of run.new (buffers_of nodes.new) logs.new clock
         ≡ machine_after_injection sizes.dims sizes.room (machine_of run.old (buffers_of nodes.old) logs.old clock) }
     ensures nodes { AreNodes sizes.dims sizes.room run.new nodes.new logs.new }
-    ensures log_room { LosesAtMost 4 logs.old logs.new }
+    ensures log_room { LoseAtMost 4 (log_rooms_of logs.old) (log_rooms_of logs.new) }
 {
     for c in 0..nodes.len() {
         let chip = c as u16;
@@ -121,11 +122,11 @@ fn welcome(node: &mut Node, coming: Option<Message>)
 fn deliver_from_nodes(sizes: Sizes, run: &mut Run, nodes: &mut [Node], logs: &mut [Vec<Event>])
     requires sizes { AreSizes sizes.dims sizes.room }
     requires nodes { AreNodes sizes.dims sizes.room run.old nodes.old logs.old }
-    requires log_room { HasLogRoom sizes.room logs.old }
+    requires log_room { HaveLogRoom sizes.room (log_rooms_of logs.old) }
     ensures value { (clock : ℕ) → machine_of run.new (buffers_of nodes.new) logs.new (clock + 1)
         ≡ machine_after_delivery sizes.dims (machine_of run.old (buffers_of nodes.old) logs.old clock) }
     ensures nodes { AreNodes sizes.dims sizes.room run.new nodes.new logs.new }
-    ensures log_room { LosesAtMost sizes.room logs.old logs.new }
+    ensures log_room { LoseAtMost sizes.room (log_rooms_of logs.old) (log_rooms_of logs.new) }
 {
     for c in 0..nodes.len() {
         let chip = c as u16;

@@ -7,7 +7,8 @@ ghost use Rattle.cm_model.specs.Buffers.{after_act};
 ghost use Rattle.cm_model.specs.Keeping.{AreSizes};
 ghost use Rattle.cm_blocks.specs.Parcels.{Blank};
 ghost use Rattle.cm_blocks.specs.Steps.{part_after};
-ghost use Rattle.cm_petit.specs.Routers.{machine_of, part_of, AreRouters, HasLogRoom, LosesAtMost};
+ghost use Rattle.cm_router.specs.Logs.{log_rooms_of, HaveLogRoom, LoseAtMost};
+ghost use Rattle.cm_petit.specs.Routers.{machine_of, part_of, AreRouters};
 
 use cm_crossing::{Crossing, Sizes};
 use cm_element::Run;
@@ -27,13 +28,13 @@ pub fn cycle(
     requires sizes { AreSizes sizes.dims sizes.room }
     requires all { sizes.span ≡ sizes.dims }
     requires routers { AreRouters sizes.dims sizes.room run.old crossing.old.buffers logs.old }
-    requires log_room { HasLogRoom (4 + sizes.room) logs.old }
+    requires log_room { HaveLogRoom (4 + sizes.room) (log_rooms_of logs.old) }
     requires counter { clock.old < 2 ^ 63 }
     ensures value { machine_of run.new crossing.new.buffers logs.new clock.new
         ≡ after_act sizes.dims sizes.room (machine_of run.old crossing.old.buffers logs.old clock.old) act.Cycle }
     ensures counter { clock.new ≡ clock.old + 1 }
     ensures routers { AreRouters sizes.dims sizes.room run.new crossing.new.buffers logs.new }
-    ensures log_room { LosesAtMost (4 + sizes.room) logs.old logs.new }
+    ensures log_room { LoseAtMost (4 + sizes.room) (log_rooms_of logs.old) (log_rooms_of logs.new) }
 {
     inject(sizes, 0, run, crossing, logs, *clock);
     *clock += 1;
@@ -59,12 +60,12 @@ pub fn inject(
     requires sizes { AreSizes sizes.dims sizes.room }
     requires band { first + 2 ^ sizes.span ≤ 2 ^ sizes.dims }
     requires routers { AreRouters sizes.span sizes.room run.old crossing.old.buffers logs.old }
-    requires log_room { HasLogRoom 4 logs.old }
+    requires log_room { HaveLogRoom 4 (log_rooms_of logs.old) }
     ensures value { part_of first (2 ^ sizes.span) run.new crossing.new.buffers logs.new clock
         ≡ part_after sizes.dims sizes.room Inject Blank
         (part_of first (2 ^ sizes.span) run.old crossing.old.buffers logs.old clock) }
     ensures routers { AreRouters sizes.span sizes.room run.new crossing.new.buffers logs.new }
-    ensures log_room { LosesAtMost 4 logs.old logs.new }
+    ensures log_room { LoseAtMost 4 (log_rooms_of logs.old) (log_rooms_of logs.new) }
 {
     if is_idle(run) {
         return;
@@ -87,12 +88,12 @@ pub fn deliver(
     requires sizes { AreSizes sizes.dims sizes.room }
     requires band { first + 2 ^ sizes.span ≤ 2 ^ sizes.dims }
     requires routers { AreRouters sizes.span sizes.room run.old crossing.old.buffers logs.old }
-    requires log_room { HasLogRoom sizes.room logs.old }
+    requires log_room { HaveLogRoom sizes.room (log_rooms_of logs.old) }
     ensures value { (clock : ℕ) → part_of first (2 ^ sizes.span) run.new crossing.new.buffers logs.new (clock + 1)
         ≡ part_after sizes.dims sizes.room Deliver Blank
         (part_of first (2 ^ sizes.span) run.old crossing.old.buffers logs.old clock) }
     ensures routers { AreRouters sizes.span sizes.room run.new crossing.new.buffers logs.new }
-    ensures log_room { LosesAtMost sizes.room logs.old logs.new }
+    ensures log_room { LoseAtMost sizes.room (log_rooms_of logs.old) (log_rooms_of logs.new) }
 {
     pass_over(run);
     let mut c = crossing.next_occupied(0);

@@ -1,7 +1,8 @@
 //! What the parts of a petit cycle ask for, as questions.
 
 ghost use Rattle.std.specs.Prelude.{◌≤◌, ◌↔◌, IsTrue};
-ghost use Rattle.cm_petit.specs.Routers.{AreRouters, HasLogRoom};
+ghost use Rattle.cm_router.specs.Logs.{log_rooms_of, HaveLogRoom};
+ghost use Rattle.cm_petit.specs.Routers.{AreRouters};
 ghost use Rattle.cm_petit.specs.Nodes.{AreNodes};
 
 use cm_crossing::{Crossing, Sizes};
@@ -36,7 +37,7 @@ pub fn are_nodes(sizes: Sizes, run: &Run, nodes: &[Node], logs: &[Vec<Event>]) -
 
 /// Whether each log takes so many events more.
 pub fn has_log_room(logs: &[Vec<Event>], count: usize) -> bool
-    ensures room { IsTrue result ↔ HasLogRoom count logs.now }
+    ensures log_room { IsTrue result ↔ HaveLogRoom count (log_rooms_of logs.now) }
 {
     for log in logs {
         if log.capacity() - log.len() < count {

@@ -8,6 +8,7 @@ ghost use Rattle.cm_model.specs.Processor.{Processor};
 ghost use Rattle.cm_model.specs.Array.{chip_at};
 ghost use Rattle.cm_model.specs.Letters.{has_arrived, can_receive, chip_after_delivery};
 ghost use Rattle.cm_model.specs.Delivery.{HasGone, HasHandedOver};
+ghost use Rattle.cm_router.specs.Logs.{log_room};
 
 use crate::letters::{is_one, receive, received, tell_delivered};
 use cm_bits::FlagNo;
@@ -49,7 +50,7 @@ pub fn hand_over(
     log: &mut Vec<Event>,
 ) -> bool
     requires chip { chip < length run.old }
-    requires room { vec_len log.old < vec_capacity log.old }
+    requires log_room { 0 < log_room log.old }
     ensures delivered { result ≡ (has_arrived message.now && can_receive (chip_at run.old chip) message.now.proc) }
     ensures step { (before : List Processor) (seen : List Message) → HasGone before seen (chip_at run.old chip)
         → HasHandedOver result before seen message.now (chip_at run.new chip) }

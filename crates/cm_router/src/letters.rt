@@ -12,6 +12,7 @@ ghost use Rattle.cm_model.specs.Whole.{IsChip};
 ghost use Rattle.cm_model.specs.Letters.{senders_taken, is_among, message_sent};
 ghost use Rattle.cm_model.specs.Letters.{chip_after_injection, chip_after_delivery};
 ghost use Rattle.cm_router.specs.Idle.{IsIdle};
+ghost use Rattle.cm_router.specs.Logs.{log_room};
 
 use cm_bits::{Field, FlagNo, Plane, Proc};
 use cm_element::{ChipView, Run};
@@ -130,7 +131,7 @@ pub(crate) fn is_one(plane: Plane, proc: Proc) -> bool
 }
 
 pub(crate) fn tell_injected(log: &mut Vec<Event>, message: &Message)
-    requires room { vec_len log.old < vec_capacity log.old }
+    requires log_room { 0 < log_room log.old }
     ensures items { log.new.items ≡ log.old.items ++ Event.Injected message.now ∷ [] }
     ensures len { vec_len log.new ≡ vec_len log.old + 1 }
     ensures capacity { vec_capacity log.old ≤ vec_capacity log.new }
@@ -139,7 +140,7 @@ pub(crate) fn tell_injected(log: &mut Vec<Event>, message: &Message)
 }
 
 pub(crate) fn tell_delivered(log: &mut Vec<Event>, message: &Message, here: u16)
-    requires room { vec_len log.old < vec_capacity log.old }
+    requires log_room { 0 < log_room log.old }
     ensures items { log.new.items ≡ log.old.items ++ Event.Delivered message.now here ∷ [] }
     ensures len { vec_len log.new ≡ vec_len log.old + 1 }
     ensures capacity { vec_capacity log.old ≤ vec_capacity log.new }

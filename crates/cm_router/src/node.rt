@@ -11,6 +11,7 @@ ghost use Rattle.cm_model.specs.Letters.{is_among, chip_after_injection, chip_af
 ghost use Rattle.cm_model.specs.Buffers.{leaving_place, outgoing, without};
 ghost use Rattle.cm_model.specs.OneChip.{taken_here, sent_here, delivered_here, kept_here};
 ghost use Rattle.cm_router.specs.Buffer.{IsBuffer, holding};
+ghost use Rattle.cm_router.specs.Logs.{log_room};
 
 use crate::delivery::{begin, hand_over};
 use crate::letters;
@@ -154,7 +155,7 @@ impl Node {
     )
         requires chip { chip < length run.old }
         requires dims { dims ≤ 12 }
-        requires room { vec_len log.old + 4 ≤ vec_capacity log.old }
+        requires log_room { 4 ≤ log_room log.old }
         ensures messages { self.new ≡ holding self.old
             (self.old.messages ++ sent_here dims self.old.room clock here self.old.messages (chip_at run.old chip)) }
         ensures chip { run.new ≡ slice_set run.old chip
@@ -163,8 +164,8 @@ impl Node {
         ensures log { log.new.items
             ≡ log.old.items
             ++ map Event.Injected (sent_here dims self.old.room clock here self.old.messages (chip_at run.old chip)) }
-        ensures within { vec_len log.new ≤ vec_len log.old + 4 }
-        ensures log_room { vec_capacity log.old ≤ vec_capacity log.new }
+        ensures len { vec_len log.new ≤ vec_len log.old + 4 }
+        ensures capacity { vec_capacity log.old ≤ vec_capacity log.new }
     {
         let asking = letters::asking(run, chip);
         if asking == 0 {
@@ -187,14 +188,14 @@ impl Node {
     ) -> Plane
         requires asking { IsPlane asking (λ p. flag (processor_at chip.now p) SEND) }
         requires dims { dims ≤ 12 }
-        requires room { vec_len log.old + 4 ≤ vec_capacity log.old }
+        requires log_room { 4 ≤ log_room log.old }
         ensures taken { IsPlane result (λ p. is_among p (taken_here self.old.room self.old.messages chip.now)) }
         ensures messages { self.new ≡ holding self.old
             (self.old.messages ++ sent_here dims self.old.room clock here self.old.messages chip.now) }
         ensures log { log.new.items
             ≡ log.old.items ++ map Event.Injected (sent_here dims self.old.room clock here self.old.messages chip.now) }
-        ensures within { vec_len log.new ≤ vec_len log.old + 4 }
-        ensures log_room { vec_capacity log.old ≤ vec_capacity log.new }
+        ensures len { vec_len log.new ≤ vec_len log.old + 4 }
+        ensures capacity { vec_capacity log.old ≤ vec_capacity log.new }
     {
         let mut left = 4.min(usize::from(self.room) - self.messages.len());
         let mut taken: Plane = 0;
@@ -215,15 +216,15 @@ impl Node {
     /// one to each. The log tells of each. Place and number of the chip are as for `inject`.
     pub fn deliver(&mut self, run: &mut Run, chip: u16, here: u16, log: &mut Vec<Event>)
         requires chip { chip < length run.old }
-        requires room { vec_len log.old + self.old.room ≤ vec_capacity log.old }
+        requires log_room { self.old.room ≤ log_room log.old }
         ensures stays { self.new ≡ holding self.old (kept_here self.old.messages (chip_at run.old chip)) }
         ensures chip { run.new ≡ slice_set run.old chip
             (chip_after_delivery (delivered_here self.old.messages (chip_at run.old chip)) (chip_at run.old chip)) }
         ensures log { log.new.items
             ≡ log.old.items
             ++ map (λ m. Event.Delivered m here) (delivered_here self.old.messages (chip_at run.old chip)) }
-        ensures within { vec_len log.new ≤ vec_len log.old + self.old.room }
-        ensures log_room { vec_capacity log.old ≤ vec_capacity log.new }
+        ensures len { vec_len log.new ≤ vec_len log.old + self.old.room }
+        ensures capacity { vec_capacity log.old ≤ vec_capacity log.new }
     {
         begin(run, chip);
         let mut place = 0;

@@ -1,11 +1,12 @@
 use Rattle.std.proofs.Common.{◌≡◌, ℕ, ◌<◌, ◌≤◌, length}
-use Rattle.cm_petit.specs.Routers.{events_of, free_at}
+use Rattle.cm_router.proofs.Rooms.{room_at}
+use Rattle.cm_petit.specs.Routers.{events_of}
 use Rattle.cm_array.proofs.parts.reserve.Given as goal
 
 abbrev pub invariant-loop-c : goal.invariant-loop-c
 invariant-loop-c l = record {
   events : events_of l.logs ≡ events_of l.fn.logs;
-  room : (k : ℕ) → k < l.c → l.more ≤ free_at l.logs k;
-  rest : (k : ℕ) → l.c ≤ k → free_at l.logs k ≡ free_at l.fn.logs k;
+  room : (k : ℕ) → k < l.c → l.more ≤ room_at l.logs k;
+  rest : (k : ℕ) → l.c ≤ k → room_at l.logs k ≡ room_at l.fn.logs k;
   count : length l.logs ≡ length l.fn.logs;
 }

@@ -4,11 +4,12 @@ use Rattle.cm_model.specs.declared.act.Act.{Act}
 use Rattle.cm_model.specs.Machine.{Machine, run_of}
 use Rattle.cm_model.specs.Buffers.{after_act}
 use Rattle.cm_model.proofs.Runs.{run_of-nil, run_of_more}
-use Rattle.cm_petit.specs.Routers.{LosesAtMost}
+use Rattle.cm_router.specs.Logs.{log_rooms_of, LoseAtMost}
+use Rattle.cm_router.proofs.Rooms.{lost_nothing}
 use Rattle.cm_array.specs.Acts.{cycles_in}
 use Rattle.cm_array.specs.Parts.{machine_of}
-use Rattle.cm_array.proofs.Machines.{length-logs, AreUnderWay-parts, AreParts-gathered, machine_of-gathered}
-use Rattle.cm_array.proofs.Rooms.{HasLogRoom-left, LosesAtMost-more, cycles_in-more, cycles_in-part}
+use Rattle.cm_array.proofs.Machines.{AreUnderWay-parts, AreParts-gathered, machine_of-gathered}
+use Rattle.cm_array.proofs.Rooms.{HaveLogRoom-left, LoseAtMost-more, cycles_in-more, cycles_in-part}
 use Rattle.cm_array.proofs.parts.run.Goals as goal
 
 pub loop-act-init : goal.loop-act-init
@@ -17,7 +18,8 @@ loop-act-init c = record {
       c.requires.parts.machine.buffer_count);
   parts = AreUnderWay-parts c.args.sizes.dims c.args.sizes.room c.args.parts.now c.requires.parts;
   clock = omega arith;
-  room = λ k. omega arith;
+  room = lost_nothing (cycles_in (take 0 c.args.acts.now) * (4 + c.args.sizes.room))
+      (log_rooms_of c.args.parts.now.logs.items);
 }
 
 pub run_one-requires-clause-log_room : goal.run_one-requires-clause-log_room
@@ -27,11 +29,8 @@ run_one-requires-clause-log_room c =
     let more = cycles_in-more acts i c.act-item.result c.loop-act-test.true c.act-item.is in
     let fits : cycles_in (take i acts) + cycles_in (c.act-item.result ∷ []) ≤ cycles_in acts =
     omega (arith, more, cycles_in-part acts (i + 1)) in
-    HasLogRoom-left (cycles_in acts) (cycles_in (take i acts)) (cycles_in (c.act-item.result ∷ []))
-    (4 + c.args.sizes.room) c.args.parts.now.logs.items c.loop-act.parts.logs.items fits
-    (length-logs c.args.sizes.dims c.args.sizes.room c.loop-act.parts c.loop-act.invariant.parts
-    ∙ sym (length-logs c.args.sizes.dims c.args.sizes.room c.args.parts.now
-    (AreUnderWay-parts c.args.sizes.dims c.args.sizes.room c.args.parts.now c.requires.parts)))
+    HaveLogRoom-left (cycles_in acts) (cycles_in (take i acts)) (cycles_in (c.act-item.result ∷ []))
+    (4 + c.args.sizes.room) (log_rooms_of c.args.parts.now.logs.items) (log_rooms_of c.loop-act.parts.logs.items) fits
     c.requires.log_room c.loop-act.invariant.room
 
 pub loop-act-preserved : goal.loop-act-preserved
@@ -50,10 +49,11 @@ loop-act-preserved c =
           (ap (λ (x : Act). first ++ x ∷ []) c.act-item.is ∙ sym (take_more acts i a c.loop-act-test.true));
       parts = c.run_one.ensures.parts;
       clock = omega (arith, c.run_one.ensures.clock, c.loop-act.invariant.clock, more);
-      room = subst (λ (count : ℕ). LosesAtMost (count * (4 + c.args.sizes.room))
-          before.logs.items c.run_one.new.parts.logs.items) (sym more)
-          (LosesAtMost-more (cycles_in first) (cycles_in (a ∷ [])) (4 + c.args.sizes.room)
-          before.logs.items c.loop-act.parts.logs.items c.run_one.new.parts.logs.items
+      room = subst (λ (count : ℕ). LoseAtMost (count * (4 + c.args.sizes.room))
+          (log_rooms_of before.logs.items) (log_rooms_of c.run_one.new.parts.logs.items)) (sym more)
+          (LoseAtMost-more (cycles_in first) (cycles_in (a ∷ [])) (4 + c.args.sizes.room)
+          (log_rooms_of before.logs.items) (log_rooms_of c.loop-act.parts.logs.items)
+          (log_rooms_of c.run_one.new.parts.logs.items)
           c.loop-act.invariant.room c.run_one.ensures.log_room);
     }
 

@@ -3,7 +3,8 @@ use Rattle.cm_model.specs.declared.act.Act.{Act}
 use Rattle.cm_model.specs.declared.act.Act.TheVariants.{Cycle}
 use Rattle.cm_model.specs.Machine.{Machine}
 use Rattle.cm_model.specs.Buffers.{after_act}
-use Rattle.cm_petit.specs.Routers.{Log, machine_of as machine_from, AreRouters}
+use Rattle.cm_router.specs.Logs.{Log}
+use Rattle.cm_petit.specs.Routers.{machine_of as machine_from, AreRouters}
 use Rattle.cm_array.specs.Acts.{cycles_in}
 use Rattle.cm_array.proofs.Lists.{items-lent}
 use Rattle.cm_array.proofs.Machines.{AreUnderWay-instructed, AreUnderWay-after_act, AreRouters-parts}

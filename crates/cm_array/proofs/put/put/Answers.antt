@@ -6,7 +6,8 @@ use Rattle.cm_model.specs.declared.message.Message.{Message}
 use Rattle.cm_model.specs.declared.message.Event.{Event}
 use Rattle.cm_model.proofs.Each.{length-each_from}
 use Rattle.cm_blocks.specs.Parts.{Part}
-use Rattle.cm_petit.specs.Routers.{Log, events_of}
+use Rattle.cm_router.specs.Logs.{Log}
+use Rattle.cm_petit.specs.Routers.{events_of}
 use Rattle.cm_array.proofs.Laying.{none_stand}
 use Rattle.cm_array.proofs.Putting.{none_put, next_fits, next_put, next_held, all_put, some_put}
 use Rattle.cm_array.proofs.put.put.Goals as goal

@@ -3,7 +3,8 @@ use Rattle.cm_model.specs.declared.message.Message.{Message}
 use Rattle.cm_model.specs.declared.message.Event.{Event}
 use Rattle.cm_model.specs.Array.{Chips}
 use Rattle.cm_blocks.specs.Parts.{cut}
-use Rattle.cm_petit.specs.Routers.{Log, events_of}
+use Rattle.cm_router.specs.Logs.{Log}
+use Rattle.cm_petit.specs.Routers.{events_of}
 use Rattle.cm_array.specs.Cuts.{KeptPart, IsLaid}
 use Rattle.cm_array.proofs.Lists.{items-lent}
 use Rattle.cm_array.proofs.Laying.{all_chips_laid, cut_all}

@@ -29,7 +29,7 @@ loop-ticket-init c =
       kept = c.requires.kept;
       fewer = omega arith;
       others = not_written c.args.chip c.args.slots.now;
-      log_room = omega (arith, c.requires.room);
+      log_room = omega (arith, c.requires.log_room);
       log_len = omega arith;
       capacity = omega arith;
     }
@@ -45,8 +45,8 @@ message_of-message-requires c =
           (c.loop-ticket.invariant.kept place t (slice_get_within queue place t found));
     }
 
-pub hand_over-requires-clause-room : goal.hand_over-requires-clause-room
-hand_over-requires-clause-room c =
+pub hand_over-requires-clause-log_room : goal.hand_over-requires-clause-log_room
+hand_over-requires-clause-log_room c =
     let queue : List Ticket = list_at c.loop-ticket.slots c.args.chip in
     let found : slice_get queue c.loop-ticket.place ≡ Some c.in-Some.ticket =
     sym (rw c.from-at.ensures at c.ticket.ensures.value) ∙ c.in-Some.is in
@@ -200,6 +200,6 @@ returns c =
       others = was.invariant.others;
       chip = was.invariant.run ∙ ap (set c.args.run.now c.args.chip) all.chip_is;
       log = all.log_is;
-      told = omega (arith, was.invariant.log_len);
-      log_room = was.invariant.capacity;
+      len = omega (arith, was.invariant.log_len);
+      capacity = was.invariant.capacity;
     }

@@ -1,8 +1,10 @@
-use Rattle.std.proofs.Common.{◌≡◌, sym, ap, ◌∙◌, arith}
+use Rattle.std.proofs.Common.{◌≡◌, sym, ap, ◌∙◌, arith, ◌+◌, refl}
 use Rattle.cm_model.specs.Machine.{Machine}
 use Rattle.cm_model.specs.Buffers.{machine_after_injection, machine_after_dimension, machine_after_delivery}
 use Rattle.cm_model.proofs.Cycles.{after_crossings, after_crossings-more, after_cycle-is}
 use Rattle.cm_router.specs.Buffer.{buffers_of}
+use Rattle.cm_router.specs.Logs.{log_rooms_of}
+use Rattle.cm_router.proofs.Rooms.{lost_again, room_left, less_room}
 use Rattle.cm_petit.specs.Routers.{machine_of}
 use Rattle.cm_petit.proofs.Dimensions.{crossed_machine}
 use Rattle.cm_petit.proofs.nodes.cycle_of_nodes.Goals as goal
@@ -36,3 +38,18 @@ returns-clause-value c =
     c.deliver_from_nodes.ensures.value c.args.clock
     ∙ ap (machine_after_delivery n) (c.loop-dim.invariant.crossed ∙ ap (after_crossings n cap begun) all)
     ∙ sym (after_cycle-is n cap before)
+
+pub inject_into_nodes-requires-clause-log_room : goal.inject_into_nodes-requires-clause-log_room
+inject_into_nodes-requires-clause-log_room c =
+    less_room 4 (4 + c.args.sizes.room) (log_rooms_of c.args.logs.now) (omega arith) c.requires.log_room
+
+pub deliver_from_nodes-requires-clause-log_room : goal.deliver_from_nodes-requires-clause-log_room
+deliver_from_nodes-requires-clause-log_room c =
+    room_left 4 c.args.sizes.room (4 + c.args.sizes.room) (log_rooms_of c.args.logs.now)
+    (log_rooms_of c.inject_into_nodes.new.logs) refl c.requires.log_room c.inject_into_nodes.ensures.log_room
+
+pub returns-clause-log_room : goal.returns-clause-log_room
+returns-clause-log_room c =
+    lost_again 4 c.args.sizes.room (4 + c.args.sizes.room) (log_rooms_of c.args.logs.now)
+    (log_rooms_of c.inject_into_nodes.new.logs) (log_rooms_of c.deliver_from_nodes.new.logs) refl c.inject_into_nodes.ensures.log_room
+    c.deliver_from_nodes.ensures.log_room

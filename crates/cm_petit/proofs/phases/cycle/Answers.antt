@@ -1,4 +1,4 @@
-use Rattle.std.proofs.Common.{◌≡◌, [], length, sym, ap, ◌∙◌, arith}
+use Rattle.std.proofs.Common.{◌≡◌, [], length, sym, ap, ◌∙◌, arith, ◌+◌, refl}
 use Rattle.std.proofs.lemmas.List.{length-map}
 use Rattle.cm_model.specs.Array.{chip_at}
 use Rattle.cm_petit.proofs.Making.{injected_whole, sixteen_after_injection, delivered_whole}
@@ -6,7 +6,9 @@ use Rattle.cm_petit.proofs.Quiet.{IsQuiet, rest_is_quiet}
 use Rattle.cm_model.specs.Machine.{Machine}
 use Rattle.cm_model.specs.Buffers.{machine_after_injection, machine_after_dimension, machine_after_delivery}
 use Rattle.cm_model.proofs.Cycles.{after_crossings, after_crossings-more, after_cycle-is}
-use Rattle.cm_petit.specs.Routers.{Log, AreRouters, machine_of}
+use Rattle.cm_router.specs.Logs.{Log, log_rooms_of}
+use Rattle.cm_router.proofs.Rooms.{lost_nothing, lost_again, room_left, less_room}
+use Rattle.cm_petit.specs.Routers.{AreRouters, machine_of}
 use Rattle.cm_petit.proofs.Dimensions.{crossed_machine}
 use Rattle.cm_petit.proofs.phases.cycle.Goals as goal
 
@@ -68,3 +70,24 @@ loop-dim-init c = record {
   count = rw c.requires.all at c.inject.ensures.routers.buffer_count;
   within = c.inject.ensures.routers.within;
 }
+
+pub inject-requires-clause-log_room : goal.inject-requires-clause-log_room
+inject-requires-clause-log_room c =
+    less_room 4 (4 + c.args.sizes.room) (log_rooms_of c.args.logs.now) (omega arith) c.requires.log_room
+
+pub deliver-requires-clause-log_room : goal.deliver-requires-clause-log_room
+deliver-requires-clause-log_room c =
+    room_left 4 c.args.sizes.room (4 + c.args.sizes.room) (log_rooms_of c.args.logs.now)
+    (log_rooms_of c.inject.new.logs) refl c.requires.log_room c.inject.ensures.log_room
+
+pub returns-then-is_empty-clause-log_room : goal.returns-then-is_empty-clause-log_room
+returns-then-is_empty-clause-log_room c =
+    lost_again 4 c.args.sizes.room (4 + c.args.sizes.room) (log_rooms_of c.args.logs.now)
+    (log_rooms_of c.inject.new.logs) (log_rooms_of c.inject.new.logs) refl c.inject.ensures.log_room
+    (lost_nothing c.args.sizes.room (log_rooms_of c.inject.new.logs))
+
+pub returns-clause-log_room : goal.returns-clause-log_room
+returns-clause-log_room c =
+    lost_again 4 c.args.sizes.room (4 + c.args.sizes.room) (log_rooms_of c.args.logs.now)
+    (log_rooms_of c.inject.new.logs) (log_rooms_of c.deliver.new.logs) refl c.inject.ensures.log_room
+    c.deliver.ensures.log_room

@@ -4,7 +4,7 @@ use Rattle.cm_model.specs.Array.{list_at}
 use Rattle.cm_blocks.specs.Parts.{Part}
 use Rattle.cm_blocks.specs.Steps.{part_after}
 use Rattle.cm_petit.specs.Routers.{part_of}
-use Rattle.cm_petit.proofs.Made.{as_many}
+use Rattle.cm_petit.proofs.Made.{as_many, lost_all}
 use Rattle.cm_petit.proofs.Making.{AreDone, delivering, none_done, all_done, room_to_deliver}
 use Rattle.cm_petit.proofs.Making.{delivered_past, delivered_more}
 use Rattle.cm_petit.proofs.phases.deliver.Goals as goal
@@ -31,13 +31,13 @@ loop-c-init c = record {
   most = omega (arith, c.next_occupied-c.ensures.most, c.requires.routers.buffer_count);
 }
 
-pub deliver-requires-clause-room : goal.deliver-requires-clause-room
-deliver-requires-clause-room c =
+pub deliver-requires-clause-log_room : goal.deliver-requires-clause-log_room
+deliver-requires-clause-log_room c =
     let here = c.loop-c in
     room_to_deliver c.args.sizes.room c.args.logs.now here.logs here.c c.index-logs-c.result c.requires.log_room
     (omega (arith, c.requires.routers.chip_count, c.requires.routers.log_count))
     (omega (arith, here.auto.logs, c.requires.routers.log_count))
-    c.index-logs-c.is (c.index-logs-c.result.ok.1) here.invariant.delivered.lost
+    c.index-logs-c.is here.invariant.delivered.lost
 
 pub loop-c-preserved : goal.loop-c-preserved
 loop-c-preserved c =
@@ -48,8 +48,8 @@ loop-c-preserved c =
     omega (arith, c.loop-c-test.true, here.auto.logs, c.requires.routers.log_count) in
     let ms : List Message = list_at here.crossing.buffers i in
     let log_is = rw (← c.index-logs-c.is) at c.deliver.ensures.log in
-    let longer = rw (← c.index-logs-c.is) at c.deliver.ensures.told in
-    let kept = rw (← c.index-logs-c.is) at c.deliver.ensures.log_room in
+    let longer = rw (← c.index-logs-c.is) at c.deliver.ensures.len in
+    let kept = rw (← c.index-logs-c.is) at c.deliver.ensures.capacity in
     let before : Part =
     part_of c.args.first (2 ^ c.args.sizes.span) c.args.run.now c.args.crossing.now.buffers c.args.logs.now 0 in
     let one_more : AreDone c.args.sizes.room (delivering before) before
@@ -81,3 +81,9 @@ returns-clause-value c =
     λ clock. all_done c.args.sizes.room (delivering before) c.args.first count 0
     c.args.run.now c.args.crossing.now.buffers c.args.logs.now here.run here.crossing.buffers here.logs here.c
     here.invariant.delivered (clock + 1) (as_many c.requires.routers) (omega (arith, c.requires.routers.chip_count))
+
+pub returns-clause-log_room : goal.returns-clause-log_room
+returns-clause-log_room c =
+    let here = c.loop-c in
+    lost_all c.args.sizes.room here.c c.args.logs.now here.logs (omega (arith, here.auto.logs)) here.auto.logs
+    here.invariant.delivered.lost

@@ -2,13 +2,11 @@ use Rattle.std.proofs.Common.{ℕ, ◌+◌, List, length, ap, sym, ◌∙◌, re
 use Rattle.std.specs.List.{slice_range}
 use Rattle.std.specs.Vec.{with_items}
 use Rattle.cm_blocks.specs.Parts.{cut}
-use Rattle.cm_petit.specs.Routers.{Log, events_of}
+use Rattle.cm_router.specs.Logs.{Log, log_rooms_of, HaveLogRoom}
+use Rattle.cm_petit.specs.Routers.{events_of}
 use Rattle.cm_array.specs.declared.parts.Parts.{Parts}
-use Rattle.cm_array.specs.Cuts.{HaveLogRoom}
-use Rattle.cm_array.specs.Parts.{log_rooms_of}
 use Rattle.cm_array.proofs.Lists.{items-lent}
 use Rattle.cm_array.proofs.Cutting.{within_fifteen, few_buffers, events_of-cut, AreCut, IsKeptPart-cut, part_of-cut}
-use Rattle.cm_array.proofs.Cutting.{HaveLogRoom-logs}
 use Rattle.cm_array.proofs.part.Part.cut.Goals as goal
 use Rattle.cm_array.proofs.part.Part.cut.Goals.{In_ok-crossing}
 
@@ -70,4 +68,4 @@ returns-clause-log_room c =
     let same = items-lent c.in_ok-logs.logs c.reserve.new.logs
     (c.reserve.auto.logs ∙ ap length c.deref_mut.ensures.value) in
     subst (λ (logs : List Log). HaveLogRoom c.args.more (log_rooms_of logs)) (sym same)
-    (HaveLogRoom-logs c.args.more c.reserve.new.logs c.in_ok-reserve.ensures.ok)
+    c.in_ok-reserve.ensures.ok

@@ -8,14 +8,14 @@ use Rattle.cm_crossing.proofs.Wholes.{chip_inside, tickets_within}
 use Rattle.cm_crossing.proofs.Changing.{written_standing, changed_within, standing_read}
 use Rattle.cm_crossing.proofs.crossing.Crossing.deliver.Goals as goal
 
-pub give_out-requires-clause-room : goal.give_out-requires-clause-room
-give_out-requires-clause-room c =
+pub give_out-requires-clause-log_room : goal.give_out-requires-clause-log_room
+give_out-requires-clause-log_room c =
     let slots : List (List Ticket) = c.self.inside.slots in
     let row : List Message = c.self.inside.row.items in
     let view = ap (λ (u : UnderWay). u.buffers) c.self.view_is in
     let inside = chip_inside row slots c.args.self.now.buffers c.args.chip view c.requires.chip in
     let few = tickets_within c.args.sizes.room row slots (rw view c.requires.within) c.args.chip [] inside in
-    omega (arith, few, c.requires.room)
+    omega (arith, few, c.requires.log_room)
 
 pub returns : goal.returns
 returns c =
@@ -39,8 +39,8 @@ returns c =
           ∙ ap (λ (ms : List Message). set c.args.self.now.buffers i (kept_here ms (get_or c.args.run.now i []))) stood;
       chip = rw (stood) at (rw c.deref.ensures.value at c.give_out.ensures.chip);
       log = rw (stood) at (rw c.deref.ensures.value at c.give_out.ensures.log);
-      told = omega (arith, c.give_out.ensures.told, few);
-      log_room = c.give_out.ensures.log_room;
+      len = omega (arith, c.give_out.ensures.len, few);
+      capacity = c.give_out.ensures.capacity;
       within = rw c.give_out.ensures.others
           (changed_within c.args.sizes.room row slots i queue all_few (omega (arith, c.give_out.ensures.fewer, few)));
     }

@@ -12,7 +12,7 @@ loop-place-init c = record {
       c.args.self.now.messages c.args.log.now.items c.args.here c.begin.ensures.gone);
   others = sym (set-get_or c.args.run.now c.args.chip []);
   log_room = let room_is : c.self.inside.room ≡ c.args.self.now.room = ap (λ node. node.room) c.self.view_is in
-      omega (arith, c.requires.room, c.self.invariant.within);
+      omega (arith, c.requires.log_room, c.self.invariant.within);
   log_len = let room_is : c.self.inside.room ≡ c.args.self.now.room = ap (λ node. node.room) c.self.view_is in
       omega (arith, c.self.invariant.within);
   capacity = omega arith;

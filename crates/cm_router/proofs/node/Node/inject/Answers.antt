@@ -23,6 +23,6 @@ returns-then-asking-eq0 c =
       log = sym (append-nil c.args.log.now.items)
           ∙ ap (λ ps. c.args.log.now.items ++ map Injected
           (messages_sent c.args.dims c.args.clock c.args.here chip ps)) (sym nobody);
-      within = omega arith;
-      log_room = omega arith;
+      len = omega arith;
+      capacity = omega arith;
     }

@@ -19,7 +19,7 @@ loop-number-init c =
     record {
       taken = rw (messages_are, left_is)
           (taking_begins c.args.self.now c.args.chip.now c.args.dims c.args.clock c.args.here c.args.log.now.items);
-      log_room = omega (arith, left_is, c.requires.room);
+      log_room = omega (arith, left_is, c.requires.log_room);
       log_len = omega (arith, left_is);
       capacity = omega arith;
       room = room_is;
@@ -96,6 +96,6 @@ returns c =
       log = here.invariant.taken.log_is
           ∙ ap (λ ps. c.args.log.now.items ++ map Injected
           (messages_sent c.args.dims c.args.clock c.args.here c.args.chip.now ps)) all;
-      within = omega (arith, here.invariant.log_len);
-      log_room = here.invariant.capacity;
+      len = omega (arith, here.invariant.log_len);
+      capacity = here.invariant.capacity;
     }
