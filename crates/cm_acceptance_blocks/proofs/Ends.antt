@@ -15,7 +15,8 @@ use Rattle.cm_blocks.proofs.Rounding.{rounds_end_the_run}
 use Rattle.std.proofs.lemmas.Bool.{cases_Bool}
 use Rattle.std.proofs.lemmas.Bool.Decides.{nat_tests}
 use Rattle.cm_array.specs.Acts.{cycles_in, is_long, is_late}
-use Rattle.cm_array.specs.Cuts.{AreWhole, HaveLogRoom}
+use Rattle.cm_router.specs.Logs.{HaveLogRoom}
+use Rattle.cm_array.specs.Cuts.{AreWhole}
 use Rattle.cm_subcube.specs.Blocks.{KeptBlock, IsFresh}
 use Rattle.cm_subcube.specs.Laws.{all_blocks, BlocksAreJoined}
 use Rattle.cm_subcube.specs.Parcels.{IsOuter}

@@ -22,7 +22,8 @@ use Rattle.cm_blocks.specs.Steps.{part_after, part_after_all, less, absorbed}
 use Rattle.cm_blocks.proofs.Rounding.{blocks_begin, blocks_go_on}
 use Rattle.cm_blocks.proofs.Filling.{leaving_then_taking_in}
 use Rattle.cm_array.specs.Acts.{cycles_in}
-use Rattle.cm_array.specs.Cuts.{HaveLogRoom, LoseAtMost}
+use Rattle.cm_router.specs.Logs.{HaveLogRoom, LoseAtMost}
+use Rattle.cm_router.proofs.Rooms.{room_left, less_room}
 use Rattle.cm_subcube.specs.Blocks.{KeptBlock}
 use Rattle.cm_subcube.specs.declared.round.Round.{Round}
 use Rattle.cm_subcube.specs.declared.round.Kind.{Kind}
@@ -78,17 +79,6 @@ clock_taken n room Look parcel s = refl
 clock_taken n room Inject parcel s = refl
 clock_taken n room (Cross d) parcel s = refl
 clock_taken n room Deliver parcel s = refl
-
--- ---- room in logs
-
-room_left : (most more all : ℕ) (old new : List ℕ) → most + more ≡ all → HaveLogRoom all old
-    → LoseAtMost most old new → HaveLogRoom more new
-room_left most more all old new whole has lost i below =
-    let l : i < length old = omega (arith, below, lost.same) in
-    let f = lost.few i l in let h = has i l in omega (arith, f, h, whole)
-
-less_room : (few all : ℕ) (rooms : List ℕ) → few ≤ all → HaveLogRoom all rooms → HaveLogRoom few rooms
-less_room few all rooms l has i below = let h = has i below in omega (arith, l, h)
 
 -- ---- what is due
 

@@ -8,7 +8,7 @@ use Rattle.cm_blocks.specs.Parcels.{Parcel, due}
 use Rattle.cm_blocks.specs.Rounds.{before_round, ahead}
 use Rattle.cm_blocks.specs.Steps.{less}
 use Rattle.cm_array.specs.Acts.{cycles_in}
-use Rattle.cm_array.specs.Cuts.{HaveLogRoom}
+use Rattle.cm_router.specs.Logs.{HaveLogRoom}
 use Rattle.cm_subcube.specs.Blocks.{KeptBlock}
 use Rattle.cm_subcube.specs.declared.round.Round.{Round}
 use Rattle.cm_subcube.specs.Rounds.{step_of}

@@ -7,7 +7,9 @@ use Rattle.cm_blocks.specs.Counts.{is_injection, is_delivery, injections, delive
 use Rattle.cm_blocks.specs.Parts.{Part}
 use Rattle.cm_blocks.specs.Parcels.{Parcel, Blank}
 use Rattle.cm_blocks.specs.Steps.{part_after, part_after_all}
-use Rattle.cm_array.specs.Cuts.{KeptPart, LoseAtMost}
+use Rattle.cm_router.specs.Logs.{LoseAtMost}
+use Rattle.cm_router.proofs.Rooms.{lost_nothing}
+use Rattle.cm_array.specs.Cuts.{KeptPart}
 use Rattle.cm_subcube.specs.Blocks.{KeptBlock, IsBlock, CanGo, HasGone}
 use Rattle.cm_subcube.proofs.Counting.{weighed}
 
@@ -99,10 +101,6 @@ HasGone-one k step rooms gathered old new seen view is lost =
           (sym (ap (λ (kept : KeptPart). kept.log_rooms) is)) lost;
     })
 
--- logs that are left alone lose nothing
-pub loses_nothing : (count : ℕ) (rooms : List ℕ) → LoseAtMost count rooms rooms
-loses_nothing count rooms = record { same = refl; few = λ i l. omega arith }
-
 -- a look changes nothing
 pub HasGone-look : (block : KeptBlock) → HasGone (Look ∷ []) block block
 unfolding part_after
@@ -111,7 +109,7 @@ HasGone-look block = record {
   dims = refl;
   room = refl;
   blocks = refl;
-  log_room = loses_nothing (events_in block.kept.room (Look ∷ [])) block.kept.log_rooms;
+  log_room = lost_nothing (events_in block.kept.room (Look ∷ [])) block.kept.log_rooms;
 }
 
 -- ---- steps one after another
@@ -122,7 +120,7 @@ HasGone-none block = record {
   dims = refl;
   room = refl;
   blocks = refl;
-  log_room = loses_nothing (events_in block.kept.room []) block.kept.log_rooms;
+  log_room = lost_nothing (events_in block.kept.room []) block.kept.log_rooms;
 }
 
 pub HasGone-append : (first second : List Step) (old mid new : KeptBlock) → HasGone first old mid

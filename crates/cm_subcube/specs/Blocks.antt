@@ -4,7 +4,8 @@ use Rattle.cm_model.specs.Steps.{Step}
 use Rattle.cm_blocks.specs.Counts.{deliveries, events_in}
 use Rattle.cm_blocks.specs.Parts.{size}
 use Rattle.cm_blocks.specs.Steps.{part_after_all}
-use Rattle.cm_array.specs.Cuts.{KeptPart, HaveLogRoom, LoseAtMost}
+use Rattle.cm_router.specs.Logs.{HaveLogRoom, LoseAtMost}
+use Rattle.cm_array.specs.Cuts.{KeptPart}
 
 -- what contracts see of a block: into 2 ^ k of them the machine was cut, and what the block keeps of it
 pub record KeptBlock : Type 0 where

@@ -7,7 +7,7 @@ ghost use Rattle.cm_model.specs.Steps.{Instruct, Inject, Cross, Deliver, steps_o
 ghost use Rattle.cm_blocks.specs.Counts.{deliveries, events_in};
 ghost use Rattle.cm_blocks.specs.Rounds.{is_round, until_round};
 ghost use Rattle.cm_blocks.specs.Steps.{part_after_all};
-ghost use Rattle.cm_array.specs.Cuts.{HaveLogRoom, LoseAtMost};
+ghost use Rattle.cm_router.specs.Logs.{HaveLogRoom, LoseAtMost};
 ghost use Rattle.cm_subcube.specs.Parcels.{IsExchange};
 ghost use Rattle.cm_subcube.specs.Blocks.{CanGo, HasGone};
 ghost use Rattle.cm_subcube.specs.Local.{steps_behind, local_after, is_through, IsRoundOf};

@@ -17,7 +17,8 @@ use Rattle.cm_blocks.specs.Parts.{Part, block}
 use Rattle.cm_blocks.specs.Rounds.{rounds, before_round}
 use Rattle.cm_blocks.proofs.Rounding.{rounds_end_the_run}
 use Rattle.cm_array.specs.Acts.{cycles_in}
-use Rattle.cm_array.specs.Cuts.{HaveLogRoom, joined, AreWhole}
+use Rattle.cm_router.specs.Logs.{HaveLogRoom}
+use Rattle.cm_array.specs.Cuts.{joined, AreWhole}
 use Rattle.cm_subcube.specs.Blocks.{KeptBlock, IsFresh}
 use Rattle.cm_subcube.specs.Laws.{all_blocks}
 use Rattle.cm_subcube.proofs.Joining.{clock-block, joined-blocks, AreWhole-blocks}

@@ -24,7 +24,8 @@ use Rattle.cm_blocks.specs.Rounds.{is_round, is_vertical, rounds, before_round, 
 use Rattle.cm_blocks.specs.Steps.{part_after, part_after_all, less, absorbed}
 use Rattle.cm_blocks.proofs.Rounding.{blocks_begin, blocks_go_on}
 use Rattle.cm_blocks.proofs.Filling.{leaving_then_taking_in}
-use Rattle.cm_array.specs.Cuts.{HaveLogRoom, LoseAtMost}
+use Rattle.cm_router.specs.Logs.{HaveLogRoom, LoseAtMost}
+use Rattle.cm_router.proofs.Rooms.{room_left, less_room}
 use Rattle.cm_array.specs.Acts.{cycles_in}
 use Rattle.cm_subcube.specs.Blocks.{KeptBlock}
 use Rattle.cm_subcube.specs.declared.round.Kind.{Kind}
@@ -159,16 +160,6 @@ giver_is_sender n k (Cross d) b round = refl
 giver_is_sender n k Deliver b round = absurd (let wrong : false ≡ true = round in cc)
 
 -- ---- one turn of one block
-
--- log room that is left
-pub room_left : (most more all : ℕ) (old new : List ℕ) → most + more ≡ all → HaveLogRoom all old
-    → LoseAtMost most old new → HaveLogRoom more new
-room_left most more all old new whole has lost i below =
-    let l : i < length old = omega (arith, below, lost.same) in
-    let f = lost.few i l in let h = has i l in omega (arith, f, h, whole)
-
-less_room : (few all : ℕ) (rooms : List ℕ) → few ≤ all → HaveLogRoom all rooms → HaveLogRoom few rooms
-less_room few all rooms l has i below = let h = has i below in omega (arith, l, h)
 
 -- the round of a phase is one of the run
 following_none : (n k : ℕ) (acts : List Act) → IsFollowing n k acts None

@@ -9,7 +9,8 @@ use Rattle.cm_blocks.specs.Parcels.{Parcel}
 use Rattle.cm_blocks.specs.Steps.{absorbed, part_after}
 use Rattle.cm_subcube.specs.declared.round.Round.{Round}
 use Rattle.cm_subcube.specs.Blocks.{KeptBlock}
-use Rattle.cm_array.specs.Cuts.{KeptPart, HaveLogRoom, LoseAtMost}
+use Rattle.cm_router.specs.Logs.{HaveLogRoom, LoseAtMost}
+use Rattle.cm_array.specs.Cuts.{KeptPart}
 use Rattle.cm_subcube.specs.Parcels.{IsExchange}
 use Rattle.cm_subcube.specs.Local.{local_after}
 use Rattle.cm_workers.specs.declared.post.Post.{Post}

@@ -10,7 +10,7 @@ use Rattle.cm_blocks.specs.Parcels.{due, sender}
 use Rattle.cm_blocks.specs.Rounds.{rounds, before_round, ahead}
 use Rattle.cm_blocks.specs.Steps.{less}
 use Rattle.cm_array.specs.Acts.{cycles_in}
-use Rattle.cm_array.specs.Cuts.{HaveLogRoom}
+use Rattle.cm_router.specs.Logs.{HaveLogRoom}
 use Rattle.cm_subcube.specs.Blocks.{KeptBlock}
 use Rattle.cm_subcube.specs.Parcels.{HaveSpaceFor}
 use Rattle.cm_subcube.specs.Rounds.{kind_of}

@@ -7,7 +7,7 @@ use Rattle.cm_blocks.specs.Counts.{deliveries, events_in}
 use Rattle.cm_blocks.specs.Parts.{Part}
 use Rattle.cm_blocks.specs.Parcels.{due}
 use Rattle.cm_blocks.specs.Steps.{part_after_all, less, absorbed}
-use Rattle.cm_array.specs.Cuts.{HaveLogRoom, LoseAtMost}
+use Rattle.cm_router.specs.Logs.{HaveLogRoom, LoseAtMost}
 use Rattle.cm_subcube.specs.declared.round.Round.{Round}
 use Rattle.cm_subcube.specs.Blocks.{KeptBlock}
 use Rattle.cm_subcube.specs.Rounds.{step_of}
