@@ -290,7 +290,8 @@ module _ {room d : ℕ} (old left : List Tile) (leaving : List (Option (List ℕ
 
     -- who comes stands across
     module _ (new : List Tile) (long_new : length new ≡ length old)
-        (come : (t : ℕ) → t < length old → HasTakenIn room (arriving d leaving t) (tile_at left t) (tile_at new t)) where
+        (come : (t : ℕ) → t < length old
+        → HasTakenIn room (arriving d leaving t) (tile_at left t) (tile_at new t)) where
       tickets_after : (t i : ℕ) → t < length old → i < 64
           → map ticket_of (standing_at (tile_at new t) i)
           ≡ exchanged room d (map ticket_of (standing_at (tile_at old t) i))

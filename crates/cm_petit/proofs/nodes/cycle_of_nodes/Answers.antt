@@ -51,5 +51,5 @@ deliver_from_nodes-requires-clause-log_room c =
 pub returns-clause-log_room : goal.returns-clause-log_room
 returns-clause-log_room c =
     lost_again 4 c.args.sizes.room (4 + c.args.sizes.room) (log_rooms_of c.args.logs.now)
-    (log_rooms_of c.inject_into_nodes.new.logs) (log_rooms_of c.deliver_from_nodes.new.logs) refl c.inject_into_nodes.ensures.log_room
-    c.deliver_from_nodes.ensures.log_room
+    (log_rooms_of c.inject_into_nodes.new.logs) (log_rooms_of c.deliver_from_nodes.new.logs) refl
+    c.inject_into_nodes.ensures.log_room c.deliver_from_nodes.ensures.log_room

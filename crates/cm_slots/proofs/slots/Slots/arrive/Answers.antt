@@ -4,7 +4,8 @@ use Rattle.cm_slots.proofs.slots.Slots.arrive.Goals as goal
 
 pub arrive-requires : goal.arrive-requires
 arrive-requires c =
-    let same = tickets_lent c.self.inside.tiles c.self.invariant c.self.view_is c.deref_mut.ensures.value c.requires.chip in
+    let same = tickets_lent c.self.inside.tiles c.self.invariant c.self.view_is c.deref_mut.ensures.value
+    c.requires.chip in
     record {
       whole = rw c.deref_mut.ensures.value c.self.invariant.whole;
       chip = chip_lent c.self.inside.tiles c.self.invariant c.self.view_is c.deref_mut.ensures.value c.requires.chip;
@@ -19,8 +20,9 @@ invariant_of-self c =
 
 pub returns : goal.returns
 returns c =
-    let same = tickets_lent c.self.inside.tiles c.self.invariant c.self.view_is c.deref_mut.ensures.value c.requires.chip in
+    let same = tickets_lent c.self.inside.tiles c.self.invariant c.self.view_is c.deref_mut.ensures.value
+    c.requires.chip in
     record {
-      value = changed_view c.self.inside.tiles c.self.invariant c.self.view_is c.deref_mut.ensures.value c.requires.chip _
-          c.arrive.new.tiles c.arrive.auto.tiles (rw same at c.arrive.ensures.value);
+      value = changed_view c.self.inside.tiles c.self.invariant c.self.view_is c.deref_mut.ensures.value
+          c.requires.chip _ c.arrive.new.tiles c.arrive.auto.tiles (rw same at c.arrive.ensures.value);
     }
