@@ -21,8 +21,10 @@ pub invariant_of-self : goal.invariant_of-self
 invariant_of-self c =
     let long = c.cross.auto.tiles ∙ ap length c.deref_mut.ensures.value in
     let rows = c.cross.auto.leaving ∙ ap length c.deref_mut-2.ensures.value in
-    rw (items-lent c.self.inside.tiles c.cross.new.tiles long,
-    items-lent c.self.inside.leaving c.cross.new.leaving rows)
+    rw (
+      items-lent c.self.inside.tiles c.cross.new.tiles long,
+      items-lent c.self.inside.leaving c.cross.new.leaving rows,
+    )
     (tiles_after c.self.invariant c.self.view_is c.requires.count c.requires.dim c.args.room c.cross.new.tiles long
     c.requires.some c.cross.ensures.whole (rw (c.from.ensures, c.deref_mut.ensures.value) at c.cross.ensures.value)
     c.cross.new.leaving rows)
