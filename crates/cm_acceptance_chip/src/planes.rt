@@ -3,7 +3,7 @@
 use crate::cases::{Case, first_not_so};
 use cm_bits::Plane;
 use cm_daisy::previous;
-use cm_truth::apply;
+use cm_truth::{apply, apply_alone};
 use std::alloc::Global;
 use std::test::Fail;
 
@@ -24,7 +24,7 @@ impl Case for Applied {
 
     fn is_so(&self, _alloc: Global) -> Result<bool, Fail> {
         let Applied(_, table, outputs) = *self;
-        Ok(apply(table, A, B, F) == outputs)
+        Ok(apply(table, A, B, F) == outputs && apply_alone(table, A, B, F) == outputs)
     }
 }
 

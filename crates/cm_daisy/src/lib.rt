@@ -15,13 +15,13 @@ pub fn previous(plane: Plane) -> Plane
     plane << 1
 }
 
-/// The same at each of thirty-two chips: lane k is the plane of chip k.
+/// The same at each of several chips: lane k is the plane of chip k.
 #[inline(always)]
-pub fn previous_lanes(planes: u16x32) -> u16x32
-    requires planes { length planes ≡ 32 }
-    ensures count { length result ≡ 32 }
-    ensures value { (k : ℕ) → k < 32
-        → IsPlane (slice_index result k) (λ p. plane_bit (slice_index planes k) (predecessor p)) }
+pub fn previous_lanes<const L: usize>(planes: Simd<u16, L>) -> Simd<u16, L>
+    requires planes { length planes ≡ L }
+    ensures count { length result ≡ L }
+    ensures value { (k : ℕ) → k < L
+        → IsPlane (slice_index result k) (λ p. plane_bit (slice_index planes.entry k) (predecessor p)) }
 {
     // A shift by one place: the sum of a lane with itself, without its carry.
     planes + planes

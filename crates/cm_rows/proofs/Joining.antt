@@ -1,7 +1,9 @@
 -- Words of rows that are computed one part after another.
-use Rattle.std.proofs.Common.{◌≡◌, ◌≢◌, inl, inr, ℕ, ◌+◌, ◌-◌, ◌<◌, ◌≤◌, Bool, List, length, cond, get_or, set}
-use Rattle.std.proofs.Common.{get_or-set_same, get_or-set_other, ap, refl, ◌∙◌, ⊎_elim, arith}
+use Rattle.std.proofs.Common.{◌≡◌, ◌≢◌, inl, inr, ℕ, ◌+◌, ◌-◌, ◌*◌, ◌<◌, ◌≤◌, Bool, List, length, cond, get_or, set}
+use Rattle.std.proofs.Common.{get_or-set_same, get_or-set_other, ap, refl, ◌∙◌, ⊎_elim, arith, add-one}
 use Rattle.std.proofs.lemmas.Bool.{cases_lt}
+use Rattle.std.proofs.lemmas.Nat.{mul-le}
+use Rattle.std.proofs.Math.Nat.{mul-suc}
 use Rattle.cm_bits.specs.Bit.{bit}
 use Rattle.cm_model.specs.Chip.{IsPlane}
 use Rattle.cm_rows.specs.declared.places.Places.{Places}
@@ -131,38 +133,39 @@ one_word table chained always sense at row k choice word memory flags old inside
   above = λ i h. let other : i ≢ row + k = omega arith in get_or-set_other old (row + k) i word 0 other;
 }
 
--- the lanes are thirty-two words of a list
-abbrev pub AreLanes : List ℕ → List ℕ → ℕ → Type 0
-AreLanes lanes words at = (k : ℕ) → k < 32 → get_or lanes k 0 ≡ get_or words (at + k) 0
+-- so many lanes are words of a list
+abbrev pub AreLanes : ℕ → List ℕ → List ℕ → ℕ → Type 0
+AreLanes many lanes words at = (k : ℕ) → k < many → get_or lanes k 0 ≡ get_or words (at + k) 0
 
-lane_of : (lanes words : List ℕ) (row from j : ℕ) → AreLanes lanes words (row + from) → from ≤ j → j < from + 32
+lane_of : (many : ℕ) (lanes words : List ℕ) (row from j : ℕ) → AreLanes many lanes words (row + from) → from ≤ j
+    → j < from + many
     → get_or lanes (j - from) 0 ≡ get_or words (row + j) 0
-lane_of lanes words row from j are low high = are (j - from) (omega arith)
+lane_of many lanes words row from j are low high = are (j - from) (omega arith)
     ∙ ap (λ (i : ℕ). get_or words i 0) (omega arith)
 
--- thirty-two words
-pub one_block : (table : ℕ) (chained always sense : Bool) (at : Places) (row from : ℕ) (memory flags old new : List ℕ)
+-- so many words
+pub one_block : (many table : ℕ) (chained always sense : Bool) (at : Places) (row from : ℕ) (memory flags old new : List ℕ)
     (a b f here condition choice outputs : List ℕ)
-    → AreLanes a memory (at.a + from) → AreLanes b memory (at.b + from) → AreLanes f flags (at.read + from)
-    → AreLanes here old (row + from) → AreLanes condition flags (at.cond + from)
-    → ((k : ℕ) → k < 32 → IsPlane (get_or choice k 0) (λ p. stores always sense (bit (get_or condition k 0) p)))
-    → ((k : ℕ) → k < 32 → IsKept table chained (bit (get_or choice k 0)) (get_or a k 0) (get_or b k 0) (get_or f k 0)
+    → AreLanes many a memory (at.a + from) → AreLanes many b memory (at.b + from) → AreLanes many f flags (at.read + from)
+    → AreLanes many here old (row + from) → AreLanes many condition flags (at.cond + from)
+    → ((k : ℕ) → k < many → IsPlane (get_or choice k 0) (λ p. stores always sense (bit (get_or condition k 0) p)))
+    → ((k : ℕ) → k < many → IsKept table chained (bit (get_or choice k 0)) (get_or a k 0) (get_or b k 0) (get_or f k 0)
     (get_or here k 0) (get_or outputs k 0))
-    → ((k : ℕ) → k < 32 → get_or new (row + from + k) 0 ≡ get_or outputs k 0)
+    → ((k : ℕ) → k < many → get_or new (row + from + k) 0 ≡ get_or outputs k 0)
     → ((i : ℕ) → i < row + from → get_or new i 0 ≡ get_or old i 0)
-    → ((i : ℕ) → row + from + 32 ≤ i → get_or new i 0 ≡ get_or old i 0)
-    → IsComputed table chained always sense at row from (from + 32) memory flags old new
-one_block table chained always sense at row from memory flags old new a b f here condition choice outputs a_is b_is f_is
+    → ((i : ℕ) → row + from + many ≤ i → get_or new i 0 ≡ get_or old i 0)
+    → IsComputed table chained always sense at row from (from + many) memory flags old new
+one_block many table chained always sense at row from memory flags old new a b f here condition choice outputs a_is b_is f_is
     here_is condition_is chosen kept put below above = record {
-      each = λ j low high. let k : ℕ = j - from in let few : j - from < 32 = omega arith in
+      each = λ j low high. let k : ℕ = j - from in let few : j - from < many = omega arith in
           kept_moved table chained always sense
           (get_or a k 0) (get_or memory (at.a + j) 0) (get_or b k 0) (get_or memory (at.b + j) 0) (get_or f k 0)
           (get_or flags (at.read + j) 0)
           (get_or condition k 0) (get_or flags (at.cond + j) 0) (get_or here k 0) (get_or old (row + j) 0)
           (get_or outputs k 0) (get_or new (row + j) 0)
-          (lane_of a memory at.a from j a_is low high) (lane_of b memory at.b from j b_is low high)
-          (lane_of f flags at.read from j f_is low high)
-          (lane_of condition flags at.cond from j condition_is low high) (lane_of here old row from j here_is low high)
+          (lane_of many a memory at.a from j a_is low high) (lane_of many b memory at.b from j b_is low high)
+          (lane_of many f flags at.read from j f_is low high)
+          (lane_of many condition flags at.cond from j condition_is low high) (lane_of many here old row from j here_is low high)
           (ap (λ (i : ℕ). get_or new i 0) (omega arith) ∙ put k few)
           (kept_chosen table chained (get_or choice k 0)
           (λ p. stores always sense (bit (get_or condition k 0) p)) (get_or a
@@ -170,3 +173,11 @@ one_block table chained always sense at row from memory flags old new a b f here
       below = below;
       above = λ i h. above i (omega arith);
     }
+
+-- ---- blocks of so many words
+
+pub one_more : (many t : ℕ) → many * (t + 1) ≡ many * t + many
+one_more many t = rw add-one (mul-suc many t)
+
+pub block_fits : (many t whole : ℕ) → t < whole → many * t + many ≤ many * whole
+block_fits many t whole h = rw (← one_more many t) (mul-le many (t + 1) many whole (omega arith) (omega arith))

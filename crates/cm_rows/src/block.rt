@@ -1,4 +1,4 @@
-//! Thirty-two words at once, and one.
+//! Several words at once, and one.
 //!
 //! All of this is inlined into the loops: there the tables are known, and what they do not need goes away.
 
@@ -9,83 +9,93 @@ ghost use Rattle.cm_rows.specs.Rows.{stores, output, IsKept};
 
 use cm_bits::Plane;
 use cm_daisy::{previous, previous_lanes};
-use cm_truth::{apply, apply_lanes};
+use cm_truth::{apply_alone, apply_lanes};
 use std::simd::prelude::*;
 
-/// Thirty-two words of a row, from a place on.
+/// Some words of a row, from a place on.
 #[inline(always)]
-pub(crate) fn load(words: &[Plane], at: usize) -> u16x32
-    requires within { at + 32 ≤ length words.now }
-    ensures count { length result ≡ 32 }
-    ensures value { (k : ℕ) → k < 32 → slice_index result k ≡ slice_index words.now (at + k) }
+pub(crate) fn load<const L: usize>(words: &[Plane], at: usize) -> Simd<u16, L>
+    requires within { at + L ≤ length words.now }
+    ensures count { length result ≡ L }
+    ensures value { (k : ℕ) → k < L → slice_index result k ≡ slice_index words.now (at + k) }
 {
-    u16x32::from_slice(&words[at..at + 32])
+    Simd::<u16, L>::from_slice(&words[at..at + L])
 }
 
-/// Puts thirty-two words into a row, from a place on.
+/// Puts words into a row, from a place on.
 #[inline(always)]
-pub(crate) fn put(words: &mut [Plane], at: usize, lanes: u16x32)
-    requires within { at + 32 ≤ length words.old }
-    requires lanes { length lanes ≡ 32 }
-    ensures value { (k : ℕ) → k < 32 → slice_index words.new (at + k) ≡ slice_index lanes k }
+pub(crate) fn put<const L: usize>(words: &mut [Plane], at: usize, lanes: Simd<u16, L>)
+    requires within { at + L ≤ length words.old }
+    requires lanes { length lanes ≡ L }
+    ensures value { (k : ℕ) → k < L → slice_index words.new (at + k) ≡ slice_index lanes.entry k }
     ensures below { (i : ℕ) → i < at → slice_index words.new i ≡ slice_index words.old i }
-    ensures above { (i : ℕ) → at + 32 ≤ i → slice_index words.new i ≡ slice_index words.old i }
+    ensures above { (i : ℕ) → at + L ≤ i → slice_index words.new i ≡ slice_index words.old i }
 {
-    lanes.copy_to_slice(&mut words[at..at + 32]);
+    lanes.copy_to_slice(&mut words[at..at + L]);
 }
 
-/// The outputs of a table where the instruction stores, else what was there, in thirty-two words.
+/// The outputs of a table where the instruction stores, else what was there, in several words.
 #[inline(always)]
-pub(crate) fn kept_lanes(
+pub(crate) fn kept_lanes<const L: usize>(
     table: u8,
     chained: bool,
-    choice: u16x32,
-    a: u16x32,
-    b: u16x32,
-    f: u16x32,
-    old: u16x32,
-) -> u16x32
-    requires choice { length choice ≡ 32 }
-    requires a { length a ≡ 32 }
-    requires b { length b ≡ 32 }
-    requires f { length f ≡ 32 }
-    requires old { length old ≡ 32 }
-    ensures count { length result ≡ 32 }
-    ensures value { (k : ℕ) → k < 32
-        → IsKept table chained (bit (slice_index choice k)) (slice_index a k) (slice_index b k)
-        (slice_index f k) (slice_index old k) (slice_index result k) }
+    choice: Simd<u16, L>,
+    a: Simd<u16, L>,
+    b: Simd<u16, L>,
+    f: Simd<u16, L>,
+    old: Simd<u16, L>,
+) -> Simd<u16, L>
+    requires choice { length choice ≡ L }
+    requires a { length a ≡ L }
+    requires b { length b ≡ L }
+    requires f { length f ≡ L }
+    requires old { length old ≡ L }
+    ensures count { length result ≡ L }
+    ensures value { (k : ℕ) → k < L
+        → IsKept table chained (bit (slice_index choice.entry k)) (slice_index a.entry k) (slice_index b.entry k)
+        (slice_index f.entry k) (slice_index old.entry k) (slice_index result k) }
 {
     let output = output_lanes(table, chained, a, b, f);
     old ^ (choice & (old ^ output))
 }
 
-/// What the processors of thirty-two words are to store: the outputs of a table, each processor's
+/// What the processors of several words are to store: the outputs of a table, each processor's
 /// own, or where they go along the chain that of the one before it.
 #[inline(always)]
-fn output_lanes(table: u8, chained: bool, a: u16x32, b: u16x32, f: u16x32) -> u16x32
-    requires a { length a ≡ 32 }
-    requires b { length b ≡ 32 }
-    requires f { length f ≡ 32 }
-    ensures count { length result ≡ 32 }
-    ensures value { (k : ℕ) → k < 32 → IsPlane (slice_index result k)
-        (output table chained (slice_index a k) (slice_index b k) (slice_index f k)) }
+fn output_lanes<const L: usize>(
+    table: u8,
+    chained: bool,
+    a: Simd<u16, L>,
+    b: Simd<u16, L>,
+    f: Simd<u16, L>,
+) -> Simd<u16, L>
+    requires a { length a ≡ L }
+    requires b { length b ≡ L }
+    requires f { length f ≡ L }
+    ensures count { length result ≡ L }
+    ensures value { (k : ℕ) → k < L → IsPlane (slice_index result k)
+        (output table chained (slice_index a.entry k) (slice_index b.entry k) (slice_index f.entry k)) }
 {
     let own = apply_lanes(table, a, b, f);
     if chained { previous_lanes(own) } else { own }
 }
 
-/// Where an instruction stores, in thirty-two words of its condition flag.
+/// Where an instruction stores, in several words of its condition flag.
 #[inline(always)]
-pub(crate) fn choice_lanes(always: bool, sense: bool, condition: u16x32) -> u16x32
-    requires condition { length condition ≡ 32 }
-    ensures count { length result ≡ 32 }
-    ensures value { (k : ℕ) → k < 32 → IsPlane (slice_index result k)
-        (λ p. stores always sense (bit (slice_index condition k) p)) }
+pub(crate) fn choice_lanes<const L: usize>(
+    always: bool,
+    sense: bool,
+    condition: Simd<u16, L>,
+) -> Simd<u16, L>
+    requires condition { length condition ≡ L }
+    ensures count { length result ≡ L }
+    ensures value { (k : ℕ) → k < L → IsPlane (slice_index result k)
+        (λ p. stores always sense (bit (slice_index condition.entry k) p)) }
 {
     if always {
-        u16x32::splat(Plane::MAX)
+        Simd::<u16, L>::splat(Plane::MAX)
     } else {
-        condition ^ u16x32::splat(turned(sense))
+        condition ^ Simd::<u16, L>::splat(turned(sense))
     }
 }
 
@@ -130,6 +140,6 @@ pub(crate) fn kept(
 fn output(table: u8, chained: bool, a: Plane, b: Plane, f: Plane) -> Plane
     ensures value { IsPlane result (output table chained a b f) }
 {
-    let own = apply(table, a, b, f);
+    let own = apply_alone(table, a, b, f);
     if chained { previous(own) } else { own }
 }

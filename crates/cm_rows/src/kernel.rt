@@ -7,21 +7,25 @@ use crate::block::{choice_lanes, choice_of, kept, kept_lanes, load, put};
 use crate::places::Places;
 use cm_bits::Plane;
 
+/// So many words at once where the tables are known.
 const LANES: usize = 32;
+
+/// And so many where they are not: beside the entries of two tables no more stay in registers.
+const FEW_LANES: usize = 8;
 
 // The pairs of tables of the macros that write a flag are known to the compiler, each in a loop of its own.
 macro_rules! by_tables {
     ($always:literal, $tables:ident, $sense:ident, $memory:ident, $flags:ident, $at:ident, $whole:ident) => {
         match $tables {
-            (0x96, 0xe8) => compute_blocks((0x96, 0xe8), false, $always, $sense, $memory, $flags, $at, $whole),
-            (0x69, 0xb2) => compute_blocks((0x69, 0xb2), false, $always, $sense, $memory, $flags, $at, $whole),
-            (0xf0, 0x8e) => compute_blocks((0xf0, 0x8e), false, $always, $sense, $memory, $flags, $at, $whole),
-            (0xf0, 0x82) => compute_blocks((0xf0, 0x82), false, $always, $sense, $memory, $flags, $at, $whole),
-            (0xaa, 0xf0) => compute_blocks((0xaa, 0xf0), false, $always, $sense, $memory, $flags, $at, $whole),
-            (0xf0, 0xff) => compute_blocks((0xf0, 0xff), false, $always, $sense, $memory, $flags, $at, $whole),
-            (0xf0, 0x00) => compute_blocks((0xf0, 0x00), false, $always, $sense, $memory, $flags, $at, $whole),
-            (0xf0, 0xf0) => compute_blocks((0xf0, 0xf0), false, $always, $sense, $memory, $flags, $at, $whole),
-            other => compute_blocks(other, false, $always, $sense, $memory, $flags, $at, $whole),
+            (0x96, 0xe8) => compute_blocks::<LANES>((0x96, 0xe8), false, $always, $sense, $memory, $flags, $at, $whole),
+            (0x69, 0xb2) => compute_blocks::<LANES>((0x69, 0xb2), false, $always, $sense, $memory, $flags, $at, $whole),
+            (0xf0, 0x8e) => compute_blocks::<LANES>((0xf0, 0x8e), false, $always, $sense, $memory, $flags, $at, $whole),
+            (0xf0, 0x82) => compute_blocks::<LANES>((0xf0, 0x82), false, $always, $sense, $memory, $flags, $at, $whole),
+            (0xaa, 0xf0) => compute_blocks::<LANES>((0xaa, 0xf0), false, $always, $sense, $memory, $flags, $at, $whole),
+            (0xf0, 0xff) => compute_blocks::<LANES>((0xf0, 0xff), false, $always, $sense, $memory, $flags, $at, $whole),
+            (0xf0, 0x00) => compute_blocks::<LANES>((0xf0, 0x00), false, $always, $sense, $memory, $flags, $at, $whole),
+            (0xf0, 0xf0) => compute_blocks::<LANES>((0xf0, 0xf0), false, $always, $sense, $memory, $flags, $at, $whole),
+            other => compute_others(other, false, $always, $sense, $memory, $flags, $at, $whole),
         }
     };
 }
@@ -94,7 +98,7 @@ fn all_blocks(
         return;
     }
     if chained {
-        compute_blocks(tables, true, always, sense, memory, flags, at, whole);
+        compute_others(tables, true, always, sense, memory, flags, at, whole);
     } else if always {
         blocks_always(tables, sense, memory, flags, at, whole);
     } else {
@@ -152,9 +156,9 @@ fn blocks_under_condition(
     by_tables!(false, tables, sense, memory, flags, at, whole)
 }
 
-/// The words of whole blocks, in a loop for these tables.
+/// The words of whole blocks, by any tables.
 #[inline(always)]
-fn compute_blocks(
+fn compute_others(
     tables: (u8, u8),
     chained: bool,
     always: bool,
@@ -177,8 +181,36 @@ fn compute_blocks(
     ensures flags { IsComputed tables.1 chained always sense at at.write 0 (32 * whole)
         memory.old flags.old flags.old flags.new }
 {
+    compute_blocks::<FEW_LANES>(tables, chained, always, sense, memory, flags, at, 4 * whole);
+}
+
+/// The words of so many blocks, in a loop for these tables.
+#[inline(always)]
+fn compute_blocks<const L: usize>(
+    tables: (u8, u8),
+    chained: bool,
+    always: bool,
+    sense: bool,
+    memory: &mut [Plane],
+    flags: &mut [Plane],
+    at: Places,
+    whole: usize,
+)
+    requires a { at.a + L * whole ≤ length memory.old }
+    requires b { at.b + L * whole ≤ length memory.old }
+    requires read { at.read + L * whole ≤ length flags.old }
+    requires write { at.write + L * whole ≤ length flags.old }
+    requires cond { at.cond + L * whole ≤ length flags.old }
+    requires b_apart { IsApart at.a at.b (L * whole) }
+    requires read_apart { IsApart at.write at.read (L * whole) }
+    requires cond_apart { IsApart at.write at.cond (L * whole) }
+    ensures memory { IsComputed tables.0 false always sense at at.a 0 (L * whole)
+        memory.old flags.old memory.old memory.new }
+    ensures flags { IsComputed tables.1 chained always sense at at.write 0 (L * whole)
+        memory.old flags.old flags.old flags.new }
+{
     for t in 0..whole {
-        block(tables, chained, always, sense, memory, flags, at, LANES * t);
+        block::<L>(tables, chained, always, sense, memory, flags, at, L * t);
     }
 }
 
@@ -212,9 +244,9 @@ fn compute_words(
     }
 }
 
-/// Thirty-two words: all are read before any is written.
+/// Some words: all are read before any is written.
 #[inline(always)]
-fn block(
+fn block<const L: usize>(
     tables: (u8, u8),
     chained: bool,
     always: bool,
@@ -224,21 +256,21 @@ fn block(
     at: Places,
     from: usize,
 )
-    requires a { at.a + from + 32 ≤ length memory.old }
-    requires b { at.b + from + 32 ≤ length memory.old }
-    requires read { at.read + from + 32 ≤ length flags.old }
-    requires write { at.write + from + 32 ≤ length flags.old }
-    requires cond { at.cond + from + 32 ≤ length flags.old }
-    ensures memory { IsComputed tables.0 false always sense at at.a from (from + 32)
+    requires a { at.a + from + L ≤ length memory.old }
+    requires b { at.b + from + L ≤ length memory.old }
+    requires read { at.read + from + L ≤ length flags.old }
+    requires write { at.write + from + L ≤ length flags.old }
+    requires cond { at.cond + from + L ≤ length flags.old }
+    ensures memory { IsComputed tables.0 false always sense at at.a from (from + L)
         memory.old flags.old memory.old memory.new }
-    ensures flags { IsComputed tables.1 chained always sense at at.write from (from + 32)
+    ensures flags { IsComputed tables.1 chained always sense at at.write from (from + L)
         memory.old flags.old flags.old flags.new }
 {
-    let a = load(memory, at.a + from);
-    let b = load(memory, at.b + from);
-    let f = load(flags, at.read + from);
-    let old = load(flags, at.write + from);
-    let condition = load(flags, at.cond + from);
+    let a = load::<L>(memory, at.a + from);
+    let b = load::<L>(memory, at.b + from);
+    let f = load::<L>(flags, at.read + from);
+    let old = load::<L>(flags, at.write + from);
+    let condition = load::<L>(flags, at.cond + from);
     let choice = choice_lanes(always, sense, condition);
     let word = kept_lanes(tables.0, false, choice, a, b, f, a);
     let flag = kept_lanes(tables.1, chained, choice, a, b, f, old);

@@ -7,17 +7,21 @@ use crate::block::{choice_lanes, choice_of, kept, kept_lanes, load, put};
 use crate::places::Places;
 use cm_bits::Plane;
 
+/// So many words at once where the table is known.
 const LANES: usize = 32;
+
+/// And so many where it is not: beside the entries of a table no more stay in registers.
+const FEW_LANES: usize = 8;
 
 // The tables of the macros that write no flag are known to the compiler, each in a loop of its own.
 macro_rules! by_table {
     ($always:literal, $table:ident, $sense:ident, $memory:ident, $flags:ident, $at:ident, $whole:ident) => {
         match $table {
-            0xcc => compute_blocks(0xcc, $always, $sense, $memory, $flags, $at, $whole),
-            0xd8 => compute_blocks(0xd8, $always, $sense, $memory, $flags, $at, $whole),
-            0xff => compute_blocks(0xff, $always, $sense, $memory, $flags, $at, $whole),
-            0x00 => compute_blocks(0x00, $always, $sense, $memory, $flags, $at, $whole),
-            other => compute_blocks(other, $always, $sense, $memory, $flags, $at, $whole),
+            0xcc => compute_blocks::<LANES>(0xcc, $always, $sense, $memory, $flags, $at, $whole),
+            0xd8 => compute_blocks::<LANES>(0xd8, $always, $sense, $memory, $flags, $at, $whole),
+            0xff => compute_blocks::<LANES>(0xff, $always, $sense, $memory, $flags, $at, $whole),
+            0x00 => compute_blocks::<LANES>(0x00, $always, $sense, $memory, $flags, $at, $whole),
+            other => compute_others(other, $always, $sense, $memory, $flags, $at, $whole),
         }
     };
 }
@@ -119,9 +123,9 @@ fn blocks_under_condition(
     by_table!(false, table, sense, memory, flags, at, whole)
 }
 
-/// The words of whole blocks, in a loop for these tables.
+/// The words of whole blocks, by any table.
 #[inline(always)]
-fn compute_blocks(
+fn compute_others(
     table: u8,
     always: bool,
     sense: bool,
@@ -138,8 +142,30 @@ fn compute_blocks(
     ensures memory { IsComputed table false always sense at at.a 0 (32 * whole)
         memory.old flags.now memory.old memory.new }
 {
+    compute_blocks::<FEW_LANES>(table, always, sense, memory, flags, at, 4 * whole);
+}
+
+/// The words of so many blocks, in a loop for this table.
+#[inline(always)]
+fn compute_blocks<const L: usize>(
+    table: u8,
+    always: bool,
+    sense: bool,
+    memory: &mut [Plane],
+    flags: &[Plane],
+    at: Places,
+    whole: usize,
+)
+    requires a { at.a + L * whole ≤ length memory.old }
+    requires b { at.b + L * whole ≤ length memory.old }
+    requires read { at.read + L * whole ≤ length flags.now }
+    requires cond { at.cond + L * whole ≤ length flags.now }
+    requires b_apart { IsApart at.a at.b (L * whole) }
+    ensures memory { IsComputed table false always sense at at.a 0 (L * whole)
+        memory.old flags.now memory.old memory.new }
+{
     for t in 0..whole {
-        block(table, always, sense, memory, flags, at, LANES * t);
+        block::<L>(table, always, sense, memory, flags, at, L * t);
     }
 }
 
@@ -167,9 +193,9 @@ fn compute_words(
     }
 }
 
-/// Thirty-two words: all are read before any is written.
+/// Some words: all are read before any is written.
 #[inline(always)]
-fn block(
+fn block<const L: usize>(
     table: u8,
     always: bool,
     sense: bool,
@@ -178,17 +204,17 @@ fn block(
     at: Places,
     from: usize,
 )
-    requires a { at.a + from + 32 ≤ length memory.old }
-    requires b { at.b + from + 32 ≤ length memory.old }
-    requires read { at.read + from + 32 ≤ length flags.now }
-    requires cond { at.cond + from + 32 ≤ length flags.now }
-    ensures memory { IsComputed table false always sense at at.a from (from + 32)
+    requires a { at.a + from + L ≤ length memory.old }
+    requires b { at.b + from + L ≤ length memory.old }
+    requires read { at.read + from + L ≤ length flags.now }
+    requires cond { at.cond + from + L ≤ length flags.now }
+    ensures memory { IsComputed table false always sense at at.a from (from + L)
         memory.old flags.now memory.old memory.new }
 {
-    let a = load(memory, at.a + from);
-    let b = load(memory, at.b + from);
-    let f = load(flags, at.read + from);
-    let condition = load(flags, at.cond + from);
+    let a = load::<L>(memory, at.a + from);
+    let b = load::<L>(memory, at.b + from);
+    let f = load::<L>(flags, at.read + from);
+    let condition = load::<L>(flags, at.cond + from);
     let choice = choice_lanes(always, sense, condition);
     let word = kept_lanes(table, false, choice, a, b, f, a);
     put(memory, at.a + from, word);

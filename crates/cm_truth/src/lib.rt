@@ -7,9 +7,11 @@ ghost use Rattle.cm_model.specs.Chip.{IsPlane};
 ghost use Rattle.cm_model.specs.Processor.{entry};
 ghost use Rattle.cm_truth.specs.Choice.{chosen_of_four};
 
+mod alone;
 mod lanes;
 mod wide;
 
+pub use alone::apply_alone;
 use cm_bits::Plane;
 pub use lanes::apply_lanes;
 pub use wide::apply_wide;

@@ -5,11 +5,11 @@ use Rattle.cm_daisy.proofs.Shifting.{bit-shifted}
 use Rattle.cm_daisy.proofs.previous_lanes.Goals as goal
 
 pub returns-clause-count : goal.returns-clause-count
-returns-clause-count c =
+returns-clause-count g c =
     length-zip2 (λ x y. (x + y) % 65536) c.args.planes c.args.planes refl ∙ c.requires.planes
 
 pub returns-clause-value : goal.returns-clause-value
-returns-clause-value c = λ k h p below.
+returns-clause-value g c = λ k h p below.
     let lane : ℕ = get_or c.args.planes k 0 in
     let inside = c.requires.planes in
     let twice : lane + lane ≡ lane * 2 = omega arith in

@@ -18,7 +18,7 @@ use crate::wide_outputs::WideOutputs;
 use crate::word::{chosen, holding};
 use cm_bits::{FlagNo, Plane};
 use cm_model::Nano;
-use cm_truth::apply;
+use cm_truth::apply_alone;
 
 impl Run {
     /// What every processor of a chip computes of an instruction, whatever its own condition, from
@@ -32,8 +32,8 @@ impl Run {
         let f = self.flag_plane(chip, nano.read);
         let condition = self.flag_plane(chip, nano.cond);
         Outputs {
-            mem: apply(nano.mem_table, a, b, f),
-            flag: apply(nano.flag_table, a, b, f),
+            mem: apply_alone(nano.mem_table, a, b, f),
+            flag: apply_alone(nano.flag_table, a, b, f),
             holds: holding(condition, nano.sense),
         }
     }

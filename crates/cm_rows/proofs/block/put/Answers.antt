@@ -3,5 +3,6 @@ use Rattle.cm_rows.proofs.Lanes.{get_or-put}
 use Rattle.cm_rows.proofs.block.put.Goals as goal
 
 pub returns-clause-value : goal.returns-clause-value
-returns-clause-value c = λ k h. get_or-put c.args.words.now c.args.lanes c.args.at (c.args.at + 32 - c.args.at) k
+returns-clause-value g c = λ k h. get_or-put c.args.words.now c.args.lanes c.args.at (c.args.at + g.row.L - c.args.at)
+    g.row.L k
     (omega arith) c.requires.lanes c.requires.within h

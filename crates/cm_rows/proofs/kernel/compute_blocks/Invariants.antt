@@ -4,9 +4,9 @@ use Rattle.cm_rows.proofs.kernel.compute_blocks.Given as goal
 
 -- the words before this one
 abbrev pub invariant-loop-t : goal.invariant-loop-t
-invariant-loop-t l = record {
-  memory : IsComputed l.tables.0 false l.always l.sense l.at l.at.a 0 (32 * l.t)
+invariant-loop-t g l = record {
+  memory : IsComputed l.tables.0 false l.always l.sense l.at l.at.a 0 (g.row.L * l.t)
       l.initial.memory l.initial.flags l.initial.memory l.memory;
-  flags : IsComputed l.tables.1 l.chained l.always l.sense l.at l.at.write 0 (32 * l.t)
+  flags : IsComputed l.tables.1 l.chained l.always l.sense l.at l.at.write 0 (g.row.L * l.t)
       l.initial.memory l.initial.flags l.initial.flags l.flags;
 }

@@ -4,5 +4,5 @@ use Rattle.cm_rows.proofs.memory_alone.compute_blocks.Given as goal
 
 -- the words before this one
 abbrev pub invariant-loop-t : goal.invariant-loop-t
-invariant-loop-t l = IsComputed l.table false l.always l.sense l.at l.at.a 0 (32 * l.t)
+invariant-loop-t g l = IsComputed l.table false l.always l.sense l.at l.at.a 0 (g.row.L * l.t)
     l.initial.memory l.flags l.initial.memory l.memory

@@ -4,7 +4,7 @@ use Rattle.cm_truth.proofs.Choosing.{eight_chosen}
 use Rattle.cm_truth.proofs.lanes.apply_lanes.Goals as goal
 
 pub returns : goal.returns
-returns c = record {
+returns g c = record {
   count = c.changed_lanes.ensures.count;
   value = λ k below p h. rw (
     c.changed_lanes.ensures.value k below p,

@@ -6,9 +6,9 @@ use Rattle.cm_model.proofs.Bits.{bit-bit_and, bit-bit_xor}
 use Rattle.cm_truth.proofs.lanes.changed_lanes.Goals as goal
 
 pub returns : goal.returns
-returns c =
+returns g c =
     let both : List ℕ = zip2 bit_and c.args.choice c.args.difference in
-    let long : length both ≡ 32 =
+    let long : length both ≡ g.row.L =
     length-zip2 bit_and c.args.choice c.args.difference (c.requires.choice ∙ sym c.requires.difference)
     ∙ c.requires.choice in
     record {
