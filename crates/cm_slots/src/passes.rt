@@ -6,7 +6,7 @@ ghost use Rattle.std.specs.List.{All};
 ghost use Rattle.cm_slots.specs.Slots.{is_taken};
 ghost use Rattle.cm_slots.specs.Tickets.{exchanged};
 ghost use Rattle.cm_slots.specs.Tiles.{IsShaped, IsQuiet, IsTile, HasLeft, HasTakenIn, tile_at, leavers_at};
-ghost use Rattle.cm_slots.specs.Tiles.{tile_across, arriving, standing_at, tickets_of};
+ghost use Rattle.cm_slots.specs.Tiles.{tile_across, arriving, tickets_of, AreWithin};
 
 use crate::across::{arrivals, tile_across};
 use crate::rows::Row;
@@ -20,11 +20,11 @@ pub(crate) fn cross(tiles: &mut [Tile], leaving: &mut [Option<Row>], room: usize
     requires rows { length leaving.old ≡ length tiles.old }
     requires across { (t : ℕ) → t < length tiles.old → tile_across dim t < length tiles.old }
     requires whole { All IsTile tiles.old }
-    requires within { (c : ℕ) → c / 64 < length tiles.old → length (tickets_of tiles.old c) ≤ room }
+    requires within { AreWithin room tiles.old }
     ensures value { (c : ℕ) → c / 64 < length tiles.old → tickets_of tiles.new c
         ≡ exchanged room dim (tickets_of tiles.old c) (tickets_of tiles.old (bit_xor c (2 ^ dim))) }
     ensures whole { All IsTile tiles.new }
-    ensures within { (c : ℕ) → c / 64 < length tiles.old → length (tickets_of tiles.new c) ≤ room }
+    ensures within { AreWithin room tiles.new }
 {
     leave(tiles, leaving, room, dim);
     take_in(tiles, leaving, room, dim);
@@ -37,7 +37,7 @@ pub(crate) fn leave(tiles: &mut [Tile], leaving: &mut [Option<Row>], room: usize
     requires most { room ≤ 15 }
     requires rows { length leaving.old ≡ length tiles.old }
     requires whole { All IsTile tiles.old }
-    requires within { (t i : ℕ) → t < length tiles.old → i < 64 → length (standing_at (tile_at tiles.old t) i) ≤ room }
+    requires within { AreWithin room tiles.old }
     ensures value { (t : ℕ) → t < length tiles.old
         → HasLeft room dim (tile_at tiles.old t) (tile_at tiles.new t) (leavers_at leaving.new t) }
 {

@@ -1,11 +1,8 @@
-use Rattle.std.proofs.Common.{length, ◌∙◌, sym, arith}
-use Rattle.cm_slots.proofs.Runs.{tiles_within, left_shaped, leaving_long, arriving_taken, whole_after, chip_after}
-use Rattle.cm_slots.proofs.Runs.{within_after}
+use Rattle.std.proofs.Common.{◌^◌, ◌/◌, ◌∙◌, sym, refl}
+use Rattle.std.proofs.lemmas.Nat.{xor_shr, xor_mod}
 use Rattle.cm_slots.specs.Tiles.{arriving}
+use Rattle.cm_slots.proofs.Runs.{left_shaped, leavers_are, arriving_taken, whole_after, chip_after, within_after}
 use Rattle.cm_slots.proofs.passes.cross.Goals as goal
-
-pub leave-requires-clause-within : goal.leave-requires-clause-within
-leave-requires-clause-within c = λ t i h l. tiles_within c.args.room c.args.tiles.now c.requires.within t h i l
 
 pub take_in-requires : goal.take_in-requires
 take_in-requires c =
@@ -17,11 +14,11 @@ take_in-requires c =
       some = c.requires.some;
       most = c.requires.most;
       rows = many ∙ sym same;
-      across = λ t h. rw same (c.requires.across t (omega (arith, same)));
-      shape = left_shaped _ _ _ same many c.requires.whole gone;
-      long = leaving_long _ _ _ same many c.requires.whole gone;
-      quiet = λ t h. (gone t (omega (arith, same))).quiet;
-      taken = λ t i h. arriving_taken _ _ _ same many c.requires.whole gone c.requires.across t i (omega (arith, same));
+      across = rw same c.requires.across;
+      shape = left_shaped _ _ _ same many gone;
+      long = (leavers_are _ _ _ same many gone).long;
+      quiet = rw same (λ t h. (gone t h).quiet);
+      taken = rw same (arriving_taken _ _ _ same many gone c.requires.across);
     }
 
 pub returns : goal.returns
@@ -29,14 +26,15 @@ returns c =
     let same = c.leave.auto.tiles in
     let many = c.leave.auto.leaving ∙ c.requires.rows in
     let gone = c.leave.ensures.value in
-    let new = c.take_in.new.tiles in
     let long = c.take_in.auto.tiles ∙ same in
+    let come = rw same at c.take_in.ensures.value in
     let coming = arriving c.args.dim c.leave.new.leaving in
     record {
-      value = chip_after _ _ _ same many c.requires.whole gone c.requires.across new long
-          (λ t h. c.take_in.ensures.value t (omega (arith, same)));
-      whole = whole_after _ _ _ same many c.requires.whole gone coming new long
-          (λ t h. c.take_in.ensures.value t (omega (arith, same)));
-      within = within_after _ _ _ same many c.requires.whole gone coming new long
-          (λ t h. c.take_in.ensures.value t (omega (arith, same)));
+      value = λ k h.
+          let tile = xor_shr k (2 ^ c.args.dim) 6 in
+          let place = xor_mod k (2 ^ c.args.dim) 6 in
+          chip_after _ _ _ same many gone coming _ long come k h (rw tile (c.requires.across (k / 64) h))
+          (rw (tile, place) refl);
+      whole = whole_after _ _ _ same many gone coming _ long come;
+      within = within_after _ _ _ same many gone coming _ long come;
     }

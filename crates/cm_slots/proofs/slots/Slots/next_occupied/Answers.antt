@@ -1,6 +1,6 @@
 use Rattle.std.proofs.Common.{◌≡◌, ◌<◌, length, sym, ap, ◌∙◌, arith}
 use Rattle.cm_slots.specs.Tiles.{tickets_of}
-use Rattle.cm_slots.proofs.Single.{as_many, ticket_list}
+use Rattle.cm_slots.proofs.Views.{as_many, ticket_list}
 use Rattle.cm_slots.proofs.slots.Slots.next_occupied.Goals as goal
 
 pub returns : goal.returns
