@@ -16,34 +16,20 @@ pub record AreDone (to_hold : ℕ → ℕ) (old now : List ℕ) (count : ℕ) : 
 first_of-le : (test : ℕ → Bool) (n : ℕ) → first_of test n ≤ n
 unfolding first_of
 first_of-le test zero = omega arith
-first_of-le test (suc n) =
-    ⊎_elim (λ (e : test (first_of test n) ≡ true). rw e (omega (arith, first_of-le test n)))
-    (λ (e : test (first_of test n) ≡ false). rw e (omega arith)) (cases_Bool (test (first_of test n)))
+first_of-le test (suc n) = grind (arith, first_of-le test n)
 
 -- a number before which the test is true of none, and of which it is true if it is not the last
 pub first_of-is : (test : ℕ → Bool) (n q : ℕ) → q ≤ n → ((j : ℕ) → j < q → test j ≡ false)
     → (q < n → test q ≡ true) → first_of test n ≡ q
 unfolding first_of
 first_of-is test zero q low fails passes = omega arith
-first_of-is test (suc n) q low fails passes =
-    ⊎_elim
-    (λ (l : q < suc n).
-    let here : first_of test n ≡ q = first_of-is test n q (omega arith) fails (λ h. passes l) in
-    let yes : test q ≡ true = passes l in rw (here, yes) refl)
-    (λ (l : suc n ≤ q).
-    let last : first_of test n ≡ n =
-    first_of-is test n n (omega arith) (λ j h. fails j (omega arith)) (λ h. absurd (omega arith)) in
-    let no : test n ≡ false = fails n (omega arith) in rw (last, no) (omega arith))
-    (cases_lt q (suc n))
+first_of-is test (suc n) q low fails passes = grind (arith, first_of-is test n, fails n)
 
 -- where it is not true, all numbers before were tried
 first_of-last : (test : ℕ → Bool) (n : ℕ) → test (first_of test n) ≡ false → first_of test n ≡ n
 unfolding first_of
 first_of-last test zero fails = refl
-first_of-last test (suc n) fails =
-    ⊎_elim
-    (λ (e : test (first_of test n) ≡ true). absurd (cc (rw e at fails, e)))
-    (λ (e : test (first_of test n) ≡ false). rw e refl) (cases_Bool (test (first_of test n)))
+first_of-last test (suc n) fails = grind arith
 
 -- ---- who leaves, one row more
 

@@ -1,6 +1,7 @@
 -- The numbers that stand for tickets do what the tickets do.
 use Rattle.std.proofs.Common.{◌≡◌, ◌≢◌, ℕ, ◌<◌, ◌+◌, ◌-◌, ◌*◌, ◌/◌, ◌%◌, ◌^◌, ◌==◌, ◌++◌, Bool, true, false}
 use Rattle.std.proofs.Common.{List, map, Option, Some, None, if◌then◌else◌, refl, sym, ◌∙◌, ap, ⊎_elim, arith}
+use Rattle.std.proofs.Math.Nat.{div-div-eq-div-mul}
 use Rattle.std.proofs.Math.Path.{fun_ext}
 use Rattle.std.specs.Prelude.{bit_xor}
 use Rattle.std.specs.Int.{bit_at}
@@ -20,13 +21,8 @@ use Rattle.cm_slots.specs.Slots.{is_taken, crosses, slot_across, comers}
 
 -- the bits of the relative address stand from bit 16 on
 has_to_go_is : (d x : ℕ) → has_to_go d (ticket_of x) ≡ crosses d x
-has_to_go_is d x =
-    let low : x % 2 ^ 16 < 2 ^ 16 = omega arith in
-    let less : (16 + d) - 16 ≡ d = omega arith in
-    let high : bit_at (x / 2 ^ 16 * 2 ^ 16 + x % 2 ^ 16) (16 + d) ≡ bit_at (x / 2 ^ 16) ((16 + d) - 16) =
-    bit_at_cat_high (x / 2 ^ 16) 16 (x % 2 ^ 16) (16 + d) low (omega arith) in
-    ap (λ (n : ℕ). n == 1)
-    (ap (bit_at (x / 2 ^ 16)) (sym less) ∙ sym high ∙ ap (λ (n : ℕ). bit_at n (16 + d)) (shr_split x 16))
+has_to_go_is d x = ap (λ (n : ℕ). n % 2 == 1)
+    (div-div-eq-div-mul x (2 ^ 16) (2 ^ d) ∙ ap (λ (n : ℕ). x / n) (sym (pow-add 2 16 d)))
 
 -- the bit that flips in a number
 abbrev pub flip : ℕ → ℕ → ℕ

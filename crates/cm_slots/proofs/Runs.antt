@@ -16,8 +16,8 @@ use Rattle.cm_slots.specs.Tickets.{has_to_go, exchanged}
 use Rattle.cm_slots.specs.Slots.{is_taken, crosses, comers, slot_behind, AreSlots}
 use Rattle.cm_slots.specs.Tiles.{no_tile, tile_at, leavers_at, tile_across, place_across, arriving, slots_of}
 use Rattle.cm_slots.specs.Tiles.{standing_at}
-use Rattle.cm_slots.specs.Tiles.{number_leaving, numbers_at, tickets_of, IsShaped, IsTile, HasGone, HasLeft}
-use Rattle.cm_slots.specs.Tiles.{HasTakenIn, AreWithin, AreLeavers}
+use Rattle.cm_slots.specs.Tiles.{number_leaving, numbers_at, tickets_of, IsShaped, IsTile, HasGone, HaveLeft}
+use Rattle.cm_slots.specs.Tiles.{HaveTakenIn, AreWithin, AreLeavers}
 use Rattle.cm_slots.proofs.Numbers.{stayers-tickets, exchanged-tickets}
 use Rattle.cm_slots.proofs.Standing.{standing_is, stands}
 
@@ -58,35 +58,33 @@ nobody_left (Some row) h = let wrong : true ≡ false = h in absurd cc
 
 -- ---- both passes
 
-module _ {room d : ℕ} (old left : List Tile) (leaving : List (Option (List ℕ))) (long : length left ≡ length old)
-    (rows : length leaving ≡ length old)
-    (gone : (t : ℕ) → t < length old → HasLeft room d (tile_at old t) (tile_at left t) (leavers_at leaving t)) where
+module _ {room d : ℕ} {old left : List Tile} {leaving : List (Option (List ℕ))}
+    (gone : HaveLeft room d old left leaving) where
   pub left_shaped : All IsShaped left
-  left_shaped = All-from_get_or IsShaped left no_tile (λ t h. (gone t (omega (arith, long))).shape)
+  left_shaped = All-from_get_or IsShaped left no_tile (λ t h. (gone.each t (omega (arith, gone.long))).shape)
 
   -- who leaves a chip
   pub gone_at : (c : ℕ) → c / 64 < length old → HasGone room d (numbers_at old c) (number_leaving leaving c)
       (slot_behind (tile_at left (c / 64)).rest (c % 64))
-  gone_at c h = (gone (c / 64) h).gone (c % 64) (omega arith)
+  gone_at c h = (gone.each (c / 64) h).gone (c % 64) (omega arith)
 
   pub leavers_are : AreLeavers leaving
   leavers_are = record {
     long = All-from_get_or (λ leavers. IfSome leavers (λ row. length row ≡ 64)) leaving None
-        (λ t h. (gone t (omega (arith, rows))).long);
-    taken = λ c h. (gone_at c (omega (arith, rows))).taken;
+        (λ t h. (gone.each t (omega (arith, gone.rows))).long);
+    taken = λ c h. (gone_at c (omega (arith, gone.rows))).taken;
   }
 
   pub arriving_taken : ((t : ℕ) → t < length old → tile_across d t < length old) → (t i : ℕ) → t < length old → i < 64
       → arriving d leaving t i ≢ 0 → is_taken (arriving d leaving t i) ≡ true
   arriving_taken across t i h l =
-      ((gone (tile_across d t) (across t h)).gone (place_across d i) (xor_lt 6 i (2 ^ d % 64) l (omega arith))).taken
+      ((gone.each (tile_across d t) (across t h)).gone (place_across d i) (xor_lt 6 i (2 ^ d % 64) l (omega arith))).taken
 
   -- who comes, by tile and place, is taken in behind who stays
-  module _ (coming : ℕ → ℕ → ℕ) (new : List Tile) (long_new : length new ≡ length old)
-      (come : (t : ℕ) → t < length old → HasTakenIn room (coming t) (tile_at left t) (tile_at new t)) where
+  module _ {coming : ℕ → ℕ → ℕ} {new : List Tile} (come : HaveTakenIn room coming left new) where
     slots_after : (t i : ℕ) → t < length old → i < 64 → AreSlots (slots_of (tile_at new t) i)
         (stayers_of (crosses d) room (standing_at (tile_at old t) i) ++ comers (coming t i))
-    slots_after t i h l = let has = (gone t h).gone i l in (come t h).came i _ l has.few has.stay
+    slots_after t i h l = let has = (gone.each t h).gone i l in (come.each t (omega (arith, gone.long))).came i _ l has.few has.stay
 
     standing_after : (t i : ℕ) → t < length old → i < 64 → standing_at (tile_at new t) i
         ≡ stayers_of (crosses d) room (standing_at (tile_at old t) i) ++ comers (coming t i)
@@ -94,17 +92,17 @@ module _ {room d : ℕ} (old left : List Tile) (leaving : List (Option (List ℕ
 
     pub whole_after : All IsTile new
     whole_after = All-from_get_or IsTile new no_tile (λ t h.
-        let inside : t < length old = omega (arith, long_new) in
+        let inside : t < length old = omega (arith, come.long, gone.long) in
         record {
-          shape = (come t inside).shape;
+          shape = (come.each t (omega (arith, gone.long))).shape;
           queues = λ i l. stands (slots_of (tile_at new t) i) _ (slots_after t i inside l);
-          quiet = (come t inside).quiet;
+          quiet = (come.each t (omega (arith, gone.long))).quiet;
         })
 
     pub within_after : AreWithin room new
     within_after t i h l =
-        let inside : t < length old = omega (arith, long_new) in
-        let few = ((gone t inside).gone i l).few in
+        let inside : t < length old = omega (arith, come.long, gone.long) in
+        let few = ((gone.each t inside).gone i l).few in
         rw (
           standing_after t i inside l,
           length-append (stayers_of (crosses d) room (standing_at (tile_at old t) i))
@@ -131,5 +129,5 @@ module _ {room d : ℕ} (old left : List Tile) (leaving : List (Option (List ℕ
 
       pub space_after : AreWithin (room - 1) new
       space_after t i h l =
-          let inside : t < length old = omega (arith, long_new) in
-          let few = ((gone t inside).gone i l).few in rw (closed_at t i inside l) (omega arith)
+          let inside : t < length old = omega (arith, come.long, gone.long) in
+          let few = ((gone.each t inside).gone i l).few in rw (closed_at t i inside l) (omega arith)

@@ -37,13 +37,7 @@ module _ (slots : ℕ → ℕ) (xs : List ℕ) (are : AreSlots slots xs) where
   taken_at j some = grind (arith, are.taken j, get_or_past)
 
   pub ticket_at : (j : ℕ) → ticket_in (slots j) ≡ slice_get (map ticket_of xs) j
-  ticket_at j = rw (slice_get-map ticket_of xs j, are.each j)
-      (⊎_elim
-      (λ (l : j < length xs).
-      let some : get_or xs j 0 ≢ 0 = grind (arith, are.taken j) in
-      rw (slice_get-get_or xs j 0 l, ne_eqb (get_or xs j 0) 0 some) refl)
-      (λ (l : length xs ≤ j). rw (slice_get_past xs j l, get_or_past xs j 0 l) refl)
-      (cases_lt j (length xs)))
+  ticket_at j = grind (arith, are.taken j, slice_get-map, slice_get-get_or, slice_get_past, get_or_past)
 
   -- where the first slot is 0 nobody stands, and nowhere else
   pub empty_where : slots 0 ≡ 0 ↔ map ticket_of xs ≡ []

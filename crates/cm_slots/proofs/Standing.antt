@@ -13,7 +13,8 @@ use Rattle.cm_model.proofs.Each.{is_each}
 use Rattle.cm_slots.specs.Queues.{place_of_leaver, leaver_of}
 use Rattle.cm_slots.specs.Slots.{crosses, is_taken, slot_across, comers, first_of, leaver_in, standing_in, AreSlots}
 use Rattle.cm_slots.specs.Slots.{IsCarried}
-use Rattle.cm_slots.specs.Tiles.{HasGone}
+use Rattle.cm_slots.specs.declared.tile.Tile.{Tile}
+use Rattle.cm_slots.specs.Tiles.{slots_of, standing_at, IsTile, HasGone}
 use Rattle.cm_slots.proofs.Carrying.{first_of-is}
 use Rattle.cm_slots.proofs.Numbers.{going_is, going_taken}
 
@@ -42,6 +43,14 @@ nobody (x ∷ xs) few = absurd (omega arith)
 pub nobody_stands : (slots : ℕ → ℕ) (xs : List ℕ) → AreSlots slots xs → slots 0 ≡ 0 → AreSlots slots []
 nobody_stands slots xs are blank = rw (← nobody xs ((ends_at 0 slots xs are).0 blank)) are
 
+-- where a row is 0 in each lane, no more than those before it stand anywhere
+pub row_ends : (at : ℕ) (tile : Tile) → IsTile tile
+    → ((i : ℕ) → i < 64 → slots_of tile i at ≡ 0) ↔ ((i : ℕ) → i < 64 → length (standing_at tile i) ≤ at)
+row_ends at tile whole = (
+  λ blank i h. (ends_at at (slots_of tile i) (standing_at tile i) (whole.queues i h)).0 (blank i h),
+  λ few i h. (ends_at at (slots_of tile i) (standing_at tile i) (whole.queues i h)).1 (few i h),
+)
+
 -- nobody comes where nobody stands
 pub nobody_comes : (slots : ℕ → ℕ) (xs : List ℕ) (comes : ℕ) → AreSlots (λ j. slots (suc j)) xs → slots 0 ≡ 0
     → slots 1 ≡ 0 → comes ≡ 0 → AreSlots slots (xs ++ comers comes)
@@ -56,80 +65,63 @@ nobody_comes slots xs comes are first second none =
 
 -- ---- who leaves
 
--- who leaves, told by the place: somebody in the list, or nobody, and then no more stand in front of the place
-pub record IsSomebody (xs : List ℕ) (o : Option ℕ) (place : ℕ) : Type 0 where
-  pub within : place < length xs
-  pub is : o ≡ Some place
-
-pub record IsNobody (room : ℕ) (xs : List ℕ) (o : Option ℕ) (place : ℕ) : Type 0 where
-  pub past : length xs ≤ place
-  pub few : length xs < room
-  pub is : o ≡ None
-
 -- slots of which so many are looked at: all for which there is room, or more than are taken
 module _ (d room reach : ℕ) (slots : ℕ → ℕ) (xs : List ℕ) (are : AreSlots slots xs) (some : 0 < reach)
-    (less : reach ≤ room) (fits : length xs ≤ reach) (full : length xs ≡ reach → reach ≡ room) where
-  place_is : IsSomebody xs (place_of_leaver (crosses d) room xs) (leaver_in d (reach - 1) slots)
-      ⊎ IsNobody room xs (place_of_leaver (crosses d) room xs) (leaver_in d (reach - 1) slots)
-  unfolding place_of_leaver
-  place_is =
-      let test : ℕ → Bool = λ j. crosses d (slots j) in
-      let q : ℕ = position_or_len (crosses d) xs in
-      let fails : (j : ℕ) → j < q → test j ≡ false = λ j h.
-      ap (crosses d) (are.each j) ∙ fails_before_first (crosses d) xs j 0 h in
-      ⊎_elim
-      (λ (l : q < length xs).
-      let is : leaver_in d (reach - 1) slots ≡ q = first_of-is test (reach - 1) q (omega arith) fails
-      (λ h. ap (crosses d) (are.each q) ∙ passes_at_first (crosses d) xs 0 l) in
-      inl (record { within = omega (arith, is); is = rw (lt-ltb q (length xs) l) (ap Some (sym is)) }))
-      (λ (l : length xs ≤ q).
-      let is : leaver_in d (reach - 1) slots ≡ reach - 1 = first_of-is test (reach - 1) (reach - 1) (omega arith)
-      (λ j h. ⊎_elim (λ (m : j < length xs). fails j (omega arith))
-      (λ (m : length xs ≤ j). ap (crosses d) (are.each j ∙ get_or_past xs j 0 m) ∙ bit-zero (16 + d))
-      (cases_lt j (length xs)))
-      (λ h. absurd (omega arith)) in
-      ⊎_elim
-      (λ (e : length xs ≡ room).
-      inl (record {
-        within = omega (arith, is);
-        is = rw (le-ltb q (length xs) l, eq-eqb (length xs) room e) (ap Some (omega (arith, is)));
-      }))
-      (λ (e : length xs ≢ room).
-      inr (record {
-        past = grind arith;
-        few = omega (arith, e);
-        is = rw (le-ltb q (length xs) l, ne_eqb (length xs) room e) refl;
-      }))
-      (cases_eq (length xs) room))
-      (cases_lt q (length xs))
+    (less : reach ≤ room) (fits : length xs ≤ reach) (full : length xs ≡ reach → reach ≡ room) (here leaver : ℕ)
+    (left : ℕ → ℕ) (carried : IsCarried (leaver_in d (reach - 1) slots) slots here left)
+    (is : leaver ≡ slot_across d here) where
+  taken : here ≢ 0 → is_taken here ≡ true
+  taken = grind (arith, get_or_past, are.taken (leaver_in d (reach - 1) slots))
 
-  -- who leaves as it arrives across, and who stays
-  pub has_gone : (here leaver : ℕ) (left : ℕ → ℕ) → IsCarried (leaver_in d (reach - 1) slots) slots here left
-      → leaver ≡ slot_across d here → HasGone room d xs leaver left
-  has_gone here leaver left carried is =
+  somebody_goes : leaver_in d (reach - 1) slots < length xs
+      → place_of_leaver (crosses d) room xs ≡ Some (leaver_in d (reach - 1) slots) → HasGone room d xs leaver left
+  somebody_goes there who =
       let p : ℕ = leaver_in d (reach - 1) slots in
-      let taken : here ≢ 0 → is_taken here ≡ true = grind (arith, get_or_past, are.taken p) in
-      ⊎_elim
-      (λ (who : IsSomebody xs (place_of_leaver (crosses d) room xs) p).
-      let there : p < length xs = who.within in
       let some : here ≢ 0 = grind (arith, are.taken p) in
       let found : leaver_of (crosses d) room xs ≡ Some here =
-      rw who.is (slice_get-get_or xs p 0 there ∙ ap Some (sym (carried.here ∙ are.each p))) in
+      rw who (slice_get-get_or xs p 0 there ∙ ap Some (sym (carried.here ∙ are.each p))) in
       record {
         going = rw is (going_is d room xs here taken (rw (found, ne_eqb here 0 some) refl));
         taken = rw is (going_taken d here taken);
-        few = rw who.is (grind (arith, length-remove));
-        stay = rw who.is (grind (arith, length-remove, get_or-remove_below, get_or-remove_above));
-      })
-      (λ (who : IsNobody room xs (place_of_leaver (crosses d) room xs) p).
-      let none : here ≡ 0 = carried.here ∙ are.each p ∙ get_or_past xs p 0 who.past in
+        few = rw who (grind (arith, length-remove));
+        stay = rw who (grind (arith, length-remove, get_or-remove_below, get_or-remove_above));
+      }
+
+  all_stay : length xs ≤ leaver_in d (reach - 1) slots → length xs < room
+      → place_of_leaver (crosses d) room xs ≡ None → HasGone room d xs leaver left
+  all_stay past few who =
+      let none : here ≡ 0 = grind (arith, get_or_past) in
       record {
-        going = rw is (going_is d room xs here taken (rw (who.is, none) refl));
+        going = rw is (going_is d room xs here taken (rw (who, none) refl));
         taken = rw is (going_taken d here taken);
-        few = rw who.is who.few;
-        stay = rw who.is (grind (arith, get_or_past));
-      })
-      place_is
+        few = rw who few;
+        stay = rw who (grind (arith, get_or_past));
+      }
+
+  -- who leaves as it arrives across, and who stays
+  pub has_gone : HasGone room d xs leaver left
+  unfolding place_of_leaver
+  has_gone =
+      let test : ℕ → Bool = λ j. crosses d (slots j) in
+      let q : ℕ = position_or_len (crosses d) xs in
+      let fails : (j : ℕ) → j < q → test j ≡ false = λ j h. rw (are.each j) (fails_before_first (crosses d) xs j 0 h) in
+      ⊎_elim
+      (λ (l : q < length xs).
+      let at : leaver_in d (reach - 1) slots ≡ q = first_of-is test (reach - 1) q (omega arith) fails
+      (λ h. rw (are.each q) (passes_at_first (crosses d) xs 0 l)) in
+      somebody_goes (omega (arith, at)) (rw (lt-ltb q (length xs) l) (ap Some (sym at))))
+      (λ (l : length xs ≤ q).
+      let at : leaver_in d (reach - 1) slots ≡ reach - 1 = first_of-is test (reach - 1) (reach - 1) (omega arith)
+      (λ j h. ⊎_elim (λ (m : j < length xs). fails j (omega arith))
+      (λ (m : length xs ≤ j). rw (are.each j, get_or_past xs j 0 m) (bit-zero (16 + d))) (cases_lt j (length xs)))
+      (λ h. absurd (omega arith)) in
+      ⊎_elim
+      (λ (e : length xs ≡ room). somebody_goes (omega (arith, at))
+      (rw (le-ltb q (length xs) l, eq-eqb (length xs) room e) (ap Some (omega (arith, at)))))
+      (λ (e : length xs ≢ room). all_stay (grind arith) (omega (arith, e))
+      (rw (le-ltb q (length xs) l, ne_eqb (length xs) room e) refl))
+      (cases_eq (length xs) room))
+      (cases_lt q (length xs))
 
 -- nobody leaves where nobody stands
 pub nobody_goes : (d room : ℕ) (slots : ℕ → ℕ) → AreSlots slots [] → 0 < room

@@ -15,9 +15,6 @@ pub record AreDone (step : ℕ → Tile → Tile → Type 0) (old now : List Til
   pub done : (t : ℕ) → t < count → step t (tile_at old t) (tile_at now t)
   pub ahead : (t : ℕ) → count ≤ t → tile_at now t ≡ tile_at old t
 
-pub none_done : (step : ℕ → Tile → Tile → Type 0) (old : List Tile) → AreDone step old old 0
-none_done step old = record { long = refl; done = λ t h. absurd (omega arith); ahead = λ t h. refl }
-
 pub one_more_done : (step then : ℕ → Tile → Tile → Type 0) (old now : List Tile) (count : ℕ) (tile : Tile)
     → count < length old → ((t : ℕ) (before after : Tile) → t < count → step t before after → then t before after)
     → then count (tile_at now count) tile → AreDone step old now count
@@ -48,13 +45,3 @@ one_more_quiet room coming old now count inside shape quiet none was =
           ((quiet i h).each 0) ((quiet i h).each 1) (none i h);
       quiet = λ asleep. quiet;
     })) was)
-
--- the same come
-pub same_come : (room : ℕ) (coming others : ℕ → ℕ) (old new : Tile) → ((i : ℕ) → i < 64 → coming i ≡ others i)
-    → HasTakenIn room coming old new → HasTakenIn room others old new
-same_come room coming others old new same has = record {
-  shape = has.shape;
-  came = λ i numbers h few are.
-      subst (λ (x : ℕ). AreSlots (slots_of new i) (numbers ++ comers x)) (same i h) (has.came i numbers h few are);
-  quiet = has.quiet;
-}

@@ -8,7 +8,7 @@ use Rattle.cm_slots.specs.declared.ticket.Ticket.{Ticket}
 use Rattle.cm_slots.specs.declared.tile.Tile.{Tile}
 use Rattle.cm_slots.specs.Tickets.{ticket_of, ticket_in, ticket_going}
 use Rattle.cm_slots.specs.Queues.{stayers_of}
-use Rattle.cm_slots.specs.Slots.{is_taken, crosses, comers, leaver_at, slot_in, slot_behind, standing_in, AreSlots}
+use Rattle.cm_slots.specs.Slots.{AreRows, is_taken, crosses, comers, leaver_at, slot_in, slot_behind, standing_in, AreSlots}
 
 -- the slots of the chip at place i
 abbrev pub slots_of : Tile → ℕ → ℕ → ℕ
@@ -27,10 +27,8 @@ pub record HasGone (room d : ℕ) (numbers : List ℕ) (leaver : ℕ) (slots : �
   pub stay : AreSlots slots (stayers_of (crosses d) room numbers)
 
 -- fifteen rows of 64 lanes
-pub record IsShaped (tile : Tile) : Type 0 where
-  pub long : length tile.first ≡ 64
-  pub tall : length tile.rest ≡ 14
-  pub wide : All (λ row. length row ≡ 64) tile.rest
+abbrev pub IsShaped : Tile → Type 0
+IsShaped tile = AreRows tile.first tile.rest
 
 -- all slots are 0
 abbrev pub IsQuiet : Tile → Type 0
@@ -103,6 +101,17 @@ number_leaving leaving c = leaver_at (leavers_at leaving (c / 64)) (c % 64)
 
 abbrev pub ticket_leaving : List (Option (List ℕ)) → ℕ → Option Ticket
 ticket_leaving leaving c = ticket_in (number_leaving leaving c)
+
+-- who leaves has been taken out of all tiles
+pub record HaveLeft (room d : ℕ) (old new : List Tile) (leaving : List (Option (List ℕ))) : Type 0 where
+  pub long : length new ≡ length old
+  pub rows : length leaving ≡ length old
+  pub each : (t : ℕ) → t < length old → HasLeft room d (tile_at old t) (tile_at new t) (leavers_at leaving t)
+
+-- who comes, by tile and place, has been taken in at all tiles
+pub record HaveTakenIn (room : ℕ) (coming : ℕ → ℕ → ℕ) (old new : List Tile) : Type 0 where
+  pub long : length new ≡ length old
+  pub each : (t : ℕ) → t < length old → HasTakenIn room (coming t) (tile_at old t) (tile_at new t)
 
 -- the numbers and the tickets of a chip
 abbrev pub numbers_at : List Tile → ℕ → List ℕ

@@ -5,7 +5,7 @@ ghost use Rattle.std.specs.List.{All};
 ghost use Rattle.cm_model.specs.Each.{each_from};
 ghost use Rattle.cm_slots.specs.Queues.{stayers_of};
 ghost use Rattle.cm_slots.specs.Tickets.{has_to_go, ticket_going};
-ghost use Rattle.cm_slots.specs.Tiles.{IsShaped, IsQuiet, IsTile, HasTakenIn, tile_at, leavers_at, tickets_of};
+ghost use Rattle.cm_slots.specs.Tiles.{IsShaped, IsQuiet, IsTile, HaveTakenIn, tile_at, leavers_at, tickets_of};
 ghost use Rattle.cm_slots.specs.Tiles.{ticket_leaving, AreWithin, AreLeavers};
 
 use crate::passes::leave;
@@ -41,8 +41,7 @@ fn close_up(tiles: &mut [Tile], leaving: &[Option<Row>], room: usize)
     requires shape { All IsShaped tiles.old }
     requires quiet { (t : ℕ) → t < length tiles.old → leavers_at leaving.now t ≡ None
         → IsQuiet (tile_at tiles.old t) }
-    ensures value { (t : ℕ) → t < length tiles.old
-        → HasTakenIn room (λ i. 0) (tile_at tiles.old t) (tile_at tiles.new t) }
+    ensures value { HaveTakenIn room (λ t i. 0) tiles.old tiles.new }
 {
     for t in 0..tiles.len() {
         if leaving[t].is_some() {

@@ -5,7 +5,7 @@ ghost use Rattle.std.specs.Prelude.{IfSome, IsTrue};
 ghost use Rattle.std.specs.List.{All};
 ghost use Rattle.cm_slots.specs.Slots.{is_taken};
 ghost use Rattle.cm_slots.specs.Tickets.{exchanged};
-ghost use Rattle.cm_slots.specs.Tiles.{IsShaped, IsQuiet, IsTile, HasLeft, HasTakenIn, tile_at, leavers_at};
+ghost use Rattle.cm_slots.specs.Tiles.{IsShaped, IsQuiet, IsTile, HaveLeft, HaveTakenIn, tile_at, leavers_at};
 ghost use Rattle.cm_slots.specs.Tiles.{tile_across, arriving, tickets_of, AreWithin};
 
 use crate::across::{arrivals, tile_across};
@@ -38,8 +38,7 @@ pub(crate) fn leave(tiles: &mut [Tile], leaving: &mut [Option<Row>], room: usize
     requires rows { length leaving.old ≡ length tiles.old }
     requires whole { All IsTile tiles.old }
     requires within { AreWithin room tiles.old }
-    ensures value { (t : ℕ) → t < length tiles.old
-        → HasLeft room dim (tile_at tiles.old t) (tile_at tiles.new t) (leavers_at leaving.new t) }
+    ensures value { HaveLeft room dim tiles.old tiles.new leaving.new }
 {
     for t in 0..tiles.len() {
         tiles[t].leave(&mut leaving[t], room, dim);
@@ -60,8 +59,7 @@ fn take_in(tiles: &mut [Tile], leaving: &[Option<Row>], room: usize, dim: u8)
         → IsQuiet (tile_at tiles.old t) }
     requires taken { (t i : ℕ) → t < length tiles.old → i < 64 → arriving dim leaving.now t i ≢ 0
         → is_taken (arriving dim leaving.now t i) ≡ true }
-    ensures value { (t : ℕ) → t < length tiles.old
-        → HasTakenIn room (λ i. arriving dim leaving.now t i) (tile_at tiles.old t) (tile_at tiles.new t) }
+    ensures value { HaveTakenIn room (arriving dim leaving.now) tiles.old tiles.new }
 {
     for t in 0..tiles.len() {
         let across = tile_across(t, dim);

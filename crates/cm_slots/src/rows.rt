@@ -3,9 +3,8 @@
 
 ghost use Rattle.std.specs.Prelude.{◌≡◌, ◌↔◌, ℕ, ◌<◌, ◌≤◌, ◌==◌, ◌++◌, IsTrue, List, length, slice_index};
 ghost use Rattle.std.specs.Prelude.{if◌then◌else◌};
-ghost use Rattle.std.specs.List.{All};
 ghost use Rattle.cm_slots.specs.Slots.{crosses, comers, slot_in, slot_behind, leaver_in, IsCarried, AreSlots};
-ghost use Rattle.cm_slots.specs.Slots.{IsBlank, AreTaken};
+ghost use Rattle.cm_slots.specs.Slots.{IsBlank, AreRows, AreTaken};
 
 /// So many chips stand side by side.
 pub(crate) const WIDTH: usize = 64;
@@ -20,13 +19,11 @@ pub(crate) type Row = [u32; WIDTH];
 /// else the last. The first row holds who leaves then, and in the rest the others close up.
 pub(crate) fn leave(first: &mut Row, rest: &mut [Row], count: usize, dim: u8)
     requires dimension { dim < 12 }
-    requires count { count ≤ length rest.old }
-    requires long { length first.old ≡ 64 }
-    requires wide { All (λ row. length row ≡ 64) rest.old }
+    requires count { count ≤ 14 }
+    requires shape { AreRows first.old rest.old }
     ensures value { (i : ℕ) → i < 64 → IsCarried (leaver_in dim count (slot_in first.old rest.old i))
         (slot_in first.old rest.old i) (slice_index first.new i) (slot_behind rest.new i) }
-    ensures long { length first.new ≡ 64 }
-    ensures wide { All (λ row. length row ≡ 64) rest.new }
+    ensures shape { AreRows first.new rest.new }
 {
     for k in 0..count {
         pass_on(first, &mut rest[k], dim);
@@ -35,15 +32,13 @@ pub(crate) fn leave(first: &mut Row, rest: &mut [Row], count: usize, dim: u8)
 
 /// Takes in who comes to each chip, which the first row holds: behind all who stand in so many slots.
 pub(crate) fn take_in(first: &mut Row, rest: &mut [Row], count: usize)
-    requires count { count ≤ length rest.old }
-    requires long { length first.old ≡ 64 }
-    requires wide { All (λ row. length row ≡ 64) rest.old }
+    requires count { count ≤ 14 }
+    requires shape { AreRows first.old rest.old }
     requires taken { AreTaken first.old }
     ensures value { (i : ℕ) (xs : List ℕ) → i < 64 → length xs ≤ count → length xs < 15
         → AreSlots (slot_behind rest.old i) xs
         → AreSlots (slot_in first.new rest.new i) (xs ++ comers (slice_index first.old i)) }
-    ensures long { length first.new ≡ 64 }
-    ensures wide { All (λ row. length row ≡ 64) rest.new }
+    ensures shape { AreRows first.new rest.new }
 {
     for k in (0..count).rev() {
         pass_back(first, &mut rest[k]);

@@ -102,7 +102,8 @@ impl Tile {
         requires shape { IsShaped self.old }
         requires long { length coming.now ≡ 64 }
         requires taken { AreTaken coming.now }
-        ensures value { HasTakenIn room (λ i. slice_index coming.now i) self.old self.new }
+        ensures value { (comes : ℕ → ℕ) → ((i : ℕ) → i < 64 → slice_index coming.now i ≡ comes i)
+            → HasTakenIn room comes self.old self.new }
     {
         self.first = *coming;
         self.awake = true;

@@ -2,7 +2,7 @@ use Rattle.std.proofs.Common.{◌<◌, ℕ, length, sym, ◌∙◌, refl}
 use Rattle.cm_slots.specs.declared.tile.Tile.{Tile}
 use Rattle.cm_slots.specs.Tiles.{tile_at, HasTakenIn}
 use Rattle.cm_slots.proofs.Standing.{get_or-zeros}
-use Rattle.cm_slots.proofs.Tiles.{one_more_done, one_more_quiet, same_come}
+use Rattle.cm_slots.proofs.Tiles.{one_more_done, one_more_quiet}
 use Rattle.cm_slots.proofs.Runs.{nobody_left}
 use Rattle.cm_slots.proofs.departing.close_up.Goals as goal
 use Rattle.cm_slots.proofs.departing.close_up.Goals.{then-is_some, else-is_some}
@@ -18,8 +18,7 @@ loop-t-preserved c =
     elim c.if-is_some.branch [
       | then-is_some w ↦ rw w.tiles-is
           (one_more_done step step c.args.tiles.now c.loop-t.tiles t w.take_in.new.self inside (λ s old new h has. has)
-          (same_come c.args.room _ (λ i. 0) (tile_at c.loop-t.tiles t) w.take_in.new.self
-          (λ i h. get_or-zeros 64 i) w.take_in.ensures.value)
+          (w.take_in.ensures.value (λ i. 0) (λ i h. get_or-zeros 64 i))
           c.loop-t.invariant)
       | else-is_some w ↦ rw w.tiles-is
           (one_more_quiet c.args.room (λ s i. 0) c.args.tiles.now c.loop-t.tiles t inside c.requires.shape

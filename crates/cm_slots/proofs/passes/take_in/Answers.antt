@@ -2,7 +2,7 @@ use Rattle.std.proofs.Common.{ℕ, ◌<◌, List, Option, ap, slice_index, lengt
 use Rattle.cm_slots.specs.declared.tile.Tile.{Tile}
 use Rattle.cm_slots.specs.Slots.{leaver_at}
 use Rattle.cm_slots.specs.Tiles.{arriving, place_across, tile_at, HasTakenIn}
-use Rattle.cm_slots.proofs.Tiles.{one_more_done, one_more_quiet, same_come}
+use Rattle.cm_slots.proofs.Tiles.{one_more_done, one_more_quiet}
 use Rattle.cm_slots.proofs.passes.take_in.Goals as goal
 use Rattle.cm_slots.proofs.passes.take_in.Goals.{then-not-are_idle, else-not-are_idle}
 
@@ -15,10 +15,8 @@ loop-t-preserved c =
     elim c.if-not-are_idle.branch [
       | then-not-are_idle w ↦ rw w.tiles-is
           (one_more_done step step c.args.tiles.now c.loop-t.tiles t w.take_in.new.self inside (λ s old new h has. has)
-          (same_come c.args.room (λ i. slice_index w.arrivals-coming.result i) (coming t) (tile_at c.loop-t.tiles t)
-          w.take_in.new.self
-          (λ i h. rw c.tile_across-across.ensures.value at (w.arrivals-coming.ensures.value i h))
-          w.take_in.ensures.value)
+          (w.take_in.ensures.value (coming t)
+          (λ i h. rw c.tile_across-across.ensures.value at (w.arrivals-coming.ensures.value i h)))
           c.loop-t.invariant)
       | else-not-are_idle w ↦ rw w.tiles-is
           (let none = c.are_idle.ensures.none w.if-not-are_idle.false in

@@ -6,18 +6,20 @@ use Rattle.cm_slots.proofs.rows.leave.Goals as goal
 
 pub loop-k-init : goal.loop-k-init
 loop-k-init c = record {
-  long = c.requires.long;
-  wide = c.requires.wide;
+  shape = c.requires.shape;
   value = λ i h. none_carried c.args.dim (slot_in c.args.first.now c.args.rest.now i);
 }
 
 pub pass_on-requires-clause-wide : goal.pass_on-requires-clause-wide
-pass_on-requires-clause-wide c = c.loop-k.invariant.wide c.loop-k.k [] (omega (arith, c.loop-k.auto.rest))
+pass_on-requires-clause-wide c = c.loop-k.invariant.shape.wide c.loop-k.k [] (omega (arith, c.requires.count, c.loop-k.invariant.shape.tall))
 
 pub loop-k-preserved : goal.loop-k-preserved
 loop-k-preserved c = record {
-  long = c.pass_on.ensures.long;
-  wide = search (rules, common_steps);
+  shape = record {
+    long = c.pass_on.ensures.long;
+    tall = grind (arith, common_steps, c.loop-k.invariant.shape);
+    wide = search (rules, common_steps, c.loop-k.invariant.shape);
+  };
   value = λ i h. rw add-one (one_more_carried c.args.dim c.loop-k.k (slot_in c.args.first.now c.args.rest.now i)
       (slot_behind c.loop-k.rest i) (slot_behind (set c.loop-k.rest c.loop-k.k c.pass_on.new.row) i) _ _
       (c.pass_on.ensures.carried i h) (grind (arith, common_steps, c.pass_on.ensures.row i h))

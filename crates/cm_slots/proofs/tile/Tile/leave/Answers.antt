@@ -11,7 +11,7 @@ returns-then-is_quiet c =
     (c.is_quiet.ensures.none.0 c.if-is_quiet.true i h) in
     record {
       value = rw c.forget.ensures.value (record {
-        shape = record { long = whole.shape.long; tall = whole.shape.tall; wide = whole.shape.wide };
+        shape = whole.shape;
         long = tt;
         gone = λ i h. nobody_goes c.args.dim c.args.room (slots_of c.args.self.now i) (quiet i h) c.requires.some;
         quiet = λ none. quiet;

@@ -5,11 +5,7 @@ use Rattle.cm_slots.proofs.tile.Tile.let_leave.Goals as goal
 pub returns : goal.returns
 returns c = record {
   value = record {
-    shape = record {
-      long = c.leave.ensures.long;
-      tall = c.leave.auto.rest ∙ c.requires.whole.shape.tall;
-      wide = c.leave.ensures.wide;
-    };
+    shape = c.leave.ensures.shape;
     long = c.flipped.ensures.long;
     gone = λ i h.
         let few = c.reach-reach.ensures.few i h (c.requires.within i h) in
