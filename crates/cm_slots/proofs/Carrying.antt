@@ -1,7 +1,6 @@
 -- Rows that are rewritten lane by lane, and one chip's slots as a pass goes from row to row.
 use Rattle.std.proofs.Common.{◌≡◌, ◌≢◌, ℕ, zero, suc, ◌<◌, ◌≤◌, ◌==◌, ◌++◌, Bool, true, false, if◌then◌else◌, List, []}
-use Rattle.std.proofs.Common.{◌∷◌, length, get_or, min, refl, ⊎_elim, arith}
-use Rattle.std.proofs.lemmas.Bool.{cases_Bool, cases_lt}
+use Rattle.std.proofs.Common.{◌∷◌, length, get_or, min, refl, arith}
 use Rattle.std.proofs.lemmas.List.{length-append, get_or_append_left, get_or_push, get_or_past}
 use Rattle.cm_slots.specs.Slots.{crosses, comers, is_taken, first_of, leaver_in, IsCarried, AreSlots}
 

@@ -1,14 +1,20 @@
--- A tile of which one chip changes.
-use Rattle.std.proofs.Common.{◌≡◌, ◌≢◌, ℕ, suc, ◌+◌, ◌-◌, ◌<◌, ◌≤◌, ◌++◌, true, List, [], ◌∷◌, length, set}
-use Rattle.std.proofs.Common.{remove, sym, ◌∙◌, ⊎_elim, arith}
+-- A chip that is read or changes, in its slots, in its tile and in all tiles.
+use Rattle.std.proofs.Common.{◌≡◌, ◌≢◌, ℕ, suc, ◌+◌, ◌-◌, ◌<◌, ◌≤◌, ◌++◌, true, List, [], ◌∷◌, length, set, remove}
+use Rattle.std.proofs.Common.{sym, ◌∙◌, None, ⊎_elim, arith, ◌/◌, ◌%◌, ◌↔◌, map, refl, ap}
 use Rattle.std.proofs.lemmas.Bool.{cases_eq}
 use Rattle.std.proofs.lemmas.List.{length-append, length-set, get_or-set_same, get_or-set_other, get_or_past}
-use Rattle.std.proofs.lemmas.List.{get_or_append_left, get_or_push}
+use Rattle.std.proofs.lemmas.List.{get_or_append_left, get_or_push, length-map}
 use Rattle.std.proofs.lemmas.List.Edits.{length-remove, get_or-remove_below, get_or-remove_above}
+use Rattle.std.specs.List.{All, slice_get}
+use Rattle.std.proofs.lemmas.List.Elements.{All-set}
+use Rattle.std.proofs.lemmas.Option.{slice_get-map, slice_get-get_or, slice_get_past}
 use Rattle.cm_slots.specs.declared.tile.Tile.{Tile}
 use Rattle.cm_slots.specs.Slots.{is_taken, AreSlots}
-use Rattle.cm_slots.specs.Tiles.{slots_of, standing_at, IsShaped, IsTile, IsPut, HasChanged}
-use Rattle.cm_slots.proofs.Standing.{standing_is, stands, ends_at}
+use Rattle.cm_slots.specs.Tiles.{slots_of, standing_at, IsShaped, IsTile, IsPut, HasChanged, no_tile, tile_at}
+use Rattle.cm_slots.specs.Tiles.{numbers_at, tickets_of, IsChanged}
+use Rattle.cm_slots.specs.declared.ticket.Ticket.{Ticket}
+use Rattle.cm_slots.specs.Tickets.{ticket_of, ticket_in}
+use Rattle.cm_slots.proofs.Standing.{standing_is, stands, ends_at, nobody}
 
 pub counted : (len : ℕ) (slots : ℕ → ℕ) (xs : List ℕ) → AreSlots slots xs → ((j : ℕ) → j < len → slots j ≢ 0)
     → slots len ≡ 0 → len ≡ length xs
@@ -77,3 +83,56 @@ taken_out place slot later old now new inside whole there order none put closing
     (one_more_closed slot later (slots_of old place) (slots_of now place) (slots_of new place) order
     (put.here ∙ sym (closing.ahead later (omega arith) ∙ none)) put.same closing))
     (λ i j e. put.others i j e ∙ others i j e)
+
+-- what is told of a tile's chip is told of the chip
+pub chip_changed : (chip : ℕ) (numbers : List ℕ) (tickets : List Ticket) (old : List Tile) (tile : Tile)
+    → chip / 64 < length old → All IsTile old → HasChanged (chip % 64) numbers (tile_at old (chip / 64)) tile
+    → map ticket_of numbers ≡ tickets → IsChanged chip tickets old (set old (chip / 64) tile)
+chip_changed chip numbers tickets old tile inside whole step told =
+    let t : ℕ = chip / 64 in
+    let here : tile_at (set old t tile) t ≡ tile = get_or-set_same old t tile no_tile inside in
+    record {
+      whole = All-set IsTile old t tile step.whole whole;
+      here = rw here (ap (map ticket_of) step.here ∙ told);
+      others = λ c l e. ⊎_elim
+          (λ (same : c / 64 ≡ t).
+          rw (same, here) (ap (map ticket_of) (step.others (c % 64) (omega arith) (λ s. e (omega (arith, same, s))))))
+          (λ (other : c / 64 ≢ t). rw (get_or-set_other old t (c / 64) tile no_tile other) refl)
+          (cases_eq (c / 64) t);
+    }
+
+-- ---- what is read of a chip
+
+taken_in : (slots : ℕ → ℕ) (xs : List ℕ) → AreSlots slots xs → (j : ℕ) → slots j ≢ 0 → is_taken (slots j) ≡ true
+taken_in slots xs are j some = grind (arith, are.taken j, get_or_past)
+
+ticket_of_slot : (slots : ℕ → ℕ) (xs : List ℕ) → AreSlots slots xs → (j : ℕ)
+    → ticket_in (slots j) ≡ slice_get (map ticket_of xs) j
+ticket_of_slot slots xs are j =
+    grind (arith, are.taken j, slice_get-map, slice_get-get_or, slice_get_past, get_or_past)
+
+module _ (tiles : List Tile) (c : ℕ) (inside : c / 64 < length tiles) (whole : All IsTile tiles) where
+  are : AreSlots (slots_of (tile_at tiles (c / 64)) (c % 64)) (numbers_at tiles c)
+  are = (whole (c / 64) no_tile inside).queues (c % 64) (omega arith)
+
+  pub taken_at : (j : ℕ) → slots_of (tile_at tiles (c / 64)) (c % 64) j ≢ 0
+      → is_taken (slots_of (tile_at tiles (c / 64)) (c % 64) j) ≡ true
+  taken_at j some = taken_in (slots_of (tile_at tiles (c / 64)) (c % 64)) (numbers_at tiles c) are j some
+
+  pub ticket_at : (j : ℕ) → ticket_in (slots_of (tile_at tiles (c / 64)) (c % 64) j) ≡ slice_get (tickets_of tiles c) j
+  ticket_at j = ticket_of_slot (slots_of (tile_at tiles (c / 64)) (c % 64)) (numbers_at tiles c) are j
+
+  pub none_past : (j : ℕ) → 15 ≤ j → None ≡ slice_get (tickets_of tiles c) j
+  none_past j past = sym (slice_get_past (tickets_of tiles c) j
+      (omega (arith, are.fits, length-map (numbers_at tiles c) ticket_of)))
+
+  -- where the first slot is 0 nobody stands, and nowhere else
+  pub empty_where : slots_of (tile_at tiles (c / 64)) (c % 64) 0 ≡ 0 ↔ tickets_of tiles c ≡ []
+  empty_where = (
+    λ blank. ap (map ticket_of) (nobody (numbers_at tiles c) ((ends_at 0 _ (numbers_at tiles c) are).0 blank)),
+    λ none. (ends_at 0 _ (numbers_at tiles c) are).1 (omega (
+      arith,
+      length-map (numbers_at tiles c) ticket_of,
+      ap length none,
+    )),
+  )

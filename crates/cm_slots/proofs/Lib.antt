@@ -2,8 +2,5 @@ pub mod Carrying
 pub mod Numbers
 pub mod Standing
 pub mod Changing
-pub mod Tiles
 pub mod Runs
-pub mod Single
-pub mod Empty
 pub mod Views

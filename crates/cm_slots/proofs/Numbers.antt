@@ -1,17 +1,15 @@
 -- The numbers that stand for tickets do what the tickets do.
-use Rattle.std.proofs.Common.{◌≡◌, ◌≢◌, ℕ, ◌<◌, ◌+◌, ◌-◌, ◌*◌, ◌/◌, ◌%◌, ◌^◌, ◌==◌, ◌++◌, Bool, true, false}
+use Rattle.std.proofs.Common.{◌≡◌, ◌≢◌, ℕ, ◌+◌, ◌-◌, ◌*◌, ◌/◌, ◌%◌, ◌^◌, ◌==◌, ◌++◌, Bool, true, false}
 use Rattle.std.proofs.Common.{List, map, Option, Some, None, if◌then◌else◌, refl, sym, ◌∙◌, ap, ⊎_elim, arith}
 use Rattle.std.proofs.Math.Nat.{div-div-eq-div-mul}
 use Rattle.std.proofs.Math.Path.{fun_ext}
 use Rattle.std.specs.Prelude.{bit_xor}
-use Rattle.std.specs.Int.{bit_at}
 use Rattle.std.specs.Int.Bits.{xor_zero_r}
 use Rattle.std.specs.List.{position}
 use Rattle.std.specs.Option.{option_or, option_map, option_to_list}
 use Rattle.std.proofs.lemmas.Bool.{cases_eq, cases_Bool, ne_eqb}
 use Rattle.std.proofs.lemmas.List.{length-map, map-append}
-use Rattle.std.proofs.lemmas.Nat.{pow-add, shl-shr, shr_split, xor_shr, xor_mod}
-use Rattle.std.proofs.lemmas.Nat.Bits.{bit_at_cat_high}
+use Rattle.std.proofs.lemmas.Nat.{pow-add, shl-shr, xor_shr, xor_mod}
 use Rattle.cm_model.proofs.Leaving.{map-without, element_at-map, position-map}
 use Rattle.cm_slots.specs.Queues.{place_of_leaver, last_of_full, leaver_of, stayers_of}
 use Rattle.cm_slots.specs.Tickets.{ticket_of, ticket_in, has_to_go, ticket_across, ticket_going, exchanged}

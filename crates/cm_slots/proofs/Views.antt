@@ -1,24 +1,75 @@
--- What a contract sees of tiles, before and after they change.
-use Rattle.std.proofs.Common.{◌≡◌, ◌≢◌, ℕ, ◌+◌, ◌-◌, ◌*◌, ◌/◌, ◌%◌, ◌^◌, ◌<◌, ◌≤◌, List, [], length, map, Option}
-use Rattle.std.proofs.Common.{slice_set, set, refl, sym, ◌∙◌, ap, ⊎_elim, arith}
-use Rattle.std.specs.Prelude.{bit_xor}
+-- What a contract sees of tiles, at which nobody stands, before and after they change.
+use Rattle.std.proofs.Common.{◌≡◌, ℕ, zero, suc, ◌+◌, ◌/◌, ◌%◌, ◌<◌, ◌≤◌, List, [], length, map, replicate, false}
+use Rattle.std.proofs.Common.{refl, ap, ⊎_elim, arith, ◌≢◌, ◌-◌, ◌*◌, ◌^◌, Option, slice_set, set, sym, ◌∙◌}
 use Rattle.std.specs.List.{All}
+use Rattle.std.proofs.lemmas.Bool.{cases_lt, cases_eq, ne_eqb}
+use Rattle.std.proofs.lemmas.List.{get_or-replicate, get_or_past, length-map, length-set, get_or-set_same}
+use Rattle.std.proofs.lemmas.List.{get_or-set_other, with_items_is}
+use Rattle.std.proofs.lemmas.List.Elements.{All-from_get_or}
+use Rattle.std.specs.Prelude.{bit_xor}
 use Rattle.std.specs.Global.{Vec}
 use Rattle.std.specs.Vec.{with_items}
-use Rattle.std.proofs.lemmas.Bool.{cases_eq, cases_lt, ne_eqb}
-use Rattle.std.proofs.lemmas.List.{length-map, length-set, get_or-set_same, get_or-set_other, with_items_is}
 use Rattle.std.proofs.lemmas.Nat.{xor_shr}
-use Rattle.cm_model.specs.Array.{each_chip, list_at}
 use Rattle.cm_model.specs.Each.{each_from}
-use Rattle.cm_model.proofs.Each.{is_each, length-each_from, get_or-each_below, same_each_below, map-each_from}
+use Rattle.cm_model.proofs.Each.{same_each_below, is_each, length-each_from, get_or-each_below, map-each_from}
+use Rattle.cm_model.specs.Array.{each_chip, list_at}
 use Rattle.cm_model.proofs.Flips.{across_below, xor_twice}
-use Rattle.cm_slots.specs.declared.ticket.Ticket.{Ticket}
 use Rattle.cm_slots.specs.declared.tile.Tile.{Tile}
-use Rattle.cm_slots.specs.Queues.{place_of_leaver, stayers_of}
 use Rattle.cm_slots.specs.Tickets.{ticket_of, has_to_go, exchanged}
-use Rattle.cm_slots.specs.Tiles.{tile_across, numbers_at, tickets_of, queues_in, IsTile, AreTiles}
-use Rattle.cm_slots.specs.Tiles.{IsChanged, AreWithin}
+use Rattle.cm_slots.specs.Tiles.{slots_of, no_tile, tile_at, tickets_of, queues_in, IsShaped, IsTile, IsQuiet}
+use Rattle.cm_slots.specs.Tiles.{AreEmpty, tile_across, numbers_at, AreTiles, IsChanged, AreWithin}
+use Rattle.cm_slots.specs.declared.ticket.Ticket.{Ticket}
+use Rattle.cm_slots.specs.Queues.{place_of_leaver, stayers_of}
+use Rattle.cm_slots.proofs.Standing.{get_or-zeros, standing_is, stands}
 use Rattle.cm_slots.proofs.Runs.{tiles_of_cube, across_in}
+
+-- a new tile
+abbrev pub blank_row : List ℕ
+blank_row = replicate 64 0
+
+abbrev pub new_tile : Tile
+new_tile = record { first = blank_row; rest = replicate 14 blank_row; awake = false }
+
+pub new_is_blank : (i j : ℕ) → slots_of new_tile i j ≡ 0
+new_is_blank i zero = get_or-zeros 64 i
+new_is_blank i (suc j) =
+    ⊎_elim (λ (l : j < 14). rw (get_or-replicate 14 j blank_row [] l) (get_or-zeros 64 i))
+    (λ (l : 14 ≤ j). rw (get_or_past (replicate 14 blank_row) j [] l) (get_or_past [] i 0 (omega arith)))
+    (cases_lt j 14)
+
+pub new_is_shaped : IsShaped new_tile
+new_is_shaped = record {
+  long = refl;
+  tall = refl;
+  wide = All-from_get_or (λ row. length row ≡ 64) (replicate 14 blank_row) []
+      (λ j h. ap length (get_or-replicate 14 j blank_row [] h));
+}
+
+module _ {count : ℕ} {tiles : List Tile} (empty : AreEmpty count tiles) where
+  pub empty_quiet : (t : ℕ) → t < count → IsQuiet (tile_at tiles t)
+  empty_quiet t h i l =
+      record { fits = omega arith; each = λ j. empty.blank t i j h; taken = λ j m. absurd (omega arith) }
+
+  pub empty_whole : All IsTile tiles
+  empty_whole = All-from_get_or IsTile tiles no_tile (λ t h.
+      let quiet = empty_quiet t (omega (arith, empty.long)) in
+      record {
+        shape = empty.shape t no_tile h;
+        queues = λ i l. stands (slots_of (tile_at tiles t) i) [] (quiet i l);
+        quiet = λ asleep. quiet;
+      })
+
+-- no ticket stands at any chip of a quiet tile
+pub quiet_tickets : (c : ℕ) (tiles : List Tile) → IsQuiet (tile_at tiles (c / 64)) → tickets_of tiles c ≡ []
+quiet_tickets c tiles quiet = ap (map ticket_of) (standing_is _ [] (quiet (c % 64) (omega arith)))
+
+pub empty_queues : (chips : ℕ) (tiles : List Tile) → AreEmpty ((chips + 63) / 64) tiles
+    → queues_in chips tiles ≡ each_from 0 chips (λ c. [])
+empty_queues chips tiles empty = same_each_below [] chips (tickets_of tiles) (λ c. [])
+    (λ c h. quiet_tickets c tiles (empty_quiet empty (c / 64) (omega arith)))
+
+-- what is read of a list that a function makes
+pub ruleset seen = (length-each_from, get_or-each_below)
 
 -- what was lent as a slice has what was written to the slice
 pub items-lent : {X : Type 0} (row : Vec X) (now : List X) → length now ≡ length row.items
@@ -49,19 +100,8 @@ module _ {chips : ℕ} {tiles : List Tile} {leaving : List (Option (List ℕ))} 
       let c : ℕ = t * 64 + i in
       let tile : c / 64 ≡ t = omega arith in
       let place : c % 64 ≡ i = omega arith in
-      let few : length (numbers_at tiles c) ≤ room = ⊎_elim
-      (λ (m : c < chips). omega (
-        arith,
-        ap length (ticket_list c m),
-        within c [] (omega (arith, as_many)),
-        length-map (numbers_at tiles c) ticket_of,
-      ))
-      (λ (m : chips ≤ c). omega (
-        arith,
-        ap length (are.past c m (omega (arith, tile))),
-        length-map (numbers_at tiles c) ticket_of,
-      ))
-      (cases_lt c chips) in
+      let few : length (numbers_at tiles c) ≤ room =
+      grind (arith, length-map, ticket_list c, are.past c, within c [], as_many) in
       rw (tile, place) at few
 
   -- what is made of each chip's tickets, by chip
@@ -111,11 +151,7 @@ module _ {chips : ℕ} {tiles : List Tile} {leaving : List (Option (List ℕ))} 
           (λ c. exchanged room d (list_at q c) (list_at q (bit_xor c (2 ^ d))))
           (λ c h. each c (omega (arith, are.count)) ∙ rw (
             ticket_list c h,
-            ticket_list (bit_xor c (2 ^ d)) (omega (
-              arith,
-              as_many,
-              across_below dims d c below (omega (arith, as_many)),
-            )),
+            ticket_list (bit_xor c (2 ^ d)) (omega (arith, as_many, across_below dims d c below)),
           ) refl)
           ∙ ap (λ (n : ℕ). each_from 0 n (λ c. exchanged room d (list_at q c) (list_at q (bit_xor c (2 ^ d)))))
           (sym as_many ∙ count)
@@ -126,14 +162,8 @@ module _ {chips : ℕ} {tiles : List Tile} {leaving : List (Option (List ℕ))} 
           let other : ℕ = bit_xor c (2 ^ d) in
           let there : other / 64 < length tiles =
           omega (arith, xor_shr c (2 ^ d) 6, across_inside count below (c / 64) h) in
-          let past_too : chips ≤ other = ⊎_elim
-          (λ (l : other < chips). absurd (omega (
-            arith,
-            xor_twice c (2 ^ d),
-            as_many,
-            across_below dims d other below (omega (arith, as_many)),
-          )))
-          (λ (l : chips ≤ other). l) (cases_lt other chips) in
+          let past_too : chips ≤ other =
+          grind (arith, xor_twice c (2 ^ d), as_many, across_below dims d other below) in
           each c h ∙ rw (are.past c past h, are.past other past_too there) (exchanged-nobody room d some)
 
 pub within_view : (chips : ℕ) (tiles : List Tile) (room : ℕ) → chips ≤ length tiles * 64 → AreWithin room tiles

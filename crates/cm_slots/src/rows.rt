@@ -102,6 +102,7 @@ pub(crate) fn is_blank(row: &Row) -> bool
 }
 
 /// Whether the message of a slot's ticket has to cross a dimension.
+#[tactic(auto, using(std::proofs::lemmas::Nat::Bits::shr_and_one))]
 fn has_to_cross(slot: u32, dim: u8) -> bool
     requires dimension { dim < 12 }
     ensures value { result ≡ crosses dim slot }

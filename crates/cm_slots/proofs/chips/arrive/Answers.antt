@@ -1,6 +1,6 @@
 use Rattle.std.proofs.lemmas.List.{map-append}
 use Rattle.cm_slots.specs.Tickets.{ticket_of}
-use Rattle.cm_slots.proofs.Single.{chip_changed}
+use Rattle.cm_slots.proofs.Changing.{chip_changed}
 use Rattle.cm_slots.proofs.chips.arrive.Goals as goal
 
 pub returns : goal.returns

@@ -1,7 +1,7 @@
 use Rattle.std.proofs.Common.{◌≡◌, ◌/◌, ◌<◌, ◌≤◌, ◌∙◌, sym, ⊎_elim, arith}
 use Rattle.std.proofs.lemmas.Bool.{cases_lt}
-use Rattle.cm_slots.proofs.Single.{slots_at, empty_where}
-use Rattle.cm_slots.proofs.Empty.{quiet_tickets}
+use Rattle.cm_slots.proofs.Changing.{empty_where}
+use Rattle.cm_slots.proofs.Views.{quiet_tickets}
 use Rattle.cm_slots.proofs.chips.next_occupied.Goals as goal
 
 pub loop-chip-preserved-then-not-is_awake : goal.loop-chip-preserved-then-not-is_awake
@@ -22,11 +22,11 @@ loop-chip-preserved c =
       from = omega (arith, c.loop-chip.invariant.from);
       none = λ k from below inside. ⊎_elim (λ (l : k < here). c.loop-chip.invariant.none k from l inside)
           (λ (l : here ≤ k). let same : k ≡ here = omega arith in
-          rw same ((empty_where _ _ (slots_at c.args.tiles.now here c.loop-chip-test.true c.requires.whole)).0
+          rw same ((empty_where c.args.tiles.now here c.loop-chip-test.true c.requires.whole).0
           (sym c.slot.ensures.value ∙ c.if-slot-eq0.true)))
           (cases_lt k here);
     }
 
 pub returns-else-slot-eq0-clause-occupied : goal.returns-else-slot-eq0-clause-occupied
 returns-else-slot-eq0-clause-occupied c = λ inside none. c.if-slot-eq0.false (c.slot.ensures.value
-    ∙ (empty_where _ _ (slots_at c.args.tiles.now c.loop-chip.chip inside c.requires.whole)).1 none)
+    ∙ (empty_where c.args.tiles.now c.loop-chip.chip inside c.requires.whole).1 none)

@@ -1,7 +1,7 @@
 use Rattle.std.proofs.Common.{Some}
 use Rattle.cm_model.proofs.Leaving.{map-without}
 use Rattle.cm_slots.specs.Tickets.{ticket_of}
-use Rattle.cm_slots.proofs.Single.{chip_changed}
+use Rattle.cm_slots.proofs.Changing.{chip_changed}
 use Rattle.cm_slots.proofs.chips.remove.Goals as goal
 
 pub returns : goal.returns

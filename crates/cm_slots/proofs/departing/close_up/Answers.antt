@@ -1,9 +1,8 @@
 use Rattle.std.proofs.Common.{◌<◌, ℕ, length, sym, ◌∙◌, refl}
 use Rattle.cm_slots.specs.declared.tile.Tile.{Tile}
-use Rattle.cm_slots.specs.Tiles.{tile_at, HasTakenIn}
+use Rattle.cm_slots.specs.Tiles.{HasTakenIn}
 use Rattle.cm_slots.proofs.Standing.{get_or-zeros}
-use Rattle.cm_slots.proofs.Tiles.{one_more_done, one_more_quiet}
-use Rattle.cm_slots.proofs.Runs.{nobody_left}
+use Rattle.cm_slots.proofs.Runs.{one_more_done, one_more_quiet, nobody_left}
 use Rattle.cm_slots.proofs.departing.close_up.Goals as goal
 use Rattle.cm_slots.proofs.departing.close_up.Goals.{then-is_some, else-is_some}
 

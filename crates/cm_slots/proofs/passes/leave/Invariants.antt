@@ -1,5 +1,5 @@
 use Rattle.cm_slots.specs.Tiles.{leavers_at, HasLeft}
-use Rattle.cm_slots.proofs.Tiles.{AreDone}
+use Rattle.cm_slots.proofs.Runs.{AreDone}
 use Rattle.cm_slots.proofs.passes.leave.Given as goal
 
 abbrev pub invariant-loop-t : goal.invariant-loop-t

@@ -1,15 +1,6 @@
 use Rattle.std.proofs.Common.{remove}
-use Rattle.cm_slots.proofs.Views.{lent_chip, lent_changed}
+use Rattle.cm_slots.proofs.Views.{lent_changed}
 use Rattle.cm_slots.proofs.slots.Slots.remove.Goals as goal
-
-pub remove-requires : goal.remove-requires
-remove-requires c =
-    let at = lent_chip c.self.inside.tiles c.self.invariant c.self.view_is c.deref_mut.ensures.value c.requires.chip in
-    record {
-      whole = at.whole;
-      chip = at.inside;
-      place = rw at.tickets c.requires.place;
-    }
 
 pub invariant_of-self : goal.invariant_of-self
 invariant_of-self c = (lent_changed c.self.inside.tiles c.self.invariant c.self.view_is c.deref_mut.ensures.value

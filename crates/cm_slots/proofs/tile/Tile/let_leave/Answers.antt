@@ -1,4 +1,3 @@
-use Rattle.std.proofs.Common.{◌∙◌}
 use Rattle.cm_slots.proofs.Standing.{has_gone}
 use Rattle.cm_slots.proofs.tile.Tile.let_leave.Goals as goal
 

@@ -1,4 +1,4 @@
-use Rattle.cm_slots.proofs.Empty.{new_is_shaped, new_is_blank}
+use Rattle.cm_slots.proofs.Views.{new_is_shaped, new_is_blank}
 use Rattle.cm_slots.proofs.tile.Tile.new.Goals as goal
 
 pub returns : goal.returns

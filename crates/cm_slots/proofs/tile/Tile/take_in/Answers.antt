@@ -1,4 +1,4 @@
-use Rattle.std.proofs.Common.{true, refl, sym, ◌∙◌, arith}
+use Rattle.std.proofs.Common.{sym, ◌∙◌, arith}
 use Rattle.cm_slots.specs.Slots.{slot_in}
 use Rattle.cm_slots.proofs.Standing.{nobody_comes}
 use Rattle.cm_slots.proofs.tile.Tile.take_in.Goals as goal
