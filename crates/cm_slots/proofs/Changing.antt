@@ -61,12 +61,12 @@ changed place numbers old new whole shape awake here others =
     record {
       whole = record {
         shape = shape;
-        queues = λ i h. ⊎_elim (λ (e : i ≡ place). rw e (stands (slots_of new place) numbers here))
-            (λ (e : i ≢ place). stands (slots_of new i) (standing_at old i) (kept i h e)) (cases_eq i place);
+        queues = λ i h. ⊎_elim (λ (e : i ≡ place). rw e (stands new place numbers here))
+            (λ (e : i ≢ place). stands new i (standing_at old i) (kept i h e)) (cases_eq i place);
         quiet = λ asleep. absurd (cc (awake, asleep));
       };
-      here = standing_is (slots_of new place) numbers here;
-      others = λ i h e. standing_is (slots_of new i) (standing_at old i) (kept i h e);
+      here = standing_is new place numbers here;
+      others = λ i h e. standing_is new i (standing_at old i) (kept i h e);
     }
 
 -- the last that closes up is nobody
@@ -129,7 +129,7 @@ module _ (tiles : List Tile) (c : ℕ) (inside : c / 64 < length tiles) (whole :
   -- where the first slot is 0 nobody stands, and nowhere else
   pub empty_where : slots_of (tile_at tiles (c / 64)) (c % 64) 0 ≡ 0 ↔ tickets_of tiles c ≡ []
   empty_where = (
-    λ blank. ap (map ticket_of) (nobody (numbers_at tiles c) ((ends_at 0 _ (numbers_at tiles c) are).0 blank)),
+    λ blank. ap (map ticket_of) (nobody _ (numbers_at tiles c) are blank),
     λ none. (ends_at 0 _ (numbers_at tiles c) are).1 (omega (
       arith,
       length-map (numbers_at tiles c) ticket_of,

@@ -1,13 +1,12 @@
 -- All tiles of a run, one after the other, and after both passes.
-use Rattle.std.proofs.Common.{◌≡◌, ◌≢◌, ℕ, ◌+◌, ◌<◌, ◌≤◌, ◌++◌, List, length, set, ◌∙◌, subst, refl, ⊎_elim, arith}
-use Rattle.std.proofs.Common.{◌-◌, ◌*◌, ◌/◌, ◌%◌, ◌^◌, Option, Some, None, true, false, ap}
+use Rattle.std.proofs.Common.{◌≡◌, ◌≢◌, ℕ, ◌+◌, ◌<◌, ◌≤◌, ◌++◌, List, length, set, ◌∙◌, subst, ⊎_elim, arith}
+use Rattle.std.proofs.Common.{◌-◌, ◌*◌, ◌/◌, ◌%◌, ◌^◌, Option, None, true, ap}
 use Rattle.std.specs.List.{All}
 use Rattle.std.proofs.lemmas.Bool.{cases_eq, cases_lt}
 use Rattle.std.proofs.lemmas.List.{length-set, get_or-set_same, get_or-set_other, set-get_or, append-nil}
 use Rattle.std.proofs.lemmas.List.{length-append}
 use Rattle.std.specs.Prelude.{bit_xor, IfSome}
 use Rattle.std.specs.Int.Bits.{xor_zero_r}
-use Rattle.std.specs.Option.{is_some}
 use Rattle.std.proofs.lemmas.List.Elements.{All-from_get_or}
 use Rattle.std.proofs.lemmas.Nat.{pow-add, pow_below, pow_pos, xor_lt}
 use Rattle.cm_slots.specs.declared.tile.Tile.{Tile}
@@ -59,17 +58,6 @@ one_more_quiet room coming old now count inside shape quiet none was =
 
 -- ---- which tile and which place
 
--- as many tiles as a cube of chips fills
-pub tiles_of_cube : (dims : ℕ) → (2 ^ dims + 63) / 64 ≡ 2 ^ (dims - 6)
-tiles_of_cube dims =
-    ⊎_elim
-    (λ (l : dims < 6). let one : dims - 6 ≡ 0 = omega arith in
-    rw one (omega (arith, pow_below dims 6 l, pow_pos dims)))
-    (λ (l : 6 ≤ dims).
-    let power : 2 ^ dims ≡ 2 ^ (dims - 6) * 64 = ap (λ (n : ℕ). 2 ^ n) (omega arith) ∙ pow-add 2 (dims - 6) 6 in
-    omega (arith, power))
-    (cases_lt dims 6)
-
 -- a bit beyond the width of a tile
 module _ (d : ℕ) (far : 6 ≤ d) where
   power_far : 2 ^ d ≡ 2 ^ (d - 6) * 2 ^ 6
@@ -79,6 +67,14 @@ module _ (d : ℕ) (far : 6 ≤ d) where
   pub place-far : (i : ℕ) → place_across d i ≡ i
   place-far i = let none : 2 ^ d % 64 ≡ 0 = omega (arith, power_far) in ap (bit_xor i) none ∙ xor_zero_r i
 
+-- as many tiles as a cube of chips fills
+pub tiles_of_cube : (dims : ℕ) → (2 ^ dims + 63) / 64 ≡ 2 ^ (dims - 6)
+tiles_of_cube dims =
+    ⊎_elim
+    (λ (l : dims < 6). let one : dims - 6 ≡ 0 = omega arith in
+    rw one (omega (arith, pow_below dims 6 l, pow_pos dims)))
+    (λ (l : 6 ≤ dims). omega (arith, power_far dims l)) (cases_lt dims 6)
+
 pub across_in : (dims d t : ℕ) → d < dims → t < 2 ^ (dims - 6) → tile_across d t < 2 ^ (dims - 6)
 across_in dims d t h l =
     xor_lt (dims - 6) t (2 ^ d / 64) l
@@ -86,11 +82,6 @@ across_in dims d t h l =
     (λ (s : d < 6). omega (arith, pow_below d 6 s, pow_pos (dims - 6)))
     (λ (s : 6 ≤ d). omega (arith, power_far d s, pow_below (d - 6) (dims - 6) (omega arith)))
     (cases_lt d 6))
-
--- a tile of which no row of leavers is there
-pub nobody_left : (o : Option (List ℕ)) → is_some o ≡ false → o ≡ None
-nobody_left None h = refl
-nobody_left (Some row) h = let wrong : true ≡ false = h in absurd cc
 
 -- ---- both passes
 
@@ -114,24 +105,27 @@ module _ {room d : ℕ} {old left : List Tile} {leaving : List (Option (List ℕ
   pub arriving_taken : ((t : ℕ) → t < length old → tile_across d t < length old) → (t i : ℕ) → t < length old → i < 64
       → arriving d leaving t i ≢ 0 → is_taken (arriving d leaving t i) ≡ true
   arriving_taken across t i h l =
-      ((gone.each (tile_across d t) (across t h)).gone (place_across d i) (xor_lt 6 i (2 ^ d % 64) l (omega arith))).taken
+      let low = xor_lt 6 i (2 ^ d % 64) l (omega arith) in
+      ((gone.each (tile_across d t) (across t h)).gone (place_across d i) low).taken
 
   -- who comes, by tile and place, is taken in behind who stays
   module _ {coming : ℕ → ℕ → ℕ} {new : List Tile} (come : HaveTakenIn room coming left new) where
     slots_after : (t i : ℕ) → t < length old → i < 64 → AreSlots (slots_of (tile_at new t) i)
         (stayers_of (crosses d) room (standing_at (tile_at old t) i) ++ comers (coming t i))
-    slots_after t i h l = let has = (gone.each t h).gone i l in (come.each t (omega (arith, gone.long))).came i _ l has.few has.stay
+    slots_after t i h l =
+        let has = (gone.each t h).gone i l in
+        (come.each t (omega (arith, gone.long))).came i _ l has.few has.stay
 
     standing_after : (t i : ℕ) → t < length old → i < 64 → standing_at (tile_at new t) i
         ≡ stayers_of (crosses d) room (standing_at (tile_at old t) i) ++ comers (coming t i)
-    standing_after t i h l = standing_is (slots_of (tile_at new t) i) _ (slots_after t i h l)
+    standing_after t i h l = standing_is (tile_at new t) i _ (slots_after t i h l)
 
     pub whole_after : All IsTile new
     whole_after = All-from_get_or IsTile new no_tile (λ t h.
         let inside : t < length old = omega (arith, come.long, gone.long) in
         record {
           shape = (come.each t (omega (arith, gone.long))).shape;
-          queues = λ i l. stands (slots_of (tile_at new t) i) _ (slots_after t i inside l);
+          queues = λ i l. stands (tile_at new t) i _ (slots_after t i inside l);
           quiet = (come.each t (omega (arith, gone.long))).quiet;
         })
 

@@ -1,17 +1,17 @@
 -- What stands in slots is one list, and who leaves them is who leaves that list.
 use Rattle.std.proofs.Common.{◌≡◌, ◌≢◌, ℕ, zero, suc, ◌+◌, ◌-◌, ◌<◌, ◌≤◌, ◌==◌, ◌↔◌, Bool, true, false}
-use Rattle.std.proofs.Common.{List, [], ◌∷◌, ◌++◌, length, get_or, replicate, Some, None, refl, sym, ◌∙◌, ap}
+use Rattle.std.proofs.Common.{List, [], ◌++◌, length, get_or, replicate, Some, None, refl, sym, ◌∙◌, ap}
 use Rattle.std.proofs.Common.{⊎_elim, arith}
 use Rattle.std.specs.List.{position_or_len}
 use Rattle.std.proofs.lemmas.Bool.{cases_eq, cases_lt, lt-ltb, le-ltb, eq-eqb, ne_eqb}
-use Rattle.std.proofs.lemmas.List.{get_or_past, get_or-replicate, length-replicate}
+use Rattle.std.proofs.lemmas.List.{get_or_past, get_or-replicate, length-replicate, nil_from_length}
 use Rattle.std.proofs.lemmas.List.Sums.{fails_before_first, passes_at_first}
 use Rattle.std.proofs.lemmas.List.Edits.{length-remove, get_or-remove_below, get_or-remove_above}
 use Rattle.std.proofs.lemmas.Option.{slice_get-get_or}
 use Rattle.cm_model.proofs.Bits.{bit-zero}
 use Rattle.cm_model.proofs.Each.{is_each}
 use Rattle.cm_slots.specs.Queues.{place_of_leaver, leaver_of}
-use Rattle.cm_slots.specs.Slots.{crosses, is_taken, slot_across, comers, first_of, leaver_in, standing_in, AreSlots}
+use Rattle.cm_slots.specs.Slots.{crosses, is_taken, slot_across, comers, first_of, slot_behind, leaver_in, AreSlots}
 use Rattle.cm_slots.specs.Slots.{IsCarried}
 use Rattle.cm_slots.specs.declared.tile.Tile.{Tile}
 use Rattle.cm_slots.specs.Tiles.{slots_of, standing_at, IsTile, HasGone}
@@ -23,25 +23,27 @@ get_or-zeros n i = grind (arith, get_or-replicate, get_or_past, length-replicate
 
 -- ---- one list
 
-pub standing_is : (slots : ℕ → ℕ) (xs : List ℕ) → AreSlots slots xs → standing_in slots ≡ xs
-standing_is slots xs are =
-    let long : first_of (λ j. slots j == 0) 15 ≡ length xs =
-    first_of-is (λ j. slots j == 0) 15 (length xs) are.fits (grind (arith, are.taken)) (grind (arith, get_or_past)) in
+ends_first : (slots : ℕ → ℕ) (xs : List ℕ) → AreSlots slots xs → first_of (λ j. slots j == 0) 15 ≡ length xs
+ends_first slots xs are =
+    first_of-is (λ j. slots j == 0) 15 (length xs) are.fits (grind (arith, are.taken)) (grind (arith, get_or_past))
+
+pub standing_is : (tile : Tile) (i : ℕ) (xs : List ℕ) → AreSlots (slots_of tile i) xs → standing_at tile i ≡ xs
+unfolding standing_at
+standing_is tile i xs are =
+    let slots : ℕ → ℕ = slots_of tile i in
+    let long : first_of (λ j. slots j == 0) 15 ≡ length xs = ends_first slots xs are in
     rw long (sym (is_each 0 (length xs) slots xs refl (λ j h. sym (are.each j))))
 
-pub stands : (slots : ℕ → ℕ) (xs : List ℕ) → AreSlots slots xs → AreSlots slots (standing_in slots)
-stands slots xs are = rw (standing_is slots xs are) are
+pub stands : (tile : Tile) (i : ℕ) (xs : List ℕ) → AreSlots (slots_of tile i) xs
+    → AreSlots (slots_of tile i) (standing_at tile i)
+stands tile i xs are = rw (standing_is tile i xs are) are
 
 -- a slot is 0 where no more stand in front of it
 pub ends_at : (at : ℕ) (slots : ℕ → ℕ) (xs : List ℕ) → AreSlots slots xs → slots at ≡ 0 ↔ length xs ≤ at
 ends_at at slots xs are = (grind (arith, are.taken at), grind (arith, get_or_past))
 
-pub nobody : (xs : List ℕ) → length xs ≤ 0 → xs ≡ []
-nobody [] few = refl
-nobody (x ∷ xs) few = absurd (omega arith)
-
-pub nobody_stands : (slots : ℕ → ℕ) (xs : List ℕ) → AreSlots slots xs → slots 0 ≡ 0 → AreSlots slots []
-nobody_stands slots xs are blank = rw (← nobody xs ((ends_at 0 slots xs are).0 blank)) are
+pub nobody : (slots : ℕ → ℕ) (xs : List ℕ) → AreSlots slots xs → slots 0 ≡ 0 → xs ≡ []
+nobody slots xs are blank = nil_from_length xs (omega (arith, (ends_at 0 slots xs are).0 blank))
 
 -- where a row is 0 in each lane, no more than those before it stand anywhere
 pub row_ends : (at : ℕ) (tile : Tile) → IsTile tile
@@ -55,7 +57,7 @@ row_ends at tile whole = (
 pub nobody_comes : (slots : ℕ → ℕ) (xs : List ℕ) (comes : ℕ) → AreSlots (λ j. slots (suc j)) xs → slots 0 ≡ 0
     → slots 1 ≡ 0 → comes ≡ 0 → AreSlots slots (xs ++ comers comes)
 nobody_comes slots xs comes are first second none =
-    let empty : xs ≡ [] = nobody xs ((ends_at 0 (λ j. slots (suc j)) xs are).0 second) in
+    let empty : xs ≡ [] = nobody (λ j. slots (suc j)) xs are second in
     rw (empty, none)
     (record { fits = omega arith; each = blank (rw empty at are); taken = λ j h. absurd (omega arith) })
   where
@@ -124,12 +126,13 @@ module _ (d room reach : ℕ) (slots : ℕ → ℕ) (xs : List ℕ) (are : AreSl
       (cases_lt q (length xs))
 
 -- nobody leaves where nobody stands
-pub nobody_goes : (d room : ℕ) (slots : ℕ → ℕ) → AreSlots slots [] → 0 < room
-    → HasGone room d (standing_in slots) 0 (λ j. slots (suc j))
-nobody_goes d room slots are some = rw (standing_is slots [] are)
-    (has_gone d room room slots [] are some (omega arith) (omega arith) (λ e. refl) 0 0 (λ j. slots (suc j))
+pub nobody_goes : (d room : ℕ) (tile : Tile) (i : ℕ) → AreSlots (slots_of tile i) [] → 0 < room
+    → HasGone room d (standing_at tile i) 0 (slot_behind tile.rest i)
+nobody_goes d room tile i are some = rw (standing_is tile i [] are)
+    (has_gone d room room (slots_of tile i) [] are some (omega arith) (omega arith) (λ e. refl) 0 0
+    (slot_behind tile.rest i)
     (record {
-      here = sym (are.each (leaver_in d (room - 1) slots));
+      here = sym (are.each (leaver_in d (room - 1) (slots_of tile i)));
       earlier = λ j h. are.each (suc j) ∙ sym (are.each j);
       later = λ j h. refl;
     }) refl)

@@ -1,8 +1,8 @@
 -- What a contract sees of tiles, at which nobody stands, before and after they change.
 use Rattle.std.proofs.Common.{◌≡◌, ℕ, zero, suc, ◌+◌, ◌/◌, ◌%◌, ◌<◌, ◌≤◌, List, [], length, map, replicate, false}
-use Rattle.std.proofs.Common.{refl, ap, ⊎_elim, arith, ◌≢◌, ◌-◌, ◌*◌, ◌^◌, Option, slice_set, set, sym, ◌∙◌}
+use Rattle.std.proofs.Common.{refl, ap, ⊎_elim, arith, ◌-◌, ◌*◌, ◌^◌, Option, None, Bool, slice_set, set, sym, ◌∙◌}
 use Rattle.std.specs.List.{All}
-use Rattle.std.proofs.lemmas.Bool.{cases_lt, cases_eq, ne_eqb}
+use Rattle.std.proofs.lemmas.Bool.{cases_lt, ne_eqb}
 use Rattle.std.proofs.lemmas.List.{get_or-replicate, get_or_past, length-map, length-set, get_or-set_same}
 use Rattle.std.proofs.lemmas.List.{get_or-set_other, with_items_is}
 use Rattle.std.proofs.lemmas.List.Elements.{All-from_get_or}
@@ -19,7 +19,7 @@ use Rattle.cm_slots.specs.Tickets.{ticket_of, has_to_go, exchanged}
 use Rattle.cm_slots.specs.Tiles.{slots_of, no_tile, tile_at, tickets_of, queues_in, IsShaped, IsTile, IsQuiet}
 use Rattle.cm_slots.specs.Tiles.{AreEmpty, tile_across, numbers_at, AreTiles, IsChanged, AreWithin}
 use Rattle.cm_slots.specs.declared.ticket.Ticket.{Ticket}
-use Rattle.cm_slots.specs.Queues.{place_of_leaver, stayers_of}
+use Rattle.cm_slots.specs.Queues.{place_of_leaver}
 use Rattle.cm_slots.proofs.Standing.{get_or-zeros, standing_is, stands}
 use Rattle.cm_slots.proofs.Runs.{tiles_of_cube, across_in}
 
@@ -55,13 +55,13 @@ module _ {count : ℕ} {tiles : List Tile} (empty : AreEmpty count tiles) where
       let quiet = empty_quiet t (omega (arith, empty.long)) in
       record {
         shape = empty.shape t no_tile h;
-        queues = λ i l. stands (slots_of (tile_at tiles t) i) [] (quiet i l);
+        queues = λ i l. stands (tile_at tiles t) i [] (quiet i l);
         quiet = λ asleep. quiet;
       })
 
 -- no ticket stands at any chip of a quiet tile
 pub quiet_tickets : (c : ℕ) (tiles : List Tile) → IsQuiet (tile_at tiles (c / 64)) → tickets_of tiles c ≡ []
-quiet_tickets c tiles quiet = ap (map ticket_of) (standing_is _ [] (quiet (c % 64) (omega arith)))
+quiet_tickets c tiles quiet = ap (map ticket_of) (standing_is (tile_at tiles (c / 64)) (c % 64) [] (quiet (c % 64) (omega arith)))
 
 pub empty_queues : (chips : ℕ) (tiles : List Tile) → AreEmpty ((chips + 63) / 64) tiles
     → queues_in chips tiles ≡ each_from 0 chips (λ c. [])
@@ -69,21 +69,17 @@ empty_queues chips tiles empty = same_each_below [] chips (tickets_of tiles) (λ
     (λ c h. quiet_tickets c tiles (empty_quiet empty (c / 64) (omega arith)))
 
 -- what is read of a list that a function makes
-pub ruleset seen = (length-each_from, get_or-each_below)
+pub ruleset seen = (length-each_from, get_or-each_below, with_items_is)
 
 -- what was lent as a slice has what was written to the slice
 pub items-lent : {X : Type 0} (row : Vec X) (now : List X) → length now ≡ length row.items
     → (with_items row now).items ≡ now
 items-lent row now same = with_items_is row now (same ∙ sym row.ok.0)
 
--- nobody stays or comes where nobody stood
-pub stayers-nobody : (room d : ℕ) → 0 < room → stayers_of (has_to_go d) room [] ≡ []
+-- nobody leaves where nobody stands
+pub place_of_leaver-nobody : {X : Type 0} (test : X → Bool) (room : ℕ) → 0 < room → place_of_leaver test room [] ≡ None
 unfolding place_of_leaver
-stayers-nobody room d some = rw (ne_eqb 0 room (λ e. absurd (omega (arith, e)))) refl
-
-exchanged-nobody : (room d : ℕ) → 0 < room → exchanged room d [] [] ≡ []
-unfolding place_of_leaver
-exchanged-nobody room d some = rw (ne_eqb 0 room (λ e. absurd (omega (arith, e)))) refl
+place_of_leaver-nobody test room some = rw (ne_eqb 0 room (λ e. absurd (omega (arith, e)))) refl
 
 module _ {chips : ℕ} {tiles : List Tile} {leaving : List (Option (List ℕ))} {q : List (List Ticket)}
     (are : AreTiles chips tiles leaving) (view : queues_in chips tiles ≡ q) where
@@ -135,11 +131,7 @@ module _ {chips : ℕ} {tiles : List Tile} {leaving : List (Option (List ℕ))} 
         → queues_in chips new ≡ slice_set q chip tickets
     changed_queues chip tickets inside step = sym (is_each [] chips (tickets_of new) (set q chip tickets)
         (length-set q chip tickets ∙ as_many)
-        (λ c h. ⊎_elim
-        (λ (e : c ≡ chip). rw e (get_or-set_same q chip tickets [] (omega (arith, as_many)) ∙ sym step.here))
-        (λ (e : c ≢ chip). get_or-set_other q chip c tickets [] e ∙ sym (ticket_list c h)
-        ∙ sym (step.others c (omega (arith, are.count)) e))
-        (cases_eq c chip)))
+        (λ c h. grind (arith, get_or-set_same, get_or-set_other, step.here, step.others c, ticket_list c, as_many)))
 
     -- a dimension of a cube
     module _ {dims d : ℕ} (count : length q ≡ 2 ^ dims) (below : d < dims) (room : ℕ) (each : (c : ℕ)
@@ -164,7 +156,11 @@ module _ {chips : ℕ} {tiles : List Tile} {leaving : List (Option (List ℕ))} 
           omega (arith, xor_shr c (2 ^ d) 6, across_inside count below (c / 64) h) in
           let past_too : chips ≤ other =
           grind (arith, xor_twice c (2 ^ d), as_many, across_below dims d other below) in
-          each c h ∙ rw (are.past c past h, are.past other past_too there) (exchanged-nobody room d some)
+          each c h ∙ rw (
+            are.past c past h,
+            are.past other past_too there,
+            place_of_leaver-nobody (has_to_go d) room some,
+          ) refl
 
 pub within_view : (chips : ℕ) (tiles : List Tile) (room : ℕ) → chips ≤ length tiles * 64 → AreWithin room tiles
     → All (λ ts. length ts ≤ room) (queues_in chips tiles)
@@ -179,27 +175,17 @@ within_view chips tiles room enough few k d h =
 
 -- ---- tiles that were lent
 
--- of tiles that were lent, what a chip of them is
-pub record IsLent (chip : ℕ) (q : List (List Ticket)) (lent : List Tile) : Type 0 where
-  pub inside : chip / 64 < length lent
-  pub whole : All IsTile lent
-  pub tickets : tickets_of lent chip ≡ list_at q chip
-
 module _ {chips chip : ℕ} {leaving : List (Option (List ℕ))} {q : List (List Ticket)} {lent : List Tile} (v : Vec Tile)
     (are : AreTiles chips v.items leaving) (view : queues_in chips v.items ≡ q) (is : lent ≡ v.items)
     (inside : chip < length q) where
-  pub lent_chip : IsLent chip q lent
-  lent_chip =
-      let low : chip < chips = omega (arith, as_many are view) in
-      rw is (record { inside = omega (arith, are.count); whole = are.whole; tickets = ticket_list are view chip low })
-
   pub lent_changed : (now : List Tile) (f : List Ticket → List Ticket) → length now ≡ length lent
       → IsChanged chip (f (tickets_of lent chip)) lent now → AreTiles chips (with_items v now).items leaving
       × (queues_in chips (with_items v now).items ≡ slice_set q chip (f (list_at q chip)))
   lent_changed now f long step =
       let many : length now ≡ length v.items = long ∙ ap length is in
       let low : chip < chips = omega (arith, as_many are view) in
-      let changed : IsChanged chip (f (list_at q chip)) v.items now = rw (← lent_chip.tickets, ← is) step in
+      let changed : IsChanged chip (f (list_at q chip)) v.items now =
+      rw (← ticket_list are view chip low) (rw is at step) in
       rw (items-lent v now many) (
         tiles_kept are view now many refl changed.whole
             (λ c past h. changed.others c h (λ e. absurd (omega (arith, e))) ∙ are.past c past h),

@@ -8,14 +8,15 @@ use Rattle.cm_slots.specs.declared.ticket.Ticket.{Ticket}
 use Rattle.cm_slots.specs.declared.tile.Tile.{Tile}
 use Rattle.cm_slots.specs.Tickets.{ticket_of, ticket_in, ticket_going}
 use Rattle.cm_slots.specs.Queues.{stayers_of}
-use Rattle.cm_slots.specs.Slots.{AreRows, is_taken, crosses, comers, leaver_at, slot_in, slot_behind, standing_in, AreSlots}
+use Rattle.cm_slots.specs.Slots.{is_taken, crosses, comers, leaver_at, slot_in, slot_behind, standing_in}
+use Rattle.cm_slots.specs.Slots.{AreRows, AreSlots}
 
 -- the slots of the chip at place i
 abbrev pub slots_of : Tile → ℕ → ℕ → ℕ
 slots_of tile i = slot_in tile.first tile.rest i
 
 -- what stands there
-abbrev pub standing_at : Tile → ℕ → List ℕ
+unfoldable pub standing_at : Tile → ℕ → List ℕ
 standing_at tile i = standing_in (slots_of tile i)
 
 -- of a queue of numbers, with room for so many, who leaves in dimension d arrives across as this one, 0 where nobody

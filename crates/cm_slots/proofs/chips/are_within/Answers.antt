@@ -1,12 +1,12 @@
-use Rattle.std.proofs.Common.{◌≡◌, ◌≢◌, ◌∙◌, sym, ⊎_elim, arith}
-use Rattle.std.proofs.lemmas.Bool.{cases_eq}
+use Rattle.std.proofs.Common.{◌∙◌, sym, arith}
 use Rattle.cm_slots.proofs.chips.are_within.Goals as goal
 
 pub loop-tile-preserved : goal.loop-tile-preserved
-loop-tile-preserved c = λ t i h l.
-    let here = c.loop-tile.tile-index in
-    ⊎_elim (λ (e : t ≡ here). rw e (c.is_within.ensures.within.0 c.if-not-is_within.false i l))
-    (λ (e : t ≢ here). c.loop-tile.invariant t i (omega (arith, e)) l) (cases_eq t here)
+loop-tile-preserved c = λ t i h l. grind (
+  arith,
+  c.is_within.ensures.within.0 c.if-not-is_within.false i,
+  c.loop-tile.invariant t i,
+)
 
 pub returns-then-not-is_within : goal.returns-then-not-is_within
 returns-then-not-is_within c = record {

@@ -17,14 +17,11 @@ loop-chip-preserved-then-not-is_awake c =
 
 pub loop-chip-preserved : goal.loop-chip-preserved
 loop-chip-preserved c =
-    let here = c.loop-chip.chip in
+    let empty = (empty_where c.args.tiles.now c.loop-chip.chip c.loop-chip-test.true c.requires.whole).0
+    (sym c.slot.ensures.value ∙ c.if-slot-eq0.true) in
     record {
       from = omega (arith, c.loop-chip.invariant.from);
-      none = λ k from below inside. ⊎_elim (λ (l : k < here). c.loop-chip.invariant.none k from l inside)
-          (λ (l : here ≤ k). let same : k ≡ here = omega arith in
-          rw same ((empty_where c.args.tiles.now here c.loop-chip-test.true c.requires.whole).0
-          (sym c.slot.ensures.value ∙ c.if-slot-eq0.true)))
-          (cases_lt k here);
+      none = λ k from below inside. grind (arith, c.loop-chip.invariant.none k, empty);
     }
 
 pub returns-else-slot-eq0-clause-occupied : goal.returns-else-slot-eq0-clause-occupied

@@ -1,8 +1,8 @@
-use Rattle.std.proofs.Common.{◌<◌, ℕ, length, sym, ◌∙◌, refl}
+use Rattle.std.proofs.Common.{◌<◌, ℕ, length, refl, arith}
 use Rattle.cm_slots.specs.declared.tile.Tile.{Tile}
 use Rattle.cm_slots.specs.Tiles.{HasTakenIn}
 use Rattle.cm_slots.proofs.Standing.{get_or-zeros}
-use Rattle.cm_slots.proofs.Runs.{one_more_done, one_more_quiet, nobody_left}
+use Rattle.cm_slots.proofs.Runs.{one_more_done, one_more_quiet}
 use Rattle.cm_slots.proofs.departing.close_up.Goals as goal
 use Rattle.cm_slots.proofs.departing.close_up.Goals.{then-is_some, else-is_some}
 
@@ -21,6 +21,6 @@ loop-t-preserved c =
           c.loop-t.invariant)
       | else-is_some w ↦ rw w.tiles-is
           (one_more_quiet c.args.room (λ s i. 0) c.args.tiles.now c.loop-t.tiles t inside c.requires.shape
-          (c.requires.quiet t inside (nobody_left _ (sym c.is_some.ensures ∙ w.if-is_some.false)))
+          (c.requires.quiet t inside (grind arith))
           (λ i h. refl) c.loop-t.invariant)
     ]

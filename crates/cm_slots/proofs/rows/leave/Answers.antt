@@ -11,7 +11,8 @@ loop-k-init c = record {
 }
 
 pub pass_on-requires-clause-wide : goal.pass_on-requires-clause-wide
-pass_on-requires-clause-wide c = c.loop-k.invariant.shape.wide c.loop-k.k [] (omega (arith, c.requires.count, c.loop-k.invariant.shape.tall))
+pass_on-requires-clause-wide c =
+    let shape = c.loop-k.invariant.shape in shape.wide c.loop-k.k [] (omega (arith, c.requires.count, shape.tall))
 
 pub loop-k-preserved : goal.loop-k-preserved
 loop-k-preserved c = record {

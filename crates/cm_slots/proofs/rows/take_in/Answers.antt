@@ -12,7 +12,8 @@ loop-k-init c = record {
 
 pub pass_back-requires-clause-wide : goal.pass_back-requires-clause-wide
 pass_back-requires-clause-wide c =
-    c.loop-k.invariant.shape.wide (c.loop-k.k - 1) [] (omega (arith, c.requires.count, c.loop-k.invariant.shape.tall, c.loop-k-test.true))
+    let shape = c.loop-k.invariant.shape in
+    shape.wide (c.loop-k.k - 1) [] (omega (arith, c.requires.count, shape.tall, c.loop-k-test.true))
 
 pub loop-k-preserved : goal.loop-k-preserved
 loop-k-preserved c =

@@ -1,9 +1,9 @@
-use Rattle.std.proofs.Common.{◌-◌, [], None, length, ap, ◌∙◌, arith}
+use Rattle.std.proofs.Common.{◌-◌, [], None, length, ap, ◌∙◌, refl, arith}
 use Rattle.cm_slots.specs.Queues.{stayers_of}
 use Rattle.cm_slots.specs.Tickets.{has_to_go, ticket_going}
 use Rattle.cm_slots.specs.Tiles.{tickets_of, ticket_leaving}
-use Rattle.cm_slots.proofs.Views.{as_many, tiles_kept, mapped, within_view, within_everywhere, stayers-nobody}
-use Rattle.cm_slots.proofs.Views.{items-lent}
+use Rattle.cm_slots.proofs.Views.{as_many, tiles_kept, mapped, within_view, within_everywhere}
+use Rattle.cm_slots.proofs.Views.{items-lent, place_of_leaver-nobody}
 use Rattle.cm_slots.proofs.slots.Slots.leave.Goals as goal
 
 pub take_out-requires-clause-within : goal.take_out-requires-clause-within
@@ -11,22 +11,10 @@ take_out-requires-clause-within c =
     rw (c.from.ensures, c.deref_mut.ensures.value)
     (within_everywhere c.self.invariant c.self.view_is c.args.room c.requires.within)
 
-pub write_down-requires : goal.write_down-requires
-write_down-requires c =
+pub write_down-requires-clause-leavers : goal.write_down-requires-clause-leavers
+write_down-requires-clause-leavers c =
     let rows = c.take_out.auto.leaving ∙ ap length c.deref_mut-2.ensures.value in
-    let written = c.deref.ensures.value ∙ items-lent c.self.inside.leaving c.take_out.new.leaving rows in
-    record {
-      enough = omega (
-        arith,
-        ap length written,
-        rows,
-        c.self.invariant.rows,
-        c.self.invariant.count,
-        as_many c.self.invariant c.self.view_is,
-        c.requires.count,
-      );
-      leavers = rw written c.take_out.ensures.leavers;
-    }
+    rw (c.deref.ensures.value, items-lent c.self.inside.leaving c.take_out.new.leaving rows) c.take_out.ensures.leavers
 
 pub invariant_of-self : goal.invariant_of-self
 invariant_of-self c =
@@ -36,7 +24,10 @@ invariant_of-self c =
     rw (items-lent c.self.inside.tiles new.tiles long, items-lent c.self.inside.leaving new.leaving rows)
     (tiles_kept c.self.invariant c.self.view_is new.tiles long rows c.take_out.ensures.whole
     (λ k past h. (rw (c.from.ensures, c.deref_mut.ensures.value) at c.take_out.ensures.value) k h
-    ∙ rw (c.self.invariant.past k past h) (stayers-nobody c.args.room c.args.dim c.requires.some)))
+    ∙ rw (
+      c.self.invariant.past k past h,
+      place_of_leaver-nobody (has_to_go c.args.dim) c.args.room c.requires.some,
+    ) refl))
 
 pub returns : goal.returns
 returns c =
