@@ -87,9 +87,6 @@ across_in dims d t h l =
 
 module _ {room d : ℕ} {old left : List Tile} {leaving : List (Option (List ℕ))}
     (gone : HaveLeft room d old left leaving) where
-  pub left_shaped : All IsShaped left
-  left_shaped = All-from_get_or IsShaped left no_tile (λ t h. (gone.each t (omega (arith, gone.long))).shape)
-
   -- who leaves a chip
   pub gone_at : (c : ℕ) → c / 64 < length old → HasGone room d (numbers_at old c) (number_leaving leaving c)
       (slot_behind (tile_at left (c / 64)).rest (c % 64))

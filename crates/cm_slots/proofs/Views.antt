@@ -16,7 +16,7 @@ use Rattle.cm_model.specs.Array.{each_chip, list_at}
 use Rattle.cm_model.proofs.Flips.{across_below, xor_twice}
 use Rattle.cm_slots.specs.declared.tile.Tile.{Tile}
 use Rattle.cm_slots.specs.Tickets.{ticket_of, has_to_go, exchanged}
-use Rattle.cm_slots.specs.Tiles.{slots_of, no_tile, tile_at, tickets_of, queues_in, IsShaped, IsTile, IsQuiet}
+use Rattle.cm_slots.specs.Tiles.{slots_of, no_tile, tile_at, tickets_of, queues_in, IsTile, IsQuiet}
 use Rattle.cm_slots.specs.Tiles.{AreEmpty, tile_across, numbers_at, AreTiles, IsChanged, AreWithin}
 use Rattle.cm_slots.specs.declared.ticket.Ticket.{Ticket}
 use Rattle.cm_slots.specs.Queues.{place_of_leaver}
@@ -37,14 +37,6 @@ new_is_blank i (suc j) =
     (λ (l : 14 ≤ j). rw (get_or_past (replicate 14 blank_row) j [] l) (get_or_past [] i 0 (omega arith)))
     (cases_lt j 14)
 
-pub new_is_shaped : IsShaped new_tile
-new_is_shaped = record {
-  long = refl;
-  tall = refl;
-  wide = All-from_get_or (λ row. length row ≡ 64) (replicate 14 blank_row) []
-      (λ j h. ap length (get_or-replicate 14 j blank_row [] h));
-}
-
 module _ {count : ℕ} {tiles : List Tile} (empty : AreEmpty count tiles) where
   pub empty_quiet : (t : ℕ) → t < count → IsQuiet (tile_at tiles t)
   empty_quiet t h i l =
@@ -61,7 +53,8 @@ module _ {count : ℕ} {tiles : List Tile} (empty : AreEmpty count tiles) where
 
 -- no ticket stands at any chip of a quiet tile
 pub quiet_tickets : (c : ℕ) (tiles : List Tile) → IsQuiet (tile_at tiles (c / 64)) → tickets_of tiles c ≡ []
-quiet_tickets c tiles quiet = ap (map ticket_of) (standing_is (tile_at tiles (c / 64)) (c % 64) [] (quiet (c % 64) (omega arith)))
+quiet_tickets c tiles quiet =
+    ap (map ticket_of) (standing_is (tile_at tiles (c / 64)) (c % 64) [] (quiet (c % 64) (omega arith)))
 
 pub empty_queues : (chips : ℕ) (tiles : List Tile) → AreEmpty ((chips + 63) / 64) tiles
     → queues_in chips tiles ≡ each_from 0 chips (λ c. [])

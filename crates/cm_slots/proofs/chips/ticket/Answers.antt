@@ -1,10 +1,6 @@
 use Rattle.std.proofs.Common.{◌∙◌}
-use Rattle.cm_slots.proofs.Changing.{taken_at, ticket_at, none_past}
+use Rattle.cm_slots.proofs.Changing.{taken_at, ticket_at}
 use Rattle.cm_slots.proofs.chips.ticket.Goals as goal
-
-pub returns-then-place-ge-ROOM-clause-value : goal.returns-then-place-ge-ROOM-clause-value
-returns-then-place-ge-ROOM-clause-value c =
-    none_past c.args.tiles.now c.args.chip c.requires.chip c.requires.whole c.args.place c.if-place-ge-ROOM.true
 
 pub ticket_in-requires : goal.ticket_in-requires
 ticket_in-requires c = record {

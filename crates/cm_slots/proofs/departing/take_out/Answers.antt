@@ -1,17 +1,10 @@
-use Rattle.std.proofs.Common.{◌∙◌, sym, refl}
-use Rattle.cm_slots.proofs.Runs.{left_shaped, leavers_are, gone_at, whole_after, closed_up, space_after}
+use Rattle.std.proofs.Common.{refl}
+use Rattle.cm_slots.proofs.Runs.{leavers_are, gone_at, whole_after, closed_up, space_after}
 use Rattle.cm_slots.proofs.departing.take_out.Goals as goal
 
-pub close_up-requires : goal.close_up-requires
-close_up-requires c =
-    let gone = c.leave.ensures.value in
-    record {
-      some = c.requires.some;
-      most = c.requires.most;
-      rows = gone.rows ∙ sym gone.long;
-      shape = left_shaped gone;
-      quiet = rw gone.long (λ t h. (gone.each t h).quiet);
-    }
+pub close_up-requires-clause-quiet : goal.close_up-requires-clause-quiet
+close_up-requires-clause-quiet c =
+    let gone = c.leave.ensures.value in rw gone.long (λ t h. (gone.each t h).quiet)
 
 pub returns : goal.returns
 returns c =

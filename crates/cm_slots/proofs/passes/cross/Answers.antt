@@ -1,22 +1,15 @@
-use Rattle.std.proofs.Common.{◌^◌, ◌/◌, ◌∙◌, sym, refl}
+use Rattle.std.proofs.Common.{◌^◌, ◌/◌, refl}
 use Rattle.std.proofs.lemmas.Nat.{xor_shr, xor_mod}
-use Rattle.cm_slots.proofs.Runs.{left_shaped, leavers_are, arriving_taken, whole_after, chip_after, within_after}
+use Rattle.cm_slots.proofs.Runs.{arriving_taken, whole_after, chip_after, within_after}
 use Rattle.cm_slots.proofs.passes.cross.Goals as goal
 
-pub take_in-requires : goal.take_in-requires
-take_in-requires c =
-    let gone = c.leave.ensures.value in
-    record {
-      dimension = c.requires.dimension;
-      some = c.requires.some;
-      most = c.requires.most;
-      rows = gone.rows ∙ sym gone.long;
-      across = rw gone.long c.requires.across;
-      shape = left_shaped gone;
-      long = (leavers_are gone).long;
-      quiet = rw gone.long (λ t h. (gone.each t h).quiet);
-      taken = rw gone.long (arriving_taken gone c.requires.across);
-    }
+pub take_in-requires-clause-quiet : goal.take_in-requires-clause-quiet
+take_in-requires-clause-quiet c =
+    let gone = c.leave.ensures.value in rw gone.long (λ t h. (gone.each t h).quiet)
+
+pub take_in-requires-clause-taken : goal.take_in-requires-clause-taken
+take_in-requires-clause-taken c =
+    let gone = c.leave.ensures.value in rw gone.long (arriving_taken gone c.requires.across)
 
 pub returns : goal.returns
 returns c =

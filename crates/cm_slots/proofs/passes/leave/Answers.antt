@@ -4,10 +4,6 @@ use Rattle.cm_slots.specs.Tiles.{leavers_at, HasLeft}
 use Rattle.cm_slots.proofs.Runs.{one_more_done}
 use Rattle.cm_slots.proofs.passes.leave.Goals as goal
 
-pub leave-requires-clause-within : goal.leave-requires-clause-within
-leave-requires-clause-within c = rw (c.loop-t.invariant.ahead c.loop-t.t (omega arith))
-    (λ i h. c.requires.within c.loop-t.t i (omega (arith, c.loop-t-test.true, c.loop-t.invariant.long)) h)
-
 pub loop-t-preserved : goal.loop-t-preserved
 loop-t-preserved c =
     let t = c.loop-t.t in

@@ -1,4 +1,4 @@
-use Rattle.std.proofs.Common.{◌≡◌, [], set, add-one, rules, arith}
+use Rattle.std.proofs.Common.{◌≡◌, set, add-one, rules, arith}
 use Rattle.std.proofs.lemmas.Grind.{common_steps}
 use Rattle.cm_slots.specs.Slots.{slot_in, slot_behind}
 use Rattle.cm_slots.proofs.Carrying.{none_carried, one_more_carried}
@@ -10,17 +10,9 @@ loop-k-init c = record {
   value = λ i h. none_carried c.args.dim (slot_in c.args.first.now c.args.rest.now i);
 }
 
-pub pass_on-requires-clause-wide : goal.pass_on-requires-clause-wide
-pass_on-requires-clause-wide c =
-    let shape = c.loop-k.invariant.shape in shape.wide c.loop-k.k [] (omega (arith, c.requires.count, shape.tall))
-
 pub loop-k-preserved : goal.loop-k-preserved
 loop-k-preserved c = record {
-  shape = record {
-    long = c.pass_on.ensures.long;
-    tall = grind (arith, common_steps, c.loop-k.invariant.shape);
-    wide = search (rules, common_steps, c.loop-k.invariant.shape);
-  };
+  shape = search (rules, common_steps, c.loop-k.invariant.shape);
   value = λ i h. rw add-one (one_more_carried c.args.dim c.loop-k.k (slot_in c.args.first.now c.args.rest.now i)
       (slot_behind c.loop-k.rest i) (slot_behind (set c.loop-k.rest c.loop-k.k c.pass_on.new.row) i) _ _
       (c.pass_on.ensures.carried i h) (grind (arith, common_steps, c.pass_on.ensures.row i h))

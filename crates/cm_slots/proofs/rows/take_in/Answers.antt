@@ -1,30 +1,15 @@
-use Rattle.std.proofs.Common.{◌≡◌, ◌-◌, suc, [], set, rules, arith}
+use Rattle.std.proofs.Common.{◌≡◌, ◌-◌, suc, set, rules, arith}
 use Rattle.std.proofs.lemmas.Grind.{common_steps}
 use Rattle.cm_slots.specs.Slots.{slot_in, slot_behind}
-use Rattle.cm_slots.proofs.Carrying.{none_brought, one_more_brought, has_come}
+use Rattle.cm_slots.proofs.Carrying.{one_more_brought, has_come}
 use Rattle.cm_slots.proofs.rows.take_in.Goals as goal
-
-pub loop-k-init : goal.loop-k-init
-loop-k-init c = record {
-  shape = c.requires.shape;
-  value = λ i xs h few are. none_brought c.args.count _ xs (slot_behind c.args.rest.now i) few are;
-}
-
-pub pass_back-requires-clause-wide : goal.pass_back-requires-clause-wide
-pass_back-requires-clause-wide c =
-    let shape = c.loop-k.invariant.shape in
-    shape.wide (c.loop-k.k - 1) [] (omega (arith, c.requires.count, shape.tall, c.loop-k-test.true))
 
 pub loop-k-preserved : goal.loop-k-preserved
 loop-k-preserved c =
     let k = c.loop-k.k in
     let last : k ≡ suc (k - 1) = omega (arith, c.loop-k-test.true) in
     record {
-      shape = record {
-        long = c.pass_back.ensures.long;
-        tall = grind (arith, common_steps, c.loop-k.invariant.shape);
-        wide = search (rules, common_steps, c.loop-k.invariant.shape);
-      };
+      shape = search (rules, common_steps, c.loop-k.invariant.shape);
       value = λ i xs h few are. one_more_brought (k - 1) _ xs (slot_behind c.args.rest.now i)
           (slot_behind c.loop-k.rest i) (slot_behind (set c.loop-k.rest (k - 1) c.pass_back.new.row) i) _ _ are
           (c.pass_back.ensures.carried i h) (grind (arith, common_steps, c.pass_back.ensures.row i h))

@@ -1,25 +1,7 @@
 use Rattle.std.proofs.Common.{◌≡◌, sym, ◌∙◌, arith}
 use Rattle.std.proofs.lemmas.List.{get_or_past}
-use Rattle.cm_slots.specs.Tiles.{slots_of}
-use Rattle.cm_slots.proofs.Changing.{one_more_closed, taken_out}
+use Rattle.cm_slots.proofs.Changing.{taken_out}
 use Rattle.cm_slots.proofs.tile.Tile.remove.Goals as goal
-
-pub overflow_step-later : goal.overflow_step-later
-overflow_step-later c =
-    let few = (c.requires.whole.queues c.args.place c.requires.place).fits in
-    record { fits = omega (arith, few, c.requires.there) }
-
-pub loop-later-preserved : goal.loop-later-preserved
-loop-later-preserved c =
-    let was = c.loop-later.invariant in
-    let put = c.put.ensures.value in
-    record {
-      shape = put.shape;
-      closing = one_more_closed c.args.slot c.loop-later.later (slots_of c.args.self.now c.args.place)
-          (slots_of c.loop-later.self c.args.place) (slots_of c.put.new.self c.args.place)
-          (omega (arith, c.loop-later.auto.later)) (put.here ∙ c.slot-next.ensures.value) put.same was.closing;
-      others = λ i j e. put.others i j e ∙ was.others i j e;
-    }
 
 pub returns-then-next-eq0 : goal.returns-then-next-eq0
 returns-then-next-eq0 c =

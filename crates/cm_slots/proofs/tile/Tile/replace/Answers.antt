@@ -1,10 +1,5 @@
-use Rattle.std.proofs.Common.{arith}
 use Rattle.cm_slots.proofs.Changing.{replaced, changed}
 use Rattle.cm_slots.proofs.tile.Tile.replace.Goals as goal
-
-pub put-requires-clause-slot : goal.put-requires-clause-slot
-put-requires-clause-slot c =
-    omega (arith, (c.requires.whole.queues c.args.place c.requires.place).fits, c.requires.there)
 
 pub returns : goal.returns
 returns c =
