@@ -1,13 +1,6 @@
-pub mod Lanes
 pub mod Carrying
-pub mod Standing
-pub mod Leaving
 pub mod Numbers
-pub mod Tiles
-pub mod Runs
-pub mod Departures
-pub mod Cubes
-pub mod Empty
+pub mod Standing
 pub mod Changing
-pub mod Single
-pub mod Reaching
+pub mod Runs
+pub mod Views

@@ -1,146 +1,138 @@
--- What stands in a chip's slots: it is one list, and who comes is behind it.
-use Rattle.std.proofs.Common.{◌≡◌, ◌≢◌, ℕ, zero, suc, ◌+◌, ◌-◌, ◌<◌, ◌≤◌, ◌==◌, ◌++◌, true, false, List}
-use Rattle.std.proofs.Common.{[], ◌∷◌, length, get_or, replicate, refl, sym, ◌∙◌, ap, subst, ⊎_elim, arith}
-use Rattle.std.specs.List.{filter}
-use Rattle.std.proofs.lemmas.Bool.{cases_eq, cases_lt, eq-eqb, ne_eqb}
-use Rattle.std.proofs.lemmas.List.{length-append, length-replicate, append-nil, get_or_past, get_or-replicate}
-use Rattle.std.proofs.lemmas.List.{get_or_append_left, get_or_push}
-use Rattle.std.proofs.lemmas.List.Elements.{filter-append}
-use Rattle.std.proofs.Math.Seq.{get_or-append_right}
-use Rattle.cm_model.specs.Each.{each_from}
+-- What stands in slots is one list, and who leaves them is who leaves that list.
+use Rattle.std.proofs.Common.{◌≡◌, ◌≢◌, ℕ, zero, suc, ◌+◌, ◌-◌, ◌<◌, ◌≤◌, ◌==◌, ◌↔◌, Bool, true, false}
+use Rattle.std.proofs.Common.{List, [], ◌++◌, length, get_or, replicate, Some, None, refl, sym, ◌∙◌, ap}
+use Rattle.std.proofs.Common.{⊎_elim, arith}
+use Rattle.std.specs.List.{position_or_len}
+use Rattle.std.proofs.lemmas.Bool.{cases_eq, cases_lt, lt-ltb, le-ltb, eq-eqb, ne_eqb}
+use Rattle.std.proofs.lemmas.List.{get_or_past, get_or-replicate, length-replicate, nil_from_length}
+use Rattle.std.proofs.lemmas.List.Sums.{fails_before_first, passes_at_first}
+use Rattle.std.proofs.lemmas.List.Edits.{length-remove, get_or-remove_below, get_or-remove_above}
+use Rattle.std.proofs.lemmas.Option.{slice_get-get_or}
+use Rattle.cm_model.proofs.Bits.{bit-zero}
 use Rattle.cm_model.proofs.Each.{is_each}
-use Rattle.cm_slots.specs.Slots.{is_taken, comers, AreSlots, IsFilled, IsBehind, standing_in}
+use Rattle.cm_slots.specs.Queues.{place_of_leaver, leaver_of}
+use Rattle.cm_slots.specs.Slots.{crosses, is_taken, slot_across, comers, first_of, slot_behind, leaver_in, AreSlots}
+use Rattle.cm_slots.specs.Slots.{IsCarried}
+use Rattle.cm_slots.specs.declared.tile.Tile.{Tile}
+use Rattle.cm_slots.specs.Tiles.{slots_of, standing_at, IsTile, HasGone}
+use Rattle.cm_slots.proofs.Carrying.{first_of-is}
+use Rattle.cm_slots.proofs.Numbers.{going_is, going_taken}
 
--- at a slot that is taken stands something
-pub taken_some : (slot : ℕ) → is_taken slot ≡ true → slot ≢ 0
-taken_some slot taken none = let blank : is_taken slot ≡ false = ap is_taken none in cc (taken, blank)
+pub get_or-zeros : (n i : ℕ) → get_or (replicate {A = ℕ} n 0) i 0 ≡ 0
+get_or-zeros n i = grind (arith, get_or-replicate, get_or_past, length-replicate)
 
 -- ---- one list
 
-filter_all : (xs : List ℕ) → ((j : ℕ) → j < length xs → is_taken (get_or xs j 0) ≡ true) → filter is_taken xs ≡ xs
-filter_all [] all = refl
-filter_all (x ∷ xs) all =
-    let first : is_taken x ≡ true = all 0 (omega arith) in
-    rw first (ap (λ (ys : List ℕ). x ∷ ys) (filter_all xs (λ j h. all (suc j) (omega arith))))
+ends_first : (slots : ℕ → ℕ) (xs : List ℕ) → AreSlots slots xs → first_of (λ j. slots j == 0) 15 ≡ length xs
+ends_first slots xs are =
+    first_of-is (λ j. slots j == 0) 15 (length xs) are.fits (grind (arith, are.taken)) (grind (arith, get_or_past))
 
--- so many zeros
-abbrev pub zeros : ℕ → List ℕ
-zeros n = replicate n 0
+pub standing_is : (tile : Tile) (i : ℕ) (xs : List ℕ) → AreSlots (slots_of tile i) xs → standing_at tile i ≡ xs
+unfolding standing_at
+standing_is tile i xs are =
+    let slots : ℕ → ℕ = slots_of tile i in
+    let long : first_of (λ j. slots j == 0) 15 ≡ length xs = ends_first slots xs are in
+    rw long (sym (is_each 0 (length xs) slots xs refl (λ j h. sym (are.each j))))
 
-length-zeros : (n : ℕ) → length (zeros n) ≡ n
-length-zeros n = length-replicate {A = ℕ} n 0
+pub stands : (tile : Tile) (i : ℕ) (xs : List ℕ) → AreSlots (slots_of tile i) xs
+    → AreSlots (slots_of tile i) (standing_at tile i)
+stands tile i xs are = rw (standing_is tile i xs are) are
 
-filter_none : (n : ℕ) → filter is_taken (zeros n) ≡ []
-filter_none zero = refl
-filter_none (suc n) = filter_none n
+-- a slot is 0 where no more stand in front of it
+pub ends_at : (at : ℕ) (slots : ℕ → ℕ) (xs : List ℕ) → AreSlots slots xs → slots at ≡ 0 ↔ length xs ≤ at
+ends_at at slots xs are = (grind (arith, are.taken at), grind (arith, get_or_past))
 
--- behind the last there are only zeros
-pub get_or-zeros : (n i : ℕ) → get_or (zeros n) i 0 ≡ 0
-get_or-zeros n i =
-    ⊎_elim (λ (l : i < n). get_or-replicate n i 0 0 l)
-    (λ (l : n ≤ i). get_or_past (zeros n) i 0 (omega (arith, length-zeros n))) (cases_lt i n)
+pub nobody : (slots : ℕ → ℕ) (xs : List ℕ) → AreSlots slots xs → slots 0 ≡ 0 → xs ≡ []
+nobody slots xs are blank = nil_from_length xs (omega (arith, (ends_at 0 slots xs are).0 blank))
 
-get_or-before_zeros : (xs : List ℕ) (n i : ℕ) → get_or (xs ++ zeros n) i 0 ≡ get_or xs i 0
-get_or-before_zeros xs n i =
-    ⊎_elim (λ (l : i < length xs). get_or_append_left xs (zeros n) 0 i l)
-    (λ (l : length xs ≤ i). get_or-append_right xs (zeros n) i 0 l ∙ get_or-zeros n (i - length xs)
-    ∙ sym (get_or_past xs i 0 l)) (cases_lt i (length xs))
+-- where a row is 0 in each lane, no more than those before it stand anywhere
+pub row_ends : (at : ℕ) (tile : Tile) → IsTile tile
+    → ((i : ℕ) → i < 64 → slots_of tile i at ≡ 0) ↔ ((i : ℕ) → i < 64 → length (standing_at tile i) ≤ at)
+row_ends at tile whole = (
+  λ blank i h. (ends_at at (slots_of tile i) (standing_at tile i) (whole.queues i h)).0 (blank i h),
+  λ few i h. (ends_at at (slots_of tile i) (standing_at tile i) (whole.queues i h)).1 (few i h),
+)
 
-pub standing_is : (count : ℕ) (slots : ℕ → ℕ) (xs : List ℕ) → AreSlots count slots xs → standing_in count slots ≡ xs
-standing_is count slots xs are =
-    let blank : List ℕ = zeros (count - length xs) in
-    let listed : xs ++ blank ≡ each_from 0 count slots =
-    is_each 0 count slots (xs ++ blank)
-    (length-append xs blank ∙ omega (arith, length-zeros (count - length xs), are.fits))
-    (λ i h. get_or-before_zeros xs (count - length xs) i ∙ sym (are.each i h)) in
-    ap (filter is_taken) (sym listed) ∙ filter-append is_taken xs blank
-    ∙ rw (filter_all xs are.taken, filter_none (count - length xs)) (append-nil xs)
+-- nobody comes where nobody stands
+pub nobody_comes : (slots : ℕ → ℕ) (xs : List ℕ) (comes : ℕ) → AreSlots (λ j. slots (suc j)) xs → slots 0 ≡ 0
+    → slots 1 ≡ 0 → comes ≡ 0 → AreSlots slots (xs ++ comers comes)
+nobody_comes slots xs comes are first second none =
+    let empty : xs ≡ [] = nobody (λ j. slots (suc j)) xs are second in
+    rw (empty, none)
+    (record { fits = omega arith; each = blank (rw empty at are); taken = λ j h. absurd (omega arith) })
+  where
+    blank : AreSlots (λ j. slots (suc j)) [] → (j : ℕ) → slots j ≡ 0
+    blank behind zero = first
+    blank behind (suc j) = behind.each j
 
--- where the first slot is 0 nobody stands
-pub nobody : (count : ℕ) (slots : ℕ → ℕ) (xs : List ℕ) → AreSlots count slots xs → (0 < count → slots 0 ≡ 0) → xs ≡ []
-nobody count slots [] are blank = refl
-nobody count slots (x ∷ xs) are blank =
-    let none : x ≡ 0 = sym (are.each 0 (omega (arith, are.fits))) ∙ blank (omega (arith, are.fits)) in
-    absurd (taken_some x (are.taken 0 (omega arith)) none)
+-- ---- who leaves
 
--- the same slots hold the same
-pub same_slots : (count : ℕ) (slots others : ℕ → ℕ) (xs : List ℕ) → ((j : ℕ) → j < count → others j ≡ slots j)
-    → AreSlots count slots xs → AreSlots count others xs
-same_slots count slots others xs same are =
-    record { fits = are.fits; each = λ j h. same j h ∙ are.each j h; taken = are.taken }
+-- slots of which so many are looked at: all for which there is room, or more than are taken
+module _ (d room reach : ℕ) (slots : ℕ → ℕ) (xs : List ℕ) (are : AreSlots slots xs) (some : 0 < reach)
+    (less : reach ≤ room) (fits : length xs ≤ reach) (full : length xs ≡ reach → reach ≡ room) (here leaver : ℕ)
+    (left : ℕ → ℕ) (carried : IsCarried (leaver_in d (reach - 1) slots) slots here left)
+    (is : leaver ≡ slot_across d here) where
+  taken : here ≢ 0 → is_taken here ≡ true
+  taken = grind (arith, get_or_past, are.taken (leaver_in d (reach - 1) slots))
 
--- the same stands in fewer slots, if it fits
-pub narrower : (room count : ℕ) (slots : ℕ → ℕ) (xs : List ℕ) → room ≤ count → length xs ≤ room
-    → AreSlots count slots xs → AreSlots room slots xs
-narrower room count slots xs less fits are =
-    record { fits = fits; each = λ j h. are.each j (omega (arith, less)); taken = are.taken }
+  somebody_goes : leaver_in d (reach - 1) slots < length xs
+      → place_of_leaver (crosses d) room xs ≡ Some (leaver_in d (reach - 1) slots) → HasGone room d xs leaver left
+  somebody_goes there who =
+      let p : ℕ = leaver_in d (reach - 1) slots in
+      let some : here ≢ 0 = grind (arith, are.taken p) in
+      let found : leaver_of (crosses d) room xs ≡ Some here =
+      rw who (slice_get-get_or xs p 0 there ∙ ap Some (sym (carried.here ∙ are.each p))) in
+      record {
+        going = rw is (going_is d room xs here taken (rw (found, ne_eqb here 0 some) refl));
+        taken = rw is (going_taken d here taken);
+        few = rw who (grind (arith, length-remove));
+        stay = rw who (grind (arith, length-remove, get_or-remove_below, get_or-remove_above));
+      }
 
--- and in more, if the others are 0
-pub wider : (room count : ℕ) (slots : ℕ → ℕ) (xs : List ℕ) → room ≤ count
-    → ((j : ℕ) → room ≤ j → j < count → slots j ≡ 0) → AreSlots room slots xs → AreSlots count slots xs
-wider room count slots xs more blank are = record {
-  fits = omega (arith, are.fits);
-  each = λ j h. ⊎_elim (λ (l : j < room). are.each j l)
-      (λ (l : room ≤ j). blank j l h ∙ sym (get_or_past xs j 0 (omega (arith, are.fits)))) (cases_lt j room);
-  taken = are.taken;
-}
+  all_stay : length xs ≤ leaver_in d (reach - 1) slots → length xs < room
+      → place_of_leaver (crosses d) room xs ≡ None → HasGone room d xs leaver left
+  all_stay past few who =
+      let none : here ≡ 0 = grind (arith, get_or_past) in
+      record {
+        going = rw is (going_is d room xs here taken (rw (who, none) refl));
+        taken = rw is (going_taken d here taken);
+        few = rw who few;
+        stay = rw who (grind (arith, get_or_past));
+      }
 
--- where something stands in a slot, that is taken
-pub standing_taken : (count : ℕ) (slots : ℕ → ℕ) (xs : List ℕ) (j : ℕ) → j < count → slots j ≢ 0
-    → AreSlots count slots xs → is_taken (slots j) ≡ true
-standing_taken count slots xs j h some are =
-    ⊎_elim (λ (l : j < length xs). ap is_taken (are.each j h) ∙ are.taken j l)
-    (λ (l : length xs ≤ j). absurd (some (are.each j h ∙ get_or_past xs j 0 l))) (cases_lt j (length xs))
+  -- who leaves as it arrives across, and who stays
+  pub has_gone : HasGone room d xs leaver left
+  unfolding place_of_leaver
+  has_gone =
+      let test : ℕ → Bool = λ j. crosses d (slots j) in
+      let q : ℕ = position_or_len (crosses d) xs in
+      let fails : (j : ℕ) → j < q → test j ≡ false = λ j h. rw (are.each j) (fails_before_first (crosses d) xs j 0 h) in
+      ⊎_elim
+      (λ (l : q < length xs).
+      let at : leaver_in d (reach - 1) slots ≡ q = first_of-is test (reach - 1) q (omega arith) fails
+      (λ h. rw (are.each q) (passes_at_first (crosses d) xs 0 l)) in
+      somebody_goes (omega (arith, at)) (rw (lt-ltb q (length xs) l) (ap Some (sym at))))
+      (λ (l : length xs ≤ q).
+      let at : leaver_in d (reach - 1) slots ≡ reach - 1 = first_of-is test (reach - 1) (reach - 1) (omega arith)
+      (λ j h. ⊎_elim (λ (m : j < length xs). fails j (omega arith))
+      (λ (m : length xs ≤ j). rw (are.each j, get_or_past xs j 0 m) (bit-zero (16 + d))) (cases_lt j (length xs)))
+      (λ h. absurd (omega arith)) in
+      ⊎_elim
+      (λ (e : length xs ≡ room). somebody_goes (omega (arith, at))
+      (rw (le-ltb q (length xs) l, eq-eqb (length xs) room e) (ap Some (omega (arith, at)))))
+      (λ (e : length xs ≢ room). all_stay (grind arith) (omega (arith, e))
+      (rw (le-ltb q (length xs) l, ne_eqb (length xs) room e) refl))
+      (cases_eq (length xs) room))
+      (cases_lt q (length xs))
 
--- ---- who comes
-
-pub are_filled : (count : ℕ) (slots : ℕ → ℕ) (xs : List ℕ) → AreSlots count slots xs → IsFilled count (length xs) slots
-are_filled count slots xs are = record {
-  within = are.fits;
-  some = λ j h e. taken_some (get_or xs j 0) (are.taken j h) (sym (are.each j (omega (arith, are.fits))) ∙ e);
-  none = λ j h l. are.each j l ∙ get_or_past xs j 0 h;
-}
-
-nobody_came : (count : ℕ) (old new : ℕ → ℕ) (xs : List ℕ) → AreSlots count old xs
-    → IsBehind count (length xs) 0 old new → AreSlots (suc count) new xs
-nobody_came count old new xs are behind = record {
-  fits = omega (arith, are.fits);
-  each = λ j h. ⊎_elim (λ (l : j < length xs). behind.earlier j l ∙ are.each j (omega (arith, are.fits)))
-      (λ (l : length xs ≤ j). ⊎_elim
-      (λ (e : j ≡ length xs). rw e (behind.there ∙ sym (get_or_past xs (length xs) 0 (omega arith))))
-      (λ (e : j ≢ length xs). behind.none j (omega (arith, e)) (omega arith) ∙ sym (get_or_past xs j 0 l))
-      (cases_eq j (length xs))) (cases_lt j (length xs));
-  taken = are.taken;
-}
-
-one_came : (count x : ℕ) (old new : ℕ → ℕ) (xs : List ℕ) → is_taken x ≡ true → AreSlots count old xs
-    → IsBehind count (length xs) x old new → AreSlots (suc count) new (xs ++ x ∷ [])
-one_came count x old new xs taken are behind =
-    let long : length (xs ++ x ∷ []) ≡ length xs + 1 = length-append xs (x ∷ []) in
-    let last : get_or (xs ++ x ∷ []) (length xs) 0 ≡ x = get_or_push xs x 0 (length xs) refl in
-    record {
-      fits = omega (arith, are.fits, long);
-      each = λ j h. ⊎_elim (λ (l : j < length xs). behind.earlier j l ∙ are.each j (omega (arith, are.fits))
-          ∙ sym (get_or_append_left xs (x ∷ []) 0 j l))
-          (λ (l : length xs ≤ j). ⊎_elim
-          (λ (e : j ≡ length xs). rw e (behind.there ∙ sym last))
-          (λ (e : j ≢ length xs). behind.none j (omega (arith, e)) (omega arith)
-          ∙ sym (get_or_past (xs ++ x ∷ []) j 0 (omega (arith, e, long))))
-          (cases_eq j (length xs))) (cases_lt j (length xs));
-      taken = λ j h. ⊎_elim
-          (λ (l : j < length xs). ap is_taken (get_or_append_left xs (x ∷ []) 0 j l) ∙ are.taken j l)
-          (λ (l : length xs ≤ j). let e : j ≡ length xs = omega (arith, long) in
-          rw e (ap is_taken last ∙ taken)) (cases_lt j (length xs));
-    }
-
--- who stood in the slots, and behind them who comes
-pub came : (count x : ℕ) (old new : ℕ → ℕ) (xs : List ℕ) → (x ≢ 0 → is_taken x ≡ true) → AreSlots count old xs
-    → IsBehind count (length xs) x old new → AreSlots (suc count) new (xs ++ comers x)
-came count x old new xs taken are behind =
-    ⊎_elim
-    (λ (e : x ≡ 0). let none : (x == 0) ≡ true = eq-eqb x 0 e in
-    rw (none, append-nil xs)
-    (nobody_came count old new xs are (subst (λ (y : ℕ). IsBehind count (length xs) y old new) e behind)))
-    (λ (e : x ≢ 0). let some : (x == 0) ≡ false = ne_eqb x 0 e in
-    rw some (one_came count x old new xs (taken e) are behind))
-    (cases_eq x 0)
+-- nobody leaves where nobody stands
+pub nobody_goes : (d room : ℕ) (tile : Tile) (i : ℕ) → AreSlots (slots_of tile i) [] → 0 < room
+    → HasGone room d (standing_at tile i) 0 (slot_behind tile.rest i)
+nobody_goes d room tile i are some = rw (standing_is tile i [] are)
+    (has_gone d room room (slots_of tile i) [] are some (omega arith) (omega arith) (λ e. refl) 0 0
+    (slot_behind tile.rest i)
+    (record {
+      here = sym (are.each (leaver_in d (room - 1) (slots_of tile i)));
+      earlier = λ j h. are.each (suc j) ∙ sym (are.each j);
+      later = λ j h. refl;
+    }) refl)

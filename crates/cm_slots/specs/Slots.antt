@@ -2,7 +2,7 @@
 use Rattle.std.specs.Prelude.{ℕ, zero, suc, ◌+◌, ◌^◌, ◌<◌, ◌≤◌, ◌≡◌, ◌≢◌, ◌==◌, ◌%◌, true, false, Bool}
 use Rattle.std.specs.Prelude.{List, [], ◌∷◌, length, bit_xor, Option, Some, None}
 use Rattle.std.specs.Prelude.{slice_index, slice_index_or, if◌then◌else◌}
-use Rattle.std.specs.List.{filter}
+use Rattle.std.specs.List.{All}
 use Rattle.cm_bits.specs.Bit.{bit}
 use Rattle.cm_model.specs.Each.{each_from}
 
@@ -41,7 +41,7 @@ abbrev pub slot_behind : List (List ℕ) → ℕ → ℕ → ℕ
 slot_behind rest i j = slice_index (slice_index_or rest j []) i
 
 -- the first number of which it is true, or the last where it is true of none before
-abbrev pub first_of : (ℕ → Bool) → ℕ → ℕ
+unfoldable pub first_of : (ℕ → Bool) → ℕ → ℕ
 first_of test zero = 0
 first_of test (suc n) = if test (first_of test n) then first_of test n else suc n
 
@@ -49,37 +49,32 @@ first_of test (suc n) = if test (first_of test n) then first_of test n else suc 
 abbrev pub leaver_in : ℕ → ℕ → (ℕ → ℕ) → ℕ
 leaver_in d count slots = first_of (λ j. crosses d (slots j)) count
 
--- so many slots hold what others hold without one of them
-pub record IsWithout (count place : ℕ) (old new : ℕ → ℕ) : Type 0 where
-  pub earlier : (j : ℕ) → j < count → j < place → new j ≡ old j
-  pub later : (j : ℕ) → j < count → place ≤ j → new j ≡ old (suc j)
+-- what stood in one slot is carried, and new slots hold what stood in the others
+pub record IsCarried (place : ℕ) (old : ℕ → ℕ) (carried : ℕ) (new : ℕ → ℕ) : Type 0 where
+  pub here : carried ≡ old place
+  pub earlier : (j : ℕ) → j < place → new j ≡ old j
+  pub later : (j : ℕ) → place ≤ j → new j ≡ old (suc j)
 
--- so many slots hold something up to a number, and nothing from there on
-pub record IsFilled (count len : ℕ) (slots : ℕ → ℕ) : Type 0 where
-  pub within : len ≤ count
-  pub some : (j : ℕ) → j < len → slots j ≢ 0
-  pub none : (j : ℕ) → len ≤ j → j < count → slots j ≡ 0
-
--- so many slots and one hold what so many hold, and behind that what comes
-pub record IsBehind (count len comes : ℕ) (old new : ℕ → ℕ) : Type 0 where
-  pub earlier : (j : ℕ) → j < len → new j ≡ old j
-  pub there : new len ≡ comes
-  pub none : (j : ℕ) → len < j → j ≤ count → new j ≡ 0
-
--- so many slots, of which the first hold these numbers, each of a ticket, and the others 0
-pub record AreSlots (count : ℕ) (slots : ℕ → ℕ) (numbers : List ℕ) : Type 0 where
-  pub fits : length numbers ≤ count
-  pub each : (j : ℕ) → j < count → slots j ≡ slice_index numbers j
+-- slots of which the first hold these numbers, each of a ticket, and the others 0
+pub record AreSlots (slots : ℕ → ℕ) (numbers : List ℕ) : Type 0 where
+  pub fits : length numbers ≤ 15
+  pub each : (j : ℕ) → slots j ≡ slice_index numbers j
   pub taken : (j : ℕ) → j < length numbers → is_taken (slice_index numbers j) ≡ true
 
--- the first so many lanes of a row hold at most this
-abbrev pub AreUpTo : ℕ → List ℕ → ℕ → Type 0
-AreUpTo most row count = (i : ℕ) → i < count → slice_index row i ≤ most
+-- what stands in slots: all before the first that is 0
+abbrev pub standing_in : (ℕ → ℕ) → List ℕ
+standing_in slots = each_from 0 (first_of (λ j. slots j == 0) 15) slots
+
+-- a row and fourteen behind it, each of 64 lanes
+pub record AreRows (first : List ℕ) (rest : List (List ℕ)) : Type 0 where
+  pub long : length first ≡ 64
+  pub tall : length rest ≡ 14
+  pub wide : All (λ row. length row ≡ 64) rest
 
 -- all lanes of a row are 0
 abbrev pub IsBlank : List ℕ → Type 0
 IsBlank row = (i : ℕ) → i < 64 → slice_index row i ≡ 0
 
--- what stands in so many slots
-abbrev pub standing_in : ℕ → (ℕ → ℕ) → List ℕ
-standing_in count slots = filter is_taken (each_from 0 count slots)
+-- each lane of a row is 0, or a ticket stands there
+abbrev pub AreTaken : List ℕ → Type 0
+AreTaken row = (i : ℕ) → i < 64 → slice_index row i ≢ 0 → is_taken (slice_index row i) ≡ true

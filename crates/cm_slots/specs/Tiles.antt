@@ -3,36 +3,42 @@ use Rattle.std.specs.Prelude.{ℕ, ◌+◌, ◌/◌, ◌%◌, ◌^◌, ◌<◌, 
 use Rattle.std.specs.Prelude.{length, map, bit_xor}
 use Rattle.std.specs.Prelude.{Option, None, IfSome, slice_index_or}
 use Rattle.std.specs.List.{All}
-use Rattle.std.specs.Option.{unwrap_or}
 use Rattle.cm_model.specs.Each.{each_from}
 use Rattle.cm_slots.specs.declared.ticket.Ticket.{Ticket}
 use Rattle.cm_slots.specs.declared.tile.Tile.{Tile}
-use Rattle.cm_slots.specs.Queues.{leaver_of, stayers_of}
-use Rattle.cm_slots.specs.Tickets.{ticket_of, ticket_in}
-use Rattle.cm_slots.specs.Slots.{crosses, slot_across, comers, leaver_at, slot_in, slot_behind, standing_in, AreSlots}
+use Rattle.cm_slots.specs.Tickets.{ticket_of, ticket_in, ticket_going}
+use Rattle.cm_slots.specs.Queues.{stayers_of}
+use Rattle.cm_slots.specs.Slots.{is_taken, crosses, comers, leaver_at, slot_in, slot_behind, standing_in}
+use Rattle.cm_slots.specs.Slots.{AreRows, AreSlots}
 
 -- the slots of the chip at place i
 abbrev pub slots_of : Tile → ℕ → ℕ → ℕ
 slots_of tile i = slot_in tile.first tile.rest i
 
 -- what stands there
-abbrev pub standing_at : Tile → ℕ → List ℕ
-standing_at tile i = standing_in 15 (slots_of tile i)
+unfoldable pub standing_at : Tile → ℕ → List ℕ
+standing_at tile i = standing_in (slots_of tile i)
+
+-- of a queue of numbers, with room for so many, who leaves in dimension d arrives across as this one, 0 where nobody
+-- does, and these slots hold who stays
+pub record HasGone (room d : ℕ) (numbers : List ℕ) (leaver : ℕ) (slots : ℕ → ℕ) : Type 0 where
+  pub going : ticket_in leaver ≡ ticket_going room d (map ticket_of numbers)
+  pub taken : leaver ≢ 0 → is_taken leaver ≡ true
+  pub few : length (stayers_of (crosses d) room numbers) < room
+  pub stay : AreSlots slots (stayers_of (crosses d) room numbers)
 
 -- fifteen rows of 64 lanes
-pub record IsShaped (tile : Tile) : Type 0 where
-  pub long : length tile.first ≡ 64
-  pub tall : length tile.rest ≡ 14
-  pub wide : All (λ row. length row ≡ 64) tile.rest
+abbrev pub IsShaped : Tile → Type 0
+IsShaped tile = AreRows tile.first tile.rest
 
 -- all slots are 0
 abbrev pub IsQuiet : Tile → Type 0
-IsQuiet tile = (i j : ℕ) → i < 64 → j < 15 → slots_of tile i j ≡ 0
+IsQuiet tile = (i : ℕ) → i < 64 → AreSlots (slots_of tile i) []
 
 -- each chip's slots hold what stands there, one behind the other; none holds anything in a tile that is not awake
 pub record IsTile (tile : Tile) : Type 0 where
   pub shape : IsShaped tile
-  pub queues : (i : ℕ) → i < 64 → AreSlots 15 (slots_of tile i) (standing_at tile i)
+  pub queues : (i : ℕ) → i < 64 → AreSlots (slots_of tile i) (standing_at tile i)
   pub quiet : tile.awake ≡ false → IsQuiet tile
 
 -- of each chip with room for so many who leaves in dimension d is among the leavers, and the slots behind
@@ -40,18 +46,15 @@ pub record IsTile (tile : Tile) : Type 0 where
 pub record HasLeft (room d : ℕ) (old new : Tile) (leavers : Option (List ℕ)) : Type 0 where
   pub shape : IsShaped new
   pub long : IfSome leavers (λ row. length row ≡ 64)
-  pub going : (i : ℕ) → i < 64
-      → leaver_at leavers i ≡ slot_across d (unwrap_or (leaver_of (crosses d) room (standing_at old i)) 0)
-  pub few : (i : ℕ) → i < 64 → length (stayers_of (crosses d) room (standing_at old i)) < room
-  pub stay : (i : ℕ) → i < 64
-      → AreSlots 14 (slot_behind new.rest i) (stayers_of (crosses d) room (standing_at old i))
+  pub gone : (i : ℕ) → i < 64
+      → HasGone room d (standing_at old i) (leaver_at leavers i) (slot_behind new.rest i)
   pub quiet : leavers ≡ None → IsQuiet new
 
 -- at each chip the slots hold who stood in those behind the first, and behind them who comes, by its place
 pub record HasTakenIn (room : ℕ) (coming : ℕ → ℕ) (old new : Tile) : Type 0 where
   pub shape : IsShaped new
   pub came : (i : ℕ) (numbers : List ℕ) → i < 64 → length numbers < room
-      → AreSlots 14 (slot_behind old.rest i) numbers → AreSlots 15 (slots_of new i) (numbers ++ comers (coming i))
+      → AreSlots (slot_behind old.rest i) numbers → AreSlots (slots_of new i) (numbers ++ comers (coming i))
   pub quiet : new.awake ≡ false → IsQuiet new
 
 -- this number is in one slot of one chip, and the others hold what they held
@@ -59,16 +62,14 @@ pub record IsPut (place slot number : ℕ) (old new : Tile) : Type 0 where
   pub shape : IsShaped new
   pub awake : new.awake ≡ true
   pub here : slots_of new place slot ≡ number
-  pub earlier : (j : ℕ) → j < slot → slots_of new place j ≡ slots_of old place j
-  pub later : (j : ℕ) → slot < j → slots_of new place j ≡ slots_of old place j
+  pub same : (j : ℕ) → j ≢ slot → slots_of new place j ≡ slots_of old place j
   pub others : (i j : ℕ) → i ≢ place → slots_of new i j ≡ slots_of old i j
 
 -- these stand at one chip now, and at the others who stood there
 pub record HasChanged (place : ℕ) (numbers : List ℕ) (old new : Tile) : Type 0 where
-  pub shape : IsShaped new
-  pub awake : new.awake ≡ true
-  pub here : AreSlots 15 (slots_of new place) numbers
-  pub others : (i j : ℕ) → i ≢ place → slots_of new i j ≡ slots_of old i j
+  pub whole : IsTile new
+  pub here : standing_at new place ≡ numbers
+  pub others : (i : ℕ) → i < 64 → i ≢ place → standing_at new i ≡ standing_at old i
 
 -- ---- tiles in a row: chip c stands at place c % 64 of tile c / 64
 
@@ -102,9 +103,33 @@ number_leaving leaving c = leaver_at (leavers_at leaving (c / 64)) (c % 64)
 abbrev pub ticket_leaving : List (Option (List ℕ)) → ℕ → Option Ticket
 ticket_leaving leaving c = ticket_in (number_leaving leaving c)
 
--- the tickets of a chip
+-- who leaves has been taken out of all tiles
+pub record HaveLeft (room d : ℕ) (old new : List Tile) (leaving : List (Option (List ℕ))) : Type 0 where
+  pub long : length new ≡ length old
+  pub rows : length leaving ≡ length old
+  pub each : (t : ℕ) → t < length old → HasLeft room d (tile_at old t) (tile_at new t) (leavers_at leaving t)
+
+-- who comes, by tile and place, has been taken in at all tiles
+pub record HaveTakenIn (room : ℕ) (coming : ℕ → ℕ → ℕ) (old new : List Tile) : Type 0 where
+  pub long : length new ≡ length old
+  pub each : (t : ℕ) → t < length old → HasTakenIn room (coming t) (tile_at old t) (tile_at new t)
+
+-- the numbers and the tickets of a chip
+abbrev pub numbers_at : List Tile → ℕ → List ℕ
+numbers_at tiles c = standing_at (tile_at tiles (c / 64)) (c % 64)
+
 abbrev pub tickets_of : List Tile → ℕ → List Ticket
-tickets_of tiles c = map ticket_of (standing_at (tile_at tiles (c / 64)) (c % 64))
+tickets_of tiles c = map ticket_of (numbers_at tiles c)
+
+-- no more stand at any place than this
+abbrev pub AreWithin : ℕ → List Tile → Type 0
+AreWithin most tiles = (t i : ℕ) → t < length tiles → i < 64 → length (standing_at (tile_at tiles t) i) ≤ most
+
+-- who leaves each tile: nobody, or 64 lanes, each 0 or with a ticket
+pub record AreLeavers (leaving : List (Option (List ℕ))) : Type 0 where
+  pub long : All (λ leavers. IfSome leavers (λ row. length row ≡ 64)) leaving
+  pub taken : (c : ℕ) → c / 64 < length leaving → number_leaving leaving c ≢ 0
+      → is_taken (number_leaving leaving c) ≡ true
 
 -- what contracts see of tiles: the tickets of each of so many chips
 abbrev pub queues_in : ℕ → List Tile → List (List Ticket)

@@ -3,10 +3,10 @@
 ghost use Rattle.std.specs.Prelude.{◌≡◌, ◌↔◌, ◌≢◌, ℕ, ◌/◌, ◌<◌, ◌≤◌, ◌++◌, [], ◌∷◌, IfSome, IsTrue, length, remove};
 ghost use Rattle.std.specs.Prelude.{slice_set};
 ghost use Rattle.std.specs.List.{All, slice_get};
-ghost use Rattle.cm_slots.specs.Tiles.{IsTile, IsChanged, tickets_of};
+ghost use Rattle.cm_slots.specs.Tiles.{IsTile, IsChanged, AreWithin, tickets_of};
 
 use crate::rows::{ROOM, WIDTH};
-use crate::ticket::{Ticket, slot_with, ticket_at};
+use crate::ticket::{Ticket, slot_with, ticket_in};
 use crate::tile::Tile;
 
 /// How many tickets stand at a chip.
@@ -14,6 +14,7 @@ pub(crate) fn len(tiles: &[Tile], chip: usize) -> usize
     requires chip { chip / 64 < length tiles.now }
     requires whole { All IsTile tiles.now }
     ensures value { result ≡ length (tickets_of tiles.now chip) }
+    ensures most { result ≤ 15 }
 {
     tiles[chip / WIDTH].len(chip % WIDTH)
 }
@@ -29,11 +30,7 @@ pub(crate) fn ticket(tiles: &[Tile], chip: usize, place: usize) -> Option<Ticket
         return None;
     }
     let slot = tiles[chip / WIDTH].slot(chip % WIDTH, place);
-    if slot == 0 {
-        None
-    } else {
-        Some(ticket_at(slot))
-    }
+    ticket_in(slot)
 }
 
 /// Takes in a ticket at a chip, where it stands last.
@@ -93,8 +90,7 @@ pub(crate) fn next_occupied(tiles: &[Tile], from: usize) -> usize
 /// Whether no chip has more tickets than this.
 pub(crate) fn are_within(tiles: &[Tile], room: usize) -> bool
     requires whole { All IsTile tiles.now }
-    ensures within { IsTrue result
-        ↔ ((c : ℕ) → c / 64 < length tiles.now → length (tickets_of tiles.now c) ≤ room) }
+    ensures within { IsTrue result ↔ AreWithin room tiles.now }
 {
     for tile in tiles {
         if !tile.is_within(room) {

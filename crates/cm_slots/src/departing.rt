@@ -1,17 +1,16 @@
 //! The first pass by itself: who leaves a run of chips goes elsewhere, and the others close up.
 
-ghost use Rattle.std.specs.Prelude.{◌≡◌, ◌≢◌, ℕ, ◌/◌, ◌<◌, ◌≤◌, true, length, None, IfSome};
+ghost use Rattle.std.specs.Prelude.{◌≡◌, ℕ, ◌-◌, ◌*◌, ◌/◌, ◌<◌, ◌≤◌, length, None};
 ghost use Rattle.std.specs.List.{All};
 ghost use Rattle.cm_model.specs.Each.{each_from};
 ghost use Rattle.cm_slots.specs.Queues.{stayers_of};
-ghost use Rattle.cm_slots.specs.Slots.{is_taken};
 ghost use Rattle.cm_slots.specs.Tickets.{has_to_go, ticket_going};
-ghost use Rattle.cm_slots.specs.Tiles.{IsShaped, IsQuiet, IsTile, HasTakenIn, tile_at, leavers_at, tickets_of};
-ghost use Rattle.cm_slots.specs.Tiles.{number_leaving, ticket_leaving};
+ghost use Rattle.cm_slots.specs.Tiles.{IsShaped, IsQuiet, IsTile, HaveTakenIn, tile_at, leavers_at, tickets_of};
+ghost use Rattle.cm_slots.specs.Tiles.{ticket_leaving, AreWithin, AreLeavers};
 
 use crate::passes::leave;
 use crate::rows::{Row, WIDTH};
-use crate::ticket::{Ticket, ticket_at};
+use crate::ticket::{Ticket, ticket_in};
 use crate::tile::Tile;
 
 /// Takes out of each chip who leaves in a dimension; the others close up.
@@ -21,16 +20,14 @@ pub(crate) fn take_out(tiles: &mut [Tile], leaving: &mut [Option<Row>], room: us
     requires most { room ≤ 15 }
     requires rows { length leaving.old ≡ length tiles.old }
     requires whole { All IsTile tiles.old }
-    requires within { (c : ℕ) → c / 64 < length tiles.old → length (tickets_of tiles.old c) ≤ room }
+    requires within { AreWithin room tiles.old }
     ensures value { (c : ℕ) → c / 64 < length tiles.old
         → tickets_of tiles.new c ≡ stayers_of (has_to_go dim) room (tickets_of tiles.old c) }
     ensures going { (c : ℕ) → c / 64 < length tiles.old
         → ticket_leaving leaving.new c ≡ ticket_going room dim (tickets_of tiles.old c) }
-    ensures taken { (c : ℕ) → c / 64 < length tiles.old → number_leaving leaving.new c ≢ 0
-        → is_taken (number_leaving leaving.new c) ≡ true }
-    ensures long { All (λ leavers. IfSome leavers (λ row. length row ≡ 64)) leaving.new }
+    ensures leavers { AreLeavers leaving.new }
     ensures whole { All IsTile tiles.new }
-    ensures space { (c : ℕ) → c / 64 < length tiles.old → length (tickets_of tiles.new c) < room }
+    ensures space { AreWithin (room - 1) tiles.new }
 {
     leave(tiles, leaving, room, dim);
     close_up(tiles, leaving, room);
@@ -44,8 +41,7 @@ fn close_up(tiles: &mut [Tile], leaving: &[Option<Row>], room: usize)
     requires shape { All IsShaped tiles.old }
     requires quiet { (t : ℕ) → t < length tiles.old → leavers_at leaving.now t ≡ None
         → IsQuiet (tile_at tiles.old t) }
-    ensures value { (t : ℕ) → t < length tiles.old
-        → HasTakenIn room (λ i. 0) (tile_at tiles.old t) (tile_at tiles.new t) }
+    ensures value { HaveTakenIn room (λ t i. 0) tiles.old tiles.new }
 {
     for t in 0..tiles.len() {
         if leaving[t].is_some() {
@@ -56,10 +52,8 @@ fn close_up(tiles: &mut [Tile], leaving: &[Option<Row>], room: usize)
 
 /// Writes down by chip who leaves.
 pub(crate) fn write_down(leaving: &[Option<Row>], leavers: &mut [Option<Ticket>])
-    requires enough { (c : ℕ) → c < length leavers.old → c / 64 < length leaving.now }
-    requires long { All (λ leavers. IfSome leavers (λ row. length row ≡ 64)) leaving.now }
-    requires taken { (c : ℕ) → c < length leavers.old → number_leaving leaving.now c ≢ 0
-        → is_taken (number_leaving leaving.now c) ≡ true }
+    requires enough { length leavers.old ≤ length leaving.now * 64 }
+    requires leavers { AreLeavers leaving.now }
     ensures value { leavers.new ≡ each_from 0 (length leavers.old) (ticket_leaving leaving.now) }
 {
     for c in 0..leavers.len() {
@@ -70,17 +64,11 @@ pub(crate) fn write_down(leaving: &[Option<Row>], leavers: &mut [Option<Ticket>]
 /// Who leaves a chip, if anyone does.
 fn leaver(leaving: &[Option<Row>], chip: usize) -> Option<Ticket>
     requires chip { chip / 64 < length leaving.now }
-    requires long { All (λ leavers. IfSome leavers (λ row. length row ≡ 64)) leaving.now }
-    requires taken { number_leaving leaving.now chip ≢ 0 → is_taken (number_leaving leaving.now chip) ≡ true }
+    requires leavers { AreLeavers leaving.now }
     ensures value { result ≡ ticket_leaving leaving.now chip }
 {
     let Some(row) = &leaving[chip / WIDTH] else {
         return None;
     };
-    let slot = row[chip % WIDTH];
-    if slot == 0 {
-        None
-    } else {
-        Some(ticket_at(slot))
-    }
+    ticket_in(row[chip % WIDTH])
 }

@@ -5,8 +5,8 @@ ghost use Rattle.std.specs.Prelude.{IfSome, IsTrue};
 ghost use Rattle.std.specs.List.{All};
 ghost use Rattle.cm_slots.specs.Slots.{is_taken};
 ghost use Rattle.cm_slots.specs.Tickets.{exchanged};
-ghost use Rattle.cm_slots.specs.Tiles.{IsShaped, IsQuiet, IsTile, HasLeft, HasTakenIn, tile_at, leavers_at};
-ghost use Rattle.cm_slots.specs.Tiles.{tile_across, arriving, standing_at, tickets_of};
+ghost use Rattle.cm_slots.specs.Tiles.{IsShaped, IsQuiet, IsTile, HaveLeft, HaveTakenIn, tile_at, leavers_at};
+ghost use Rattle.cm_slots.specs.Tiles.{tile_across, arriving, tickets_of, AreWithin};
 
 use crate::across::{arrivals, tile_across};
 use crate::rows::Row;
@@ -20,11 +20,11 @@ pub(crate) fn cross(tiles: &mut [Tile], leaving: &mut [Option<Row>], room: usize
     requires rows { length leaving.old ≡ length tiles.old }
     requires across { (t : ℕ) → t < length tiles.old → tile_across dim t < length tiles.old }
     requires whole { All IsTile tiles.old }
-    requires within { (c : ℕ) → c / 64 < length tiles.old → length (tickets_of tiles.old c) ≤ room }
+    requires within { AreWithin room tiles.old }
     ensures value { (c : ℕ) → c / 64 < length tiles.old → tickets_of tiles.new c
         ≡ exchanged room dim (tickets_of tiles.old c) (tickets_of tiles.old (bit_xor c (2 ^ dim))) }
     ensures whole { All IsTile tiles.new }
-    ensures within { (c : ℕ) → c / 64 < length tiles.old → length (tickets_of tiles.new c) ≤ room }
+    ensures within { AreWithin room tiles.new }
 {
     leave(tiles, leaving, room, dim);
     take_in(tiles, leaving, room, dim);
@@ -37,9 +37,8 @@ pub(crate) fn leave(tiles: &mut [Tile], leaving: &mut [Option<Row>], room: usize
     requires most { room ≤ 15 }
     requires rows { length leaving.old ≡ length tiles.old }
     requires whole { All IsTile tiles.old }
-    requires within { (t i : ℕ) → t < length tiles.old → i < 64 → length (standing_at (tile_at tiles.old t) i) ≤ room }
-    ensures value { (t : ℕ) → t < length tiles.old
-        → HasLeft room dim (tile_at tiles.old t) (tile_at tiles.new t) (leavers_at leaving.new t) }
+    requires within { AreWithin room tiles.old }
+    ensures value { HaveLeft room dim tiles.old tiles.new leaving.new }
 {
     for t in 0..tiles.len() {
         tiles[t].leave(&mut leaving[t], room, dim);
@@ -60,8 +59,7 @@ fn take_in(tiles: &mut [Tile], leaving: &[Option<Row>], room: usize, dim: u8)
         → IsQuiet (tile_at tiles.old t) }
     requires taken { (t i : ℕ) → t < length tiles.old → i < 64 → arriving dim leaving.now t i ≢ 0
         → is_taken (arriving dim leaving.now t i) ≡ true }
-    ensures value { (t : ℕ) → t < length tiles.old
-        → HasTakenIn room (λ i. arriving dim leaving.now t i) (tile_at tiles.old t) (tile_at tiles.new t) }
+    ensures value { HaveTakenIn room (arriving dim leaving.now) tiles.old tiles.new }
 {
     for t in 0..tiles.len() {
         let across = tile_across(t, dim);

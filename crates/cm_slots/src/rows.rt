@@ -1,11 +1,10 @@
 //! Rows of slots: the same slot of 64 chips that stand side by side. A step does the same at each of them,
 //! whatever stands there, so that it takes several at once.
 
-ghost use Rattle.std.specs.Prelude.{◌≡◌, ◌↔◌, ℕ, ◌+◌, ◌<◌, ◌≤◌, ◌==◌, IsTrue, [], length, slice_index, slice_index_or};
+ghost use Rattle.std.specs.Prelude.{◌≡◌, ◌↔◌, ℕ, ◌<◌, ◌≤◌, ◌==◌, ◌++◌, IsTrue, List, length, slice_index};
 ghost use Rattle.std.specs.Prelude.{if◌then◌else◌};
-ghost use Rattle.std.specs.List.{All};
-ghost use Rattle.cm_slots.specs.Slots.{crosses, slot_in, slot_behind, leaver_in, IsWithout, IsFilled, IsBehind};
-ghost use Rattle.cm_slots.specs.Slots.{IsBlank};
+ghost use Rattle.cm_slots.specs.Slots.{crosses, comers, slot_in, slot_behind, leaver_in, IsCarried, AreSlots};
+ghost use Rattle.cm_slots.specs.Slots.{IsBlank, AreRows, AreTaken};
 
 /// So many chips stand side by side.
 pub(crate) const WIDTH: usize = 64;
@@ -20,16 +19,11 @@ pub(crate) type Row = [u32; WIDTH];
 /// else the last. The first row holds who leaves then, and in the rest the others close up.
 pub(crate) fn leave(first: &mut Row, rest: &mut [Row], count: usize, dim: u8)
     requires dimension { dim < 12 }
-    requires count { count ≤ length rest.old }
-    requires long { length first.old ≡ 64 }
-    requires wide { All (λ row. length row ≡ 64) rest.old }
-    ensures going { (i : ℕ) → i < 64 → slice_index first.new i
-        ≡ slot_in first.old rest.old i (leaver_in dim count (slot_in first.old rest.old i)) }
-    ensures stay { (i : ℕ) → i < 64 → IsWithout count (leaver_in dim count (slot_in first.old rest.old i))
-        (slot_in first.old rest.old i) (slot_behind rest.new i) }
-    ensures others { (j : ℕ) → count ≤ j → slice_index_or rest.new j [] ≡ slice_index_or rest.old j [] }
-    ensures long { length first.new ≡ 64 }
-    ensures wide { All (λ row. length row ≡ 64) rest.new }
+    requires count { count ≤ 14 }
+    requires shape { AreRows first.old rest.old }
+    ensures value { (i : ℕ) → i < 64 → IsCarried (leaver_in dim count (slot_in first.old rest.old i))
+        (slot_in first.old rest.old i) (slice_index first.new i) (slot_behind rest.new i) }
+    ensures shape { AreRows first.new rest.new }
 {
     for k in 0..count {
         pass_on(first, &mut rest[k], dim);
@@ -38,14 +32,13 @@ pub(crate) fn leave(first: &mut Row, rest: &mut [Row], count: usize, dim: u8)
 
 /// Takes in who comes to each chip, which the first row holds: behind all who stand in so many slots.
 pub(crate) fn take_in(first: &mut Row, rest: &mut [Row], count: usize)
-    requires count { count ≤ length rest.old }
-    requires long { length first.old ≡ 64 }
-    requires wide { All (λ row. length row ≡ 64) rest.old }
-    ensures taken { (i len : ℕ) → i < 64 → IsFilled count len (slot_behind rest.old i)
-        → IsBehind count len (slice_index first.old i) (slot_behind rest.old i) (slot_in first.new rest.new i) }
-    ensures others { (j : ℕ) → count ≤ j → slice_index_or rest.new j [] ≡ slice_index_or rest.old j [] }
-    ensures long { length first.new ≡ 64 }
-    ensures wide { All (λ row. length row ≡ 64) rest.new }
+    requires count { count ≤ 14 }
+    requires shape { AreRows first.old rest.old }
+    requires taken { AreTaken first.old }
+    ensures value { (i : ℕ) (xs : List ℕ) → i < 64 → length xs ≤ count → length xs < 15
+        → AreSlots (slot_behind rest.old i) xs
+        → AreSlots (slot_in first.new rest.new i) (xs ++ comers (slice_index first.old i)) }
+    ensures shape { AreRows first.new rest.new }
 {
     for k in (0..count).rev() {
         pass_back(first, &mut rest[k]);
@@ -109,6 +102,7 @@ pub(crate) fn is_blank(row: &Row) -> bool
 }
 
 /// Whether the message of a slot's ticket has to cross a dimension.
+#[tactic(auto, using(std::proofs::lemmas::Nat::Bits::shr_and_one))]
 fn has_to_cross(slot: u32, dim: u8) -> bool
     requires dimension { dim < 12 }
     ensures value { result ≡ crosses dim slot }

@@ -45,6 +45,7 @@ impl Model for Slots {
     ghost invariant = { λ slots. AreTiles slots.chips slots.tiles.items slots.leaving.items };
 }
 
+#[tactic(auto, using(crate::proofs::Views::seen))]
 impl Slots {
     /// Slots for so many chips, at which no ticket stands.
     pub fn new(alloc: Global, chips: usize) -> Result<Slots, NoMemory>
@@ -217,9 +218,5 @@ fn copied_tiles(alloc: Global, tiles: &[Tile]) -> Result<Vec<Tile>, NoMemory>
 fn no_leavers(alloc: Global, count: usize) -> Result<Vec<Option<Row>>, NoMemory>
     ensures count { IfOk result (λ leaving. length leaving.items ≡ count) }
 {
-    let mut leaving = Vec::with_capacity(alloc, count)?;
-    for _t in 0..count {
-        leaving.push_reserved(None);
-    }
-    Ok(leaving)
+    Ok(vec![in alloc; None; count]?)
 }

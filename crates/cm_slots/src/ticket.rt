@@ -1,8 +1,8 @@
 //! What crosses in the place of a message, and the number that stands for it in a slot.
 
-ghost use Rattle.std.specs.Prelude.{◌≡◌, ◌<◌, true};
+ghost use Rattle.std.specs.Prelude.{◌≡◌, ◌≢◌, ◌<◌, true};
 ghost use Rattle.cm_slots.specs.Slots.{is_taken};
-ghost use Rattle.cm_slots.specs.Tickets.{ticket_of, slot_of};
+ghost use Rattle.cm_slots.specs.Tickets.{ticket_of, ticket_in, slot_of};
 
 /// Crosses in the place of a message: which dimensions that has still to cross, and where it is kept.
 #[derive(Clone, Copy, Debug, Default, PartialEq, Eq)]
@@ -13,15 +13,18 @@ pub struct Ticket {
     pub number: u16,
 }
 
-/// The ticket that stands at a slot.
-pub(crate) fn ticket_at(slot: u32) -> Ticket
-    requires some { is_taken slot ≡ true }
-    ensures value { result ≡ ticket_of slot }
+/// The ticket that stands at a slot, if one does.
+pub(crate) fn ticket_in(slot: u32) -> Option<Ticket>
+    requires taken { slot ≢ 0 → is_taken slot ≡ true }
+    ensures value { result ≡ ticket_in slot }
 {
-    Ticket {
+    if slot == 0 {
+        return None;
+    }
+    Some(Ticket {
         rel: (slot / 65536) as u16,
         number: (slot % 65536 - 1) as u16,
-    }
+    })
 }
 
 /// The slot at which a ticket stands.

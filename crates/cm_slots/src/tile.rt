@@ -1,8 +1,8 @@
 //! Tiles of chips.
 
 ghost use Rattle.std.specs.Prelude.{◌≡◌, ◌↔◌, ◌≢◌, ℕ, ◌<◌, ◌≤◌, ◌++◌, [], ◌∷◌, IsFalse, IsTrue, true, length, remove};
-ghost use Rattle.std.specs.Prelude.{◌⊎◌, slice_index, slice_index_or, slice_set, None};
-ghost use Rattle.cm_slots.specs.Slots.{is_taken, IsBlank};
+ghost use Rattle.std.specs.Prelude.{List, slice_index, slice_set, None};
+ghost use Rattle.cm_slots.specs.Slots.{is_taken, slot_behind, AreSlots, IsBlank, AreTaken};
 ghost use Rattle.cm_slots.specs.Tiles.{slots_of, standing_at, IsShaped, IsQuiet, IsTile, HasLeft};
 ghost use Rattle.cm_slots.specs.Tiles.{HasTakenIn, IsPut, HasChanged};
 
@@ -85,7 +85,8 @@ impl Tile {
         requires whole { IsTile self.now }
         ensures some { 0 < result }
         ensures most { result ≤ room }
-        ensures few { (result ≡ room) ⊎ ((i : ℕ) → i < 64 → length (standing_at self.now i) < result) }
+        ensures few { (i : ℕ) → i < 64 → length (standing_at self.now i) ≤ room
+            → (length (standing_at self.now i) ≤ result) × (length (standing_at self.now i) ≡ result → result ≡ room) }
     {
         if room > 2 && self.is_within(1) {
             2
@@ -100,9 +101,9 @@ impl Tile {
         requires most { room ≤ 15 }
         requires shape { IsShaped self.old }
         requires long { length coming.now ≡ 64 }
-        requires taken { (i : ℕ) → i < 64 → slice_index coming.now i ≢ 0
-            → is_taken (slice_index coming.now i) ≡ true }
-        ensures value { HasTakenIn room (λ i. slice_index coming.now i) self.old self.new }
+        requires taken { AreTaken coming.now }
+        ensures value { (comes : ℕ → ℕ) → ((i : ℕ) → i < 64 → slice_index coming.now i ≡ comes i)
+            → HasTakenIn room comes self.old self.new }
     {
         self.first = *coming;
         self.awake = true;
@@ -119,7 +120,8 @@ impl Tile {
         requires shape { IsShaped self.now }
         ensures some { 0 < result }
         ensures most { result ≤ room }
-        ensures few { (result ≡ room) ⊎ ((result ≡ 2) × IsBlank (slice_index_or self.now.rest 1 [])) }
+        ensures few { (i : ℕ) (numbers : List ℕ) → i < 64 → length numbers < room
+            → AreSlots (slot_behind self.now.rest i) numbers → length numbers < result }
     {
         if room > 2 && is_blank(&self.rest[1]) {
             2
@@ -131,7 +133,7 @@ impl Tile {
     /// Whether no ticket stands there: the slots are filled from the first on.
     fn is_quiet(&self) -> bool
         requires whole { IsTile self.now }
-        ensures none { IsTrue result ↔ IsQuiet self.now }
+        ensures none { IsTrue result ↔ IsBlank self.now.first }
     {
         !self.awake || is_blank(&self.first)
     }
@@ -163,6 +165,7 @@ impl Tile {
         requires place { place < 64 }
         requires whole { IsTile self.now }
         ensures value { result ≡ length (standing_at self.now place) }
+        ensures most { result ≤ 15 }
     {
         let mut len = 0;
         while len < ROOM && self.slot(place, len) != 0 {

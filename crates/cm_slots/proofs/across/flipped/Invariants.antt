@@ -1,6 +1,6 @@
 use Rattle.std.proofs.Common.{slice_index, replicate}
 use Rattle.cm_slots.specs.Slots.{slot_across}
-use Rattle.cm_slots.proofs.Lanes.{AreDone}
+use Rattle.cm_slots.proofs.Carrying.{AreDone}
 use Rattle.cm_slots.proofs.across.flipped.Given as goal
 
 abbrev pub invariant-loop-i : goal.invariant-loop-i

@@ -4,4 +4,4 @@ use Rattle.cm_slots.proofs.Runs.{place-far}
 use Rattle.cm_slots.proofs.across.moved.Goals as goal
 
 pub returns-in_default-clause-value : goal.returns-in_default-clause-value
-returns-in_default-clause-value c = λ i h. ap (slice_index c.args.row.now) (sym (place-far c.args.dim i (omega arith)))
+returns-in_default-clause-value c = λ i h. ap (slice_index c.args.row.now) (sym (place-far c.args.dim (omega arith) i))

@@ -1,6 +1,6 @@
 use Rattle.std.proofs.Common.{slice_index, replicate}
 use Rattle.std.specs.Prelude.{bit_xor}
-use Rattle.cm_slots.proofs.Lanes.{AreDone}
+use Rattle.cm_slots.proofs.Carrying.{AreDone}
 use Rattle.cm_slots.proofs.across.swapped.Given as goal
 
 abbrev pub invariant-loop-i : goal.invariant-loop-i

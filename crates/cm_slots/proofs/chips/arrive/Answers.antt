@@ -1,9 +1,10 @@
-use Rattle.cm_slots.proofs.Single.{changed, arrived-tickets}
+use Rattle.std.proofs.lemmas.List.{map-append}
+use Rattle.cm_slots.specs.Tickets.{ticket_of}
+use Rattle.cm_slots.proofs.Changing.{chip_changed}
 use Rattle.cm_slots.proofs.chips.arrive.Goals as goal
 
 pub returns : goal.returns
 returns c = record {
-  value = changed c.args.chip _ _ c.args.tiles.now c.arrive.new.self c.requires.chip c.requires.whole
-      c.arrive.ensures.value
-      (arrived-tickets _ c.slot_with.result c.args.ticket c.slot_with.ensures.back);
+  value = chip_changed c.args.chip _ _ c.args.tiles.now c.arrive.new.self c.requires.chip c.requires.whole
+      c.arrive.ensures.value (rw (← c.slot_with.ensures.back) (map-append ticket_of _ _));
 }

@@ -1,5 +1,6 @@
-use Rattle.cm_slots.proofs.Runs.{AreTakenIn}
+use Rattle.cm_slots.specs.Tiles.{HasTakenIn}
+use Rattle.cm_slots.proofs.Runs.{AreDone}
 use Rattle.cm_slots.proofs.departing.close_up.Given as goal
 
 abbrev pub invariant-loop-t : goal.invariant-loop-t
-invariant-loop-t l = AreTakenIn l.room (λ t i. 0) l.initial.tiles l.tiles l.t
+invariant-loop-t l = AreDone (λ t. HasTakenIn l.room (λ i. 0)) l.initial.tiles l.tiles l.t

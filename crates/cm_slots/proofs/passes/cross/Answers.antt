@@ -1,42 +1,25 @@
-use Rattle.std.proofs.Common.{length, ◌∙◌, sym, arith}
-use Rattle.cm_slots.proofs.Runs.{tiles_within, left_shaped, leaving_long, arriving_taken, whole_after, chip_after}
-use Rattle.cm_slots.proofs.Runs.{within_after}
-use Rattle.cm_slots.specs.Tiles.{arriving}
+use Rattle.std.proofs.Common.{◌^◌, ◌/◌, refl}
+use Rattle.std.proofs.lemmas.Nat.{xor_shr, xor_mod}
+use Rattle.cm_slots.proofs.Runs.{arriving_taken, whole_after, chip_after, within_after}
 use Rattle.cm_slots.proofs.passes.cross.Goals as goal
 
-pub leave-requires-clause-within : goal.leave-requires-clause-within
-leave-requires-clause-within c = λ t i h l. tiles_within c.args.room c.args.tiles.now c.requires.within t h i l
+pub take_in-requires-clause-quiet : goal.take_in-requires-clause-quiet
+take_in-requires-clause-quiet c =
+    let gone = c.leave.ensures.value in rw gone.long (λ t h. (gone.each t h).quiet)
 
-pub take_in-requires : goal.take_in-requires
-take_in-requires c =
-    let same = c.leave.auto.tiles in
-    let many = c.leave.auto.leaving ∙ c.requires.rows in
-    let gone = c.leave.ensures.value in
-    record {
-      dimension = c.requires.dimension;
-      some = c.requires.some;
-      most = c.requires.most;
-      rows = many ∙ sym same;
-      across = λ t h. rw same (c.requires.across t (omega (arith, same)));
-      shape = left_shaped _ _ _ same many c.requires.whole gone;
-      long = leaving_long _ _ _ same many c.requires.whole gone;
-      quiet = λ t h. (gone t (omega (arith, same))).quiet;
-      taken = λ t i h. arriving_taken _ _ _ same many c.requires.whole gone c.requires.across t i (omega (arith, same));
-    }
+pub take_in-requires-clause-taken : goal.take_in-requires-clause-taken
+take_in-requires-clause-taken c =
+    let gone = c.leave.ensures.value in rw gone.long (arriving_taken gone c.requires.across)
 
 pub returns : goal.returns
 returns c =
-    let same = c.leave.auto.tiles in
-    let many = c.leave.auto.leaving ∙ c.requires.rows in
     let gone = c.leave.ensures.value in
-    let new = c.take_in.new.tiles in
-    let long = c.take_in.auto.tiles ∙ same in
-    let coming = arriving c.args.dim c.leave.new.leaving in
+    let come = c.take_in.ensures.value in
     record {
-      value = chip_after _ _ _ same many c.requires.whole gone c.requires.across new long
-          (λ t h. c.take_in.ensures.value t (omega (arith, same)));
-      whole = whole_after _ _ _ same many c.requires.whole gone coming new long
-          (λ t h. c.take_in.ensures.value t (omega (arith, same)));
-      within = within_after _ _ _ same many c.requires.whole gone coming new long
-          (λ t h. c.take_in.ensures.value t (omega (arith, same)));
+      value = λ k h.
+          let tile = xor_shr k (2 ^ c.args.dim) 6 in
+          let place = xor_mod k (2 ^ c.args.dim) 6 in
+          chip_after gone come k h (rw tile (c.requires.across (k / 64) h)) (rw (tile, place) refl);
+      whole = whole_after gone come;
+      within = within_after gone come;
     }

@@ -1,5 +1,7 @@
-use Rattle.cm_slots.proofs.Runs.{AreLeft}
+use Rattle.cm_slots.specs.Tiles.{leavers_at, HasLeft}
+use Rattle.cm_slots.proofs.Runs.{AreDone}
 use Rattle.cm_slots.proofs.passes.leave.Given as goal
 
 abbrev pub invariant-loop-t : goal.invariant-loop-t
-invariant-loop-t l = AreLeft l.room l.dim l.initial.tiles l.tiles l.leaving l.t
+invariant-loop-t l =
+    AreDone (λ t old new. HasLeft l.room l.dim old new (leavers_at l.leaving t)) l.initial.tiles l.tiles l.t

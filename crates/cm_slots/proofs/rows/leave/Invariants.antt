@@ -1,5 +1,10 @@
-use Rattle.cm_slots.proofs.Carrying.{IsPassed}
+use Rattle.std.proofs.Common.{◌<◌, ℕ, slice_index}
+use Rattle.cm_slots.specs.Slots.{AreRows, slot_in, slot_behind, leaver_in, IsCarried}
 use Rattle.cm_slots.proofs.rows.leave.Given as goal
 
 abbrev pub invariant-loop-k : goal.invariant-loop-k
-invariant-loop-k l = IsPassed l.dim l.initial.first l.initial.rest l.first l.rest l.k
+invariant-loop-k l = record {
+  shape : AreRows l.first l.rest;
+  value : (i : ℕ) → i < 64 → IsCarried (leaver_in l.dim l.k (slot_in l.initial.first l.initial.rest i))
+      (slot_in l.initial.first l.initial.rest i) (slice_index l.first i) (slot_behind l.rest i);
+}

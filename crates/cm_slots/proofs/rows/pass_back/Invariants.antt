@@ -1,5 +1,5 @@
 use Rattle.std.proofs.Common.{slice_index, if◌then◌else◌, ◌==◌}
-use Rattle.cm_slots.proofs.Lanes.{AreDone}
+use Rattle.cm_slots.proofs.Carrying.{AreDone}
 use Rattle.cm_slots.proofs.rows.pass_back.Given as goal
 
 abbrev pub invariant-loop-i : goal.invariant-loop-i

@@ -1,6 +1,6 @@
 use Rattle.std.proofs.Common.{slice_index, if◌then◌else◌}
 use Rattle.cm_slots.specs.Slots.{crosses}
-use Rattle.cm_slots.proofs.Lanes.{AreDone}
+use Rattle.cm_slots.proofs.Carrying.{AreDone}
 use Rattle.cm_slots.proofs.rows.pass_on.Given as goal
 
 abbrev pub invariant-loop-i : goal.invariant-loop-i

@@ -1,30 +1,24 @@
-use Rattle.std.proofs.Common.{ℕ, List, [], length, ap, ◌∙◌, subst}
-use Rattle.cm_model.specs.Each.{each_from}
-use Rattle.cm_slots.specs.declared.ticket.Ticket.{Ticket}
-use Rattle.cm_slots.specs.Tiles.{queues_in, AreEmpty}
-use Rattle.cm_slots.proofs.Runs.{items-lent}
-use Rattle.cm_slots.proofs.Empty.{tiles_emptied, queues_emptied}
+use Rattle.std.proofs.Common.{length, ◌/◌, refl}
+use Rattle.cm_slots.specs.Tiles.{AreEmpty}
+use Rattle.cm_slots.proofs.Views.{empty_quiet, empty_whole, empty_queues, quiet_tickets, as_many, tiles_kept}
+use Rattle.cm_slots.proofs.Views.{items-lent}
 use Rattle.cm_slots.proofs.slots.Slots.clear.Goals as goal
 
 pub invariant_of-self : goal.invariant_of-self
 invariant_of-self c =
-    let inside = c.self.inside in
-    let same = ap length c.deref_mut.ensures.value in
-    let empty : AreEmpty (length inside.tiles.items) c.empty_all.new.tiles =
-    subst (λ (k : ℕ). AreEmpty k c.empty_all.new.tiles) same c.empty_all.ensures.value in
-    rw (items-lent inside.tiles c.empty_all.new.tiles empty.long)
-    (tiles_emptied inside.chips inside.tiles.items c.empty_all.new.tiles inside.leaving.items c.self.invariant empty)
+    let new = c.empty_all.new.tiles in
+    let empty : AreEmpty (length c.self.inside.tiles.items) new =
+    rw c.deref_mut.ensures.value at c.empty_all.ensures.value in
+    rw (items-lent c.self.inside.tiles new empty.long)
+    (tiles_kept c.self.invariant c.self.view_is new empty.long refl (empty_whole empty)
+    (λ k past h. quiet_tickets k new (empty_quiet empty (k / 64) h)))
 
 pub returns : goal.returns
 returns c =
-    let inside = c.self.inside in
-    let same = ap length c.deref_mut.ensures.value in
-    let empty : AreEmpty (length inside.tiles.items) c.empty_all.new.tiles =
-    subst (λ (k : ℕ). AreEmpty k c.empty_all.new.tiles) same c.empty_all.ensures.value in
+    let new = c.empty_all.new.tiles in
+    let empty : AreEmpty (length c.self.inside.tiles.items) new =
+    rw c.deref_mut.ensures.value at c.empty_all.ensures.value in
     record {
-      value = ap (queues_in inside.chips) (items-lent inside.tiles c.empty_all.new.tiles empty.long)
-          ∙ queues_emptied inside.chips inside.tiles.items c.empty_all.new.tiles inside.leaving.items c.self.invariant
-          empty
-          ∙ ap (λ (queues : List (List Ticket)). each_from {X = List Ticket} 0 (length queues) (λ k. []))
-          c.self.view_is;
+      value = rw (items-lent c.self.inside.tiles new empty.long, as_many c.self.invariant c.self.view_is)
+          (empty_queues c.self.inside.chips new (rw c.self.invariant.count at empty));
     }

@@ -1,10 +1,6 @@
-use Rattle.std.proofs.Common.{◌≤◌, List, length, ap, ◌∙◌, subst, sym, refl, arith}
-use Rattle.std.specs.List.{All}
-use Rattle.cm_slots.specs.declared.tile.Tile.{Tile}
-use Rattle.cm_slots.specs.Tiles.{queues_in}
-use Rattle.cm_slots.proofs.Runs.{items-lent}
-use Rattle.cm_slots.proofs.Cubes.{across_inside, tiles_after, queues_after}
-use Rattle.cm_slots.proofs.Single.{within_view, within_everywhere}
+use Rattle.std.proofs.Common.{length, ap, ◌∙◌, arith}
+use Rattle.cm_slots.proofs.Views.{across_inside, tiles_kept, queues_after, within_view, within_everywhere, items-lent}
+use Rattle.cm_slots.proofs.Views.{crossed_past}
 use Rattle.cm_slots.proofs.slots.Slots.cross.Goals as goal
 
 pub cross-requires-clause-across : goal.cross-requires-clause-across
@@ -25,22 +21,18 @@ invariant_of-self c =
       items-lent c.self.inside.tiles c.cross.new.tiles long,
       items-lent c.self.inside.leaving c.cross.new.leaving rows,
     )
-    (tiles_after c.self.invariant c.self.view_is c.requires.count c.requires.dim c.args.room c.cross.new.tiles long
-    c.requires.some c.cross.ensures.whole (rw (c.from.ensures, c.deref_mut.ensures.value) at c.cross.ensures.value)
-    c.cross.new.leaving rows)
+    (tiles_kept c.self.invariant c.self.view_is c.cross.new.tiles long rows c.cross.ensures.whole
+    (crossed_past c.self.invariant c.self.view_is c.cross.new.tiles long c.requires.count c.requires.dim c.args.room
+    (rw (c.from.ensures, c.deref_mut.ensures.value) at c.cross.ensures.value) c.requires.some))
 
 pub returns : goal.returns
 returns c =
-    let chips = c.self.inside.chips in
     let long = c.cross.auto.tiles ∙ ap length c.deref_mut.ensures.value in
-    let same = items-lent c.self.inside.tiles c.cross.new.tiles long in
     record {
-      value = ap (queues_in chips) same
-          ∙ queues_after c.self.invariant c.self.view_is c.requires.count c.requires.dim c.args.room c.cross.new.tiles
-          long c.requires.some c.cross.ensures.whole
-          (rw (c.from.ensures, c.deref_mut.ensures.value) at c.cross.ensures.value);
-      within = subst (λ (tiles : List Tile). All (λ ts. length ts ≤ c.args.room) (queues_in chips tiles)) (sym same)
-          (within_view chips c.args.room c.cross.new.tiles (queues_in chips c.cross.new.tiles) refl
-          (λ k h. rw c.from.ensures at (c.cross.ensures.within k
-          (omega (arith, h, c.self.invariant.count, ap length c.deref_mut.ensures.value)))));
+      value = rw (items-lent c.self.inside.tiles c.cross.new.tiles long)
+          (queues_after c.self.invariant c.self.view_is c.cross.new.tiles long c.requires.count c.requires.dim
+          c.args.room (rw (c.from.ensures, c.deref_mut.ensures.value) at c.cross.ensures.value));
+      within = rw (items-lent c.self.inside.tiles c.cross.new.tiles long)
+          (within_view c.self.inside.chips c.cross.new.tiles c.args.room (omega (arith, c.self.invariant.count, long))
+          (rw c.from.ensures at c.cross.ensures.within));
     }

@@ -1,5 +1,5 @@
-use Rattle.std.proofs.Common.{sym, ◌∙◌, arith}
-use Rattle.cm_slots.proofs.Empty.{empty_whole, empty_queues, empty_tickets}
+use Rattle.std.proofs.Common.{◌/◌, sym, ◌∙◌, arith}
+use Rattle.cm_slots.proofs.Views.{empty_quiet, empty_whole, empty_queues, quiet_tickets}
 use Rattle.cm_slots.proofs.slots.Slots.new.Goals as goal
 
 pub invariant_of-result : goal.invariant_of-result
@@ -9,8 +9,9 @@ invariant_of-result c =
       few = c.requires.few;
       count = empty.long;
       rows = c.in_ok-leaving.ensures.count ∙ sym empty.long;
-      whole = empty_whole _ c.in_ok-tiles.tiles.items empty;
-      past = λ k h l. empty_tickets _ k c.in_ok-tiles.tiles.items (omega (arith, l, empty.long)) empty;
+      whole = empty_whole empty;
+      past = λ k h l.
+          quiet_tickets k c.in_ok-tiles.tiles.items (empty_quiet empty (k / 64) (omega (arith, empty.long)));
     }
 
 pub returns : goal.returns

@@ -1,27 +1,13 @@
-use Rattle.std.proofs.Common.{length, ap, arith}
-use Rattle.cm_slots.proofs.Single.{chip_lent, tickets_lent, changed_tiles, changed_view}
+use Rattle.std.proofs.Common.{remove}
+use Rattle.cm_slots.proofs.Views.{lent_changed}
 use Rattle.cm_slots.proofs.slots.Slots.remove.Goals as goal
 
-pub remove-requires : goal.remove-requires
-remove-requires c =
-    let same = tickets_lent c.self.inside.tiles c.self.invariant c.self.view_is c.deref_mut.ensures.value
-    c.requires.chip in
-    record {
-      whole = rw c.deref_mut.ensures.value c.self.invariant.whole;
-      chip = chip_lent c.self.inside.tiles c.self.invariant c.self.view_is c.deref_mut.ensures.value c.requires.chip;
-      place = omega (arith, ap length same, c.requires.place);
-    }
-
 pub invariant_of-self : goal.invariant_of-self
-invariant_of-self c =
-    changed_tiles c.self.inside.tiles c.self.invariant c.self.view_is c.deref_mut.ensures.value c.requires.chip _
-    c.remove.new.tiles c.remove.auto.tiles c.remove.ensures.value
+invariant_of-self c = (lent_changed c.self.inside.tiles c.self.invariant c.self.view_is c.deref_mut.ensures.value
+    c.requires.chip c.remove.new.tiles (λ ts. remove ts c.args.place) c.remove.auto.tiles c.remove.ensures.value).0
 
 pub returns : goal.returns
-returns c =
-    let same = tickets_lent c.self.inside.tiles c.self.invariant c.self.view_is c.deref_mut.ensures.value
-    c.requires.chip in
-    record {
-      value = changed_view c.self.inside.tiles c.self.invariant c.self.view_is c.deref_mut.ensures.value
-          c.requires.chip _ c.remove.new.tiles c.remove.auto.tiles (rw same at c.remove.ensures.value);
-    }
+returns c = record {
+  value = (lent_changed c.self.inside.tiles c.self.invariant c.self.view_is c.deref_mut.ensures.value c.requires.chip
+      c.remove.new.tiles (λ ts. remove ts c.args.place) c.remove.auto.tiles c.remove.ensures.value).1;
+}

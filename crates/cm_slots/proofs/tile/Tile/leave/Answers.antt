@@ -1,19 +1,17 @@
-use Rattle.std.proofs.Common.{false, refl}
-use Rattle.cm_slots.proofs.Tiles.{none_left}
+use Rattle.cm_slots.specs.Tiles.{slots_of, IsQuiet}
+use Rattle.cm_slots.proofs.Standing.{nobody_goes, nobody}
 use Rattle.cm_slots.proofs.tile.Tile.leave.Goals as goal
 
 pub returns-then-is_quiet : goal.returns-then-is_quiet
 returns-then-is_quiet c =
     let old = c.args.self.now in
-    let quiet = c.is_quiet.ensures.none.0 c.if-is_quiet.true in
+    let quiet : IsQuiet old = λ i h. let are = c.requires.whole.queues i h in
+    rw (← nobody (slots_of old i) _ are (c.is_quiet.ensures.none.0 c.if-is_quiet.true i h)) are in
     record {
-      value = rw c.forget.ensures.value
-          (none_left c.args.room c.args.dim old (record { first = old.first; rest = old.rest; awake = false })
-          c.requires.some c.requires.most c.requires.whole c.requires.within quiet
-          (record {
-            long = c.requires.whole.shape.long;
-            tall = c.requires.whole.shape.tall;
-            wide = c.requires.whole.shape.wide;
-          })
-          quiet (λ j h. refl));
+      value = rw c.forget.ensures.value (record {
+        shape = c.requires.whole.shape;
+        long = tt;
+        gone = λ i h. nobody_goes c.args.dim c.args.room old i (quiet i h) c.requires.some;
+        quiet = λ none. quiet;
+      });
     }

@@ -1,31 +1,16 @@
-use Rattle.std.proofs.Common.{◌∙◌, Some, ap, arith}
-use Rattle.cm_slots.specs.Slots.{slot_across}
-use Rattle.cm_slots.proofs.Reaching.{left_further, within_reach}
-use Rattle.cm_slots.proofs.Tiles.{left}
+use Rattle.cm_slots.proofs.Standing.{has_gone}
 use Rattle.cm_slots.proofs.tile.Tile.let_leave.Goals as goal
 
 pub returns : goal.returns
 returns c = record {
-  value = left_further c.args.room c.reach-reach.result c.args.dim c.args.self.now (record {
-    first = c.leave.new.first;
-    rest = c.leave.new.rest;
-    awake = c.args.self.now.awake;
-  })
-      (Some c.flipped.result) c.reach-reach.ensures.most c.reach-reach.ensures.few
-      (left c.reach-reach.result c.args.dim c.args.self.now (record {
-        first = c.leave.new.first;
-        rest = c.leave.new.rest;
-        awake = c.args.self.now.awake;
-      })
-      c.flipped.result c.reach-reach.ensures.some
-      (omega (arith, c.reach-reach.ensures.most, c.requires.most)) c.requires.whole
-      (within_reach c.args.room c.reach-reach.result c.args.self.now c.requires.within c.reach-reach.ensures.few)
-      (record {
-        long = c.leave.ensures.long;
-        tall = c.leave.auto.rest ∙ c.requires.whole.shape.tall;
-        wide = c.leave.ensures.wide;
-      })
-      c.flipped.ensures.long
-      (λ i h. c.flipped.ensures.value i h ∙ ap (slot_across c.args.dim) (c.leave.ensures.going i h))
-      c.leave.ensures.stay c.leave.ensures.others);
+  value = record {
+    shape = c.leave.ensures.shape;
+    long = c.flipped.ensures.long;
+    gone = λ i h.
+        let few = c.reach-reach.ensures.few i h (c.requires.within i h) in
+        has_gone c.args.dim c.args.room c.reach-reach.result _ _ (c.requires.whole.queues i h)
+        c.reach-reach.ensures.some c.reach-reach.ensures.most (few.0) (few.1) _ _ _ (c.leave.ensures.value i h)
+        (c.flipped.ensures.value i h);
+    quiet = λ none. absurd (cc none);
+  };
 }

@@ -1,5 +1,5 @@
-use Rattle.cm_slots.proofs.Empty.{new_is_blank, new_is_shaped}
+use Rattle.cm_slots.proofs.Views.{new_is_blank}
 use Rattle.cm_slots.proofs.tile.Tile.new.Goals as goal
 
-pub returns : goal.returns
-returns c = record { shape = new_is_shaped; blank = new_is_blank }
+pub returns-clause-blank : goal.returns-clause-blank
+returns-clause-blank c = new_is_blank

@@ -1,0 +1,186 @@
+-- What a contract sees of tiles, at which nobody stands, before and after they change.
+use Rattle.std.proofs.Common.{◌≡◌, ℕ, zero, suc, ◌+◌, ◌/◌, ◌%◌, ◌<◌, ◌≤◌, List, [], length, map, replicate, false}
+use Rattle.std.proofs.Common.{refl, ap, ⊎_elim, arith, ◌-◌, ◌*◌, ◌^◌, Option, None, Bool, slice_set, set, sym, ◌∙◌}
+use Rattle.std.specs.List.{All}
+use Rattle.std.proofs.lemmas.Bool.{cases_lt, ne_eqb}
+use Rattle.std.proofs.lemmas.List.{get_or-replicate, get_or_past, length-map, length-set, get_or-set_same}
+use Rattle.std.proofs.lemmas.List.{get_or-set_other, with_items_is}
+use Rattle.std.proofs.lemmas.List.Elements.{All-from_get_or}
+use Rattle.std.specs.Prelude.{bit_xor}
+use Rattle.std.specs.Global.{Vec}
+use Rattle.std.specs.Vec.{with_items}
+use Rattle.std.proofs.lemmas.Nat.{xor_shr}
+use Rattle.cm_model.specs.Each.{each_from}
+use Rattle.cm_model.proofs.Each.{same_each_below, is_each, length-each_from, get_or-each_below, map-each_from}
+use Rattle.cm_model.specs.Array.{each_chip, list_at}
+use Rattle.cm_model.proofs.Flips.{across_below, xor_twice}
+use Rattle.cm_slots.specs.declared.tile.Tile.{Tile}
+use Rattle.cm_slots.specs.Tickets.{ticket_of, has_to_go, exchanged}
+use Rattle.cm_slots.specs.Tiles.{slots_of, no_tile, tile_at, tickets_of, queues_in, IsTile, IsQuiet}
+use Rattle.cm_slots.specs.Tiles.{AreEmpty, tile_across, numbers_at, AreTiles, IsChanged, AreWithin}
+use Rattle.cm_slots.specs.declared.ticket.Ticket.{Ticket}
+use Rattle.cm_slots.specs.Queues.{place_of_leaver}
+use Rattle.cm_slots.proofs.Standing.{get_or-zeros, standing_is, stands}
+use Rattle.cm_slots.proofs.Runs.{tiles_of_cube, across_in}
+
+-- a new tile
+abbrev pub blank_row : List ℕ
+blank_row = replicate 64 0
+
+abbrev pub new_tile : Tile
+new_tile = record { first = blank_row; rest = replicate 14 blank_row; awake = false }
+
+pub new_is_blank : (i j : ℕ) → slots_of new_tile i j ≡ 0
+new_is_blank i zero = get_or-zeros 64 i
+new_is_blank i (suc j) =
+    ⊎_elim (λ (l : j < 14). rw (get_or-replicate 14 j blank_row [] l) (get_or-zeros 64 i))
+    (λ (l : 14 ≤ j). rw (get_or_past (replicate 14 blank_row) j [] l) (get_or_past [] i 0 (omega arith)))
+    (cases_lt j 14)
+
+module _ {count : ℕ} {tiles : List Tile} (empty : AreEmpty count tiles) where
+  pub empty_quiet : (t : ℕ) → t < count → IsQuiet (tile_at tiles t)
+  empty_quiet t h i l =
+      record { fits = omega arith; each = λ j. empty.blank t i j h; taken = λ j m. absurd (omega arith) }
+
+  pub empty_whole : All IsTile tiles
+  empty_whole = All-from_get_or IsTile tiles no_tile (λ t h.
+      let quiet = empty_quiet t (omega (arith, empty.long)) in
+      record {
+        shape = empty.shape t no_tile h;
+        queues = λ i l. stands (tile_at tiles t) i [] (quiet i l);
+        quiet = λ asleep. quiet;
+      })
+
+-- no ticket stands at any chip of a quiet tile
+pub quiet_tickets : (c : ℕ) (tiles : List Tile) → IsQuiet (tile_at tiles (c / 64)) → tickets_of tiles c ≡ []
+quiet_tickets c tiles quiet =
+    ap (map ticket_of) (standing_is (tile_at tiles (c / 64)) (c % 64) [] (quiet (c % 64) (omega arith)))
+
+pub empty_queues : (chips : ℕ) (tiles : List Tile) → AreEmpty ((chips + 63) / 64) tiles
+    → queues_in chips tiles ≡ each_from 0 chips (λ c. [])
+empty_queues chips tiles empty = same_each_below [] chips (tickets_of tiles) (λ c. [])
+    (λ c h. quiet_tickets c tiles (empty_quiet empty (c / 64) (omega arith)))
+
+-- what is read of a list that a function makes
+pub ruleset seen = (length-each_from, get_or-each_below, with_items_is)
+
+-- what was lent as a slice has what was written to the slice
+pub items-lent : {X : Type 0} (row : Vec X) (now : List X) → length now ≡ length row.items
+    → (with_items row now).items ≡ now
+items-lent row now same = with_items_is row now (same ∙ sym row.ok.0)
+
+-- nobody leaves where nobody stands
+pub place_of_leaver-nobody : {X : Type 0} (test : X → Bool) (room : ℕ) → 0 < room → place_of_leaver test room [] ≡ None
+unfolding place_of_leaver
+place_of_leaver-nobody test room some = rw (ne_eqb 0 room (λ e. absurd (omega (arith, e)))) refl
+
+module _ {chips : ℕ} {tiles : List Tile} {leaving : List (Option (List ℕ))} {q : List (List Ticket)}
+    (are : AreTiles chips tiles leaving) (view : queues_in chips tiles ≡ q) where
+  pub as_many : length q ≡ chips
+  as_many = sym (ap length view) ∙ length-each_from 0 chips (tickets_of tiles)
+
+  pub ticket_list : (c : ℕ) → c < chips → tickets_of tiles c ≡ list_at q c
+  ticket_list c h =
+      sym (get_or-each_below chips (tickets_of tiles) c [] h) ∙ ap (λ (r : List (List Ticket)). list_at r c) view
+
+  -- no more than so many stand anywhere, also behind the last chip
+  pub within_everywhere : (room : ℕ) → All (λ ts. length ts ≤ room) q → AreWithin room tiles
+  within_everywhere room within t i h l =
+      let c : ℕ = t * 64 + i in
+      let tile : c / 64 ≡ t = omega arith in
+      let place : c % 64 ≡ i = omega arith in
+      let few : length (numbers_at tiles c) ≤ room =
+      grind (arith, length-map, ticket_list c, are.past c, within c [], as_many) in
+      rw (tile, place) at few
+
+  -- what is made of each chip's tickets, by chip
+  pub mapped : {Y : Type 0} (none : Y) (made : ℕ → Y) (f : List Ticket → Y)
+      → ((c : ℕ) → c / 64 < length tiles → made c ≡ f (tickets_of tiles c)) → each_from 0 chips made ≡ map f q
+  mapped none made f each =
+      same_each_below none chips made (λ c. f (tickets_of tiles c)) (λ c h. each c (omega (arith, are.count)))
+      ∙ sym (map-each_from f 0 chips (tickets_of tiles)) ∙ ap (map f) view
+
+  pub across_inside : {dims d : ℕ} → length q ≡ 2 ^ dims → d < dims → (t : ℕ) → t < length tiles
+      → tile_across d t < length tiles
+  across_inside {dims = dims} {d = d} count below t h =
+      let many : length tiles ≡ 2 ^ (dims - 6) =
+      are.count ∙ ap (λ (n : ℕ). (n + 63) / 64) (sym as_many ∙ count) ∙ tiles_of_cube dims in
+      rw many (across_in dims d t below (omega (arith, many)))
+
+  -- ---- other tiles in their place
+
+  module _ (new : List Tile) (long : length new ≡ length tiles) where
+    pub tiles_kept : {rows : List (Option (List ℕ))} → length rows ≡ length leaving → All IsTile new
+        → ((c : ℕ) → chips ≤ c → c / 64 < length tiles → tickets_of new c ≡ []) → AreTiles chips new rows
+    tiles_kept rows whole past = record {
+      few = are.few;
+      count = long ∙ are.count;
+      rows = rows ∙ are.rows ∙ sym long;
+      whole = whole;
+      past = λ c h l. past c h (omega (arith, long));
+    }
+
+    pub changed_queues : (chip : ℕ) (tickets : List Ticket) → chip < chips → IsChanged chip tickets tiles new
+        → queues_in chips new ≡ slice_set q chip tickets
+    changed_queues chip tickets inside step = sym (is_each [] chips (tickets_of new) (set q chip tickets)
+        (length-set q chip tickets ∙ as_many)
+        (λ c h. grind (arith, get_or-set_same, get_or-set_other, step.here, step.others c, ticket_list c, as_many)))
+
+    -- a dimension of a cube
+    module _ {dims d : ℕ} (count : length q ≡ 2 ^ dims) (below : d < dims) (room : ℕ) (each : (c : ℕ)
+        → c / 64 < length tiles
+        → tickets_of new c ≡ exchanged room d (tickets_of tiles c) (tickets_of tiles (bit_xor c (2 ^ d)))) where
+      pub queues_after : queues_in chips new
+          ≡ each_chip dims (λ c. exchanged room d (list_at q c) (list_at q (bit_xor c (2 ^ d))))
+      queues_after = same_each_below [] chips (tickets_of new)
+          (λ c. exchanged room d (list_at q c) (list_at q (bit_xor c (2 ^ d))))
+          (λ c h. each c (omega (arith, are.count)) ∙ rw (
+            ticket_list c h,
+            ticket_list (bit_xor c (2 ^ d)) (omega (arith, as_many, across_below dims d c below)),
+          ) refl)
+          ∙ ap (λ (n : ℕ). each_from 0 n (λ c. exchanged room d (list_at q c) (list_at q (bit_xor c (2 ^ d)))))
+          (sym as_many ∙ count)
+
+      -- behind the last chip, where nobody stood, nobody comes
+      pub crossed_past : 0 < room → (c : ℕ) → chips ≤ c → c / 64 < length tiles → tickets_of new c ≡ []
+      crossed_past some c past h =
+          let other : ℕ = bit_xor c (2 ^ d) in
+          let there : other / 64 < length tiles =
+          omega (arith, xor_shr c (2 ^ d) 6, across_inside count below (c / 64) h) in
+          let past_too : chips ≤ other =
+          grind (arith, xor_twice c (2 ^ d), as_many, across_below dims d other below) in
+          each c h ∙ rw (
+            are.past c past h,
+            are.past other past_too there,
+            place_of_leaver-nobody (has_to_go d) room some,
+          ) refl
+
+pub within_view : (chips : ℕ) (tiles : List Tile) (room : ℕ) → chips ≤ length tiles * 64 → AreWithin room tiles
+    → All (λ ts. length ts ≤ room) (queues_in chips tiles)
+within_view chips tiles room enough few k d h =
+    let low : k < chips = omega (arith, length-each_from 0 chips (tickets_of tiles)) in
+    omega (
+      arith,
+      ap length (get_or-each_below chips (tickets_of tiles) k d low),
+      few (k / 64) (k % 64) (omega (arith, low)) (omega arith),
+      length-map (numbers_at tiles k) ticket_of,
+    )
+
+-- ---- tiles that were lent
+
+module _ {chips chip : ℕ} {leaving : List (Option (List ℕ))} {q : List (List Ticket)} {lent : List Tile} (v : Vec Tile)
+    (are : AreTiles chips v.items leaving) (view : queues_in chips v.items ≡ q) (is : lent ≡ v.items)
+    (inside : chip < length q) where
+  pub lent_changed : (now : List Tile) (f : List Ticket → List Ticket) → length now ≡ length lent
+      → IsChanged chip (f (tickets_of lent chip)) lent now → AreTiles chips (with_items v now).items leaving
+      × (queues_in chips (with_items v now).items ≡ slice_set q chip (f (list_at q chip)))
+  lent_changed now f long step =
+      let many : length now ≡ length v.items = long ∙ ap length is in
+      let low : chip < chips = omega (arith, as_many are view) in
+      let changed : IsChanged chip (f (list_at q chip)) v.items now =
+      rw (← ticket_list are view chip low) (rw is at step) in
+      rw (items-lent v now many) (
+        tiles_kept are view now many refl changed.whole
+            (λ c past h. changed.others c h (λ e. absurd (omega (arith, e))) ∙ are.past c past h),
+        changed_queues are view now many chip (f (list_at q chip)) low changed,
+      )

@@ -1,6 +1,0 @@
-use Rattle.std.proofs.Common.{inr, arith}
-use Rattle.cm_slots.proofs.tile.Tile.reach.Goals as goal
-
-pub returns-then-is_within-clause-few : goal.returns-then-is_within-clause-few
-returns-then-is_within-clause-few c =
-    inr (λ i h. omega (arith, c.is_within.ensures.within.0 c.if-is_within.true i h))
