@@ -1,6 +1,6 @@
 -- Tickets and the row of messages that they stand for, as a petit cycle begins and ends.
-use Rattle.std.proofs.Common.{◌≡◌, ◌≢◌, ℕ, suc, ◌+◌, ◌-◌, ◌<◌, ◌≤◌, ◌++◌, Some, List, []}
-use Rattle.std.proofs.Common.{◌∷◌, length, take, drop, set, get_or, refl, sym, ap, ◌∙◌, subst, arith, ⊎_elim}
+use Rattle.std.proofs.Common.{◌≡◌, ◌≢◌, ℕ, ◌+◌, ◌-◌, ◌<◌, ◌≤◌, ◌++◌, Some, List, []}
+use Rattle.std.proofs.Common.{◌∷◌, length, map, take, drop, set, get_or, refl, sym, ap, ◌∙◌, subst, arith, ⊎_elim}
 use Rattle.std.proofs.Common.{Bool, false, true, Option, below_more}
 use Rattle.std.specs.Prelude.{Vec}
 use Rattle.std.specs.declared.alloc.Global.{Global}
@@ -13,7 +13,7 @@ use Rattle.std.proofs.lemmas.List.{length-map, map-append, length-append, append
 use Rattle.std.proofs.lemmas.List.{get_or_append_left, get_or_at, take_more, take_more_set, ext_get_or, drop-append-le}
 use Rattle.std.proofs.lemmas.List.{append-nil, take_all}
 use Rattle.std.proofs.lemmas.List.{take-append-le, length-drop}
-use Rattle.std.proofs.lemmas.List.Elements.{All-append, All-cons, All-nil}
+use Rattle.std.proofs.lemmas.List.Elements.{All-tail, All-append, All-cons, All-nil}
 use Rattle.cm_model.specs.declared.message.Message.{Message}
 use Rattle.cm_slots.specs.declared.ticket.Ticket.{Ticket}
 use Rattle.cm_model.specs.Array.{list_at}
@@ -22,17 +22,20 @@ use Rattle.cm_crossing.specs.Standing.{AreTogether, IsCrossing}
 
 -- ---- a longer row
 
-message_kept : (row more : List Message) (t : Ticket) → t.number < length row
-    → message_of (row ++ more) t ≡ message_of row t
-message_kept row more t h =
-    ap (λ (m : Message). record m { rel = t.rel }) (get_or_append_left row more no_message t.number h)
+map_same : {X Y : Type 0} (f g : X → Y) (xs : List X) → All (λ x. f x ≡ g x) xs → map f xs ≡ map g xs
+map_same f g [] same = refl
+map_same f g (x ∷ xs) same = rw (same 0 x (omega arith), map_same f g xs (All-tail (λ y. f y ≡ g y) x xs same))
 
 pub standing_kept : (row more : List Message) (ts : List Ticket) → AreKept (length row) ts
     → standing (row ++ more) ts ≡ standing row ts
-standing_kept row more [] h = refl
-standing_kept row more (t ∷ ts) h =
-    ap (λ (m : Message). m ∷ standing (row ++ more) ts) (message_kept row more t (h 0 t (omega arith)))
-    ∙ ap (λ (ms : List Message). message_of row t ∷ ms) (standing_kept row more ts (λ k e l. h (suc k) e (omega arith)))
+standing_kept row more ts kept = map_same (message_of (row ++ more)) (message_of row) ts
+    (λ k d l. ap (λ (m : Message). record m { rel = (get_or ts k d).rel })
+    (get_or_append_left row more no_message (get_or ts k d).number (kept k d l)))
+
+pub all_standing_kept : (row more : List Message) (queues : List (List Ticket)) → All (AreKept (length row)) queues
+    → all_standing (row ++ more) queues ≡ all_standing row queues
+all_standing_kept row more queues kept = map_same (standing (row ++ more)) (standing row) queues
+    (λ k d l. standing_kept row more (get_or queues k d) (kept k d l))
 
 pub kept_longer : (few many : ℕ) (ts : List Ticket) → few ≤ many → AreKept few ts → AreKept many ts
 kept_longer few many ts more h = λ k e l. let was = h k e l in omega arith
