@@ -118,7 +118,7 @@ room_for_one room xs (Some x) h = omega (arith, length-append xs (x ∷ []))
 
 -- ---- each ticket still stands for a message
 
-without_kept : (count : ℕ) (ts : List Ticket) (o : Option ℕ) → AreKept count ts → AreKept count (without ts o)
+pub without_kept : (count : ℕ) (ts : List Ticket) (o : Option ℕ) → AreKept count ts → AreKept count (without ts o)
 without_kept count ts None h = h
 without_kept count ts (Some i) h =
     let P : Ticket → Type 0 = λ t. t.number < count in
@@ -181,4 +181,5 @@ module _ (queues : List (List Ticket)) (count : ℕ) (none : queues ≡ each_fro
 
   pub none_together : (row : List Message) → All (AreTogether row) queues
   none_together row =
-      rw none (All-each_from (AreTogether row) 0 count (λ c. []) (λ c. record { within = omega arith; value = refl }))
+      rw none (All-each_from (AreTogether row) 0 count (λ c. [])
+      (λ c. record { start = 0; starts = λ some. absurd (omega arith); within = omega arith; value = refl }))

@@ -16,11 +16,10 @@ pub written_here : (i : ℕ) (old new : List (List Ticket)) (queue : List Ticket
 written_here i old new queue inside is =
     ap (λ (r : List (List Ticket)). list_at r i) is ∙ get_or-set_same old i queue [] inside
 
-pub written_again : (i : ℕ) (first old new : List (List Ticket)) (queue : List Ticket) → i < length old
-    → new ≡ set old i queue → IsWritten i first old → IsWritten i first new
-written_again i first old new queue inside is was =
-    is ∙ ap (λ (r : List (List Ticket)). set r i queue) was ∙ set-set first i (list_at old i) queue
-    ∙ ap (set first i) (sym (written_here i old new queue inside is))
+pub written_again : {X : Type 0} (i : ℕ) (first old new : List (List X)) (xs : List X) → new ≡ set old i xs
+    → list_at new i ≡ xs → old ≡ set first i (list_at old i) → new ≡ set first i (list_at new i)
+written_again i first old new xs is here was =
+    is ∙ ap (λ r. set r i xs) was ∙ set-set first i (list_at old i) xs ∙ ap (set first i) (sym here)
 
 pub written_long : (i : ℕ) (old new : List (List Ticket)) → IsWritten i old new → length new ≡ length old
 written_long i old new is = ap length is ∙ length-set old i (list_at new i)

@@ -15,8 +15,7 @@ invariant-loop-ticket l = record {
   kept : AreKept (length l.row) (list_at l.slots l.chip);
   fewer : length (list_at l.slots l.chip) ≤ length (list_at l.fn.slots l.chip);
   others : IsWritten l.chip l.fn.slots l.slots;
-  log_room : vec_len l.log + (length (list_at l.slots l.chip) - l.place) ≤ vec_capacity l.log;
-  log_len : vec_len l.log + (length (list_at l.slots l.chip) - l.place)
+  len : vec_len l.log + (length (list_at l.slots l.chip) - l.place)
       ≤ vec_len l.fn.log + length (list_at l.fn.slots l.chip);
   capacity : vec_capacity l.fn.log ≤ vec_capacity l.log;
 }
