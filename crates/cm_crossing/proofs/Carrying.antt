@@ -124,7 +124,7 @@ without_kept count ts (Some i) h =
     let P : Ticket → Type 0 = λ t. t.number < count in
     All-append P (take i ts) (drop (suc i) ts) (All-take P i ts h) (All-drop P (suc i) ts h)
 
-leaver_kept : (count d : ℕ) (ts : List Ticket) (o : Option ℕ) → AreKept count ts
+pub leaver_kept : (count d : ℕ) (ts : List Ticket) (o : Option ℕ) → AreKept count ts
     → IsKept count (option_map (ticket_across d) (element_at ts o))
 leaver_kept count d ts None h = tt
 leaver_kept count d [] (Some i) h = tt
@@ -138,18 +138,6 @@ nobody_kept count k d l = absurd (omega arith)
 listed_kept : (count : ℕ) (o : Option Ticket) → IsKept count o → AreKept count (option_to_list o)
 listed_kept count None h = nobody_kept count
 listed_kept count (Some t) h = All-cons (λ (x : Ticket). x.number < count) t [] h (nobody_kept count)
-
-pub stayers_kept : (count cap d : ℕ) (queues : List (List Ticket)) → All (AreKept count) queues
-    → All (AreKept count) (map (λ ts. stayers_of (has_to_go d) cap ts) queues)
-stayers_kept count cap d queues kept =
-    All-map (AreKept count) (λ (ts : List Ticket). stayers_of (has_to_go d) cap ts) queues
-    (λ k e l. without_kept count (get_or queues k e) _ (kept k e l))
-
-pub leavers_kept : (count cap d : ℕ) (queues : List (List Ticket)) → All (AreKept count) queues
-    → All (IsKept count) (map (λ ts. ticket_going cap d ts) queues)
-leavers_kept count cap d queues kept =
-    All-map (IsKept count) (λ (ts : List Ticket). ticket_going cap d ts) queues
-    (λ k e l. leaver_kept count d (get_or queues k e) _ (kept k e l))
 
 -- what a function makes for each number
 pub All-each_from : {X : Type 0} (P : X → Type 0) (first count : ℕ) (f : ℕ → X) → ((c : ℕ) → P (f c))

@@ -1,16 +1,22 @@
--- Tickets and the row of messages that they stand for: one more, and all of a chip laid out side by side.
-use Rattle.std.proofs.Common.{◌≡◌, ℕ, ◌+◌, ◌-◌, ◌<◌, ◌++◌, Bool, false, true, Option, List, [], ◌∷◌, length}
-use Rattle.std.proofs.Common.{map, get_or, refl, sym, ap, ◌∙◌, arith}
-use Rattle.std.specs.Prelude.{Vec}
-use Rattle.std.specs.List.{All, slice_range}
-use Rattle.std.specs.declared.alloc.Global.{Global}
-use Rattle.std.proofs.lemmas.List.{length-map, length-append, map-append, append_assoc, ext_get_or, get_or-map}
-use Rattle.std.proofs.lemmas.List.{get_or_at, get_or_append_left, get_or-append-add, get_or_default, drop_at, take_at}
-use Rattle.std.proofs.lemmas.List.Elements.{All-tail, All-push}
+-- Tickets and the row of messages that they stand for: a chip's are laid out side by side, and given out.
+use Rattle.std.proofs.Common.{◌≡◌, ℕ, ◌+◌, ◌-◌, ◌<◌, ◌++◌, false, true, Some, List, [], ◌∷◌, length, remove}
+use Rattle.std.proofs.Common.{map, get_or, set, refl, sym, ap, ◌∙◌, arith}
+use Rattle.std.specs.List.{All, slice_get, slice_range}
+use Rattle.std.specs.Option.{option_map}
+use Rattle.std.proofs.lemmas.List.{length-map, length-append, append_assoc, ext_get_or, get_or-map, set-set}
+use Rattle.std.proofs.lemmas.List.{get_or_append_left, get_or-append-add, get_or_default, drop_at, take_at}
+use Rattle.std.proofs.lemmas.List.Elements.{All-tail}
+use Rattle.std.proofs.lemmas.Option.{slice_get-map, slice_get_within, get_or_from_slice_get}
 use Rattle.cm_model.specs.declared.message.Message.{Message}
+use Rattle.cm_model.specs.declared.message.Event.{Event}
+use Rattle.cm_model.specs.declared.message.Event.TheVariants.{Delivered}
+use Rattle.cm_model.specs.Array.{list_at}
+use Rattle.cm_model.specs.Processor.{Processor}
+use Rattle.cm_model.proofs.Leaving.{map-without}
+use Rattle.cm_model.proofs.Scan.{Scan, HandsOver, scan_accepts, scan_keeps}
 use Rattle.cm_slots.specs.declared.ticket.Ticket.{Ticket}
 use Rattle.cm_crossing.specs.Standing.{no_message, message_of, standing, all_standing, AreKept, no_ticket}
-use Rattle.cm_crossing.specs.Standing.{AreTogether, AreLaidOut, IsCrossing}
+use Rattle.cm_crossing.specs.Standing.{AreTogether, AreLaidOut}
 
 -- ---- a longer row
 
@@ -28,22 +34,6 @@ pub all_standing_kept : (row more : List Message) (queues : List (List Ticket)) 
     → all_standing (row ++ more) queues ≡ all_standing row queues
 all_standing_kept row more queues kept = map_same (standing (row ++ more)) (standing row) queues
     (λ k d l. standing_kept row more (get_or queues k d) (kept k d l))
-
--- ---- one message more
-
-module _ (row : List Message) (queue : List Ticket) (m : Message) (number : ℕ) (is : number ≡ length row)
-    (kept : AreKept (length row) queue) where
-  pub entered_standing : standing (row ++ m ∷ []) (queue ++ record { rel = m.rel; number = number } ∷ [])
-      ≡ standing row queue ++ m ∷ []
-  entered_standing = rw (
-    map-append (message_of (row ++ m ∷ [])) queue,
-    standing_kept row (m ∷ []) queue kept,
-    get_or_at row m [] no_message number (sym is),
-  )
-
-  pub entered_kept : AreKept (length (row ++ m ∷ [])) (queue ++ record { rel = m.rel; number = number } ∷ [])
-  entered_kept = All-push (λ (t : Ticket). t.number < length (row ++ m ∷ [])) queue _
-      (λ k d l. omega (arith, kept k d l, length-append row (m ∷ []))) (omega (arith, length-append row (m ∷ [])))
 
 -- ---- messages side by side
 
@@ -95,22 +85,34 @@ module _ {row spare : List Message} {old new : List Ticket} (is : AreLaidOut row
     each = is.each;
   }
 
--- ---- other tickets for messages of the same row
+-- ---- one chip's tickets and messages, step by step
 
--- tickets have moved, as many queues and leavers as before
-pub still_crossing : {row spare : Vec Message Global} {places : ℕ} {old : List (List Ticket)}
-    {leavers leavers_now : Vec (Option Ticket) Global} {gathered : Bool}
-    → IsCrossing row spare places old leavers gathered → (now : List (List Ticket)) → length now ≡ length old
-    → length leavers_now.items ≡ length leavers.items → All (AreKept (length row.items)) now
-    → IsCrossing row spare places now leavers_now false
-still_crossing was now same many kept = record {
-  few = omega (arith, same, was.few);
-  enough = omega (arith, same, was.enough);
-  most = was.most;
-  capacity = was.capacity;
-  spare_capacity = was.spare_capacity;
-  filled = was.filled;
-  rows = many ∙ was.rows ∙ sym same;
-  kept = kept;
-  together = λ gathered. let wrong : false ≡ true = gathered in absurd cc;
-}
+-- of all lists this one is written once more
+pub written_again : {X : Type 0} (i : ℕ) (first old new : List (List X)) (xs : List X) → new ≡ set old i xs
+    → list_at new i ≡ xs → old ≡ set first i (list_at old i) → new ≡ set first i (list_at new i)
+written_again i first old new xs is here was =
+    is ∙ ap (λ r. set r i xs) was ∙ set-set first i (list_at old i) xs ∙ ap (set first i) (sym here)
+
+-- the message of the ticket at the place was handed over, and with it the scan goes on
+module _ {before chip : List Processor} {old : List Message} {told events : List Event} {here place : ℕ}
+    (row : List Message) (queue : List Ticket) (t : Ticket) (is : Some t ≡ slice_get queue place)
+    (scan : Scan before old told here chip (standing row queue) place events) where
+  found : slice_get (standing row queue) place ≡ Some (message_of row t)
+  found = slice_get-map (message_of row) queue place ∙ ap (option_map (message_of row)) (sym is)
+
+  inside : place < length (standing row queue)
+  inside = slice_get_within (standing row queue) place (message_of row t) found
+
+  there : get_or (standing row queue) place (message_of row t) ≡ message_of row t
+  there = get_or_from_slice_get (standing row queue) place (message_of row t) (message_of row t) found
+
+  pub scan_taken : {after : List Processor} → HandsOver true before (message_of row t) chip after
+      → Scan before old told here after (standing row (remove queue place)) place
+      (events ++ Delivered (message_of row t) here ∷ [])
+  scan_taken step =
+      rw (map-without (message_of row) queue (Some place))
+      (scan_accepts _ _ _ _ _ _ _ _ _ (message_of row t) scan inside there step)
+
+  pub scan_passed : {after : List Processor} → HandsOver false before (message_of row t) chip after
+      → Scan before old told here after (standing row queue) (place + 1) events
+  scan_passed step = scan_keeps _ _ _ _ _ _ _ _ _ (message_of row t) scan inside there step

@@ -1,4 +1,2 @@
 pub mod Carrying
 pub mod Keeping
-pub mod Changing
-pub mod Giving

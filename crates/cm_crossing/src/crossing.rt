@@ -360,9 +360,5 @@ impl Crossing {
 fn no_leavers(alloc: Global, chips: usize) -> Result<Vec<Option<Ticket>>, NoMemory>
     ensures count { IfOk result (λ leavers. length leavers.items ≡ chips) }
 {
-    let mut leavers = Vec::with_capacity(alloc, chips)?;
-    for _chip in 0..chips {
-        leavers.push_reserved(None);
-    }
-    Ok(leavers)
+    Ok(vec![in alloc; None; chips]?)
 }

@@ -8,7 +8,7 @@ decreases-loop-ticket l = 15 - l.place
 
 abbrev pub invariant-loop-ticket : goal.invariant-loop-ticket
 invariant-loop-ticket l = record {
-  items : l.spare.items ≡ l.fn.spare.items ++ take l.place (standing l.row (list_at l.fn.slots l.here));
+  items : l.spare.items ≡ l.fn.spare.items ++ standing l.row (take l.place (list_at l.fn.slots l.here));
   long : length (list_at l.slots l.here) ≡ length (list_at l.fn.slots l.here);
   done : (j : ℕ) → j < l.place → get_or (list_at l.slots l.here) j no_ticket
       ≡ record { rel = (get_or (list_at l.fn.slots l.here) j no_ticket).rel; number = length l.fn.spare.items + j };

@@ -8,49 +8,41 @@ use Rattle.cm_model.specs.Array.{list_at}
 use Rattle.cm_model.proofs.Leaving.{past_none}
 use Rattle.cm_model.proofs.Scan.{scan_ends}
 use Rattle.cm_crossing.proofs.Carrying.{without_kept}
-use Rattle.cm_crossing.proofs.Changing.{written_again}
-use Rattle.cm_crossing.proofs.Giving.{scan_taken, scan_passed}
+use Rattle.cm_crossing.proofs.Keeping.{written_again, scan_taken, scan_passed}
 use Rattle.cm_crossing.proofs.row.give_out.Goals as goal
-
-pub loop-ticket-smaller : goal.loop-ticket-smaller
-loop-ticket-smaller c = omega (
-  arith,
-  slice_get_within (list_at c.loop-ticket.slots c.args.chip) c.loop-ticket.place
-      c.in-Some.ticket (sym c.in-Some.ensures.value),
-)
 
 pub loop-ticket-preserved-then-is_delivered : goal.loop-ticket-preserved-then-is_delivered
 loop-ticket-preserved-then-is_delivered c =
     let was = c.loop-ticket.invariant in
+    let step = c.if-is_delivered.ensures in
     let queue = list_at c.loop-ticket.slots c.args.chip in
     let is : Some c.in-Some.ticket ≡ slice_get queue c.loop-ticket.place = c.in-Some.ensures.value in
     let inside = slice_get_within queue c.loop-ticket.place c.in-Some.ticket (sym is) in
     let here : list_at c.remove.new.self c.args.chip ≡ remove queue c.loop-ticket.place = grind (arith, elements) in
     record {
-      scan = rw (here, c.if-is_delivered.ensures.log)
-          (scan_taken c.args.row.now queue c.in-Some.ticket is was.scan (c.if-is_delivered.ensures.step _));
-      run = written_again c.args.chip c.args.run.now _ _ _ c.is_delivered.ensures.others refl was.run;
+      scan = rw (here, step.log) (scan_taken c.args.row.now queue c.in-Some.ticket is was.scan (step.step _));
+      run = written_again c.args.chip c.args.run.now _ _ _ step.others refl was.run;
       kept = rw here (without_kept _ queue (Some c.loop-ticket.place) was.kept);
       fewer = grind (arith, length-remove);
       others = written_again c.args.chip c.args.slots.now _ _ _ c.remove.ensures.value here was.others;
       len = grind (arith, length-remove);
-      capacity = omega (arith, was.capacity, c.is_delivered.ensures.capacity);
+      capacity = omega (arith, was.capacity, step.capacity);
     }
 
 pub loop-ticket-preserved : goal.loop-ticket-preserved
 loop-ticket-preserved c =
     let was = c.loop-ticket.invariant in
+    let step = c.if-is_delivered.ensures in
     let queue = list_at c.loop-ticket.slots c.args.chip in
     let is : Some c.in-Some.ticket ≡ slice_get queue c.loop-ticket.place = c.in-Some.ensures.value in
     record {
-      scan = rw (c.if-is_delivered.ensures.log, append-nil)
-          (scan_passed c.args.row.now queue c.in-Some.ticket is was.scan (c.if-is_delivered.ensures.step _));
-      run = written_again c.args.chip c.args.run.now _ _ _ c.is_delivered.ensures.others refl was.run;
+      scan = rw (step.log, append-nil) (scan_passed c.args.row.now queue c.in-Some.ticket is was.scan (step.step _));
+      run = written_again c.args.chip c.args.run.now _ _ _ step.others refl was.run;
       kept = was.kept;
       fewer = was.fewer;
       others = was.others;
       len = grind arith;
-      capacity = omega (arith, was.capacity, c.is_delivered.ensures.capacity);
+      capacity = omega (arith, was.capacity, step.capacity);
     }
 
 pub returns : goal.returns

@@ -5,7 +5,7 @@ use Rattle.cm_model.proofs.Scan.{Scan}
 use Rattle.cm_crossing.proofs.row.give_out.Given as goal
 
 abbrev pub decreases-loop-ticket : goal.decreases-loop-ticket
-decreases-loop-ticket l = length (list_at l.slots l.chip) - l.place
+decreases-loop-ticket l = length (list_at l.slots l.chip) + (15 - l.place)
 
 abbrev pub invariant-loop-ticket : goal.invariant-loop-ticket
 invariant-loop-ticket l = record {

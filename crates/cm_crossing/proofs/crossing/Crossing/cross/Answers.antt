@@ -1,8 +1,7 @@
-use Rattle.std.proofs.Common.{◌≤◌, length, refl, arith}
+use Rattle.std.proofs.Common.{◌≤◌, length, rules, arith}
 use Rattle.std.proofs.lemmas.List.{length-map}
 use Rattle.cm_model.proofs.Each.{length-each_from}
 use Rattle.cm_crossing.proofs.Carrying.{as_many, crossed_standing, crossed_kept}
-use Rattle.cm_crossing.proofs.Keeping.{still_crossing}
 use Rattle.cm_crossing.proofs.crossing.Crossing.cross.Goals as goal
 
 pub cross-requires-clause-within : goal.cross-requires-clause-within
@@ -12,9 +11,9 @@ cross-requires-clause-within c =
 
 pub invariant_of-self : goal.invariant_of-self
 invariant_of-self c =
-    still_crossing c.self.invariant c.cross.new.self (grind (arith, length-each_from, length-map)) refl
-    (rw c.cross.ensures.value (crossed_kept c.args.sizes.span c.args.sizes.room c.args.dim
-    (length c.self.inside.row.items) c.self.inside.slots c.self.invariant.kept))
+    let kept = crossed_kept c.args.sizes.span c.args.sizes.room c.args.dim (length c.self.inside.row.items)
+    c.self.inside.slots c.self.invariant.kept in
+    search (rules, length-each_from, length-map, rw (← c.cross.ensures.value) at kept)
 
 pub returns-clause-value : goal.returns-clause-value
 returns-clause-value c =

@@ -1,9 +1,10 @@
-use Rattle.std.proofs.Common.{◌≤◌, ◌<◌, length, arith}
+use Rattle.std.proofs.Common.{◌≤◌, ◌<◌, length, get_or, rules}
+use Rattle.std.specs.List.{All}
 use Rattle.std.proofs.lemmas.List.{length-map}
+use Rattle.std.proofs.lemmas.List.Elements.{All-map}
 use Rattle.std.proofs.lemmas.Grind.{common_steps}
-use Rattle.cm_crossing.proofs.Keeping.{still_crossing}
-use Rattle.cm_crossing.proofs.Carrying.{as_many, both_maps, stayers-standing, stayers_kept, going-standing}
-use Rattle.cm_crossing.proofs.Carrying.{leavers_kept}
+use Rattle.cm_crossing.specs.Standing.{AreKept, IsKept}
+use Rattle.cm_crossing.proofs.Carrying.{as_many, both_maps, stayers-standing, going-standing, without_kept, leaver_kept}
 use Rattle.cm_crossing.proofs.crossing.Crossing.leave.Goals as goal
 
 pub leave-requires-clause-within : goal.leave-requires-clause-within
@@ -12,14 +13,18 @@ leave-requires-clause-within c =
     (rw (← c.self.view_is) at c.requires.within)
 
 pub read_off-requires-clause-kept : goal.read_off-requires-clause-kept
-read_off-requires-clause-kept c = rw (c.leave.ensures.going, c.deref.ensures.value) (leavers_kept
-    (length c.self.inside.row.items) c.args.sizes.room c.args.dim c.self.inside.slots c.self.invariant.kept)
+read_off-requires-clause-kept c =
+    let slots = c.self.inside.slots in
+    rw (c.leave.ensures.going, c.deref.ensures.value) (All-map (IsKept (length c.self.inside.row.items)) _ slots
+    (λ k e l. leaver_kept _ c.args.dim (get_or slots k e) _ (c.self.invariant.kept k e l)))
 
 pub invariant_of-self : goal.invariant_of-self
 invariant_of-self c =
-    still_crossing c.self.invariant c.leave.new.self (grind (arith, length-map)) (grind (arith, common_steps))
-    (rw c.leave.ensures.value (stayers_kept (length c.self.inside.row.items) c.args.sizes.room c.args.dim
-    c.self.inside.slots c.self.invariant.kept))
+    let slots = c.self.inside.slots in
+    let kept : All (AreKept (length c.self.inside.row.items)) c.leave.new.self =
+    rw c.leave.ensures.value (All-map (AreKept (length c.self.inside.row.items)) _ slots
+    (λ k e l. without_kept _ (get_or slots k e) _ (c.self.invariant.kept k e l))) in
+    search (rules, common_steps, length-map, kept)
 
 pub returns-clause-value : goal.returns-clause-value
 returns-clause-value c =

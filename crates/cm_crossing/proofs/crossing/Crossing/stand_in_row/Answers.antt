@@ -4,15 +4,8 @@ use Rattle.cm_crossing.proofs.Keeping.{all_standing_kept}
 use Rattle.cm_crossing.proofs.crossing.Crossing.stand_in_row.Goals as goal
 
 pub returns : goal.returns
-returns c = record {
-  value = rw (
-    ← c.self.view_is,
-    c.stand.ensures.others,
-    c.stand.ensures.items,
-    map-set,
-    all_standing_kept _ _ _
-        c.self.invariant.kept,
-    standing_at,
-    rw c.stand.ensures.items at c.stand.ensures.value,
-  );
-}
+returns c =
+    let stood = c.stand.ensures in
+    let others = all_standing_kept c.self.inside.row.items c.args.messages.now _ c.self.invariant.kept in
+    let here = rw stood.items at stood.value in
+    record { value = rw (← c.self.view_is, stood.others, stood.items, map-set, others, standing_at, here) }
