@@ -1,11 +1,12 @@
 -- What tickets do, the messages do that they stand for.
-use Rattle.std.proofs.Common.{◌≡◌, ◌↔◌, ℕ, zero, suc, ◌^◌, List, [], ◌∷◌, length, map, take, drop, Option, Some, None}
+use Rattle.std.proofs.Common.{◌≡◌, ◌↔◌, ℕ, zero, suc, ◌^◌, List, [], ◌∷◌, length, map, Option, Some, None}
 use Rattle.std.proofs.Common.{refl, get_or, ◌<◌, ◌≤◌, ◌++◌, arith}
 use Rattle.std.specs.Prelude.{bit_xor}
 use Rattle.std.specs.List.{All, range_with_len}
 use Rattle.std.specs.Option.{option_map, option_to_list}
 use Rattle.std.proofs.lemmas.List.{length-map, length-append, map-append, get_or-map}
-use Rattle.std.proofs.lemmas.List.Elements.{All-append, All-take, All-drop, All-tail, All-map, All-cons}
+use Rattle.std.proofs.lemmas.Grind.{pieces}
+use Rattle.std.proofs.lemmas.List.Elements.{All-append, All-tail, All-map, All-cons}
 use Rattle.cm_model.specs.declared.message.Message.{Message}
 use Rattle.cm_model.specs.Array.{each_chip, list_at}
 use Rattle.cm_model.specs.Router.{has_to_cross, message_across}
@@ -20,44 +21,35 @@ use Rattle.cm_crossing.specs.Standing.{message_of, standing, all_standing, AreKe
 
 -- ---- the messages of a chip
 
-same_place : (row : List Message) (cap d : ℕ) (ts : List Ticket)
-    → leaving_place cap d (standing row ts) ≡ place_of_leaver (has_to_go d) cap ts
-unfolding leaving_place place_of_leaver
-same_place row cap d ts = rw (position-map (message_of row) (has_to_cross d) ts, length-map ts (message_of row))
+module _ (row : List Message) (cap d : ℕ) where
+  same_place : (ts : List Ticket) → leaving_place cap d (standing row ts) ≡ place_of_leaver (has_to_go d) cap ts
+  unfolding leaving_place place_of_leaver
+  same_place ts = rw (position-map (message_of row) (has_to_cross d) ts, length-map ts (message_of row))
 
-pub stayers-standing : (row : List Message) (cap d : ℕ) (ts : List Ticket)
-    → standing row (stayers_of (has_to_go d) cap ts) ≡ without (standing row ts) (leaving_place cap d (standing row ts))
-stayers-standing row cap d ts =
-    rw (same_place row cap d ts) (map-without (message_of row) ts (place_of_leaver (has_to_go d) cap ts))
+  pub stayers-standing : (ts : List Ticket) → standing row (stayers_of (has_to_go d) cap ts)
+      ≡ without (standing row ts) (leaving_place cap d (standing row ts))
+  stayers-standing ts = rw (same_place ts) (map-without (message_of row) ts _)
 
-across-standing : (row : List Message) (d : ℕ) (o : Option Ticket)
-    → option_map (message_across d) (option_map (message_of row) o) ≡ option_map (message_of row)
-    (option_map (ticket_across d) o)
-across-standing row d None = refl
-across-standing row d (Some t) = refl
+  across-standing : (o : Option Ticket) → option_map (message_across d) (option_map (message_of row) o)
+      ≡ option_map (message_of row) (option_map (ticket_across d) o)
+  across-standing None = refl
+  across-standing (Some t) = refl
 
-pub going-standing : (row : List Message) (cap d : ℕ) (ts : List Ticket)
-    → option_map (message_of row) (ticket_going cap d ts) ≡ outgoing cap d (standing row ts)
-going-standing row cap d ts =
-    rw (same_place row cap d ts, element_at-map (message_of row) ts, across-standing row d)
+  pub going-standing : (ts : List Ticket)
+      → option_map (message_of row) (ticket_going cap d ts) ≡ outgoing cap d (standing row ts)
+  going-standing ts = rw (same_place ts, element_at-map (message_of row) ts, across-standing)
 
-listed-standing : (row : List Message) (o : Option Ticket)
-    → standing row (option_to_list o) ≡ option_to_list (option_map (message_of row) o)
-listed-standing row None = refl
-listed-standing row (Some t) = refl
+  listed-standing : (o : Option Ticket)
+      → standing row (option_to_list o) ≡ option_to_list (option_map (message_of row) o)
+  listed-standing None = refl
+  listed-standing (Some t) = refl
 
--- where this other chip stands across the dimension
-exchanged-standing : (row : List Message) (cap d : ℕ) (here there : List Ticket)
-    → standing row (exchanged cap d here there) ≡ buffer_after_dimension cap d (standing row here)
-    (outgoing cap d (standing row there))
-unfolding buffer_after_dimension
-exchanged-standing row cap d here there =
-    rw (
-      map-append (message_of row) (stayers_of (has_to_go d) cap here),
-      stayers-standing row cap d here,
-      listed-standing row (ticket_going cap d there),
-      going-standing row cap d there,
-    )
+  -- where this other chip stands across the dimension
+  pub exchanged-standing : (here there : List Ticket) → standing row (exchanged cap d here there)
+      ≡ buffer_after_dimension cap d (standing row here) (outgoing cap d (standing row there))
+  unfolding buffer_after_dimension
+  exchanged-standing here there =
+      rw (map-append, stayers-standing here, listed-standing (ticket_going cap d there), going-standing there)
 
 -- ---- those of all chips
 
@@ -118,26 +110,24 @@ room_for_one room xs (Some x) h = omega (arith, length-append xs (x ∷ []))
 
 -- ---- each ticket still stands for a message
 
-pub without_kept : (count : ℕ) (ts : List Ticket) (o : Option ℕ) → AreKept count ts → AreKept count (without ts o)
-without_kept count ts None h = h
-without_kept count ts (Some i) h =
-    let P : Ticket → Type 0 = λ t. t.number < count in
-    All-append P (take i ts) (drop (suc i) ts) (All-take P i ts h) (All-drop P (suc i) ts h)
+module _ (count : ℕ) where
+  nobody_kept : AreKept count []
+  nobody_kept k d l = absurd (omega arith)
 
-pub leaver_kept : (count d : ℕ) (ts : List Ticket) (o : Option ℕ) → AreKept count ts
-    → IsKept count (option_map (ticket_across d) (element_at ts o))
-leaver_kept count d ts None h = tt
-leaver_kept count d [] (Some i) h = tt
-leaver_kept count d (t ∷ ts) (Some zero) h = h 0 t (omega arith)
-leaver_kept count d (t ∷ ts) (Some (suc i)) h =
-    leaver_kept count d ts (Some i) (All-tail (λ (x : Ticket). x.number < count) t ts h)
+  pub without_kept : (ts : List Ticket) (o : Option ℕ) → AreKept count ts → AreKept count (without ts o)
+  without_kept ts None h = h
+  without_kept ts (Some i) h = search (pieces, h)
 
-nobody_kept : (count : ℕ) → AreKept count []
-nobody_kept count k d l = absurd (omega arith)
+  pub leaver_kept : (d : ℕ) (ts : List Ticket) (o : Option ℕ) → AreKept count ts
+      → IsKept count (option_map (ticket_across d) (element_at ts o))
+  leaver_kept d ts None h = tt
+  leaver_kept d [] (Some i) h = tt
+  leaver_kept d (t ∷ ts) (Some zero) h = h 0 t (omega arith)
+  leaver_kept d (t ∷ ts) (Some (suc i)) h = leaver_kept d ts (Some i) (λ k e l. h (suc k) e (omega arith))
 
-listed_kept : (count : ℕ) (o : Option Ticket) → IsKept count o → AreKept count (option_to_list o)
-listed_kept count None h = nobody_kept count
-listed_kept count (Some t) h = All-cons (λ (x : Ticket). x.number < count) t [] h (nobody_kept count)
+  listed_kept : (o : Option Ticket) → IsKept count o → AreKept count (option_to_list o)
+  listed_kept None h = nobody_kept
+  listed_kept (Some t) h = All-cons (λ (x : Ticket). x.number < count) t [] h nobody_kept
 
 -- what a function makes for each number
 pub All-each_from : {X : Type 0} (P : X → Type 0) (first count : ℕ) (f : ℕ → X) → ((c : ℕ) → P (f c))

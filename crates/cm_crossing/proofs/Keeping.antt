@@ -53,12 +53,10 @@ module _ {row spare : List Message} {old new : List Ticket} (is : AreLaidOut row
       (λ j l.
       let there : j < length new = omega (arith, length-map new (message_of spare)) in
       let here : j < length old = omega (arith, is.long) in
-      rw (
-        get_or-map (message_of spare) new j no_ticket no_message there,
-        is.each j here,
-        read_between is.begun (standing row old) is.rest spare is.all j (rw (length-map old (message_of row)) here),
-        get_or-map (message_of row) old j no_ticket no_message here,
-      ))
+      let in_new = get_or-map (message_of spare) new j no_ticket no_message there in
+      let in_old = get_or-map (message_of row) old j no_ticket no_message here in
+      let read = read_between is.begun (standing row old) is.rest spare is.all j (rw length-map here) in
+      rw (in_new, is.each j here, read, in_old))
 
   laid_long : length spare ≡ length is.begun + length new + length is.rest
   laid_long = ap length is.all ∙ simp (length-append, length-map, is.long)

@@ -6,18 +6,10 @@ use Rattle.cm_crossing.proofs.crossing.Crossing.new.Goals as goal
 pub invariant_of-result : goal.invariant_of-result
 invariant_of-result c =
     let none = c.in_ok-slots.ensures.value in
-    search (
-      arith,
-      none_long,
-      none_kept,
-      none_together,
-      none,
-      c.min-places.ensures,
-      c.requires.few,
-      c.in_ok-row.ensures,
-      c.in_ok-spare.ensures,
-      c.in_ok-leavers.ensures,
-    )
+    let row = c.in_ok-row.ensures in
+    let spare = c.in_ok-spare.ensures in
+    let leavers = c.in_ok-leavers.ensures in
+    search (arith, none_long, none_kept, none_together, none, row, spare, leavers, c.min-places.ensures, c.requires)
 
 pub returns-clause-value : goal.returns-clause-value
 returns-clause-value c = none_standing _ _ c.in_ok-slots.ensures.value c.in_ok-row.row.items

@@ -6,7 +6,6 @@ use Rattle.cm_crossing.proofs.crossing.Crossing.take_in.Given as goal
 abbrev pub invariant-loop-chip : goal.invariant-loop-chip
 invariant-loop-chip l = record {
   long : length l.self.buffers ≡ length l.initial.self.buffers;
-  rows : length l.leavers ≡ length l.initial.leavers;
   done : (c : ℕ) → c < l.chip
       → list_at l.self.buffers c ≡ list_at l.initial.self.buffers c ++ option_to_list (get_or l.initial.leavers c None);
   ahead : (c : ℕ) → l.chip ≤ c → list_at l.self.buffers c ≡ list_at l.initial.self.buffers c;
