@@ -65,7 +65,7 @@ pub crossed_standing : (n cap d : ℕ) (row : List Message) (old : List (List Ti
     (outgoing cap d (list_at (all_standing row old) (bit_xor c (2 ^ d)))))
 crossed_standing n cap d row old = simp (map-each_from, exchanged-standing, standing_at)
 
--- two ways over each element
+-- what is the same for each element, made by two functions one after the other, is the same for all
 pub both_maps : {X Y Z W : Type 0} (f : Y → Z) (g : X → Y) (h : W → Z) (k : X → W) → ((x : X) → f (g x) ≡ h (k x))
     → (xs : List X) → map f (map g xs) ≡ map h (map k xs)
 both_maps f g h k same [] = refl
@@ -87,13 +87,14 @@ pub as_many : (P : ℕ → Type 0) (row : List Message) (queues : List (List Tic
 as_many P row = all_stand (λ ms. P (length ms)) (λ ts. P (length ts)) row
     (λ ts. (λ h. rw (length-map ts (message_of row)) h, λ h. rw (length-map ts (message_of row)) at h))
 
--- also at a number with no chip
+-- what is true of every list is true at each number, also where there is none
 pub all_at : {X : Type 0} (P : List X → Type 0) → P [] → (lists : List (List X)) (c : ℕ) → All P lists
     → P (list_at lists c)
 all_at P none [] c h = none
 all_at P none (xs ∷ lists) zero h = h 0 xs (omega arith)
 all_at P none (xs ∷ lists) (suc c) h = all_at P none lists c (All-tail P xs lists h)
 
+-- a chip has no more tickets than there is room for messages
 pub few_at : (room : ℕ) (row : List Message) (queues : List (List Ticket)) (c : ℕ)
     → All (λ ms. length ms ≤ room) (all_standing row queues) → length (list_at queues c) ≤ room
 few_at room row queues c within =
@@ -103,6 +104,7 @@ pub nobody_stands : (row : List Message) (ts : List Ticket) → length ts ≤ 0 
 nobody_stands row [] = (λ h. refl, λ h. omega arith)
 nobody_stands row (t ∷ ts) = (λ h. absurd (omega arith), λ h. absurd cc)
 
+-- where there is room for one more, it may come
 pub room_for_one : {X : Type 0} (room : ℕ) (xs : List X) (o : Option X) → length xs < room
     → length (xs ++ option_to_list o) ≤ room
 room_for_one room xs None h = omega (arith, length-append xs [])
@@ -118,6 +120,7 @@ module _ (count : ℕ) where
   without_kept ts None h = h
   without_kept ts (Some i) h = search (pieces, h)
 
+  -- who leaves, as it arrives across
   pub leaver_kept : (d : ℕ) (ts : List Ticket) (o : Option ℕ) → AreKept count ts
       → IsKept count (option_map (ticket_across d) (element_at ts o))
   leaver_kept d ts None h = tt

@@ -85,7 +85,7 @@ module _ {row spare : List Message} {old new : List Ticket} (is : AreLaidOut row
 
 -- ---- one chip's tickets and messages, step by step
 
--- of all lists this one is written once more
+-- of all lists only this one has changed, written once more
 pub written_again : {X : Type 0} (i : ℕ) (first old new : List (List X)) (xs : List X) → new ≡ set old i xs
     → list_at new i ≡ xs → old ≡ set first i (list_at old i) → new ≡ set first i (list_at new i)
 written_again i first old new xs is here was =
