@@ -1,101 +1,166 @@
 -- What tickets do, the messages do that they stand for.
-use Rattle.std.proofs.Common.{◌≡◌, ℕ, zero, suc, ◌+◌, ◌<◌, ◌++◌, cond, not, List, [], ◌∷◌, map, take, drop, Option}
-use Rattle.std.proofs.Common.{Some, None, refl, sym, ap, ◌∙◌, arith}
-use Rattle.std.specs.List.{position_or_len}
+use Rattle.std.proofs.Common.{◌≡◌, ◌↔◌, ℕ, zero, suc, ◌^◌, List, [], ◌∷◌, length, map, Option, Some, None}
+use Rattle.std.proofs.Common.{refl, get_or, ◌<◌, ◌≤◌, ◌++◌, arith}
+use Rattle.std.specs.Prelude.{bit_xor}
+use Rattle.std.specs.List.{All, range_with_len}
 use Rattle.std.specs.Option.{option_map, option_to_list}
-use Rattle.std.proofs.lemmas.List.{length-map, map-append, take-map, drop-map}
-use Rattle.std.proofs.lemmas.List.Elements.{All-append, All-take, All-drop, All-nil, All-cons}
-use Rattle.std.proofs.lemmas.Option.{slice_get-map}
+use Rattle.std.proofs.lemmas.List.{length-map, length-append, map-append, get_or-map}
+use Rattle.std.proofs.lemmas.Grind.{pieces}
+use Rattle.std.proofs.lemmas.List.Elements.{All-append, All-tail, All-map, All-cons}
 use Rattle.cm_model.specs.declared.message.Message.{Message}
+use Rattle.cm_model.specs.Array.{each_chip, list_at}
 use Rattle.cm_model.specs.Router.{has_to_cross, message_across}
 use Rattle.cm_model.specs.Buffers.{leaving_place, element_at, without, outgoing, buffer_after_dimension}
+use Rattle.cm_model.specs.Each.{each_from}
+use Rattle.cm_model.proofs.Each.{map-each_from, length-each_from}
+use Rattle.cm_model.proofs.Leaving.{position-map, map-without, element_at-map}
 use Rattle.cm_slots.specs.declared.ticket.Ticket.{Ticket}
-use Rattle.cm_slots.specs.Queues.{place_of_leaver}
+use Rattle.cm_slots.specs.Queues.{place_of_leaver, stayers_of}
 use Rattle.cm_slots.specs.Tickets.{has_to_go, ticket_across, ticket_going, exchanged}
-use Rattle.cm_crossing.specs.Standing.{message_of, standing, AreKept}
+use Rattle.cm_crossing.specs.Standing.{message_of, standing, all_standing, AreKept, IsKept, AreTogether}
 
--- ---- who leaves
+-- ---- the messages of a chip
 
-first_place : (row : List Message) (d : ℕ) (ts : List Ticket)
-    → position_or_len (has_to_cross d) (standing row ts) ≡ position_or_len (has_to_go d) ts
-first_place row d [] = refl
-first_place row d (t ∷ ts) = ap (λ (k : ℕ). cond (not (has_to_go d t)) (1 + k) 0) (first_place row d ts)
+module _ (row : List Message) (cap d : ℕ) where
+  same_place : (ts : List Ticket) → leaving_place cap d (standing row ts) ≡ place_of_leaver (has_to_go d) cap ts
+  unfolding leaving_place place_of_leaver
+  same_place ts = rw (position-map (message_of row) (has_to_cross d) ts, length-map ts (message_of row))
 
-pub same_place : (row : List Message) (cap d : ℕ) (ts : List Ticket)
-    → leaving_place cap d (standing row ts) ≡ place_of_leaver (has_to_go d) cap ts
-unfolding leaving_place place_of_leaver
-same_place row cap d ts = rw (length-map ts (message_of row), first_place row d ts) refl
+  pub stayers-standing : (ts : List Ticket) → standing row (stayers_of (has_to_go d) cap ts)
+      ≡ without (standing row ts) (leaving_place cap d (standing row ts))
+  stayers-standing ts = rw (same_place ts) (map-without (message_of row) ts _)
 
-pub without-standing : (row : List Message) (ts : List Ticket) (o : Option ℕ)
-    → without (standing row ts) o ≡ standing row (without ts o)
-without-standing row ts None = refl
-without-standing row ts (Some i) =
-    let f : Ticket → Message = message_of row in
-    ap (λ (ms : List Message). ms ++ drop (suc i) (map f ts)) (take-map f i ts)
-    ∙ ap (λ (ms : List Message). map f (take i ts) ++ ms) (drop-map f (suc i) ts)
-    ∙ sym (map-append f (take i ts) (drop (suc i) ts))
+  across-standing : (o : Option Ticket) → option_map (message_across d) (option_map (message_of row) o)
+      ≡ option_map (message_of row) (option_map (ticket_across d) o)
+  across-standing None = refl
+  across-standing (Some t) = refl
 
--- ---- what goes across
+  pub going-standing : (ts : List Ticket)
+      → option_map (message_of row) (ticket_going cap d ts) ≡ outgoing cap d (standing row ts)
+  going-standing ts = rw (same_place ts, element_at-map (message_of row) ts, across-standing)
 
-across-standing : (row : List Message) (d : ℕ) (o : Option Ticket)
-    → option_map (message_across d) (option_map (message_of row) o) ≡ option_map (message_of row)
-    (option_map (ticket_across d) o)
-across-standing row d None = refl
-across-standing row d (Some t) = refl
+  listed-standing : (o : Option Ticket)
+      → standing row (option_to_list o) ≡ option_to_list (option_map (message_of row) o)
+  listed-standing None = refl
+  listed-standing (Some t) = refl
 
-element-standing : (row : List Message) (ts : List Ticket) (o : Option ℕ)
-    → element_at (standing row ts) o ≡ option_map (message_of row) (element_at ts o)
-element-standing row ts None = refl
-element-standing row ts (Some i) = slice_get-map (message_of row) ts i
+  -- where this other chip stands across the dimension
+  pub exchanged-standing : (here there : List Ticket) → standing row (exchanged cap d here there)
+      ≡ buffer_after_dimension cap d (standing row here) (outgoing cap d (standing row there))
+  unfolding buffer_after_dimension
+  exchanged-standing here there =
+      rw (map-append, stayers-standing here, listed-standing (ticket_going cap d there), going-standing there)
 
-pub going-standing : (row : List Message) (cap d : ℕ) (ts : List Ticket)
-    → outgoing cap d (standing row ts) ≡ option_map (message_of row) (ticket_going cap d ts)
-going-standing row cap d ts =
-    ap (λ (o : Option ℕ). option_map (message_across d) (element_at (standing row ts) o)) (same_place row cap d ts)
-    ∙ ap (option_map (message_across d)) (element-standing row ts (place_of_leaver (has_to_go d) cap ts))
-    ∙ across-standing row d (element_at ts (place_of_leaver (has_to_go d) cap ts))
+-- ---- those of all chips
 
-listed-standing : (row : List Message) (o : Option Ticket)
-    → option_to_list (option_map (message_of row) o) ≡ standing row (option_to_list o)
-listed-standing row None = refl
-listed-standing row (Some t) = refl
+pub standing_at : (row : List Message) (queues : List (List Ticket)) (c : ℕ)
+    → list_at (all_standing row queues) c ≡ standing row (list_at queues c)
+standing_at row [] c = refl
+standing_at row (ts ∷ queues) zero = refl
+standing_at row (ts ∷ queues) (suc c) = standing_at row queues c
 
--- a chip after a dimension, where this other one stands across it
-pub exchanged-standing : (row : List Message) (cap d : ℕ) (here there : List Ticket)
-    → standing row (exchanged cap d here there) ≡ buffer_after_dimension cap d (standing row here)
-    (outgoing cap d (standing row there))
-unfolding buffer_after_dimension
-exchanged-standing row cap d here there =
-    let f : Ticket → Message = message_of row in
-    map-append f (without here (place_of_leaver (has_to_go d) cap here)) (option_to_list (ticket_going cap d there))
-    ∙ ap (λ (ms : List Message). ms ++ map f (option_to_list (ticket_going cap d there)))
-    (sym (without-standing row here (place_of_leaver (has_to_go d) cap here)))
-    ∙ ap (λ (o : Option ℕ). without (standing row here) o ++ map f (option_to_list (ticket_going cap d there)))
-    (sym (same_place row cap d here))
-    ∙ ap (λ (ms : List Message). without (standing row here) (leaving_place cap d (standing row here)) ++ ms)
-    (sym (listed-standing row (ticket_going cap d there)) ∙ ap option_to_list (sym (going-standing row cap d there)))
+pub crossed_standing : (n cap d : ℕ) (row : List Message) (old : List (List Ticket))
+    → all_standing row (each_chip n (λ c. exchanged cap d (list_at old c) (list_at old (bit_xor c (2 ^ d)))))
+    ≡ each_chip n (λ c. buffer_after_dimension cap d (list_at (all_standing row old) c)
+    (outgoing cap d (list_at (all_standing row old) (bit_xor c (2 ^ d)))))
+crossed_standing n cap d row old = simp (map-each_from, exchanged-standing, standing_at)
+
+-- what is the same for each element, made by two functions one after the other, is the same for all
+pub both_maps : {X Y Z W : Type 0} (f : Y → Z) (g : X → Y) (h : W → Z) (k : X → W) → ((x : X) → f (g x) ≡ h (k x))
+    → (xs : List X) → map f (map g xs) ≡ map h (map k xs)
+both_maps f g h k same [] = refl
+both_maps f g h k same (x ∷ xs) = rw (same x, both_maps f g h k same xs)
+
+-- what is true of each chip's messages where something is true of its tickets
+pub all_stand : (P : List Message → Type 0) (Q : List Ticket → Type 0) (row : List Message)
+    → ((ts : List Ticket) → Q ts ↔ P (standing row ts)) → (queues : List (List Ticket))
+    → All Q queues ↔ All P (all_standing row queues)
+all_stand P Q row same queues = (
+  λ h. All-map P (standing row) queues (λ k e l. (same (get_or queues k e)).0 (h k e l)),
+  λ h k e l. (same (get_or queues k e)).1 (rw (get_or-map (standing row) queues k e (standing row e) l) at (h k
+      (standing row e) (rw (length-map queues (standing row)) l))),
+)
+
+-- as many messages as tickets
+pub as_many : (P : ℕ → Type 0) (row : List Message) (queues : List (List Ticket))
+    → All (λ ts. P (length ts)) queues ↔ All (λ ms. P (length ms)) (all_standing row queues)
+as_many P row = all_stand (λ ms. P (length ms)) (λ ts. P (length ts)) row
+    (λ ts. (λ h. rw (length-map ts (message_of row)) h, λ h. rw (length-map ts (message_of row)) at h))
+
+-- what is true of every list is true at each number, also where there is none
+pub all_at : {X : Type 0} (P : List X → Type 0) → P [] → (lists : List (List X)) (c : ℕ) → All P lists
+    → P (list_at lists c)
+all_at P none [] c h = none
+all_at P none (xs ∷ lists) zero h = h 0 xs (omega arith)
+all_at P none (xs ∷ lists) (suc c) h = all_at P none lists c (All-tail P xs lists h)
+
+-- a chip has no more tickets than there is room for messages
+pub few_at : (room : ℕ) (row : List Message) (queues : List (List Ticket)) (c : ℕ)
+    → All (λ ms. length ms ≤ room) (all_standing row queues) → length (list_at queues c) ≤ room
+few_at room row queues c within =
+    all_at (λ ts. length ts ≤ room) (omega arith) queues c ((as_many (λ n. n ≤ room) row queues).1 within)
+
+pub nobody_stands : (row : List Message) (ts : List Ticket) → length ts ≤ 0 ↔ standing row ts ≡ []
+nobody_stands row [] = (λ h. refl, λ h. omega arith)
+nobody_stands row (t ∷ ts) = (λ h. absurd (omega arith), λ h. absurd cc)
+
+-- where there is room for one more, it may come
+pub room_for_one : {X : Type 0} (room : ℕ) (xs : List X) (o : Option X) → length xs < room
+    → length (xs ++ option_to_list o) ≤ room
+room_for_one room xs None h = omega (arith, length-append xs [])
+room_for_one room xs (Some x) h = omega (arith, length-append xs (x ∷ []))
 
 -- ---- each ticket still stands for a message
 
-pub without_kept : (count : ℕ) (ts : List Ticket) (o : Option ℕ) → AreKept count ts → AreKept count (without ts o)
-without_kept count ts None h = h
-without_kept count ts (Some i) h =
-    let P : Ticket → Type 0 = λ t. t.number < count in
-    All-append P (take i ts) (drop (suc i) ts) (All-take P i ts h) (All-drop P (suc i) ts h)
+module _ (count : ℕ) where
+  nobody_kept : AreKept count []
+  nobody_kept k d l = absurd (omega arith)
 
-pub going_kept : (count d : ℕ) (ts : List Ticket) (o : Option ℕ) → AreKept count ts
-    → AreKept count (option_to_list (option_map (ticket_across d) (element_at ts o)))
-going_kept count d ts None h = All-nil (λ (t : Ticket). t.number < count)
-going_kept count d [] (Some i) h = All-nil (λ (t : Ticket). t.number < count)
-going_kept count d (t ∷ ts) (Some zero) h =
-    All-cons (λ (t : Ticket). t.number < count) (ticket_across d t) [] (h 0 t (omega arith))
-    (All-nil (λ (t : Ticket). t.number < count))
-going_kept count d (t ∷ ts) (Some (suc i)) h = going_kept count d ts (Some i) (λ k e l. h (suc k) e (omega arith))
+  pub without_kept : (ts : List Ticket) (o : Option ℕ) → AreKept count ts → AreKept count (without ts o)
+  without_kept ts None h = h
+  without_kept ts (Some i) h = search (pieces, h)
 
-pub exchanged_kept : (count cap d : ℕ) (here there : List Ticket) → AreKept count here → AreKept count there
-    → AreKept count (exchanged cap d here there)
-exchanged_kept count cap d here there h t =
-    All-append (λ (t : Ticket). t.number < count) (without here (place_of_leaver (has_to_go d) cap here))
-    (option_to_list (ticket_going cap d there))
-    (without_kept count here (place_of_leaver (has_to_go d) cap here) h) (going_kept count d there (place_of_leaver
-    (has_to_go d) cap there) t)
+  -- who leaves, as it arrives across
+  pub leaver_kept : (d : ℕ) (ts : List Ticket) (o : Option ℕ) → AreKept count ts
+      → IsKept count (option_map (ticket_across d) (element_at ts o))
+  leaver_kept d ts None h = tt
+  leaver_kept d [] (Some i) h = tt
+  leaver_kept d (t ∷ ts) (Some zero) h = h 0 t (omega arith)
+  leaver_kept d (t ∷ ts) (Some (suc i)) h = leaver_kept d ts (Some i) (λ k e l. h (suc k) e (omega arith))
+
+  listed_kept : (o : Option Ticket) → IsKept count o → AreKept count (option_to_list o)
+  listed_kept None h = nobody_kept
+  listed_kept (Some t) h = All-cons (λ (x : Ticket). x.number < count) t [] h nobody_kept
+
+-- what a function makes for each number
+pub All-each_from : {X : Type 0} (P : X → Type 0) (first count : ℕ) (f : ℕ → X) → ((c : ℕ) → P (f c))
+    → All P (each_from first count f)
+unfolding each_from
+All-each_from P first count f h =
+    All-map P f (range_with_len first count) (λ k d l. h (get_or (range_with_len first count) k d))
+
+pub crossed_kept : (n cap d count : ℕ) (old : List (List Ticket)) → All (AreKept count) old
+    → All (AreKept count) (each_chip n (λ c. exchanged cap d (list_at old c) (list_at old (bit_xor c (2 ^ d)))))
+crossed_kept n cap d count old kept =
+    let at : (c : ℕ) → AreKept count (list_at old c) = λ c. all_at (AreKept count) (nobody_kept count) old c kept in
+    All-each_from (AreKept count) 0 (2 ^ n) (λ c. exchanged cap d (list_at old c) (list_at old (bit_xor c (2 ^ d))))
+    (λ c. All-append (λ (t : Ticket). t.number < count) (stayers_of (has_to_go d) cap (list_at old c)) _
+    (without_kept count (list_at old c) _ (at c))
+    (listed_kept count _ (leaver_kept count d (list_at old (bit_xor c (2 ^ d))) _ (at (bit_xor c (2 ^ d))))))
+
+-- ---- nobody stands
+
+module _ (queues : List (List Ticket)) (count : ℕ) (none : queues ≡ each_from 0 count (λ c. [])) where
+  pub none_long : length queues ≡ count
+  none_long = rw none (length-each_from 0 count (λ c. []))
+
+  pub none_standing : (row : List Message) → all_standing row queues ≡ each_from 0 count (λ c. [])
+  none_standing row = rw none (map-each_from (standing row) 0 count (λ c. []))
+
+  pub none_kept : (bound : ℕ) → All (AreKept bound) queues
+  none_kept bound = rw none (All-each_from (AreKept bound) 0 count (λ c. []) (λ c. nobody_kept bound))
+
+  pub none_together : (row : List Message) → All (AreTogether row) queues
+  none_together row =
+      rw none (All-each_from (AreTogether row) 0 count (λ c. [])
+      (λ c. record { start = 0; starts = λ some. absurd (omega arith); within = omega arith; value = refl }))

@@ -1,7 +1,2 @@
 pub mod Carrying
 pub mod Keeping
-pub mod Wholes
-pub mod Changing
-pub mod Giving
-pub mod Departing
-pub mod TakingIn

@@ -1,10 +1,9 @@
 -- Which messages stand at the chips, where tickets cross in their place. Ours.
-use Rattle.std.specs.Prelude.{◌≡◌, ℕ, ◌+◌, ◌*◌, ◌<◌, ◌≤◌, Bool, IsTrue, List, [], length, map, Vec, Option, IfSome}
+use Rattle.std.specs.Prelude.{◌≡◌, ℕ, ◌+◌, ◌*◌, ◌<◌, ◌≤◌, ◌++◌, Bool, IsTrue, List, length, map, Vec, Option, IfSome}
 use Rattle.std.specs.Prelude.{slice_index_or, slice_set, vec_len, vec_capacity}
 use Rattle.std.specs.List.{All, slice_range}
 use Rattle.std.specs.declared.alloc.Global.{Global}
 use Rattle.cm_model.specs.declared.message.Message.{Message}
-use Rattle.cm_model.specs.Processor.{Processor}
 use Rattle.cm_model.specs.Array.{list_at}
 use Rattle.cm_slots.specs.declared.ticket.Ticket.{Ticket}
 
@@ -50,10 +49,21 @@ no_ticket = record { rel = 0; number = 0 }
 abbrev pub start_of : List Ticket → ℕ
 start_of ts = (slice_index_or ts 0 no_ticket).number
 
--- from there on the messages of these tickets stand side by side, in their order and with the addresses of by now
+-- the messages of these tickets stand side by side, in their order and with the addresses of by now
 pub record AreTogether (row : List Message) (ts : List Ticket) : Type 0 where
-  pub within : start_of ts + length ts ≤ length row
-  pub value : slice_range row (start_of ts) (start_of ts + length ts) ≡ standing row ts
+  pub start : ℕ
+  pub starts : 0 < length ts → start_of ts ≡ start
+  pub within : start + length ts ≤ length row
+  pub value : slice_range row start (start + length ts) ≡ standing row ts
+
+-- tickets for the messages of the old ones, which stand side by side in the second row
+pub record AreLaidOut (row spare : List Message) (old new : List Ticket) : Type 0 where
+  pub begun : List Message
+  pub rest : List Message
+  pub all : spare ≡ (begun ++ standing row old) ++ rest
+  pub long : length new ≡ length old
+  pub each : (j : ℕ) → j < length old → slice_index_or new j no_ticket
+      ≡ record { rel = (slice_index_or old j no_ticket).rel; number = length begun + j }
 
 -- the tickets of one chip were written, and no others
 abbrev pub IsWritten : ℕ → List (List Ticket) → List (List Ticket) → Type 0

@@ -301,8 +301,9 @@ impl Crossing {
         ensures going { leavers.new ≡ map (λ ms. outgoing sizes.room dim ms) self.old.buffers }
         ensures space { All (λ ms. length ms < sizes.room) self.new.buffers }
     {
-        self.slots.leave(sizes.room, dim, &mut self.leavers);
-        read_off(&self.row, &self.leavers, leavers);
+        let gone = self.leavers.as_mut_slice();
+        self.slots.leave(sizes.room, dim, gone);
+        read_off(&self.row, gone, leavers);
         self.gathered = false;
     }
 
@@ -359,9 +360,5 @@ impl Crossing {
 fn no_leavers(alloc: Global, chips: usize) -> Result<Vec<Option<Ticket>>, NoMemory>
     ensures count { IfOk result (λ leavers. length leavers.items ≡ chips) }
 {
-    let mut leavers = Vec::with_capacity(alloc, chips)?;
-    for _chip in 0..chips {
-        leavers.push_reserved(None);
-    }
-    Ok(leavers)
+    Ok(vec![in alloc; None; chips]?)
 }

@@ -1,15 +1,18 @@
 //! The row in which messages stay, and the tickets for them.
 
 ghost use Rattle.std.specs.Prelude.{◌≡◌, ◌+◌, ◌*◌, ◌<◌, ◌≤◌, ◌++◌, ◌∷◌, [], length, map, slice_set, vec_len};
-ghost use Rattle.std.specs.Prelude.{vec_capacity};
+ghost use Rattle.std.specs.Prelude.{vec_capacity, List, IsFalse, if◌then◌else◌};
 ghost use Rattle.std.specs.List.{All};
 ghost use Rattle.std.specs.Option.{option_map};
 ghost use Rattle.cm_model.specs.declared.message.Event.TheVariants as event;
+ghost use Rattle.cm_model.specs.declared.message.Message.{Message};
+ghost use Rattle.cm_model.specs.Processor.{Processor};
+ghost use Rattle.cm_model.specs.Delivery.{HasGone, HasHandedOver};
 ghost use Rattle.cm_model.specs.Letters.{chip_after_delivery};
 ghost use Rattle.cm_model.specs.Array.{chip_at, list_at};
 ghost use Rattle.cm_crossing.specs.Standing.{message_of, standing, all_standing, AreKept, AreTogether};
 ghost use Rattle.cm_model.specs.OneChip.{delivered_here, kept_here};
-ghost use Rattle.cm_crossing.specs.Standing.{IsKept, IsWritten};
+ghost use Rattle.cm_crossing.specs.Standing.{IsKept, IsWritten, AreLaidOut};
 ghost use Rattle.cm_router.specs.Logs.{log_room};
 
 use cm_element::Run;
@@ -41,9 +44,7 @@ fn carry_over(row: &[Message], spare: &mut Vec<Message>, slots: &mut Slots, here
     requires capacity { vec_len spare.old + 15 ≤ vec_capacity spare.old }
     requires kept { AreKept (length row.now) (list_at slots.old here) }
     ensures items { spare.new.items ≡ spare.old.items ++ standing row.now (list_at slots.old here) }
-    ensures value { standing spare.new.items (list_at slots.new here) ≡ standing row.now (list_at slots.old here) }
-    ensures kept { AreKept (length spare.new.items) (list_at slots.new here) }
-    ensures together { AreTogether spare.new.items (list_at slots.new here) }
+    ensures value { AreLaidOut row.now spare.new.items (list_at slots.old here) (list_at slots.new here) }
     ensures others { IsWritten here slots.old slots.new }
     ensures len { vec_len spare.new ≤ vec_len spare.old + 15 }
     ensures capacity { vec_capacity spare.old ≤ vec_capacity spare.new }
@@ -158,22 +159,44 @@ pub(crate) fn give_out(
     ensures capacity { vec_capacity log.old ≤ vec_capacity log.new }
 {
     begin(run, chip);
-    who_has_not_arrived_is_kept();
-    let at = usize::from(chip);
+    let at = chip as usize;
     let mut place = 0;
     while let Some(ticket) = slots.ticket(at, place) {
-        // Only a message that has arrived is read: where it is kept lies far from the others.
-        if ticket.rel != 0 {
-            place += 1;
-            continue;
-        }
-        let message = message_of(row, ticket);
-        if hand_over(run, chip, &message, here, log) {
+        if is_delivered(row, ticket, run, chip, here, log) {
             slots.remove(at, place);
         } else {
             place += 1;
         }
     }
+}
+
+/// Delivers the message of a ticket, if it has arrived and its processor can receive.
+fn is_delivered(
+    row: &[Message],
+    ticket: Ticket,
+    run: &mut Run,
+    chip: u16,
+    here: u16,
+    log: &mut Vec<Event>,
+) -> bool
+    requires kept { ticket.number < length row.now }
+    requires chip { chip < length run.old }
+    requires log_room { 0 < log_room log.old }
+    ensures step { (before : List Processor) (seen : List Message) → HasGone before seen (chip_at run.old chip)
+        → HasHandedOver result before seen (message_of row.now ticket) (chip_at run.new chip) }
+    ensures others { run.new ≡ slice_set run.old chip (chip_at run.new chip) }
+    ensures log { log.new.items ≡ log.old.items
+        ++ (if result then event.Delivered (message_of row.now ticket) here ∷ [] else []) }
+    ensures len { vec_len log.new ≤ vec_len log.old + 1 }
+    ensures quiet { IsFalse result → vec_len log.new ≡ vec_len log.old }
+    ensures capacity { vec_capacity log.old ≤ vec_capacity log.new }
+{
+    // Only a message that has arrived is read: where it is kept lies far from the others.
+    if ticket.rel != 0 {
+        who_has_not_arrived_is_kept();
+        return false;
+    }
+    hand_over(run, chip, &message_of(row, ticket), here, log)
 }
 
 /// The message that a ticket stands for.

@@ -1,15 +1,19 @@
-use Rattle.std.proofs.Common.{◌≡◌, ◌+◌, ◌-◌, ◌≤◌, length, vec_len, vec_capacity}
+use Rattle.std.proofs.Common.{◌≡◌, ℕ, ◌+◌, ◌-◌, ◌<◌, ◌≤◌, ◌++◌, length, take, get_or, vec_len, vec_capacity}
 use Rattle.cm_model.specs.Array.{list_at}
-use Rattle.cm_crossing.specs.Standing.{IsWritten}
-use Rattle.cm_crossing.proofs.Keeping.{IsCarried}
+use Rattle.cm_crossing.specs.Standing.{standing, no_ticket, IsWritten}
 use Rattle.cm_crossing.proofs.row.carry_over.Given as goal
 
 abbrev pub decreases-loop-ticket : goal.decreases-loop-ticket
-decreases-loop-ticket l = length (list_at l.slots l.here) - l.place
+decreases-loop-ticket l = 15 - l.place
 
 abbrev pub invariant-loop-ticket : goal.invariant-loop-ticket
 invariant-loop-ticket l = record {
-  carried : IsCarried l.row l.fn.spare.items l.spare.items (list_at l.fn.slots l.here) (list_at l.slots l.here) l.place;
+  items : l.spare.items ≡ l.fn.spare.items ++ standing l.row (take l.place (list_at l.fn.slots l.here));
+  long : length (list_at l.slots l.here) ≡ length (list_at l.fn.slots l.here);
+  done : (j : ℕ) → j < l.place → get_or (list_at l.slots l.here) j no_ticket
+      ≡ record { rel = (get_or (list_at l.fn.slots l.here) j no_ticket).rel; number = length l.fn.spare.items + j };
+  ahead : (j : ℕ) → l.place ≤ j
+      → get_or (list_at l.slots l.here) j no_ticket ≡ get_or (list_at l.fn.slots l.here) j no_ticket;
   others : IsWritten l.here l.fn.slots l.slots;
   most : l.place ≤ 15;
   len : vec_len l.spare ≡ vec_len l.fn.spare + l.place;

@@ -5,7 +5,7 @@ use Rattle.cm_model.proofs.Scan.{Scan}
 use Rattle.cm_crossing.proofs.row.give_out.Given as goal
 
 abbrev pub decreases-loop-ticket : goal.decreases-loop-ticket
-decreases-loop-ticket l = length (list_at l.slots l.chip) - l.place
+decreases-loop-ticket l = length (list_at l.slots l.chip) + (15 - l.place)
 
 abbrev pub invariant-loop-ticket : goal.invariant-loop-ticket
 invariant-loop-ticket l = record {
@@ -15,8 +15,7 @@ invariant-loop-ticket l = record {
   kept : AreKept (length l.row) (list_at l.slots l.chip);
   fewer : length (list_at l.slots l.chip) ≤ length (list_at l.fn.slots l.chip);
   others : IsWritten l.chip l.fn.slots l.slots;
-  log_room : vec_len l.log + (length (list_at l.slots l.chip) - l.place) ≤ vec_capacity l.log;
-  log_len : vec_len l.log + (length (list_at l.slots l.chip) - l.place)
+  len : vec_len l.log + (length (list_at l.slots l.chip) - l.place)
       ≤ vec_len l.fn.log + length (list_at l.fn.slots l.chip);
   capacity : vec_capacity l.fn.log ≤ vec_capacity l.log;
 }

@@ -1,18 +1,25 @@
-use Rattle.std.proofs.Common.{arith}
-use Rattle.cm_crossing.proofs.TakingIn.{taken_in_value, taken_in_blank, taken_in_within}
+use Rattle.std.proofs.Common.{◌≡◌, ℕ, ◌<◌, ◌≤◌, ◌++◌, List, [], Option, None, length, get_or, arith}
+use Rattle.std.specs.Option.{option_to_list}
+use Rattle.std.proofs.lemmas.List.Elements.{All-from_get_or}
+use Rattle.cm_model.specs.declared.message.Message.{Message}
+use Rattle.cm_model.specs.Array.{list_at}
+use Rattle.cm_model.specs.Each.{each_from}
+use Rattle.cm_model.proofs.Each.{is_each}
+use Rattle.cm_crossing.proofs.Carrying.{All-each_from, all_at, room_for_one}
 use Rattle.cm_crossing.proofs.crossing.Crossing.take_in.Goals as goal
 
-pub returns-clause-value : goal.returns-clause-value
-returns-clause-value c =
-    taken_in_value c.args.sizes.room c.args.self.now.buffers c.args.leavers.now c.loop-chip.self.buffers
-    c.loop-chip.leavers c.loop-chip.chip c.requires.count (omega arith) c.loop-chip.invariant
-
-pub returns-clause-blank : goal.returns-clause-blank
-returns-clause-blank c =
-    taken_in_blank c.args.sizes.room c.args.self.now.buffers c.args.leavers.now c.loop-chip.self.buffers
-    c.loop-chip.leavers c.loop-chip.chip c.requires.count (omega arith) c.loop-chip.invariant
-
-pub returns-clause-within : goal.returns-clause-within
-returns-clause-within c =
-    taken_in_within c.args.sizes.room c.args.self.now.buffers c.args.leavers.now c.loop-chip.self.buffers
-    c.loop-chip.leavers c.loop-chip.chip c.requires.count (omega arith) c.loop-chip.invariant c.requires.space
+pub returns : goal.returns
+returns c =
+    let old : List (List Message) = c.args.self.now.buffers in
+    let coming : ℕ → List Message = λ k. option_to_list (get_or c.args.leavers.now k None) in
+    let value : c.loop-chip.self.buffers ≡ each_from 0 (length old) (λ k. list_at old k ++ coming k) =
+    is_each [] _ _ _ c.loop-chip.invariant.long (λ k h. c.loop-chip.invariant.done k (omega arith)) in
+    record {
+      value = value;
+      blank = All-from_get_or (λ (leaver : Option Message). leaver ≡ None) c.loop-chip.leavers None
+          (λ k h. c.loop-chip.invariant.blank k (omega arith));
+      within = rw value (All-each_from (λ (ms : List Message). length ms ≤ c.args.sizes.room) 0 (length old)
+          (λ k. list_at old k ++ coming k) (λ k. room_for_one c.args.sizes.room (list_at old k)
+          (get_or c.args.leavers.now k None)
+          (all_at (λ ms. length ms < c.args.sizes.room) (omega arith) old k c.requires.space)));
+    }

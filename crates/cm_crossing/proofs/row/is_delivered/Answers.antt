@@ -1,0 +1,6 @@
+use Rattle.std.proofs.lemmas.Bool.{ne_eqb}
+use Rattle.cm_crossing.proofs.row.is_delivered.Goals as goal
+
+pub returns-then-ticket-ne0-clause-step : goal.returns-then-ticket-ne0-clause-step
+returns-then-ticket-ne0-clause-step c = λ before seen gone.
+    c.who_has_not_arrived_is_kept.ensures.law before seen _ _ (ne_eqb c.args.ticket.rel 0 c.if-ticket-ne0.true) gone
