@@ -1,36 +1,33 @@
 -- A dimension at a run of chips that begins at any chip, within it and each half by itself; and at nodes, pair by pair.
-use Rattle.std.proofs.Common.{◌≡◌, ℕ, ◌+◌, ◌-◌, ◌*◌, ◌/◌, ◌%◌, ◌^◌, ◌<◌, ◌++◌, true, List, [], length, map, get_or}
-use Rattle.std.proofs.Common.{Option, None, refl, ap, ◌∙◌, arith, ◌≢◌, ◌≤◌, min}
+use Rattle.std.proofs.Common.{◌≡◌, ℕ, ◌+◌, ◌-◌, ◌*◌, ◌/◌, ◌%◌, ◌^◌, ◌<◌, true, List, [], length, map, get_or}
+use Rattle.std.proofs.Common.{refl, ◌∙◌, arith, ◌≢◌, ◌≤◌, min}
 use Rattle.std.specs.Prelude.{bit_xor}
 use Rattle.std.specs.Int.Bits.{xor_zero_r, xor_self}
-use Rattle.std.specs.Option.{option_to_list}
 use Rattle.std.proofs.lemmas.Bool.Decides.{nat_tests}
 use Rattle.std.proofs.lemmas.List.{length-map, get_or-map, get_or_default}
 use Rattle.std.proofs.lemmas.Nat.{xor_block, xor_lt, pow_below, pow_pos, xor_comm}
 use Rattle.std.specs.List.{All}
-use Rattle.cm_model.specs.declared.message.Message.{Message}
 use Rattle.cm_model.specs.Each.{each_from}
 use Rattle.cm_model.specs.Array.{each_chip, list_at}
-use Rattle.cm_model.specs.Steps.{Cross}
-use Rattle.cm_model.specs.Buffers.{leaving_place, without, outgoing, buffer_after_dimension}
+use Rattle.cm_model.specs.Buffers.{outgoing, buffer_after_dimension}
 use Rattle.cm_model.proofs.Each.{length-each_from, get_or-each_below, is_each}
 use Rattle.cm_model.proofs.Flips.{xor_twice, across_below}
-use Rattle.cm_blocks.specs.Parts.{Part, is_within}
-use Rattle.cm_blocks.specs.Parcels.{Blank, Mail, mail_in, due}
-use Rattle.cm_blocks.specs.Steps.{part_after, less, absorbed, mail_for}
+use Rattle.cm_blocks.specs.Parts.{Part, is_within, buffer_in}
+use Rattle.cm_blocks.specs.Parcels.{Blank}
+use Rattle.cm_blocks.specs.Steps.{mail_for}
 use Rattle.cm_router.specs.Buffer.{Buffer, buffers_of}
 use Rattle.cm_petit.proofs.Making.{row_is}
 use Rattle.cm_petit.specs.Nodes.{no_node, node_at, exchanged}
 
 -- what is made of each element is made by its number, wherever numbers begin
-mapped_from : {X Y : Type 0} (g : X → Y) (d : X) (e : Y) (first count : ℕ) (xs : List X) → length xs ≡ count
+pub mapped_from : {X Y : Type 0} (g : X → Y) (d : X) (e : Y) (first count : ℕ) (xs : List X) → length xs ≡ count
     → map g xs ≡ each_from first count (λ c. g (get_or xs (c - first) d))
 mapped_from g d e first count xs long =
     row_is e first count (λ c i. g (get_or xs i d)) (map g xs) (length-map xs g ∙ long)
     (λ i h. get_or-map g xs i d e (omega (arith, long)))
 
 -- the same, of what a function of the place makes
-each_shifted : {X : Type 0} (d : X) (first count : ℕ) (f : ℕ → X) (g : ℕ → ℕ → X)
+pub each_shifted : {X : Type 0} (d : X) (first count : ℕ) (f : ℕ → X) (g : ℕ → ℕ → X)
     → ((i : ℕ) → i < count → f i ≡ g (first + i) i) → each_from 0 count f ≡ each_from first count (λ c. g c (c - first))
 each_shifted d first count f g same =
     row_is d first count g (each_from 0 count f) (length-each_from 0 count f)
@@ -46,16 +43,13 @@ stays_in span first i d even below inside =
     let flip : 0 * 2 ^ span + 2 ^ d ≡ 2 ^ d = omega arith in
     rw (flip, xor_zero_r q, begins) at (xor_block span q 0 i (2 ^ d) inside (pow_below d span below))
 
--- within the run
-pub crossed_part : (n room d span : ℕ) (s : Part) {new : List (List Message)} → d < span → s.first % 2 ^ span ≡ 0
-    → s.count ≡ 2 ^ span
-    → new ≡ each_chip span (λ c. buffer_after_dimension room d (list_at s.buffers c)
+-- so within the run
+pub each_crossed : (room d span : ℕ) (s : Part) → d < span → s.first % 2 ^ span ≡ 0 → s.count ≡ 2 ^ span
+    → each_chip span (λ c. buffer_after_dimension room d (list_at s.buffers c)
     (outgoing room d (list_at s.buffers (bit_xor c (2 ^ d)))))
-    → record s { buffers = new } ≡ part_after n room (Cross d) Blank s
-unfolding part_after
-crossed_part n room d span s below even many made =
-    ap (λ (bs : List (List Message)). record s { buffers = bs }) (rw (← many) at made
-    ∙ each_shifted [] s.first s.count _
+    ≡ each_from s.first s.count (λ c. buffer_after_dimension room d (buffer_in s c) (mail_for room d Blank s c))
+each_crossed room d span s below even many =
+    rw (← many) (each_shifted [] s.first s.count _
     (λ c i. buffer_after_dimension room d (list_at s.buffers i) (mail_for room d Blank s c))
     (λ i inside.
     let here : i < 2 ^ span = omega (arith, many) in
@@ -63,33 +57,6 @@ crossed_part n room d span s below even many made =
     let there : s.first + bit_xor i (2 ^ d) - s.first ≡ bit_xor i (2 ^ d) = omega arith in
     let is_in : is_within s (s.first + bit_xor i (2 ^ d)) ≡ true = grind (arith, nat_tests) in
     rw (stays_in span s.first i d even below here, is_in, there) refl))
-
--- who leaves is gone
-pub less_part : (room d : ℕ) (s : Part) {new : List (List Message)} → length s.buffers ≡ s.count
-    → new ≡ map (λ ms. without ms (leaving_place room d ms)) s.buffers
-    → record s { buffers = new } ≡ less room (Cross d) s
-unfolding less
-less_part room d s long made = ap (λ (bs : List (List Message)). record s { buffers = bs })
-    (made ∙ mapped_from (λ (ms : List Message). without ms (leaving_place room d ms)) [] [] s.first s.count s.buffers
-    long)
-
--- and is due across
-pub due_part : (n room d : ℕ) (s : Part) {leavers : List (Option Message)} → length s.buffers ≡ s.count
-    → leavers ≡ map (λ ms. outgoing room d ms) s.buffers → Mail leavers ≡ due n room (Cross d) s
-unfolding due
-due_part n room d s long made =
-    ap Mail (made ∙ mapped_from (λ (ms : List Message). outgoing room d ms) [] None s.first s.count s.buffers long)
-
--- who comes is taken in
-pub absorbed_part : (n room d : ℕ) (s : Part) {new : List (List Message)} (leavers : List (Option Message))
-    → length s.buffers ≡ s.count
-    → new ≡ each_from 0 (length s.buffers) (λ c. list_at s.buffers c ++ option_to_list (get_or leavers c None))
-    → record s { buffers = new } ≡ absorbed n room (Cross d) (Mail leavers) s
-unfolding absorbed
-absorbed_part n room d s leavers long made =
-    ap (λ (bs : List (List Message)). record s { buffers = bs }) (rw long at made
-    ∙ each_shifted [] s.first s.count _ (λ c i. list_at s.buffers i ++ option_to_list (mail_in (Mail leavers) i))
-    (λ i h. refl))
 
 -- ---- nodes
 
@@ -106,30 +73,27 @@ pub record AreCrossed (d : ℕ) (before now : List Buffer) (count : ℕ) : Type 
   pub rest : (b : ℕ) → count ≤ min b (bit_xor b (2 ^ d)) → node_at now b ≡ node_at before b
 
 -- all pairs
-pub crossed_all : (n cap d : ℕ) (before now : List Buffer) → d < n → length before ≡ 2 ^ n → length now ≡ 2 ^ n
-    → All (λ node. node.room ≡ cap) before → AreCrossed d before now (2 ^ n)
-    → buffers_of now ≡ each_chip n (λ c. buffer_after_dimension cap d (list_at (buffers_of before) c)
-    (outgoing cap d (list_at (buffers_of before) (bit_xor c (2 ^ d)))))
-crossed_all n cap d before now below long long_now rooms is =
+pub crossed_all : (n room d : ℕ) (before now : List Buffer) → d < n → length before ≡ 2 ^ n → length now ≡ 2 ^ n
+    → All (λ node. node.room ≡ room) before → AreCrossed d before now (2 ^ n)
+    → (buffers_of now ≡ each_chip n (λ c. buffer_after_dimension room d (list_at (buffers_of before) c)
+    (outgoing room d (list_at (buffers_of before) (bit_xor c (2 ^ d)))))) × All (λ node. node.room ≡ room) now
+crossed_all n room d before now below long long_now rooms is =
     let read : (nodes : List Buffer) (b : ℕ) → b < length nodes
     → list_at (buffers_of nodes) b ≡ (node_at nodes b).messages =
-    λ nodes b h. get_or-map (λ (b : Buffer). b.messages) nodes b no_node [] h in
-    is_each [] (2 ^ n) _ (buffers_of now) (length-map now (λ (b : Buffer). b.messages) ∙ long_now)
-    (λ c l.
-    let other : ℕ = bit_xor c (2 ^ d) in
-    let here : c < length before = omega (arith, long) in
-    let there : other < length before = omega (arith, across_below n d c below l, long) in
-    rw (
-      read now c (omega (arith, long_now)),
-      is.done c (omega arith) here,
-      read before c here,
-      read before other there,
-      rooms c no_node here,
-      rooms other no_node there,
-    ) refl)
-
-pub crossed_rooms : (n cap d : ℕ) (before now : List Buffer) → length before ≡ 2 ^ n → length now ≡ 2 ^ n
-    → All (λ node. node.room ≡ cap) before → AreCrossed d before now (2 ^ n) → All (λ node. node.room ≡ cap) now
-crossed_rooms n cap d before now long long_now rooms is = λ c e l.
-    let here : c < length before = omega (arith, long, long_now) in
-    rw (get_or_default now c e no_node l, is.done c (omega arith) here) (rooms c no_node here)
+    λ nodes b h. get_or-map (λ (b : Buffer). b.messages) nodes b no_node [] h in (
+      is_each [] (2 ^ n) _ (buffers_of now) (length-map now (λ (b : Buffer). b.messages) ∙ long_now) (λ c l.
+          let other : ℕ = bit_xor c (2 ^ d) in
+          let here : c < length before = omega (arith, long) in
+          let there : other < length before = omega (arith, across_below n d c below l, long) in
+          rw (
+            read now c (omega (arith, long_now)),
+            is.done c (omega arith) here,
+            read before c here,
+            read before other there,
+            rooms c no_node here,
+            rooms other no_node there,
+          ) refl),
+      λ c e l.
+          let here : c < length before = omega (arith, long, long_now) in
+          rw (get_or_default now c e no_node l, is.done c (omega arith) here) (rooms c no_node here),
+    )

@@ -1,7 +1,6 @@
 -- The phases of a petit cycle that go through chips one after another: injection and delivery.
 use Rattle.std.proofs.Common.{◌≡◌, ◌≢◌, ℕ, ◌+◌, ◌-◌, ◌<◌, ◌≤◌, ◌++◌, List, [], length, map, set, get_or, sym, ap, ◌∙◌}
-use Rattle.std.proofs.Common.{arith, vec_len, vec_capacity, below_more, get_or-set_same, get_or-set_other, ⊎_elim, refl}
-use Rattle.std.proofs.lemmas.Bool.{cases_lt}
+use Rattle.std.proofs.Common.{arith, vec_len, vec_capacity, below_more, get_or-set_same, get_or-set_other, refl}
 use Rattle.std.proofs.lemmas.List.{append-nil, length-map, length-set, map-set, get_or-map, ext_get_or}
 use Rattle.cm_model.specs.declared.message.Message.{Message}
 use Rattle.cm_model.specs.declared.message.Event.{Event}
@@ -78,31 +77,14 @@ pub record AreMade (f : ℕ → Cell → Cell) (most first count : ℕ) (before 
 
 pub made_none : {f : ℕ → Cell → Cell} {most first count : ℕ} {rows : Rows} → length rows.chips ≡ count
     → length rows.buffers ≡ count → length rows.logs ≡ count → AreMade f most first count rows rows 0
-made_none chips buffers logs = record {
-  chip_count = chips;
-  buffer_count = buffers;
-  log_count = logs;
-  behind = λ i l. absurd (omega arith);
-  ahead = λ i l. refl;
-  lost = λ i l. absurd (omega arith);
-  spared = λ i l. refl;
-}
+made_none chips buffers logs = grind arith
 
 -- some more, which the phase leaves as they are
 pub made_past : {f : ℕ → Cell → Cell} {most first count i : ℕ} {before now : Rows} (j : ℕ)
     → AreMade f most first count before now i → i ≤ j → ((k : ℕ) → i ≤ k → k < j
     → cell_at now k ≡ cell_at before k → cell_at now k ≡ f (first + k) (cell_at before k))
     → AreMade f most first count before now j
-made_past {i = i} j was on stays = record {
-  chip_count = was.chip_count;
-  buffer_count = was.buffer_count;
-  log_count = was.log_count;
-  behind = λ k below. ⊎_elim (λ (l : k < i). was.behind k l) (λ (l : i ≤ k). stays k l below (was.ahead k l))
-      (cases_lt k i);
-  ahead = λ k from. was.ahead k (omega arith);
-  lost = λ k below. ⊎_elim (λ (l : k < i). was.lost k l) (λ (l : i ≤ k). omega (arith, was.spared k l)) (cases_lt k i);
-  spared = λ k from. was.spared k (omega arith);
-}
+made_past j was on stays = grind arith
 
 -- one more, the chip of this number
 pub made_more : {f : ℕ → Cell → Cell} {most first count i : ℕ} {before now : Rows} (c : ℕ) (log after : Log)
@@ -122,21 +104,16 @@ made_more {f} {most} {first} {count} {i} {before} {now} c log after was number i
       buffers = set now.buffers i made.messages;
       logs = set now.logs i after;
     } in
+    let in_chips : i < length now.chips = omega (arith, was.chip_count) in
+    let in_buffers : i < length now.buffers = omega (arith, was.buffer_count) in
     let in_logs : i < length now.logs = omega (arith, was.log_count) in
-    let events = get_or-map (λ (l : Log). l.items) now.logs i log [] in_logs in
     let in_events : i < length (events_of now.logs) = omega (arith, length-map now.logs (λ (l : Log). l.items)) in
+    let events = get_or-map (λ (l : Log). l.items) now.logs i log [] in_logs in
+    let same = was.ahead i (omega arith) in
+    let here : cell_at next i ≡ f (first + i) (cell_at before i) =
+    rw (get_or-set_same, get_or-set_same, map-set, get_or-set_same, told, ← events, ← number, ← same) refl in
     let elsewhere : (k : ℕ) → k ≢ i → cell_at next k ≡ cell_at now k =
     λ k other. simp (map-set, get_or-set_other) in
-    let here : cell_at next i ≡ f (first + i) (cell_at before i) = rw (
-      get_or-set_same now.chips i made.chip [] (omega (arith, was.chip_count)),
-      get_or-set_same now.buffers i made.messages [] (omega (arith, was.buffer_count)),
-      map-set,
-      get_or-set_same (events_of now.logs) i after.items [] in_events,
-      told,
-      ← events,
-      ← number,
-      ← was.ahead i (omega arith),
-    ) refl in
     record {
       chip_count = length-set now.chips i _ ∙ was.chip_count;
       buffer_count = length-set now.buffers i _ ∙ was.buffer_count;
@@ -144,19 +121,8 @@ made_more {f} {most} {first} {count} {i} {before} {now} c log after was number i
       behind = below_more (λ k. cell_at next k ≡ f (first + k) (cell_at before k)) i
           (λ k l. let other : k ≢ i = omega arith in elsewhere k other ∙ was.behind k l) here;
       ahead = λ k from. let other : k ≢ i = omega arith in elsewhere k other ∙ was.ahead k (omega arith);
-      lost = below_more (λ k. room_at before.logs k ≤ room_at next.logs k + most) i
-          (λ k l. let other : k ≢ i = omega arith in
-          omega (arith, was.lost k l, room_of_others now.logs i k after other))
-          (omega (
-            arith,
-            was.spared i (omega arith),
-            get_or-map log_room now.logs i log 0 in_logs,
-            room_written now.logs i after in_logs,
-            longer,
-            kept,
-          ));
-      spared = λ k from. let other : k ≢ i = omega arith in
-          room_of_others now.logs i k after other ∙ was.spared k (omega arith);
+      lost = λ k l. grind (arith, room_written, room_of_others, room_is);
+      spared = λ k l. grind (arith, room_of_others);
     }
 
 -- all of them
