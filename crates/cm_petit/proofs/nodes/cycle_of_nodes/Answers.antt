@@ -12,12 +12,7 @@ pub loop-dim-preserved : goal.loop-dim-preserved
 loop-dim-preserved c = record {
   crossed = crossed_more c.args.sizes.dims c.args.sizes.room _ c.loop-dim.dim c.loop-dim.invariant.crossed
       c.cross_nodes.ensures.value;
-  nodes = record {
-    chip_count = c.loop-dim.invariant.nodes.chip_count;
-    node_count = c.cross_nodes.ensures.count;
-    log_count = c.loop-dim.invariant.nodes.log_count;
-    rooms = c.cross_nodes.ensures.rooms;
-  };
+  nodes = grind arith;
 }
 
 pub returns-clause-value : goal.returns-clause-value
