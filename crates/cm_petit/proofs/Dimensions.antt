@@ -1,16 +1,99 @@
--- A machine whose messages are crossing.
-use Rattle.std.proofs.Common.{◌≡◌, ℕ, List}
-use Rattle.std.specs.Prelude.{◌^◌, bit_xor}
-use Rattle.cm_model.specs.declared.message.Message.{Message}
-use Rattle.cm_model.specs.Array.{Chips, each_chip, list_at}
-use Rattle.cm_model.specs.Buffers.{outgoing, buffer_after_dimension, machine_after_dimension}
-use Rattle.cm_router.specs.Logs.{Log}
-use Rattle.cm_petit.specs.Routers.{machine_of}
+-- A dimension at a run of chips that begins at any chip, within it and each half by itself; and at nodes, pair by pair.
+use Rattle.std.proofs.Common.{◌≡◌, ℕ, ◌+◌, ◌-◌, ◌*◌, ◌/◌, ◌%◌, ◌^◌, ◌<◌, true, List, [], length, map, get_or}
+use Rattle.std.proofs.Common.{refl, ◌∙◌, arith, ◌≢◌, ◌≤◌, min}
+use Rattle.std.specs.Prelude.{bit_xor}
+use Rattle.std.specs.Int.Bits.{xor_zero_r, xor_self}
+use Rattle.std.proofs.lemmas.Bool.Decides.{nat_tests}
+use Rattle.std.proofs.lemmas.List.{length-map, get_or-map, get_or_default}
+use Rattle.std.proofs.lemmas.Nat.{xor_block, xor_lt, pow_below, pow_pos, xor_comm}
+use Rattle.std.specs.List.{All}
+use Rattle.cm_model.specs.Each.{each_from}
+use Rattle.cm_model.specs.Array.{each_chip, list_at}
+use Rattle.cm_model.specs.Buffers.{outgoing, buffer_after_dimension}
+use Rattle.cm_model.proofs.Each.{length-each_from, get_or-each_below, is_each}
+use Rattle.cm_model.proofs.Flips.{xor_twice, across_below}
+use Rattle.cm_blocks.specs.Parts.{Part, is_within, buffer_in}
+use Rattle.cm_blocks.specs.Parcels.{Blank}
+use Rattle.cm_blocks.specs.Steps.{mail_for}
+use Rattle.cm_router.specs.Buffer.{Buffer, buffers_of}
+use Rattle.cm_petit.proofs.Making.{row_is}
+use Rattle.cm_petit.specs.Nodes.{no_node, node_at, exchanged}
 
--- a dimension more
-pub crossed_machine : (n cap d : ℕ) (chips : Chips) (before now : List (List Message)) (logs : List Log) (clock : ℕ)
-    → now ≡ each_chip n
-    (λ c. buffer_after_dimension cap d (list_at before c) (outgoing cap d (list_at before (bit_xor c (2 ^ d)))))
-    → machine_of chips now logs clock ≡ machine_after_dimension n cap d (machine_of chips before logs clock)
-unfolding machine_after_dimension
-crossed_machine n cap d chips before now logs clock are = λ i. machine_of chips (are i) logs clock
+-- what is made of each element is made by its number, wherever numbers begin
+pub mapped_from : {X Y : Type 0} (g : X → Y) (d : X) (e : Y) (first count : ℕ) (xs : List X) → length xs ≡ count
+    → map g xs ≡ each_from first count (λ c. g (get_or xs (c - first) d))
+mapped_from g d e first count xs long =
+    row_is e first count (λ c i. g (get_or xs i d)) (map g xs) (length-map xs g ∙ long)
+    (λ i h. get_or-map g xs i d e (omega (arith, long)))
+
+-- the same, of what a function of the place makes
+pub each_shifted : {X : Type 0} (d : X) (first count : ℕ) (f : ℕ → X) (g : ℕ → ℕ → X)
+    → ((i : ℕ) → i < count → f i ≡ g (first + i) i) → each_from 0 count f ≡ each_from first count (λ c. g c (c - first))
+each_shifted d first count f g same =
+    row_is d first count g (each_from 0 count f) (length-each_from 0 count f)
+    (λ i h. get_or-each_below count f i d h ∙ same i h)
+
+-- across a dimension that a run spans a chip stays in it
+stays_in : (span first i d : ℕ) → first % 2 ^ span ≡ 0 → d < span → i < 2 ^ span
+    → bit_xor (first + i) (2 ^ d) ≡ first + bit_xor i (2 ^ d)
+stays_in span first i d even below inside =
+    let q : ℕ = first / 2 ^ span in
+    let some : 0 < 2 ^ span = pow_pos span in
+    let begins : q * 2 ^ span ≡ first = grind (arith, even, some) in
+    let flip : 0 * 2 ^ span + 2 ^ d ≡ 2 ^ d = omega arith in
+    rw (flip, xor_zero_r q, begins) at (xor_block span q 0 i (2 ^ d) inside (pow_below d span below))
+
+-- so within the run
+pub each_crossed : (room d span : ℕ) (s : Part) → d < span → s.first % 2 ^ span ≡ 0 → s.count ≡ 2 ^ span
+    → each_chip span (λ c. buffer_after_dimension room d (list_at s.buffers c)
+    (outgoing room d (list_at s.buffers (bit_xor c (2 ^ d)))))
+    ≡ each_from s.first s.count (λ c. buffer_after_dimension room d (buffer_in s c) (mail_for room d Blank s c))
+each_crossed room d span s below even many =
+    rw (← many) (each_shifted [] s.first s.count _
+    (λ c i. buffer_after_dimension room d (list_at s.buffers i) (mail_for room d Blank s c))
+    (λ i inside.
+    let here : i < 2 ^ span = omega (arith, many) in
+    let low : bit_xor i (2 ^ d) < 2 ^ span = xor_lt span i (2 ^ d) here (pow_below d span below) in
+    let there : s.first + bit_xor i (2 ^ d) - s.first ≡ bit_xor i (2 ^ d) = omega arith in
+    let is_in : is_within s (s.first + bit_xor i (2 ^ d)) ≡ true = grind (arith, nat_tests) in
+    rw (stays_in span s.first i d even below here, is_in, there) refl))
+
+-- ---- nodes
+
+-- the number across is another
+pub across_differs : (c d : ℕ) → bit_xor c (2 ^ d) ≢ c
+across_differs c d same =
+    let none : 2 ^ d ≡ 0 = cc (xor_twice (2 ^ d) c, xor_comm (2 ^ d) c, xor_self c) in
+    absurd (omega (arith, pow_pos d, none))
+
+-- the pairs that begin below a number have crossed, and the others are as before
+pub record AreCrossed (d : ℕ) (before now : List Buffer) (count : ℕ) : Type 0 where
+  pub done : (b : ℕ) → min b (bit_xor b (2 ^ d)) < count → b < length before
+      → node_at now b ≡ exchanged d (node_at before b) (node_at before (bit_xor b (2 ^ d)))
+  pub rest : (b : ℕ) → count ≤ min b (bit_xor b (2 ^ d)) → node_at now b ≡ node_at before b
+
+-- all pairs
+pub crossed_all : (n room d : ℕ) (before now : List Buffer) → d < n → length before ≡ 2 ^ n → length now ≡ 2 ^ n
+    → All (λ node. node.room ≡ room) before → AreCrossed d before now (2 ^ n)
+    → (buffers_of now ≡ each_chip n (λ c. buffer_after_dimension room d (list_at (buffers_of before) c)
+    (outgoing room d (list_at (buffers_of before) (bit_xor c (2 ^ d)))))) × All (λ node. node.room ≡ room) now
+crossed_all n room d before now below long long_now rooms is =
+    let read : (nodes : List Buffer) (b : ℕ) → b < length nodes
+    → list_at (buffers_of nodes) b ≡ (node_at nodes b).messages =
+    λ nodes b h. get_or-map (λ (b : Buffer). b.messages) nodes b no_node [] h in (
+      is_each [] (2 ^ n) _ (buffers_of now) (length-map now (λ (b : Buffer). b.messages) ∙ long_now) (λ c l.
+          let other : ℕ = bit_xor c (2 ^ d) in
+          let here : c < length before = omega (arith, long) in
+          let there : other < length before = omega (arith, across_below n d c below l, long) in
+          rw (
+            read now c (omega (arith, long_now)),
+            is.done c (omega arith) here,
+            read before c here,
+            read before other there,
+            rooms c no_node here,
+            rooms other no_node there,
+          ) refl),
+      λ c e l.
+          let here : c < length before = omega (arith, long, long_now) in
+          rw (get_or_default now c e no_node l, is.done c (omega arith) here) (rooms c no_node here),
+    )

@@ -1,7 +1,3 @@
-pub mod Made
 pub mod Making
+pub mod Cycling
 pub mod Dimensions
-pub mod Quiet
-pub mod Bands
-pub mod Pairs
-pub mod Noding

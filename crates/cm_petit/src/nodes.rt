@@ -1,16 +1,18 @@
 //! A petit cycle on nodes, one for each chip, each with a buffer of its own.
 
-ghost use Rattle.std.specs.Prelude.{◌≡◌, ◌≢◌, ℕ, ◌+◌, ◌^◌, ◌<◌, ◌≤◌, ◌++◌, length, slice_set, bit_xor};
+ghost use Rattle.std.specs.Prelude.{◌≡◌, ◌≢◌, ℕ, ◌+◌, ◌^◌, ◌<◌, ◌≤◌, ◌++◌, length, bit_xor};
 ghost use Rattle.std.specs.Option.{option_to_list};
 ghost use Rattle.std.specs.List.{All};
 ghost use Rattle.cm_model.specs.declared.act.Act.TheVariants as act;
 ghost use Rattle.cm_model.specs.Array.{each_chip, list_at};
-ghost use Rattle.cm_model.specs.Buffers.{outgoing, buffer_after_dimension, machine_after_injection};
-ghost use Rattle.cm_model.specs.Buffers.{machine_after_delivery, after_act};
+ghost use Rattle.cm_model.specs.Steps.{Inject, Deliver};
+ghost use Rattle.cm_model.specs.Buffers.{outgoing, buffer_after_dimension, after_act};
 ghost use Rattle.cm_model.specs.Keeping.{AreSizes};
+ghost use Rattle.cm_blocks.specs.Parcels.{Blank};
+ghost use Rattle.cm_blocks.specs.Steps.{part_after};
 ghost use Rattle.cm_router.specs.Buffer.{buffers_of, holding};
 ghost use Rattle.cm_router.specs.Logs.{log_rooms_of, HaveLogRoom, LoseAtMost};
-ghost use Rattle.cm_petit.specs.Routers.{machine_of};
+ghost use Rattle.cm_petit.specs.Routers.{machine_of, part_of};
 ghost use Rattle.cm_petit.specs.Nodes.{AreNodes, node_at, exchanged};
 
 use cm_crossing::Sizes;
@@ -53,8 +55,9 @@ fn inject_into_nodes(
     requires sizes { AreSizes sizes.dims sizes.room }
     requires nodes { AreNodes sizes.dims sizes.room run.old nodes.old logs.old }
     requires log_room { HaveLogRoom 4 (log_rooms_of logs.old) }
-    ensures value { machine_of run.new (buffers_of nodes.new) logs.new clock
-        ≡ machine_after_injection sizes.dims sizes.room (machine_of run.old (buffers_of nodes.old) logs.old clock) }
+    ensures value { part_of 0 (2 ^ sizes.dims) run.new (buffers_of nodes.new) logs.new clock
+        ≡ part_after sizes.dims sizes.room Inject Blank
+        (part_of 0 (2 ^ sizes.dims) run.old (buffers_of nodes.old) logs.old clock) }
     ensures nodes { AreNodes sizes.dims sizes.room run.new nodes.new logs.new }
     ensures log_room { LoseAtMost 4 (log_rooms_of logs.old) (log_rooms_of logs.new) }
 {
@@ -65,6 +68,7 @@ fn inject_into_nodes(
 }
 
 /// Messages cross a dimension: of each pair of chips both send who leaves before either takes in who comes.
+#[tactic(auto, using(crate::proofs::Dimensions::across_differs, cm_model::proofs::Flips::xor_twice))]
 fn cross_nodes(sizes: Sizes, nodes: &mut [Node], dim: u8)
     requires sizes { AreSizes sizes.dims sizes.room }
     requires dim { dim < sizes.dims }
@@ -93,14 +97,16 @@ fn across(chip: usize, dim: u8) -> usize
 }
 
 /// Two nodes of a dimension send each other who leaves.
+#[tactic(auto, unfolding(cm_model::specs::Buffers::buffer_after_dimension))]
 fn exchange(nodes: &mut [Node], here: usize, there: usize, dim: u8)
     requires dimension { dim < 12 }
     requires here { here < length nodes.old }
     requires there { there < length nodes.old }
     requires apart { here ≢ there }
-    ensures value { nodes.new ≡ slice_set
-        (slice_set nodes.old here (exchanged dim (node_at nodes.old here) (node_at nodes.old there)))
-        there (exchanged dim (node_at nodes.old there) (node_at nodes.old here)) }
+    ensures count { length nodes.new ≡ length nodes.old }
+    ensures here { node_at nodes.new here ≡ exchanged dim (node_at nodes.old here) (node_at nodes.old there) }
+    ensures there { node_at nodes.new there ≡ exchanged dim (node_at nodes.old there) (node_at nodes.old here) }
+    ensures others { (c : ℕ) → c ≢ here → c ≢ there → node_at nodes.new c ≡ node_at nodes.old c }
 {
     let going = nodes[here].leave(dim);
     let coming = nodes[there].leave(dim);
@@ -123,8 +129,9 @@ fn deliver_from_nodes(sizes: Sizes, run: &mut Run, nodes: &mut [Node], logs: &mu
     requires sizes { AreSizes sizes.dims sizes.room }
     requires nodes { AreNodes sizes.dims sizes.room run.old nodes.old logs.old }
     requires log_room { HaveLogRoom sizes.room (log_rooms_of logs.old) }
-    ensures value { (clock : ℕ) → machine_of run.new (buffers_of nodes.new) logs.new (clock + 1)
-        ≡ machine_after_delivery sizes.dims (machine_of run.old (buffers_of nodes.old) logs.old clock) }
+    ensures value { (clock : ℕ) → part_of 0 (2 ^ sizes.dims) run.new (buffers_of nodes.new) logs.new (clock + 1)
+        ≡ part_after sizes.dims sizes.room Deliver Blank
+        (part_of 0 (2 ^ sizes.dims) run.old (buffers_of nodes.old) logs.old clock) }
     ensures nodes { AreNodes sizes.dims sizes.room run.new nodes.new logs.new }
     ensures log_room { LoseAtMost sizes.room (log_rooms_of logs.old) (log_rooms_of logs.new) }
 {

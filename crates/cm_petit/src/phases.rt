@@ -39,6 +39,7 @@ pub fn cycle(
     inject(sizes, 0, run, crossing, logs, *clock);
     *clock += 1;
     if crossing.is_empty() {
+        pass_over(run);
         return;
     }
     for dim in 0..sizes.span {

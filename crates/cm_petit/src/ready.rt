@@ -36,6 +36,7 @@ pub fn are_nodes(sizes: Sizes, run: &Run, nodes: &[Node], logs: &[Vec<Event>]) -
 }
 
 /// Whether each log takes so many events more.
+#[tactic(auto, using(crate::proofs::Making::room_is))]
 pub fn has_log_room(logs: &[Vec<Event>], count: usize) -> bool
     ensures log_room { IsTrue result ↔ HaveLogRoom count (log_rooms_of logs.now) }
 {

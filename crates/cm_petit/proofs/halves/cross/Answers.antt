@@ -1,7 +1,11 @@
-use Rattle.cm_petit.proofs.Bands.{crossed_part}
+use Rattle.std.proofs.Common.{◌^◌, refl}
+use Rattle.cm_blocks.specs.Steps.{part_after}
+use Rattle.cm_petit.specs.Routers.{part_of}
+use Rattle.cm_petit.proofs.Dimensions.{each_crossed}
 use Rattle.cm_petit.proofs.halves.cross.Goals as goal
 
 pub returns-clause-value : goal.returns-clause-value
+unfolding part_after
 returns-clause-value c = λ first clock chips logs even.
-    crossed_part c.args.sizes.dims c.args.sizes.room c.args.sizes.span first clock chips c.args.crossing.now.buffers
-    logs c.requires.count c.args.dim c.cross.new.self.buffers c.requires.dim even c.cross.ensures.value
+    let part = part_of first (2 ^ c.args.sizes.span) chips c.args.crossing.now.buffers logs clock in
+    rw (c.cross.ensures.value, each_crossed c.args.sizes.room _ _ part c.requires.dim even refl) refl

@@ -1,5 +1,5 @@
-use Rattle.cm_petit.proofs.Pairs.{AreCrossed}
+use Rattle.cm_petit.proofs.Dimensions.{AreCrossed}
 use Rattle.cm_petit.proofs.nodes.cross_nodes.Given as goal
 
 abbrev pub invariant-loop-c : goal.invariant-loop-c
-invariant-loop-c l = AreCrossed l.fn.sizes.room l.dim l.fn.nodes l.nodes l.c
+invariant-loop-c l = AreCrossed l.dim l.fn.nodes l.nodes l.c

@@ -1,15 +1,13 @@
 use Rattle.std.proofs.Common.{◌≡◌}
-use Rattle.cm_model.specs.Buffers.{machine_after_injection}
-use Rattle.cm_model.proofs.Cycles.{after_crossings}
 use Rattle.cm_router.specs.Buffer.{buffers_of}
 use Rattle.cm_petit.specs.Routers.{machine_of}
 use Rattle.cm_petit.specs.Nodes.{AreNodes}
+use Rattle.cm_petit.proofs.Cycling.{under_way}
 use Rattle.cm_petit.proofs.nodes.cycle_of_nodes.Given as goal
 
 abbrev pub invariant-loop-dim : goal.invariant-loop-dim
 invariant-loop-dim l = record {
   crossed : machine_of l.run (buffers_of l.nodes) l.logs l.clock
-      ≡ after_crossings l.sizes.dims l.sizes.room (machine_after_injection l.sizes.dims l.sizes.room
-      (machine_of l.fn.run (buffers_of l.fn.nodes) l.fn.logs l.clock)) l.dim;
+      ≡ under_way l.sizes.dims l.sizes.room (machine_of l.fn.run (buffers_of l.fn.nodes) l.fn.logs l.clock) l.dim;
   nodes : AreNodes l.sizes.dims l.sizes.room l.run l.nodes l.logs;
 }

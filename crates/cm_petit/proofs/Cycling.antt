@@ -1,0 +1,71 @@
+-- A petit cycle of the whole machine, step after step.
+use Rattle.std.proofs.Common.{◌≡◌, ℕ, zero, suc, ◌+◌, ◌-◌, ◌<◌, ◌≤◌, ◌^◌, List, [], length, sym, ap}
+use Rattle.std.proofs.Common.{◌∙◌, arith, add-one, subst}
+use Rattle.std.specs.Prelude.{bit_xor}
+use Rattle.std.proofs.lemmas.Bool.Decides.{nat_tests}
+use Rattle.cm_model.specs.declared.act.Act.TheVariants as act
+use Rattle.cm_model.specs.declared.message.Message.{Message}
+use Rattle.cm_model.specs.Array.{each_chip, list_at}
+use Rattle.cm_model.specs.Buffers.{leaving_place, outgoing, buffer_after_dimension, after_act}
+use Rattle.cm_model.specs.Buffers.{machine_after_injection, machine_after_dimension, machine_after_delivery}
+use Rattle.cm_model.specs.Machine.{Machine}
+use Rattle.cm_model.specs.Steps.{Inject, Deliver}
+use Rattle.cm_model.proofs.Cycles.{after_crossings, after_crossings-more, after_cycle-is}
+use Rattle.cm_model.proofs.Each.{is_each}
+use Rattle.cm_model.proofs.Flips.{across_below}
+use Rattle.cm_blocks.specs.Parcels.{Blank}
+use Rattle.cm_blocks.specs.Parts.{Part}
+use Rattle.cm_blocks.specs.Steps.{part_after}
+
+-- the machine that a part from chip 0 on is
+abbrev pub whole : Part → Machine
+whole s = record { chips = s.chips; buffers = s.buffers; logs = s.logs; clock = s.clock }
+
+from_0 : (c : ℕ) → c - 0 ≡ c
+from_0 c = omega arith
+
+pub injected_whole : (n room : ℕ) (s : Part) {t : Part} → s.first ≡ 0 → s.count ≡ 2 ^ n
+    → t ≡ part_after n room Inject Blank s
+    → whole t ≡ machine_after_injection n room (whole s)
+unfolding machine_after_injection part_after
+injected_whole n room s first count is = simp (first, count, from_0) at (ap whole is)
+
+pub delivered_whole : (n room : ℕ) (s : Part) {t : Part} → s.first ≡ 0 → s.count ≡ 2 ^ n
+    → t ≡ part_after n room Deliver Blank s → whole t ≡ machine_after_delivery n (whole s)
+unfolding machine_after_delivery part_after
+delivered_whole n room s first count is = simp (first, count, from_0) at (ap whole is)
+
+-- the machine after injection and so many dimensions
+abbrev pub under_way : ℕ → ℕ → Machine → ℕ → Machine
+under_way n room m d = after_crossings n room (machine_after_injection n room m) d
+
+pub crossed_more : (n room : ℕ) (m : Machine) (d : ℕ) {now : Machine} {next : List (List Message)}
+    → now ≡ under_way n room m d
+    → next ≡ each_chip n (λ c. buffer_after_dimension room d (list_at now.buffers c)
+    (outgoing room d (list_at now.buffers (bit_xor c (2 ^ d)))))
+    → record now { buffers = next } ≡ under_way n room m (d + 1)
+unfolding machine_after_dimension
+crossed_more n room m d {now} was is =
+    (λ k. record now { buffers = is k }) ∙ ap (machine_after_dimension n room d) was
+    ∙ sym (after_crossings-more n room (machine_after_injection n room m) d)
+
+pub cycle_is : (n room : ℕ) (m : Machine) {now after : Machine} → now ≡ under_way n room m n
+    → after ≡ machine_after_delivery n now → after ≡ after_act n room m act.Cycle
+cycle_is n room m was is = is ∙ ap (machine_after_delivery n) was ∙ sym (after_cycle-is n room m)
+
+-- ---- where no message stands
+
+stays_empty : (room d : ℕ) → 0 < room → buffer_after_dimension room d [] (outgoing room d []) ≡ []
+unfolding buffer_after_dimension leaving_place
+stays_empty room d some = grind (arith, nat_tests)
+
+-- nothing crosses
+pub nothing_crosses : (n room : ℕ) (m now : Machine) → 0 < room → length now.buffers ≡ 2 ^ n
+    → ((c : ℕ) → c < 2 ^ n → list_at now.buffers c ≡ []) → now ≡ machine_after_injection n room m → (d : ℕ) → d ≤ n
+    → now ≡ under_way n room m d
+nothing_crosses n room m now some long empty begun zero few = begun
+nothing_crosses n room m now some long empty begun (suc d) few =
+    subst (λ (k : ℕ). now ≡ under_way n room m k) (add-one d)
+    (crossed_more n room m d (nothing_crosses n room m now some long empty begun d (omega arith))
+    (is_each [] (2 ^ n) _ now.buffers long (λ c l.
+    rw (empty c l, empty (bit_xor c (2 ^ d)) (across_below n d c (omega arith) l)) (sym (stays_empty room d some)))))
