@@ -48,6 +48,7 @@ processor_at-delivered : (ds : List Message) (chip : List Processor) (p : ℕ) �
 unfolding chip_after_delivery
 processor_at-delivered ds chip p h = get_or-each_below 16 _ p no_processor h
 
+-- what comes second stands, where nothing came first
 delivered_again : (b : Bool) (o : Option Message) (m : Message) (processor : Processor) → (b ≡ true → o ≡ None)
     → processor_after_delivery (cond b (Some m) None) (processor_after_delivery o processor)
     ≡ processor_after_delivery (option_or o (cond b (Some m) None)) processor
@@ -72,6 +73,7 @@ got_nothing None processor wide receives = refl
 got_nothing (Some m) processor wide receives =
     let got = get_or-set_same processor.flags RECV true false wide in absurd (grind arith)
 
+-- who was delivered something receives no more
 receives_no_more : (b : Bool) (m : Message) (processor : Processor) → RECV < length processor.flags
     → not (flag (processor_after_delivery (cond b (Some m) None) processor) RECV) ≡ (not (flag processor RECV) && not b)
 receives_no_more true m processor wide = rw (get_or-set_same processor.flags RECV true false wide, and-false) refl
@@ -81,6 +83,7 @@ receives_no_more false m processor wide = sym (and-true (not (flag processor REC
 abbrev pub with_message : Bool → Message → List Processor → List Processor
 with_message b m chip = if b then chip_after_delivery (m ∷ []) chip else chip
 
+-- who can receive then: who could before, unless the message has arrived for that one
 still_open : (b : Bool) (m : Message) (chip : List Processor) (p : ℕ) → p < 16
     → b ≡ (has_arrived m && can_receive chip m.proc) → (has_arrived m ≡ true → IsChip chip × (m.proc < 16))
     → can_receive (with_message b m chip) p ≡ (can_receive chip p && not (has_arrived m && (m.proc == p)))
@@ -94,6 +97,7 @@ still_open false m chip p h is known = grind (arith, nat_tests)
 regrouped : (a b c : Bool) → ((a && not b) && not c) ≡ (a && not (c || b))
 regrouped a b c = grind arith
 
+-- such a chip is that after the delivery of one message more
 chip_more : (b : Bool) (before : List Processor) (seen : List Message) (m : Message) (chip : List Processor)
     → HasGone before seen chip → (b ≡ true → can_receive chip m.proc ≡ true)
     → with_message b m chip ≡ chip_after_delivery (out_of before seen ++ (if b then m ∷ [] else [])) before
@@ -123,6 +127,7 @@ handed_over b before seen m chip gone is known =
       kept_is = kept-more (can_receive before) [] seen m ∙ rw accepted refl;
     }
 
+-- a chip of which one processor was changed
 ruleset chip_set = (length-set, get_or-set_same, get_or-set_other)
 
 -- a payload put into the field and a 1 into the flag, one after the other, are what delivery leaves
@@ -131,8 +136,7 @@ pub received_is : (m : Message) (chip : List Processor) → length chip ≡ 16 �
     ≡ chip_after_delivery (m ∷ []) chip
 unfolding with_flag with_memory_field chip_after_delivery
 received_is m chip long there =
-    is_each no_processor 16 _ _ (grind (arith, chip_set))
-    (λ p h. grind (arith, nat_tests, chip_set))
+    is_each no_processor 16 _ _ (grind (arith, chip_set)) (λ p h. grind (arith, nat_tests, chip_set))
 
 pub nobody_yet : (chip : List Processor) → IsChip chip → chip ≡ chip_after_delivery [] chip
 unfolding chip_after_delivery

@@ -16,7 +16,8 @@ room_read logs i log inside read = cc (get_or-map log_room logs i log 0 inside)
 
 pub room_written : (logs : List Log) (i : ℕ) (log : Log) → i < length logs → room_at (set logs i log) i ≡ log_room log
 room_written logs i log inside =
-    rw (map-set log_room logs i log) (get_or-set_same (log_rooms_of logs) i _ 0 (omega (arith, length-map logs log_room)))
+    rw (map-set log_room logs i log)
+    (get_or-set_same (log_rooms_of logs) i _ 0 (omega (arith, length-map logs log_room)))
 
 pub room_of_others : (logs : List Log) (i k : ℕ) (log : Log) → k ≢ i → room_at (set logs i log) k ≡ room_at logs k
 room_of_others logs i k log other = rw (map-set log_room logs i log, get_or-set_other) refl

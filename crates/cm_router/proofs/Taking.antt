@@ -1,6 +1,6 @@
 -- Injection on one chip: whose messages are still to be taken, and the chip when they are told.
-use Rattle.std.proofs.Common.{◌≡◌, ℕ, zero, suc, ◌+◌, ◌-◌, ◌*◌, ◌%◌, ◌^◌, ◌<◌, ◌≤◌, ◌==◌, ◌&&◌, ◌||◌, min}
-use Rattle.std.proofs.Common.{Bool, true, false, not, List, [], ◌∷◌, length, get_or, set, take, refl, sym, ap, arith, bit_and, bit_or}
+use Rattle.std.proofs.Common.{◌≡◌, ℕ, zero, suc, ◌+◌, ◌-◌, ◌*◌, ◌%◌, ◌^◌, ◌<◌, ◌≤◌, ◌==◌, ◌&&◌, ◌||◌, min, Bool, true}
+use Rattle.std.proofs.Common.{false, not, List, [], ◌∷◌, length, get_or, set, take, refl, sym, ap, arith, bit_and, bit_or}
 use Rattle.std.proofs.Math.Bool.{and-true, and-false}
 use Rattle.std.proofs.Math.Seq.{take-nil}
 use Rattle.std.proofs.lemmas.Bool.{false_from_ne_true, both_ways}
@@ -16,6 +16,7 @@ use Rattle.cm_model.specs.Chip.{IsPlane, processor_at, no_processor}
 use Rattle.cm_model.specs.Letters.{senders, senders_taken, is_among}
 use Rattle.cm_model.specs.Letters.{processor_after_injection, chip_after_injection}
 use Rattle.cm_model.proofs.Bits.{bit-bit_and, bit-bit_or, bit-bit_not}
+use Rattle.cm_model.proofs.Messages.{field_value-lt}
 use Rattle.cm_model.proofs.Each.{same_each_below, get_or-each_below, is_each}
 use Rattle.cm_element.specs.Flags.{has_flag}
 use Rattle.cm_element.specs.Wide.{with_flag_plane}
@@ -30,11 +31,13 @@ asks chip p = flag (processor_at chip p) SEND
 pub ahead : ℕ → List Processor → ℕ → List ℕ
 ahead left chip i = take left (filter (asks chip) (range_with_len i (16 - i)))
 
+-- at first these are all, and at last none
 pub ahead_begins : (room standing : ℕ) (chip : List Processor)
     → senders_taken room standing chip ≡ ahead (min 4 (room - standing)) chip 0
 unfolding ahead senders
 ahead_begins room standing chip = refl
 
+-- the first of them asks, and one less may be taken after it
 pub ahead_asked : (left : ℕ) (chip : List Processor) (i : ℕ) → i < 16 → 0 < left → asks chip i ≡ true
     → ahead left chip i ≡ i ∷ ahead (left - 1) chip (i + 1)
 unfolding ahead
@@ -43,6 +46,7 @@ ahead_asked left chip i below some asking =
     let much : left ≡ suc (left - 1) = omega arith in
     rw (more, asking) (ap (λ k. take k (i ∷ filter (asks chip) (range_with_len (i + 1) (16 - (i + 1))))) much)
 
+-- who does not ask is passed over, and all where none may be taken
 pub ahead_passed : (left : ℕ) (chip : List Processor) (i : ℕ) → i < 16 → (0 < left → asks chip i ≡ false)
     → ahead left chip i ≡ ahead left chip (i + 1)
 unfolding ahead
@@ -76,6 +80,9 @@ fails_at test xs i d none below =
 pub without_flag : (number : ℕ) (chip : List Processor) → length chip ≡ 16 → has_flag number chip ≡ false
     → (p : ℕ) → p < 16 → flag (processor_at chip p) number ≡ false
 without_flag number chip long none p below = fails_at (λ q. flag q number) chip p no_processor none (omega arith)
+
+-- a field's value is below that power of two
+pub ruleset fields = (field_value-lt)
 
 -- ---- the plane
 
