@@ -2,16 +2,15 @@
 use Rattle.std.proofs.Common.{◌≡◌, ℕ, ◌<◌, ◌==◌, ◌&&◌, ◌||◌, Bool, true, false, not, cond, if◌then◌else◌, List, []}
 use Rattle.std.proofs.Common.{◌∷◌, ◌++◌, length, Option, Some, None, refl, sym, ◌∙◌, arith}
 use Rattle.std.proofs.Common.{get_or-set_same, get_or-set_other, length-set}
-use Rattle.std.proofs.Math.Bool.{and-true, and-false}
+use Rattle.std.proofs.Math.Bool.{and-true}
 use Rattle.std.proofs.lemmas.Bool.{and_parts, eqb-true}
 use Rattle.std.proofs.lemmas.Bool.Decides.{nat_tests}
-use Rattle.std.proofs.lemmas.List.{append-nil}
+use Rattle.std.proofs.lemmas.List.{append-nil, set-set}
 use Rattle.std.proofs.lemmas.List.Folds.{find-append}
 use Rattle.std.specs.List.{find}
-use Rattle.std.specs.Option.{option_or}
 use Rattle.cm_model.specs.declared.letters.TheConstants.{RECEIVED_PAYLOAD}
 use Rattle.cm_model.specs.declared.message.Message.{Message}
-use Rattle.cm_model.specs.Processor.{Processor, RECV, flag}
+use Rattle.cm_model.specs.Processor.{Processor, RECV}
 use Rattle.cm_model.specs.Chip.{processor_at, no_processor, with_flag}
 use Rattle.cm_model.specs.Whole.{IsChip}
 use Rattle.cm_model.specs.Letters.{can_receive, has_arrived, is_for, is_among, processor_after_delivery}
@@ -48,14 +47,6 @@ processor_at-delivered : (ds : List Message) (chip : List Processor) (p : ℕ) �
 unfolding chip_after_delivery
 processor_at-delivered ds chip p h = get_or-each_below 16 _ p no_processor h
 
--- what comes second stands, where nothing came first
-delivered_again : (b : Bool) (o : Option Message) (m : Message) (processor : Processor) → (b ≡ true → o ≡ None)
-    → processor_after_delivery (cond b (Some m) None) (processor_after_delivery o processor)
-    ≡ processor_after_delivery (option_or o (cond b (Some m) None)) processor
-delivered_again b None m processor h = refl
-delivered_again true (Some d) m processor h = let none : Some d ≡ None = h refl in absurd cc
-delivered_again false (Some d) m processor h = refl
-
 -- a chip with one more message delivered, to a processor that has got none
 delivered_one_more : (ds : List Message) (m : Message) (chip : List Processor)
     → ((p : ℕ) → p < 16 → (m.proc == p) ≡ true → find (is_for p) ds ≡ None)
@@ -63,21 +54,7 @@ delivered_one_more : (ds : List Message) (m : Message) (chip : List Processor)
 unfolding chip_after_delivery
 delivered_one_more ds m chip none =
     same_each_below no_processor 16 _ _
-    (λ p h. rw (processor_at-delivered ds chip p h, find-append (is_for p) ds (m ∷ []))
-    (delivered_again (m.proc == p) (find (is_for p) ds) m (processor_at chip p) (none p h)))
-
--- who can receive was not delivered anything
-got_nothing : (o : Option Message) (processor : Processor) → RECV < length processor.flags
-    → not (flag (processor_after_delivery o processor) RECV) ≡ true → o ≡ None
-got_nothing None processor wide receives = refl
-got_nothing (Some m) processor wide receives =
-    let got = get_or-set_same processor.flags RECV true false wide in absurd (grind arith)
-
--- who was delivered something receives no more
-receives_no_more : (b : Bool) (m : Message) (processor : Processor) → RECV < length processor.flags
-    → not (flag (processor_after_delivery (cond b (Some m) None) processor) RECV) ≡ (not (flag processor RECV) && not b)
-receives_no_more true m processor wide = rw (get_or-set_same processor.flags RECV true false wide, and-false) refl
-receives_no_more false m processor wide = sym (and-true (not (flag processor RECV)))
+    (λ p h. rw (processor_at-delivered ds chip p h, find-append (is_for p) ds (m ∷ [])) (grind (arith, none p h)))
 
 -- the chip when a message was delivered or kept
 abbrev pub with_message : Bool → Message → List Processor → List Processor
@@ -87,15 +64,8 @@ with_message b m chip = if b then chip_after_delivery (m ∷ []) chip else chip
 still_open : (b : Bool) (m : Message) (chip : List Processor) (p : ℕ) → p < 16
     → b ≡ (has_arrived m && can_receive chip m.proc) → (has_arrived m ≡ true → IsChip chip × (m.proc < 16))
     → can_receive (with_message b m chip) p ≡ (can_receive chip p && not (has_arrived m && (m.proc == p)))
-still_open true m chip p h is known =
-    let both = and_parts (has_arrived m) (can_receive chip m.proc) (sym is) in
-    let whole = (known both.0).0.each p h in
-    rw (processor_at-delivered (m ∷ []) chip p h, both.0)
-    (receives_no_more (m.proc == p) m (processor_at chip p) (omega (arith, whole.flags)))
-still_open false m chip p h is known = grind (arith, nat_tests)
-
-regrouped : (a b c : Bool) → ((a && not b) && not c) ≡ (a && not (c || b))
-regrouped a b c = grind arith
+still_open b m chip p h is known =
+    grind (arith, nat_tests, processor_at-delivered (m ∷ []) chip p h, get_or-set_same {A = Bool})
 
 -- such a chip is that after the delivery of one message more
 chip_more : (b : Bool) (before : List Processor) (seen : List Message) (m : Message) (chip : List Processor)
@@ -103,9 +73,15 @@ chip_more : (b : Bool) (before : List Processor) (seen : List Message) (m : Mess
     → with_message b m chip ≡ chip_after_delivery (out_of before seen ++ (if b then m ∷ [] else [])) before
 chip_more true before seen m chip gone receives =
     let out : List Message = out_of before seen in
-    rw gone.chip_is (delivered_one_more out m before (λ p h e.
-    got_nothing (find (is_for p) out) (processor_at before p) (omega (arith, (gone.whole.each p h).flags))
-    (rw (← processor_at-delivered out before p h, ← gone.chip_is, ← eqb-true m.proc p e) (receives refl))))
+    rw gone.chip_is (delivered_one_more out m before (λ p h e. grind (
+      arith,
+      get_or-set_same {A = Bool},
+      gone.whole.each p h,
+      processor_at-delivered out before p h,
+      gone.chip_is,
+      eqb-true m.proc p e,
+      receives refl,
+    )))
 chip_more false before seen m chip gone receives = gone.chip_is ∙ rw append-nil refl
 
 -- a message is delivered if it has arrived and its processor can receive, else kept
@@ -120,8 +96,7 @@ handed_over b before seen m chip gone is known =
       gone = record {
         whole = gone.whole;
         chip_is = rw delivered_is (chip_more b before seen m chip gone (λ e. (and_parts _ _ (sym is ∙ e)).1));
-        «open» = λ p h. rw (arrived-more p [] seen m, still_open b m chip p h is known, gone.open p h)
-            (regrouped _ _ _);
+        «open» = λ p h. grind (arith, arrived-more p [] seen m, still_open b m chip p h is known, gone.open p h);
       };
       delivered_is = delivered_is;
       kept_is = kept-more (can_receive before) [] seen m ∙ rw accepted refl;
@@ -149,3 +124,5 @@ nothing_seen chip whole = record {
   chip_is = nobody_yet chip whole;
   «open» = λ p h. sym (and-true (can_receive chip p));
 }
+
+pub ruleset received = (received_is, get_or-set_same, set-set)

@@ -3,10 +3,10 @@ use Rattle.std.proofs.Common.{◌≡◌, ℕ, zero, suc, ◌+◌, ◌-◌, ◌*�
 use Rattle.std.proofs.Common.{false, not, List, [], ◌∷◌, length, get_or, set, take, refl, sym, ap, arith, bit_and, bit_or}
 use Rattle.std.proofs.Math.Bool.{and-true, and-false}
 use Rattle.std.proofs.Math.Seq.{take-nil}
-use Rattle.std.proofs.lemmas.Bool.{false_from_ne_true, both_ways}
 use Rattle.std.proofs.lemmas.Bool.Decides.{nat_tests}
-use Rattle.std.proofs.lemmas.List.{set-get_or}
+use Rattle.std.proofs.lemmas.List.{append-nil, get_or-set_same, set-get_or, set-set}
 use Rattle.std.proofs.lemmas.List.Folds.{list_any_at}
+use Rattle.std.proofs.lemmas.Grind.{common_steps}
 use Rattle.std.proofs.lemmas.Nat.{one_shl}
 use Rattle.std.proofs.lemmas.Nat.Bits.{bit_at-pow_same, bit_at-pow_other}
 use Rattle.std.specs.List.{filter, list_any, range_with_len}
@@ -15,7 +15,7 @@ use Rattle.cm_model.specs.Processor.{Processor, SEND, ACK, flag}
 use Rattle.cm_model.specs.Chip.{IsPlane, processor_at, no_processor}
 use Rattle.cm_model.specs.Letters.{senders, senders_taken, is_among}
 use Rattle.cm_model.specs.Letters.{processor_after_injection, chip_after_injection}
-use Rattle.cm_model.proofs.Bits.{bit-bit_and, bit-bit_or, bit-bit_not}
+use Rattle.cm_model.proofs.Bits.{bit-bit_and, bit-bit_or, bit-bit_not, bit-zero}
 use Rattle.cm_model.proofs.Messages.{field_value-lt}
 use Rattle.cm_model.proofs.Each.{same_each_below, get_or-each_below, is_each}
 use Rattle.cm_element.specs.Flags.{has_flag}
@@ -73,8 +73,7 @@ nobody_taken room standing chip quiet = rw (none_of (asks chip) 0 16 quiet) (tak
 -- a test that no element passes fails at each place
 pub fails_at : {X : Type 0} (test : X → Bool) (xs : List X) (i : ℕ) (d : X) → list_any test xs ≡ false → i < length xs
     → test (get_or xs i d) ≡ false
-fails_at test xs i d none below =
-    false_from_ne_true _ (λ e. both_ways (list_any test xs) none (list_any_at test xs i d below e))
+fails_at test xs i d none below = grind (arith, list_any_at test xs i d below)
 
 -- of a chip that has not a flag, no processor has it
 pub without_flag : (number : ℕ) (chip : List Processor) → length chip ≡ 16 → has_flag number chip ≡ false
@@ -108,22 +107,10 @@ pub acknowledged : (ps : List ℕ) (chip : List Processor) (asking taken : ℕ) 
     ≡ chip_after_injection ps chip
 unfolding chip_after_injection with_flag_plane
 acknowledged ps chip asking taken fits asking_is taken_is =
-    let sent : ℕ → Bool = bit (bit_and asking (65535 - taken)) in
-    same_each_below no_processor 16
-    (λ p. record (processor_at (with_flag_plane chip SEND sent) p) {
-      flags = set (processor_at (with_flag_plane chip SEND sent) p).flags ACK (bit taken p);
-    })
-    (λ p. processor_after_injection (is_among p ps) (processor_at chip p))
-    (λ p h. rw (
-      get_or-each_below 16
-          (λ q. record (processor_at chip q) { flags = set (processor_at chip q).flags SEND (sent q) }) p
-          no_processor h,
-      taken_is p h,
-      bit-bit_and asking (65535 - taken) p,
-      bit-bit_not taken p fits h,
-      asking_is p h,
-      taken_is p h,
-    ) (told (is_among p ps) (processor_at chip p)))
+    same_each_below no_processor 16 _ _
+    (λ p h.
+    rw (get_or-each_below 16 _ p no_processor h, bit-bit_and, bit-bit_not taken p fits h, asking_is p h, taken_is p h)
+    (told (is_among p ps) (processor_at chip p)))
 
 -- where no message is taken and nobody is told of an earlier one, the chip is as before
 pub nothing_taken : (chip : List Processor) → length chip ≡ 16
@@ -133,3 +120,10 @@ nothing_taken chip long quiet =
     is_each no_processor 16 (λ p. processor_after_injection false (processor_at chip p)) chip long
     (λ p h. ap (λ fs. record (processor_at chip p) { flags = fs })
     (sym (rw (quiet p h) at (set-get_or (processor_at chip p).flags ACK false))))
+
+-- of a chip where nobody asks or nobody is told; of one where some are told; and of the loop
+pub ruleset idle = (nobody_taken, nothing_taken, without_flag, fails_at, bit-zero, append-nil, set-get_or)
+
+pub ruleset told_both = (acknowledged, set-set, get_or-set_same)
+
+pub ruleset taking = (common_steps, ahead_begins, ahead_ends, bit-zero, append-nil)

@@ -44,6 +44,7 @@ pub fn who_has_not_arrived_is_kept()
 /// there then, RECV is 1, and the log tells. Whether it was delivered; if not, it is to be kept. Called
 /// for one message of a buffer after another, from the front, this is the delivery of a petit cycle. The
 /// chip stands at place `chip` of the run, and its number in the machine is `here`.
+#[tactic(auto, using(crate::proofs::Delivering::received))]
 pub fn hand_over(
     run: &mut Run,
     chip: u16,

@@ -1,4 +1,4 @@
-use Rattle.std.proofs.Common.{true, false, get_or-set_same, refl, arith}
+use Rattle.std.proofs.Common.{true, false, get_or-set_same, arith}
 use Rattle.std.proofs.lemmas.Bool.Decides.{nat_tests}
 use Rattle.cm_router.proofs.Delivering.{handed_over}
 use Rattle.cm_router.proofs.delivery.hand_over.Goals as goal
@@ -9,11 +9,6 @@ returns-then-not-is_one-clause-step c = λ before seen gone.
     rw (c.receive.ensures.value, get_or-set_same)
     (handed_over true before seen c.args.message.now _ gone (grind (arith, nat_tests))
     (λ _. (c.received.ensures.whole, c.is_one.ensures.in_range)))
-
-pub returns-then-not-is_one-clause-others : goal.returns-then-not-is_one-clause-others
-returns-then-not-is_one-clause-others c =
-    let there = c.requires.chip in
-    rw (c.receive.ensures.value, get_or-set_same) refl
 
 pub returns-clause-step : goal.returns-clause-step
 returns-clause-step c = λ before seen gone.

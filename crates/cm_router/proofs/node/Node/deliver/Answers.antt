@@ -7,7 +7,6 @@ pub loop-place-init : goal.loop-place-init
 loop-place-init c = record {
   scan = rw (ap (λ node. node.messages) c.self.view_is) (scan_begins _ _ _ _ c.begin.ensures.gone);
   others = sym (set-get_or c.args.run.now c.args.chip []);
-  room = grind arith;
   numbers = grind arith;
 }
 
@@ -23,7 +22,6 @@ loop-place-preserved-then-hand_over c =
           (scan_accepts _ _ _ _ _ _ _ _ _ _ here.invariant.scan (omega arith) next step);
       others = cc (set-set c.args.run.now c.args.chip (get_or here.run c.args.chip [])
           (get_or c.hand_over.new.run c.args.chip []));
-      room = grind arith;
       numbers = grind arith;
     }
 
@@ -38,6 +36,5 @@ loop-place-preserved c =
       scan = rw told (scan_keeps _ _ _ _ _ _ _ _ _ _ here.invariant.scan (omega arith) next step);
       others = cc (set-set c.args.run.now c.args.chip (get_or here.run c.args.chip [])
           (get_or c.hand_over.new.run c.args.chip []));
-      room = grind arith;
       numbers = grind arith;
     }

@@ -15,8 +15,8 @@ invariant-loop-number l = record {
   log : l.fn.log.items
       ++ map Injected (sent_here l.dims l.fn.self.room l.clock l.here l.fn.self.messages l.chip)
       ≡ l.log.items ++ map Injected (messages_sent l.dims l.clock l.here l.chip (ahead l.left l.chip l.number));
-  room : l.self-inside.room ≡ l.fn.self.room;
   numbers : record {
+    room : l.self-inside.room ≡ l.fn.self.room;
     log_room : vec_len l.log + l.left ≤ vec_capacity l.log;
     log_len : vec_len l.log + l.left ≤ vec_len l.fn.log + 4;
     capacity : vec_capacity l.fn.log ≤ vec_capacity l.log;
