@@ -1,6 +1,7 @@
 -- Injection on one chip: whose messages are still to be taken, and the chip when they are told.
 use Rattle.std.proofs.Common.{◌≡◌, ℕ, zero, suc, ◌+◌, ◌-◌, ◌*◌, ◌%◌, ◌^◌, ◌<◌, ◌≤◌, ◌==◌, ◌&&◌, ◌||◌, min, Bool, true}
-use Rattle.std.proofs.Common.{false, not, List, [], ◌∷◌, length, get_or, set, take, refl, sym, ap, arith, bit_and, bit_or}
+use Rattle.std.proofs.Common.{false, not, List, [], ◌∷◌, length, get_or, set, take, refl, sym, ap, arith}
+use Rattle.std.proofs.Common.{bit_and, bit_or}
 use Rattle.std.proofs.Math.Bool.{and-true, and-false}
 use Rattle.std.proofs.Math.Seq.{take-nil}
 use Rattle.std.proofs.lemmas.Bool.Decides.{nat_tests}
