@@ -9,7 +9,7 @@ use Rattle.std.proofs.lemmas.Bool.Decides.{nat_tests}
 use Rattle.std.proofs.lemmas.List.{append-nil, append_assoc}
 use Rattle.cm_model.specs.declared.act.Act.TheVariants as act
 use Rattle.cm_model.specs.Steps.{Step, Inject, Cross, Deliver, steps_of}
-use Rattle.cm_blocks.specs.Rounds.{is_round, until_round}
+use Rattle.cm_blocks.specs.Rounds.{until_round}
 use Rattle.cm_subcube.specs.Local.{is_through}
 
 -- ---- two lists of steps
@@ -108,11 +108,7 @@ cycle_stops n k h some =
   where
     not_through : (n k : ℕ) (xs ys : List Step) → is_through n k ys ≡ false → is_through n k (xs ++ ys) ≡ false
     not_through n k [] ys e = e
-    not_through n k (x ∷ xs) ys e =
-        ⊎_elim
-        (λ (r : is_round n k x ≡ true). rw r refl)
-        (λ (r : is_round n k x ≡ false). rw r (not_through n k xs ys e))
-        (cases_Bool (is_round n k x))
+    not_through n k (x ∷ xs) ys e = grind (arith, not_through n k xs ys)
 
 -- where the machine is not cut, it has none
 pub record IsGoneThrough (n k : ℕ) : Type 0 where

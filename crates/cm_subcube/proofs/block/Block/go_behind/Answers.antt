@@ -11,7 +11,8 @@ finish-requires-clause-room c =
 
 pub go-requires : goal.go-requires
 go-requires c = record {
-  room = rw (take_rest c.args.acts.now (c.args.round.now.at + 1)) (can_go_on (steps_behind c.args.self.now.kept.dims c.args.round.now.kind)
+  room = rw (take_rest c.args.acts.now (c.args.round.now.at + 1))
+      (can_go_on (steps_behind c.args.self.now.kept.dims c.args.round.now.kind)
       (drop (c.args.round.now.at + 1) c.args.acts.now) c.args.self.now c.finish.new.self c.finish.ensures.gone
       (sym c.finish.ensures.through ∙ c.if-finish.true) c.requires.room);
 }
