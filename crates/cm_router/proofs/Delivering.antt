@@ -1,171 +1,128 @@
--- A delivery, one message after another: that each message more brings the chip one on.
-use Rattle.std.proofs.Common.{◌≡◌, ◌≢◌, ℕ, ◌<◌, ◌==◌, ◌&&◌, Bool, true, false, not, List, [], ◌∷◌, ◌++◌, length}
-use Rattle.std.proofs.Common.{Option, Some, None, refl, sym, ap, ◌∙◌, ⊎_elim, arith}
-use Rattle.std.proofs.Common.{get_or-set_same, get_or-set_other}
-use Rattle.std.proofs.lemmas.Bool.{cases_Bool, eqb-true, eqb-false}
-use Rattle.std.proofs.lemmas.List.{append-nil}
+-- Delivery on one chip, message by message: what has been delivered and kept when one more was gone through.
+use Rattle.std.proofs.Common.{◌≡◌, ℕ, ◌<◌, ◌==◌, ◌&&◌, ◌||◌, Bool, true, false, not, cond, if◌then◌else◌, List, []}
+use Rattle.std.proofs.Common.{◌∷◌, ◌++◌, length, Option, Some, None, refl, sym, ◌∙◌, arith}
+use Rattle.std.proofs.Common.{get_or-set_same, get_or-set_other, length-set}
+use Rattle.std.proofs.Math.Bool.{and-true}
+use Rattle.std.proofs.lemmas.Bool.{and_parts, eqb-true}
+use Rattle.std.proofs.lemmas.Bool.Decides.{nat_tests}
+use Rattle.std.proofs.lemmas.List.{append-nil, set-set}
+use Rattle.std.proofs.lemmas.List.Folds.{find-append}
 use Rattle.std.specs.List.{find}
+use Rattle.cm_model.specs.declared.letters.TheConstants.{RECEIVED_PAYLOAD}
 use Rattle.cm_model.specs.declared.message.Message.{Message}
-use Rattle.cm_model.specs.Processor.{Processor, RECV, flag}
-use Rattle.cm_model.specs.Chip.{processor_at, no_processor}
+use Rattle.cm_model.specs.Processor.{Processor, RECV}
+use Rattle.cm_model.specs.Chip.{processor_at, no_processor, with_flag}
 use Rattle.cm_model.specs.Whole.{IsChip}
 use Rattle.cm_model.specs.Letters.{can_receive, has_arrived, is_for, is_among, processor_after_delivery}
 use Rattle.cm_model.specs.Letters.{chip_after_delivery}
-use Rattle.cm_model.specs.OneChip.{is_accepted}
-use Rattle.cm_model.proofs.Each.{is_each}
+use Rattle.cm_model.specs.OneChip.{is_accepted, arrived_for, delivered, kept}
 use Rattle.cm_model.specs.Delivery.{arrived_in, HasGone, HasHandedOver}
+use Rattle.cm_model.proofs.Each.{is_each, same_each_below, get_or-each_below}
 use Rattle.cm_model.proofs.Scan.{out_of}
-use Rattle.cm_router.proofs.Scanning.{delivered-more, kept-more, arrived_in-more, none_delivered, after_one}
-use Rattle.cm_router.proofs.Scanning.{processor_at-delivered, length-delivered, delivered_one_more}
+use Rattle.cm_element.specs.Wide.{with_memory_field}
 
--- each processor can receive if it could before, and none has arrived for it among the messages seen
-abbrev pub StillOpen : List Processor → List Message → List Processor → Type 0
-StillOpen before seen chip = (p : ℕ) → p < 16
-    → can_receive chip p ≡ (can_receive before p && not (is_among p (arrived_in [] seen)))
+-- ---- one message more
 
--- the test of the code is that of the definition
-is_accepted-now : (before : List Processor) (seen : List Message) (chip : List Processor) (m : Message)
-    → StillOpen before seen chip → m.proc < 16
-    → is_accepted (can_receive before) (arrived_in [] seen) m ≡ (has_arrived m && can_receive chip m.proc)
-is_accepted-now before seen chip m still below = sym (ap (λ b. has_arrived m && b) (still m.proc below))
+delivered-more : (receives : ℕ → Bool) (before : List ℕ) (ms : List Message) (m : Message)
+    → delivered receives before (ms ++ m ∷ []) ≡ delivered receives before ms ++ delivered receives
+    (arrived_in before ms) (m ∷ [])
+delivered-more receives before [] m = refl
+delivered-more receives before (x ∷ ms) m = grind (arith, delivered-more receives (arrived_for before x) ms m)
 
--- ---- a message that is delivered
+kept-more : (receives : ℕ → Bool) (before : List ℕ) (ms : List Message) (m : Message)
+    → kept receives before (ms ++ m ∷ []) ≡ kept receives before ms ++ kept receives (arrived_in before ms) (m ∷ [])
+kept-more receives before [] m = refl
+kept-more receives before (x ∷ ms) m = grind (arith, kept-more receives (arrived_for before x) ms m)
 
-receives_no_more : (chip : List Processor) (m : Message) → length chip ≡ 16 → m.proc < 16
-    → length (processor_at chip m.proc).flags ≡ 16
-    → can_receive (after_one m chip) m.proc ≡ false
-receives_no_more chip m long below flags =
-    let inside : m.proc < length chip = omega arith in
-    let wide : RECV < length (processor_at chip m.proc).flags = omega arith in
-    ap (λ (v : Processor). not (flag v RECV))
-    (get_or-set_same chip m.proc (processor_after_delivery (Some m) (processor_at chip m.proc)) no_processor inside)
-    ∙ ap not (get_or-set_same (processor_at chip m.proc).flags RECV true false wide)
+arrived-more : (p : ℕ) (before : List ℕ) (ms : List Message) (m : Message)
+    → is_among p (arrived_in before (ms ++ m ∷ []))
+    ≡ ((has_arrived m && (m.proc == p)) || is_among p (arrived_in before ms))
+arrived-more p before [] m = grind arith
+arrived-more p before (x ∷ ms) m = arrived-more p (arrived_for before x) ms m
 
-receives_as_before : (chip : List Processor) (m : Message) (p : ℕ) → p ≢ m.proc
-    → can_receive (after_one m chip) p ≡ can_receive chip p
-receives_as_before chip m p other =
-    ap (λ (v : Processor). not (flag v RECV))
-    (get_or-set_other chip m.proc p (processor_after_delivery (Some m) (processor_at chip m.proc)) no_processor
-    other)
+-- ---- one delivery more on the chip
 
-not_among_accepted : (a b : Bool) → (a && not b) ≡ true → b ≡ false
-not_among_accepted true true h = absurd cc
-not_among_accepted true false h = refl
-not_among_accepted false b h = absurd cc
+processor_at-delivered : (ds : List Message) (chip : List Processor) (p : ℕ) → p < 16
+    → processor_at (chip_after_delivery ds chip) p ≡ processor_after_delivery (find (is_for p) ds) (processor_at chip p)
+unfolding chip_after_delivery
+processor_at-delivered ds chip p h = get_or-each_below 16 _ p no_processor h
 
-and_not_true : (b : Bool) → (b && not true) ≡ false
-and_not_true true = refl
-and_not_true false = refl
+-- a chip with one more message delivered, to a processor that has got none
+delivered_one_more : (ds : List Message) (m : Message) (chip : List Processor)
+    → ((p : ℕ) → p < 16 → (m.proc == p) ≡ true → find (is_for p) ds ≡ None)
+    → chip_after_delivery (m ∷ []) (chip_after_delivery ds chip) ≡ chip_after_delivery (ds ++ m ∷ []) chip
+unfolding chip_after_delivery
+delivered_one_more ds m chip none =
+    same_each_below no_processor 16 _ _
+    (λ p h. rw (processor_at-delivered ds chip p h, find-append (is_for p) ds (m ∷ [])) (grind (arith, none p h)))
 
-still_open_delivered : (before : List Processor) (seen : List Message) (chip : List Processor) (m : Message)
-    → StillOpen before seen chip → has_arrived m ≡ true
-    → length chip ≡ 16 → m.proc < 16 → length (processor_at chip m.proc).flags ≡ 16
-    → StillOpen before (seen ++ m ∷ []) (after_one m chip)
-still_open_delivered before seen chip m still arrived long below flags p h =
-    rw (arrived_in-more [] seen m, arrived) (⊎_elim
-    (λ (e : (m.proc == p) ≡ true).
-    let same : m.proc ≡ p = eqb-true m.proc p e in
-    rw (e, ← same) (receives_no_more chip m long below flags ∙ sym (and_not_true (can_receive before m.proc))))
-    (λ (e : (m.proc == p) ≡ false).
-    let other : p ≢ m.proc = λ (s : p ≡ m.proc). eqb-false m.proc p e (sym s) in
-    rw e (receives_as_before chip m p other ∙ still p h))
-    (cases_Bool (m.proc == p)))
+-- the chip when a message was delivered or kept
+abbrev pub with_message : Bool → Message → List Processor → List Processor
+with_message b m chip = if b then chip_after_delivery (m ∷ []) chip else chip
 
--- a message that has arrived, for a processor that can receive, is delivered
-pub hands_over : (before : List Processor) (seen : List Message) (chip : List Processor) (m : Message)
-    → HasGone before seen chip
-    → m.proc < 16 → has_arrived m ≡ true → can_receive chip m.proc ≡ true
-    → HasHandedOver true before seen m (after_one m chip)
-hands_over before seen chip m gone below arrived receives =
-    let accepted : is_accepted (can_receive before) (arrived_in [] seen) m ≡ true =
-    is_accepted-now before seen chip m gone.open below ∙ rw (arrived, receives) refl in
-    let open_there : is_among m.proc (arrived_in [] seen) ≡ false =
-    not_among_accepted (can_receive before m.proc) (is_among m.proc (arrived_in [] seen))
-    (sym (gone.open m.proc below) ∙ receives) in
-    let none : find (is_for m.proc) (out_of before seen) ≡ None =
-    none_delivered (can_receive before) m.proc [] seen open_there in
-    let more : out_of before (seen ++ m ∷ []) ≡ out_of before seen ++ m ∷ [] =
+-- who can receive then: who could before, unless the message has arrived for that one
+still_open : (b : Bool) (m : Message) (chip : List Processor) (p : ℕ) → p < 16
+    → b ≡ (has_arrived m && can_receive chip m.proc) → (has_arrived m ≡ true → IsChip chip × (m.proc < 16))
+    → can_receive (with_message b m chip) p ≡ (can_receive chip p && not (has_arrived m && (m.proc == p)))
+still_open b m chip p h is known =
+    grind (arith, nat_tests, processor_at-delivered (m ∷ []) chip p h, get_or-set_same {A = Bool})
+
+-- such a chip is that after the delivery of one message more
+chip_more : (b : Bool) (before : List Processor) (seen : List Message) (m : Message) (chip : List Processor)
+    → HasGone before seen chip → (b ≡ true → can_receive chip m.proc ≡ true)
+    → with_message b m chip ≡ chip_after_delivery (out_of before seen ++ (if b then m ∷ [] else [])) before
+chip_more true before seen m chip gone receives =
+    let out : List Message = out_of before seen in
+    rw gone.chip_is (delivered_one_more out m before (λ p h e. grind (
+      arith,
+      get_or-set_same {A = Bool},
+      gone.whole.each p h,
+      processor_at-delivered out before p h,
+      gone.chip_is,
+      eqb-true m.proc p e,
+      receives refl,
+    )))
+chip_more false before seen m chip gone receives = gone.chip_is ∙ rw append-nil refl
+
+-- a message is delivered if it has arrived and its processor can receive, else kept
+pub handed_over : (b : Bool) (before : List Processor) (seen : List Message) (m : Message) (chip : List Processor)
+    → HasGone before seen chip → b ≡ (has_arrived m && can_receive chip m.proc)
+    → (has_arrived m ≡ true → IsChip chip × (m.proc < 16)) → HasHandedOver b before seen m (with_message b m chip)
+handed_over b before seen m chip gone is known =
+    let accepted : is_accepted (can_receive before) (arrived_in [] seen) m ≡ b = grind (arith, gone.open m.proc) in
+    let delivered_is : out_of before (seen ++ m ∷ []) ≡ out_of before seen ++ (if b then m ∷ [] else []) =
     delivered-more (can_receive before) [] seen m ∙ rw accepted refl in
-    let unchanged : processor_at chip m.proc ≡ processor_at before m.proc =
-    ap (λ (ps : List Processor). processor_at ps m.proc) gone.chip_is
-    ∙ processor_at-delivered (out_of before seen) before m.proc below
-    ∙ ap (λ (o : Option Message). processor_after_delivery o (processor_at before m.proc)) none in
     record {
       gone = record {
         whole = gone.whole;
-        chip_is = ap (after_one m) gone.chip_is ∙ delivered_one_more (out_of before seen) m before below none
-            ∙ ap (λ (ds : List Message). chip_after_delivery ds before) (sym more);
-        «open» = still_open_delivered before seen chip m gone.open arrived (ap length gone.chip_is
-            ∙ length-delivered (out_of before seen) before) below
-            (ap (λ (v : Processor). length v.flags) unchanged ∙ (gone.whole.each m.proc below).flags);
+        chip_is = rw delivered_is (chip_more b before seen m chip gone (λ e. (and_parts _ _ (sym is ∙ e)).1));
+        «open» = λ p h. grind (arith, arrived-more p [] seen m, still_open b m chip p h is known, gone.open p h);
       };
-      delivered_is = more;
+      delivered_is = delivered_is;
       kept_is = kept-more (can_receive before) [] seen m ∙ rw accepted refl;
     }
 
--- ---- a message that is kept
+-- a chip of which one processor was changed
+ruleset chip_set = (length-set, get_or-set_same, get_or-set_other)
 
--- if it has arrived, its processor cannot receive
-abbrev pub IsRefused : List Processor → Message → Type 0
-IsRefused chip m = has_arrived m ≡ true → (m.proc < 16) × (can_receive chip m.proc ≡ false)
-
-is_accepted-refused : (before : List Processor) (seen : List Message) (chip : List Processor) (m : Message)
-    → StillOpen before seen chip → IsRefused chip m
-    → is_accepted (can_receive before) (arrived_in [] seen) m ≡ false
-is_accepted-refused before seen chip m still refused =
-    ⊎_elim (λ (a : has_arrived m ≡ true). is_accepted-now before seen chip m still (refused a).0
-    ∙ rw (a, (refused a).1) refl)
-    (λ (a : has_arrived m ≡ false). rw a refl)
-    (cases_Bool (has_arrived m))
-
-still_open_kept : (before : List Processor) (seen : List Message) (chip : List Processor) (m : Message)
-    → StillOpen before seen chip → IsRefused chip m
-    → StillOpen before (seen ++ m ∷ []) chip
-still_open_kept before seen chip m still refused p h =
-    rw (arrived_in-more [] seen m) (⊎_elim
-    (λ (a : has_arrived m ≡ true). rw a (⊎_elim
-    (λ (e : (m.proc == p) ≡ true).
-    let same : m.proc ≡ p = eqb-true m.proc p e in
-    rw (e, ← same) ((refused a).1 ∙ sym (and_not_true (can_receive before m.proc))))
-    (λ (e : (m.proc == p) ≡ false). rw e (still p h))
-    (cases_Bool (m.proc == p))))
-    (λ (a : has_arrived m ≡ false). rw a (still p h))
-    (cases_Bool (has_arrived m)))
-
--- any other is kept
-pub keeps : (before : List Processor) (seen : List Message) (chip : List Processor) (m : Message)
-    → HasGone before seen chip → IsRefused chip m
-    → HasHandedOver false before seen m chip
-keeps before seen chip m gone refused =
-    let not_accepted : is_accepted (can_receive before) (arrived_in [] seen) m ≡ false =
-    is_accepted-refused before seen chip m gone.open refused in
-    let same : out_of before (seen ++ m ∷ []) ≡ out_of before seen ++ [] =
-    delivered-more (can_receive before) [] seen m ∙ rw not_accepted refl in
-    record {
-      gone = record {
-        whole = gone.whole;
-        chip_is = gone.chip_is
-            ∙ ap (λ (ds : List Message). chip_after_delivery ds before) (sym (same ∙ append-nil (out_of before seen)));
-        «open» = still_open_kept before seen chip m gone.open refused;
-      };
-      delivered_is = same;
-      kept_is = kept-more (can_receive before) [] seen m ∙ rw not_accepted refl;
-    }
-
--- ---- the beginning
+-- a payload put into the field and a 1 into the flag, one after the other, are what delivery leaves
+pub received_is : (m : Message) (chip : List Processor) → length chip ≡ 16 → m.proc < 16
+    → with_flag (with_memory_field chip m.proc RECEIVED_PAYLOAD 32 m.payload) m.proc RECV true
+    ≡ chip_after_delivery (m ∷ []) chip
+unfolding with_flag with_memory_field chip_after_delivery
+received_is m chip long there =
+    is_each no_processor 16 _ _ (grind (arith, chip_set)) (λ p h. grind (arith, nat_tests, chip_set))
 
 pub nobody_yet : (chip : List Processor) → IsChip chip → chip ≡ chip_after_delivery [] chip
 unfolding chip_after_delivery
 nobody_yet chip whole = is_each no_processor 16 (λ p. processor_at chip p) chip whole.count (λ p h. refl)
-
-and_not_false : (b : Bool) → b ≡ (b && not false)
-and_not_false true = refl
-and_not_false false = refl
 
 -- none of the messages gone through yet
 pub nothing_seen : (chip : List Processor) → IsChip chip → HasGone chip [] chip
 nothing_seen chip whole = record {
   whole = whole;
   chip_is = nobody_yet chip whole;
-  «open» = λ p h. and_not_false (can_receive chip p);
+  «open» = λ p h. sym (and-true (can_receive chip p));
 }
+
+pub ruleset received = (received_is, get_or-set_same, set-set)

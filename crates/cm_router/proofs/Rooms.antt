@@ -1,5 +1,5 @@
 -- How many events more logs take, as some of it is used.
-use Rattle.std.proofs.Common.{◌≡◌, ◌≢◌, ℕ, ◌+◌, ◌<◌, ◌≤◌, List, length, set, get_or, refl, sym, ap, ◌∙◌, arith}
+use Rattle.std.proofs.Common.{◌≡◌, ◌≢◌, ℕ, ◌+◌, ◌<◌, ◌≤◌, List, length, set, get_or, refl, arith}
 use Rattle.std.proofs.Common.{get_or-set_same, get_or-set_other}
 use Rattle.std.specs.Prelude.{slice_index}
 use Rattle.std.proofs.lemmas.List.{length-map, map-set, get_or-map}
@@ -12,18 +12,15 @@ room_at logs c = slice_index (log_rooms_of logs) c
 -- of the log that was read, of the one that was written, and of the others
 pub room_read : (logs : List Log) (i : ℕ) (log : Log) → i < length logs → log ≡ get_or logs i log
     → room_at logs i ≡ log_room log
-room_read logs i log inside read = get_or-map log_room logs i log 0 inside ∙ ap log_room (sym read)
+room_read logs i log inside read = cc (get_or-map log_room logs i log 0 inside)
 
 pub room_written : (logs : List Log) (i : ℕ) (log : Log) → i < length logs → room_at (set logs i log) i ≡ log_room log
 room_written logs i log inside =
-    let here : i < length (log_rooms_of logs) = omega (arith, length-map logs log_room) in
-    ap (λ (ns : List ℕ). get_or ns i 0) (map-set log_room logs i log)
-    ∙ get_or-set_same (log_rooms_of logs) i (log_room log) 0 here
+    rw (map-set log_room logs i log)
+    (get_or-set_same (log_rooms_of logs) i _ 0 (omega (arith, length-map logs log_room)))
 
 pub room_of_others : (logs : List Log) (i k : ℕ) (log : Log) → k ≢ i → room_at (set logs i log) k ≡ room_at logs k
-room_of_others logs i k log other =
-    ap (λ (ns : List ℕ). get_or ns k 0) (map-set log_room logs i log)
-    ∙ get_or-set_other (log_rooms_of logs) i k (log_room log) 0 other
+room_of_others logs i k log other = rw (map-set log_room logs i log, get_or-set_other) refl
 
 -- logs that are left alone lose nothing
 pub lost_nothing : (count : ℕ) (rooms : List ℕ) → LoseAtMost count rooms rooms
@@ -32,17 +29,13 @@ lost_nothing count rooms = record { same = refl; few = λ i l. omega arith }
 -- what is lost adds up
 pub lost_again : (most more all : ℕ) (first second third : List ℕ) → most + more ≡ all → LoseAtMost most first second
     → LoseAtMost more second third → LoseAtMost all first third
-lost_again most more all first second third whole was is = record {
-  same = is.same ∙ was.same;
-  few = λ i l. let f = was.few i l in let g = is.few i (omega (arith, was.same)) in omega (arith, f, g, whole);
-}
+lost_again most more all first second third whole was is =
+    record { same = cc; few = λ i l. grind (arith, was.few i, is.few i) }
 
 -- the room that is left
 pub room_left : (most more all : ℕ) (old new : List ℕ) → most + more ≡ all → HaveLogRoom all old
     → LoseAtMost most old new → HaveLogRoom more new
-room_left most more all old new whole has lost i below =
-    let l : i < length old = omega (arith, below, lost.same) in
-    let f = lost.few i l in let h = has i l in omega (arith, f, h, whole)
+room_left most more all old new whole has lost i below = grind (arith, lost.few i, has i)
 
 pub less_room : (few all : ℕ) (rooms : List ℕ) → few ≤ all → HaveLogRoom all rooms → HaveLogRoom few rooms
-less_room few all rooms l has i below = let h = has i below in omega (arith, l, h)
+less_room few all rooms l has i below = grind (arith, has i)

@@ -17,6 +17,7 @@ use cm_message::{Event, Message};
 
 /// Nothing is done: of a chip's buffer no message has been gone through yet. Called before the first is
 /// handed over.
+#[tactic(auto, using(crate::proofs::Delivering::nothing_seen))]
 pub fn begin(run: &Run, chip: u16)
     requires chip { chip < length run.now }
     ensures gone { HasGone (chip_at run.now chip) [] (chip_at run.now chip) }
@@ -25,6 +26,7 @@ pub fn begin(run: &Run, chip: u16)
 }
 
 /// Nothing is done: a chip to which nothing is delivered stays as it is.
+#[tactic(auto, using(crate::proofs::Delivering::nobody_yet))]
 pub fn pass_over(run: &Run)
     ensures same { (c : ℕ) → c < length run.now
         → chip_at run.now c ≡ chip_after_delivery [] (chip_at run.now c) }
@@ -42,6 +44,7 @@ pub fn who_has_not_arrived_is_kept()
 /// there then, RECV is 1, and the log tells. Whether it was delivered; if not, it is to be kept. Called
 /// for one message of a buffer after another, from the front, this is the delivery of a petit cycle. The
 /// chip stands at place `chip` of the run, and its number in the machine is `here`.
+#[tactic(auto, using(crate::proofs::Delivering::received))]
 pub fn hand_over(
     run: &mut Run,
     chip: u16,

@@ -28,6 +28,7 @@ pub fn may_ask(run: &Run) -> bool
 
 /// Whether an injection changes nothing in any chip: nobody asks to send, and nobody is acknowledged. Found by
 /// words of two rows.
+#[tactic(auto, using(crate::proofs::Taking::idle))]
 pub fn is_idle(run: &Run) -> bool
     ensures value { result ≡ (not (list_any (has_flag SEND) run.now) && not (list_any (has_flag ACK) run.now)) }
     ensures idle { IsTrue result → (c : ℕ) → c < length run.now → IsIdle (chip_at run.now c) }
@@ -36,6 +37,7 @@ pub fn is_idle(run: &Run) -> bool
 }
 
 /// Whether some processor of a chip asks to send.
+#[tactic(auto, using(crate::proofs::Taking::idle))]
 pub fn chip_asks(run: &Run, chip: u16) -> bool
     requires chip { chip < length run.now }
     ensures value { result ≡ has_flag SEND (chip_at run.now chip) }
@@ -74,6 +76,7 @@ pub fn message_sent(chip: &ChipView<'_>, proc: Proc, here: u16, dims: u8, clock:
 
 /// Takes in no message: whoever asks to send goes on asking, and ACK is 0 everywhere on the chip.
 /// Where it is so already, nothing is written.
+#[tactic(auto, using(crate::proofs::Taking::idle))]
 pub fn take_none(run: &mut Run, chip: u16)
     requires chip { chip < length run.old }
     ensures value { run.new ≡ slice_set run.old chip (chip_after_injection [] (chip_at run.old chip)) }
@@ -86,6 +89,7 @@ pub fn take_none(run: &mut Run, chip: u16)
 
 /// Tells the processors of a chip whose messages were taken: their SEND falls, and ACK is 1 for them
 /// alone.
+#[tactic(auto, using(crate::proofs::Taking::told_both))]
 pub fn acknowledge(run: &mut Run, chip: u16, asking: Plane, taken: Plane)
     requires chip { chip < length run.old }
     requires asking { IsPlane asking (λ p. flag (processor_at (chip_at run.old chip) p) SEND) }
@@ -106,6 +110,7 @@ pub(crate) fn received(run: &Run, chip: u16) -> Plane
 }
 
 /// Leaves the payload at the processor that the message is for.
+#[tactic(auto, using(crate::proofs::Delivering::received))]
 pub(crate) fn receive(run: &mut Run, chip: u16, message: &Message)
     requires chip { chip < length run.old }
     requires whole { IsChip (chip_at run.old chip) }
@@ -152,6 +157,7 @@ pub(crate) fn tell_delivered(log: &mut Vec<Event>, message: &Message, here: u16)
     .unwrap();
 }
 
+#[tactic(auto, using(crate::proofs::Taking::fields))]
 fn field_value(chip: &ChipView<'_>, proc: Proc, at: u16, len: u16) -> u64
     requires some { 1 ≤ len }
     requires narrow { len ≤ 64 }

@@ -144,6 +144,7 @@ impl Node {
     /// Takes in messages of the processors that ask to send, by number, at most four and at most as
     /// many as there is room for. The log tells of each. The chip stands at place `chip` of the run, and its
     /// number in the machine, of a cube of `dims` dimensions, is `here`.
+    #[tactic(auto, using(crate::proofs::Taking::idle))]
     pub fn inject(
         &mut self,
         run: &mut Run,
@@ -177,6 +178,7 @@ impl Node {
     }
 
     /// Takes the messages in, and tells in a plane whose they are.
+    #[tactic(auto, using(crate::proofs::Taking::taking))]
     fn take_in(
         &mut self,
         chip: &ChipView<'_>,

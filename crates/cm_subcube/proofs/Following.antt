@@ -1,10 +1,10 @@
 -- What stands behind a round of a run is told by the round alone.
-use Rattle.std.proofs.Common.{◌≡◌, ℕ, zero, suc, ◌+◌, ◌-◌, ◌<◌, ◌==◌, ◌&&◌, Bool, true, false, not, cond}
+use Rattle.std.proofs.Common.{◌≡◌, ℕ, zero, suc, ◌+◌, ◌-◌, ◌<◌, ◌==◌, ◌&&◌, Bool, true, false, not}
 use Rattle.std.proofs.Common.{List, [], ◌∷◌, ◌++◌, length}
-use Rattle.std.proofs.Common.{map, drop, Some, None, refl, sym, ◌∙◌, ap, subst, ⊎_elim, arith}
+use Rattle.std.proofs.Common.{map, drop, Some, None, refl, sym, ◌∙◌, ap, arith}
 use Rattle.std.specs.Prelude.{slice_get, nat_le}
 use Rattle.std.specs.List.{filter, range_with_len}
-use Rattle.std.proofs.lemmas.Bool.{cases_Bool}
+use Rattle.std.proofs.lemmas.Bool.{cond_both}
 use Rattle.std.proofs.lemmas.Bool.Decides.{nat_tests}
 use Rattle.std.proofs.lemmas.List.{map-append}
 use Rattle.cm_bits.specs.declared.plane.Dir.{Dir}
@@ -35,28 +35,12 @@ behind : {X : Type 0} (is : X → Bool) (P : X → List X → Type 0) (r : ℕ) 
 behind is P zero [] x all h = absurd (let wrong : None ≡ Some x = h in cc)
 behind is P (suc r) [] x all h = absurd (let wrong : None ≡ Some x = h in cc)
 behind is P zero (y ∷ xs) x all h =
-    ⊎_elim
-    (λ (e : is y ≡ true).
-    let here : Some y ≡ Some x =
-    subst (λ (b : Bool). slice_get (cond b (y ∷ filter is xs) (filter is xs)) 0 ≡ Some x) e h in
-    let same : y ≡ x = cc in
-    rw e (subst (λ (z : _). P z xs) same (all.0 e)))
-    (λ (e : is y ≡ false).
-    let there : slice_get (filter is xs) 0 ≡ Some x =
-    subst (λ (b : Bool). slice_get (cond b (y ∷ filter is xs) (filter is xs)) 0 ≡ Some x) e h in
-    rw e (behind is P 0 xs x all.1 there))
-    (cases_Bool (is y))
+    cond_both (is y) xs (beyond is 0 xs) (P x)
+    (λ e. let here : Some y ≡ Some x = rw e at h in let same : y ≡ x = cc in rw (← same) (all.0 e))
+    (λ e. behind is P 0 xs x all.1 (rw e at h))
 behind is P (suc r) (y ∷ xs) x all h =
-    ⊎_elim
-    (λ (e : is y ≡ true).
-    let there : slice_get (filter is xs) r ≡ Some x =
-    subst (λ (b : Bool). slice_get (cond b (y ∷ filter is xs) (filter is xs)) (suc r) ≡ Some x) e h in
-    rw e (behind is P r xs x all.1 there))
-    (λ (e : is y ≡ false).
-    let there : slice_get (filter is xs) (suc r) ≡ Some x =
-    subst (λ (b : Bool). slice_get (cond b (y ∷ filter is xs) (filter is xs)) (suc r) ≡ Some x) e h in
-    rw e (behind is P (suc r) xs x all.1 there))
-    (cases_Bool (is y))
+    cond_both (is y) r (suc r) (λ k. P x (beyond is k xs))
+    (λ e. behind is P r xs x all.1 (rw e at h)) (λ e. behind is P (suc r) xs x all.1 (rw e at h))
 
 -- an element that is first of a rest, and the rest behind it
 record IsAt {X : Type 0} (at : ℕ) (all : List X) (one : X) (more : List X) : Type 0 where
@@ -93,16 +77,10 @@ exchange_over n k nano dir.East is h = absurd (grind (arith, nat_tests))
 exchange_over n k nano dir.West is h = absurd (grind (arith, nat_tests))
 
 step_over : (nano : Nano) (over : Dir) → step_in (act.Nano nano) (kind_over over) ≡ Instruct nano
-step_over nano dir.North = refl
-step_over nano dir.South = refl
-step_over nano dir.East = refl
-step_over nano dir.West = refl
+step_over nano over = grind arith
 
 nothing_behind : (n : ℕ) (over : Dir) → steps_behind n (kind_over over) ≡ []
-nothing_behind n dir.North = refl
-nothing_behind n dir.South = refl
-nothing_behind n dir.East = refl
-nothing_behind n dir.West = refl
+nothing_behind n over = grind arith
 
 steps_in-tagged : (at : ℕ) (one : Act) (steps : List Step)
     → steps_in (map (λ step. record { at = at; act = one; step = step }) steps) ≡ steps

@@ -1,9 +1,9 @@
 -- Blocks that go through steps by themselves.
-use Rattle.std.proofs.Common.{◌≡◌, ℕ, ◌+◌, ◌<◌, Bool, cond, List, [], ◌∷◌, ◌++◌, length, refl, sym, ◌∙◌}
-use Rattle.std.proofs.Common.{ap, subst, arith}
+use Rattle.std.proofs.Common.{◌≡◌, ℕ, ◌+◌, Bool, cond, List, [], ◌∷◌, ◌++◌, refl, sym, ◌∙◌}
+use Rattle.std.proofs.Common.{ap, arith}
 use Rattle.std.proofs.lemmas.List.Sums.{sum_by-cons, sum_by-append}
 use Rattle.cm_model.specs.Steps.{Step, Instruct, Look, Inject, Cross, Deliver}
-use Rattle.cm_blocks.specs.Counts.{is_injection, is_delivery, injections, deliveries, events_in}
+use Rattle.cm_blocks.specs.Counts.{is_injection, is_delivery, deliveries, events_in}
 use Rattle.cm_blocks.specs.Parts.{Part}
 use Rattle.cm_blocks.specs.Parcels.{Parcel, Blank}
 use Rattle.cm_blocks.specs.Steps.{part_after, part_after_all}
@@ -11,45 +11,27 @@ use Rattle.cm_router.specs.Logs.{LoseAtMost}
 use Rattle.cm_router.proofs.Rooms.{lost_nothing}
 use Rattle.cm_array.specs.Cuts.{KeptPart}
 use Rattle.cm_subcube.specs.Blocks.{KeptBlock, IsBlock, CanGo, HasGone}
-use Rattle.cm_subcube.proofs.Counting.{weighed}
+use Rattle.std.proofs.Math.Nat.{mul-add}
 
 -- ---- what a step keeps
 
-part_after-first : (n cap : ℕ) (step : Step) (parcel : Parcel) (s : Part)
-    → (part_after n cap step parcel s).first ≡ s.first
+part_after-kept : (n cap : ℕ) (step : Step) (parcel : Parcel) (s : Part)
+    → ((part_after n cap step parcel s).first ≡ s.first) × ((part_after n cap step parcel s).count ≡ s.count)
+    × ((part_after n cap step parcel s).clock ≡ s.clock + cond (is_delivery step) 1 0)
 unfolding part_after
-part_after-first n cap (Instruct nano) parcel s = refl
-part_after-first n cap Look parcel s = refl
-part_after-first n cap Inject parcel s = refl
-part_after-first n cap (Cross d) parcel s = refl
-part_after-first n cap Deliver parcel s = refl
-
-part_after-count : (n cap : ℕ) (step : Step) (parcel : Parcel) (s : Part)
-    → (part_after n cap step parcel s).count ≡ s.count
-unfolding part_after
-part_after-count n cap (Instruct nano) parcel s = refl
-part_after-count n cap Look parcel s = refl
-part_after-count n cap Inject parcel s = refl
-part_after-count n cap (Cross d) parcel s = refl
-part_after-count n cap Deliver parcel s = refl
-
-part_after-clock : (n cap : ℕ) (step : Step) (parcel : Parcel) (s : Part)
-    → (part_after n cap step parcel s).clock ≡ s.clock + cond (is_delivery step) 1 0
-unfolding part_after
-part_after-clock n cap (Instruct nano) parcel s = omega arith
-part_after-clock n cap Look parcel s = omega arith
-part_after-clock n cap Inject parcel s = omega arith
-part_after-clock n cap (Cross d) parcel s = omega arith
-part_after-clock n cap Deliver parcel s = refl
+part_after-kept n cap (Instruct nano) parcel s = (refl, refl, omega arith)
+part_after-kept n cap Look parcel s = (refl, refl, omega arith)
+part_after-kept n cap Inject parcel s = (refl, refl, omega arith)
+part_after-kept n cap (Cross d) parcel s = (refl, refl, omega arith)
+part_after-kept n cap Deliver parcel s = (refl, refl, refl)
 
 part_after_all-clock : (n cap : ℕ) (steps : List Step) (s : Part)
     → (part_after_all n cap steps s).clock ≡ s.clock + deliveries steps
 part_after_all-clock n cap [] s = omega arith
 part_after_all-clock n cap (step ∷ steps) s =
-    let one = part_after-clock n cap step Blank s in
     let more = part_after_all-clock n cap steps (part_after n cap step Blank s) in
     let count = sum_by-cons (λ (x : Step). cond (is_delivery x) 1 0) step steps in
-    omega (arith, one, more, count)
+    omega (arith, (part_after-kept n cap step Blank s).2, more, count)
 
 part_after_all-append : (n cap : ℕ) (first second : List Step) (s : Part)
     → part_after_all n cap (first ++ second) s ≡ part_after_all n cap second (part_after_all n cap first s)
@@ -60,11 +42,9 @@ part_after_all-append n cap (step ∷ first) second s =
 events_in-append : (room : ℕ) (first second : List Step)
     → events_in room (first ++ second) ≡ events_in room first + events_in room second
 events_in-append room first second =
-    sym (weighed room (injections (first ++ second)) (deliveries (first ++ second))
-    (injections first) (deliveries first)
-    (injections second) (deliveries second)
-    (sym (sum_by-append (λ (x : Step). cond (is_injection x) 1 0) first second))
-    (sym (sum_by-append (λ (x : Step). cond (is_delivery x) 1 0) first second)))
+    let i = sum_by-append (λ (x : Step). cond (is_injection x) 1 0) first second in
+    let d = sum_by-append (λ (x : Step). cond (is_delivery x) 1 0) first second in
+    grind (arith, i, d, mul-add room (deliveries first) (deliveries second))
 
 -- ---- one step
 
@@ -80,10 +60,11 @@ stepped step rooms gathered old = record old {
 pub IsBlock-stepped : (k : ℕ) (step : Step) (rooms : List ℕ) (gathered : Bool) (old new : KeptPart)
     → new ≡ stepped step rooms gathered old → IsBlock k old → IsBlock k new
 IsBlock-stepped k step rooms gathered old new is was =
-    subst (λ (kept : KeptPart). IsBlock k kept) (sym is) (record {
+    let part = part_after-kept old.dims old.room step Blank old.part in
+    rw is (record {
       within = was.within;
-      count = part_after-count old.dims old.room step Blank old.part ∙ was.count;
-      band = (was.band.0, (part_after-first old.dims old.room step Blank old.part ∙ was.band.1.0, was.band.1.1));
+      count = part.1 ∙ was.count;
+      band = (was.band.0, (part.0 ∙ was.band.1.0, was.band.1.1));
     })
 
 -- and has gone through the step
@@ -92,14 +73,7 @@ pub HasGone-one : (k : ℕ) (step : Step) (rooms : List ℕ) (gathered : Bool) (
     → LoseAtMost (events_in old.room (step ∷ [])) old.log_rooms rooms
     → HasGone (step ∷ []) seen (record { k = k; kept = new })
 HasGone-one k step rooms gathered old new seen view is lost =
-    subst (λ (b : KeptBlock). HasGone (step ∷ []) b (record { k = k; kept = new })) view (record {
-      part = ap (λ (kept : KeptPart). kept.part) is;
-      dims = ap (λ (kept : KeptPart). kept.dims) is;
-      room = ap (λ (kept : KeptPart). kept.room) is;
-      blocks = refl;
-      log_room = subst (λ (left : List ℕ). LoseAtMost (events_in old.room (step ∷ [])) old.log_rooms left)
-          (sym (ap (λ (kept : KeptPart). kept.log_rooms) is)) lost;
-    })
+    rw (← view, is) (record { part = refl; dims = refl; room = refl; blocks = refl; log_room = lost })
 
 -- a look changes nothing
 pub HasGone-look : (block : KeptBlock) → HasGone (Look ∷ []) block block
@@ -140,10 +114,7 @@ HasGone-append first second old mid new before after =
       blocks = after.blocks ∙ before.blocks;
       log_room = record {
         same = after.log_room.same ∙ before.log_room.same;
-        few = λ i l.
-            let earlier = before.log_room.few i l in
-            let later = after.log_room.few i (omega (arith, l, before.log_room.same)) in
-            omega (arith, sum, same, earlier, later);
+        few = λ i l. grind (arith, sum, same, before.log_room.few i, after.log_room.few i, before.log_room.same);
       };
     }
 
@@ -152,10 +123,7 @@ pub CanGo-first : (first second : List Step) (block : KeptBlock) → CanGo (firs
 CanGo-first first second block can =
     let sum = events_in-append block.kept.room first second in
     let count = sum_by-append (λ (x : Step). cond (is_delivery x) 1 0) first second in
-    record {
-      log_room = λ i l. let room = can.log_room i l in omega (arith, sum, room);
-      clock = omega (arith, count, can.clock);
-    }
+    record { log_room = λ i l. grind (arith, sum, can.log_room i); clock = omega (arith, count, can.clock) }
 
 -- and then through the others
 pub CanGo-second : (first second : List Step) (old mid : KeptBlock) → CanGo (first ++ second) old
@@ -168,19 +136,6 @@ CanGo-second first second old mid can gone =
     let count = sum_by-append (λ (x : Step). cond (is_delivery x) 1 0) first second in
     let clock = ap (λ (s : Part). s.clock) gone.part ∙ part_after_all-clock old.kept.dims cap first old.kept.part in
     record {
-      log_room = λ i l.
-          let inside : i < length old.kept.log_rooms = omega (arith, l, gone.log_room.same) in
-          let room = can.log_room i inside in
-          let lost = gone.log_room.few i inside in
-          omega (arith, sum, same, room, lost);
+      log_room = λ i l. grind (arith, sum, same, can.log_room i, gone.log_room.few i, gone.log_room.same);
       clock = omega (arith, count, clock, can.clock);
     }
-
--- steps that are the same
-pub HasGone-same : (steps others : List Step) (old new : KeptBlock) → steps ≡ others → HasGone steps old new
-    → HasGone others old new
-HasGone-same steps others old new same gone = subst (λ (s : List Step). HasGone s old new) same gone
-
-pub CanGo-same : (steps others : List Step) (block : KeptBlock) → steps ≡ others
-    → CanGo steps block → CanGo others block
-CanGo-same steps others block same can = subst (λ (s : List Step). CanGo s block) same can

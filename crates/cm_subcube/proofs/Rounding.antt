@@ -1,8 +1,7 @@
 -- The rounds of a run, act by act.
 use Rattle.std.proofs.Common.{◌≡◌, ℕ, zero, suc, ◌+◌, ◌-◌, ◌<◌, ◌≤◌, Bool, true, false, List, [], ◌∷◌, ◌++◌, length}
 use Rattle.std.proofs.Common.{get_or, take, map, refl, sym, ap}
-use Rattle.std.proofs.Common.{◌∙◌, arith, append_assoc, ⊎_elim}
-use Rattle.std.proofs.lemmas.Bool.{cases_Bool}
+use Rattle.std.proofs.Common.{◌∙◌, arith, append_assoc}
 use Rattle.std.specs.Prelude.{nat_le}
 use Rattle.std.specs.List.{filter, range_with_len}
 use Rattle.std.proofs.lemmas.Bool.Decides.{nat_tests}
@@ -70,11 +69,7 @@ crossings : (n k at : ℕ) (dims : List ℕ)
     (map (λ step. record { at = at; act = act.Cycle; step = step }) (map Cross dims ++ Deliver ∷ []) ++ []))
     ≡ map (crossing_at at) (filter (nat_le (n - k)) dims)
 crossings n k at [] = refl
-crossings n k at (d ∷ dims) =
-    ⊎_elim
-    (λ (e : nat_le (n - k) d ≡ true). rw e (ap (λ z. crossing_at at d ∷ z) (crossings n k at dims)))
-    (λ (e : nat_le (n - k) d ≡ false). rw e (crossings n k at dims))
-    (cases_Bool (nat_le (n - k) d))
+crossings n k at (d ∷ dims) = grind (arith, crossings n k at dims)
 
 -- the rounds of a petit cycle
 pub rounds_of_cycle : (n k at : ℕ) → k ≤ n

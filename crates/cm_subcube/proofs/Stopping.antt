@@ -1,17 +1,15 @@
 -- Steps until a round: all of them where none is a round, and what a petit cycle has before its first.
-use Rattle.std.proofs.Common.{◌≡◌, ℕ, zero, suc, ◌+◌, ◌-◌, ◌<◌, ◌≤◌, ◌||◌, Bool, true, false, not, List, [], ◌∷◌}
-use Rattle.std.proofs.Common.{◌++◌, length, get_or}
-use Rattle.std.proofs.Common.{map, take, drop, refl, sym, ◌∙◌, ap, subst, ⊎_elim, arith}
+use Rattle.std.proofs.Common.{◌≡◌, ℕ, zero, suc, ◌+◌, ◌-◌, ◌<◌, ◌≤◌, true, false, List, [], ◌∷◌}
+use Rattle.std.proofs.Common.{◌++◌}
+use Rattle.std.proofs.Common.{map, refl, sym, ◌∙◌, ap, ⊎_elim, arith}
 use Rattle.std.specs.Prelude.{nat_le}
-use Rattle.std.specs.List.{list_any, range_with_len}
+use Rattle.std.specs.List.{range_with_len}
 use Rattle.std.proofs.lemmas.Bool.{cases_Bool}
 use Rattle.std.proofs.lemmas.Bool.Decides.{nat_tests}
-use Rattle.std.proofs.lemmas.List.{append-nil, append_assoc, take_more, take-append-drop}
-use Rattle.std.proofs.lemmas.Grind.{flat_map-append}
-use Rattle.cm_model.specs.declared.act.Act.{Act}
+use Rattle.std.proofs.lemmas.List.{append-nil, append_assoc}
 use Rattle.cm_model.specs.declared.act.Act.TheVariants as act
-use Rattle.cm_model.specs.Steps.{Step, Inject, Cross, Deliver, steps_of, all_steps}
-use Rattle.cm_blocks.specs.Rounds.{is_round, until_round}
+use Rattle.cm_model.specs.Steps.{Step, Inject, Cross, Deliver, steps_of}
+use Rattle.cm_blocks.specs.Rounds.{until_round}
 use Rattle.cm_subcube.specs.Local.{is_through}
 
 -- ---- two lists of steps
@@ -20,28 +18,13 @@ use Rattle.cm_subcube.specs.Local.{is_through}
 pub until_round-through : (n k : ℕ) (xs ys : List Step) → is_through n k xs ≡ true
     → until_round n k (xs ++ ys) ≡ xs ++ until_round n k ys
 until_round-through n k [] ys h = refl
-until_round-through n k (x ∷ xs) ys h =
-    ⊎_elim
-    (λ (e : is_round n k x ≡ true).
-    let wrong : not (true || list_any (is_round n k) xs) ≡ true =
-    subst (λ (b : Bool). not (b || list_any (is_round n k) xs) ≡ true) e h in
-    absurd (cc))
-    (λ (e : is_round n k x ≡ false).
-    let rest : is_through n k xs ≡ true = subst (λ (b : Bool). not (b || list_any (is_round n k) xs) ≡ true) e h in
-    rw e (ap (λ z. x ∷ z) (until_round-through n k xs ys rest)))
-    (cases_Bool (is_round n k x))
+until_round-through n k (x ∷ xs) ys h = grind (arith, until_round-through n k xs ys)
 
 -- and where it has one, until that
 pub until_round-stopped : (n k : ℕ) (xs ys : List Step) → is_through n k xs ≡ false
     → until_round n k (xs ++ ys) ≡ until_round n k xs
-until_round-stopped n k [] ys h = absurd (let wrong : true ≡ false = h in cc)
-until_round-stopped n k (x ∷ xs) ys h =
-    ⊎_elim
-    (λ (e : is_round n k x ≡ true). rw e refl)
-    (λ (e : is_round n k x ≡ false).
-    let rest : is_through n k xs ≡ false = subst (λ (b : Bool). not (b || list_any (is_round n k) xs) ≡ false) e h in
-    rw e (ap (λ z. x ∷ z) (until_round-stopped n k xs ys rest)))
-    (cases_Bool (is_round n k x))
+until_round-stopped n k [] ys h = absurd (grind arith)
+until_round-stopped n k (x ∷ xs) ys h = grind (arith, until_round-stopped n k xs ys)
 
 -- steps without a round are gone through
 pub until_round-all : (n k : ℕ) (xs : List Step) → is_through n k xs ≡ true → until_round n k xs ≡ xs
@@ -63,43 +46,7 @@ begins n k xs ys =
 is_through-append : (n k : ℕ) (xs ys : List Step) → is_through n k xs ≡ true → is_through n k ys ≡ true
     → is_through n k (xs ++ ys) ≡ true
 is_through-append n k [] ys h l = l
-is_through-append n k (x ∷ xs) ys h l =
-    ⊎_elim
-    (λ (e : is_round n k x ≡ true).
-    let wrong : not (true || list_any (is_round n k) xs) ≡ true =
-    subst (λ (b : Bool). not (b || list_any (is_round n k) xs) ≡ true) e h in
-    absurd (cc))
-    (λ (e : is_round n k x ≡ false).
-    let rest : is_through n k xs ≡ true = subst (λ (b : Bool). not (b || list_any (is_round n k) xs) ≡ true) e h in
-    rw e (is_through-append n k xs ys rest l))
-    (cases_Bool (is_round n k x))
-
--- ---- acts one after another
-
--- the steps of one act more
-pub all_steps-more : (n i : ℕ) (acts : List Act) (one : Act) → i < length acts → one ≡ get_or acts i one
-    → all_steps n (take (i + 1) acts) ≡ all_steps n (take i acts) ++ steps_of n one
-all_steps-more n i acts one l is =
-    ap (all_steps n) (take_more acts i one l ∙ ap (λ (x : Act). take i acts ++ x ∷ []) (sym is))
-    ∙ flat_map-append (steps_of n) (take i acts) (one ∷ [])
-    ∙ ap (λ z. all_steps n (take i acts) ++ z) (append-nil (steps_of n one))
-
--- and no round is among them where none was
-pub is_through-more : (n k i : ℕ) (acts : List Act) (one : Act) → i < length acts → one ≡ get_or acts i one
-    → is_through n k (all_steps n (take i acts)) ≡ true → is_through n k (steps_of n one) ≡ true
-    → is_through n k (all_steps n (take (i + 1) acts)) ≡ true
-is_through-more n k i acts one l is before here =
-    ap (is_through n k) (all_steps-more n i acts one l is)
-    ∙ is_through-append n k (all_steps n (take i acts)) (steps_of n one) before here
-
--- all are some, one more, and the rest
-pub all_steps-split : (n i : ℕ) (acts : List Act) (one : Act) → i < length acts → one ≡ get_or acts i one
-    → all_steps n acts ≡ all_steps n (take i acts) ++ (steps_of n one ++ all_steps n (drop (i + 1) acts))
-all_steps-split n i acts one l is =
-    ap (all_steps n) (sym (take-append-drop (i + 1) acts))
-    ∙ flat_map-append (steps_of n) (take (i + 1) acts) (drop (i + 1) acts)
-    ∙ ap (λ z. z ++ all_steps n (drop (i + 1) acts)) (all_steps-more n i acts one l is)
-    ∙ append_assoc (all_steps n (take i acts)) (steps_of n one) (all_steps n (drop (i + 1) acts))
+is_through-append n k (x ∷ xs) ys h l = grind (arith, is_through-append n k xs ys)
 
 -- ---- a petit cycle
 
@@ -161,11 +108,7 @@ cycle_stops n k h some =
   where
     not_through : (n k : ℕ) (xs ys : List Step) → is_through n k ys ≡ false → is_through n k (xs ++ ys) ≡ false
     not_through n k [] ys e = e
-    not_through n k (x ∷ xs) ys e =
-        ⊎_elim
-        (λ (r : is_round n k x ≡ true). rw r refl)
-        (λ (r : is_round n k x ≡ false). rw r (not_through n k xs ys e))
-        (cases_Bool (is_round n k x))
+    not_through n k (x ∷ xs) ys e = grind (arith, not_through n k xs ys)
 
 -- where the machine is not cut, it has none
 pub record IsGoneThrough (n k : ℕ) : Type 0 where

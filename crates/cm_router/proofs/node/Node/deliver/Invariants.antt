@@ -8,13 +8,15 @@ invariant-loop-place l = record {
   scan : Scan (chip_at l.fn.run l.chip) l.fn.self.messages l.fn.log.items l.here (chip_at l.run l.chip)
       l.self-inside.messages.items l.place l.log.items;
   others : l.run ≡ set l.fn.run l.chip (chip_at l.run l.chip);
-  log_room : vec_len l.log + (length l.self-inside.messages.items - l.place) ≤ vec_capacity l.log;
-  log_len : vec_len l.log + (length l.self-inside.messages.items - l.place) ≤ vec_len l.fn.log + l.fn.self.room;
-  capacity : vec_capacity l.fn.log ≤ vec_capacity l.log;
-  room : l.self-inside.room ≡ l.fn.self.room;
-  within : length l.self-inside.messages.items ≤ l.self-inside.room;
-  some : 0 < l.self-inside.room;
-  most : l.self-inside.room ≤ 15;
+  numbers : record {
+    room : l.self-inside.room ≡ l.fn.self.room;
+    log_room : vec_len l.log + (length l.self-inside.messages.items - l.place) ≤ vec_capacity l.log;
+    log_len : vec_len l.log + (length l.self-inside.messages.items - l.place) ≤ vec_len l.fn.log + l.fn.self.room;
+    capacity : vec_capacity l.fn.log ≤ vec_capacity l.log;
+    within : length l.self-inside.messages.items ≤ l.self-inside.room;
+    some : 0 < l.self-inside.room;
+    most : l.self-inside.room ≤ 15;
+  };
 }
 
 abbrev pub decreases-loop-place : goal.decreases-loop-place

@@ -1,42 +1,47 @@
-use Rattle.std.proofs.Common.{take, sym, ap, ◌∙◌}
-use Rattle.std.proofs.lemmas.List.{take_all}
-use Rattle.cm_model.specs.Steps.{all_steps}
-use Rattle.cm_blocks.specs.Rounds.{until_round}
-use Rattle.cm_subcube.specs.Local.{is_through}
-use Rattle.cm_subcube.proofs.Stopping.{until_round-all}
-use Rattle.cm_subcube.proofs.Going.{HasGone-same}
-use Rattle.cm_subcube.proofs.Acting.{act_can_go, act_stopped, act_done}
+use Rattle.std.proofs.Common.{◌+◌, drop, sym, ◌∙◌}
+use Rattle.std.proofs.lemmas.List.{drop_all}
+use Rattle.cm_model.specs.Steps.{steps_of}
+use Rattle.cm_subcube.proofs.Going.{HasGone-none}
+use Rattle.cm_subcube.proofs.Acting.{next_act, can_begin, can_go_on, gone_stopped, gone_on}
 use Rattle.cm_subcube.proofs.block.Block.go.Goals as goal
 
 pub go_through-requires : goal.go_through-requires
-go_through-requires c = record {
-  room = act_can_go c.args.acts.now c.loop-act.act-index c.act-item.result c.loop-act-test.true c.act-item.is
-      c.args.self.now c.loop-act.self c.loop-act.invariant.gone c.loop-act.invariant.through c.requires.room;
-}
+go_through-requires c =
+    let here = c.loop-act in
+    let next = next_act c.args.acts.now here.act-index c.act-item.result c.loop-act-test.true c.act-item.is in
+    record {
+      room = can_begin (steps_of here.self.kept.dims c.act-item.result)
+          (drop (here.act-index + 1) c.args.acts.now) here.self (rw next at here.invariant.room);
+    }
 
 pub returns-then-not-go_through : goal.returns-then-not-go_through
-returns-then-not-go_through c = record {
-  gone = act_stopped c.args.acts.now c.loop-act.act-index c.act-item.result c.loop-act-test.true c.act-item.is
-      c.args.self.now c.loop-act.self c.loop-act.invariant.gone c.loop-act.invariant.through c.go_through.new.self
-      c.go_through.ensures.gone (sym c.go_through.ensures.through ∙ c.if-not-go_through.true);
-}
+returns-then-not-go_through c =
+    let here = c.loop-act in
+    let next = next_act c.args.acts.now here.act-index c.act-item.result c.loop-act-test.true c.act-item.is in
+    record {
+      gone = here.invariant.gone c.go_through.new.self (rw next (gone_stopped _
+          (drop (here.act-index + 1) c.args.acts.now) here.self c.go_through.new.self c.go_through.ensures.gone
+          (sym c.go_through.ensures.through ∙ c.if-not-go_through.true)));
+    }
 
 pub loop-act-preserved : goal.loop-act-preserved
 loop-act-preserved c =
-    let done = act_done c.args.acts.now c.loop-act.act-index c.act-item.result c.loop-act-test.true c.act-item.is
-    c.args.self.now c.loop-act.self c.loop-act.invariant.gone c.loop-act.invariant.through c.go_through.new.self
-    c.go_through.ensures.gone (sym c.go_through.ensures.through ∙ c.if-not-go_through.false) in
-    record { gone = done.0; through = done.1 }
+    let here = c.loop-act in
+    let next = next_act c.args.acts.now here.act-index c.act-item.result c.loop-act-test.true c.act-item.is in
+    let rest = drop (here.act-index + 1) c.args.acts.now in
+    let through = sym c.go_through.ensures.through ∙ c.if-not-go_through.false in
+    let steps = steps_of here.self.kept.dims c.act-item.result in
+    record {
+      room = can_go_on steps rest here.self c.go_through.new.self c.go_through.ensures.gone through
+          (rw next at here.invariant.room);
+      gone = λ new more. here.invariant.gone new (rw next (gone_on steps rest here.self c.go_through.new.self
+          c.go_through.ensures.gone through new more));
+    }
 
 pub returns : goal.returns
 returns c =
-    let old = c.args.self.now in
-    let n = old.kept.dims in
-    let acts = c.args.acts.now in
-    let i = c.loop-act.act-index in
-    let all = ap (all_steps n) (take_all i acts c.loop-act-test.false) in
+    let here = c.loop-act in
     record {
-      gone = HasGone-same (all_steps n (take i acts)) (until_round n old.k (all_steps n acts)) old c.loop-act.self
-          (all ∙ sym (until_round-all n old.k (all_steps n acts)
-          (sym (ap (is_through n old.k) all) ∙ c.loop-act.invariant.through))) c.loop-act.invariant.gone;
+      gone = here.invariant.gone here.self
+          (rw (drop_all here.act-index c.args.acts.now c.loop-act-test.false) (HasGone-none here.self));
     }
