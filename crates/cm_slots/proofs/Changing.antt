@@ -10,8 +10,8 @@ use Rattle.std.proofs.lemmas.List.Elements.{All-set}
 use Rattle.std.proofs.lemmas.Option.{slice_get-map, slice_get-get_or, slice_get_past}
 use Rattle.cm_slots.specs.declared.tile.Tile.{Tile}
 use Rattle.cm_slots.specs.Slots.{is_taken, AreSlots}
-use Rattle.cm_slots.specs.Tiles.{slots_of, standing_at, IsShaped, IsTile, IsPut, HasChanged, no_tile, tile_at}
-use Rattle.cm_slots.specs.Tiles.{numbers_at, tickets_of, IsChanged}
+use Rattle.cm_slots.specs.Tiles.{slots_of, standing_at, IsShaped, IsTile, IsPut, HasChanged}
+use Rattle.cm_slots.specs.Runs.{no_tile, tile_at, numbers_at, tickets_of, IsChanged}
 use Rattle.cm_slots.specs.declared.ticket.Ticket.{Ticket}
 use Rattle.cm_slots.specs.Tickets.{ticket_of, ticket_in}
 use Rattle.cm_slots.proofs.Standing.{standing_is, stands, ends_at, nobody}
