@@ -60,10 +60,6 @@ pub record IsBrought (k : ℕ) (xs : List ℕ) (comes : ℕ) (carried : ℕ) (sl
   pub ahead : (j : ℕ) → j < k → slots j ≡ get_or xs j 0
   pub passed : (j : ℕ) → k ≤ j → slots j ≡ get_or (xs ++ comes ∷ []) (suc j) 0
 
-pub none_brought : (k comes : ℕ) (xs : List ℕ) (slots : ℕ → ℕ) → length xs ≤ k → AreSlots slots xs
-    → IsBrought k xs comes comes slots
-none_brought k comes xs slots few are = grind (arith, length-append, get_or_append_left, get_or_push, get_or_past)
-
 pub one_more_brought : (k comes : ℕ) (xs : List ℕ) (old now new : ℕ → ℕ) (here next : ℕ) → AreSlots old xs
     → next ≡ (if now k == 0 then here else now k) → new k ≡ (if now k == 0 then 0 else here)
     → ((j : ℕ) → j ≢ k → new j ≡ now j) → IsBrought (suc k) xs comes here now → IsBrought k xs comes next new

@@ -1,6 +1,6 @@
 -- A chip that is read or changes, in its slots, in its tile and in all tiles.
 use Rattle.std.proofs.Common.{◌≡◌, ◌≢◌, ℕ, suc, ◌+◌, ◌-◌, ◌<◌, ◌≤◌, ◌++◌, true, List, [], ◌∷◌, length, set, remove}
-use Rattle.std.proofs.Common.{sym, ◌∙◌, None, ⊎_elim, arith, ◌/◌, ◌%◌, ◌↔◌, map, refl, ap}
+use Rattle.std.proofs.Common.{sym, ◌∙◌, ⊎_elim, arith, ◌/◌, ◌%◌, ◌↔◌, map, refl, ap}
 use Rattle.std.proofs.lemmas.Bool.{cases_eq}
 use Rattle.std.proofs.lemmas.List.{length-append, length-set, get_or-set_same, get_or-set_other, get_or_past}
 use Rattle.std.proofs.lemmas.List.{get_or_append_left, get_or_push, length-map}
@@ -10,8 +10,8 @@ use Rattle.std.proofs.lemmas.List.Elements.{All-set}
 use Rattle.std.proofs.lemmas.Option.{slice_get-map, slice_get-get_or, slice_get_past}
 use Rattle.cm_slots.specs.declared.tile.Tile.{Tile}
 use Rattle.cm_slots.specs.Slots.{is_taken, AreSlots}
-use Rattle.cm_slots.specs.Tiles.{slots_of, standing_at, IsShaped, IsTile, IsPut, HasChanged, no_tile, tile_at}
-use Rattle.cm_slots.specs.Tiles.{numbers_at, tickets_of, IsChanged}
+use Rattle.cm_slots.specs.Tiles.{slots_of, standing_at, IsShaped, IsTile, IsPut, HasChanged}
+use Rattle.cm_slots.specs.Runs.{no_tile, tile_at, numbers_at, tickets_of, IsChanged}
 use Rattle.cm_slots.specs.declared.ticket.Ticket.{Ticket}
 use Rattle.cm_slots.specs.Tickets.{ticket_of, ticket_in}
 use Rattle.cm_slots.proofs.Standing.{standing_is, stands, ends_at, nobody}
@@ -121,10 +121,6 @@ module _ (tiles : List Tile) (c : ℕ) (inside : c / 64 < length tiles) (whole :
 
   pub ticket_at : (j : ℕ) → ticket_in (slots_of (tile_at tiles (c / 64)) (c % 64) j) ≡ slice_get (tickets_of tiles c) j
   ticket_at j = ticket_of_slot (slots_of (tile_at tiles (c / 64)) (c % 64)) (numbers_at tiles c) are j
-
-  pub none_past : (j : ℕ) → 15 ≤ j → None ≡ slice_get (tickets_of tiles c) j
-  none_past j past = sym (slice_get_past (tickets_of tiles c) j
-      (omega (arith, are.fits, length-map (numbers_at tiles c) ticket_of)))
 
   -- where the first slot is 0 nobody stands, and nowhere else
   pub empty_where : slots_of (tile_at tiles (c / 64)) (c % 64) 0 ≡ 0 ↔ tickets_of tiles c ≡ []

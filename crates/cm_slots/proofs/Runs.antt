@@ -11,9 +11,9 @@ use Rattle.std.proofs.lemmas.List.Elements.{All-from_get_or}
 use Rattle.std.proofs.lemmas.Nat.{pow-add, pow_below, pow_pos, xor_lt}
 use Rattle.cm_slots.specs.declared.tile.Tile.{Tile}
 use Rattle.cm_slots.specs.Slots.{comers, AreSlots, is_taken, crosses, slot_behind}
-use Rattle.cm_slots.specs.Tiles.{slots_of, no_tile, tile_at, IsShaped, IsQuiet, HasTakenIn, tile_across}
-use Rattle.cm_slots.specs.Tiles.{place_across, arriving, standing_at, number_leaving, numbers_at, tickets_of, IsTile}
-use Rattle.cm_slots.specs.Tiles.{HasGone, HaveLeft, HaveTakenIn, AreWithin, AreLeavers}
+use Rattle.cm_slots.specs.Tiles.{slots_of, IsShaped, IsQuiet, HasTakenIn, standing_at, IsTile, HasGone}
+use Rattle.cm_slots.specs.Runs.{no_tile, tile_at, tile_across, place_across, arriving, number_leaving, numbers_at}
+use Rattle.cm_slots.specs.Runs.{tickets_of, HaveLeft, HaveTakenIn, AreWithin, AreLeavers}
 use Rattle.cm_slots.specs.Queues.{stayers_of}
 use Rattle.cm_slots.specs.Tickets.{has_to_go, exchanged}
 use Rattle.cm_slots.proofs.Standing.{nobody_comes, standing_is, stands}

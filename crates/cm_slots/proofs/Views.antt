@@ -16,8 +16,9 @@ use Rattle.cm_model.specs.Array.{each_chip, list_at}
 use Rattle.cm_model.proofs.Flips.{across_below, xor_twice}
 use Rattle.cm_slots.specs.declared.tile.Tile.{Tile}
 use Rattle.cm_slots.specs.Tickets.{ticket_of, has_to_go, exchanged}
-use Rattle.cm_slots.specs.Tiles.{slots_of, no_tile, tile_at, tickets_of, queues_in, IsTile, IsQuiet}
-use Rattle.cm_slots.specs.Tiles.{AreEmpty, tile_across, numbers_at, AreTiles, IsChanged, AreWithin}
+use Rattle.cm_slots.specs.Tiles.{slots_of, IsTile, IsQuiet}
+use Rattle.cm_slots.specs.Runs.{no_tile, tile_at, tickets_of, queues_in, AreEmpty, tile_across, numbers_at, AreTiles}
+use Rattle.cm_slots.specs.Runs.{IsChanged, AreWithin}
 use Rattle.cm_slots.specs.declared.ticket.Ticket.{Ticket}
 use Rattle.cm_slots.specs.Queues.{place_of_leaver}
 use Rattle.cm_slots.proofs.Standing.{get_or-zeros, standing_is, stands}

@@ -2,3 +2,4 @@ pub mod Queues
 pub mod Tickets
 pub mod Slots
 pub mod Tiles
+pub mod Runs

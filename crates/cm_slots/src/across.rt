@@ -2,7 +2,7 @@
 
 ghost use Rattle.std.specs.Prelude.{◌≡◌, ℕ, ◌%◌, ◌^◌, ◌<◌, length, slice_index, bit_xor, IfSome};
 ghost use Rattle.cm_slots.specs.Slots.{slot_across, leaver_at};
-ghost use Rattle.cm_slots.specs.Tiles.{tile_across, place_across};
+ghost use Rattle.cm_slots.specs.Runs.{tile_across, place_across};
 
 use crate::rows::{Row, WIDTH};
 

@@ -3,7 +3,8 @@
 ghost use Rattle.std.specs.Prelude.{◌≡◌, ◌↔◌, ◌≢◌, ℕ, ◌/◌, ◌<◌, ◌≤◌, ◌++◌, [], ◌∷◌, IfSome, IsTrue, length, remove};
 ghost use Rattle.std.specs.Prelude.{slice_set};
 ghost use Rattle.std.specs.List.{All, slice_get};
-ghost use Rattle.cm_slots.specs.Tiles.{IsTile, IsChanged, AreWithin, tickets_of};
+ghost use Rattle.cm_slots.specs.Tiles.{IsTile};
+ghost use Rattle.cm_slots.specs.Runs.{IsChanged, AreWithin, tickets_of};
 
 use crate::rows::{ROOM, WIDTH};
 use crate::ticket::{Ticket, slot_with, ticket_in};

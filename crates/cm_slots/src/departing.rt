@@ -5,8 +5,9 @@ ghost use Rattle.std.specs.List.{All};
 ghost use Rattle.cm_model.specs.Each.{each_from};
 ghost use Rattle.cm_slots.specs.Queues.{stayers_of};
 ghost use Rattle.cm_slots.specs.Tickets.{has_to_go, ticket_going};
-ghost use Rattle.cm_slots.specs.Tiles.{IsShaped, IsQuiet, IsTile, HaveTakenIn, tile_at, leavers_at, tickets_of};
-ghost use Rattle.cm_slots.specs.Tiles.{ticket_leaving, AreWithin, AreLeavers};
+ghost use Rattle.cm_slots.specs.Tiles.{IsShaped, IsQuiet, IsTile};
+ghost use Rattle.cm_slots.specs.Runs.{HaveTakenIn, tile_at, leavers_at, tickets_of, ticket_leaving, AreWithin};
+ghost use Rattle.cm_slots.specs.Runs.{AreLeavers};
 
 use crate::passes::leave;
 use crate::rows::{Row, WIDTH};

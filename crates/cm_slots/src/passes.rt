@@ -5,8 +5,9 @@ ghost use Rattle.std.specs.Prelude.{IfSome, IsTrue};
 ghost use Rattle.std.specs.List.{All};
 ghost use Rattle.cm_slots.specs.Slots.{is_taken};
 ghost use Rattle.cm_slots.specs.Tickets.{exchanged};
-ghost use Rattle.cm_slots.specs.Tiles.{IsShaped, IsQuiet, IsTile, HaveLeft, HaveTakenIn, tile_at, leavers_at};
-ghost use Rattle.cm_slots.specs.Tiles.{tile_across, arriving, tickets_of, AreWithin};
+ghost use Rattle.cm_slots.specs.Tiles.{IsShaped, IsQuiet, IsTile};
+ghost use Rattle.cm_slots.specs.Runs.{HaveLeft, HaveTakenIn, tile_at, leavers_at, tile_across, arriving, tickets_of};
+ghost use Rattle.cm_slots.specs.Runs.{AreWithin};
 
 use crate::across::{arrivals, tile_across};
 use crate::rows::Row;

@@ -6,7 +6,7 @@ ghost use Rattle.std.specs.Prelude.{map, remove, slice_set};
 ghost use Rattle.std.specs.List.{All, slice_get};
 ghost use Rattle.cm_model.specs.Each.{each_from};
 ghost use Rattle.cm_model.specs.Array.{each_chip, list_at};
-ghost use Rattle.cm_slots.specs.Tiles.{AreEmpty};
+ghost use Rattle.cm_slots.specs.Runs.{AreEmpty};
 ghost use Rattle.cm_slots.specs.Queues.{stayers_of};
 ghost use Rattle.cm_slots.specs.Tickets.{has_to_go, ticket_going, exchanged};
 
@@ -36,7 +36,7 @@ pub struct Slots {
 impl Model for Slots {
     ghost use Rattle.std.specs.Prelude.{List};
     ghost use Rattle.cm_slots.specs.declared.ticket.Ticket.{Ticket};
-    ghost use Rattle.cm_slots.specs.Tiles.{queues_in, AreTiles};
+    ghost use Rattle.cm_slots.specs.Runs.{queues_in, AreTiles};
 
     ghost Value = { List (List Ticket) };
 

@@ -3,8 +3,8 @@
 ghost use Rattle.std.specs.Prelude.{◌≡◌, ◌↔◌, ◌≢◌, ℕ, ◌<◌, ◌≤◌, ◌++◌, [], ◌∷◌, IsFalse, IsTrue, true, length, remove};
 ghost use Rattle.std.specs.Prelude.{List, slice_index, slice_set, None};
 ghost use Rattle.cm_slots.specs.Slots.{is_taken, slot_behind, AreSlots, IsBlank, AreTaken};
-ghost use Rattle.cm_slots.specs.Tiles.{slots_of, standing_at, IsShaped, IsQuiet, IsTile, HasLeft};
-ghost use Rattle.cm_slots.specs.Tiles.{HasTakenIn, IsPut, HasChanged};
+ghost use Rattle.cm_slots.specs.Tiles.{slots_of, standing_at, IsShaped, IsQuiet, IsTile, HasLeft, HasTakenIn, IsPut};
+ghost use Rattle.cm_slots.specs.Tiles.{HasChanged};
 
 use crate::across::flipped;
 use crate::rows::{ROOM, Row, WIDTH, is_blank, leave, take_in};

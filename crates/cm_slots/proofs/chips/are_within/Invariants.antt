@@ -1,5 +1,6 @@
 use Rattle.std.proofs.Common.{◌<◌, ◌≤◌, ℕ, length}
-use Rattle.cm_slots.specs.Tiles.{tile_at, standing_at}
+use Rattle.cm_slots.specs.Tiles.{standing_at}
+use Rattle.cm_slots.specs.Runs.{tile_at}
 use Rattle.cm_slots.proofs.chips.are_within.Given as goal
 
 abbrev pub invariant-loop-tile : goal.invariant-loop-tile

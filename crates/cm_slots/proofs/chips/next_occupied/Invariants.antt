@@ -1,5 +1,5 @@
 use Rattle.std.proofs.Common.{◌≡◌, ◌-◌, ◌*◌, ◌/◌, ◌<◌, ◌≤◌, ℕ, [], length}
-use Rattle.cm_slots.specs.Tiles.{tickets_of}
+use Rattle.cm_slots.specs.Runs.{tickets_of}
 use Rattle.cm_slots.proofs.chips.next_occupied.Given as goal
 
 abbrev pub invariant-loop-chip : goal.invariant-loop-chip

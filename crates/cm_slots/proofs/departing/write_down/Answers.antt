@@ -1,6 +1,6 @@
 use Rattle.std.proofs.Common.{None, length, arith}
 use Rattle.cm_model.proofs.Each.{is_each}
-use Rattle.cm_slots.specs.Tiles.{ticket_leaving}
+use Rattle.cm_slots.specs.Runs.{ticket_leaving}
 use Rattle.cm_slots.proofs.departing.write_down.Goals as goal
 
 pub returns : goal.returns

@@ -1,5 +1,5 @@
 use Rattle.std.proofs.Common.{◌≡◌, ℕ, ◌<◌, None, slice_index_or}
-use Rattle.cm_slots.specs.Tiles.{ticket_leaving}
+use Rattle.cm_slots.specs.Runs.{ticket_leaving}
 use Rattle.cm_slots.proofs.departing.write_down.Given as goal
 
 abbrev pub invariant-loop-c : goal.invariant-loop-c

@@ -1,6 +1,7 @@
 use Rattle.std.proofs.Common.{◌<◌, None, length, set, arith}
 use Rattle.std.proofs.lemmas.List.{get_or-set_same, get_or-set_other}
-use Rattle.cm_slots.specs.Tiles.{leavers_at, HasLeft}
+use Rattle.cm_slots.specs.Tiles.{HasLeft}
+use Rattle.cm_slots.specs.Runs.{leavers_at}
 use Rattle.cm_slots.proofs.Runs.{one_more_done}
 use Rattle.cm_slots.proofs.passes.leave.Goals as goal
 

@@ -1,4 +1,5 @@
-use Rattle.cm_slots.specs.Tiles.{leavers_at, HasLeft}
+use Rattle.cm_slots.specs.Tiles.{HasLeft}
+use Rattle.cm_slots.specs.Runs.{leavers_at}
 use Rattle.cm_slots.proofs.Runs.{AreDone}
 use Rattle.cm_slots.proofs.passes.leave.Given as goal
 

@@ -1,7 +1,8 @@
 use Rattle.std.proofs.Common.{ℕ, ◌<◌, List, Option, ap, length}
 use Rattle.cm_slots.specs.declared.tile.Tile.{Tile}
 use Rattle.cm_slots.specs.Slots.{leaver_at}
-use Rattle.cm_slots.specs.Tiles.{arriving, place_across, HasTakenIn}
+use Rattle.cm_slots.specs.Tiles.{HasTakenIn}
+use Rattle.cm_slots.specs.Runs.{arriving, place_across}
 use Rattle.cm_slots.proofs.Runs.{one_more_done, one_more_quiet}
 use Rattle.cm_slots.proofs.passes.take_in.Goals as goal
 use Rattle.cm_slots.proofs.passes.take_in.Goals.{then-not-are_idle, else-not-are_idle}

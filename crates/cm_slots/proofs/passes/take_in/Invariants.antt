@@ -1,4 +1,5 @@
-use Rattle.cm_slots.specs.Tiles.{arriving, HasTakenIn}
+use Rattle.cm_slots.specs.Tiles.{HasTakenIn}
+use Rattle.cm_slots.specs.Runs.{arriving}
 use Rattle.cm_slots.proofs.Runs.{AreDone}
 use Rattle.cm_slots.proofs.passes.take_in.Given as goal
 

@@ -1,5 +1,6 @@
 use Rattle.std.proofs.Common.{◌≡◌, ℕ, ◌<◌}
-use Rattle.cm_slots.specs.Tiles.{slots_of, tile_at, IsShaped}
+use Rattle.cm_slots.specs.Tiles.{slots_of, IsShaped}
+use Rattle.cm_slots.specs.Runs.{tile_at}
 use Rattle.cm_slots.proofs.slots.empty_all.Given as goal
 
 abbrev pub invariant-loop-tile : goal.invariant-loop-tile

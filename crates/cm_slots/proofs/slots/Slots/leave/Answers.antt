@@ -1,7 +1,7 @@
 use Rattle.std.proofs.Common.{◌-◌, [], None, length, ap, ◌∙◌, refl, arith}
 use Rattle.cm_slots.specs.Queues.{stayers_of}
 use Rattle.cm_slots.specs.Tickets.{has_to_go, ticket_going}
-use Rattle.cm_slots.specs.Tiles.{tickets_of, ticket_leaving}
+use Rattle.cm_slots.specs.Runs.{tickets_of, ticket_leaving}
 use Rattle.cm_slots.proofs.Views.{as_many, tiles_kept, mapped, within_view, within_everywhere}
 use Rattle.cm_slots.proofs.Views.{items-lent, place_of_leaver-nobody}
 use Rattle.cm_slots.proofs.slots.Slots.leave.Goals as goal

@@ -1,0 +1,92 @@
+-- Tiles in a row: chip c stands at place c % 64 of tile c / 64. Ours.
+use Rattle.std.specs.Prelude.{ℕ, ◌+◌, ◌/◌, ◌%◌, ◌^◌, ◌<◌, ◌≤◌, ◌≡◌, ◌≢◌, true, false, List, [], length, map, bit_xor}
+use Rattle.std.specs.Prelude.{Option, None, IfSome, slice_index_or}
+use Rattle.std.specs.List.{All}
+use Rattle.cm_model.specs.Each.{each_from}
+use Rattle.cm_slots.specs.declared.ticket.Ticket.{Ticket}
+use Rattle.cm_slots.specs.declared.tile.Tile.{Tile}
+use Rattle.cm_slots.specs.Tickets.{ticket_of, ticket_in}
+use Rattle.cm_slots.specs.Slots.{is_taken, leaver_at}
+use Rattle.cm_slots.specs.Tiles.{slots_of, standing_at, IsShaped, IsTile, HasLeft, HasTakenIn}
+
+-- what is read where there is no tile
+abbrev pub no_tile : Tile
+no_tile = record { first = []; rest = []; awake = false }
+
+-- a tile by its number
+abbrev pub tile_at : List Tile → ℕ → Tile
+tile_at tiles t = slice_index_or tiles t no_tile
+
+-- who leaves a tile, by its number
+abbrev pub leavers_at : List (Option (List ℕ)) → ℕ → Option (List ℕ)
+leavers_at leaving t = slice_index_or leaving t None
+
+-- the tile across dimension d, and the place there
+abbrev pub tile_across : ℕ → ℕ → ℕ
+tile_across d t = bit_xor t (2 ^ d / 64)
+
+abbrev pub place_across : ℕ → ℕ → ℕ
+place_across d i = bit_xor i (2 ^ d % 64)
+
+-- what arrives across dimension d at place i of tile t, where these leave each tile
+abbrev pub arriving : ℕ → List (Option (List ℕ)) → ℕ → ℕ → ℕ
+arriving d leaving t i = leaver_at (leavers_at leaving (tile_across d t)) (place_across d i)
+
+-- who leaves a chip, by its number, 0 where nobody does; and as a ticket
+abbrev pub number_leaving : List (Option (List ℕ)) → ℕ → ℕ
+number_leaving leaving c = leaver_at (leavers_at leaving (c / 64)) (c % 64)
+
+abbrev pub ticket_leaving : List (Option (List ℕ)) → ℕ → Option Ticket
+ticket_leaving leaving c = ticket_in (number_leaving leaving c)
+
+-- who leaves has been taken out of all tiles
+pub record HaveLeft (room d : ℕ) (old new : List Tile) (leaving : List (Option (List ℕ))) : Type 0 where
+  pub long : length new ≡ length old
+  pub rows : length leaving ≡ length old
+  pub each : (t : ℕ) → t < length old → HasLeft room d (tile_at old t) (tile_at new t) (leavers_at leaving t)
+
+-- who comes, by tile and place, has been taken in at all tiles
+pub record HaveTakenIn (room : ℕ) (coming : ℕ → ℕ → ℕ) (old new : List Tile) : Type 0 where
+  pub long : length new ≡ length old
+  pub each : (t : ℕ) → t < length old → HasTakenIn room (coming t) (tile_at old t) (tile_at new t)
+
+-- the numbers and the tickets of a chip
+abbrev pub numbers_at : List Tile → ℕ → List ℕ
+numbers_at tiles c = standing_at (tile_at tiles (c / 64)) (c % 64)
+
+abbrev pub tickets_of : List Tile → ℕ → List Ticket
+tickets_of tiles c = map ticket_of (numbers_at tiles c)
+
+-- no more stand at any place than this
+abbrev pub AreWithin : ℕ → List Tile → Type 0
+AreWithin most tiles = (t i : ℕ) → t < length tiles → i < 64 → length (standing_at (tile_at tiles t) i) ≤ most
+
+-- who leaves each tile: nobody, or 64 lanes, each 0 or with a ticket
+pub record AreLeavers (leaving : List (Option (List ℕ))) : Type 0 where
+  pub long : All (λ leavers. IfSome leavers (λ row. length row ≡ 64)) leaving
+  pub taken : (c : ℕ) → c / 64 < length leaving → number_leaving leaving c ≢ 0
+      → is_taken (number_leaving leaving c) ≡ true
+
+-- what contracts see of tiles: the tickets of each of so many chips
+abbrev pub queues_in : ℕ → List Tile → List (List Ticket)
+queues_in chips tiles = each_from 0 chips (tickets_of tiles)
+
+-- the tiles of so many chips, and as many leavers; behind the last chip nobody stands
+pub record AreTiles (chips : ℕ) (tiles : List Tile) (leaving : List (Option (List ℕ))) : Type 0 where
+  pub few : chips ≤ 4096
+  pub count : length tiles ≡ (chips + 63) / 64
+  pub rows : length leaving ≡ length tiles
+  pub whole : All IsTile tiles
+  pub past : (c : ℕ) → chips ≤ c → c / 64 < length tiles → tickets_of tiles c ≡ []
+
+-- these tickets stand at one chip now, and at the others those that stood there
+pub record IsChanged (chip : ℕ) (tickets : List Ticket) (old new : List Tile) : Type 0 where
+  pub whole : All IsTile new
+  pub here : tickets_of new chip ≡ tickets
+  pub others : (c : ℕ) → c / 64 < length old → c ≢ chip → tickets_of new c ≡ tickets_of old c
+
+-- so many tiles, all of whose slots are 0
+pub record AreEmpty (count : ℕ) (tiles : List Tile) : Type 0 where
+  pub long : length tiles ≡ count
+  pub shape : All IsShaped tiles
+  pub blank : (t i j : ℕ) → t < count → slots_of (tile_at tiles t) i j ≡ 0
