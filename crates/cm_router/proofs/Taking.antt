@@ -7,7 +7,6 @@ use Rattle.std.proofs.Math.Seq.{take-nil}
 use Rattle.std.proofs.lemmas.Bool.Decides.{nat_tests}
 use Rattle.std.proofs.lemmas.List.{append-nil, get_or-set_same, set-get_or, set-set}
 use Rattle.std.proofs.lemmas.List.Folds.{list_any_at}
-use Rattle.std.proofs.lemmas.Grind.{common_steps}
 use Rattle.std.proofs.lemmas.Nat.{one_shl}
 use Rattle.std.proofs.lemmas.Nat.Bits.{bit_at-pow_same, bit_at-pow_other}
 use Rattle.std.specs.List.{filter, list_any, range_with_len}
@@ -122,9 +121,7 @@ nothing_taken chip long quiet =
     (λ p h. ap (λ fs. record (processor_at chip p) { flags = fs })
     (sym (rw (quiet p h) at (set-get_or (processor_at chip p).flags ACK false))))
 
--- of a chip where nobody asks or nobody is told; of one where some are told; and of the loop
+-- of a chip where nobody asks or nobody is told; and of one where some are told
 pub ruleset idle = (nobody_taken, nothing_taken, without_flag, fails_at, bit-zero, append-nil, set-get_or)
 
 pub ruleset told_both = (acknowledged, set-set, get_or-set_same)
-
-pub ruleset taking = (common_steps, ahead_begins, ahead_ends, bit-zero, append-nil)

@@ -178,7 +178,6 @@ impl Node {
     }
 
     /// Takes the messages in, and tells in a plane whose they are.
-    #[tactic(auto, using(crate::proofs::Taking::taking))]
     fn take_in(
         &mut self,
         chip: &ChipView<'_>,

@@ -5,19 +5,13 @@ use Rattle.cm_subcube.proofs.block.cut.Goals as goal
 
 pub overflow_mul-b : goal.overflow_mul-b
 overflow_mul-b g c =
-    let same : c.power_of_two-size.result ≡ size g.row.N c.args.k =
-    c.power_of_two-size.ensures.value ∙ ap (λ (d : ℕ). 2 ^ (d - c.args.k)) c.dims.ensures.value in
-    let fits = band_fits g.row.N c.args.k c.args.b c.power_of_two-size.result c.dims.ensures.sizes.dimension
-    c.requires.within c.requires.block same in
-    omega (arith, fits.0, fits.1)
+    grind (arith, band_fits g.row.N c.args.k c.args.b c.power_of_two-size.result c.dims.ensures.sizes.dimension)
 
 pub part-requires : goal.part-requires
-part-requires g c =
-    let same : c.power_of_two-size.result ≡ size g.row.N c.args.k =
-    c.power_of_two-size.ensures.value ∙ ap (λ (d : ℕ). 2 ^ (d - c.args.k)) c.dims.ensures.value in
-    let fits = band_fits g.row.N c.args.k c.args.b c.power_of_two-size.result c.dims.ensures.sizes.dimension
-    c.requires.within c.requires.block same in
-    (lit< tt, fits.0)
+part-requires g c = (
+  lit< tt,
+  grind (arith, band_fits g.row.N c.args.k c.args.b c.power_of_two-size.result c.dims.ensures.sizes.dimension),
+)
 
 pub invariant_of-result : goal.invariant_of-result
 invariant_of-result g c =

@@ -1,5 +1,4 @@
-use Rattle.std.proofs.Common.{◌-◌, ◌/◌, ◌<◌, ◌≤◌, List, ap, sym, ◌∙◌, subst, arith, lit<, ⊎_elim}
-use Rattle.std.proofs.lemmas.Bool.{cases_lt}
+use Rattle.std.proofs.Common.{◌-◌, ◌/◌, ◌<◌, ◌≤◌, List, ap, sym, ◌∙◌, subst, arith, lit<}
 use Rattle.cm_blocks.specs.Parts.{Part}
 use Rattle.cm_array.specs.Cuts.{joined, AreWhole}
 use Rattle.cm_subcube.specs.declared.block.SplitFault.TheVariants.{Split}
@@ -9,11 +8,7 @@ use Rattle.cm_subcube.proofs.copying.copy_by_blocks.Goals as goal
 
 pub join-requires : goal.join-requires
 join-requires g c =
-    let within : c.args.k ≤ g.row.N =
-    ⊎_elim
-    (λ (l : g.row.N - g.row.N / 2 < c.args.k). let e = c.in_ok-blocks.ensures.split.1 l in cc)
-    (λ (h : c.args.k ≤ g.row.N - g.row.N / 2). omega (arith, h))
-    (cases_lt (g.row.N - g.row.N / 2) c.args.k) in (
+    let within : c.args.k ≤ g.row.N = grind (arith, c.in_ok-blocks.ensures.split.1) in (
       lit< tt,
       subst (λ (parts : List Part). AreWhole g.row.N g.row.CAP parts) (sym c.in_ok-blocks.ensures.value)
           (AreWhole-blocks g.row.N g.row.CAP c.args.k c.args.from.now.machine within c.clock-clock.ensures.whole),
@@ -21,11 +16,7 @@ join-requires g c =
 
 pub returns : goal.returns
 returns g c =
-    let within : c.args.k ≤ g.row.N =
-    ⊎_elim
-    (λ (l : g.row.N - g.row.N / 2 < c.args.k). let e = c.in_ok-blocks.ensures.split.1 l in cc)
-    (λ (h : c.args.k ≤ g.row.N - g.row.N / 2). omega (arith, h))
-    (cases_lt (g.row.N - g.row.N / 2) c.args.k) in
+    let within : c.args.k ≤ g.row.N = grind (arith, c.in_ok-blocks.ensures.split.1) in
     record {
       ok = c.join.ensures.value ∙ ap joined c.in_ok-blocks.ensures.value
           ∙ joined-blocks g.row.N g.row.CAP c.args.k c.args.from.now.machine within c.clock-clock.ensures.whole;

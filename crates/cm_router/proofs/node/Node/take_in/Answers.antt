@@ -1,9 +1,15 @@
 use Rattle.std.proofs.Common.{◌≡◌, ◌∙◌, ◌<◌, true, ap, arith, append_assoc}
 use Rattle.std.proofs.Math.Bool.{or_assoc}
+use Rattle.std.proofs.lemmas.List.{append-nil}
+use Rattle.std.proofs.lemmas.Grind.{common_steps}
+use Rattle.cm_model.proofs.Bits.{bit-zero}
 use Rattle.cm_model.specs.Letters.{message_sent}
-use Rattle.cm_router.proofs.Taking.{asks, ahead_passed, ahead_asked, bit-with_one}
+use Rattle.cm_router.proofs.Taking.{asks, ahead_begins, ahead_ends, ahead_passed, ahead_asked, bit-with_one}
 use Rattle.cm_router.proofs.node.Node.take_in.Goals as goal
 use Rattle.cm_router.proofs.node.Node.take_in.Goals.{then-left-gt0+then-is_one, else-left-gt0}
+
+pub loop-number-init : goal.loop-number-init
+loop-number-init c = grind (arith, common_steps, ahead_begins, bit-zero)
 
 pub loop-number-preserved : goal.loop-number-preserved
 loop-number-preserved c =
@@ -27,3 +33,6 @@ loop-number-preserved c =
           let passed = ahead_passed here.left chip here.number (omega arith) (λ (some : 0 < here.left). grind arith) in
           rw (w.self-inside-is, w.log-is, w.left-is, w.taken-is, ← passed) here.invariant
     ]
+
+pub returns : goal.returns
+returns c = grind (arith, common_steps, ahead_ends, append-nil)

@@ -8,5 +8,4 @@ instruct_alone-requires-clause-band c = IsBand-block c.self.inside.k c.self.insi
 
 pub invariant_of-self : goal.invariant_of-self
 invariant_of-self c =
-    IsBlock-stepped c.self.inside.k (Instruct c.args.nano.now) c.self.inside.part.log_rooms c.self.inside.part.gathered
-    c.self.inside.part c.instruct_alone.new.self c.instruct_alone.ensures.value c.self.invariant
+    IsBlock-stepped _ (Instruct c.args.nano.now) _ _ _ _ c.instruct_alone.ensures.value c.self.invariant

@@ -1,10 +1,10 @@
-use Rattle.std.proofs.Common.{◌≡◌, sym, ap, subst}
+use Rattle.std.proofs.Common.{◌≡◌, ap, subst}
 use Rattle.cm_model.specs.Steps.{Instruct}
 use Rattle.cm_blocks.specs.Parcels.{Edge}
 use Rattle.cm_blocks.specs.Steps.{absorbed}
 use Rattle.cm_news.specs.Bands.{bits_of}
 use Rattle.cm_array.specs.Cuts.{KeptPart}
-use Rattle.cm_subcube.specs.Blocks.{KeptBlock, IsBlock}
+use Rattle.cm_subcube.specs.Blocks.{KeptBlock}
 use Rattle.cm_subcube.proofs.Exchanging.{IsBand-block, IsBlock-instructed, absorbed-instruct}
 use Rattle.cm_subcube.proofs.block.Block.receive_edge.Goals as goal
 
@@ -12,10 +12,7 @@ pub instruct-requires-clause-band : goal.instruct-requires-clause-band
 instruct-requires-clause-band c = IsBand-block c.self.inside.k c.self.inside.part c.self.invariant
 
 pub invariant_of-self : goal.invariant_of-self
-invariant_of-self c =
-    subst (λ (kept : KeptPart). IsBlock c.self.inside.k kept) (sym c.instruct.ensures.value)
-    (IsBlock-instructed c.self.inside.k c.args.nano.now (Edge (bits_of c.args.edge.now))
-    c.self.inside.part c.self.invariant)
+invariant_of-self c = rw c.instruct.ensures.value (IsBlock-instructed _ _ _ _ c.self.invariant)
 
 pub returns-clause-kept : goal.returns-clause-kept
 returns-clause-kept c =
