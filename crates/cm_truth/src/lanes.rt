@@ -13,7 +13,12 @@ use std::simd::prelude::*;
 ///
 /// With a table that is known when it is compiled, only what the table needs is left of it.
 #[inline(always)]
-pub fn apply_lanes<const L: usize>(table: u8, a: Simd<u16, L>, b: Simd<u16, L>, f: Simd<u16, L>) -> Simd<u16, L>
+pub fn apply_lanes<const L: usize>(
+    table: u8,
+    a: Simd<u16, L>,
+    b: Simd<u16, L>,
+    f: Simd<u16, L>,
+) -> Simd<u16, L>
     requires a { length a ≡ L }
     requires b { length b ≡ L }
     requires f { length f ≡ L }
@@ -30,7 +35,11 @@ pub fn apply_lanes<const L: usize>(table: u8, a: Simd<u16, L>, b: Simd<u16, L>, 
 
 /// The words, changed by the differences where they are chosen.
 #[inline(always)]
-fn changed_lanes<const L: usize>(choice: Simd<u16, L>, word: Simd<u16, L>, difference: Simd<u16, L>) -> Simd<u16, L>
+fn changed_lanes<const L: usize>(
+    choice: Simd<u16, L>,
+    word: Simd<u16, L>,
+    difference: Simd<u16, L>,
+) -> Simd<u16, L>
     requires choice { length choice ≡ L }
     requires word { length word ≡ L }
     requires difference { length difference ≡ L }
@@ -52,7 +61,11 @@ fn chosen_lanes<const L: usize>(four: Four, b: Simd<u16, L>, f: Simd<u16, L>) ->
         (bit four.neither p) (bit four.by_f p) (bit four.by_b p) (bit four.by_both p) }
 {
     let by_f = four.neither ^ four.by_f;
-    let without = changed_lanes(f, Simd::<u16, L>::splat(four.neither), Simd::<u16, L>::splat(by_f));
+    let without = changed_lanes(
+        f,
+        Simd::<u16, L>::splat(four.neither),
+        Simd::<u16, L>::splat(by_f),
+    );
     let difference = changed_lanes(
         f,
         Simd::<u16, L>::splat(four.neither ^ four.by_b),
