@@ -212,17 +212,17 @@ injected_grows : (p : Triple → Bool) (n cap : ℕ) (machine : Machine) (acts :
 unfolding newly_injected
 injected_grows p n cap machine acts =
     let after : Machine = run_of n cap machine acts in
-    sum_by-range (λ c. count_by p (filter_map (injected_triple c) (list_at after.logs c)))
-    (λ c. count_by p (filter_map (injected_triple c) (list_at machine.logs c)) + count_by p
-    (filter_map (injected_triple c) (new_events machine after c))) 0 (2 ^ n)
-    (λ c k l. ap (λ z. count_by p (filter_map (injected_triple c) z)) (logs_grow n cap machine acts c (omega arith))
-    ∙ (ap (count_by p) (filter_map-append (injected_triple c) (list_at machine.logs c) (new_events machine after c))
-    ∙ sum_by-append (one p) (filter_map (injected_triple c) (list_at machine.logs c))
-    (filter_map (injected_triple c) (new_events machine after c))))
-    ∙ (sum_by-plus (λ c. count_by p (filter_map (injected_triple c) (list_at machine.logs c)))
-    (λ c. count_by p (filter_map (injected_triple c) (new_events machine after c))) (chips_of n)
+    sum_by-range (λ c. count_by p (filter_map injected_triple (list_at after.logs c)))
+    (λ c. count_by p (filter_map injected_triple (list_at machine.logs c)) + count_by p
+    (filter_map injected_triple (new_events machine after c))) 0 (2 ^ n)
+    (λ c k l. ap (λ z. count_by p (filter_map injected_triple z)) (logs_grow n cap machine acts c (omega arith))
+    ∙ (ap (count_by p) (filter_map-append injected_triple (list_at machine.logs c) (new_events machine after c))
+    ∙ sum_by-append (one p) (filter_map injected_triple (list_at machine.logs c))
+    (filter_map injected_triple (new_events machine after c))))
+    ∙ (sum_by-plus (λ c. count_by p (filter_map injected_triple (list_at machine.logs c)))
+    (λ c. count_by p (filter_map injected_triple (new_events machine after c))) (chips_of n)
     ∙ ap (λ k. injected_count p n machine.logs + k)
-    (sym (sum_by-flat_map (one p) (λ c. filter_map (injected_triple c) (new_events machine after c)) (chips_of n))))
+    (sym (sum_by-flat_map (one p) (λ c. filter_map injected_triple (new_events machine after c)) (chips_of n))))
 
 account_at-same : (n : ℕ) (machine : Machine) (c : ℕ) → c < 2 ^ n
     → account_at machine c ≡ account_at (closed n (opened n machine)) c
@@ -288,7 +288,7 @@ all_injected-count : (p : Triple → Bool) (n : ℕ) (machine : Machine)
     → count_by p (all_injected n machine) ≡ injected_count p n machine.logs
 unfolding all_injected
 all_injected-count p n machine =
-    sum_by-flat_map (one p) (λ c. filter_map (injected_triple c) (list_at machine.logs c)) (chips_of n)
+    sum_by-flat_map (one p) (λ c. filter_map injected_triple (list_at machine.logs c)) (chips_of n)
 
 -- what was injected goes on to stand in the account
 pub injected_stand_in_the_account : (n cap : ℕ) (machine : Machine) (acts : List Act) →

@@ -53,7 +53,7 @@ no_account n = nothing_gathered (account_at (blank_machine n)) 0 (2 ^ n)
 
 none_injected : (n : ℕ) → all_injected n (blank_machine n) ≡ []
 unfolding all_injected
-none_injected n = nothing_gathered (λ c. filter_map (injected_triple c) (list_at (blank_machine n).logs c)) 0 (2 ^ n)
+none_injected n = nothing_gathered (λ c. filter_map injected_triple (list_at (blank_machine n).logs c)) 0 (2 ^ n)
     (λ c l. rw (no_log n c (omega arith)) refl)
 
 -- at whatever count of petit cycles

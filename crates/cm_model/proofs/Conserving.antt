@@ -18,6 +18,7 @@ use Rattle.cm_model.specs.Letters.{message_sent, messages_sent, has_arrived, can
 use Rattle.cm_model.specs.Cycle.{State, taken_at, new_record, new_records, after_injection, is_rival}
 use Rattle.cm_model.specs.Cycle.{is_delivered, delivered_at, after_delivery}
 use Rattle.cm_model.specs.Machine.{closed}
+use Rattle.cm_model.specs.Processor.{Processor}
 use Rattle.cm_model.specs.Account.{Triple, standing_triple, delivered_triple, injected_triple, account_at, account}
 use Rattle.cm_model.proofs.Each.{get_or-each_below}
 use Rattle.cm_model.proofs.Flips.{xor_across}
@@ -54,7 +55,7 @@ delivered_count p n logs = sum_by (λ c. count_by p (filter_map delivered_triple
 
 -- how many lines of injections pass
 abbrev pub injected_count : (Triple → Bool) → ℕ → List (List Event) → ℕ
-injected_count p n logs = sum_by (λ c. count_by p (filter_map (injected_triple c) (list_at logs c))) (chips_of n)
+injected_count p n logs = sum_by (λ c. count_by p (filter_map injected_triple (list_at logs c))) (chips_of n)
 
 -- how many lines of a state's account pass
 unfoldable pub amount : (Triple → Bool) → ℕ → State → ℕ
@@ -97,19 +98,22 @@ pub no_delivery : (ms : List Message) → filter_map delivered_triple (map Injec
 no_delivery [] = refl
 no_delivery (m ∷ ms) = no_delivery ms
 
-pub injections : (c : ℕ) (ms : List Message)
-    → filter_map (injected_triple c) (map Injected ms) ≡ map (standing_triple c) ms
-injections c [] = refl
-injections c (m ∷ ms) = ap (λ z. standing_triple c m ∷ z) (injections c ms)
+-- what a chip sends has its number in the tag
+injections : (n clock c : ℕ) (chip : List Processor) (ps : List ℕ)
+    → filter_map injected_triple (map Injected (messages_sent n clock c chip ps))
+    ≡ map (standing_triple c) (messages_sent n clock c chip ps)
+injections n clock c chip [] = refl
+injections n clock c chip (p ∷ ps) =
+    ap (λ z. standing_triple c (message_sent n clock c chip p) ∷ z) (injections n clock c chip ps)
 
 pub deliveries : (c : ℕ) (ms : List Message)
     → filter_map delivered_triple (map (λ m. Delivered m c) ms) ≡ map (done_triple c) ms
 deliveries c [] = refl
 deliveries c (m ∷ ms) = ap (λ z. done_triple c m ∷ z) (deliveries c ms)
 
-pub no_injection : (c b : ℕ) (ms : List Message) → filter_map (injected_triple c) (map (λ m. Delivered m b) ms) ≡ []
-no_injection c b [] = refl
-no_injection c b (m ∷ ms) = no_injection c b ms
+pub no_injection : (b : ℕ) (ms : List Message) → filter_map injected_triple (map (λ m. Delivered m b) ms) ≡ []
+no_injection b [] = refl
+no_injection b (m ∷ ms) = no_injection b ms
 
 -- what more events add to a count over all logs
 more_events : (p : Triple → Bool) (n : ℕ) (h : ℕ → Event → Option Triple) (logs : List (List Event)) (more : ℕ
@@ -145,14 +149,14 @@ new_deliveries p n cap state =
     (λ c. ap (count_by p) (no_delivery (sent_at n cap state c)))
 
 new_injections : (p : Triple → Bool) (n cap : ℕ) (state : State)
-    → sum_by (λ c. count_by p (filter_map (injected_triple c) (map Injected (sent_at n cap state c)))) (chips_of n)
+    → sum_by (λ c. count_by p (filter_map injected_triple (map Injected (sent_at n cap state c)))) (chips_of n)
     ≡ fresh_count p n cap state
 unfolding fresh_count sent_at
 new_injections p n cap state =
-    sum_by-same (λ c. count_by p (filter_map (injected_triple c) (map Injected (sent_at n cap state c))))
+    sum_by-same (λ c. count_by p (filter_map injected_triple (map Injected (sent_at n cap state c))))
     (λ c. sum_by (λ q. one p (standing_triple c (message_sent n state.clock c (chip_at state.chips c) q)))
     (taken_at cap state c)) (chips_of n)
-    (λ c. ap (count_by p) (injections c (sent_at n cap state c))
+    (λ c. ap (count_by p) (injections n state.clock c (chip_at state.chips c) (taken_at cap state c))
     ∙ (sum_by-map (one p) (standing_triple c) (sent_at n cap state c)
     ∙ sum_by-map (λ m. one p (standing_triple c m)) (message_sent n state.clock c (chip_at state.chips c))
     (taken_at cap state c)))
@@ -185,7 +189,7 @@ unfolding after_injection sent_at
 injected-after_injection p n cap state =
     omega (
       arith,
-      more_events p n injected_triple state.logs (λ c. map Injected (sent_at n cap state c)),
+      more_events p n (λ c. injected_triple) state.logs (λ c. map Injected (sent_at n cap state c)),
       new_injections p n cap state,
     )
 
@@ -300,10 +304,10 @@ unfolding after_delivery
 injected-after_delivery p n state =
     omega (
       arith,
-      more_events p n injected_triple state.logs
+      more_events p n (λ c. injected_triple) state.logs
           (λ c. map (λ m. Delivered m c) (delivered_at state.chips state.standing c)),
       sum_by-none (λ c. count_by p
-          (filter_map (injected_triple c) (map (λ m. Delivered m c) (delivered_at state.chips state.standing c))))
+          (filter_map injected_triple (map (λ m. Delivered m c) (delivered_at state.chips state.standing c))))
           (chips_of n)
-          (λ c. ap (count_by p) (no_injection c c (delivered_at state.chips state.standing c))),
+          (λ c. ap (count_by p) (no_injection c (delivered_at state.chips state.standing c))),
     )

@@ -130,11 +130,11 @@ pub none_injected : (n : ℕ) (machine : Machine) → IsUnlogged n machine
     → HasLines (all_injected n machine) (account n machine)
 unfolding all_injected
 none_injected n machine none kind =
-    let empty : flat_map (λ c. filter_map (injected_triple c) (list_at machine.logs c)) (range_with_len 0 (2 ^ n))
+    let empty : flat_map (λ c. filter_map injected_triple (list_at machine.logs c)) (range_with_len 0 (2 ^ n))
     ≡ [] =
-    nothing_gathered (λ c. filter_map (injected_triple c) (list_at machine.logs c)) 0 (2 ^ n)
-    (λ c h. ap (filter_map (injected_triple c)) (no_log n machine c none (omega arith))) in
-    let count : count_by kind (flat_map (λ c. filter_map (injected_triple c) (list_at machine.logs c))
+    nothing_gathered (λ c. filter_map injected_triple (list_at machine.logs c)) 0 (2 ^ n)
+    (λ c h. ap (filter_map injected_triple) (no_log n machine c none (omega arith))) in
+    let count : count_by kind (flat_map (λ c. filter_map injected_triple (list_at machine.logs c))
     (range_with_len 0 (2 ^ n))) ≡ 0 = ap (count_by kind) empty in
     omega (arith, count)
 

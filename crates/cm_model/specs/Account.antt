@@ -26,10 +26,10 @@ delivered_triple (Injected m) = None
 delivered_triple (Delivered m c) =
     Some (record { tag = m.tag; target = record { chip = c; proc = m.proc }; payload = m.payload })
 
--- of an event of a chip's log, if it tells of an injection there
-abbrev pub injected_triple : ℕ → Event → Option Triple
-injected_triple c (Injected m) = Some (standing_triple c m)
-injected_triple c (Delivered m d) = None
+-- of an event, if it tells of an injection, which was at the chip that the tag names
+abbrev pub injected_triple : Event → Option Triple
+injected_triple (Injected m) = Some (standing_triple m.tag.chip m)
+injected_triple (Delivered m d) = None
 
 -- the lines of one chip: of all that stands there, and of all that was delivered there
 abbrev pub account_at : Machine → ℕ → List Triple
@@ -47,12 +47,12 @@ new_events before after c = drop (length (list_at before.logs c)) (list_at after
 -- the lines of the messages injected since an earlier machine
 unfoldable pub newly_injected : ℕ → Machine → Machine → List Triple
 newly_injected n before after =
-    flat_map (λ c. filter_map (injected_triple c) (new_events before after c)) (range_with_len 0 (2 ^ n))
+    flat_map (λ c. filter_map injected_triple (new_events before after c)) (range_with_len 0 (2 ^ n))
 
 -- the lines of all messages that the logs tell were injected
 unfoldable pub all_injected : ℕ → Machine → List Triple
 all_injected n machine =
-    flat_map (λ c. filter_map (injected_triple c) (list_at machine.logs c)) (range_with_len 0 (2 ^ n))
+    flat_map (λ c. filter_map injected_triple (list_at machine.logs c)) (range_with_len 0 (2 ^ n))
 
 -- the two lists have as many lines of every kind, in whatever order
 abbrev pub SameLines : List Triple → List Triple → Type 0
