@@ -6,6 +6,8 @@ mod Lanes
 mod Laying
 mod Planes
 mod Poking
+mod Spreading
+mod Filling
 mod Stepping
 mod Replacing
 mod Storing

@@ -16,3 +16,9 @@ pub record AreLaidRows (here there : Band) (rows count : ℕ) (from old new : Li
       → slice_index new (i * here.stride + (here.first + c)) ≡ slice_index from (i * there.stride + (there.first + c))
   pub others : (i k : ℕ) → i < rows → k < here.stride → (k < here.first) ⊎ (here.first + count ≤ k)
       → slice_index new (i * here.stride + k) ≡ slice_index old (i * here.stride + k)
+
+-- so many words of a list lie in another from a place on; the others are as they were
+pub record IsRowLaid (at source count : ℕ) (from old new : List ℕ) : Type 0 where
+  pub laid : (c : ℕ) → c < count → slice_index new (at + c) ≡ slice_index from (source + c)
+  pub below : (i : ℕ) → i < at → slice_index new i ≡ slice_index old i
+  pub above : (i : ℕ) → at + count ≤ i → slice_index new i ≡ slice_index old i

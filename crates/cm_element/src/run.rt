@@ -13,19 +13,19 @@ ghost use Rattle.cm_element.specs.Steps.{AreSent, along_chain};
 mod bits;
 mod flags;
 mod lay;
+mod memory;
 mod outputs;
 mod rows;
 mod view;
 
-use crate::run::rows::{look_up_row, row, step_rows, take_rows, word_at};
+use crate::run::memory::MemoryRows;
+use crate::run::rows::{look_up_row, step_rows, take_rows, word_at};
 pub use bits::ZeroFlag;
 use cm_bits::{Addr, FlagNo, NoMemory, Plane};
 use cm_model::Nano;
 use std::alloc::Global;
 use std::marker::Model;
 pub use view::ChipView;
-
-const ADDRESSES: usize = 4096;
 
 const FLAGS: usize = 16;
 
@@ -40,7 +40,7 @@ const PADDING: usize = 32;
 /// Contracts see the list of the chips, each the list of its processors.
 #[derive(Debug, Drop)]
 pub struct Run {
-    memory: Vec<Plane>,
+    memory: MemoryRows,
     flags: Vec<Plane>,
     stride: usize,
     chips: usize,
@@ -53,21 +53,19 @@ impl Model for Run {
 
     ghost Value = { List (List Processor) };
 
-    ghost view = { λ run. chips_of run.memory.items run.flags.items run.stride run.chips };
+    ghost view = { λ run. chips_of run.memory run.flags.items run.stride run.chips };
 
-    ghost invariant = { λ run. AreRows run.memory.items run.flags.items run.stride run.chips };
+    ghost invariant = { λ run. AreRows run.memory run.flags.items run.stride run.chips };
 }
 
 impl Run {
-    /// So many chips with all bits and flags 0. Memory is taken twice, however many chips there are.
+    /// So many chips with all bits and flags 0. Memory is taken three times, however many chips there are.
     pub fn blank(alloc: Global, chips: u16) -> Result<Run, NoMemory>
         ensures value { IfOk result (λ run. run ≡ each_from 0 chips (λ c. blank_chip)) }
     {
         let chips = usize::from(chips);
         let stride = stride_of(chips);
-        let Ok(memory) = vec![in alloc; 0; ADDRESSES * stride] else {
-            return Err(NoMemory);
-        };
+        let memory = MemoryRows::blank(alloc, stride)?;
         let Ok(flags) = vec![in alloc; 0; FLAGS * stride] else {
             return Err(NoMemory);
         };
@@ -83,7 +81,7 @@ impl Run {
     pub fn copy(&self, alloc: Global) -> Result<Run, NoMemory>
         ensures value { IfOk result (λ run. run ≡ self.now) }
     {
-        let memory = self.memory.to_vec(alloc)?;
+        let memory = self.memory.copy(alloc)?;
         let flags = self.flags.to_vec(alloc)?;
         Ok(Run {
             memory,
@@ -114,8 +112,8 @@ impl Run {
         ensures value { (c : ℕ) → c < length self.now
             → IsPlane (slice_index result.now c) (λ p. memory_bit (processor_at (chip_at self.now c) p) at) }
     {
-        let first = row(usize::from(at.get()), ADDRESSES, self.stride);
-        &self.memory[first..first + self.chips]
+        self.memory
+            .row(usize::from(at.get()), self.stride, self.chips)
     }
 
     /// One flag of all processors of a chip: bit p is that of processor p.
@@ -135,8 +133,7 @@ impl Run {
         ensures value { IsPlane result (λ p. memory_bit (processor_at (chip_at self.now chip) p) at) }
         ensures whole { IsChip (chip_at self.now chip) }
     {
-        let here = word_at(at, ADDRESSES, self.stride, chip);
-        self.memory[here]
+        self.memory.word(at, self.stride, chip)
     }
 
     /// One instruction in all chips, in one pass, unless it writes NEWS. What comes in over DAISY goes

@@ -8,7 +8,7 @@ ghost use Rattle.cm_model.specs.Array.{chip_at};
 ghost use Rattle.cm_model.specs.Whole.{IsChip};
 ghost use Rattle.cm_element.specs.Wide.{with_memory_field, with_flag_plane, with_memory_plane};
 
-use super::{ADDRESSES, FLAGS, Run};
+use super::{FLAGS, Run};
 use crate::run::rows::word_at;
 use crate::word::{bit_of, bits_in, is_one, with_bit};
 use cm_bits::{Addr, Field, FlagNo, Plane, Proc};
@@ -141,8 +141,8 @@ impl Run {
         ensures value { self.new
             ≡ slice_set self.old chip (with_memory_plane (chip_at self.old chip) at (bit plane)) }
     {
-        let here = word_at(usize::from(at.get()), ADDRESSES, self.stride, chip);
-        self.memory[here] = plane;
+        self.memory
+            .put(usize::from(at.get()), self.stride, chip, plane);
     }
 
     /// Puts a bit into the memory of one processor.
@@ -153,7 +153,7 @@ impl Run {
         ensures proc { proc < 16 }
         ensures whole { IsChip (chip_at self.old chip) }
     {
-        let here = word_at(at, ADDRESSES, self.stride, chip);
-        self.memory[here] = with_bit(self.memory[here], proc, bit);
+        let word = with_bit(self.memory.word(at, self.stride, chip), proc, bit);
+        self.memory.put(at, self.stride, chip, word);
     }
 }

@@ -3,15 +3,15 @@
 ghost use Rattle.std.specs.Prelude.{◌≡◌, ◌⊎◌, ℕ, ◌+◌, ◌*◌, ◌<◌, ◌≤◌, ◌^◌, length, slice_index};
 ghost use Rattle.cm_element.specs.Laid.{AreLaid, AreLaidRows};
 
-use super::{ADDRESSES, FLAGS, Run};
+use super::{FLAGS, Run};
 use crate::run::rows::put_row;
 use cm_bits::Plane;
 
 /// Where the words of some chips begin in each of the rows.
 #[derive(Clone, Copy)]
 pub(crate) struct Band {
-    stride: usize,
-    first: usize,
+    pub(crate) stride: usize,
+    pub(crate) first: usize,
 }
 
 impl Run {
@@ -30,14 +30,7 @@ impl Run {
             stride: from.stride,
             first: usize::from(first),
         };
-        lay_rows(
-            &mut self.memory,
-            here,
-            &from.memory,
-            there,
-            ADDRESSES,
-            count,
-        );
+        self.memory.lay(here, &from.memory, there, count);
         lay_rows(&mut self.flags, here, &from.flags, there, FLAGS, count);
     }
 }

@@ -13,6 +13,7 @@ ghost use Rattle.cm_element.specs.WideOutputs.{HaveRoomFor, AreWideOutputs};
 
 use super::{Run, takes_incoming};
 use crate::outputs::Outputs;
+use crate::run::memory::MemoryRows;
 use crate::run::rows::{look_up_row, places};
 use crate::wide_outputs::WideOutputs;
 use crate::word::{chosen, holding};
@@ -120,7 +121,7 @@ fn stored_plane(nano: &Nano, own: Plane, incoming: Plane) -> Plane
 
 /// Writes down where the condition of an instruction holds.
 fn hold_row(
-    memory: &[Plane],
+    memory: &MemoryRows,
     flags: &[Plane],
     nano: &Nano,
     stride: usize,
@@ -140,7 +141,7 @@ fn hold_row(
 
 /// Stores the outputs in the rows.
 fn store_rows(
-    memory: &mut [Plane],
+    memory: &mut MemoryRows,
     flags: &mut [Plane],
     nano: &Nano,
     stride: usize,
@@ -158,7 +159,12 @@ fn store_rows(
         (chip_at (chips_of memory.old flags.old stride chips) c)) }
 {
     let at = places(nano, stride);
-    store_row(memory, at.a, &outputs.holds, &outputs.mem);
+    memory.store(
+        usize::from(nano.a.get()),
+        stride,
+        &outputs.holds,
+        &outputs.mem,
+    );
     if nano.write != FlagNo::ZERO {
         if takes_incoming(nano) {
             store_row(flags, at.write, &outputs.holds, incoming);
@@ -169,7 +175,7 @@ fn store_rows(
 }
 
 /// Stores planes in a row where the condition holds.
-fn store_row(rows: &mut [Plane], at: usize, holds: &[Plane], planes: &[Plane])
+pub(crate) fn store_row(rows: &mut [Plane], at: usize, holds: &[Plane], planes: &[Plane])
     requires within { at + length planes.now ≤ length rows.old }
     requires holds { length holds.now ≡ length planes.now }
     ensures value { IsStored at holds.now planes.now rows.old rows.new }

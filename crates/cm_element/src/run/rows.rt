@@ -10,10 +10,11 @@ ghost use Rattle.cm_model.specs.Array.{chip_at};
 ghost use Rattle.cm_element.specs.Runs.{AreRows, chips_of};
 ghost use Rattle.cm_element.specs.Steps.{ArePlaces, AreMerged, AreLookedUp, along_chain};
 
+use crate::run::memory::MemoryRows;
 use crate::word::{chosen, holding};
 use cm_bits::{FlagNo, Plane};
 use cm_model::Nano;
-use cm_rows::{Places, compute, compute_memory};
+use cm_rows::Places;
 use cm_truth::apply;
 
 const ADDRESSES: usize = 4096;
@@ -45,7 +46,7 @@ pub(crate) fn word_at(number: usize, rows: usize, stride: usize, chip: u16) -> u
 
 /// One instruction in all chips of the rows, in place, when nothing comes in over NEWS.
 pub(crate) fn step_rows(
-    memory: &mut [Plane],
+    memory: &mut MemoryRows,
     flags: &mut [Plane],
     nano: &Nano,
     stride: usize,
@@ -61,14 +62,13 @@ pub(crate) fn step_rows(
     let at = places(nano, stride);
     let always = is_always(nano);
     if nano.write == FlagNo::ZERO {
-        compute_memory(nano.mem_table, always, nano.sense, memory, flags, at, chips);
+        memory.compute_memory(nano, stride, always, flags, at, chips);
     } else {
-        compute(
-            (nano.mem_table, nano.flag_table),
+        memory.compute(
+            nano,
+            stride,
             nano.write == FlagNo::DAISY,
             always,
-            nano.sense,
-            memory,
             flags,
             at,
             chips,
@@ -79,7 +79,7 @@ pub(crate) fn step_rows(
 /// Writes down what a table gives the processors of every chip, whatever their condition.
 pub(crate) fn look_up_row(
     table: u8,
-    memory: &[Plane],
+    memory: &MemoryRows,
     flags: &[Plane],
     nano: &Nano,
     stride: usize,
@@ -91,20 +91,17 @@ pub(crate) fn look_up_row(
     ensures value { AreLookedUp table nano.now (chips_of memory.now flags.now stride chips) found.new }
 {
     let at = places(nano, stride);
+    let a = memory.row(usize::from(nano.a.get()), stride, chips);
+    let b = memory.row(usize::from(nano.b.get()), stride, chips);
     for c in 0..chips {
-        found[c] = apply(
-            table,
-            memory[at.a + c],
-            memory[at.b + c],
-            flags[at.read + c],
-        );
+        found[c] = apply(table, a[c], b[c], flags[at.read + c]);
     }
 }
 
 /// One instruction in all chips of the rows, when these planes come in over NEWS or DAISY. They are
 /// used up.
 pub(crate) fn take_rows(
-    memory: &mut [Plane],
+    memory: &mut MemoryRows,
     flags: &mut [Plane],
     nano: &Nano,
     stride: usize,
@@ -120,15 +117,7 @@ pub(crate) fn take_rows(
         (chip_at (chips_of memory.old flags.old stride chips) c)) }
 {
     let at = places(nano, stride);
-    compute_memory(
-        nano.mem_table,
-        is_always(nano),
-        nano.sense,
-        memory,
-        flags,
-        at,
-        chips,
-    );
+    memory.compute_memory(nano, stride, is_always(nano), flags, at, chips);
     merge(flags, nano.sense, at, incoming);
     put_row(flags, at.write, incoming);
 }

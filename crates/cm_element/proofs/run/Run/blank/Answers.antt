@@ -6,9 +6,9 @@ use Rattle.cm_element.proofs.run.Run.blank.Goals as goal
 
 pub returns : goal.returns
 returns c = record {
-  value = blank_rows c.in-Ok.memory.items c.in-Ok-vec.flags.items (4096 * c.stride_of-stride.result)
+  value = blank_rows c.in_ok-memory.memory c.in-Ok.flags.items (4096 * c.stride_of-stride.result)
       (16 * c.stride_of-stride.result) c.stride_of-stride.result c.from-chips.result
+      c.in_ok-memory.ensures.value
       (c.in-Ok.ensures.items_if_clones_equal (λ y same. same))
-      (c.in-Ok-vec.ensures.items_if_clones_equal (λ y same. same))
       ∙ ap (λ (n : ℕ). each_from 0 n (λ c. blank_chip)) c.from-chips.ensures;
 }

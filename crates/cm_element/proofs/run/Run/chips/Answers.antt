@@ -4,6 +4,6 @@ use Rattle.cm_element.proofs.run.Run.chips.Goals as goal
 
 pub returns : goal.returns
 returns c = record {
-  value = rw (← c.self.view_is) (sym (length-chips_of c.self.inside.memory.items c.self.inside.flags.items
+  value = rw (← c.self.view_is) (sym (length-chips_of c.self.inside.memory c.self.inside.flags.items
       c.self.inside.stride c.self.inside.chips));
 }

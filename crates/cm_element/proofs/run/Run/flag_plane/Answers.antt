@@ -4,12 +4,12 @@ use Rattle.cm_element.proofs.run.Run.flag_plane.Goals as goal
 
 pub word_at-here-requires-clause-chip : goal.word_at-here-requires-clause-chip
 word_at-here-requires-clause-chip c =
-    has_word c.self.inside.memory.items c.self.inside.flags.items c.self.inside.stride c.self.inside.chips c.args.chip
+    has_word c.self.inside.memory c.self.inside.flags.items c.self.inside.stride c.self.inside.chips c.args.chip
     c.self.invariant (rw (← c.self.view_is) at c.requires.chip)
 
 pub returns : goal.returns
 returns c =
-    let m = c.self.inside.memory.items in
+    let m = c.self.inside.memory in
     let f = c.self.inside.flags.items in
     let there = rw (← c.self.view_is) at c.requires.chip in
     let here = rw (length-chips_of m f c.self.inside.stride c.self.inside.chips) at there in

@@ -11,7 +11,7 @@ use Rattle.cm_element.proofs.run.Run.flag_row.Goals as goal
 pub returns : goal.returns
 returns c =
     let run = c.self.inside in
-    let m = run.memory.items in
+    let m = run.memory in
     let f = run.flags.items in
     let first : ℕ = c.row-first.result in
     let number : c.from.result ≡ c.args.number = c.from.ensures ∙ c.get.ensures.value in

@@ -9,7 +9,7 @@ pub look_up_row-requires-clause-found : goal.look_up_row-requires-clause-found
 look_up_row-requires-clause-found c =
     let count = rw (
       ← c.self.view_is,
-      length-chips_of c.self.inside.memory.items c.self.inside.flags.items c.self.inside.stride c.self.inside.chips,
+      length-chips_of c.self.inside.memory c.self.inside.flags.items c.self.inside.stride c.self.inside.chips,
     ) at c.requires.room.mem in
     ap length c.deref_mut.ensures.value ∙ count
 
@@ -17,7 +17,7 @@ pub look_up_row-requires-2-clause-found : goal.look_up_row-requires-2-clause-fou
 look_up_row-requires-2-clause-found c =
     let count = rw (
       ← c.self.view_is,
-      length-chips_of c.self.inside.memory.items c.self.inside.flags.items c.self.inside.stride c.self.inside.chips,
+      length-chips_of c.self.inside.memory c.self.inside.flags.items c.self.inside.stride c.self.inside.chips,
     ) at c.requires.room.flag in
     ap length c.deref_mut-2.ensures.value ∙ count
 
@@ -25,7 +25,7 @@ pub hold_row-requires-clause-found : goal.hold_row-requires-clause-found
 hold_row-requires-clause-found c =
     let count = rw (
       ← c.self.view_is,
-      length-chips_of c.self.inside.memory.items c.self.inside.flags.items c.self.inside.stride c.self.inside.chips,
+      length-chips_of c.self.inside.memory c.self.inside.flags.items c.self.inside.stride c.self.inside.chips,
     ) at c.requires.room.holds in
     ap length c.deref_mut-3.ensures.value ∙ count
 
@@ -39,11 +39,11 @@ returns-clause-value c =
     let holds = with_items_is old.holds c.hold_row.new.found
     (omega (arith, c.hold_row.auto.found, c.deref_mut-3.ensures.len)) in
     let mem_is : AreLookedUp c.args.nano.now.mem_table c.args.nano.now c.args.self.now c.look_up_row.new.found =
-    rw (← c.self.view_is, ← c.deref.ensures.value, ← c.deref-2.ensures.value) c.look_up_row.ensures.value in
+    rw (← c.self.view_is, ← c.deref.ensures.value) c.look_up_row.ensures.value in
     let flag_is : AreLookedUp c.args.nano.now.flag_table c.args.nano.now c.args.self.now c.look_up_row-2.new.found =
-    rw (← c.self.view_is, ← c.deref-3.ensures.value, ← c.deref-4.ensures.value) c.look_up_row-2.ensures.value in
+    rw (← c.self.view_is, ← c.deref-2.ensures.value) c.look_up_row-2.ensures.value in
     let holds_is : AreHolding c.args.nano.now c.args.self.now c.hold_row.new.found =
-    rw (← c.self.view_is, ← c.deref-5.ensures.value, ← c.deref-6.ensures.value) c.hold_row.ensures.value in
+    rw (← c.self.view_is, ← c.deref-3.ensures.value) c.hold_row.ensures.value in
     record {
       each = λ k h. record {
         mem = λ p below. ap (λ ws. bit (get_or ws k 0) p) mem ∙ mem_is.each k h p below;

@@ -1,30 +1,24 @@
-use Rattle.std.proofs.Common.{◌≡◌, ℕ, ◌+◌, ◌-◌, ◌*◌, ◌<◌, ◌≤◌, length, get_or, sym, ap, ◌∙◌, arith}
+use Rattle.std.proofs.Common.{◌≡◌, ℕ, ◌+◌, ◌*◌, ◌<◌, length, get_or, sym, ap, ◌∙◌, arith}
 use Rattle.cm_bits.specs.Bit.{bit}
 use Rattle.cm_element.specs.Runs.{column, chips_of}
 use Rattle.cm_model.specs.Processor.{memory_bit}
 use Rattle.cm_model.specs.Chip.{processor_at}
 use Rattle.cm_element.proofs.Columns.{length-chips_of, chip_at-chips_of, get_or-column}
-use Rattle.cm_element.proofs.Laying.{get_or-part, length-part}
 use Rattle.cm_element.proofs.Planes.{memory_bit-chip_of}
 use Rattle.cm_element.proofs.run.Run.plane_row.Goals as goal
 
 pub returns : goal.returns
 returns c =
     let run = c.self.inside in
-    let m = run.memory.items in
+    let m = run.memory in
     let f = run.flags.items in
-    let first : ℕ = c.row-first.result in
     let address : c.from.result ≡ c.args.at = c.from.ensures ∙ c.get.ensures.value in
-    let place : first ≡ c.args.at * run.stride = c.row-first.ensures.value ∙ ap (λ (i : ℕ). i * run.stride) address in
-    let few : first + run.chips - first ≡ run.chips = omega arith in
-    let inside : first + run.chips ≤ length m =
-    omega (arith, c.row-first.ensures.within, c.self.invariant.within, c.self.invariant.memory_words) in
     let count : length (chips_of m f run.stride run.chips) ≡ run.chips = length-chips_of m f run.stride run.chips in
-    rw (← c.self.view_is, c.deref.ensures.value) (record {
-      count = length-part m first (first + run.chips) run.chips few inside ∙ sym count;
+    rw (← c.self.view_is) (record {
+      count = c.row.ensures.count ∙ sym count;
       value = λ k h p below. let here : k < run.chips = omega (arith, h, count) in
-          ap (λ (w : ℕ). bit w p) (get_or-part m first (first + run.chips) run.chips k few here
-          ∙ ap (λ (i : ℕ). get_or m (i + k) 0) place
+          ap (λ (w : ℕ). bit w p) (c.row.ensures.value k here
+          ∙ ap (λ (i : ℕ). get_or m (i * run.stride + k) 0) address
           ∙ sym (get_or-column m run.stride 4096 k c.args.at
           (omega (arith, c.get.ensures.value, c.get.ensures.in_range))))
           ∙ sym (memory_bit-chip_of (column m run.stride 4096 k) (column f run.stride 16 k) p c.args.at below)

@@ -11,24 +11,24 @@ use Rattle.cm_element.proofs.run.Run.poke_flag.Goals as goal
 
 pub word_at-here-requires-clause-chip : goal.word_at-here-requires-clause-chip
 word_at-here-requires-clause-chip c =
-    has_word c.self.inside.memory.items c.self.inside.flags.items c.self.inside.stride c.self.inside.chips c.args.chip
+    has_word c.self.inside.memory c.self.inside.flags.items c.self.inside.stride c.self.inside.chips c.args.chip
     c.self.invariant (rw (← c.self.view_is) at c.requires.chip)
 
 pub invariant_of-self : goal.invariant_of-self
 invariant_of-self c =
     let run = c.self.inside in
-    let here = rw (← c.self.view_is, length-chips_of run.memory.items run.flags.items run.stride run.chips)
+    let here = rw (← c.self.view_is, length-chips_of run.memory run.flags.items run.stride run.chips)
     at c.requires.chip in
     let number : c.from.result ≡ c.args.number = c.from.ensures ∙ c.get.ensures.value in
     let other : c.args.number ≢ 8 = eqb-false c.args.number 8 (sym c.eq.ensures ∙ c.if-eq.false) in
     rw (c.word_at-here.ensures.value, number)
-    (flags_set_rows run.memory.items run.flags.items run.stride run.chips c.args.chip c.args.number c.with_bit.result
+    (flags_set_rows run.memory run.flags.items run.stride run.chips c.args.chip c.args.number c.with_bit.result
     c.self.invariant here other)
 
 pub returns-clause-ok : goal.returns-clause-ok
 returns-clause-ok c =
     let run = c.self.inside in
-    let m = run.memory.items in
+    let m = run.memory in
     let f = run.flags.items in
     let chip = c.args.chip in
     let here = rw (← c.self.view_is, length-chips_of m f run.stride run.chips) at c.requires.chip in

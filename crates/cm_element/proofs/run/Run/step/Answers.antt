@@ -15,19 +15,16 @@ returns-clause-value c =
     let nano : Nano = c.args.nano.now in
     let memory : List ℕ = c.step_rows.new.memory in
     let flags : List ℕ = c.step_rows.new.flags in
-    let lent = c.deref_mut.ensures in
-    let lent_flags = c.deref_mut-2.ensures in
+    let lent_flags = c.deref_mut.ensures in
     let kept = c.step_rows.ensures.rows in
-    let memory_is = with_items_is run.memory memory
-    (omega (arith, kept.memory_words, c.self.invariant.memory_words, ap length lent.value, lent.len)) in
     let flags_is = with_items_is run.flags flags
     (omega (arith, kept.flag_words, c.self.invariant.flag_words, ap length lent_flags.value, lent_flags.len)) in
-    rw (← c.self.view_is, length-chips_of run.memory.items run.flags.items run.stride run.chips)
-    ((λ j. chips_of (memory_is j) (flags_is j) run.stride run.chips)
+    rw (← c.self.view_is, length-chips_of run.memory run.flags.items run.stride run.chips)
+    ((λ j. chips_of memory (flags_is j) run.stride run.chips)
     ∙ c.step_rows.ensures.value
     ∙ (λ j. each_from 0 run.chips (λ i. chip_after nano
-    (along_chain nano (get_or (chips_of (lent.value j) (lent_flags.value j) run.stride run.chips) i []))
-    (get_or (chips_of (lent.value j) (lent_flags.value j) run.stride run.chips) i []))))
+    (along_chain nano (get_or (chips_of run.memory (lent_flags.value j) run.stride run.chips) i []))
+    (get_or (chips_of run.memory (lent_flags.value j) run.stride run.chips) i []))))
 
 pub returns-clause-alone : goal.returns-clause-alone
 returns-clause-alone c = λ alone incoming.

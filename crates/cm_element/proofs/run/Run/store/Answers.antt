@@ -11,14 +11,14 @@ pub store_rows-requires-clause-room : goal.store_rows-requires-clause-room
 store_rows-requires-clause-room c =
     rw (
       ← c.self.view_is,
-      length-chips_of c.self.inside.memory.items c.self.inside.flags.items c.self.inside.stride c.self.inside.chips,
+      length-chips_of c.self.inside.memory c.self.inside.flags.items c.self.inside.stride c.self.inside.chips,
     ) at c.requires.room
 
 pub store_rows-requires-clause-incoming : goal.store_rows-requires-clause-incoming
 store_rows-requires-clause-incoming c =
     rw (
       ← c.self.view_is,
-      length-chips_of c.self.inside.memory.items c.self.inside.flags.items c.self.inside.stride c.self.inside.chips,
+      length-chips_of c.self.inside.memory c.self.inside.flags.items c.self.inside.stride c.self.inside.chips,
     ) at c.requires.incoming
 
 pub returns : goal.returns
@@ -26,17 +26,14 @@ returns c =
     let run = c.self.inside in
     let memory : List ℕ = c.store_rows.new.memory in
     let flags : List ℕ = c.store_rows.new.flags in
-    let lent = c.deref_mut.ensures in
-    let lent_flags = c.deref_mut-2.ensures in
+    let lent_flags = c.deref_mut.ensures in
     let kept = c.store_rows.ensures.rows in
-    let memory_is = with_items_is run.memory memory
-    (omega (arith, kept.memory_words, c.self.invariant.memory_words, ap length lent.value, lent.len)) in
     let flags_is = with_items_is run.flags flags
     (omega (arith, kept.flag_words, c.self.invariant.flag_words, ap length lent_flags.value, lent_flags.len)) in
     record {
-      value = rw (← c.self.view_is, length-chips_of run.memory.items run.flags.items run.stride run.chips)
-          ((λ j. chips_of (memory_is j) (flags_is j) run.stride run.chips)
+      value = rw (← c.self.view_is, length-chips_of run.memory run.flags.items run.stride run.chips)
+          ((λ j. chips_of memory (flags_is j) run.stride run.chips)
           ∙ c.store_rows.ensures.value
           ∙ (λ j. each_from 0 run.chips (λ i. chip_after c.args.nano.now (bit (get_or c.args.incoming.now i 0))
-          (get_or (chips_of (lent.value j) (lent_flags.value j) run.stride run.chips) i []))));
+          (get_or (chips_of run.memory (lent_flags.value j) run.stride run.chips) i []))));
     }

@@ -3,29 +3,8 @@ use Rattle.std.proofs.lemmas.Bool.{eqb-false, ne_eqb}
 use Rattle.cm_model.specs.Instruction.{takes_incoming}
 use Rattle.cm_element.specs.Runs.{chip_in}
 use Rattle.cm_element.specs.Steps.{along_chain}
-use Rattle.cm_element.proofs.Columns.{apart_at}
 use Rattle.cm_element.proofs.Stepping.{rows_stepped_along, chip_stepped, chip_stepped_alone, row_changed, zero_kept}
 use Rattle.cm_element.proofs.run.rows.step_rows.Goals as goal
-
-pub compute_memory-requires-clause-b_apart : goal.compute_memory-requires-clause-b_apart
-compute_memory-requires-clause-b_apart c =
-    apart_at c.args.nano.now.a c.args.nano.now.b c.args.stride c.args.chips c.places-at.result.a c.places-at.result.b
-    c.places-at.ensures.value.a c.places-at.ensures.value.b c.requires.rows.within
-
-pub compute-requires-clause-b_apart : goal.compute-requires-clause-b_apart
-compute-requires-clause-b_apart c =
-    apart_at c.args.nano.now.a c.args.nano.now.b c.args.stride c.args.chips c.places-at.result.a c.places-at.result.b
-    c.places-at.ensures.value.a c.places-at.ensures.value.b c.requires.rows.within
-
-pub compute-requires-clause-read_apart : goal.compute-requires-clause-read_apart
-compute-requires-clause-read_apart c =
-    apart_at c.args.nano.now.write c.args.nano.now.read c.args.stride c.args.chips c.places-at.result.write
-    c.places-at.result.read c.places-at.ensures.value.write c.places-at.ensures.value.read c.requires.rows.within
-
-pub compute-requires-clause-cond_apart : goal.compute-requires-clause-cond_apart
-compute-requires-clause-cond_apart c =
-    apart_at c.args.nano.now.write c.args.nano.now.cond c.args.stride c.args.chips c.places-at.result.write
-    c.places-at.result.cond c.places-at.ensures.value.write c.places-at.ensures.value.cond c.requires.rows.within
 
 pub returns-then-eq-clause-value : goal.returns-then-eq-clause-value
 returns-then-eq-clause-value c =
@@ -33,8 +12,8 @@ returns-then-eq-clause-value c =
     let memory = c.args.memory.now in
     let flags = c.args.flags.now in
     let zero_flag : (nano.write == 8) ≡ true = sym c.eq.ensures ∙ c.if-eq.true in
-    rows_stepped_along nano memory flags c.compute_memory.new.memory flags c.args.stride c.args.chips
-    (λ chip h. chip_stepped_alone nano c.is_always-always.result memory flags c.compute_memory.new.memory c.args.stride
+    rows_stepped_along nano memory flags c.compute_memory.new.self flags c.args.stride c.args.chips
+    (λ chip h. chip_stepped_alone nano c.is_always-always.result memory flags c.compute_memory.new.self c.args.stride
     c.args.chips chip c.places-at.result
     (along_chain nano (chip_in memory flags c.args.stride chip))
     (record {
@@ -50,7 +29,7 @@ returns-else-eq-clause-rows c =
     let nano = c.args.nano.now in
     let other : nano.write ≢ 8 = eqb-false nano.write 8 (sym c.eq.ensures ∙ c.if-eq.false) in
     record {
-      memory_words = omega (arith, c.compute.auto.memory, c.requires.rows.memory_words);
+      memory_words = omega (arith, c.compute.ensures.words, c.requires.rows.memory_words);
       flag_words = omega (arith, c.compute.auto.flags, c.requires.rows.flag_words);
       within = c.requires.rows.within;
       few = c.requires.rows.few;
@@ -68,10 +47,10 @@ returns-else-eq-clause-value c =
     let other : (nano.write == 8) ≡ false = sym c.eq.ensures ∙ c.if-eq.false in
     let apart : (nano.write == 10) ≡ false = ne_eqb nano.write 10 c.requires.apart in
     let taken : takes_incoming nano ≡ c.eq-else-eq.result = rw apart (sym c.eq-else-eq.ensures) in
-    rows_stepped_along nano c.args.memory.now c.args.flags.now c.compute.new.memory c.compute.new.flags
+    rows_stepped_along nano c.args.memory.now c.args.flags.now c.compute.new.self c.compute.new.flags
     c.args.stride c.args.chips
     (λ chip h. chip_stepped nano c.is_always-always.result c.eq-else-eq.result c.args.memory.now c.args.flags.now
-    c.compute.new.memory c.compute.new.flags c.args.stride c.args.chips chip c.places-at.result
+    c.compute.new.self c.compute.new.flags c.args.stride c.args.chips chip c.places-at.result
     (record {
       rows = c.requires.rows;
       places = c.places-at.ensures.value;

@@ -1,13 +1,8 @@
 use Rattle.std.proofs.Common.{◌<◌, length, get_or, arith}
 use Rattle.cm_bits.specs.Bit.{bit}
-use Rattle.cm_element.proofs.Columns.{apart_at, IsRowChanged}
+use Rattle.cm_element.proofs.Columns.{IsRowChanged}
 use Rattle.cm_element.proofs.Stepping.{rows_stepped, chip_taken, zero_kept, taker_is_not_zero}
 use Rattle.cm_element.proofs.run.rows.take_rows.Goals as goal
-
-pub compute_memory-requires-clause-b_apart : goal.compute_memory-requires-clause-b_apart
-compute_memory-requires-clause-b_apart c =
-    apart_at c.args.nano.now.a c.args.nano.now.b c.args.stride c.args.chips c.places-at.result.a c.places-at.result.b
-    c.places-at.ensures.value.a c.places-at.ensures.value.b c.requires.rows.within
 
 pub returns-clause-rows : goal.returns-clause-rows
 returns-clause-rows c =
@@ -18,7 +13,7 @@ returns-clause-rows c =
           (omega (arith, h, c.places-at.ensures.value.write, c.merge.auto.incoming, c.requires.incoming));
     } in
     record {
-      memory_words = omega (arith, c.compute_memory.auto.memory, c.requires.rows.memory_words);
+      memory_words = omega (arith, c.compute_memory.ensures.words, c.requires.rows.memory_words);
       flag_words = omega (arith, c.put_row.auto.rows, c.requires.rows.flag_words);
       within = c.requires.rows.within;
       few = c.requires.rows.few;
@@ -36,11 +31,11 @@ returns-clause-value c =
       above = λ i h. c.put_row.ensures.above i
           (omega (arith, h, places.write, c.merge.auto.incoming, c.requires.incoming));
     } in
-    rows_stepped nano c.args.memory.now c.args.flags.now c.compute_memory.new.memory c.put_row.new.rows c.args.stride
+    rows_stepped nano c.args.memory.now c.args.flags.now c.compute_memory.new.self c.put_row.new.rows c.args.stride
     c.args.chips (λ i. bit (get_or c.args.incoming.now i 0))
     (λ chip h. let here : chip < length c.merge.new.incoming =
     omega (arith, h, c.merge.auto.incoming, c.requires.incoming) in
-    chip_taken nano c.is_always.result c.args.memory.now c.args.flags.now c.compute_memory.new.memory c.put_row.new.rows
+    chip_taken nano c.is_always.result c.args.memory.now c.args.flags.now c.compute_memory.new.self c.put_row.new.rows
     c.merge.new.incoming c.args.stride c.args.chips chip at c.args.incoming.now
     (record {
       rows = c.requires.rows;

@@ -1,0 +1,122 @@
+use Rattle.std.proofs.Common.{◌≡◌, ℕ, refl, ◌*◌, false, List, length, get_or, ap, sym, subst, ◌∙◌, arith}
+use Rattle.std.specs.Vec.{with_items}
+use Rattle.std.proofs.lemmas.List.{with_items_is}
+use Rattle.cm_model.specs.declared.act.Nano.{Nano}
+use Rattle.cm_rows.specs.Rows.{IsComputed}
+use Rattle.cm_element.specs.Sparse.{AreSlots}
+use Rattle.cm_element.proofs.Columns.{apart_at}
+use Rattle.cm_element.proofs.Spreading.{same_stride, length-spread, slots_kept}
+use Rattle.cm_element.proofs.Filling.{IsInSlots, memory_changed, memory_computed, flags_computed, retold}
+use Rattle.cm_element.proofs.run.memory.MemoryRows.compute.Goals as goal
+
+pub compute-requires-clause-a : goal.compute-requires-clause-a
+compute-requires-clause-a c =
+    let rows = c.self.inside in
+    let same : rows.stride ≡ c.args.stride =
+    same_stride rows.words.items rows.slots.items rows.stride c.args.stride (rw c.self.view_is c.requires.words) in
+    omega (arith, same, c.start.ensures.within, c.requires.count, ap length c.deref_mut.ensures.value)
+
+pub compute-requires-clause-b : goal.compute-requires-clause-b
+compute-requires-clause-b c =
+    let rows = c.self.inside in
+    let same : rows.stride ≡ c.args.stride =
+    same_stride rows.words.items rows.slots.items rows.stride c.args.stride (rw c.self.view_is c.requires.words) in
+    omega (arith, same, c.start-2.ensures.within, c.requires.count, ap length c.deref_mut.ensures.value)
+
+pub compute-requires-clause-b_apart : goal.compute-requires-clause-b_apart
+compute-requires-clause-b_apart c =
+    let rows = c.self.inside in
+    let slots = c.own-self-inside.new.slots.items in
+    let same : rows.stride ≡ c.args.stride =
+    same_stride rows.words.items rows.slots.items rows.stride c.args.stride (rw c.self.view_is c.requires.words) in
+    apart_at (get_or slots c.from-a.result 0) (get_or slots c.from-b.result 0) rows.stride c.args.count c.start.result
+    c.start-2.result c.start.ensures.value c.start-2.ensures.value (omega (arith, same, c.requires.count))
+
+pub compute-requires-clause-read_apart : goal.compute-requires-clause-read_apart
+compute-requires-clause-read_apart c =
+    apart_at c.args.nano.now.write c.args.nano.now.read c.args.stride c.args.count c.args.at.write c.args.at.read
+    c.requires.places.write c.requires.places.read c.requires.count
+
+pub compute-requires-clause-cond_apart : goal.compute-requires-clause-cond_apart
+compute-requires-clause-cond_apart c =
+    apart_at c.args.nano.now.write c.args.nano.now.cond c.args.stride c.args.count c.args.at.write c.args.at.cond
+    c.requires.places.write c.requires.places.cond c.requires.count
+
+-- where the rows are
+in_slots : (c : goal.After-slice_known-2-1) → IsInSlots c.args.nano.now c.own-self-inside.new.words.items
+    c.own-self-inside.new.slots.items c.own-self-inside.new.words.cap c.own-self-inside.result c.self.inside.stride
+    c.args.count c.args.at
+    (record {
+      a = c.start.result;
+      b = c.start-2.result;
+      read = c.args.at.read;
+      write = c.args.at.write;
+      cond = c.args.at.cond;
+    })
+in_slots c =
+    let rows = c.self.inside in
+    let slots = c.own-self-inside.new.slots.items in
+    let same : rows.stride ≡ c.args.stride =
+    same_stride rows.words.items rows.slots.items rows.stride c.args.stride (rw c.self.view_is c.requires.words) in
+    let a : c.from-a.result ≡ c.args.nano.now.a = c.from-a.ensures ∙ c.get.ensures.value in
+    let b : c.from-b.result ≡ c.args.nano.now.b = c.from-b.ensures ∙ c.get-2.ensures.value in
+    record {
+      are = c.own-self-inside.ensures.slots;
+      places = rw same c.requires.places;
+      few = omega (arith, same, c.requires.count);
+      own = rw (← a) c.own-self-inside.ensures.own;
+      a = c.start.ensures.value ∙ ap (λ (i : ℕ). get_or slots i 0 * rows.stride) a;
+      b = c.start-2.ensures.value ∙ ap (λ (i : ℕ). get_or slots i 0 * rows.stride) b;
+      read = refl;
+      cond = refl;
+    }
+
+pub invariant_of-self : goal.invariant_of-self
+invariant_of-self c =
+    let rows = c.self.inside in
+    let words = c.own-self-inside.new.words in
+    let slots = c.own-self-inside.new.slots in
+    let new : List ℕ = c.compute.new.memory in
+    let lent = c.deref_mut.ensures in
+    let is = with_items_is words new (omega (arith, c.compute.auto.memory, ap length lent.value, lent.len)) in
+    let computed = rw lent.value at c.compute.ensures.memory in
+    let there = in_slots c in
+    subst (λ (ms : List ℕ). AreSlots ms words.cap slots.items c.own-self-inside.result rows.stride) (sym is)
+    (slots_kept words.items slots.items _ c.own-self-inside.result rows.stride c.args.nano.now.a 0 c.args.count
+    new _ there.are there.few there.places.a_below there.own
+    (memory_changed _ _ _ _ _ _ _ _ _ _ _ _ _ _ _ there computed)
+    (omega (arith, c.compute.auto.memory, ap length lent.value)) (omega arith))
+
+pub returns-clause-memory : goal.returns-clause-memory
+returns-clause-memory c =
+    let rows = c.self.inside in
+    let words = c.own-self-inside.new.words in
+    let slots = c.own-self-inside.new.slots in
+    let new : List ℕ = c.compute.new.memory in
+    let nano : Nano = c.args.nano.now in
+    let lent = c.deref_mut.ensures in
+    let is = with_items_is words new (omega (arith, c.compute.auto.memory, ap length lent.value, lent.len)) in
+    let computed = rw lent.value at c.compute.ensures.memory in
+    retold (λ old now. IsComputed nano.mem_table false c.args.always nano.sense c.args.at c.args.at.a 0 c.args.count old
+    c.args.flags.now old now)
+    words.items slots.items (with_items words new).items new c.args.self.now rows.stride
+    (c.own-self-inside.ensures.value ∙ c.self.view_is) is
+    (memory_computed _ _ _ _ _ _ _ _ _ _ _ _ _ _ _ (in_slots c) computed)
+
+pub returns-clause-flags : goal.returns-clause-flags
+returns-clause-flags c =
+    let nano : Nano = c.args.nano.now in
+    let words = c.own-self-inside.new.words in
+    let slots = c.own-self-inside.new.slots in
+    let computed = rw c.deref_mut.ensures.value at c.compute.ensures.flags in
+    subst (λ (m : List ℕ). IsComputed nano.flag_table c.args.chained c.args.always nano.sense c.args.at c.args.at.write 0
+    c.args.count m c.args.flags.now c.args.flags.now c.compute.new.flags)
+    (c.own-self-inside.ensures.value ∙ c.self.view_is)
+    (flags_computed _ _ _ _ _ _ _ _ _ _ _ _ _ _ _ (in_slots c) refl computed)
+
+pub returns-clause-words : goal.returns-clause-words
+returns-clause-words c =
+    let rows = c.self.inside in
+    let same : rows.stride ≡ c.args.stride =
+    same_stride rows.words.items rows.slots.items rows.stride c.args.stride (rw c.self.view_is c.requires.words) in
+    length-spread _ _ rows.stride ∙ ap (λ (n : ℕ). 4096 * n) same ∙ sym c.requires.words

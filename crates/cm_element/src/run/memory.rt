@@ -1,0 +1,287 @@
+//! The rows of memory of a run, of which only those that are in use are kept.
+
+ghost use Rattle.std.specs.Prelude.{◌≡◌, ℕ, ◌+◌, ◌*◌, ◌<◌, ◌≤◌, ◌^◌, false, length, slice_index, slice_set, replicate};
+ghost use Rattle.std.specs.Prelude.{IfOk, vec_capacity};
+ghost use Rattle.cm_element.specs.Laid.{AreLaidRows, IsRowLaid};
+ghost use Rattle.cm_element.specs.Sparse.{spread, AreSlots};
+ghost use Rattle.cm_element.specs.Steps.{ArePlaces, IsStored};
+ghost use Rattle.cm_rows.specs.Rows.{IsComputed};
+
+use crate::run::lay::Band;
+use crate::run::outputs::store_row;
+use crate::run::rows::put_row;
+use cm_bits::{NoMemory, Plane};
+use cm_model::Nano;
+use cm_rows::{Places, compute, compute_memory};
+use std::alloc::Global;
+use std::marker::Model;
+
+const ADDRESSES: usize = 4096;
+
+/// A row for each address. Room for all is reserved, but a row is made when first one of its words is
+/// written: until then its address shares a row of zeros. Room that is never written costs nothing.
+///
+/// Contracts see all rows one after another, as one list of words.
+#[derive(Debug, Drop)]
+pub(crate) struct MemoryRows {
+    words: Vec<Plane>,
+    slots: Vec<u16>,
+    used: usize,
+    stride: usize,
+}
+
+impl Model for MemoryRows {
+    ghost use Rattle.std.specs.Prelude.{ℕ, List, vec_capacity};
+    ghost use Rattle.cm_element.specs.Sparse.{spread, AreSlots};
+
+    ghost Value = { List ℕ };
+
+    ghost view = { λ rows. spread rows.words.items rows.slots.items rows.stride };
+
+    ghost invariant = { λ rows. AreSlots rows.words.items (vec_capacity rows.words) rows.slots.items rows.used rows.stride };
+}
+
+impl MemoryRows {
+    /// Rows of zeros, a stride long. Memory is taken twice.
+    pub(crate) fn blank(alloc: Global, stride: usize) -> Result<MemoryRows, NoMemory>
+        requires few { stride < 2 ^ 20 }
+        ensures value { IfOk result (λ rows. rows ≡ replicate (4096 * stride) 0) }
+    {
+        let mut words = Vec::with_capacity(alloc, (ADDRESSES + 1) * stride)?;
+        words.resize(stride, 0)?;
+        let Ok(slots) = vec![in alloc; 0; ADDRESSES] else {
+            return Err(NoMemory);
+        };
+        Ok(MemoryRows {
+            words,
+            slots,
+            used: 1,
+            stride,
+        })
+    }
+
+    /// Second rows, with the words of these: what is in use is copied.
+    pub(crate) fn copy(&self, alloc: Global) -> Result<MemoryRows, NoMemory>
+        ensures value { IfOk result (λ rows. rows ≡ self.now) }
+    {
+        let mut words = Vec::with_capacity(alloc, (ADDRESSES + 1) * self.stride)?;
+        words.extend_from_slice(&self.words)?;
+        let slots = self.slots.to_vec(alloc)?;
+        Ok(MemoryRows {
+            words,
+            slots,
+            used: self.used,
+            stride: self.stride,
+        })
+    }
+
+    /// The words of an address, so many from the first on.
+    pub(crate) fn row(&self, at: usize, stride: usize, count: usize) -> &[Plane]
+        requires at { at < 4096 }
+        requires words { length self.now ≡ 4096 * stride }
+        requires count { count ≤ stride }
+        ensures count { length result.now ≡ count }
+        ensures value { (c : ℕ) → c < count → slice_index result.now c ≡ slice_index self.now (at * stride + c) }
+    {
+        let first = start(&self.words, &self.slots, self.used, self.stride, at);
+        &self.words[first..first + count]
+    }
+
+    /// One word of an address.
+    pub(crate) fn word(&self, at: usize, stride: usize, place: u16) -> Plane
+        requires at { at < 4096 }
+        requires words { length self.now ≡ 4096 * stride }
+        requires place { place < stride }
+        ensures value { result ≡ slice_index self.now (at * stride + place) }
+    {
+        self.words[start(&self.words, &self.slots, self.used, self.stride, at) + usize::from(place)]
+    }
+
+    /// Puts one word at an address.
+    pub(crate) fn put(&mut self, at: usize, stride: usize, place: u16, word: Plane)
+        requires at { at < 4096 }
+        requires words { length self.old ≡ 4096 * stride }
+        requires place { place < stride }
+        ensures value { self.new ≡ slice_set self.old (at * stride + place) word }
+    {
+        if word == 0 && self.slots[at] == 0 {
+            return;
+        }
+        self.used = own(&mut self.words, &mut self.slots, self.used, self.stride, at);
+        let here = start(&self.words, &self.slots, self.used, self.stride, at) + usize::from(place);
+        self.words[here] = word;
+    }
+
+    /// Both tables of an instruction over the rows of its addresses and flags, at so many words of each.
+    pub(crate) fn compute(
+        &mut self,
+        nano: &Nano,
+        stride: usize,
+        chained: bool,
+        always: bool,
+        flags: &mut [Plane],
+        at: Places,
+        count: usize,
+    )
+        requires words { length self.old ≡ 4096 * stride }
+        requires flags { length flags.old ≡ 16 * stride }
+        requires places { ArePlaces nano.now stride at }
+        requires count { count ≤ stride }
+        ensures memory { IsComputed nano.now.mem_table false always nano.now.sense at at.a 0 count
+            self.old flags.old self.old self.new }
+        ensures flags { IsComputed nano.now.flag_table chained always nano.now.sense at at.write 0 count
+            self.old flags.old flags.old flags.new }
+        ensures words { length self.new ≡ length self.old }
+    {
+        let a = usize::from(nano.a.get());
+        let b = usize::from(nano.b.get());
+        self.used = own(&mut self.words, &mut self.slots, self.used, self.stride, a);
+        let here = Places {
+            a: start(&self.words, &self.slots, self.used, self.stride, a),
+            b: start(&self.words, &self.slots, self.used, self.stride, b),
+            read: at.read,
+            write: at.write,
+            cond: at.cond,
+        };
+        compute(
+            (nano.mem_table, nano.flag_table),
+            chained,
+            always,
+            nano.sense,
+            &mut self.words,
+            flags,
+            here,
+            count,
+        );
+    }
+
+    /// The table for memory alone.
+    pub(crate) fn compute_memory(
+        &mut self,
+        nano: &Nano,
+        stride: usize,
+        always: bool,
+        flags: &[Plane],
+        at: Places,
+        count: usize,
+    )
+        requires words { length self.old ≡ 4096 * stride }
+        requires flags { length flags.now ≡ 16 * stride }
+        requires places { ArePlaces nano.now stride at }
+        requires count { count ≤ stride }
+        ensures memory { IsComputed nano.now.mem_table false always nano.now.sense at at.a 0 count
+            self.old flags.now self.old self.new }
+        ensures words { length self.new ≡ length self.old }
+    {
+        let a = usize::from(nano.a.get());
+        let b = usize::from(nano.b.get());
+        self.used = own(&mut self.words, &mut self.slots, self.used, self.stride, a);
+        let here = Places {
+            a: start(&self.words, &self.slots, self.used, self.stride, a),
+            b: start(&self.words, &self.slots, self.used, self.stride, b),
+            read: at.read,
+            write: at.write,
+            cond: at.cond,
+        };
+        compute_memory(
+            nano.mem_table,
+            always,
+            nano.sense,
+            &mut self.words,
+            flags,
+            here,
+            count,
+        );
+    }
+
+    /// Stores planes at an address where the condition holds.
+    pub(crate) fn store(&mut self, at: usize, stride: usize, holds: &[Plane], planes: &[Plane])
+        requires at { at < 4096 }
+        requires words { length self.old ≡ 4096 * stride }
+        requires holds { length holds.now ≡ length planes.now }
+        requires count { length planes.now ≤ stride }
+        ensures value { IsStored (at * stride) holds.now planes.now self.old self.new }
+        ensures words { length self.new ≡ length self.old }
+    {
+        self.used = own(&mut self.words, &mut self.slots, self.used, self.stride, at);
+        let here = start(&self.words, &self.slots, self.used, self.stride, at);
+        store_row(&mut self.words, here, holds, planes);
+    }
+
+    /// Copies so many words of each row of others.
+    pub(crate) fn lay(&mut self, here: Band, from: &MemoryRows, there: Band, count: usize)
+        requires to { length self.old ≡ 4096 * here.stride }
+        requires from { length from.now ≡ 4096 * there.stride }
+        requires here { here.first + count ≤ here.stride }
+        requires there { there.first + count ≤ there.stride }
+        ensures value { AreLaidRows here there 4096 count from.now self.old self.new }
+        ensures words { length self.new ≡ length self.old }
+    {
+        for row in 0..ADDRESSES {
+            self.lay_row(row, here, from, there, count);
+        }
+    }
+
+    /// Copies so many words of one row. Where neither has one, zeros need no copy.
+    fn lay_row(&mut self, row: usize, here: Band, from: &MemoryRows, there: Band, count: usize)
+        requires row { row < 4096 }
+        requires to { length self.old ≡ 4096 * here.stride }
+        requires from { length from.now ≡ 4096 * there.stride }
+        requires here { here.first + count ≤ here.stride }
+        requires there { there.first + count ≤ there.stride }
+        ensures value { IsRowLaid (row * here.stride + here.first) (row * there.stride + there.first) count
+            from.now self.old self.new }
+        ensures words { length self.new ≡ length self.old }
+    {
+        if from.slots[row] == 0 && self.slots[row] == 0 {
+            return;
+        }
+        let words = from.row(row, there.stride, there.first + count);
+        self.fill(row, here, &words[there.first..]);
+    }
+
+    /// Puts words into the row of an address.
+    fn fill(&mut self, row: usize, here: Band, words: &[Plane])
+        requires row { row < 4096 }
+        requires to { length self.old ≡ 4096 * here.stride }
+        requires here { here.first + length words.now ≤ here.stride }
+        ensures value { IsRowLaid (row * here.stride + here.first) 0 (length words.now) words.now self.old self.new }
+        ensures words { length self.new ≡ length self.old }
+    {
+        self.used = own(
+            &mut self.words,
+            &mut self.slots,
+            self.used,
+            self.stride,
+            row,
+        );
+        let place = start(&self.words, &self.slots, self.used, self.stride, row) + here.first;
+        put_row(&mut self.words, place, words);
+    }
+}
+
+/// Where the row of an address begins, or that of zeros, which it shares.
+fn start(words: &Vec<Plane>, slots: &Vec<u16>, used: usize, stride: usize, at: usize) -> usize
+    requires slots { AreSlots words.now.items (vec_capacity words.now) slots.now.items used stride }
+    requires at { at < 4096 }
+    ensures value { result ≡ slice_index slots.now.items at * stride }
+    ensures within { result + stride ≤ length words.now.items }
+{
+    usize::from(slots[at]) * stride
+}
+
+/// Gives an address a row of its own, unless it has one. How many rows are in use then.
+fn own(words: &mut Vec<Plane>, slots: &mut Vec<u16>, used: usize, stride: usize, at: usize) -> usize
+    requires slots { AreSlots words.old.items (vec_capacity words.old) slots.old.items used stride }
+    requires at { at < 4096 }
+    ensures slots { AreSlots words.new.items (vec_capacity words.new) slots.new.items result stride }
+    ensures own { 0 < slice_index slots.new.items at }
+    ensures value { spread words.new.items slots.new.items stride ≡ spread words.old.items slots.old.items stride }
+{
+    if slots[at] != 0 {
+        return used;
+    }
+    words.resize((used + 1) * stride, 0).unwrap();
+    slots[at] = used as u16;
+    used + 1
+}
