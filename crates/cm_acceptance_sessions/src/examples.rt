@@ -323,12 +323,12 @@ pub(crate) const PERMUTATION_COMMANDS: &[u8] = b"\
     poke 12 0 3 1\npoke 13 0 0 1\npoke 13 0 2 1\npoke 13 0 3 1\npoke 14 0 1 1\npoke 14 0 2 1\npoke 14 0 3 1\n\
     poke 15 0 0 1\npoke 15 0 1 1\npoke 15 0 2 1\npoke 15 0 3 1\nbreak 67\nbreak 68\nbreak 69\n\
     ; the message of chip 1 has to cross dimensions 3 and 0\nrun\nfield 1 0 3968 4\n\
-    ; where the sixteen messages are after petit cycle 1\nrun\nfind 0 0 0\nfind 1 0 0\nfind 2 0 0\nfind 3 0 0\n\
+    ; where the sixteen messages are after 1 petit cycle\nrun\nfind 0 0 0\nfind 1 0 0\nfind 2 0 0\nfind 3 0 0\n\
     find 4 0 0\nfind 5 0 0\nfind 6 0 0\nfind 7 0 0\nfind 8 0 0\nfind 9 0 0\nfind 10 0 0\nfind 11 0 0\nfind 12 0 0\n\
     find 13 0 0\nfind 14 0 0\nfind 15 0 0\n; what stands in two routers\nbuf 6\nbuf 9\n\
-    ; where the sixteen messages are after petit cycle 2\nrun\nfind 0 0 0\nfind 1 0 0\nfind 2 0 0\nfind 3 0 0\n\
+    ; where the sixteen messages are after 2 petit cycles\nrun\nfind 0 0 0\nfind 1 0 0\nfind 2 0 0\nfind 3 0 0\n\
     find 4 0 0\nfind 5 0 0\nfind 6 0 0\nfind 7 0 0\nfind 8 0 0\nfind 9 0 0\nfind 10 0 0\nfind 11 0 0\nfind 12 0 0\n\
-    find 13 0 0\nfind 14 0 0\nfind 15 0 0\n; where the sixteen messages are after petit cycle 3\nrun\nfind 0 0 0\n\
+    find 13 0 0\nfind 14 0 0\nfind 15 0 0\n; where the sixteen messages are after 3 petit cycles\nrun\nfind 0 0 0\n\
     find 1 0 0\nfind 2 0 0\nfind 3 0 0\nfind 4 0 0\nfind 5 0 0\nfind 6 0 0\nfind 7 0 0\nfind 8 0 0\nfind 9 0 0\n\
     find 10 0 0\nfind 11 0 0\nfind 12 0 0\nfind 13 0 0\nfind 14 0 0\nfind 15 0 0\n\
     ; what chip 8 told, and which message came to it, and to chip 3\nevents 8\nfield 8 3 4032 32\nfield 12 3 4032 32\n";
