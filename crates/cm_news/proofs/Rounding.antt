@@ -1,6 +1,6 @@
 -- Which chip's edge leads to a chip, as a number of places on among all chips, or in its row.
-use Rattle.std.proofs.Common.{◌≡◌, ℕ, ◌+◌, ◌-◌, ◌*◌, ◌/◌, ◌%◌, ◌^◌, ◌<◌, ◌≤◌, Bool, true, false, List, if◌then◌else◌}
-use Rattle.std.proofs.Common.{get_or, refl, sym, ap, ◌∙◌, ⊎_elim, arith}
+use Rattle.std.proofs.Common.{◌≡◌, ◌≢◌, ℕ, ◌+◌, ◌-◌, ◌*◌, ◌/◌, ◌%◌, ◌^◌, ◌<◌, ◌≤◌, Bool, true, false, List, length}
+use Rattle.std.proofs.Common.{if◌then◌else◌, get_or, set, get_or-set_same, get_or-set_other, refl, sym, ap, ◌∙◌, ⊎_elim, arith}
 use Rattle.std.proofs.Math.Nat.{mul_comm}
 use Rattle.std.proofs.lemmas.Bool.{cases_lt}
 use Rattle.std.proofs.lemmas.Nat.{mul-le}
@@ -172,20 +172,65 @@ comes_east n chip plane planes there is =
 
 -- ---- a round, one chip after another
 
--- the rows so far, and one more
-pub row_turned : (dir : Dir) (planes old new : List ℕ) (row columns by : ℕ)
-    → AreTurned dir planes (row * columns) columns by old new
-    → ((q r : ℕ) → q < row → r < columns
-    → IsTurned dir planes (q * columns) columns by r (get_or old (q * columns + r) 0))
-    → (q r : ℕ) → q < row + 1 → r < columns
-    → IsTurned dir planes (q * columns) columns by r (get_or new (q * columns + r) 0)
-row_turned dir planes old new row columns by turned before q r h few = ⊎_elim
-    (λ (l : q < row).
+pub in_rows : (rows columns q r : ℕ) → q < rows → r < columns → q * columns + r < rows * columns
+in_rows rows columns q r below few =
+    let more : (q + 1) * columns ≤ rows * columns = mul-le (q + 1) columns rows columns (omega arith) (omega arith) in
+    let is : (q + 1) * columns ≡ q * columns + columns = omega arith in
+    omega arith
+
+-- chips of other rows are others
+pub earlier_row : (columns q row r s : ℕ) → r < columns → q < row → q * columns + r ≢ row * columns + s
+earlier_row columns q row r s few sooner same =
     let more : (q + 1) * columns ≤ row * columns = mul-le (q + 1) columns row columns (omega arith) (omega arith) in
     let is : (q + 1) * columns ≡ q * columns + columns = omega arith in
-    rw (turned.below (q * columns + r) (omega arith)) (before q r l few))
-    (λ (l : row ≤ q). let same : q ≡ row = omega arith in rw same (turned.each r few))
+    omega arith
+
+-- chips in other columns are others
+pub other_column : (columns q row r s : ℕ) → r < columns → s < columns → r ≢ s → q * columns + r ≢ row * columns + s
+other_column columns q row r s few others apart same = ⊎_elim
+    (λ (l : q < row). earlier_row columns q row r s few l same)
+    (λ (l : row ≤ q). ⊎_elim
+    (λ (m : row < q). earlier_row columns row q s r others m (sym same))
+    (λ (m : q ≤ row). let both : q * columns ≡ row * columns = ap (λ (n : ℕ). n * columns) (omega arith) in
+    apart (omega (arith, both, same)))
+    (cases_lt row q))
     (cases_lt q row)
+
+-- chips that are told otherwise
+pub joined_there : (dir : Dir) (planes out : List ℕ) (own own2 before before2 at at2 : ℕ)
+    → own ≡ own2 → before ≡ before2 → at ≡ at2
+    → IsJoined dir (get_or planes own 0) (get_or planes before 0) (get_or out at 0)
+    → IsJoined dir (get_or planes own2 0) (get_or planes before2 0) (get_or out at2 0)
+joined_there dir planes out own own2 before before2 at at2 own_is before_is at_is is p h =
+    sym (ap (λ (i : ℕ). bit (get_or out i 0) p) at_is) ∙ is p h
+    ∙ (λ j. if is_entry dir p then bit (get_or planes (before_is j) 0) (at_edge dir (along dir p))
+    else bit (get_or planes (own_is j) 0) (one_back dir p))
+
+-- one more chip has what comes in from the next
+pub one_more_on : (dir : Dir) (planes out : List ℕ) (k plane : ℕ) → 0 < k → k ≤ length out
+    → ((j : ℕ) → j + 1 < k → IsJoined dir (get_or planes j 0) (get_or planes (j + 1) 0) (get_or out j 0))
+    → IsJoined dir (get_or planes (k - 1) 0) (get_or planes k 0) plane
+    → (j : ℕ) → j + 1 < k + 1
+    → IsJoined dir (get_or planes j 0) (get_or planes (j + 1) 0) (get_or (set out (k - 1) plane) j 0)
+one_more_on dir planes out k plane some inside before is j h = ⊎_elim
+    (λ (l : j + 1 < k). let ne : j ≢ k - 1 = omega arith in rw (get_or-set_other out (k - 1) j plane 0 ne) (before j l))
+    (λ (l : k ≤ j + 1). joined_there dir planes (set out (k - 1) plane) (k - 1) j k (j + 1) (k - 1) j
+    (omega arith) (omega arith) (omega arith)
+    (rw (get_or-set_same out (k - 1) plane 0 (omega arith)) is))
+    (cases_lt (j + 1) k)
+
+-- or from the one before
+pub one_more_back : (dir : Dir) (planes out : List ℕ) (k plane : ℕ) → 0 < k → k < length out
+    → ((j : ℕ) → j + 1 < k → IsJoined dir (get_or planes (j + 1) 0) (get_or planes j 0) (get_or out (j + 1) 0))
+    → IsJoined dir (get_or planes k 0) (get_or planes (k - 1) 0) plane
+    → (j : ℕ) → j + 1 < k + 1
+    → IsJoined dir (get_or planes (j + 1) 0) (get_or planes j 0) (get_or (set out k plane) (j + 1) 0)
+one_more_back dir planes out k plane some inside before is j h = ⊎_elim
+    (λ (l : j + 1 < k). let ne : j + 1 ≢ k = omega arith in rw (get_or-set_other out k (j + 1) plane 0 ne) (before j l))
+    (λ (l : k ≤ j + 1). joined_there dir planes (set out k plane) k (j + 1) (k - 1) j k (j + 1)
+    (omega arith) (omega arith) (omega arith)
+    (rw (get_or-set_same out k plane 0 (omega arith)) is))
+    (cases_lt (j + 1) k)
 
 -- ---- all chips, by what the loops leave
 
@@ -193,6 +238,9 @@ row_turned dir planes old new row columns by turned before q r h few = ⊎_elim
 pub rows_of_columns : (n rows columns : ℕ) → rows ≡ chip_rows n → columns ≡ chip_columns n → rows * columns ≡ 2 ^ n
 rows_of_columns n rows columns rows_is columns_is =
     (λ j. rows_is j * columns_is j) ∙ mul_comm (chip_rows n) (chip_columns n) ∙ sym (chips_in_rows n)
+
+pub some_columns : (n columns : ℕ) → columns ≡ chip_columns n → 0 < columns
+some_columns n columns is = omega (arith, is, columns_some n)
 
 -- what comes in from one row of chips on or back
 pub all_north : (n count by : ℕ) (planes old new : List ℕ) → count ≡ 2 ^ n → by ≡ chip_columns n

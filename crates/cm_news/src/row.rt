@@ -31,8 +31,8 @@ pub fn incoming_row(dims: u8, planes: &[Plane], dir: Dir, out: &mut [Plane])
             dir,
             out,
         ),
-        Dir::West => turn_rows(planes, rows, columns, 1, dir, out),
-        Dir::East => turn_rows(planes, rows, columns, columns - 1, dir, out),
+        Dir::West => turn_on(planes, rows, columns, dir, out),
+        Dir::East => turn_back(planes, rows, columns, dir, out),
     }
 }
 
@@ -80,8 +80,8 @@ fn incoming_part(dims: u8, planes: &[Plane], dir: Dir, edge: &[u8], out: &mut [P
             turn(planes, 0, count, count - columns, dir, out);
             enter(planes, 0, edge, dir, out);
         }
-        Dir::West => turn_rows(planes, count / columns, columns, 1, dir, out),
-        Dir::East => turn_rows(planes, count / columns, columns, columns - 1, dir, out),
+        Dir::West => turn_on(planes, count / columns, columns, dir, out),
+        Dir::East => turn_back(planes, count / columns, columns, dir, out),
     }
 }
 
@@ -96,17 +96,40 @@ fn enter(planes: &[Plane], from: usize, edge: &[u8], dir: Dir, out: &mut [Plane]
     }
 }
 
-/// In each row of so many chips, what comes in from the chip that stands so many places on in the row,
-/// round its end.
-fn turn_rows(planes: &[Plane], rows: usize, columns: usize, by: usize, dir: Dir, out: &mut [Plane])
-    requires by { by ≤ columns }
+/// In each row of so many chips, what comes in from the next chip in the row, round its end: all chips in one
+/// loop, as though there were one row, and then the last of each row.
+fn turn_on(planes: &[Plane], rows: usize, columns: usize, dir: Dir, out: &mut [Plane])
+    requires some { 0 < columns }
     requires planes { rows * columns ≡ length planes.now }
     requires out { length out.old ≡ length planes.now }
     ensures value { (q r : ℕ) → q < rows → r < columns
-        → IsTurned dir planes.now (q * columns) columns by r (slice_index out.new (q * columns + r)) }
+        → IsTurned dir planes.now (q * columns) columns 1 r (slice_index out.new (q * columns + r)) }
 {
+    for k in 1..planes.len() {
+        out[k - 1] = joined(planes[k - 1], planes[k], dir);
+    }
     for row in 0..rows {
-        turn(planes, row * columns, columns, by, dir, out);
+        let first = row * columns;
+        let last = first + (columns - 1);
+        out[last] = joined(planes[last], planes[first], dir);
+    }
+}
+
+/// In each row of so many chips, what comes in from the chip before in the row, round its end, in the same way.
+fn turn_back(planes: &[Plane], rows: usize, columns: usize, dir: Dir, out: &mut [Plane])
+    requires some { 0 < columns }
+    requires planes { rows * columns ≡ length planes.now }
+    requires out { length out.old ≡ length planes.now }
+    ensures value { (q r : ℕ) → q < rows → r < columns
+        → IsTurned dir planes.now (q * columns) columns (columns - 1) r (slice_index out.new (q * columns + r)) }
+{
+    for k in 1..planes.len() {
+        out[k] = joined(planes[k], planes[k - 1], dir);
+    }
+    for row in 0..rows {
+        let first = row * columns;
+        let last = first + (columns - 1);
+        out[first] = joined(planes[first], planes[last], dir);
     }
 }
 

@@ -1,6 +1,6 @@
 -- Words of rows that are computed one part after another.
 use Rattle.std.proofs.Common.{◌≡◌, ◌≢◌, inl, inr, ℕ, ◌+◌, ◌-◌, ◌*◌, ◌<◌, ◌≤◌, Bool, List, length, cond, get_or, set}
-use Rattle.std.proofs.Common.{get_or-set_same, get_or-set_other, ap, refl, ◌∙◌, ⊎_elim, arith, add-one}
+use Rattle.std.proofs.Common.{get_or-set_same, get_or-set_other, ap, refl, sym, ◌∙◌, ⊎_elim, arith, add-one}
 use Rattle.std.proofs.lemmas.Bool.{cases_lt}
 use Rattle.std.proofs.lemmas.Nat.{mul-le}
 use Rattle.std.proofs.Math.Nat.{mul-suc}
@@ -111,6 +111,17 @@ nothing table chained always sense at row from memory flags old = record {
   above = λ i h. refl;
 }
 
+-- to a place that is told otherwise
+pub to_there : (table : ℕ) (chained always sense : Bool) (at : Places) (row from to there : ℕ)
+    (memory flags old new : List ℕ) → to ≡ there
+    → IsComputed table chained always sense at row from to memory flags old new
+    → IsComputed table chained always sense at row from there memory flags old new
+to_there table chained always sense at row from to there memory flags old new is computed = record {
+  each = λ k low high. computed.each k low (omega (arith, is, high));
+  below = computed.below;
+  above = λ i h. computed.above i (omega (arith, is, h));
+}
+
 kept_chosen : (table : ℕ) (chained : Bool) (choice : ℕ) (stored : ℕ → Bool) (a b f old word : ℕ) → IsPlane choice stored
     → IsKept table chained (bit choice) a b f old word → IsKept table chained stored a b f old word
 kept_chosen table chained choice stored a b f old word is kept p h = kept p h
@@ -170,6 +181,33 @@ one_block many table chained always sense at row from memory flags old new a b f
           (kept_chosen table chained (get_or choice k 0)
           (λ p. stores always sense (bit (get_or condition k 0) p)) (get_or a
           k 0) (get_or b k 0) (get_or f k 0) (get_or here k 0) (get_or outputs k 0) (chosen k few) (kept k few));
+      below = below;
+      above = λ i h. above i (omega arith);
+    }
+
+-- so many words, of which what is stored and where was found first
+pub one_tile : (many table : ℕ) (chained always sense : Bool) (at : Places) (row from : ℕ) (memory flags old new : List ℕ)
+    (choice outputs : List ℕ)
+    → ((k : ℕ) → k < many
+    → IsPlane (get_or choice k 0) (λ p. stores always sense (bit (get_or flags (at.cond + from + k) 0) p)))
+    → ((k : ℕ) → k < many → IsPlane (get_or outputs k 0) (output table chained (get_or memory (at.a + from + k) 0)
+    (get_or memory (at.b + from + k) 0) (get_or flags (at.read + from + k) 0)))
+    → ((k : ℕ) → k < many → (p : ℕ) → bit (get_or new (row + from + k) 0) p
+    ≡ cond (bit (get_or choice k 0) p) (bit (get_or outputs k 0) p) (bit (get_or old (row + from + k) 0) p))
+    → ((i : ℕ) → i < row + from → get_or new i 0 ≡ get_or old i 0)
+    → ((i : ℕ) → row + from + many ≤ i → get_or new i 0 ≡ get_or old i 0)
+    → IsComputed table chained always sense at row from (from + many) memory flags old new
+one_tile many table chained always sense at row from memory flags old new choice outputs chosen found put below above =
+    record {
+      each = λ j low high p h.
+          let k : ℕ = j - from in
+          let few : j - from < many = omega arith in
+          let there : (base : ℕ) → base + from + (j - from) ≡ base + j = λ base. omega arith in
+          sym (ap (λ (i : ℕ). bit (get_or new i 0) p) (there row)) ∙ put k few p
+          ∙ (λ i. cond (chosen k few p h i) (found k few p h i) (bit (get_or old (row + from + k) 0) p))
+          ∙ (λ i. cond (stores always sense (bit (get_or flags (there at.cond i) 0) p))
+          (output table chained (get_or memory (there at.a i) 0) (get_or memory (there at.b i) 0)
+          (get_or flags (there at.read i) 0) p) (bit (get_or old (there row i) 0) p));
       below = below;
       above = λ i h. above i (omega arith);
     }

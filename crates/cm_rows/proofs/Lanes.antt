@@ -9,6 +9,13 @@ use lib.Lanes.{chunk, put_chunk, zip2}
 use Rattle.cm_bits.specs.Bit.{bit, differ}
 use Rattle.cm_model.proofs.Bits.{bit-bit_and, bit-bit_xor}
 
+-- a part of a list
+pub length-part : (words : List ℕ) (at n : ℕ) → at + n ≤ length words → length (take n (drop at words)) ≡ n
+length-part words at n within = length-take-le n (drop at words) (omega (arith, length-drop at words))
+
+pub get_or-part : (words : List ℕ) (at n k : ℕ) → k < n → get_or (take n (drop at words)) k 0 ≡ get_or words (at + k) 0
+get_or-part words at n k h = get_or-take n (drop at words) k 0 h ∙ get_or-drop at words k 0
+
 part_long : (words : List ℕ) (at n lanes : ℕ) → n ≡ lanes → at + lanes ≤ length words
     → length (take n (drop at words)) ≡ lanes
 part_long words at n lanes is within = length-take-le n (drop at words) (omega (arith, length-drop at words)) ∙ is

@@ -5,13 +5,16 @@ ghost use Rattle.cm_rows.specs.Rows.{IsComputed, IsApart};
 
 use crate::block::{choice_lanes, choice_of, kept, kept_lanes, load, put};
 use crate::places::Places;
+use crate::tile::{choose, find_outputs, merge};
 use cm_bits::Plane;
 
 /// So many words at once where the tables are known.
 const LANES: usize = 32;
 
-/// And so many where they are not: beside the entries of two tables no more stay in registers.
-const FEW_LANES: usize = 8;
+/// And so many where they are not, in blocks and in words: what is found of them stays in the nearest cache.
+const BLOCKS: usize = 8;
+
+const TILE: usize = 256;
 
 // The pairs of tables of the macros that write a flag are known to the compiler, each in a loop of its own.
 macro_rules! by_tables {
@@ -25,6 +28,7 @@ macro_rules! by_tables {
             (0xf0, 0xff) => compute_blocks::<LANES>((0xf0, 0xff), false, $always, $sense, $memory, $flags, $at, $whole),
             (0xf0, 0x00) => compute_blocks::<LANES>((0xf0, 0x00), false, $always, $sense, $memory, $flags, $at, $whole),
             (0xf0, 0xf0) => compute_blocks::<LANES>((0xf0, 0xf0), false, $always, $sense, $memory, $flags, $at, $whole),
+            (0xf0, 0xaa) => compute_blocks::<LANES>((0xf0, 0xaa), false, $always, $sense, $memory, $flags, $at, $whole),
             other => compute_others(other, false, $always, $sense, $memory, $flags, $at, $whole),
         }
     };
@@ -98,7 +102,7 @@ fn all_blocks(
         return;
     }
     if chained {
-        compute_others(tables, true, always, sense, memory, flags, at, whole);
+        blocks_along_chains(tables, always, sense, memory, flags, at, whole);
     } else if always {
         blocks_always(tables, sense, memory, flags, at, whole);
     } else {
@@ -156,8 +160,56 @@ fn blocks_under_condition(
     by_tables!(false, tables, sense, memory, flags, at, whole)
 }
 
+/// The words of whole blocks, where the flag's outputs go along the chains: a flag that is handed on has a
+/// loop of its own.
+fn blocks_along_chains(
+    tables: (u8, u8),
+    always: bool,
+    sense: bool,
+    memory: &mut [Plane],
+    flags: &mut [Plane],
+    at: Places,
+    whole: usize,
+)
+    requires a { at.a + 32 * whole ≤ length memory.old }
+    requires b { at.b + 32 * whole ≤ length memory.old }
+    requires read { at.read + 32 * whole ≤ length flags.old }
+    requires write { at.write + 32 * whole ≤ length flags.old }
+    requires cond { at.cond + 32 * whole ≤ length flags.old }
+    requires b_apart { IsApart at.a at.b (32 * whole) }
+    requires read_apart { IsApart at.write at.read (32 * whole) }
+    requires cond_apart { IsApart at.write at.cond (32 * whole) }
+    ensures memory { IsComputed tables.0 false always sense at at.a 0 (32 * whole)
+        memory.old flags.old memory.old memory.new }
+    ensures flags { IsComputed tables.1 true always sense at at.write 0 (32 * whole)
+        memory.old flags.old flags.old flags.new }
+{
+    match (tables, always) {
+        ((0xf0, 0xaa), true) => compute_blocks::<LANES>(
+            (0xf0, 0xaa),
+            true,
+            true,
+            sense,
+            memory,
+            flags,
+            at,
+            whole,
+        ),
+        ((0xf0, 0xaa), false) => compute_blocks::<LANES>(
+            (0xf0, 0xaa),
+            true,
+            false,
+            sense,
+            memory,
+            flags,
+            at,
+            whole,
+        ),
+        (others, _) => compute_others(others, true, always, sense, memory, flags, at, whole),
+    }
+}
+
 /// The words of whole blocks, by any tables.
-#[inline(always)]
 fn compute_others(
     tables: (u8, u8),
     chained: bool,
@@ -181,7 +233,117 @@ fn compute_others(
     ensures flags { IsComputed tables.1 chained always sense at at.write 0 (32 * whole)
         memory.old flags.old flags.old flags.new }
 {
-    compute_blocks::<FEW_LANES>(tables, chained, always, sense, memory, flags, at, 4 * whole);
+    let mut mem = [0; TILE];
+    let mut flag = [0; TILE];
+    let mut choice = [0; TILE];
+    let tiles = whole / BLOCKS;
+    compute_tiles(
+        tables,
+        chained,
+        always,
+        sense,
+        memory,
+        flags,
+        at,
+        tiles,
+        &mut mem,
+        &mut flag,
+        &mut choice,
+    );
+    let rest = LANES * whole - TILE * tiles;
+    tile(
+        tables,
+        chained,
+        always,
+        sense,
+        memory,
+        flags,
+        at,
+        TILE * tiles,
+        &mut mem[..rest],
+        &mut flag[..rest],
+        &mut choice[..rest],
+    );
+}
+
+/// The words of so many whole tiles. The other rows are working room.
+fn compute_tiles(
+    tables: (u8, u8),
+    chained: bool,
+    always: bool,
+    sense: bool,
+    memory: &mut [Plane],
+    flags: &mut [Plane],
+    at: Places,
+    tiles: usize,
+    mem: &mut [Plane],
+    flag: &mut [Plane],
+    choice: &mut [Plane],
+)
+    requires mem { length mem.old ≡ 256 }
+    requires flag { length flag.old ≡ 256 }
+    requires choice { length choice.old ≡ 256 }
+    requires a { at.a + 256 * tiles ≤ length memory.old }
+    requires b { at.b + 256 * tiles ≤ length memory.old }
+    requires read { at.read + 256 * tiles ≤ length flags.old }
+    requires write { at.write + 256 * tiles ≤ length flags.old }
+    requires cond { at.cond + 256 * tiles ≤ length flags.old }
+    requires b_apart { IsApart at.a at.b (256 * tiles) }
+    requires read_apart { IsApart at.write at.read (256 * tiles) }
+    requires cond_apart { IsApart at.write at.cond (256 * tiles) }
+    ensures memory { IsComputed tables.0 false always sense at at.a 0 (256 * tiles)
+        memory.old flags.old memory.old memory.new }
+    ensures flags { IsComputed tables.1 chained always sense at at.write 0 (256 * tiles)
+        memory.old flags.old flags.old flags.new }
+{
+    for t in 0..tiles {
+        tile(
+            tables,
+            chained,
+            always,
+            sense,
+            memory,
+            flags,
+            at,
+            TILE * t,
+            mem,
+            flag,
+            choice,
+        );
+    }
+}
+
+/// The words of one tile: all are read before any is written. The other rows are working room, as long as it.
+fn tile(
+    tables: (u8, u8),
+    chained: bool,
+    always: bool,
+    sense: bool,
+    memory: &mut [Plane],
+    flags: &mut [Plane],
+    at: Places,
+    from: usize,
+    mem: &mut [Plane],
+    flag: &mut [Plane],
+    choice: &mut [Plane],
+)
+    requires mem { length mem.old ≡ length choice.old }
+    requires flag { length flag.old ≡ length choice.old }
+    requires a { at.a + from + length choice.old ≤ length memory.old }
+    requires b { at.b + from + length choice.old ≤ length memory.old }
+    requires read { at.read + from + length choice.old ≤ length flags.old }
+    requires write { at.write + from + length choice.old ≤ length flags.old }
+    requires cond { at.cond + from + length choice.old ≤ length flags.old }
+    ensures memory { IsComputed tables.0 false always sense at at.a from (from + length choice.old)
+        memory.old flags.old memory.old memory.new }
+    ensures flags { IsComputed tables.1 chained always sense at at.write from (from + length choice.old)
+        memory.old flags.old flags.old flags.new }
+{
+    find_outputs(tables.0, false, memory, flags, at, from, mem);
+    find_outputs(tables.1, chained, memory, flags, at, from, flag);
+    choose(always, sense, flags, at.cond + from, choice);
+    merge(choice, mem, memory, at.a + from);
+    merge(choice, flag, flags, at.write + from);
 }
 
 /// The words of so many blocks, in a loop for these tables.

@@ -5,6 +5,7 @@ mod block;
 mod kernel;
 mod memory_alone;
 mod places;
+mod tile;
 
 pub use kernel::compute;
 pub use memory_alone::compute_memory;

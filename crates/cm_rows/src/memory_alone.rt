@@ -5,21 +5,26 @@ ghost use Rattle.cm_rows.specs.Rows.{IsComputed, IsApart};
 
 use crate::block::{choice_lanes, choice_of, kept, kept_lanes, load, put};
 use crate::places::Places;
+use crate::tile::{choose, find_outputs, merge};
 use cm_bits::Plane;
 
 /// So many words at once where the table is known.
 const LANES: usize = 32;
 
-/// And so many where it is not: beside the entries of a table no more stay in registers.
-const FEW_LANES: usize = 8;
+/// And so many where it is not, in blocks and in words: what is found of them stays in the nearest cache.
+const BLOCKS: usize = 8;
 
-// The tables of the macros that write no flag are known to the compiler, each in a loop of its own.
+const TILE: usize = 256;
+
+// The tables of the macros that write no flag, and that which keeps memory, are known to the compiler, each in a
+// loop of its own.
 macro_rules! by_table {
     ($always:literal, $table:ident, $sense:ident, $memory:ident, $flags:ident, $at:ident, $whole:ident) => {
         match $table {
             0xcc => compute_blocks::<LANES>(0xcc, $always, $sense, $memory, $flags, $at, $whole),
             0xd8 => compute_blocks::<LANES>(0xd8, $always, $sense, $memory, $flags, $at, $whole),
             0xff => compute_blocks::<LANES>(0xff, $always, $sense, $memory, $flags, $at, $whole),
+            0xf0 => compute_blocks::<LANES>(0xf0, $always, $sense, $memory, $flags, $at, $whole),
             0x00 => compute_blocks::<LANES>(0x00, $always, $sense, $memory, $flags, $at, $whole),
             other => compute_others(other, $always, $sense, $memory, $flags, $at, $whole),
         }
@@ -124,7 +129,6 @@ fn blocks_under_condition(
 }
 
 /// The words of whole blocks, by any table.
-#[inline(always)]
 fn compute_others(
     table: u8,
     always: bool,
@@ -142,7 +146,94 @@ fn compute_others(
     ensures memory { IsComputed table false always sense at at.a 0 (32 * whole)
         memory.old flags.now memory.old memory.new }
 {
-    compute_blocks::<FEW_LANES>(table, always, sense, memory, flags, at, 4 * whole);
+    let mut mem = [0; TILE];
+    let mut choice = [0; TILE];
+    let tiles = whole / BLOCKS;
+    compute_tiles(
+        table,
+        always,
+        sense,
+        memory,
+        flags,
+        at,
+        tiles,
+        &mut mem,
+        &mut choice,
+    );
+    let rest = LANES * whole - TILE * tiles;
+    tile(
+        table,
+        always,
+        sense,
+        memory,
+        flags,
+        at,
+        TILE * tiles,
+        &mut mem[..rest],
+        &mut choice[..rest],
+    );
+}
+
+/// The words of so many whole tiles. The other rows are working room.
+fn compute_tiles(
+    table: u8,
+    always: bool,
+    sense: bool,
+    memory: &mut [Plane],
+    flags: &[Plane],
+    at: Places,
+    tiles: usize,
+    mem: &mut [Plane],
+    choice: &mut [Plane],
+)
+    requires mem { length mem.old ≡ 256 }
+    requires choice { length choice.old ≡ 256 }
+    requires a { at.a + 256 * tiles ≤ length memory.old }
+    requires b { at.b + 256 * tiles ≤ length memory.old }
+    requires read { at.read + 256 * tiles ≤ length flags.now }
+    requires cond { at.cond + 256 * tiles ≤ length flags.now }
+    requires b_apart { IsApart at.a at.b (256 * tiles) }
+    ensures memory { IsComputed table false always sense at at.a 0 (256 * tiles)
+        memory.old flags.now memory.old memory.new }
+{
+    for t in 0..tiles {
+        tile(
+            table,
+            always,
+            sense,
+            memory,
+            flags,
+            at,
+            TILE * t,
+            mem,
+            choice,
+        );
+    }
+}
+
+/// The words of one tile: all are read before any is written. The other rows are working room, as long as it.
+fn tile(
+    table: u8,
+    always: bool,
+    sense: bool,
+    memory: &mut [Plane],
+    flags: &[Plane],
+    at: Places,
+    from: usize,
+    mem: &mut [Plane],
+    choice: &mut [Plane],
+)
+    requires mem { length mem.old ≡ length choice.old }
+    requires a { at.a + from + length choice.old ≤ length memory.old }
+    requires b { at.b + from + length choice.old ≤ length memory.old }
+    requires read { at.read + from + length choice.old ≤ length flags.now }
+    requires cond { at.cond + from + length choice.old ≤ length flags.now }
+    ensures memory { IsComputed table false always sense at at.a from (from + length choice.old)
+        memory.old flags.now memory.old memory.new }
+{
+    find_outputs(table, false, memory, flags, at, from, mem);
+    choose(always, sense, flags, at.cond + from, choice);
+    merge(choice, mem, memory, at.a + from);
 }
 
 /// The words of so many blocks, in a loop for this table.

@@ -15,7 +15,7 @@ use crate::word::{chosen, holding};
 use cm_bits::{FlagNo, Plane};
 use cm_model::Nano;
 use cm_rows::Places;
-use cm_truth::apply;
+use cm_truth::apply_wide;
 
 const ADDRESSES: usize = 4096;
 
@@ -93,9 +93,7 @@ pub(crate) fn look_up_row(
     let at = places(nano, stride);
     let a = memory.row(usize::from(nano.a.get()), stride, chips);
     let b = memory.row(usize::from(nano.b.get()), stride, chips);
-    for c in 0..chips {
-        found[c] = apply(table, a[c], b[c], flags[at.read + c]);
-    }
+    apply_wide(table, a, b, &flags[at.read..at.read + chips], found);
 }
 
 /// One instruction in all chips of the rows, when these planes come in over NEWS or DAISY. They are
@@ -117,17 +115,24 @@ pub(crate) fn take_rows(
         (chip_at (chips_of memory.old flags.old stride chips) c)) }
 {
     let at = places(nano, stride);
-    memory.compute_memory(nano, stride, is_always(nano), flags, at, chips);
-    merge(flags, nano.sense, at, incoming);
+    let always = is_always(nano);
+    memory.compute_memory(nano, stride, always, flags, at, chips);
+    merge(flags, always, nano.sense, at, incoming);
     put_row(flags, at.write, incoming);
 }
 
 /// Keeps of the planes what comes in where the condition holds, and else has what the written flag has.
-fn merge(flags: &[Plane], sense: bool, at: Places, incoming: &mut [Plane])
+/// Under `always` the condition holds everywhere.
+fn merge(flags: &[Plane], always: bool, sense: bool, at: Places, incoming: &mut [Plane])
     requires write { at.write + length incoming.old ≤ length flags.now }
     requires cond { at.cond + length incoming.old ≤ length flags.now }
+    requires all { always ≡ true → (sense ≡ false)
+        × ((c : ℕ) → c < length incoming.old → slice_index flags.now (at.cond + c) ≡ 0) }
     ensures value { AreMerged sense at flags.now incoming.old incoming.new }
 {
+    if always {
+        return;
+    }
     for c in 0..incoming.len() {
         let holds = holding(flags[at.cond + c], sense);
         incoming[c] = chosen(holds, incoming[c], flags[at.write + c]);

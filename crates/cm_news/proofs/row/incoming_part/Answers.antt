@@ -1,17 +1,25 @@
 use Rattle.std.proofs.Common.{length}
 use Rattle.cm_news.proofs.Banding.{rows_and_columns, band_north, band_south, band_west}
 use Rattle.cm_news.proofs.Banding.{band_east, open_north, open_south}
+use Rattle.cm_news.proofs.Rounding.{some_columns}
 use Rattle.cm_news.proofs.row.incoming_part.Goals as goal
 
-pub turn_rows-requires-clause-planes : goal.turn_rows-requires-clause-planes
-turn_rows-requires-clause-planes c =
+pub turn_on-requires-clause-planes : goal.turn_on-requires-clause-planes
+turn_on-requires-clause-planes c =
     rows_and_columns c.args.dims (length c.args.planes.now) c.power_of_two-columns.result
     c.power_of_two-columns.ensures.value c.requires.rows
 
-pub turn_rows-requires-in-East-clause-planes : goal.turn_rows-requires-in-East-clause-planes
-turn_rows-requires-in-East-clause-planes c =
+pub turn_back-requires-clause-planes : goal.turn_back-requires-clause-planes
+turn_back-requires-clause-planes c =
     rows_and_columns c.args.dims (length c.args.planes.now) c.power_of_two-columns.result
     c.power_of_two-columns.ensures.value c.requires.rows
+
+pub turn_on-requires-clause-some : goal.turn_on-requires-clause-some
+turn_on-requires-clause-some c = some_columns c.args.dims c.power_of_two-columns.result c.power_of_two-columns.ensures.value
+
+pub turn_back-requires-clause-some : goal.turn_back-requires-clause-some
+turn_back-requires-clause-some c =
+    some_columns c.args.dims c.power_of_two-columns.result c.power_of_two-columns.ensures.value
 
 pub returns-in-North : goal.returns-in-North
 returns-in-North c = record {
@@ -36,13 +44,13 @@ returns-in-South c = record {
 pub returns-in-West : goal.returns-in-West
 returns-in-West c = record {
   value = rw c.in-West.is
-      (band_west c.args.dims c.power_of_two-columns.result c.args.planes.now c.args.edge.now c.turn_rows.new.out
-      c.power_of_two-columns.ensures.value c.requires.rows (rw c.in-West.is at c.turn_rows.ensures.value));
+      (band_west c.args.dims c.power_of_two-columns.result c.args.planes.now c.args.edge.now c.turn_on.new.out
+      c.power_of_two-columns.ensures.value c.requires.rows (rw c.in-West.is at c.turn_on.ensures.value));
 }
 
 pub returns-in-East : goal.returns-in-East
 returns-in-East c = record {
   value = rw c.in-East.is
-      (band_east c.args.dims c.power_of_two-columns.result c.args.planes.now c.args.edge.now c.turn_rows-in-East.new.out
-      c.power_of_two-columns.ensures.value c.requires.rows (rw c.in-East.is at c.turn_rows-in-East.ensures.value));
+      (band_east c.args.dims c.power_of_two-columns.result c.args.planes.now c.args.edge.now c.turn_back.new.out
+      c.power_of_two-columns.ensures.value c.requires.rows (rw c.in-East.is at c.turn_back.ensures.value));
 }

@@ -1,5 +1,5 @@
 use Rattle.std.proofs.Common.{ℕ, ◌-◌, ◌*◌, sym, ap, ◌∙◌, arith}
-use Rattle.cm_news.proofs.Rounding.{rows_of_columns, all_north, all_south, all_west, all_east}
+use Rattle.cm_news.proofs.Rounding.{rows_of_columns, some_columns, all_north, all_south, all_west, all_east}
 use Rattle.cm_news.proofs.row.incoming_row.Goals as goal
 
 pub turn-requires-clause-planes : goal.turn-requires-clause-planes
@@ -14,15 +14,22 @@ turn-requires-in-South-clause-planes c =
     c.power_of_two-rows.ensures.value c.power_of_two-columns.ensures.value in
     omega (arith, all, c.requires.planes)
 
-pub turn_rows-requires-clause-planes : goal.turn_rows-requires-clause-planes
-turn_rows-requires-clause-planes c =
+pub turn_on-requires-clause-planes : goal.turn_on-requires-clause-planes
+turn_on-requires-clause-planes c =
     rows_of_columns c.args.dims c.power_of_two-rows.result c.power_of_two-columns.result
     c.power_of_two-rows.ensures.value c.power_of_two-columns.ensures.value ∙ sym c.requires.planes
 
-pub turn_rows-requires-in-East-clause-planes : goal.turn_rows-requires-in-East-clause-planes
-turn_rows-requires-in-East-clause-planes c =
+pub turn_back-requires-clause-planes : goal.turn_back-requires-clause-planes
+turn_back-requires-clause-planes c =
     rows_of_columns c.args.dims c.power_of_two-rows.result c.power_of_two-columns.result
     c.power_of_two-rows.ensures.value c.power_of_two-columns.ensures.value ∙ sym c.requires.planes
+
+pub turn_on-requires-clause-some : goal.turn_on-requires-clause-some
+turn_on-requires-clause-some c = some_columns c.args.dims c.power_of_two-columns.result c.power_of_two-columns.ensures.value
+
+pub turn_back-requires-clause-some : goal.turn_back-requires-clause-some
+turn_back-requires-clause-some c =
+    some_columns c.args.dims c.power_of_two-columns.result c.power_of_two-columns.ensures.value
 
 pub returns-in-North : goal.returns-in-North
 returns-in-North c =
@@ -49,15 +56,15 @@ returns-in-South c =
 pub returns-in-West : goal.returns-in-West
 returns-in-West c = record {
   value = rw c.in-West.is
-      (all_west c.args.dims c.power_of_two-columns.result c.args.planes.now c.turn_rows.new.out
+      (all_west c.args.dims c.power_of_two-columns.result c.args.planes.now c.turn_on.new.out
       c.power_of_two-columns.ensures.value
-      (rw (c.in-West.is, c.power_of_two-rows.ensures.value) at c.turn_rows.ensures.value));
+      (rw (c.in-West.is, c.power_of_two-rows.ensures.value) at c.turn_on.ensures.value));
 }
 
 pub returns-in-East : goal.returns-in-East
 returns-in-East c = record {
   value = rw c.in-East.is
-      (all_east c.args.dims c.power_of_two-columns.result c.args.planes.now c.turn_rows-in-East.new.out
+      (all_east c.args.dims c.power_of_two-columns.result c.args.planes.now c.turn_back.new.out
       c.power_of_two-columns.ensures.value
-      (rw (c.in-East.is, c.power_of_two-rows.ensures.value) at c.turn_rows-in-East.ensures.value));
+      (rw (c.in-East.is, c.power_of_two-rows.ensures.value) at c.turn_back.ensures.value));
 }

@@ -1,15 +1,10 @@
-use Rattle.std.proofs.Common.{◌≡◌, ◌≢◌, ℕ, ◌+◌, ◌*◌, ◌<◌, length, sym, ap, ◌∙◌, arith, below_more, get_or, get_or-set_same, get_or-set_other}
+use Rattle.std.proofs.Common.{◌≡◌, ℕ, ◌+◌, ◌-◌, ◌*◌, ◌<◌, drop, sym, ap, ◌∙◌, arith, get_or}
+use Rattle.std.proofs.lemmas.List.{get_or-take, get_or-drop}
 use Rattle.cm_bits.specs.Bit.{bit}
 use Rattle.cm_model.specs.Processor.{entry}
 use Rattle.cm_element.proofs.Columns.{length-chips_of}
 use Rattle.cm_element.proofs.Stepping.{chip_looked_up}
 use Rattle.cm_element.proofs.run.rows.look_up_row.Goals as goal
-
-pub loop-c-preserved : goal.loop-c-preserved
-loop-c-preserved c =
-    let k = c.loop-c.c in
-    below_more _ _ (λ j h. let ne : j ≢ k = omega arith in rw get_or-set_other (c.loop-c.invariant j h))
-    (let lt : k < length c.loop-c.found = omega arith in λ p h. rw get_or-set_same (c.apply.ensures.value p h))
 
 pub returns : goal.returns
 returns c =
@@ -25,10 +20,12 @@ returns c =
             omega (arith, h, length-chips_of memory c.args.flags.now c.args.stride c.args.chips) in
             let a = c.row-a.ensures.value chip here ∙ ap (λ (n : ℕ). get_or memory (n + chip) 0) a_is in
             let b = c.row-b.ensures.value chip here ∙ ap (λ (n : ℕ). get_or memory (n + chip) 0) b_is in
+            let read : ℕ = c.places-at.result.read in
+            let f = get_or-take (read + c.args.chips - read) (drop read c.args.flags.now) chip 0 (omega (arith, here))
+            ∙ get_or-drop read c.args.flags.now chip 0 in
             chip_looked_up c.args.table c.args.nano.now memory c.args.flags.now c.args.stride c.args.chips chip
-            c.places-at.result (get_or c.loop-c.found chip 0) p places here below
-            (c.loop-c.invariant chip (omega arith) p below
-            ∙ (λ j. entry c.args.table (bit (a j) p) (bit (b j) p)
-            (bit (get_or c.args.flags.now (c.places-at.result.read + chip) 0) p)));
+            c.places-at.result (get_or c.apply_wide.new.out chip 0) p places here below
+            (c.apply_wide.ensures.value.each chip (omega (arith, here, c.row-a.ensures.count)) p below
+            ∙ (λ j. entry c.args.table (bit (a j) p) (bit (b j) p) (bit (f j) p)));
       };
     }
