@@ -1,21 +1,28 @@
 -- Lines answered one more, and lines that break off.
-use Rattle.std.proofs.Common.{◌≡◌, ℕ, ◌+◌, ◌<◌, ◌≤◌, inl, false, List, [], ◌∷◌, ◌++◌, length, take, drop, take-add}
-use Rattle.std.proofs.Common.{take-append-drop, get_or, Option, refl, ap, ◌∙◌, sym, subst, arith}
+use Rattle.std.proofs.Common.{◌≡◌, ℕ, zero, suc, ◌+◌, ◌-◌, ◌<◌, ◌≤◌, ◌⊎◌, inl, inr, Bool, true, false, List, [], ◌∷◌}
+use Rattle.std.proofs.Common.{◌++◌, length, take, drop, take-add, take-append-drop, get_or, Option, Some, None, Result}
+use Rattle.std.proofs.Common.{refl, ap, ◌∙◌, sym, subst, arith}
 use Rattle.std.proofs.Common.{append_assoc, append-nil, length-append}
 use Rattle.std.proofs.lemmas.Grind.{common_steps}
 use Rattle.std.proofs.KnownBytes.{Appends-trans, Appends-nil}
-use Rattle.std.specs.Io.KnownBytes.{Appends}
-use Rattle.cm_bits.specs.Text.{is_line_end, lines_of, without_empty_last}
+use Rattle.std.specs.Io.KnownBytes.{Appends, append_known}
+use Rattle.cm_bits.specs.Text.{is_line_end, lines_of, words_of, without_empty_last}
 use Rattle.cm_model.specs.declared.act.Act.{Act}
 use Rattle.cm_model.specs.Machine.{Machine}
 use Rattle.cm_session.specs.declared.fault.SessionFault.{SessionFault}
 use Rattle.cm_session.specs.declared.fault.SessionFault.TheVariants.{Read, Write, TooMuch, Memory, NoThread}
-use Rattle.cm_session.specs.Session.{Session, Answered, told, preceded_by, opening, after_line, after_lines, answers}
-use Rattle.cm_session.specs.Ends.{ended_lines, open_line, session_after, IsBeforeOrAmid}
+use Rattle.cm_session.specs.declared.command.Command.{Command}
+use Rattle.cm_session.specs.declared.command.Refusal.{Refusal}
+use Rattle.cm_session.specs.Commands.{command_of}
+use Rattle.cm_session.specs.Session.{Session, Answered, told, preceded_by, opening, answered, after_line, after_lines}
+use Rattle.cm_session.specs.Session.{answers}
+use Rattle.cm_session.specs.Ends.{ended_lines, open_line, session_after, IsBeforeOrAmid, IsOnTheWay}
 use Rattle.cm_session.specs.Ends.{IsStopped, IsBrokenOff, IsAnswered}
 use Rattle.cm_session.proofs.Lines.{after_lines-append, ended_lines-end, open_line-end, ended_lines-more}
 use Rattle.cm_session.proofs.Lines.{open_line-more, lines_of-open, ended_lines-append, ended_after}
-use Rattle.cm_debug.specs.Telling.{IsTold, IsCutShort, IsGivenUp, BreaksOff, Stops}
+use Rattle.cm_debug.specs.Gathering.{IsCutOff, BreaksOffBetween}
+use Rattle.cm_debug.proofs.Sending.{take_front, front_written, all_written, with_none, as_gathered}
+use Rattle.cm_debug.specs.Telling.{IsTold, IsCutShort, IsGivenUp, IsUnended, BreaksOff, Stops}
 
 -- ---- one line more
 
@@ -64,6 +71,26 @@ told_line n cap acts start held taken session after holds on sent more line told
       line_is = sym (open_line-end taken);
     }
 
+-- what is read of a line is answered as the line is
+pub answered_line : (n cap : ℕ) (acts : List Act) (session : Session) (line : List ℕ)
+    (asked : Result (Option Command) Refusal) → asked ≡ command_of n (length acts) (words_of line)
+    → answered n cap acts session asked ≡ after_line n cap acts session line
+unfolding after_line
+answered_line n cap acts session line asked is = ap (answered n cap acts session) is
+
+-- the answer to what was read of it
+pub told_asked : (n cap : ℕ) (acts : List Act) (start : Machine) (held : Option (List ℕ))
+    (taken : List ℕ) (session after : Session) (one : Answered) (holds on : Option (List ℕ)) (sent more : ℕ)
+    (line : List ℕ)
+    → one ≡ after_line n cap acts session line
+    → IsTold n cap acts start held taken session holds sent line
+    → after ≡ one.session → Appends holds on one.answer → more ≡ sent + length one.answer
+    → IsTold n cap acts start held (taken ++ 10 ∷ []) after on more []
+told_asked n cap acts start held taken session after one holds on sent more line same told' is wrote count =
+    told_line n cap acts start held taken session after holds on sent more line told'
+    (is ∙ ap (λ (a : Answered). a.session) same) (subst (Appends holds on) (ap (λ (a : Answered). a.answer) same) wrote)
+    (count ∙ ap (λ (a : Answered). sent + length a.answer) same)
+
 -- any other byte is kept
 pub told_byte : (n cap : ℕ) (acts : List Act) (start : Machine) (held : Option (List ℕ)) (taken : List ℕ)
     (session : Session) (holds : Option (List ℕ)) (sent : ℕ) (line : List ℕ) (byte : ℕ) → is_line_end byte ≡ false
@@ -79,24 +106,94 @@ told_byte n cap acts start held taken session holds sent line byte other told' =
       line_is = ap (λ (l : List ℕ). l ++ byte ∷ []) told'.line_is ∙ sym (open_line-more taken byte other);
     }
 
+-- a part of a line is kept
+pub told_part : (n cap : ℕ) (acts : List Act) (start : Machine) (held : Option (List ℕ)) (taken : List ℕ)
+    (session : Session) (holds : Option (List ℕ)) (sent : ℕ) (line part : List ℕ) → IsUnended part
+    → IsTold n cap acts start held taken session holds sent line
+    → IsTold n cap acts start held (taken ++ part) session holds sent (line ++ part)
+told_part n cap acts start held taken session holds sent line [] free told' =
+    subst (λ (t : List ℕ). IsTold n cap acts start held t session holds sent (line ++ [])) (sym (append-nil taken))
+    (subst (λ (l : List ℕ). IsTold n cap acts start held taken session holds sent l) (sym (append-nil line)) told')
+told_part n cap acts start held taken session holds sent line (byte ∷ part) free told' =
+    subst (λ (t : List ℕ). IsTold n cap acts start held t session holds sent (line ++ byte ∷ part))
+    (append_assoc taken (byte ∷ []) part)
+    (subst (λ (l : List ℕ). IsTold n cap acts start held ((taken ++ byte ∷ []) ++ part) session holds sent l)
+    (append_assoc line (byte ∷ []) part)
+    (told_part n cap acts start held (taken ++ byte ∷ []) session holds sent (line ++ byte ∷ []) part
+    (λ k inside. free (suc k) (omega (arith, inside)))
+    (told_byte n cap acts start held taken session holds sent line byte (free 0 (omega arith)) told')))
+
+-- a piece is what was done of it and the rest
+pub rest_of : (taken piece rest : List ℕ) (done : ℕ) → rest ≡ take (length piece - done) (drop done piece)
+    → (taken ++ take done piece) ++ rest ≡ taken ++ piece
+rest_of taken piece rest done is =
+    append_assoc taken (take done piece) rest
+    ∙ ap (λ (xs : List ℕ). taken ++ xs) (ap (λ (xs : List ℕ). take done piece ++ xs) (is ∙ whole_piece done piece)
+    ∙ take-append-drop done piece) where
+      whole_piece : (k : ℕ) (xs : List ℕ) → take (length xs - k) (drop k xs) ≡ drop k xs
+      whole_piece k xs = grind (arith, common_steps)
+
+-- behind what was kept of its line
+pub told_more : (n cap : ℕ) (acts : List Act) (start : Machine) (held : Option (List ℕ)) (taken : List ℕ)
+    (session : Session) (holds : Option (List ℕ)) (sent : ℕ) (line part grown : List ℕ) → IsUnended part
+    → grown ≡ line ++ part
+    → IsTold n cap acts start held taken session holds sent line
+    → IsTold n cap acts start held (taken ++ part) session holds sent grown
+told_more n cap acts start held taken session holds sent line part grown free is told' =
+    subst (λ (l : List ℕ). IsTold n cap acts start held (taken ++ part) session holds sent l) (sym is)
+    (told_part n cap acts start held taken session holds sent line part free told')
+
+-- the rest of a piece
+pub told_rest : (n cap : ℕ) (acts : List Act) (start : Machine) (held : Option (List ℕ)) (taken piece rest : List ℕ)
+    (done len : ℕ) (session : Session) (holds : Option (List ℕ)) (sent : ℕ) (line grown : List ℕ)
+    → rest ≡ take (length piece - done) (drop done piece) → len ≡ length rest → IsUnended (take len rest)
+    → grown ≡ line ++ rest
+    → IsTold n cap acts start held (taken ++ take done piece) session holds sent line
+    → IsTold n cap acts start held (taken ++ piece) session holds sent grown
+told_rest n cap acts start held taken piece rest done len session holds sent line grown is long free grows told' =
+    let whole : take len rest ≡ rest = all_first rest len long in
+    subst (λ (t : List ℕ). IsTold n cap acts start held t session holds sent grown)
+    (rest_of taken piece rest done is)
+    (told_more n cap acts start held (taken ++ take done piece) session holds sent line rest grown
+    (subst IsUnended whole free) grows told') where
+      all_first : (xs : List ℕ) (k : ℕ) → k ≡ length xs → take k xs ≡ xs
+      all_first xs k h = grind (arith, common_steps)
+
+-- what is gathered or written is told all the same
+pub told_still : (n cap : ℕ) (acts : List Act) (start : Machine) (held : Option (List ℕ)) (taken : List ℕ)
+    (session : Session) (holds on : Option (List ℕ)) (sent count : ℕ) (line : List ℕ)
+    → Appends holds on [] → count ≡ sent
+    → IsTold n cap acts start held taken session holds sent line
+    → IsTold n cap acts start held taken session on count line
+told_still n cap acts start held taken session holds on sent count line wrote same told' = record {
+  written = subst (Appends held on) (append-nil (answers n cap start acts (ended_lines taken)))
+      (Appends-trans held holds on _ _ told'.written wrote);
+  session_is = told'.session_is;
+  sent_is = same ∙ told'.sent_is;
+  line_is = told'.line_is;
+}
+
+-- where nothing is gathered
+pub told_none : (n cap : ℕ) (acts : List Act) (start : Machine) (held : Option (List ℕ)) (taken : List ℕ)
+    (session : Session) (holds : Option (List ℕ)) (sent : ℕ) (kept line : List ℕ) → kept ≡ []
+    → IsTold n cap acts start held taken session holds sent line
+    → IsTold n cap acts start held taken session (append_known holds kept) (sent + length kept) line
+told_none n cap acts start held taken session holds sent kept line none told' =
+    told_still n cap acts start held taken session holds (append_known holds kept) sent (sent + length kept) line
+    (subst (λ (known : Option (List ℕ)). Appends holds known []) (sym (with_none holds kept none)) (Appends-nil holds))
+    (omega (arith, ap length none)) told'
+
+-- where it was written
+pub told_sent : (n cap : ℕ) (acts : List Act) (start : Machine) (held : Option (List ℕ)) (taken : List ℕ)
+    (session : Session) (holds on : Option (List ℕ)) (sent now : ℕ) (kept line : List ℕ)
+    → Appends holds on kept → now ≡ sent + length kept
+    → IsTold n cap acts start held taken session (append_known holds kept) (sent + length kept) line
+    → IsTold n cap acts start held taken session on now line
+told_sent n cap acts start held taken session holds on sent now kept line wrote count told' =
+    told_still n cap acts start held taken session (append_known holds kept) on (sent + length kept) now line
+    (as_gathered holds on kept wrote) count told'
+
 -- ---- lines that break off
-
--- a count of bytes of the answers to the first lines is one of the answers to all
-take_front : (front rest : List ℕ) (count : ℕ) → count ≤ length front → take count (front ++ rest) ≡ take count front
-take_front front rest count within = grind (arith, common_steps)
-
-all_of : (xs : List ℕ) → take (length xs) xs ≡ xs
-all_of xs = grind (arith, common_steps)
-
-past : (front rest : List ℕ) → drop (length front) (front ++ rest) ≡ rest
-past front rest = grind (arith, common_steps)
-
-take_past : (front rest : List ℕ) (part : ℕ) → take (length front + part) (front ++ rest) ≡ front ++ take part rest
-take_past front rest part =
-    let first : take (length front) (front ++ rest) ≡ front =
-    take_front front rest (length front) (omega arith) ∙ all_of front in
-    let second : drop (length front) (front ++ rest) ≡ rest = past front rest in
-    take-add (length front) part (front ++ rest) ∙ (λ i. first i ++ take part (second i))
 
 answers_begin : (n cap : ℕ) (acts : List Act) (start : Machine) (lines more : List (List ℕ))
     → answers n cap start acts (lines ++ more)
@@ -119,51 +216,77 @@ answer-first n cap acts session line lines = refl
 
 -- after a line whose answer was cut short
 stopped_short : (n cap : ℕ) (acts : List Act) (start : Machine) (held : Option (List ℕ)) (done more : List (List ℕ))
-    (line : List ℕ) (session : Session) (sent : ℕ) (machine : Machine) (holds on : Option (List ℕ)) (count : ℕ)
-    → Appends held holds (answers n cap start acts done)
-    → session ≡ session_after n cap acts start done → sent ≡ length (answers n cap start acts done)
-    → IsCutShort n cap acts session line sent holds machine on count
+    (line : List ℕ) (session : Session) (sent : ℕ) (kept : List ℕ) (machine : Machine) (holds on : Option (List ℕ))
+    (count : ℕ)
+    → Appends held (append_known holds kept) (answers n cap start acts done)
+    → session ≡ session_after n cap acts start done → sent + length kept ≡ length (answers n cap start acts done)
+    → IsCutShort n cap acts session (after_line n cap acts session line) sent kept holds machine on count
     → IsStopped n cap acts start held (done ++ line ∷ more) machine on count
-stopped_short n cap acts start held done more line session sent machine holds on count wrote is long cut =
-    let first : List ℕ = answers n cap start acts done in
-    let one : Answered = after_line n cap acts session line in
-    let rest : List ℕ = (after_lines n cap acts one.session more).answer in
-    let whole : answers n cap start acts (done ++ line ∷ more) ≡ first ++ (one.answer ++ rest) =
-    answers_begin n cap acts start done (line ∷ more)
-    ∙ ap (λ (s : Session). first ++ (after_lines n cap acts s (line ∷ more)).answer) (sym is)
-    ∙ ap (λ (xs : List ℕ). first ++ xs) (answer-first n cap acts session line more) in
-    let count_is : count ≡ length first + cut.part = cut.count_is ∙ ap (λ (k : ℕ). k + cut.part) long in
-    let part : take count (answers n cap start acts (done ++ line ∷ more)) ≡ first ++ take cut.part one.answer =
-    (λ i. take (count_is i) (whole i)) ∙ take_past first (one.answer ++ rest) cut.part
-    ∙ ap (λ (xs : List ℕ). first ++ xs) (take_front one.answer rest cut.part (omega (arith, cut.within))) in
-    let longer : length (answers n cap start acts (done ++ line ∷ more))
-    ≡ length first + (length one.answer + length rest) =
-    ap length whole ∙ length-append first (one.answer ++ rest)
-    ∙ ap (λ (k : ℕ). length first + k) (length-append one.answer rest) in
-    let after : session_after n cap acts start (done ++ line ∷ []) ≡ one.session =
-    ap (λ (a : Answered). a.session) (answers-more n cap acts start done line)
-    ∙ ap (λ (s : Session). (after_line n cap acts s line).session) (sym is) in
-    record {
-      within = omega (arith, count_is, cut.within, longer);
-      written = subst (Appends held on) (sym part) (Appends-trans held holds on _ _ wrote cut.written);
-      done = done ++ line ∷ [];
-      undone = more;
-      lines_are = sym (append_assoc done (line ∷ []) more);
-      machine_is = unmoved n cap acts (session_after n cap acts start (done ++ line ∷ [])) more machine
-          (cut.machine_is ∙ sym (ap (λ (s : Session). s.machine) after));
-    }
+stopped_short n cap acts start held done more line session sent kept machine holds on count wrote is long short =
+    by short.machine_is where
+      one : Answered
+      one = after_line n cap acts session line
+
+      first : List ℕ
+      first = answers n cap start acts done
+
+      rest : List ℕ
+      rest = (after_lines n cap acts one.session more).answer
+
+      whole : answers n cap start acts (done ++ line ∷ more) ≡ first ++ (one.answer ++ rest)
+      whole = answers_begin n cap acts start done (line ∷ more)
+          ∙ ap (λ (s : Session). first ++ (after_lines n cap acts s (line ∷ more)).answer) (sym is)
+          ∙ ap (λ (xs : List ℕ). first ++ xs) (answer-first n cap acts session line more)
+
+      longer : length (answers n cap start acts (done ++ line ∷ more))
+          ≡ length first + (length one.answer + length rest)
+      longer = ap length whole ∙ length-append first (one.answer ++ rest)
+          ∙ ap (λ (k : ℕ). length first + k) (length-append one.answer rest)
+
+      within : count < length (answers n cap start acts (done ++ line ∷ more))
+      within = omega (arith, short.cut.count_is, short.cut.within, longer, long, length-append kept one.answer)
+
+      part : Appends held on (take count (answers n cap start acts (done ++ line ∷ more)))
+      part = subst (Appends held on) (λ i. take (sym short.cut.count_is i) (sym whole i))
+          (front_written held holds on kept first one.answer rest sent short.cut.part wrote long short.cut.within
+          short.cut.written)
+
+      after : session_after n cap acts start (done ++ line ∷ []) ≡ one.session
+      after = ap (λ (a : Answered). a.session) (answers-more n cap acts start done line)
+          ∙ ap (λ (s : Session). (after_line n cap acts s line).session) (sym is)
+
+      by : (machine ≡ one.session.machine) ⊎ IsOnTheWay n cap acts session one.session machine
+          → IsStopped n cap acts start held (done ++ line ∷ more) machine on count
+      by (inl there) = record {
+        within = within;
+        written = part;
+        done = done ++ line ∷ [];
+        undone = more;
+        lines_are = sym (append_assoc done (line ∷ []) more);
+        machine_is = unmoved n cap acts (session_after n cap acts start (done ++ line ∷ [])) more machine
+            (there ∙ sym (ap (λ (s : Session). s.machine) after));
+      }
+      by (inr way) = record {
+        within = within;
+        written = part;
+        done = done;
+        undone = line ∷ more;
+        lines_are = refl;
+        machine_is = subst (λ (s : Session). IsBeforeOrAmid n cap acts s (line ∷ more) machine) is way;
+      }
 
 given_up : (n cap : ℕ) (acts : List Act) (start : Machine) (held : Option (List ℕ))
-    (done more : List (List ℕ)) (line : List ℕ) (session : Session) (machine : Machine) (holds on : Option (List ℕ))
-    → Appends held holds (answers n cap start acts done)
-    → session ≡ session_after n cap acts start done → IsGivenUp n cap acts session line holds machine on
+    (done more : List (List ℕ)) (line : List ℕ) (session : Session) (kept : List ℕ) (machine : Machine)
+    (holds on : Option (List ℕ))
+    → Appends held (append_known holds kept) (answers n cap start acts done)
+    → session ≡ session_after n cap acts start done
+    → IsGivenUp n cap acts session (after_line n cap acts session line) kept holds machine on
     → IsBrokenOff n cap acts start held (done ++ line ∷ more) machine on
-given_up n cap acts start held done more line session machine holds on wrote is up = record {
+given_up n cap acts start held done more line session kept machine holds on wrote is up = record {
   done = done;
   undone = line ∷ more;
   lines_are = refl;
-  written = subst (Appends held on) (append-nil (answers n cap start acts done))
-      (Appends-trans held holds on _ _ wrote up.kept);
+  written = all_written held holds on kept (answers n cap start acts done) wrote up.written;
   machine_is = subst (λ (s : Session). IsBeforeOrAmid n cap acts s (line ∷ more) machine) is up.on_the_way;
 }
 
@@ -208,53 +331,120 @@ stops_further n cap acts start held lines more machine on NoThread stops =
 stops_further n cap acts start held lines more machine on Read stops = absurd stops
 stops_further n cap acts start held lines more machine on TooMuch stops = absurd stops
 
--- in a line
-pub stops_in_line : (n cap : ℕ) (acts : List Act) (start : Machine) (held : Option (List ℕ)) (taken : List ℕ)
-    (session : Session) (holds on : Option (List ℕ)) (sent : ℕ) (line : List ℕ) (machine : Machine)
-    (fault : SessionFault) (lines more : List (List ℕ))
-    → IsTold n cap acts start held taken session holds sent line
-    → BreaksOff n cap acts session line sent holds machine on fault
-    → lines ≡ ended_lines taken ++ line ∷ more → Stops n cap acts start held lines machine on fault
-stops_in_line n cap acts start held taken session holds on sent line machine (Write count) lines more told' breaks are =
-    subst (λ (ls : List (List ℕ)). IsStopped n cap acts start held ls machine on count) (sym are)
-    (stopped_short n cap acts start held (ended_lines taken) more line session sent machine holds on count told'.written
-    told'.session_is told'.sent_is breaks)
-stops_in_line n cap acts start held taken session holds on sent line machine Memory lines more told' breaks are =
-    subst (λ (ls : List (List ℕ)). IsBrokenOff n cap acts start held ls machine on) (sym are)
-    (given_up n cap acts start held (ended_lines taken)
-    more line session machine holds on told'.written told'.session_is breaks)
-stops_in_line n cap acts start held taken session holds on sent line machine NoThread lines more told' breaks are =
-    subst (λ (ls : List (List ℕ)). IsBrokenOff n cap acts start held ls machine on) (sym are)
-    (given_up n cap acts start held (ended_lines taken)
-    more line session machine holds on told'.written told'.session_is breaks)
-stops_in_line n cap acts start held taken session holds on sent line machine Read lines more told'
-    breaks are = absurd breaks
-stops_in_line n cap acts start held taken session holds on sent line machine TooMuch lines more told'
-    breaks are = absurd breaks
-
--- at the end of a line
+-- in a line that has ended
 pub stops_at_end : (n cap : ℕ) (acts : List Act) (start : Machine) (held : Option (List ℕ))
-    (taken : List ℕ) (session : Session) (holds on : Option (List ℕ)) (sent : ℕ) (line : List ℕ)
+    (taken : List ℕ) (session : Session) (holds on : Option (List ℕ)) (sent : ℕ) (kept line : List ℕ)
     (machine : Machine) (fault : SessionFault)
-    → IsTold n cap acts start held taken session holds sent line
-    → BreaksOff n cap acts session line sent holds machine on fault
+    → IsTold n cap acts start held taken session (append_known holds kept) (sent + length kept) line
+    → BreaksOff n cap acts session (after_line n cap acts session line) sent kept holds machine on fault
     → Stops n cap acts start held (ended_lines (taken ++ 10 ∷ [])) machine on fault
-stops_at_end n cap acts start held taken session holds on sent line machine fault told' breaks =
-    stops_in_line n cap acts start held taken session holds on sent line machine fault _ [] told' breaks
-    (ended_lines-end taken ∙ ap (λ (l : List ℕ). ended_lines taken ++ l ∷ []) (sym told'.line_is))
+stops_at_end n cap acts start held taken session holds on sent kept line machine fault told' breaks =
+    subst (λ (ls : List (List ℕ)). Stops n cap acts start held ls machine on fault)
+    (sym (ended_lines-end taken ∙ ap (λ (l : List ℕ). ended_lines taken ++ l ∷ []) (sym told'.line_is)))
+    (by fault breaks) where
+      by : (f : SessionFault)
+          → BreaksOff n cap acts session (after_line n cap acts session line) sent kept holds machine on f
+          → Stops n cap acts start held (ended_lines taken ++ line ∷ []) machine on f
+      by (Write count) short = stopped_short n cap acts start held (ended_lines taken) [] line session sent kept machine
+          holds on count told'.written told'.session_is told'.sent_is short
+      by Memory up = given_up n cap acts start held (ended_lines taken) [] line session kept machine holds on
+          told'.written told'.session_is up
+      by NoThread up = given_up n cap acts start held (ended_lines taken) [] line session kept machine holds on
+          told'.written told'.session_is up
+      by Read none = absurd none
+      by TooMuch none = absurd none
 
--- before a byte is kept, for want of memory
-pub stops_at_byte : (n cap : ℕ) (acts : List Act) (start : Machine) (held : Option (List ℕ)) (taken : List ℕ)
-    (session : Session) (holds : Option (List ℕ)) (sent : ℕ) (line : List ℕ) (byte : ℕ) → is_line_end byte ≡ false
-    → IsTold n cap acts start held taken session holds sent line
-    → IsBrokenOff n cap acts start held (ended_lines (taken ++ byte ∷ [])) session.machine holds
-stops_at_byte n cap acts start held taken session holds sent line byte other told' = record {
+-- by what was read of it
+pub stops_asked : (n cap : ℕ) (acts : List Act) (start : Machine) (held : Option (List ℕ))
+    (taken : List ℕ) (session : Session) (one : Answered) (holds on : Option (List ℕ)) (sent : ℕ) (kept line : List ℕ)
+    (machine : Machine) (fault : SessionFault) → one ≡ after_line n cap acts session line
+    → IsTold n cap acts start held taken session (append_known holds kept) (sent + length kept) line
+    → BreaksOff n cap acts session one sent kept holds machine on fault
+    → Stops n cap acts start held (ended_lines (taken ++ 10 ∷ [])) machine on fault
+stops_asked n cap acts start held taken session one holds on sent kept line machine fault same told' breaks =
+    stops_at_end n cap acts start held taken session holds on sent kept line machine fault told'
+    (subst (λ (a : Answered). BreaksOff n cap acts session a sent kept holds machine on fault) same breaks)
+
+-- what is wanting in a line
+pub breaks_wanting : (n cap : ℕ) (acts : List Act) (session : Session) (one : Answered) (holds on : Option (List ℕ))
+    (sent : ℕ) (kept : List ℕ) (machine : Machine) (fault : SessionFault)
+    → BreaksOffBetween sent kept holds on fault → IsOnTheWay n cap acts session one.session machine
+    → BreaksOff n cap acts session one sent kept holds machine on fault
+breaks_wanting n cap acts session one holds on sent kept machine (Write count) cut way = record {
+  cut = record {
+    part = cut.part;
+    count_is = cut.count_is;
+    within = omega (arith, cut.within, length-append kept one.answer);
+    written = subst (Appends holds on) (sym (take_front kept one.answer cut.part (omega (arith, cut.within))))
+        cut.written;
+  };
+  machine_is = inr way;
+}
+breaks_wanting n cap acts session one holds on sent kept machine Memory wrote way =
+    record { written = wrote; on_the_way = way }
+breaks_wanting n cap acts session one holds on sent kept machine NoThread wrote way =
+    record { written = wrote; on_the_way = way }
+breaks_wanting n cap acts session one holds on sent kept machine Read none way = absurd none
+breaks_wanting n cap acts session one holds on sent kept machine TooMuch none way = absurd none
+
+broken_between : (n cap : ℕ) (acts : List Act) (start : Machine) (held : Option (List ℕ)) (taken : List ℕ)
+    (session : Session) (holds on : Option (List ℕ)) (sent : ℕ) (kept line : List ℕ)
+    → IsTold n cap acts start held taken session (append_known holds kept) (sent + length kept) line
+    → Appends holds on kept → IsBrokenOff n cap acts start held (ended_lines taken) session.machine on
+broken_between n cap acts start held taken session holds on sent kept line told' wrote = record {
   done = ended_lines taken;
   undone = [];
-  lines_are = ended_lines-more taken byte other ∙ sym (append-nil (ended_lines taken));
-  written = told'.written;
+  lines_are = sym (append-nil (ended_lines taken));
+  written = all_written held holds on kept (answers n cap start acts (ended_lines taken)) told'.written wrote;
   machine_is = ap (λ (s : Session). s.machine) told'.session_is;
 }
+
+-- what stops in the front of what is taken stops in all
+pub stops_in_front : (n cap : ℕ) (acts : List Act) (start : Machine) (held : Option (List ℕ)) (taken more : List ℕ)
+    (machine : Machine) (on : Option (List ℕ)) (fault : SessionFault)
+    → Stops n cap acts start held (ended_lines taken) machine on fault
+    → Stops n cap acts start held (ended_lines (taken ++ more)) machine on fault
+stops_in_front n cap acts start held taken more machine on fault stops =
+    subst (λ (ls : List (List ℕ)). Stops n cap acts start held ls machine on fault)
+    (sym (ended_lines-append taken more))
+    (stops_further n cap acts start held (ended_lines taken) (ended_after taken more) machine on fault stops)
+
+-- between two lines
+pub stops_between : (n cap : ℕ) (acts : List Act) (start : Machine) (held : Option (List ℕ)) (taken : List ℕ)
+    (session : Session) (holds on : Option (List ℕ)) (sent : ℕ) (kept line : List ℕ) (fault : SessionFault)
+    → IsTold n cap acts start held taken session (append_known holds kept) (sent + length kept) line
+    → BreaksOffBetween sent kept holds on fault
+    → Stops n cap acts start held (ended_lines taken) session.machine on fault
+stops_between n cap acts start held taken session holds on sent kept line (Write count) told' cut =
+    let first : List ℕ = answers n cap start acts (ended_lines taken) in
+    let none : kept ++ [] ≡ kept = append-nil kept in
+    record {
+      within = omega (arith, cut.count_is, cut.within, told'.sent_is);
+      written = subst (Appends held on) (λ i. take (sym cut.count_is i) (append-nil first i))
+          (front_written held holds on kept first [] [] sent cut.part told'.written told'.sent_is
+          (omega (arith, cut.within, ap length none))
+          (subst (λ (xs : List ℕ). Appends holds on (take cut.part xs)) (sym none) cut.written));
+      done = ended_lines taken;
+      undone = [];
+      lines_are = sym (append-nil (ended_lines taken));
+      machine_is = ap (λ (s : Session). s.machine) told'.session_is;
+    }
+stops_between n cap acts start held taken session holds on sent kept line Memory told' wrote =
+    broken_between n cap acts start held taken session holds on sent kept line told' wrote
+stops_between n cap acts start held taken session holds on sent kept line NoThread told' wrote =
+    broken_between n cap acts start held taken session holds on sent kept line told' wrote
+stops_between n cap acts start held taken session holds on sent kept line Read told' none = absurd none
+stops_between n cap acts start held taken session holds on sent kept line TooMuch told' none = absurd none
+
+-- and other bytes follow
+pub stops_before : (n cap : ℕ) (acts : List Act) (start : Machine) (held : Option (List ℕ)) (taken more : List ℕ)
+    (session : Session) (holds on : Option (List ℕ)) (sent : ℕ) (kept line : List ℕ) (fault : SessionFault)
+    → IsTold n cap acts start held taken session (append_known holds kept) (sent + length kept) line
+    → BreaksOffBetween sent kept holds on fault
+    → Stops n cap acts start held (ended_lines (taken ++ more)) session.machine on fault
+stops_before n cap acts start held taken more session holds on sent kept line fault told' breaks =
+    stops_in_front n cap acts start held taken more session.machine on fault
+    (stops_between n cap acts start held taken session holds on sent kept line fault told' breaks)
 
 -- before the first line
 pub stops_first : (n cap : ℕ) (acts : List Act) (start : Machine) (held : Option (List ℕ)) (lines : List (List ℕ))
@@ -298,34 +488,11 @@ open_lines text [] some is = absurd (omega arith)
 open_lines text (byte ∷ line) some is = lines_of-open text
     ∙ ap (λ (l : List ℕ). ended_lines text ++ without_empty_last (l ∷ [])) (sym is)
 
-pub stops_at_last : (n cap : ℕ) (acts : List Act) (start : Machine) (held : Option (List ℕ))
-    (text : List ℕ) (session : Session) (holds on : Option (List ℕ)) (sent : ℕ) (line : List ℕ) (machine : Machine)
-    (fault : SessionFault) → 0 < length line
-    → IsTold n cap acts start held text session holds sent line
-    → BreaksOff n cap acts session line sent holds machine on fault
-    → Stops n cap acts start held (lines_of text) machine on fault
-stops_at_last n cap acts start held text session holds on sent line machine fault some told' breaks =
-    stops_in_line n cap acts start held text session holds on sent line machine fault _ [] told' breaks
-    (open_lines text line some told'.line_is)
-
-pub last_told : (n cap : ℕ) (acts : List Act) (start : Machine) (held : Option (List ℕ)) (text : List ℕ)
-    (session after : Session) (holds on : Option (List ℕ)) (sent : ℕ) (line : List ℕ) → 0 < length line
-    → IsTold n cap acts start held text session holds sent line
-    → after ≡ (after_line n cap acts session line).session
-    → Appends holds on (after_line n cap acts session line).answer
-    → IsAnswered n cap acts start held (lines_of text) after.machine on
-last_told n cap acts start held text session after holds on sent line some told' is wrote =
-    let whole : all n cap acts start (lines_of text)
-    ≡ preceded_by (all n cap acts start (ended_lines text)).answer (after_line n cap acts session line) =
-    ap (all n cap acts start) (open_lines text line some told'.line_is)
-    ∙ answers-more n cap acts start (ended_lines text) line
-    ∙ ap (λ (s : Session). preceded_by (all n cap acts start (ended_lines text)).answer (after_line n cap acts s line))
-    (sym told'.session_is) in
-    record {
-      written = subst (Appends held on) (sym (ap (λ (a : Answered). a.answer) whole))
-          (Appends-trans held holds on _ _ told'.written wrote);
-      machine_is = ap (λ (s : Session). s.machine) is ∙ sym (ap (λ (a : Answered). a.session.machine) whole);
-    }
+-- the end of the text ends it
+pub lines_at_last : (text line : List ℕ) → 0 < length line → line ≡ open_line text
+    → lines_of text ≡ ended_lines (text ++ 10 ∷ [])
+lines_at_last text line some is = open_lines text line some is
+    ∙ ap (λ (l : List ℕ). ended_lines text ++ l ∷ []) is ∙ sym (ended_lines-end text)
 
 -- before the first byte
 pub nothing_told : (n cap : ℕ) (acts : List Act) (start : Machine) (held : Option (List ℕ))
@@ -334,29 +501,66 @@ unfolding after_lines ended_lines open_line
 nothing_told n cap acts start held =
     record { written = Appends-nil held; session_is = refl; sent_is = refl; line_is = refl }
 
--- ---- bytes one by one
+-- ---- a piece, line by line
 
--- a text one byte on
-pub one_on : (taken piece : List ℕ) (i byte : ℕ) → i < length piece → byte ≡ get_or piece i 0
-    → (taken ++ take i piece) ++ byte ∷ [] ≡ taken ++ take (i + 1) piece
-one_on taken piece i byte inside is =
-    let more : take (i + 1) piece ≡ take i piece ++ get_or piece i 0 ∷ [] = grind (arith, common_steps) in
-    append_assoc taken (take i piece) (byte ∷ [])
-    ∙ ap (λ (xs : List ℕ). taken ++ xs) (ap (λ (b : ℕ). take i piece ++ b ∷ []) is ∙ sym more)
+-- the line that begins at a place of a piece
+line_at : (taken piece rest : List ℕ) (done len : ℕ) → rest ≡ take (length piece - done) (drop done piece)
+    → len < length rest → get_or rest len 0 ≡ 10
+    → ((taken ++ take done piece) ++ take len rest) ++ 10 ∷ [] ≡ taken ++ take (done + (len + 1)) piece
+line_at taken piece rest done len is inside ends =
+    let whole : rest ≡ drop done piece = is ∙ whole_piece done piece in
+    let one : take len rest ++ 10 ∷ [] ≡ take (len + 1) rest =
+    ap (λ (b : ℕ). take len rest ++ b ∷ []) (sym ends) ∙ sym (take_one rest len inside) in
+    append_assoc (taken ++ take done piece) (take len rest) (10 ∷ [])
+    ∙ append_assoc taken (take done piece) (take len rest ++ 10 ∷ [])
+    ∙ ap (λ (xs : List ℕ). taken ++ (take done piece ++ xs)) (one ∙ ap (take (len + 1)) whole)
+    ∙ ap (λ (xs : List ℕ). taken ++ xs) (sym (take-add done (len + 1) piece)) where
+      whole_piece : (k : ℕ) (xs : List ℕ) → take (length xs - k) (drop k xs) ≡ drop k xs
+      whole_piece k xs = grind (arith, common_steps)
 
--- what stops at a byte of a piece stops in it
-pub stops_in_piece : (n cap : ℕ) (acts : List Act) (start : Machine) (held : Option (List ℕ)) (taken piece : List ℕ)
-    (i byte : ℕ) (machine : Machine) (on : Option (List ℕ)) (fault : SessionFault) → i < length piece
-    → byte ≡ get_or piece i 0
-    → Stops n cap acts start held (ended_lines ((taken ++ take i piece) ++ byte ∷ [])) machine on fault
+      take_one : (xs : List ℕ) (k : ℕ) → k < length xs → take (k + 1) xs ≡ take k xs ++ get_or xs k 0 ∷ []
+      take_one xs k h = grind (arith, common_steps)
+
+-- it is answered
+pub told_at : (n cap : ℕ) (acts : List Act) (start : Machine) (held : Option (List ℕ)) (taken piece rest part : List ℕ)
+    (done len : ℕ) (session : Session) (holds : Option (List ℕ)) (sent : ℕ) (line : List ℕ)
+    → rest ≡ take (length piece - done) (drop done piece) → part ≡ take len rest
+    → len < length rest → get_or rest len 0 ≡ 10
+    → IsTold n cap acts start held (((taken ++ take done piece) ++ part) ++ 10 ∷ []) session holds sent line
+    → IsTold n cap acts start held (taken ++ take (done + (len + 1)) piece) session holds sent line
+told_at n cap acts start held taken piece rest part done len session holds sent line is front inside ends told' =
+    subst (λ (t : List ℕ). IsTold n cap acts start held t session holds sent line)
+    (ap (λ (xs : List ℕ). ((taken ++ take done piece) ++ xs) ++ 10 ∷ []) front
+    ∙ line_at taken piece rest done len is inside ends) told'
+
+-- what stops in it stops in the piece
+pub stops_at : (n cap : ℕ) (acts : List Act) (start : Machine) (held : Option (List ℕ)) (taken piece rest part : List ℕ)
+    (done len : ℕ) (machine : Machine) (on : Option (List ℕ)) (fault : SessionFault)
+    → rest ≡ take (length piece - done) (drop done piece) → part ≡ take len rest
+    → len < length rest → get_or rest len 0 ≡ 10
+    → Stops n cap acts start held (ended_lines (((taken ++ take done piece) ++ part) ++ 10 ∷ [])) machine on fault
     → Stops n cap acts start held (ended_lines (taken ++ piece)) machine on fault
-stops_in_piece n cap acts start held taken piece i byte machine on fault inside is stops =
-    let front : List ℕ = taken ++ take (i + 1) piece in
-    let whole : taken ++ piece ≡ front ++ drop (i + 1) piece =
-    ap (λ (xs : List ℕ). taken ++ xs) (sym (take-append-drop (i + 1) piece))
-    ∙ sym (append_assoc taken (take (i + 1) piece) (drop (i + 1) piece)) in
-    subst (λ (ls : List (List ℕ)). Stops n cap acts start held ls machine on fault)
-    (sym (ap ended_lines whole ∙ ended_lines-append front (drop (i + 1) piece)))
-    (stops_further n cap acts start held (ended_lines front) (ended_after front (drop (i + 1) piece)) machine on fault
+stops_at n cap acts start held taken piece rest part done len machine on fault is front inside ends stops =
+    let count : ℕ = done + (len + 1) in
+    let whole : (taken ++ take count piece) ++ drop count piece ≡ taken ++ piece =
+    append_assoc taken (take count piece) (drop count piece)
+    ∙ ap (λ (xs : List ℕ). taken ++ xs) (take-append-drop count piece) in
+    subst (λ (t : List ℕ). Stops n cap acts start held (ended_lines t) machine on fault) whole
+    (stops_in_front n cap acts start held (taken ++ take count piece) (drop count piece) machine on fault
     (subst (λ (t : List ℕ). Stops n cap acts start held (ended_lines t) machine on fault)
-    (one_on taken piece i byte inside is) stops))
+    (ap (λ (xs : List ℕ). ((taken ++ take done piece) ++ xs) ++ 10 ∷ []) front
+    ∙ line_at taken piece rest done len is inside ends) stops))
+
+-- what stops before the rest of a piece stops in it
+pub stops_in_rest : (n cap : ℕ) (acts : List Act) (start : Machine) (held : Option (List ℕ)) (taken piece : List ℕ)
+    (done : ℕ) (session : Session) (holds on : Option (List ℕ)) (sent : ℕ) (kept line : List ℕ) (fault : SessionFault)
+    → IsTold n cap acts start held (taken ++ take done piece) session (append_known holds kept) (sent + length kept)
+    line
+    → BreaksOffBetween sent kept holds on fault
+    → Stops n cap acts start held (ended_lines (taken ++ piece)) session.machine on fault
+stops_in_rest n cap acts start held taken piece done session holds on sent kept line fault told' breaks =
+    subst (λ (t : List ℕ). Stops n cap acts start held (ended_lines t) session.machine on fault)
+    (append_assoc taken (take done piece) (drop done piece)
+    ∙ ap (λ (xs : List ℕ). taken ++ xs) (take-append-drop done piece))
+    (stops_before n cap acts start held (taken ++ take done piece) (drop done piece) session holds on sent kept line
+    fault told' breaks)

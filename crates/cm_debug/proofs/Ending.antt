@@ -11,14 +11,14 @@ use Rattle.cm_model.specs.declared.act.Act.{Act}
 use Rattle.cm_model.specs.Machine.{Machine}
 use Rattle.cm_session.specs.declared.fault.SessionFault.{SessionFault}
 use Rattle.cm_session.specs.declared.fault.SessionFault.TheVariants.{Read, Write, TooMuch, Memory, NoThread}
-use Rattle.cm_session.specs.Session.{Session, opening, after_line}
+use Rattle.cm_session.specs.Session.{Session, opening}
 use Rattle.cm_session.specs.Ends.{LIMIT, ended_lines, heard_lines, IsAnswered, Ends}
 use Rattle.cm_session.proofs.Lines.{heard_first, heard_whole}
 use Rattle.cm_debug.specs.declared.desk.Desk.{Desk}
 use Rattle.cm_debug.specs.Desk.{session_of, IsDeskOf}
-use Rattle.cm_debug.specs.Telling.{IsTold, BreaksOff, Stops}
-use Rattle.cm_debug.proofs.Breaking.{all_told, closed_told, last_told, nothing_told}
-use Rattle.cm_debug.proofs.Breaking.{stops_at_last, stops_first, stops_further}
+use Rattle.cm_debug.specs.Telling.{IsTold, Stops}
+use Rattle.cm_debug.proofs.Breaking.{all_told, closed_told, lines_at_last, nothing_told}
+use Rattle.cm_debug.proofs.Breaking.{stops_first, stops_further}
 
 -- by a read
 pub ends_read : (n cap : ℕ) (acts : List Act) (start : Machine) (held : Option (List ℕ))
@@ -222,17 +222,20 @@ ends_closed n cap acts start held before now after taken buf count used session 
 -- and the line that is open is answered
 pub ends_answered : (n cap : ℕ) (acts : List Act) (start : Machine) (held : Option (List ℕ))
     (before now after : Option (List ℕ)) (taken buf : List ℕ) (count used : ℕ) (session on : Session)
-    (holds gone : Option (List ℕ)) (sent : ℕ) (line : List ℕ) → count ≡ 0
+    (holds gone : Option (List ℕ)) (sent more : ℕ) (line last : List ℕ) → count ≡ 0
     → used ≡ length taken → used ≤ LIMIT → Consumes before now taken → Consumes now after (take count buf)
     → IsAtEnd after → 0 < length line
-    → IsTold n cap acts start held taken session holds sent line → on ≡ (after_line n cap acts session line).session
-    → Appends holds gone (after_line n cap acts session line).answer
+    → IsTold n cap acts start held taken session holds sent line
+    → IsTold n cap acts start held (taken ++ 10 ∷ []) on gone more last
     → IfSome before (λ text. Ends n cap acts text after start held on.machine gone (Ok tt))
-ends_answered n cap acts start held before now after taken buf count used session on holds gone sent line none so few
-    first second end some told' is wrote =
+ends_answered n cap acts start held before now after taken buf count used session on holds gone sent more line last none
+    so few first second end some told' ended =
     ends_at_end n cap acts start held before now after taken on.machine gone first
     (nothing_read now after buf count none second) end
-    (omega (arith, so, few)) (last_told n cap acts start held taken session on holds gone sent line some told' is wrote)
+    (omega (arith, so, few))
+    (subst (λ (ls : List (List ℕ)). IsAnswered n cap acts start held ls on.machine gone)
+    (sym (lines_at_last taken line some told'.line_is))
+    (all_told n cap acts start held (taken ++ 10 ∷ []) on gone more last ended))
 
 -- and the line that is open breaks off
 pub ends_broken : (n cap : ℕ) (acts : List Act) (start : Machine) (held : Option (List ℕ))
@@ -241,14 +244,15 @@ pub ends_broken : (n cap : ℕ) (acts : List Act) (start : Machine) (held : Opti
     (fault : SessionFault) → count ≡ 0 → used ≡ length taken → used ≤ LIMIT → Consumes before now taken
     → Consumes now after (take count buf) → IsAtEnd after → 0 < length line
     → IsTold n cap acts start held taken session holds sent line
-    → BreaksOff n cap acts session line sent holds machine gone fault
+    → Stops n cap acts start held (ended_lines (taken ++ 10 ∷ [])) machine gone fault
     → IfSome before (λ text. Ends n cap acts text after start held machine gone (Err fault))
 ends_broken n cap acts start held before now after taken buf count used session holds gone sent line machine fault none
-    so few first second end some told' breaks =
+    so few first second end some told' stops =
     breaks_at_end n cap acts start held before now after taken machine gone fault first
     (nothing_read now after buf count none second) end
     (omega (arith, so, few))
-    (stops_at_last n cap acts start held taken session holds gone sent line machine fault some told' breaks)
+    (subst (λ (ls : List (List ℕ)). Stops n cap acts start held ls machine gone fault)
+    (sym (lines_at_last taken line some told'.line_is)) stops)
 
 -- a desk for so many acts
 pub desk_first : (acts : List Act) (desk : Desk) → desk.position ≡ 0

@@ -1,6 +1,7 @@
 pub mod ReaderLemmas
 pub mod Growing
 pub mod Telling
+pub mod Sending
 pub mod Coming
 pub mod Breaking
 pub mod Ending

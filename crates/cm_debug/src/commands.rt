@@ -1,7 +1,7 @@
 //! What a command does and is answered.
 
 ghost use Rattle.std.specs.Prelude.{◌≡◌, ◌≢◌, ◌<◌, ◌^◌, ◌++◌, ◌∷◌, [], length, slice_set, codes, decimal, IfSome};
-ghost use Rattle.std.specs.Prelude.{cond, MatchResult, OnOk, OnErr};
+ghost use Rattle.std.specs.Prelude.{cond, IsErrOf, IsTrue, MatchResult, OnOk, OnErr};
 ghost use Rattle.cm_bits.specs.Bit.{bit_number};
 ghost use Rattle.cm_model.specs.Processor.{ZERO, flag, field_value};
 ghost use Rattle.cm_model.specs.Array.{list_at, processor_of, wire};
@@ -13,7 +13,7 @@ ghost use Rattle.cm_session.specs.Bounds.{IsFor};
 ghost use Rattle.cm_session.specs.Session.{obeyed};
 ghost use Rattle.cm_session.specs.Ends.{IsOnTheWay};
 ghost use Rattle.cm_debug.specs.Desk.{session_of, IsDeskOf};
-ghost use Rattle.cm_debug.specs.Telling.{is_thread};
+ghost use Rattle.cm_debug.specs.Telling.{is_thread, runs_acts};
 
 use crate::answers::{push_bit, push_buffer, push_found, push_log, push_number, push_word};
 use crate::desk::{Desk, Stops};
@@ -49,6 +49,7 @@ pub fn obey<const N: usize, const CAP: usize, R: Runner<N, CAP>>(
         (λ _. R.threads_lacked runner.new ≡ R.threads_lacked runner.old)
         (λ want. R.threads_lacked runner.new
         ≡ cond (is_thread want) (one_more_lacked (R.threads_lacked runner.old)) (R.threads_lacked runner.old)) }
+    ensures acts { IsErrOf result Want.Thread → IsTrue (runs_acts command) }
 {
     match command {
         Command::Step => run_on(machine, acts, runner, desk, Stops::Everywhere, text),
@@ -108,6 +109,13 @@ pub fn obey<const N: usize, const CAP: usize, R: Runner<N, CAP>>(
             Ok(())
         }
     }
+}
+
+/// Whether the command runs acts.
+pub fn runs_acts(command: Command) -> bool
+    ensures value { result ≡ runs_acts command }
+{
+    matches!(command, Command::Step | Command::Run)
 }
 
 #[tactic(auto, unfolding(cm_session::specs::Answer::line))]

@@ -5,6 +5,7 @@ mod answers;
 mod commands;
 mod desk;
 mod feeding;
+mod gathering;
 mod lines;
 mod reader;
 mod reader_operands;

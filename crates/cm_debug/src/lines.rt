@@ -1,103 +1,152 @@
 //! Lines, and their answers.
 
-ghost use Rattle.std.specs.Prelude.{◌≡◌, ◌<◌, ◌≤◌, ◌+◌, ◌^◌, ◌++◌, false, length, IfOk};
-ghost use Rattle.std.specs.Prelude.{cond, IfSome, MatchResult, OnOk, OnErr, IfErr};
+ghost use Rattle.std.specs.Prelude.{◌≡◌, ◌<◌, ◌≤◌, ◌+◌, ◌^◌, ◌++◌, ◌∷◌, [], List, ℕ, Option, true, false, length, is_err};
+ghost use Rattle.std.specs.Prelude.{cond, IfOk, IfSome, IsTrue, IsErrOf, MatchResult, OnOk, OnErr, IfErr};
 ghost use Rattle.std.specs.Io.KnownBytes.{Appends};
+ghost use Rattle.cm_model.specs.Machine as model;
 ghost use Rattle.cm_array.specs.Faults.{one_more_lacked};
 ghost use Rattle.cm_session.specs.Bounds.{IsFor};
-ghost use Rattle.cm_session.specs.Session.{after_line, answered};
-ghost use Rattle.cm_session.specs.Ends.{is_no_thread, is_write, IsOnTheWay};
+ghost use Rattle.cm_session.specs.Session.{answered};
+ghost use Rattle.cm_session.specs.Ends.{ended_lines, is_no_thread, is_write, IsOnTheWay};
 ghost use Rattle.cm_debug.specs.Desk.{session_of, IsDeskOf};
-ghost use Rattle.cm_debug.specs.Telling.{is_thread, BreaksOff};
+ghost use Rattle.cm_debug.specs.Gathering.{answered_bytes, with_gathered, IsCutOff};
+ghost use Rattle.cm_debug.specs.Telling.{asks_for_acts, is_thread, BreaksOff, IsTold, Stops};
 
 use crate::answers::push_number;
-use crate::commands::obey;
+use crate::commands::{obey, runs_acts};
 use crate::desk::Desk;
+use crate::gathering::{CutOff, Gathered};
 use crate::reader::read_command;
 use crate::want::Want;
 use cm_array::{Machine, Runner};
-use cm_bits::{Sink, write_all};
+use cm_bits::Sink;
 use cm_model::Act;
 use cm_session::{Command, Refusal, SessionFault};
-use std::alloc::Global;
 
-/// Answers a line: the answer is made whole, then written, and its bytes are counted.
+/// Answers a line that has ended. A runner of threads may want one: before it is asked, the answers of other lines are
+/// written.
 pub fn tell_line<const N: usize, const CAP: usize, R: Runner<N, CAP>, O: Sink>(
-    alloc: Global,
     machine: &mut Machine<N, CAP>,
     acts: &[Act],
     runner: &mut R,
     desk: &mut Desk,
     line: &[u8],
+    answers: &mut Gathered,
     out: &mut O,
-    sent: &mut u128,
 ) -> Result<(), SessionFault>
     requires runner { R.ready }
     requires desk { IsDeskOf acts.now desk.old }
     requires writer { O.has_failed out.old ≡ false }
-    requires room { sent.old + 2 ^ 64 < 2 ^ 128 }
-    ensures session { OnOk result (session_of machine.new.machine desk.new
-        ≡ (after_line N CAP acts.now (session_of machine.old.machine desk.old) line.now).session) }
-    ensures written { OnOk result (Appends (O.contents out.old) (O.contents out.new)
-        (after_line N CAP acts.now (session_of machine.old.machine desk.old) line.now).answer) }
-    ensures sent { OnOk result (sent.new
-        ≡ sent.old + length (after_line N CAP acts.now (session_of machine.old.machine desk.old) line.now).answer) }
-    ensures few { OnOk result (sent.new ≤ sent.old + 2 ^ 64) }
+    requires room { answered_bytes answers.old + 2 ^ 64 < 2 ^ 128 }
+    ensures ok { OnOk result ((start : model.Machine) (held : Option (List ℕ)) (taken : List ℕ)
+        → IsTold N CAP acts.now start held taken (session_of machine.old.machine desk.old)
+        (with_gathered (O.contents out.old) answers.old) (answered_bytes answers.old) line.now
+        → IsTold N CAP acts.now start held (taken ++ 10 ∷ []) (session_of machine.new.machine desk.new)
+        (with_gathered (O.contents out.new) answers.new) (answered_bytes answers.new) []) }
     ensures desk { OnOk result (IsDeskOf acts.now desk.new) }
-    ensures err { IfErr result (BreaksOff N CAP acts.now (session_of machine.old.machine desk.old) line.now sent.old
-        (O.contents out.old) machine.new.machine (O.contents out.new)) }
+    ensures few { OnOk result (answered_bytes answers.new ≤ answered_bytes answers.old + 2 ^ 64) }
+    ensures err { IfErr result (λ fault. (start : model.Machine) (held : Option (List ℕ)) (taken : List ℕ)
+        → IsTold N CAP acts.now start held taken (session_of machine.old.machine desk.old)
+        (with_gathered (O.contents out.old) answers.old) (answered_bytes answers.old) line.now
+        → Stops N CAP acts.now start held (ended_lines (taken ++ 10 ∷ [])) machine.new.machine
+        (O.contents out.new) fault) }
     ensures failed { O.has_failed out.new ≡ is_write result }
     ensures thread { MatchResult result
         (λ _. R.threads_lacked runner.new ≡ R.threads_lacked runner.old)
         (λ fault. R.threads_lacked runner.new
         ≡ cond (is_no_thread fault) (one_more_lacked (R.threads_lacked runner.old)) (R.threads_lacked runner.old)) }
 {
-    let mut text = Vec::new(alloc);
-    match answer_line(machine, acts, runner, desk, line, &mut text) {
+    machine.clock();
+    let asked = read_command(line, N, acts.len());
+    match send_before(&asked, answers, out) {
         Ok(()) => {}
-        Err(Want::Memory) => return Err(SessionFault::Memory),
-        Err(Want::Thread) => return Err(SessionFault::NoThread),
+        Err(cut) => return Err(SessionFault::Write(cut.0)),
     }
-    match write_all(out, text.as_slice()) {
-        Ok(()) => {
-            *sent += text.len() as u128;
-            Ok(())
-        }
-        Err(fault) => Err(SessionFault::Write(*sent + fault.0 as u128)),
+    match tell_asked(machine, acts, runner, desk, asked, answers, out) {
+        Ok(()) => Ok(()),
+        Err(fault) => Err(fault),
     }
 }
 
-/// Does what a line asks for, and tells what it is answered. After an `Err` the machine is as it was, or some of the
-/// acts that the line runs are run.
-#[tactic(auto, unfolding(cm_session::specs::Session::after_line))]
-fn answer_line<const N: usize, const CAP: usize, R: Runner<N, CAP>>(
+/// What is gathered is written, if a line asks for acts.
+fn send_before<O: Sink>(
+    asked: &Result<Option<Command>, Refusal>,
+    answers: &mut Gathered,
+    out: &mut O,
+) -> Result<(), CutOff>
+    requires writer { O.has_failed out.old ≡ false }
+    requires room { answered_bytes answers.old < 2 ^ 128 }
+    ensures written { OnOk result (Appends (with_gathered (O.contents out.old) answers.old)
+        (with_gathered (O.contents out.new) answers.new) []) }
+    ensures count { OnOk result (answered_bytes answers.new ≡ answered_bytes answers.old) }
+    ensures none { OnOk result (IsTrue (asks_for_acts asked.now) → answers.new.bytes.items ≡ []) }
+    ensures err { IfErr result (λ cut. IsCutOff answers.old.sent answers.old.bytes.items (O.contents out.old)
+        (O.contents out.new) cut.0) }
+    ensures failed { O.has_failed out.new ≡ is_err result }
+{
+    if !asks_for_acts(asked) {
+        return Ok(());
+    }
+    answers.send(out)
+}
+
+/// Whether a line asks for a command that runs acts.
+fn asks_for_acts(asked: &Result<Option<Command>, Refusal>) -> bool
+    ensures value { result ≡ asks_for_acts asked.now }
+{
+    match asked {
+        Ok(Some(command)) => runs_acts(*command),
+        Ok(None) | Err(_) => false,
+    }
+}
+
+/// Does what was read of a line, and its answer is gathered, which is made whole first. Where acts are asked for,
+/// nothing is gathered before.
+fn tell_asked<const N: usize, const CAP: usize, R: Runner<N, CAP>, O: Sink>(
     machine: &mut Machine<N, CAP>,
     acts: &[Act],
     runner: &mut R,
     desk: &mut Desk,
-    line: &[u8],
-    text: &mut Vec<u8>,
-) -> Result<(), Want>
+    asked: Result<Option<Command>, Refusal>,
+    answers: &mut Gathered,
+    out: &mut O,
+) -> Result<(), SessionFault>
     requires runner { R.ready }
     requires desk { IsDeskOf acts.now desk.old }
-    ensures answer { OnOk result (text.new.items ≡ text.old.items
-        ++ (after_line N CAP acts.now (session_of machine.old.machine desk.old) line.now).answer) }
+    requires operands { IfOk asked (λ command. IfSome command (IsFor N (length acts.now))) }
+    requires none { IsTrue (asks_for_acts asked) → answers.old.bytes.items ≡ [] }
+    requires writer { O.has_failed out.old ≡ false }
+    requires room { answered_bytes answers.old + 2 ^ 64 < 2 ^ 128 }
     ensures session { OnOk result (session_of machine.new.machine desk.new
-        ≡ (after_line N CAP acts.now (session_of machine.old.machine desk.old) line.now).session) }
+        ≡ (answered N CAP acts.now (session_of machine.old.machine desk.old) asked).session) }
+    ensures written { OnOk result (Appends (with_gathered (O.contents out.old) answers.old)
+        (with_gathered (O.contents out.new) answers.new)
+        (answered N CAP acts.now (session_of machine.old.machine desk.old) asked).answer) }
+    ensures count { OnOk result (answered_bytes answers.new ≡ answered_bytes answers.old
+        + length (answered N CAP acts.now (session_of machine.old.machine desk.old) asked).answer) }
+    ensures few { OnOk result (answered_bytes answers.new ≤ answered_bytes answers.old + 2 ^ 64) }
     ensures desk { OnOk result (IsDeskOf acts.now desk.new) }
-    ensures err { OnErr result (IsOnTheWay N CAP acts.now (session_of machine.old.machine desk.old)
-        (after_line N CAP acts.now (session_of machine.old.machine desk.old) line.now).session machine.new.machine) }
+    ensures err { IfErr result (BreaksOff N CAP acts.now (session_of machine.old.machine desk.old)
+        (answered N CAP acts.now (session_of machine.old.machine desk.old) asked) answers.old.sent
+        answers.old.bytes.items (O.contents out.old) machine.new.machine (O.contents out.new)) }
+    ensures failed { O.has_failed out.new ≡ is_write result }
     ensures thread { MatchResult result
         (λ _. R.threads_lacked runner.new ≡ R.threads_lacked runner.old)
-        (λ want. R.threads_lacked runner.new
-        ≡ cond (is_thread want) (one_more_lacked (R.threads_lacked runner.old)) (R.threads_lacked runner.old)) }
+        (λ fault. R.threads_lacked runner.new
+        ≡ cond (is_no_thread fault) (one_more_lacked (R.threads_lacked runner.old)) (R.threads_lacked runner.old)) }
 {
-    machine.clock();
-    let asked = read_command(line, N, acts.len());
-    answer(machine, acts, runner, desk, asked, text)
+    answers.line.clear();
+    match answer(machine, acts, runner, desk, asked, &mut answers.line) {
+        Ok(()) => match answers.add_line(out) {
+            Ok(()) => Ok(()),
+            Err(cut) => Err(SessionFault::Write(cut.0)),
+        },
+        Err(want) => Err(answers.give_up(want, out)),
+    }
 }
 
-/// Answers what was read of a line.
+/// Answers what was read of a line. After an `Err` the machine is as it was, or some of the acts that the line runs are
+/// run.
 fn answer<const N: usize, const CAP: usize, R: Runner<N, CAP>>(
     machine: &mut Machine<N, CAP>,
     acts: &[Act],
@@ -116,6 +165,7 @@ fn answer<const N: usize, const CAP: usize, R: Runner<N, CAP>>(
     ensures desk { OnOk result (IsDeskOf acts.now desk.new) }
     ensures err { OnErr result (IsOnTheWay N CAP acts.now (session_of machine.old.machine desk.old)
         (answered N CAP acts.now (session_of machine.old.machine desk.old) asked).session machine.new.machine) }
+    ensures acts { IsErrOf result Want.Thread → IsTrue (asks_for_acts asked) }
     ensures thread { MatchResult result
         (λ _. R.threads_lacked runner.new ≡ R.threads_lacked runner.old)
         (λ want. R.threads_lacked runner.new

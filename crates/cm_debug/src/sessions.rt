@@ -6,7 +6,7 @@ ghost use Rattle.cm_session.specs.Ends.{Ends, is_no_thread, is_write};
 
 use crate::desk::Desk;
 use crate::feeding::feed;
-use crate::lines::tell_line;
+use crate::gathering::Gathered;
 use cm_array::{Machine, Runner};
 use cm_asm::Program;
 use cm_bits::{Sink, Source};
@@ -72,7 +72,7 @@ fn answer_all<const N: usize, const CAP: usize, R: Runner<N, CAP>, I: Source, O:
         return Err(SessionFault::Memory);
     };
     let mut line = Vec::new(alloc);
-    let mut sent = 0u128;
+    let mut answers = Gathered::new(alloc);
     let mut taken = 0;
     let mut piece = [0u8; PIECE];
     loop {
@@ -84,15 +84,14 @@ fn answer_all<const N: usize, const CAP: usize, R: Runner<N, CAP>, I: Source, O:
         }
         let room = count.min(LIMIT - taken);
         match feed(
-            alloc,
             machine,
             acts,
             runner,
             &mut desk,
             &piece[..room],
             &mut line,
+            &mut answers,
             out,
-            &mut sent,
         ) {
             Ok(()) => taken += room,
             Err(fault) => return Err(fault),
@@ -104,15 +103,16 @@ fn answer_all<const N: usize, const CAP: usize, R: Runner<N, CAP>, I: Source, O:
     if line.is_empty() {
         return Ok(());
     }
-    match tell_line(
-        alloc,
+    // the end of the bytes ends the line that is open
+    match feed(
         machine,
         acts,
         runner,
         &mut desk,
-        line.as_slice(),
+        b"\n",
+        &mut line,
+        &mut answers,
         out,
-        &mut sent,
     ) {
         Ok(()) => Ok(()),
         Err(fault) => Err(fault),

@@ -15,14 +15,18 @@ pub loop-count-init : goal.loop-count-init
 loop-count-init g c = record {
   text = [];
   consumed = Consumes-nil (g.I.Source.left c.args.commands.now);
-  told = told_first g.row.N g.row.CAP c.args.acts.now c.args.machine.now.machine
+  told = subst (λ (k : ℕ). IsTold g.row.N g.row.CAP c.args.acts.now c.args.machine.now.machine
+      (g.O.Sink.contents c.args.out.now) [] (session_of c.args.machine.now.machine c.in-Ok.desk)
+      (g.O.Sink.contents c.args.out.now) k c.new-line.result.items) (sym c.new-answers.ensures.sent)
+      (told_first g.row.N g.row.CAP c.args.acts.now c.args.machine.now.machine
       (g.O.Sink.contents c.args.out.now) c.in-Ok.desk
       c.new-line.result.items c.in-Ok.ensures.position c.in-Ok.ensures.breaks c.in-Ok.ensures.report
-      c.new-line.ensures.items;
+      c.new-line.ensures.items);
+  none = c.new-answers.ensures.none;
   desk = desk_first c.args.acts.now c.in-Ok.desk c.in-Ok.ensures.position c.in-Ok.ensures.breaks;
   count = refl;
   within = omega arith;
-  few = omega arith;
+  few = omega (arith, c.new-answers.ensures.sent);
   reading = c.requires.reader;
   writing = c.requires.writer;
   threads = refl;
@@ -45,7 +49,7 @@ returns-then-room-count-clause-ends g c =
     (g.I.Source.left c.args.commands.now) (g.I.Source.left c.loop-count.commands) (g.I.Source.left c.read.new.self)
     so.text c.read.new.buf c.in-Ok-read.count c.min-room.result c.loop-count.taken
     (session_of c.feed.new.machine.machine c.feed.new.desk)
-    (g.O.Sink.contents c.feed.new.out) c.feed.new.sent c.feed.new.line.items
+    (g.O.Sink.contents c.feed.new.out) c.feed.new.answers.sent c.feed.new.line.items
     c.in-Ok-read.ensures.bound.0 c.min-room.ensures c.if-room-count.true so.count so.within so.consumed
     c.in-Ok-read.ensures.bytes.0
     (c.in-Ok-feed.ensures.ok c.args.machine.now.machine (g.O.Sink.contents c.args.out.now) so.text so.told)
@@ -57,33 +61,28 @@ returns-then-is_empty-clause-ends g c =
     (g.I.Source.left c.args.commands.now) (g.I.Source.left c.loop-count.commands) (g.I.Source.left c.read.new.self)
     so.text c.read.new.buf c.in-Ok-read.count c.loop-count.taken
     (session_of c.loop-count.machine.machine c.loop-count.desk)
-    (g.O.Sink.contents c.loop-count.out) c.loop-count.sent c.loop-count.line.items
+    (g.O.Sink.contents c.loop-count.out) c.loop-count.answers.sent c.loop-count.line.items
     c.if-count-eq0.true so.count so.within so.consumed c.in-Ok-read.ensures.bytes.0
     (c.in-Ok-read.ensures.bytes.1 c.if-count-eq0.true (omega arith))
     (is_none c.loop-count.line.items c.loop-count.line.len c.is_empty.result (omega (arith, c.loop-count.line.ok.0))
     c.is_empty.ensures c.if-is_empty.true) so.told
 
-pub returns-in-Ok-tell_line-clause-ends : goal.returns-in-Ok-tell_line-clause-ends
-returns-in-Ok-tell_line-clause-ends g c =
+pub returns-in-Ok-feed-2-clause-ends : goal.returns-in-Ok-feed-2-clause-ends
+returns-in-Ok-feed-2-clause-ends g c =
     let so = c.loop-count.invariant in
     ends_answered g.row.N g.row.CAP c.args.acts.now c.args.machine.now.machine (g.O.Sink.contents c.args.out.now)
     (g.I.Source.left c.args.commands.now) (g.I.Source.left c.loop-count.commands) (g.I.Source.left c.read.new.self)
     so.text c.read.new.buf c.in-Ok-read.count c.loop-count.taken
     (session_of c.loop-count.machine.machine c.loop-count.desk)
-    (session_of c.tell_line.new.machine.machine c.tell_line.new.desk) (g.O.Sink.contents c.loop-count.out)
-    (g.O.Sink.contents c.tell_line.new.out)
-    c.loop-count.sent c.as_slice.result.now c.if-count-eq0.true so.count so.within so.consumed
+    (session_of c.feed-2.new.machine.machine c.feed-2.new.desk) (g.O.Sink.contents c.loop-count.out)
+    (g.O.Sink.contents c.feed-2.new.out) c.loop-count.answers.sent c.feed-2.new.answers.sent
+    c.loop-count.line.items c.feed-2.new.line.items c.if-count-eq0.true so.count so.within so.consumed
     c.in-Ok-read.ensures.bytes.0
     (c.in-Ok-read.ensures.bytes.1 c.if-count-eq0.true (omega arith))
-    (has_some c.loop-count.line.items c.as_slice.result.now c.loop-count.line.len c.is_empty.result
+    (has_some c.loop-count.line.items c.loop-count.line.items c.loop-count.line.len c.is_empty.result
     (omega (arith, c.loop-count.line.ok.0))
-    c.is_empty.ensures c.if-is_empty.false c.as_slice.ensures.value)
-    (subst (λ (l : List ℕ). IsTold g.row.N g.row.CAP c.args.acts.now c.args.machine.now.machine
-    (g.O.Sink.contents c.args.out.now) so.text
-    (session_of c.loop-count.machine.machine c.loop-count.desk)
-    (g.O.Sink.contents c.loop-count.out) c.loop-count.sent l)
-    (sym c.as_slice.ensures.value) so.told)
-    c.in-Ok-tell_line.ensures.session c.in-Ok-tell_line.ensures.written
+    c.is_empty.ensures c.if-is_empty.false refl) so.told
+    (c.in-Ok-feed-2.ensures.ok c.args.machine.now.machine (g.O.Sink.contents c.args.out.now) so.text so.told)
 
 pub returns-clause-ends : goal.returns-clause-ends
 returns-clause-ends g c =
@@ -92,16 +91,12 @@ returns-clause-ends g c =
     (g.I.Source.left c.args.commands.now) (g.I.Source.left c.loop-count.commands) (g.I.Source.left c.read.new.self)
     so.text c.read.new.buf c.in-Ok-read.count c.loop-count.taken
     (session_of c.loop-count.machine.machine c.loop-count.desk)
-    (g.O.Sink.contents c.loop-count.out) (g.O.Sink.contents c.tell_line.new.out)
-    c.loop-count.sent c.as_slice.result.now c.tell_line.new.machine.machine c.in-Err-tell_line.fault c.if-count-eq0.true
+    (g.O.Sink.contents c.loop-count.out) (g.O.Sink.contents c.feed-2.new.out)
+    c.loop-count.answers.sent c.loop-count.line.items c.feed-2.new.machine.machine c.in-Err-feed.fault
+    c.if-count-eq0.true
     so.count so.within so.consumed c.in-Ok-read.ensures.bytes.0
     (c.in-Ok-read.ensures.bytes.1 c.if-count-eq0.true (omega arith))
-    (has_some c.loop-count.line.items c.as_slice.result.now c.loop-count.line.len c.is_empty.result
+    (has_some c.loop-count.line.items c.loop-count.line.items c.loop-count.line.len c.is_empty.result
     (omega (arith, c.loop-count.line.ok.0))
-    c.is_empty.ensures c.if-is_empty.false c.as_slice.ensures.value)
-    (subst (λ (l : List ℕ). IsTold g.row.N g.row.CAP c.args.acts.now c.args.machine.now.machine
-    (g.O.Sink.contents c.args.out.now) so.text
-    (session_of c.loop-count.machine.machine c.loop-count.desk)
-    (g.O.Sink.contents c.loop-count.out) c.loop-count.sent l)
-    (sym c.as_slice.ensures.value) so.told)
-    c.in-Err-tell_line.ensures.err
+    c.is_empty.ensures c.if-is_empty.false refl) so.told
+    (c.in-Err-feed.ensures.err c.args.machine.now.machine (g.O.Sink.contents c.args.out.now) so.text so.told)

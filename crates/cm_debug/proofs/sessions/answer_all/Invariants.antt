@@ -1,4 +1,4 @@
-use Rattle.std.proofs.Common.{◌≡◌, ℕ, ◌-◌, ◌*◌, ◌^◌, ◌≤◌, false, List, length}
+use Rattle.std.proofs.Common.{◌≡◌, ℕ, ◌-◌, ◌*◌, ◌^◌, ◌≤◌, false, List, [], length}
 use Rattle.std.specs.Io.KnownBytes.{Consumes}
 use Rattle.cm_session.specs.Ends.{LIMIT}
 use Rattle.cm_debug.specs.Desk.{session_of, IsDeskOf}
@@ -11,11 +11,12 @@ invariant-loop-count g l = record {
   consumed : Consumes (g.I.Source.left l.fn.commands) (g.I.Source.left l.commands) text;
   told : IsTold g.row.N g.row.CAP l.acts l.fn.machine.machine (g.O.Sink.contents l.fn.out) text
       (session_of l.machine.machine l.desk)
-      (g.O.Sink.contents l.out) l.sent l.line.items;
+      (g.O.Sink.contents l.out) l.answers.sent l.line.items;
+  none : l.answers.bytes.items ≡ [];
   desk : IsDeskOf l.acts l.desk;
   count : l.taken ≡ length text;
   within : l.taken ≤ LIMIT;
-  few : l.sent ≤ l.taken * 2 ^ 64;
+  few : l.answers.sent ≤ l.taken * 2 ^ 64;
   reading : g.I.Source.has_failed l.commands ≡ false;
   writing : g.O.Sink.has_failed l.out ≡ false;
   threads : g.R.Runner.threads_lacked l.runner ≡ g.R.Runner.threads_lacked l.fn.runner;

@@ -1,0 +1,29 @@
+-- Answers on their way to a sink: ours.
+use Rattle.std.specs.Prelude.{◌≡◌, ℕ, ◌+◌, ◌<◌, Option, List, length, take}
+use Rattle.std.specs.Io.KnownBytes.{Appends, append_known}
+use Rattle.cm_session.specs.declared.fault.SessionFault.{SessionFault}
+use Rattle.cm_session.specs.declared.fault.SessionFault.TheVariants.{Read, Write, TooMuch, Memory, NoThread}
+use Rattle.cm_debug.specs.declared.gathering.Gathered.{Gathered}
+
+-- the bytes of a sink, and behind them those that are gathered
+abbrev pub with_gathered : Option (List ℕ) → Gathered → Option (List ℕ)
+with_gathered holds gathered = append_known holds gathered.bytes.items
+
+-- how many bytes were answered: those that went out, and those that are gathered
+abbrev pub answered_bytes : Gathered → ℕ
+answered_bytes gathered = gathered.sent + length gathered.bytes.items
+
+-- a front of a text was written, and the count of bytes is those before it and its own
+pub record IsCutOff (sent : ℕ) (text : List ℕ) (held holds : Option (List ℕ)) (count : ℕ) : Type 0 where
+  pub part : ℕ
+  pub count_is : count ≡ sent + part
+  pub within : part < length text
+  pub written : Appends held holds (take part text)
+
+-- how a session breaks off between two lines: with a front of what is gathered written, or all of it
+abbrev pub BreaksOffBetween : ℕ → List ℕ → Option (List ℕ) → Option (List ℕ) → SessionFault → Type 0
+BreaksOffBetween sent kept held holds (Write count) = IsCutOff sent kept held holds count
+BreaksOffBetween sent kept held holds Memory = Appends held holds kept
+BreaksOffBetween sent kept held holds NoThread = Appends held holds kept
+BreaksOffBetween sent kept held holds Read = ⊥
+BreaksOffBetween sent kept held holds TooMuch = ⊥
