@@ -1,0 +1,4 @@
+pub mod Lanes
+pub mod Worlds
+pub mod Steps
+pub mod Laws

@@ -1,0 +1,9 @@
+pub mod Moving
+pub mod Clocks
+pub mod Following
+pub mod Weaving
+pub mod Playing
+pub mod Nexting
+pub mod Finishing
+pub mod Beginning
+pub mod Telling
