@@ -2,13 +2,14 @@
 use Rattle.std.proofs.Common.{◌≡◌, ◌↔◌, ℕ, zero, suc, ◌^◌, List, [], ◌∷◌, length, map, Option, Some, None}
 use Rattle.std.proofs.Common.{refl, get_or, ◌<◌, ◌≤◌, ◌++◌, arith}
 use Rattle.std.specs.Prelude.{bit_xor}
-use Rattle.std.specs.List.{All, range_with_len}
+use Rattle.std.specs.List.{All, list_any, range_with_len}
 use Rattle.std.specs.Option.{option_map, option_to_list}
 use Rattle.std.proofs.lemmas.List.{length-map, length-append, map-append, get_or-map}
 use Rattle.std.proofs.lemmas.Grind.{pieces}
 use Rattle.std.proofs.lemmas.List.Elements.{All-append, All-tail, All-map, All-cons}
 use Rattle.cm_model.specs.declared.message.Message.{Message}
 use Rattle.cm_model.specs.Array.{each_chip, list_at}
+use Rattle.cm_model.specs.Letters.{has_arrived}
 use Rattle.cm_model.specs.Router.{has_to_cross, message_across}
 use Rattle.cm_model.specs.Buffers.{leaving_place, element_at, without, outgoing, buffer_after_dimension}
 use Rattle.cm_model.specs.Each.{each_from}
@@ -16,7 +17,7 @@ use Rattle.cm_model.proofs.Each.{map-each_from, length-each_from}
 use Rattle.cm_model.proofs.Leaving.{position-map, map-without, element_at-map}
 use Rattle.cm_slots.specs.declared.ticket.Ticket.{Ticket}
 use Rattle.cm_slots.specs.Queues.{place_of_leaver, stayers_of}
-use Rattle.cm_slots.specs.Tickets.{has_to_go, ticket_across, ticket_going, exchanged}
+use Rattle.cm_slots.specs.Tickets.{has_to_go, has_come, ticket_across, ticket_going, exchanged}
 use Rattle.cm_crossing.specs.Standing.{message_of, standing, all_standing, AreKept, IsKept, AreTogether}
 
 -- ---- the messages of a chip
@@ -103,6 +104,12 @@ few_at room row queues c within =
 pub nobody_stands : (row : List Message) (ts : List Ticket) → length ts ≤ 0 ↔ standing row ts ≡ []
 nobody_stands row [] = (λ h. refl, λ h. omega arith)
 nobody_stands row (t ∷ ts) = (λ h. absurd (omega arith), λ h. absurd cc)
+
+-- a message has arrived where its ticket has nowhere left to cross
+pub arrived_standing : (row : List Message) (ts : List Ticket)
+    → list_any has_arrived (standing row ts) ≡ list_any has_come ts
+arrived_standing row [] = refl
+arrived_standing row (t ∷ ts) = rw (arrived_standing row ts) refl
 
 -- where there is room for one more, it may come
 pub room_for_one : {X : Type 0} (room : ℕ) (xs : List X) (o : Option X) → length xs < room

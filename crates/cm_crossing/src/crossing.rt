@@ -1,12 +1,12 @@
 //! The messages of a run of chips.
 
-ghost use Rattle.std.specs.Prelude.{◌≡◌, ◌≢◌, ◌↔◌, ℕ, ◌+◌, ◌*◌, ◌^◌, ◌<◌, ◌≤◌, ◌++◌, [], ◌∷◌, IfOk, IsTrue};
-ghost use Rattle.std.specs.Prelude.{length, map, min, None};
+ghost use Rattle.std.specs.Prelude.{◌≡◌, ◌↔◌, ℕ, ◌+◌, ◌*◌, ◌^◌, ◌<◌, ◌≤◌, ◌++◌, [], ◌∷◌, IfOk, IsTrue};
+ghost use Rattle.std.specs.Prelude.{length, map, min, None, true, false};
 ghost use Rattle.std.specs.Prelude.{slice_set, slice_index_or, bit_xor, vec_len, vec_capacity};
-ghost use Rattle.std.specs.List.{All};
+ghost use Rattle.std.specs.List.{All, list_any};
 ghost use Rattle.std.specs.Option.{option_to_list};
 ghost use Rattle.cm_model.specs.declared.message.Event.TheVariants as event;
-ghost use Rattle.cm_model.specs.Letters.{chip_after_injection, chip_after_delivery};
+ghost use Rattle.cm_model.specs.Letters.{has_arrived, chip_after_injection, chip_after_delivery};
 ghost use Rattle.cm_model.specs.Each.{each_from};
 ghost use Rattle.cm_model.specs.Array.{each_chip, chip_at, list_at};
 ghost use Rattle.cm_model.specs.Keeping.{AreSizes};
@@ -128,15 +128,18 @@ impl Crossing {
         self.slots.len(chip)
     }
 
-    /// The first chip from this one on at which a message stands; as many as there are, if there is none.
-    pub fn next_occupied(&self, from: usize) -> usize
+    /// The first chip from this one on at which a message has arrived; as many as there are, if there is none.
+    pub fn next_arrived(&self, sizes: Sizes, from: usize) -> usize
+        requires sizes { AreSizes sizes.dims sizes.room }
         requires from { from ≤ length self.now.buffers }
-        ensures none { (c : ℕ) → from ≤ c → c < result → list_at self.now.buffers c ≡ [] }
+        requires within { All (λ ms. length ms ≤ sizes.room) self.now.buffers }
+        ensures none { (c : ℕ) → from ≤ c → c < result → list_any has_arrived (list_at self.now.buffers c) ≡ false }
         ensures from { from ≤ result }
         ensures most { result ≤ length self.now.buffers }
-        ensures occupied { result < length self.now.buffers → list_at self.now.buffers result ≢ [] }
+        ensures arrived { result < length self.now.buffers
+            → list_any has_arrived (list_at self.now.buffers result) ≡ true }
     {
-        self.slots.next_occupied(from)
+        self.slots.next_arrived(from, sizes.room)
     }
 
     /// The messages that stand at a chip, in order of arrival, where all have been gathered.

@@ -1,3 +1,4 @@
 pub mod Making
 pub mod Cycling
 pub mod Dimensions
+pub mod Resting

@@ -1,6 +1,9 @@
 -- The phases of a petit cycle that go through chips one after another: injection and delivery.
 use Rattle.std.proofs.Common.{◌≡◌, ◌≢◌, ℕ, ◌+◌, ◌-◌, ◌<◌, ◌≤◌, ◌++◌, List, [], length, map, set, get_or, sym, ap, ◌∙◌}
 use Rattle.std.proofs.Common.{arith, vec_len, vec_capacity, below_more, get_or-set_same, get_or-set_other, refl}
+use Rattle.std.proofs.Common.{◌∷◌, Bool, false}
+use Rattle.std.specs.List.{list_any}
+use Rattle.std.proofs.lemmas.Bool.{or_parts}
 use Rattle.std.proofs.lemmas.List.{append-nil, length-map, length-set, map-set, get_or-map, ext_get_or}
 use Rattle.cm_model.specs.declared.message.Message.{Message}
 use Rattle.cm_model.specs.declared.message.Event.{Event}
@@ -8,8 +11,8 @@ use Rattle.cm_model.specs.declared.message.Event.TheVariants.{Injected, Delivere
 use Rattle.cm_model.specs.Processor.{Processor}
 use Rattle.cm_model.specs.Each.{each_from}
 use Rattle.cm_model.specs.Array.{Chips, chip_at, list_at}
-use Rattle.cm_model.specs.Letters.{chip_after_injection, chip_after_delivery}
-use Rattle.cm_model.specs.OneChip.{taken_here, sent_here, delivered_here, kept_here}
+use Rattle.cm_model.specs.Letters.{chip_after_injection, chip_after_delivery, can_receive, has_arrived}
+use Rattle.cm_model.specs.OneChip.{taken_here, sent_here, delivered, kept, delivered_here, kept_here}
 use Rattle.cm_model.proofs.Each.{length-each_from, get_or-each_from}
 use Rattle.cm_router.specs.Idle.{IsIdle}
 use Rattle.cm_router.specs.Logs.{Log, log_room, log_rooms_of}
@@ -153,8 +156,31 @@ pub injecting_nothing : (n room clock c : ℕ) (x : Cell) → IsIdle x.chip → 
 injecting_nothing n room clock c x idle =
     rw (idle.nobody room (length x.messages), append-nil x.messages, append-nil x.events, ← idle.same) refl
 
-pub delivering_nothing : (c : ℕ) (before after : Cell) → after ≡ before → after.messages ≡ []
-    → before.chip ≡ chip_after_delivery [] before.chip → after ≡ delivering c before
-delivering_nothing c before after is empty same =
-    let none = rw is at empty in
-    rw (is, none, append-nil before.events, ← same) refl
+-- of messages of which none has arrived none is delivered, and all are kept
+nothing_delivered : (receives : ℕ → Bool) (before : List ℕ) (ms : List Message) → list_any has_arrived ms ≡ false
+    → delivered receives before ms ≡ []
+nothing_delivered receives before [] none = refl
+nothing_delivered receives before (m ∷ ms) none =
+    let parts = or_parts (has_arrived m) (list_any has_arrived ms) none in
+    rw parts.0 (nothing_delivered receives before ms parts.1)
+
+all_kept : (receives : ℕ → Bool) (before : List ℕ) (ms : List Message) → list_any has_arrived ms ≡ false
+    → kept receives before ms ≡ ms
+all_kept receives before [] none = refl
+all_kept receives before (m ∷ ms) none =
+    let parts = or_parts (has_arrived m) (list_any has_arrived ms) none in
+    rw (parts.0, all_kept receives before ms parts.1) refl
+
+pub delivering_nothing : (c : ℕ) (before after : Cell) → after ≡ before
+    → list_any has_arrived after.messages ≡ false → before.chip ≡ chip_after_delivery [] before.chip
+    → after ≡ delivering c before
+delivering_nothing c before after is none same =
+    let here : list_any has_arrived before.messages ≡ false = rw is at none in
+    let receives : ℕ → Bool = can_receive before.chip in
+    rw (
+      is,
+      nothing_delivered receives [] before.messages here,
+      all_kept receives [] before.messages here,
+      append-nil before.events,
+      ← same,
+    ) refl

@@ -78,7 +78,7 @@ pub fn inject(
 }
 
 /// Messages of a run of chips that have arrived go to their processors. The run begins at chip `first` of the
-/// machine. A chip at which none stands is passed over.
+/// machine. A chip at which none has arrived is passed over.
 pub fn deliver(
     sizes: Sizes,
     first: u16,
@@ -97,10 +97,10 @@ pub fn deliver(
     ensures log_room { LoseAtMost sizes.room (log_rooms_of logs.old) (log_rooms_of logs.new) }
 {
     pass_over(run);
-    let mut c = crossing.next_occupied(0);
+    let mut c = crossing.next_arrived(sizes, 0);
     while c < logs.len() {
         let chip = c as u16;
         crossing.deliver(sizes, run, chip, first + chip, &mut logs[c]);
-        c = crossing.next_occupied(c + 1);
+        c = crossing.next_arrived(sizes, c + 1);
     }
 }

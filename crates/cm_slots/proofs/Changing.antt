@@ -1,9 +1,9 @@
 -- A chip that is read or changes, in its slots, in its tile and in all tiles.
 use Rattle.std.proofs.Common.{◌≡◌, ◌≢◌, ℕ, suc, ◌+◌, ◌-◌, ◌<◌, ◌≤◌, ◌++◌, true, List, [], ◌∷◌, length, set, remove}
-use Rattle.std.proofs.Common.{sym, ◌∙◌, ⊎_elim, arith, ◌/◌, ◌%◌, ◌↔◌, map, refl, ap}
+use Rattle.std.proofs.Common.{sym, ◌∙◌, ⊎_elim, arith, ◌/◌, ◌%◌, map, refl, ap}
 use Rattle.std.proofs.lemmas.Bool.{cases_eq}
 use Rattle.std.proofs.lemmas.List.{length-append, length-set, get_or-set_same, get_or-set_other, get_or_past}
-use Rattle.std.proofs.lemmas.List.{get_or_append_left, get_or_push, length-map}
+use Rattle.std.proofs.lemmas.List.{get_or_append_left, get_or_push}
 use Rattle.std.proofs.lemmas.List.Edits.{length-remove, get_or-remove_below, get_or-remove_above}
 use Rattle.std.specs.List.{All, slice_get}
 use Rattle.std.proofs.lemmas.List.Elements.{All-set}
@@ -14,7 +14,7 @@ use Rattle.cm_slots.specs.Tiles.{slots_of, standing_at, IsShaped, IsTile, IsPut,
 use Rattle.cm_slots.specs.Runs.{no_tile, tile_at, numbers_at, tickets_of, IsChanged}
 use Rattle.cm_slots.specs.declared.ticket.Ticket.{Ticket}
 use Rattle.cm_slots.specs.Tickets.{ticket_of, ticket_in}
-use Rattle.cm_slots.proofs.Standing.{standing_is, stands, ends_at, nobody}
+use Rattle.cm_slots.proofs.Standing.{standing_is, stands, ends_at}
 
 pub counted : (len : ℕ) (slots : ℕ → ℕ) (xs : List ℕ) → AreSlots slots xs → ((j : ℕ) → j < len → slots j ≢ 0)
     → slots len ≡ 0 → len ≡ length xs
@@ -121,14 +121,3 @@ module _ (tiles : List Tile) (c : ℕ) (inside : c / 64 < length tiles) (whole :
 
   pub ticket_at : (j : ℕ) → ticket_in (slots_of (tile_at tiles (c / 64)) (c % 64) j) ≡ slice_get (tickets_of tiles c) j
   ticket_at j = ticket_of_slot (slots_of (tile_at tiles (c / 64)) (c % 64)) (numbers_at tiles c) are j
-
-  -- where the first slot is 0 nobody stands, and nowhere else
-  pub empty_where : slots_of (tile_at tiles (c / 64)) (c % 64) 0 ≡ 0 ↔ tickets_of tiles c ≡ []
-  empty_where = (
-    λ blank. ap (map ticket_of) (nobody _ (numbers_at tiles c) are blank),
-    λ none. (ends_at 0 _ (numbers_at tiles c) are).1 (omega (
-      arith,
-      length-map (numbers_at tiles c) ticket_of,
-      ap length none,
-    )),
-  )

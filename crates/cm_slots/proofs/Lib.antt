@@ -2,5 +2,6 @@ pub mod Carrying
 pub mod Numbers
 pub mod Standing
 pub mod Changing
+pub mod Arriving
 pub mod Runs
 pub mod Views

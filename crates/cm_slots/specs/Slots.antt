@@ -1,5 +1,5 @@
 -- A chip's tickets in slots, the first that came in slot 0: who is carried on and who stays. Ours.
-use Rattle.std.specs.Prelude.{ℕ, zero, suc, ◌+◌, ◌^◌, ◌<◌, ◌≤◌, ◌≡◌, ◌≢◌, ◌==◌, ◌%◌, true, false, Bool}
+use Rattle.std.specs.Prelude.{ℕ, zero, suc, ◌+◌, ◌^◌, ◌<◌, ◌≤◌, ◌≡◌, ◌≢◌, ◌==◌, ◌%◌, true, false, Bool, not, ◌&&◌, nat_lt}
 use Rattle.std.specs.Prelude.{List, [], ◌∷◌, length, bit_xor, Option, Some, None}
 use Rattle.std.specs.Prelude.{slice_index, slice_index_or, if◌then◌else◌}
 use Rattle.std.specs.List.{All}
@@ -11,6 +11,10 @@ use Rattle.cm_model.specs.Each.{each_from}
 -- a ticket stands there: then the lower sixteen bits are not all 0
 abbrev pub is_taken : ℕ → Bool
 is_taken slot = if slot % 65536 == 0 then false else true
+
+-- a ticket stands there whose message has arrived
+abbrev pub is_arrival : ℕ → Bool
+is_arrival slot = not (slot == 0) && nat_lt slot 65536
 
 -- a ticket stands there whose message has to cross dimension d
 abbrev pub crosses : ℕ → ℕ → Bool

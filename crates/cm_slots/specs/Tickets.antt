@@ -10,6 +10,10 @@ use Rattle.cm_slots.specs.Queues.{leaver_of, after_exchange}
 abbrev pub has_to_go : ℕ → Ticket → Bool
 has_to_go d t = bit t.rel d
 
+-- its message has come to the chip that it is bound for
+abbrev pub has_come : Ticket → Bool
+has_come t = t.rel == 0
+
 -- a ticket that crosses dimension d: its bit flips
 abbrev pub ticket_across : ℕ → Ticket → Ticket
 ticket_across d t = record t { rel = bit_xor t.rel (2 ^ d) }

@@ -1,8 +1,9 @@
 //! One chip of a row of tiles: what stands there, and who comes or goes there.
 
 ghost use Rattle.std.specs.Prelude.{◌≡◌, ◌↔◌, ◌≢◌, ℕ, ◌/◌, ◌<◌, ◌≤◌, ◌++◌, [], ◌∷◌, IfSome, IsTrue, length, remove};
-ghost use Rattle.std.specs.Prelude.{slice_set};
-ghost use Rattle.std.specs.List.{All, slice_get};
+ghost use Rattle.std.specs.Prelude.{slice_set, true, false};
+ghost use Rattle.std.specs.List.{All, list_any, slice_get};
+ghost use Rattle.cm_slots.specs.Tickets.{has_come};
 ghost use Rattle.cm_slots.specs.Tiles.{IsTile};
 ghost use Rattle.cm_slots.specs.Runs.{IsChanged, AreWithin, tickets_of};
 
@@ -66,23 +67,26 @@ pub(crate) fn remove(tiles: &mut [Tile], chip: usize, place: usize)
     tiles[chip / WIDTH].remove(chip % WIDTH, place);
 }
 
-/// The first chip from this one on at which a ticket stands, or one behind all of them. A tile at which no
-/// ticket may stand is passed over.
-pub(crate) fn next_occupied(tiles: &[Tile], from: usize) -> usize
+/// The first chip from this one on at which a ticket stands whose message has arrived, or one behind all of
+/// them, where there is room for so many tickets at each. A tile in which none has arrived is passed over.
+pub(crate) fn next_arrived(tiles: &[Tile], from: usize, room: usize) -> usize
+    requires most { room ≤ 15 }
     requires whole { All IsTile tiles.now }
-    ensures none { (c : ℕ) → from ≤ c → c < result → c / 64 < length tiles.now → tickets_of tiles.now c ≡ [] }
+    requires within { AreWithin room tiles.now }
+    ensures none { (c : ℕ) → from ≤ c → c < result → c / 64 < length tiles.now
+        → list_any has_come (tickets_of tiles.now c) ≡ false }
     ensures from { from ≤ result }
-    ensures occupied { result / 64 < length tiles.now → tickets_of tiles.now result ≢ [] }
+    ensures arrived { result / 64 < length tiles.now → list_any has_come (tickets_of tiles.now result) ≡ true }
 {
     let mut chip = from;
     while chip / WIDTH < tiles.len() {
         let tile = &tiles[chip / WIDTH];
-        if !tile.is_awake() {
+        if chip % WIDTH == 0 && !tile.has_arrival(room) {
             chip = (chip / WIDTH + 1) * WIDTH;
-        } else if tile.slot(chip % WIDTH, 0) == 0 {
-            chip += 1;
-        } else {
+        } else if tile.has_arrival_at(chip % WIDTH) {
             return chip;
+        } else {
+            chip += 1;
         }
     }
     chip

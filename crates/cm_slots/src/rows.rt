@@ -2,9 +2,9 @@
 //! whatever stands there, so that it takes several at once.
 
 ghost use Rattle.std.specs.Prelude.{◌≡◌, ◌↔◌, ℕ, ◌<◌, ◌≤◌, ◌==◌, ◌++◌, IsTrue, List, length, slice_index};
-ghost use Rattle.std.specs.Prelude.{if◌then◌else◌};
+ghost use Rattle.std.specs.Prelude.{if◌then◌else◌, false, IsFalse};
 ghost use Rattle.cm_slots.specs.Slots.{crosses, comers, slot_in, slot_behind, leaver_in, IsCarried, AreSlots};
-ghost use Rattle.cm_slots.specs.Slots.{IsBlank, AreRows, AreTaken};
+ghost use Rattle.cm_slots.specs.Slots.{IsBlank, AreRows, AreTaken, is_arrival};
 
 /// So many chips stand side by side.
 pub(crate) const WIDTH: usize = 64;
@@ -99,6 +99,26 @@ pub(crate) fn is_blank(row: &Row) -> bool
         all |= row[i];
     }
     all == 0
+}
+
+/// Whether in some lane of a row a ticket stands whose message has arrived. All lanes are looked at, many at once.
+#[inline(never)]
+pub(crate) fn has_arrival(row: &Row) -> bool
+    requires long { length row.now ≡ 64 }
+    ensures none { IsFalse result → (i : ℕ) → i < 64 → is_arrival (slice_index row.now i) ≡ false }
+{
+    let mut seen = false;
+    for i in 0..WIDTH {
+        seen |= is_arrival(row[i]);
+    }
+    seen
+}
+
+/// Whether a ticket stands in a slot whose message has arrived.
+fn is_arrival(slot: u32) -> bool
+    ensures value { result ≡ is_arrival slot }
+{
+    slot != 0 && slot < 65536
 }
 
 /// Whether the message of a slot's ticket has to cross a dimension.

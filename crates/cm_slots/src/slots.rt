@@ -1,14 +1,14 @@
 //! The queues of a run of chips.
 
 ghost use Rattle.std.specs.Prelude.{◌≡◌, ◌↔◌, ◌≢◌, ℕ, ◌^◌, ◌<◌, ◌≤◌, ◌++◌, [], ◌∷◌, IfOk, IfSome};
-ghost use Rattle.std.specs.Prelude.{IsTrue, bit_xor, length};
+ghost use Rattle.std.specs.Prelude.{IsTrue, bit_xor, length, true, false};
 ghost use Rattle.std.specs.Prelude.{map, remove, slice_set};
-ghost use Rattle.std.specs.List.{All, slice_get};
+ghost use Rattle.std.specs.List.{All, list_any, slice_get};
 ghost use Rattle.cm_model.specs.Each.{each_from};
 ghost use Rattle.cm_model.specs.Array.{each_chip, list_at};
 ghost use Rattle.cm_slots.specs.Runs.{AreEmpty};
 ghost use Rattle.cm_slots.specs.Queues.{stayers_of};
-ghost use Rattle.cm_slots.specs.Tickets.{has_to_go, ticket_going, exchanged};
+ghost use Rattle.cm_slots.specs.Tickets.{has_to_go, has_come, ticket_going, exchanged};
 
 use crate::chips;
 use crate::departing::{take_out, write_down};
@@ -130,15 +130,19 @@ impl Slots {
         chips::remove(&mut self.tiles, chip, place);
     }
 
-    /// The first chip from this one on at which a ticket stands; as many as there are, if there is none.
-    pub fn next_occupied(&self, from: usize) -> usize
+    /// The first chip from this one on at which a ticket stands whose message has arrived; as many as there are, if
+    /// there is none. Nowhere stand more tickets than there is room for.
+    pub fn next_arrived(&self, from: usize, room: u8) -> usize
         requires from { from ≤ length self.now }
-        ensures none { (c : ℕ) → from ≤ c → c < result → list_at self.now c ≡ [] }
+        requires most { room ≤ 15 }
+        requires within { All (λ ts. length ts ≤ room) self.now }
+        ensures none { (c : ℕ) → from ≤ c → c < result → list_any has_come (list_at self.now c) ≡ false }
         ensures from { from ≤ result }
         ensures most { result ≤ length self.now }
-        ensures occupied { result < length self.now → list_at self.now result ≢ [] }
+        ensures arrived { result < length self.now → list_any has_come (list_at self.now result) ≡ true }
     {
-        self.chips.min(chips::next_occupied(&self.tiles, from))
+        self.chips
+            .min(chips::next_arrived(&self.tiles, from, usize::from(room)))
     }
 
     /// Takes out all tickets.

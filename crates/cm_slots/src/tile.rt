@@ -1,13 +1,14 @@
 //! Tiles of chips.
 
 ghost use Rattle.std.specs.Prelude.{◌≡◌, ◌↔◌, ◌≢◌, ℕ, ◌<◌, ◌≤◌, ◌++◌, [], ◌∷◌, IsFalse, IsTrue, true, length, remove};
-ghost use Rattle.std.specs.Prelude.{List, slice_index, slice_set, None};
-ghost use Rattle.cm_slots.specs.Slots.{is_taken, slot_behind, AreSlots, IsBlank, AreTaken};
+ghost use Rattle.std.specs.Prelude.{List, slice_index, slice_set, None, false};
+ghost use Rattle.std.specs.List.{list_any};
+ghost use Rattle.cm_slots.specs.Slots.{is_taken, is_arrival, slot_behind, AreSlots, IsBlank, AreTaken};
 ghost use Rattle.cm_slots.specs.Tiles.{slots_of, standing_at, IsShaped, IsQuiet, IsTile, HasLeft, HasTakenIn, IsPut};
 ghost use Rattle.cm_slots.specs.Tiles.{HasChanged};
 
 use crate::across::flipped;
-use crate::rows::{ROOM, Row, WIDTH, is_blank, leave, take_in};
+use crate::rows::{ROOM, Row, WIDTH, has_arrival, is_blank, leave, take_in};
 
 /// 64 chips that stand side by side, and their tickets slot by slot: the one that came first in slot 0.
 #[derive(Debug, Drop)]
@@ -138,12 +139,36 @@ impl Tile {
         !self.awake || is_blank(&self.first)
     }
 
-    /// Whether a ticket may stand there.
-    pub fn is_awake(&self) -> bool
+    /// Whether at some chip, where there is room for so many tickets, one stands whose message has arrived.
+    pub fn has_arrival(&self, room: usize) -> bool
+        requires most { room ≤ 15 }
         requires whole { IsTile self.now }
-        ensures none { IsFalse result → IsQuiet self.now }
+        ensures none { IsFalse result → (i j : ℕ) → i < 64 → j < room → is_arrival (slots_of self.now i j) ≡ false }
     {
-        self.awake
+        if self.is_quiet() {
+            return false;
+        }
+        for k in 1..room {
+            if has_arrival(&self.rest[k - 1]) {
+                return true;
+            }
+        }
+        has_arrival(&self.first)
+    }
+
+    /// Whether at a chip a ticket stands whose message has arrived.
+    pub fn has_arrival_at(&self, place: usize) -> bool
+        requires place { place < 64 }
+        requires whole { IsTile self.now }
+        ensures value { result ≡ list_any is_arrival (standing_at self.now place) }
+    {
+        for k in 0..ROOM {
+            let slot = self.slot(place, k);
+            if slot < 65536 {
+                return slot != 0;
+            }
+        }
+        false
     }
 
     /// Whether no chip has more tickets than this.

@@ -104,6 +104,22 @@ impl MemoryRows {
         requires place { place < stride }
         ensures value { self.new ≡ slice_set self.old (at * stride + place) word }
     {
+        if self.slots[at] == 0 {
+            self.put_first(at, stride, place, word);
+            return;
+        }
+        let here = start(&self.words, &self.slots, self.used, self.stride, at) + usize::from(place);
+        self.words[here] = word;
+    }
+
+    /// The same where the address may have no row yet. It stands apart so that a word of a row in use costs one look.
+    #[inline(never)]
+    fn put_first(&mut self, at: usize, stride: usize, place: u16, word: Plane)
+        requires at { at < 4096 }
+        requires words { length self.old ≡ 4096 * stride }
+        requires place { place < stride }
+        ensures value { self.new ≡ slice_set self.old (at * stride + place) word }
+    {
         if word == 0 && self.slots[at] == 0 {
             return;
         }

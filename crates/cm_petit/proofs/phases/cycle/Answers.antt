@@ -1,4 +1,6 @@
-use Rattle.std.proofs.Common.{arith, ℕ, refl, ◌<◌, ◌^◌, [], ◌≡◌}
+use Rattle.std.proofs.Common.{arith, ℕ, refl, ap, ◌<◌, ◌^◌, [], ◌≡◌}
+use Rattle.std.specs.List.{list_any}
+use Rattle.cm_model.specs.Letters.{has_arrived}
 use Rattle.cm_blocks.specs.Steps.{part_after}
 use Rattle.cm_petit.specs.Routers.{part_of}
 use Rattle.cm_petit.proofs.Making.{delivering, made_none, made_past, made_all, delivering_nothing}
@@ -34,7 +36,7 @@ returns-then-is_empty-clause-value c =
     (delivered_whole n c.args.sizes.room whole refl refl
     (made_all {f = delivering} {most = 0} {count = 2 ^ n} _
     (made_past (2 ^ n) (made_none are.chip_count are.buffer_count are.log_count) (omega arith)
-    (λ k from l e. delivering_nothing _ _ _ e (empty k l)
+    (λ k from l e. delivering_nothing _ _ _ e (ap (list_any has_arrived) (empty k l))
     (c.pass_over.ensures.same k (omega (arith, l, are.chip_count))))) (omega arith)))
 
 pub returns-clause-value : goal.returns-clause-value

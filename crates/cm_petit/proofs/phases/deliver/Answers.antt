@@ -8,15 +8,15 @@ loop-c-init c =
     let routers = c.requires.routers in
     record {
       delivered = made_past _ (made_none routers.chip_count routers.buffer_count routers.log_count) (omega arith)
-          (λ k from l e. delivering_nothing _ _ _ e (c.next_occupied-c.ensures.none k from l)
+          (λ k from l e. delivering_nothing _ _ _ e (c.next_arrived-c.ensures.none k from l)
           (c.pass_over.ensures.same k
-          (omega (arith, l, c.next_occupied-c.ensures.most, routers.chip_count, routers.buffer_count))));
+          (omega (arith, l, c.next_arrived-c.ensures.most, routers.chip_count, routers.buffer_count))));
       within = routers.within;
     }
 
 pub loop-c-preserved : goal.loop-c-preserved
 loop-c-preserved c =
-    let next = c.next_occupied-c-in-loop-c.ensures in
+    let next = c.next_arrived-c-in-loop-c.ensures in
     let more = rw (← c.deliver.ensures.chip, ← c.deliver.ensures.value) at
     (made_more _ c.index-logs-c.result c.deliver.new.log c.loop-c.invariant.delivered refl
     (omega (arith, c.loop-c-test.true, c.loop-c.auto.logs, c.requires.routers.log_count)) c.deliver.ensures.log
