@@ -6,7 +6,7 @@ use std::alloc::Global;
 use std::test::Fail;
 
 // A full adder's tables at one place: table, wanted.
-const SUMS: [(u8, Plane); 2] = [(0x96, 0x3cc3), (0xe8, 0x033f)];
+static SUMS: [(u8, Plane); 2] = [(0x96, 0x3cc3), (0xe8, 0x033f)];
 
 const LENGTHS: [usize; 9] = [0, 1, 7, 8, 9, 31, 32, 33, 4096];
 
@@ -50,7 +50,8 @@ fn looks_up(alloc: Global, table: u8, length: usize) -> Result<bool, Fail> {
 
 #[test]
 fn a_row_of_one_plane_adds(rt: HostRuntime) {
-    for (table, want) in SUMS {
+    for row in &SUMS {
+        let (table, want) = *row;
         let mut a = [0x00ff];
         apply_wide(table, &mut a, &[0x0f0f], &[0x3333]);
         assert_eq!(rt; a[0], want);
