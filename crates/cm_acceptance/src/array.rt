@@ -13,7 +13,7 @@ use std::test::Fail;
 
 // ---- scenarios
 
-const BIT_OF_EIGHT_CHIPS: [Step; 9] = [
+static BIT_OF_EIGHT_CHIPS: [Step; 9] = [
     Step::Poke(1, 0, 0x0008),
     Step::News(Dir::North, 1, Ok(())),
     Step::News10(7, 0x8000),
@@ -26,13 +26,12 @@ const BIT_OF_EIGHT_CHIPS: [Step; 9] = [
 ];
 
 #[test]
-fn a_bit_of_eight_chips_moves_to_one_processor(rt: HostRuntime) -> Result<(), Fail> {
+fn a_bit_of_eight_chips_moves_to_one_processor(rt: HostRuntime) {
     let steps = BIT_OF_EIGHT_CHIPS.as_slice();
-    assert_eq!(rt; plays::<3>(rt.alloc(), 8, steps)?, steps.len());
-    Ok(())
+    assert_eq!(rt; plays::<3>(rt.alloc(), 8, steps), Some(steps.len()));
 }
 
-const ROWS_OF_TWO_CHIPS: [Step; 5] = [
+static ROWS_OF_TWO_CHIPS: [Step; 5] = [
     Step::Poke(0, 0, 0xf000),
     Step::Poke(1, 0, 0x1000),
     Step::News(Dir::South, 1, Ok(())),
@@ -41,26 +40,24 @@ const ROWS_OF_TWO_CHIPS: [Step; 5] = [
 ];
 
 #[test]
-fn southward_two_chips_send_their_last_rows_to_themselves(rt: HostRuntime) -> Result<(), Fail> {
+fn southward_two_chips_send_their_last_rows_to_themselves(rt: HostRuntime) {
     let steps = ROWS_OF_TWO_CHIPS.as_slice();
-    assert_eq!(rt; plays::<1>(rt.alloc(), 2, steps)?, steps.len());
-    Ok(())
+    assert_eq!(rt; plays::<1>(rt.alloc(), 2, steps), Some(steps.len()));
 }
 
-const ROW_OF_ONE_CHIP: [Step; 3] = [
+static ROW_OF_ONE_CHIP: [Step; 3] = [
     Step::Poke(0, 0, 0x000f),
     Step::News(Dir::North, 1, Ok(())),
     Step::Flag(0, 10, 0xf000),
 ];
 
 #[test]
-fn northward_one_chip_sends_its_first_row_to_its_last(rt: HostRuntime) -> Result<(), Fail> {
+fn northward_one_chip_sends_its_first_row_to_its_last(rt: HostRuntime) {
     let steps = ROW_OF_ONE_CHIP.as_slice();
-    assert_eq!(rt; plays::<0>(rt.alloc(), 1, steps)?, steps.len());
-    Ok(())
+    assert_eq!(rt; plays::<0>(rt.alloc(), 1, steps), Some(steps.len()));
 }
 
-const CHAIN: [Step; 5] = [
+static CHAIN: [Step; 5] = [
     Step::Poke(0, 0, 0x8001),
     Step::Chain(0),
     Step::Flag(0, 11, 0x0002),
@@ -69,13 +66,12 @@ const CHAIN: [Step; 5] = [
 ];
 
 #[test]
-fn the_chain_writes_one_flag_and_shows_the_next(rt: HostRuntime) -> Result<(), Fail> {
+fn the_chain_writes_one_flag_and_shows_the_next(rt: HostRuntime) {
     let steps = CHAIN.as_slice();
-    assert_eq!(rt; plays::<0>(rt.alloc(), 1, steps)?, steps.len());
-    Ok(())
+    assert_eq!(rt; plays::<0>(rt.alloc(), 1, steps), Some(steps.len()));
 }
 
-const WIRE: [Step; 5] = [
+static WIRE: [Step; 5] = [
     Step::Wire(false),
     Step::Poke(1, 9, 0x8000),
     Step::Wire(true),
@@ -84,13 +80,12 @@ const WIRE: [Step; 5] = [
 ];
 
 #[test]
-fn one_processor_of_the_second_chip_drives_the_wire(rt: HostRuntime) -> Result<(), Fail> {
+fn one_processor_of_the_second_chip_drives_the_wire(rt: HostRuntime) {
     let steps = WIRE.as_slice();
-    assert_eq!(rt; plays::<1>(rt.alloc(), 2, steps)?, steps.len());
-    Ok(())
+    assert_eq!(rt; plays::<1>(rt.alloc(), 2, steps), Some(steps.len()));
 }
 
-const LONG_STRETCHES: [Step; 11] = [
+static LONG_STRETCHES: [Step; 11] = [
     Step::Poke(1, 0, 0x1248),
     Step::Set(0, 7, 4095),
     Step::Keep,
@@ -105,13 +100,12 @@ const LONG_STRETCHES: [Step; 11] = [
 ];
 
 #[test]
-fn a_stretch_has_at_most_4096_acts(rt: HostRuntime) -> Result<(), Fail> {
+fn a_stretch_has_at_most_4096_acts(rt: HostRuntime) {
     let steps = LONG_STRETCHES.as_slice();
-    assert_eq!(rt; plays::<1>(rt.alloc(), 2, steps)?, steps.len());
-    Ok(())
+    assert_eq!(rt; plays::<1>(rt.alloc(), 2, steps), Some(steps.len()));
 }
 
-const ZERO_FLAGS: [Step; 6] = [
+static ZERO_FLAGS: [Step; 6] = [
     Step::Keep,
     Step::Zero(0, 0),
     Step::Zero(1, 1),
@@ -121,10 +115,9 @@ const ZERO_FLAGS: [Step; 6] = [
 ];
 
 #[test]
-fn flag_8_cannot_be_poked_in_any_chip(rt: HostRuntime) -> Result<(), Fail> {
+fn flag_8_cannot_be_poked_in_any_chip(rt: HostRuntime) {
     let steps = ZERO_FLAGS.as_slice();
-    assert_eq!(rt; plays::<2>(rt.alloc(), 4, steps)?, steps.len());
-    Ok(())
+    assert_eq!(rt; plays::<2>(rt.alloc(), 4, steps), Some(steps.len()));
 }
 
 // ---- refusals
@@ -155,7 +148,7 @@ fn the_dimension_is_refused_before_the_room(rt: HostRuntime) {
     assert_eq!(rt; faults, wanted);
 }
 
-const RUN_FAULTS: [(RunFault, &str); 4] = [
+static RUN_FAULTS: [(RunFault, &str); 4] = [
     (
         RunFault::Long,
         "more than 4,096 acts or 64 petit cycles in one stretch",
@@ -168,7 +161,7 @@ const RUN_FAULTS: [(RunFault, &str); 4] = [
     ),
 ];
 
-const MACHINE_FAULTS: [(MachineFault, &str); 3] = [
+static MACHINE_FAULTS: [(MachineFault, &str); 3] = [
     (MachineFault::Dim, "more than 12 dimensions"),
     (
         MachineFault::Cap,
@@ -202,7 +195,7 @@ const ADDEND: u32 = 0x0123_4567;
 const ADDITIONS: u16 = 124;
 
 /// Chip, processor, and the sum that stands in its first 32 memory bits after the additions.
-const SUMS: [(u16, u8, u64); 7] = [
+static SUMS: [(u16, u8, u64); 7] = [
     (0, 3, 2_367_004_132),
     (63, 3, 2_367_004_132),
     (4095, 3, 2_367_004_132),
@@ -259,26 +252,30 @@ fn poke_addends(machine: &mut Machine<12, 7>) {
 }
 
 /// The place of the first sum that does not stand where it should, or else how many there are.
-fn sums_in(machine: &Machine<12, 7>) -> Result<usize, Fail> {
-    let sum = Field::new(0, 32)?;
+fn sums_in(machine: &Machine<12, 7>) -> Option<usize> {
+    let sum = Field::new(0, 32).ok()?;
     for (place, (chip, proc, wanted)) in SUMS.iter().enumerate() {
         if *chip >= 4096 || *proc >= 16 {
-            return Ok(place);
+            return Some(place);
         }
         if machine.chip(*chip).field(processor(*proc), sum) != *wanted {
-            return Ok(place);
+            return Some(place);
         }
     }
-    Ok(SUMS.len())
+    Some(SUMS.len())
+}
+
+/// How many sums stand where they should.
+fn sums_that_stand(alloc: Global) -> Option<usize> {
+    let acts = additions(alloc).ok()?;
+    let mut machine = Machine::<12, 7>::blank(alloc).ok()?;
+    poke_addends(&mut machine);
+    go_by(&mut Plain, &mut machine, acts.as_slice()).ok()?;
+    sums_in(&machine)
 }
 
 // No clock is read: what took more than the time of a test would fail it.
 #[test]
-fn the_largest_machine_adds_124_times_in_one_stretch(rt: HostRuntime) -> Result<(), Fail> {
-    let mut machine = Machine::<12, 7>::blank(rt.alloc())?;
-    poke_addends(&mut machine);
-    let acts = additions(rt.alloc())?;
-    go_by(&mut Plain, &mut machine, acts.as_slice())?;
-    assert_eq!(rt; sums_in(&machine)?, SUMS.len());
-    Ok(())
+fn the_largest_machine_adds_124_times_in_one_stretch(rt: HostRuntime) {
+    assert_eq!(rt; sums_that_stand(rt.alloc()), Some(SUMS.len()));
 }

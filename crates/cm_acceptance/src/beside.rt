@@ -12,7 +12,6 @@ use cm_bits::Addr;
 use cm_message::{Message, Tag};
 use cm_model::Act;
 use std::alloc::{AllocError, Global};
-use std::test::Fail;
 
 const ROUNDS: u16 = 30;
 
@@ -128,7 +127,7 @@ fn stays_plain_through<const N: usize, const CAP: usize>(
 
 /// Whether a machine goes as a plain one does through rounds of petit cycles, and a buffer was full
 /// after one of them.
-fn stays_plain<const N: usize, const CAP: usize>(alloc: Global, chips: u16) -> Result<bool, Fail>
+fn stays_plain<const N: usize, const CAP: usize>(alloc: Global, chips: u16) -> Option<bool>
     requires dimension { N ≤ 12 }
     requires chips { chips ≡ 2 ^ N }
     requires some { 0 < chips }
@@ -138,65 +137,57 @@ fn stays_plain<const N: usize, const CAP: usize>(alloc: Global, chips: u16) -> R
     let mut was_full = false;
     for _round in 0..ROUNDS {
         poke_both(&mut both, &mut draws, chips);
-        let acts = drawn_acts(alloc, &mut draws)?;
-        if !stays_plain_through(&mut both, alloc, acts.as_slice(), chips)? {
-            return Ok(false);
+        let acts = drawn_acts(alloc, &mut draws).ok()?;
+        if !stays_plain_through(&mut both, alloc, acts.as_slice(), chips).ok()? {
+            return Some(false);
         }
-        if has_full(&both.machine, chips) {
-            was_full = true;
-        }
+        was_full |= has_full(&both.machine, chips);
     }
-    Ok(was_full)
+    Some(was_full)
 }
 
 /// The same of routers with room for 1, 2, 7 and 15 messages.
-fn stay_plain<const N: usize>(alloc: Global, chips: u16) -> Result<[bool; 4], Fail>
+fn stay_plain<const N: usize>(alloc: Global, chips: u16) -> [Option<bool>; 4]
     requires dimension { N ≤ 12 }
     requires chips { chips ≡ 2 ^ N }
     requires some { 0 < chips }
 {
-    Ok([
-        stays_plain::<N, 1>(alloc, chips)?,
-        stays_plain::<N, 2>(alloc, chips)?,
-        stays_plain::<N, 7>(alloc, chips)?,
-        stays_plain::<N, 15>(alloc, chips)?,
-    ])
+    [
+        stays_plain::<N, 1>(alloc, chips),
+        stays_plain::<N, 2>(alloc, chips),
+        stays_plain::<N, 7>(alloc, chips),
+        stays_plain::<N, 15>(alloc, chips),
+    ]
 }
 
 #[test]
-fn one_chip_goes_as_the_plain_router_does(rt: HostRuntime) -> Result<(), Fail> {
-    assert_eq!(rt; stay_plain::<0>(rt.alloc(), 1)?, [true; 4]);
-    Ok(())
+fn one_chip_goes_as_the_plain_router_does(rt: HostRuntime) {
+    assert_eq!(rt; stay_plain::<0>(rt.alloc(), 1), [Some(true); 4]);
 }
 
 #[test]
-fn two_chips_go_as_the_plain_router_does(rt: HostRuntime) -> Result<(), Fail> {
-    assert_eq!(rt; stay_plain::<1>(rt.alloc(), 2)?, [true; 4]);
-    Ok(())
+fn two_chips_go_as_the_plain_router_does(rt: HostRuntime) {
+    assert_eq!(rt; stay_plain::<1>(rt.alloc(), 2), [Some(true); 4]);
 }
 
 #[test]
-fn four_chips_go_as_the_plain_router_does(rt: HostRuntime) -> Result<(), Fail> {
-    assert_eq!(rt; stay_plain::<2>(rt.alloc(), 4)?, [true; 4]);
-    Ok(())
+fn four_chips_go_as_the_plain_router_does(rt: HostRuntime) {
+    assert_eq!(rt; stay_plain::<2>(rt.alloc(), 4), [Some(true); 4]);
 }
 
 #[test]
-fn eight_chips_go_as_the_plain_router_does(rt: HostRuntime) -> Result<(), Fail> {
-    assert_eq!(rt; stay_plain::<3>(rt.alloc(), 8)?, [true; 4]);
-    Ok(())
+fn eight_chips_go_as_the_plain_router_does(rt: HostRuntime) {
+    assert_eq!(rt; stay_plain::<3>(rt.alloc(), 8), [Some(true); 4]);
 }
 
 #[test]
-fn sixteen_chips_go_as_the_plain_router_does(rt: HostRuntime) -> Result<(), Fail> {
-    assert_eq!(rt; stay_plain::<4>(rt.alloc(), 16)?, [true; 4]);
-    Ok(())
+fn sixteen_chips_go_as_the_plain_router_does(rt: HostRuntime) {
+    assert_eq!(rt; stay_plain::<4>(rt.alloc(), 16), [Some(true); 4]);
 }
 
 #[test]
-fn two_blocks_of_chips_go_as_the_plain_router_does(rt: HostRuntime) -> Result<(), Fail> {
-    assert!(rt; stays_plain::<7, 2>(rt.alloc(), 128)?);
-    Ok(())
+fn two_blocks_of_chips_go_as_the_plain_router_does(rt: HostRuntime) {
+    assert_eq!(rt; stays_plain::<7, 2>(rt.alloc(), 128), Some(true));
 }
 
 /// Thirty times: all processors ask to send, all can receive, and a petit cycle.
@@ -235,7 +226,7 @@ fn ask_everywhere<const N: usize, const CAP: usize>(
 fn stays_plain_in_one_list<const N: usize, const CAP: usize>(
     alloc: Global,
     chips: u16,
-) -> Result<bool, Fail>
+) -> Option<bool>
     requires dimension { N ≤ 12 }
     requires chips { chips ≡ 2 ^ N }
     requires some { 0 < chips }
@@ -243,16 +234,15 @@ fn stays_plain_in_one_list<const N: usize, const CAP: usize>(
     let mut both = Both::<N, CAP>::blank(alloc)?;
     let mut draws = Draws::new();
     ask_everywhere(&mut both, &mut draws, chips);
-    let acts = busy_acts(alloc)?;
-    Ok(stays_plain_through(&mut both, alloc, acts.as_slice(), chips)?)
+    let acts = busy_acts(alloc).ok()?;
+    stays_plain_through(&mut both, alloc, acts.as_slice(), chips).ok()
 }
 
 #[test]
-fn messages_get_new_places_within_a_list_of_acts(rt: HostRuntime) -> Result<(), Fail> {
+fn messages_get_new_places_within_a_list_of_acts(rt: HostRuntime) {
     let sizes = [
-        stays_plain_in_one_list::<0, 15>(rt.alloc(), 1)?,
-        stays_plain_in_one_list::<2, 7>(rt.alloc(), 4)?,
+        stays_plain_in_one_list::<0, 15>(rt.alloc(), 1),
+        stays_plain_in_one_list::<2, 7>(rt.alloc(), 4),
     ];
-    assert_eq!(rt; sizes, [true; 2]);
-    Ok(())
+    assert_eq!(rt; sizes, [Some(true); 2]);
 }

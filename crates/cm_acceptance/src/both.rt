@@ -11,7 +11,6 @@ use cm_message::Message;
 use cm_model::Act;
 use cm_plain::PlainRouter;
 use std::alloc::Global;
-use std::test::Fail;
 
 // As many memory bits as a true processor has.
 const ADDRESSES: u16 = 4096;
@@ -24,12 +23,12 @@ pub(crate) struct Both<const N: usize, const CAP: usize> {
 }
 
 impl<const N: usize, const CAP: usize> Both<N, CAP> {
-    pub(crate) fn blank(alloc: Global) -> Result<Self, Fail>
+    pub(crate) fn blank(alloc: Global) -> Option<Self>
         requires dimension { N ≤ 12 }
     {
-        let machine = Machine::blank(alloc)?;
-        let plain = PlainRouter::blank(alloc, ADDRESSES)?;
-        Ok(Both { machine, plain })
+        let machine = Machine::blank(alloc).ok()?;
+        let plain = PlainRouter::blank(alloc, ADDRESSES).ok()?;
+        Some(Both { machine, plain })
     }
 
     /// Makes the processor from which a message comes ask that it be sent.

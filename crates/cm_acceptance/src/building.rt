@@ -8,7 +8,6 @@ use cm_array::{BuildFault, Builder, Machine, MachineFault, Plain, RunFault, Runn
 use cm_bits::Plane;
 use cm_model::Act;
 use std::alloc::Global;
-use std::test::Fail;
 
 /// What is put into a machine that is being built.
 #[derive(Clone, Copy)]
@@ -69,21 +68,17 @@ impl Trial {
 }
 
 /// What is built of these pieces after so many petit cycles.
-fn built(
-    alloc: Global,
-    clock: u64,
-    pieces: &[Piece],
-) -> Result<Result<Machine<1, 2>, BuildFault>, Fail>
+fn built(alloc: Global, clock: u64, pieces: &[Piece]) -> Option<Result<Machine<1, 2>, BuildFault>>
     requires clock { clock < 2 ^ 63 }
 {
-    let builder = Builder::start(alloc, clock)?;
+    let builder = Builder::start(alloc, clock).ok()?;
     let mut trial = Trial { builder };
     for piece in pieces {
         if !trial.takes(*piece) {
-            return Err("a piece does not fit".into());
+            return None;
         }
     }
-    Ok(trial.builder.done())
+    Some(trial.builder.done())
 }
 
 // ---- what was put in stands there
@@ -92,7 +87,7 @@ const FIRST: Letter = Letter(At(0, 0), 4, To(1, 15), 0xffff_ffff);
 
 const SECOND: Letter = Letter(At(1, 15), 0, To(0, 0), 1);
 
-const PIECES: [Piece; 7] = [
+static PIECES: [Piece; 7] = [
     Piece::Plane(1, 4095, 0xffff),
     Piece::Plane(1, 4095, 0x8001),
     Piece::Plane(0, 0, 0x0002),
@@ -125,11 +120,15 @@ fn has_messages(machine: &Machine<1, 2>) -> bool {
     stand && machine.buffer(0).is_empty() && machine.log(0).is_empty() && machine.log(1).is_empty()
 }
 
+/// Whether the pieces stand in the machine that is built of them, and how many petit cycles it counts.
+fn stand(alloc: Global) -> Option<(bool, u64)> {
+    let machine = built(alloc, 5, PIECES.as_slice())?.ok()?;
+    Some((has_pieces(&machine), machine.clock()))
+}
+
 #[test]
-fn planes_and_messages_stand_where_they_were_put(rt: HostRuntime) -> Result<(), Fail> {
-    let machine = built(rt.alloc(), 5, PIECES.as_slice())??;
-    assert_eq!(rt; (has_pieces(&machine), machine.clock()), (true, 5));
-    Ok(())
+fn planes_and_messages_stand_where_they_were_put(rt: HostRuntime) {
+    assert_eq!(rt; stand(rt.alloc()), Some((true, 5)));
 }
 
 // ---- tags
@@ -155,7 +154,7 @@ const EARLIER: Letter = Letter(At(1, 3), 1, To(0, 0), 0);
 
 const LATER: Letter = Letter(At(1, 3), 3, To(0, 0), 0);
 
-const ROWS: [Row; 6] = [
+static ROWS: [Row; 6] = [
     Row {
         name: "at one chip",
         pieces: [
@@ -213,19 +212,19 @@ const ROWS: [Row; 6] = [
 ];
 
 /// The first row that is not so.
-fn first_not_so(alloc: Global, table: &[Row]) -> Result<Option<&'static str>, Fail> {
+fn first_not_so(alloc: Global, table: &[Row]) -> Option<&'static str> {
     for row in table {
-        if built(alloc, 4, row.pieces.as_slice())?.err() != row.fault {
-            return Ok(Some(row.name));
+        let fault = built(alloc, 4, row.pieces.as_slice()).map(|machine| machine.err());
+        if fault != Some(row.fault) {
+            return Some(row.name);
         }
     }
-    Ok(None)
+    None
 }
 
 #[test]
-fn two_messages_of_one_tag_are_refused_wherever_they_stand(rt: HostRuntime) -> Result<(), Fail> {
-    assert_eq!(rt; first_not_so(rt.alloc(), ROWS.as_slice())?, None);
-    Ok(())
+fn two_messages_of_one_tag_are_refused_wherever_they_stand(rt: HostRuntime) {
+    assert_eq!(rt; first_not_so(rt.alloc(), ROWS.as_slice()), None);
 }
 
 // ---- sizes, and the last petit cycle
@@ -252,30 +251,31 @@ fn a_builder_refuses_the_dimension_before_the_room(rt: HostRuntime) {
     assert_eq!(rt; faults, wanted);
 }
 
-/// How a look at the wire and then two petit cycles end that begin after so many, and how many there are then.
-fn ends_after(alloc: Global, clock: u64) -> Result<([Result<(), RunFault>; 3], u64), Fail>
+/// How a look at the wire and then two petit cycles end.
+fn ends(machine: &mut Machine<1, 2>) -> [Result<(), RunFault>; 3] {
+    [
+        Plain.go(machine, &[Act::Sense]),
+        Plain.go(machine, &[Act::Cycle]),
+        Plain.go(machine, &[Act::Cycle]),
+    ]
+}
+
+/// The same of a machine after so many petit cycles, and how many there are then.
+fn ends_after(alloc: Global, clock: u64) -> Option<([Result<(), RunFault>; 3], u64)>
     requires clock { clock < 2 ^ 63 }
 {
-    let mut machine = built(alloc, clock, [].as_slice())??;
-    let ends = [
-        Plain.go(&mut machine, &[Act::Sense]),
-        Plain.go(&mut machine, &[Act::Cycle]),
-        Plain.go(&mut machine, &[Act::Cycle]),
-    ];
-    Ok((ends, machine.clock()))
+    let mut machine = built(alloc, clock, [].as_slice())?.ok()?;
+    Some((ends(&mut machine), machine.clock()))
 }
 
 #[test]
-fn the_count_of_petit_cycles_does_not_pass_its_end(rt: HostRuntime) -> Result<(), Fail> {
+fn the_count_of_petit_cycles_does_not_pass_its_end(rt: HostRuntime) {
     let end = (1 << 63) - 1;
     let late = Err(RunFault::Clock);
-    let ends = [
-        ends_after(rt.alloc(), end)?,
-        ends_after(rt.alloc(), end - 1)?,
+    let ends = [ends_after(rt.alloc(), end), ends_after(rt.alloc(), end - 1)];
+    let wanted = [
+        Some(([Ok(()), late, late], end)),
+        Some(([Ok(()), Ok(()), late], end)),
     ];
-    assert_eq!(rt;
-        ends,
-        [([Ok(()), late, late], end), ([Ok(()), Ok(()), late], end)]
-    );
-    Ok(())
+    assert_eq!(rt; ends, wanted);
 }

@@ -14,8 +14,6 @@ mod building;
 #[cfg(test)]
 mod draws;
 #[cfg(test)]
-mod largest;
-#[cfg(test)]
 mod machines;
 #[cfg(test)]
 mod nodes;

@@ -57,7 +57,7 @@ enum Turn {
     Payload(u8, u32),
 }
 
-const CASES: &[Case] = &[
+static CASES: [Case; 5] = [
     Case {
         name: "a record is taken in, leaves as it arrives across, and is delivered",
         room: 1,
@@ -179,7 +179,7 @@ const CASES: &[Case] = &[
 
 /// The name of the first case that does not go as it says, and the place of the turn.
 fn failing(alloc: Global) -> Result<Option<(&'static str, usize)>, Fail> {
-    for case in CASES {
+    for case in &CASES {
         let place = case.plays(alloc)?;
         if place < case.turns.len() {
             return Ok(Some((case.name, place)));

@@ -10,7 +10,6 @@ use cm_bits::{Field, FlagNo, Plane, Proc};
 use cm_message::{Event, Message, Tag};
 use cm_model::{Act, Found};
 use std::alloc::{AllocError, Global};
-use std::test::Fail;
 
 /// A processor, by the number of its chip and its own.
 #[derive(Clone, Copy)]
@@ -80,17 +79,17 @@ pub(crate) fn plays<const N: usize, const CAP: usize>(
     alloc: Global,
     chips: u16,
     steps: &[Step],
-) -> Result<usize, Fail>
+) -> Option<usize>
     requires dimension { N ≤ 12 }
     requires chips { chips ≡ 2 ^ N }
 {
     let mut both = Both::<N, CAP>::blank(alloc)?;
     for place in 0..steps.len() {
-        if !steps[place].is_so(&mut both, alloc, chips)? {
-            return Ok(place);
+        if !steps[place].is_so(&mut both, alloc, chips).ok()? {
+            return Some(place);
         }
     }
-    Ok(steps.len())
+    Some(steps.len())
 }
 
 impl Step {

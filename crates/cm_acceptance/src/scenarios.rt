@@ -8,7 +8,7 @@ use crate::scenario::Step::{
 use crate::scenario::{At, Letter, Scenario, To};
 
 /// One chip.
-pub(crate) const OF_ONE_CHIP: &[Scenario] = &[
+pub(crate) static OF_ONE_CHIP: [Scenario; 4] = [
     Scenario {
         name: "four senders are taken in a cycle, by number, and one message is delivered",
         room: 7,
@@ -110,7 +110,7 @@ pub(crate) const OF_ONE_CHIP: &[Scenario] = &[
 ];
 
 /// Two chips.
-pub(crate) const OF_TWO_CHIPS: &[Scenario] = &[
+pub(crate) static OF_TWO_CHIPS: [Scenario; 8] = [
     Scenario {
         name: "a message crosses to its processor in one cycle",
         room: 1,
@@ -288,7 +288,7 @@ pub(crate) const OF_TWO_CHIPS: &[Scenario] = &[
 ];
 
 /// Four chips.
-pub(crate) const OF_FOUR_CHIPS: &[Scenario] = &[
+pub(crate) static OF_FOUR_CHIPS: [Scenario; 6] = [
     Scenario {
         name: "a message wanders for ever where there is room for one",
         room: 1,
@@ -415,7 +415,7 @@ pub(crate) const OF_FOUR_CHIPS: &[Scenario] = &[
 ];
 
 /// Two hundred and fifty-six chips.
-pub(crate) const OF_256_CHIPS: &[Scenario] = &[Scenario {
+pub(crate) static OF_256_CHIPS: [Scenario; 1] = [Scenario {
     name: "messages wake chips far apart",
     room: 2,
     steps: &[

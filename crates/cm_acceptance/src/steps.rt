@@ -10,7 +10,6 @@ use cm_bits::{Dir, FlagNo, Plane};
 use cm_model::{Act, Nano};
 use cm_wire::chip_or;
 use std::alloc::{AllocError, Global};
-use std::test::Fail;
 
 /// What is done to a machine, or what has to be so of it.
 #[derive(Clone, Copy)]
@@ -163,20 +162,16 @@ impl<const N: usize> Trial<N> {
 }
 
 /// The place of the first step that does not go as it says, or else how many steps there are.
-pub(crate) fn plays<const N: usize>(
-    alloc: Global,
-    chips: u16,
-    steps: &[Step],
-) -> Result<usize, Fail>
+pub(crate) fn plays<const N: usize>(alloc: Global, chips: u16, steps: &[Step]) -> Option<usize>
     requires chips { chips ≡ 2 ^ N }
 {
-    let mut trial = Trial::<N>::blank(alloc)?;
+    let mut trial = Trial::<N>::blank(alloc).ok()?;
     for (place, step) in steps.iter().enumerate() {
         if !step.is_so(&mut trial, alloc, chips) {
-            return Ok(place);
+            return Some(place);
         }
     }
-    Ok(steps.len())
+    Some(steps.len())
 }
 
 /// What a caller knows of any runner.

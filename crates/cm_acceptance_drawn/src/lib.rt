@@ -1,4 +1,4 @@
-//! Drawn debugger sessions beside a plain program; it has no code of its own.
+//! Drawn debugger sessions beside a plain program, and the order of their reads and writes; it has no code of its own.
 #![tactic(auto)]
 
 #[cfg(test)]
@@ -7,6 +7,8 @@ mod asked;
 mod draws;
 #[cfg(test)]
 mod images;
+#[cfg(test)]
+mod order;
 #[cfg(test)]
 mod plain;
 #[cfg(test)]

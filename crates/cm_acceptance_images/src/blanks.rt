@@ -5,19 +5,19 @@ use std::alloc::Global;
 use std::test::Fail;
 
 /// One chip, room for seven messages: the header, then sixteen flags, and no plane and no message.
-const ONE_CHIP: [u8; 51] = [
+static ONE_CHIP: [u8; 51] = [
     0x43, 0x4d, 0x31, 0x49, 1, 0, 7, 0, 0, 0, 0, 0, 0, 0, 0, 0, 0, 0, 0, 0, 0, 0, 0, 0, 0, 0, 0, 0,
     0, 0, 0, 0, 0, 0, 0, 0, 0, 0, 0, 0, 0, 0, 0, 0, 0, 0, 0, 0, 0, 0, 0,
 ];
 
 /// The same with room for one.
-const ONE_CHIP_OF_ONE: [u8; 51] = [
+static ONE_CHIP_OF_ONE: [u8; 51] = [
     0x43, 0x4d, 0x31, 0x49, 1, 0, 1, 0, 0, 0, 0, 0, 0, 0, 0, 0, 0, 0, 0, 0, 0, 0, 0, 0, 0, 0, 0, 0,
     0, 0, 0, 0, 0, 0, 0, 0, 0, 0, 0, 0, 0, 0, 0, 0, 0, 0, 0, 0, 0, 0, 0,
 ];
 
 /// A dimension and a room, and how many bytes there are.
-const SIZES: [(u8, u8, usize); 7] = [
+static SIZES: [(u8, u8, usize); 7] = [
     (0, 7, 51),
     (0, 1, 51),
     (1, 7, 86),
@@ -28,7 +28,7 @@ const SIZES: [(u8, u8, usize); 7] = [
 ];
 
 /// A dimension and a room, and why there is no image.
-const REFUSED: [(u8, u8, ProgramFault); 9] = [
+static REFUSED: [(u8, u8, ProgramFault); 9] = [
     (13, 7, ProgramFault::BadLine),
     (255, 1, ProgramFault::BadLine),
     (13, 2, ProgramFault::BadLine),
@@ -48,7 +48,8 @@ fn are_blank(bytes: &[u8], n: u8, cap: u8) -> bool {
 
 /// The dimension and room of the first row that is not so.
 fn first_not_so(alloc: Global) -> Option<(u8, u8)> {
-    for (n, cap, len) in SIZES {
+    for row in &SIZES {
+        let (n, cap, len) = *row;
         let is_so = match fresh(alloc, n, cap) {
             Ok(image) => image.len() == len && are_blank(image.as_slice(), n, cap),
             Err(_) => false,
@@ -57,7 +58,8 @@ fn first_not_so(alloc: Global) -> Option<(u8, u8)> {
             return Some((n, cap));
         }
     }
-    for (n, cap, fault) in REFUSED {
+    for row in &REFUSED {
+        let (n, cap, fault) = *row;
         if fresh(alloc, n, cap).err() != Some(fault) {
             return Some((n, cap));
         }

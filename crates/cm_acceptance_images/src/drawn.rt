@@ -7,23 +7,22 @@ use cm_array::{Builder, Machine};
 use cm_bits::{Addr, FlagNo, Proc};
 use cm_message::{Message, Tag};
 use std::alloc::Global;
-use std::test::Fail;
 
 /// A machine of so many chips with few planes and flags, and messages at each chip.
 pub(crate) fn few<const N: usize, const CAP: usize>(
     alloc: Global,
     draws: &mut Draws,
     chips: u16,
-) -> Result<Machine<N, CAP>, Fail>
+) -> Option<Machine<N, CAP>>
     requires cube { chips ≡ 2 ^ N }
 {
     let clock = 5 + u64::from(draws.below(1000));
-    let mut builder = Builder::<N, CAP>::start(alloc, clock)?;
+    let mut builder = Builder::<N, CAP>::start(alloc, clock).ok()?;
     for chip in 0..chips {
         put_planes(&mut builder, draws, chip);
         put_messages(&mut builder, draws, chip, chips);
     }
-    Ok(builder.done()?)
+    builder.done().ok()
 }
 
 /// The same where on each chip processors ask to send messages.
@@ -31,17 +30,17 @@ pub(crate) fn asking<const N: usize, const CAP: usize>(
     alloc: Global,
     draws: &mut Draws,
     chips: u16,
-) -> Result<Machine<N, CAP>, Fail>
+) -> Option<Machine<N, CAP>>
     requires cube { chips ≡ 2 ^ N }
 {
     let clock = 5 + u64::from(draws.below(1000));
-    let mut builder = Builder::<N, CAP>::start(alloc, clock)?;
+    let mut builder = Builder::<N, CAP>::start(alloc, clock).ok()?;
     for chip in 0..chips {
         put_planes(&mut builder, draws, chip);
         put_messages(&mut builder, draws, chip, chips);
         put_records(&mut builder, draws, chip);
     }
-    Ok(builder.done()?)
+    builder.done().ok()
 }
 
 fn put_planes<const N: usize, const CAP: usize>(

@@ -12,7 +12,7 @@ use std::alloc::Global;
 use std::test::Fail;
 
 /// Two chips, room for one message, counter 1; a message with one tag at each.
-const TWO_CHIPS: [u8; 122] = [
+static TWO_CHIPS: [u8; 122] = [
     0x43, 0x4d, 0x31, 0x49, 1, 1, 1, 0, 0, 0, 0, 0, 0, 0, 0, 1, 0, 0, 0, 0, 0, 0, 0, 0, 0, 0, 0, 0,
     0, 0, 0, 0, 0, 0, 0, 0, 0, 0, 0, 0, 0, 0, 0, 0, 0, 0, 0, 0, 0, 0, 1, 0, 0, 0, 0, 0, 0, 0, 0, 0,
     0, 0, 0, 0, 0, 0, 0, 0, 0, 0, 0, 0, 0, 0, 0, 0, 0, 0, 0, 0, 0, 0, 0, 0, 0, 0, 0, 0, 0, 0, 0, 0,
@@ -20,7 +20,7 @@ const TWO_CHIPS: [u8; 122] = [
 ];
 
 /// One message, of bytes that are all 0.
-const ONE_MESSAGE: [u8; 19] = [1, 0, 0, 0, 0, 0, 0, 0, 0, 0, 0, 0, 0, 0, 0, 0, 0, 0, 0];
+static ONE_MESSAGE: [u8; 19] = [1, 0, 0, 0, 0, 0, 0, 0, 0, 0, 0, 0, 0, 0, 0, 0, 0, 0, 0];
 
 /// How many bytes of the two chips are not refused as Short when they stand alone.
 fn first_not_short(alloc: Global) -> Result<usize, Fail> {
@@ -72,11 +72,11 @@ fn drawn<const N: usize, const CAP: usize>(
     alloc: Global,
     draws: &mut Draws,
     chips: u16,
-) -> Result<Vec<u8>, Fail>
+) -> Option<Vec<u8>>
     requires cube { chips ≡ 2 ^ N }
 {
     let machine = few::<N, CAP>(alloc, draws, chips)?;
-    Ok(dump(alloc, &machine)?)
+    dump(alloc, &machine).ok()
 }
 
 /// Whether an image and twenty damages of it go as by a plain reader.
@@ -109,7 +109,7 @@ fn all_go_so<const N: usize, const CAP: usize>(
 {
     let mut draws = Draws::new(7);
     for i in 0..images {
-        let whole = drawn::<N, CAP>(alloc, &mut draws, chips)?;
+        let whole = drawn::<N, CAP>(alloc, &mut draws, chips).ok_or("no image")?;
         if !go_so::<N, CAP>(alloc, &mut draws, &whole)? {
             return Ok(i);
         }

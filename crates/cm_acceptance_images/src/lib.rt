@@ -24,6 +24,4 @@ mod reader;
 #[cfg(test)]
 mod shapes;
 #[cfg(test)]
-mod speed;
-#[cfg(test)]
 mod texts;

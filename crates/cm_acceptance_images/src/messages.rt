@@ -5,7 +5,7 @@ use cm_message::{Message, Tag, bytes, of_bytes};
 use std::test::Fail;
 
 /// For processor 5 of the same chip, from processor 0 of chip 0 in petit cycle 0.
-const WORKED: [u8; 18] = [
+static WORKED: [u8; 18] = [
     0, 1, 5, 0xde, 0xad, 0xbe, 0xef, 0, 0, 0, 0, 0, 0, 0, 0, 0, 0, 0,
 ];
 
@@ -25,7 +25,7 @@ struct Row {
     is_message: bool,
 }
 
-const CHANGES: [Row; 5] = [
+static CHANGES: [Row; 5] = [
     Row {
         name: "no change",
         at: 0,

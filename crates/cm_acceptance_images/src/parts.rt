@@ -20,7 +20,7 @@ const MEMORY: usize = 48;
 
 const MESSAGES: usize = 50;
 
-const ROWS: [Row; 26] = [
+static ROWS: [Row; 26] = [
     Row {
         name: "no change",
         at: 0,

@@ -5,7 +5,7 @@ use std::alloc::Global;
 use std::test::Fail;
 
 /// One chip, room for seven messages, counter 0.
-const BLANK: [u8; 16] = [0x43, 0x4d, 0x31, 0x49, 1, 0, 7, 0, 0, 0, 0, 0, 0, 0, 0, 0];
+static BLANK: [u8; 16] = [0x43, 0x4d, 0x31, 0x49, 1, 0, 7, 0, 0, 0, 0, 0, 0, 0, 0, 0];
 
 struct Row {
     name: &'static str,
@@ -18,7 +18,7 @@ struct Row {
     whole: Option<ImageFault>,
 }
 
-const ROWS: [Row; 14] = [
+static ROWS: [Row; 14] = [
     Row {
         name: "whole",
         len: 16,

@@ -3,7 +3,7 @@
 use std::alloc::{AllocError, Global};
 
 /// One chip, room for seven messages, counter 1.
-pub(crate) const ONE_CHIP: [u8; 51] = [
+pub(crate) static ONE_CHIP: [u8; 51] = [
     0x43, 0x4d, 0x31, 0x49, 1, 0, 7, 0, 0, 0, 0, 0, 0, 0, 0, 1, 0, 0, 0, 0, 0, 0, 0, 0, 0, 0, 0, 0,
     0, 0, 0, 0, 0, 0, 0, 0, 0, 0, 0, 0, 0, 0, 0, 0, 0, 0, 0, 0, 0, 0, 0,
 ];

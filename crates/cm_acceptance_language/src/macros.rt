@@ -11,11 +11,11 @@ use cm_macros::expand;
 use std::alloc::Global;
 use std::test::Fail;
 
-pub(crate) fn processor(number: u8) -> Proc {
+fn processor(number: u8) -> Proc {
     Proc::new(number % 16).unwrap()
 }
 
-pub(crate) fn flag(number: u16) -> FlagNo {
+fn flag(number: u16) -> FlagNo {
     FlagNo::new((number % 16) as u8).unwrap()
 }
 

@@ -44,7 +44,7 @@ impl<'a> Ends<'a> {
 }
 
 /// A text, the faulty line and its fault; nothing is written.
-const REFUSED: [(&[u8], u64, AsmKind); 15] = [
+static REFUSED: [(&[u8], u64, AsmKind); 15] = [
     (b"field x 0 65", 1, AsmKind::Width),
     (b"cycle\nfield x 4090 8\n", 2, AsmKind::Range),
     (b"field x 0 8\nfield y 4 8\nadd x y\n", 3, AsmKind::Overlap),
@@ -68,7 +68,8 @@ const REFUSED: [(&[u8], u64, AsmKind); 15] = [
 
 #[test]
 fn a_refused_text_is_told_and_nothing_is_written(rt: HostRuntime) -> Result<(), Fail> {
-    for (i, (text, line, kind)) in REFUSED.into_iter().enumerate() {
+    for (i, row) in REFUSED.iter().enumerate() {
+        let (text, line, kind) = *row;
         let answer = Err(ProgramFault::Text(AsmFault { line, kind }));
         let so = Ends::whole(text).end_so(rt.alloc(), answer, b"")?;
         assert!(rt; so, "in row {i}");
@@ -141,7 +142,7 @@ fn pieces_full_sinks_and_failed_reads_are_told_as_they_are(rt: HostRuntime) -> R
 
 /// A first line, so many bytes of a comment after it, of which so many come where the source fails,
 /// and how the listing ends; nothing is written.
-const LONG: [(&[u8], usize, Option<usize>, Result<(), ProgramFault>); 4] = [
+static LONG: [(&[u8], usize, Option<usize>, Result<(), ProgramFault>); 4] = [
     (b";", 16777215, None, Ok(())),
     (b"jump;", 16777212, None, Err(ProgramFault::TooMuch)),
     (
@@ -158,7 +159,8 @@ const LONG: [(&[u8], usize, Option<usize>, Result<(), ProgramFault>); 4] = [
 
 #[test]
 fn a_text_is_read_to_its_end_or_16777216_bytes(rt: HostRuntime) -> Result<(), Fail> {
-    for (i, (first, more, good, answer)) in LONG.into_iter().enumerate() {
+    for (i, row) in LONG.iter().enumerate() {
+        let (first, more, good, answer) = *row;
         let mut text = Vec::from_slice(rt.alloc(), first)?;
         let comment = vec![in rt.alloc(); b'.'; more]?;
         text.extend_from_slice(comment.as_slice())?;

@@ -15,7 +15,7 @@ use std::alloc::Global;
 use std::test::Fail;
 
 // Room of a router, and where the drawing starts.
-const CASES: [(u8, u64); 4] = [(1, 21), (2, 22), (7, 23), (15, 24)];
+static CASES: [(u8, u64); 4] = [(1, 21), (2, 22), (7, 23), (15, 24)];
 
 const CYCLES: u64 = 6;
 
@@ -457,8 +457,8 @@ fn begins_anywhere(alloc: Global, case: (u8, u64)) -> Result<bool, Fail> {
 
 #[test]
 fn two_halves_go_as_the_whole_does(rt: HostRuntime) -> Result<(), Fail> {
-    for case in CASES {
-        assert!(&rt; halves_go_alike(rt.alloc(), case)?, "{case:?}");
+    for case in &CASES {
+        assert!(&rt; halves_go_alike(rt.alloc(), *case)?, "{case:?}");
     }
     Ok(())
 }
@@ -473,8 +473,8 @@ fn chips_8_to_15_go_alone_as_the_whole_does_there(rt: HostRuntime) -> Result<(),
 
 #[test]
 fn a_run_that_begins_at_5_has_other_tags(rt: HostRuntime) -> Result<(), Fail> {
-    for case in CASES {
-        assert!(&rt; begins_anywhere(rt.alloc(), case)?, "{case:?}");
+    for case in &CASES {
+        assert!(&rt; begins_anywhere(rt.alloc(), *case)?, "{case:?}");
     }
     Ok(())
 }

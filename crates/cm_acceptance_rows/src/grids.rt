@@ -6,7 +6,7 @@ use std::alloc::Global;
 use std::test::Fail;
 
 // Dimensions, direction, chip and processor that send, chip and processor that get it.
-const STEPS: [(u8, Dir, usize, u32, usize, u32); 15] = [
+static STEPS: [(u8, Dir, usize, u32, usize, u32); 15] = [
     (0, Dir::North, 0, 0, 0, 12),
     (0, Dir::South, 0, 15, 0, 3),
     (0, Dir::West, 0, 4, 0, 7),
@@ -54,8 +54,8 @@ fn goes_so(alloc: Global, step: (u8, Dir, usize, u32, usize, u32)) -> Result<boo
 
 #[test]
 fn a_bit_goes_to_the_neighbour_round_the_torus(rt: HostRuntime) -> Result<(), Fail> {
-    for step in STEPS {
-        assert!(&rt; goes_so(rt.alloc(), step)?, "{step:?}");
+    for step in &STEPS {
+        assert!(&rt; goes_so(rt.alloc(), *step)?, "{step:?}");
     }
     Ok(())
 }

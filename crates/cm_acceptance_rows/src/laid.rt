@@ -6,7 +6,7 @@ use std::alloc::Global;
 use std::test::Fail;
 
 // How many chips one run has, the place in it, how many the other has, the first of them, how many are laid.
-const LAYS: [(u16, u16, u16, u16, u16); 7] = [
+static LAYS: [(u16, u16, u16, u16, u16); 7] = [
     (1, 0, 1, 0, 1),
     (5, 3, 4, 1, 2),
     (5, 0, 4, 0, 4),
@@ -77,8 +77,8 @@ fn is_laid(alloc: Global, lay: (u16, u16, u16, u16, u16)) -> Result<bool, Fail> 
 
 #[test]
 fn chips_are_laid_and_the_others_stay(rt: HostRuntime) -> Result<(), Fail> {
-    for lay in LAYS {
-        assert!(&rt; is_laid(rt.alloc(), lay)?, "{lay:?}");
+    for lay in &LAYS {
+        assert!(&rt; is_laid(rt.alloc(), *lay)?, "{lay:?}");
     }
     Ok(())
 }

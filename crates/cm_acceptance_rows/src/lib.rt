@@ -18,6 +18,4 @@ mod queues;
 #[cfg(test)]
 mod runs;
 #[cfg(test)]
-mod speed;
-#[cfg(test)]
 mod wide;

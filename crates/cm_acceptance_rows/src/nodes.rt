@@ -10,7 +10,7 @@ use std::alloc::Global;
 use std::test::Fail;
 
 // Dimensions, room of a router, and where the drawing starts.
-const CASES: [(u8, u8, u64); 5] = [(0, 7, 41), (1, 1, 42), (3, 2, 43), (4, 1, 44), (4, 15, 45)];
+static CASES: [(u8, u8, u64); 5] = [(0, 7, 41), (1, 1, 42), (3, 2, 43), (4, 1, 44), (4, 15, 45)];
 
 const CYCLES: u64 = 6;
 
@@ -101,8 +101,8 @@ fn go_alike(alloc: Global, case: (u8, u8, u64)) -> Result<bool, Fail> {
 
 #[test]
 fn nodes_go_as_a_machines_messages_do(rt: HostRuntime) -> Result<(), Fail> {
-    for case in CASES {
-        assert!(&rt; go_alike(rt.alloc(), case)?, "{case:?}");
+    for case in &CASES {
+        assert!(&rt; go_alike(rt.alloc(), *case)?, "{case:?}");
     }
     Ok(())
 }

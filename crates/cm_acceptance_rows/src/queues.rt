@@ -6,7 +6,7 @@ use std::test::Fail;
 
 // Of how many dimensions the cube is, the room at a chip, most tickets that come to a chip in a round, and
 // where the drawing starts.
-const CASES: [(u8, u8, u64, u64); 9] = [
+static CASES: [(u8, u8, u64, u64); 9] = [
     (0, 3, 2, 11),
     (1, 1, 1, 12),
     (3, 2, 2, 13),
@@ -208,8 +208,8 @@ fn go_alike(alloc: Global, case: (u8, u8, u64, u64)) -> Result<bool, Fail> {
 
 #[test]
 fn tickets_go_as_plain_lists_do(rt: HostRuntime) -> Result<(), Fail> {
-    for case in CASES {
-        assert!(&rt; go_alike(rt.alloc(), case)?, "{case:?}");
+    for case in &CASES {
+        assert!(&rt; go_alike(rt.alloc(), *case)?, "{case:?}");
     }
     Ok(())
 }

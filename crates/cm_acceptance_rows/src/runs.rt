@@ -9,10 +9,10 @@ use std::alloc::Global;
 use std::test::Fail;
 
 // Fewer than a block, whole blocks, and words after them; from 128 on rows lie further apart.
-const COUNTS: [u16; 6] = [0, 1, 31, 33, 64, 130];
+static COUNTS: [u16; 6] = [0, 1, 31, 33, 64, 130];
 
 // The macros' pairs of tables, the tables that they use alone, and others.
-const TABLES: [(u8, u8); 14] = [
+static TABLES: [(u8, u8); 14] = [
     (0x96, 0xe8),
     (0x69, 0xb2),
     (0xf0, 0x8e),
@@ -246,8 +246,8 @@ fn same_steps(alloc: Global, count: u16, most: u32) -> Result<u32, Fail> {
 
 #[test]
 fn a_run_takes_the_steps_and_pokes_of_its_chips(rt: HostRuntime) -> Result<(), Fail> {
-    for count in COUNTS {
-        assert_eq!(rt; same_steps(rt.alloc(), count, 400)?, 400, "{count}");
+    for count in &COUNTS {
+        assert_eq!(rt; same_steps(rt.alloc(), *count, 400)?, 400, "{count}");
     }
     Ok(())
 }

@@ -6,7 +6,7 @@ use std::alloc::Global;
 use std::test::Fail;
 
 // A full adder's tables at one place: table, wanted.
-const SUMS: [(u8, Plane); 2] = [(0x96, 0x3cc3), (0xe8, 0x033f)];
+static SUMS: [(u8, Plane); 2] = [(0x96, 0x3cc3), (0xe8, 0x033f)];
 
 const LENGTHS: [usize; 9] = [0, 1, 7, 8, 9, 31, 32, 33, 4096];
 
@@ -23,13 +23,13 @@ fn drawn(alloc: Global, count: usize, seed: u32) -> Result<Vec<Plane>, NoMemory>
 }
 
 // The first place at which a row is not what the table says, or its length.
-fn differs_at(table: u8, a: &[Plane], b: &[Plane], f: &[Plane], found: &[Plane]) -> usize {
+fn differs_at(table: u8, old: &[Plane], b: &[Plane], f: &[Plane], new: &[Plane]) -> usize {
     let mut place = 0;
-    for (((a, b), f), word) in a.iter().zip(b).zip(f).zip(found) {
-        if apply(table, *a, *b, *f) != *word {
+    for (((a, b), f), found) in old.iter().zip(b).zip(f).zip(new) {
+        if apply(table, *a, *b, *f) != *found {
             return place;
         }
-        if place < found.len() {
+        if place < old.len() {
             place += 1;
         }
     }
@@ -37,23 +37,24 @@ fn differs_at(table: u8, a: &[Plane], b: &[Plane], f: &[Plane], found: &[Plane])
 }
 
 fn looks_up(alloc: Global, table: u8, length: usize) -> Result<bool, Fail> {
-    let a = drawn(alloc, length, 1985)?;
+    let old = drawn(alloc, length, 1985)?;
+    let mut a = drawn(alloc, length, 1985)?;
     let b = drawn(alloc, length, 12)?;
     let f = drawn(alloc, length, 65_536)?;
-    let mut found = drawn(alloc, length, 1)?;
-    if a.len() != found.len() || b.len() != found.len() || f.len() != found.len() {
+    if a.len() != b.len() || a.len() != f.len() {
         return Ok(false);
     }
-    apply_wide(table, &a, &b, &f, &mut found);
-    Ok(differs_at(table, &a, &b, &f, &found) == length)
+    apply_wide(table, &mut a, &b, &f);
+    Ok(differs_at(table, &old, &b, &f, &a) == length)
 }
 
 #[test]
 fn a_row_of_one_plane_adds(rt: HostRuntime) {
-    for (table, want) in SUMS {
-        let mut found = [0];
-        apply_wide(table, &[0x00ff], &[0x0f0f], &[0x3333], &mut found);
-        assert_eq!(rt; found[0], want);
+    for row in &SUMS {
+        let (table, want) = *row;
+        let mut a = [0x00ff];
+        apply_wide(table, &mut a, &[0x0f0f], &[0x3333]);
+        assert_eq!(rt; a[0], want);
     }
 }
 

@@ -10,7 +10,7 @@ use crate::block::choice_of;
 use crate::places::Places;
 use cm_bits::Plane;
 use cm_daisy::previous;
-use cm_truth::apply_wide;
+use cm_truth::apply_into;
 
 /// What the processors of some words, from one of the row on, are to store.
 pub(crate) fn find_outputs(
@@ -57,7 +57,7 @@ fn look_up(
     let b = at.b + from;
     let f = at.read + from;
     let count = found.len();
-    apply_wide(
+    apply_into(
         table,
         &memory[a..a + count],
         &memory[b..b + count],

@@ -14,7 +14,7 @@ mod wide;
 pub use alone::apply_alone;
 use cm_bits::Plane;
 pub use lanes::apply_lanes;
-pub use wide::apply_wide;
+pub use wide::{apply_into, apply_wide};
 
 /// Four planes, of which two further planes choose one at each bit.
 #[derive(Clone, Copy)]

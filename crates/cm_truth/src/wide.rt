@@ -1,4 +1,4 @@
-//! The same lookup over rows of planes, in a loop of its own for each table.
+//! The same lookup over rows of planes: in place, or into another row in a loop of its own for each table.
 
 ghost use Rattle.std.specs.Prelude.{◌≡◌, ◌+◌, ◌*◌, ◌<◌, length};
 ghost use Rattle.cm_truth.specs.Lookup.{IsLookedUp};
@@ -31,8 +31,19 @@ macro_rules! by_half {
     };
 }
 
-/// Looks a table up at each place of three rows of planes, and puts the outputs into another.
-pub fn apply_wide(table: u8, a: &[Plane], b: &[Plane], f: &[Plane], out: &mut [Plane])
+/// Looks a table up at each place of three rows of planes, and puts the outputs into the first.
+pub fn apply_wide(table: u8, a: &mut [Plane], b: &[Plane], f: &[Plane])
+    requires b { length b.now ≡ length a.old }
+    requires f { length f.now ≡ length a.old }
+    ensures value { IsLookedUp table a.old b.now f.now a.new }
+{
+    for k in 0..a.len() {
+        a[k] = apply(table, a[k], b[k], f[k]);
+    }
+}
+
+/// The same, with the outputs into another row.
+pub fn apply_into(table: u8, a: &[Plane], b: &[Plane], f: &[Plane], out: &mut [Plane])
     requires a { length a.now ≡ length out.old }
     requires b { length b.now ≡ length out.old }
     requires f { length f.now ≡ length out.old }

@@ -15,7 +15,7 @@ use crate::word::{chosen, holding};
 use cm_bits::{FlagNo, Plane};
 use cm_model::Nano;
 use cm_rows::Places;
-use cm_truth::apply_wide;
+use cm_truth::apply_into;
 
 const ADDRESSES: usize = 4096;
 
@@ -93,7 +93,7 @@ pub(crate) fn look_up_row(
     let at = places(nano, stride);
     let a = memory.row(usize::from(nano.a.get()), stride, chips);
     let b = memory.row(usize::from(nano.b.get()), stride, chips);
-    apply_wide(table, a, b, &flags[at.read..at.read + chips], found);
+    apply_into(table, a, b, &flags[at.read..at.read + chips], found);
 }
 
 /// One instruction in all chips of the rows, when these planes come in over NEWS or DAISY. They are

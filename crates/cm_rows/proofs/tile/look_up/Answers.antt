@@ -15,7 +15,7 @@ returns c =
     record {
       value = λ k h p below.
           let here = length-part memory a (a + count - a) (omega (arith, c.requires.a)) in
-          c.apply_wide.ensures.value.each k (omega (arith, here, h)) p below
+          c.apply_into.ensures.value.each k (omega (arith, here, h)) p below
           ∙ (λ i. entry c.args.table (bit (get_or-part memory a (a + count - a) k (omega (arith, h)) i) p)
           (bit (get_or-part memory b (b + count - b) k (omega (arith, h)) i) p)
           (bit (get_or-part flags f (f + count - f) k (omega (arith, h)) i) p));

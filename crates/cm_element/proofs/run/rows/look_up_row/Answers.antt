@@ -24,8 +24,8 @@ returns c =
             let f = get_or-take (read + c.args.chips - read) (drop read c.args.flags.now) chip 0 (omega (arith, here))
             ∙ get_or-drop read c.args.flags.now chip 0 in
             chip_looked_up c.args.table c.args.nano.now memory c.args.flags.now c.args.stride c.args.chips chip
-            c.places-at.result (get_or c.apply_wide.new.out chip 0) p places here below
-            (c.apply_wide.ensures.value.each chip (omega (arith, here, c.row-a.ensures.count)) p below
+            c.places-at.result (get_or c.apply_into.new.out chip 0) p places here below
+            (c.apply_into.ensures.value.each chip (omega (arith, here, c.row-a.ensures.count)) p below
             ∙ (λ j. entry c.args.table (bit (a j) p) (bit (b j) p) (bit (f j) p)));
       };
     }

@@ -1,0 +1,147 @@
+//! What comes of a scene.
+
+ghost use Rattle.std.specs.Prelude.{◌≡◌, false};
+ghost use Rattle.cm_bits.specs.Doubles.{room_has_failed};
+
+use crate::refusing::Refusing;
+use crate::scene::Scene;
+use cm_array::{Builder, Machine};
+use cm_asm::{Program, assemble};
+use cm_bits::doubles::{Bytes, Room};
+use cm_bits::read_number;
+use cm_debug::{SessionFault, read_command, session};
+use std::alloc::{AllocError, Global};
+
+/// Tells a line.
+pub(crate) fn tell(told: &mut Vec<u8>, line: &[u8]) -> Result<(), AllocError> {
+    told.extend_from_slice(line)?;
+    told.push(b'\n')?;
+    Ok(())
+}
+
+/// Tells how many acts the program has, or its first fault.
+pub(crate) fn count(alloc: Global, scene: &Scene, told: &mut Vec<u8>) -> Result<(), AllocError> {
+    let count = assemble(alloc, scene.program.as_slice()).map(|program| program.acts().len());
+    tell(told, format!(in alloc; "{count:?}")?.as_bytes())
+}
+
+/// Tells the program's listing.
+pub(crate) fn listing(alloc: Global, scene: &Scene, told: &mut Vec<u8>) -> Result<(), AllocError> {
+    let Ok(program) = assemble(alloc, scene.program.as_slice()) else {
+        return tell(told, b"the program is refused");
+    };
+    let Ok(text) = program.listing(alloc) else {
+        return Err(AllocError);
+    };
+    told.extend_from_slice(text.as_slice())?;
+    Ok(())
+}
+
+/// Tells what a line of commands asks for.
+pub(crate) fn read_alone(alloc: Global, line: &[u8], told: &mut Vec<u8>) -> Result<(), AllocError> {
+    let mut words = line.splitn(3, |byte| *byte == b' ');
+    let dimensions = number(words.next());
+    let count = number(words.next());
+    let rest = words.next().unwrap_or(&[]);
+    if dimensions > 12 {
+        return tell(told, b"no such cube");
+    }
+    let read = read_command(rest, dimensions, count);
+    tell(told, format!(in alloc; "{read:?}")?.as_bytes())
+}
+
+fn number(word: Option<&[u8]>) -> usize {
+    match word {
+        Some(word) => read_number(word).unwrap_or(0) as usize,
+        None => 0,
+    }
+}
+
+/// Plays a scene on a machine of its size.
+pub(crate) fn play(alloc: Global, scene: &Scene, told: &mut Vec<u8>) -> Result<(), AllocError> {
+    match (scene.dimensions, scene.room) {
+        (0, 7) => play_on::<0, 7>(alloc, scene, told),
+        (1, 1) => play_on::<1, 1>(alloc, scene, told),
+        (2, 1) => play_on::<2, 1>(alloc, scene, told),
+        (2, 2) => play_on::<2, 2>(alloc, scene, told),
+        (2, 7) => play_on::<2, 7>(alloc, scene, told),
+        (4, 1) => play_on::<4, 1>(alloc, scene, told),
+        (4, 7) => play_on::<4, 7>(alloc, scene, told),
+        (12, 7) => play_on::<12, 7>(alloc, scene, told),
+        _ => tell(told, b"no such machine"),
+    }
+}
+
+fn play_on<const N: usize, const CAP: usize>(
+    alloc: Global,
+    scene: &Scene,
+    told: &mut Vec<u8>,
+) -> Result<(), AllocError> {
+    let Ok(program) = assemble(alloc, scene.program.as_slice()) else {
+        return tell(told, b"the program is refused");
+    };
+    match blank_trial(alloc, scene.clock) {
+        Some(mut trial) => answer::<N, CAP>(alloc, &mut trial, &program, scene, told),
+        None => tell(told, b"no machine"),
+    }
+}
+
+/// A machine of which no contract tells anything.
+#[derive(Drop)]
+struct Trial<const N: usize, const CAP: usize> {
+    machine: Machine<N, CAP>,
+}
+
+/// A blank machine after so many petit cycles.
+fn blank_trial<const N: usize, const CAP: usize>(
+    alloc: Global,
+    clock: u64,
+) -> Option<Trial<N, CAP>> {
+    let builder = Builder::<N, CAP>::start(alloc, clock.min(u64::MAX >> 1)).ok()?;
+    let machine = builder.done().ok()?;
+    Some(Trial { machine })
+}
+
+/// Tells the answers to the scene's commands, and how the session ended.
+fn answer<const N: usize, const CAP: usize>(
+    alloc: Global,
+    trial: &mut Trial<N, CAP>,
+    program: &Program,
+    scene: &Scene,
+    told: &mut Vec<u8>,
+) -> Result<(), AllocError> {
+    let mut answers = Room::new(alloc, scene.written.min(1048576) as usize, 5)?;
+    let end = end_of(alloc, trial, program, scene, &mut answers);
+    told.extend_from_slice(answers.taken())?;
+    tell_end(alloc, end, told)
+}
+
+/// How the session ended.
+fn end_of<const N: usize, const CAP: usize>(
+    alloc: Global,
+    trial: &mut Trial<N, CAP>,
+    program: &Program,
+    scene: &Scene,
+    answers: &mut Room,
+) -> Result<(), SessionFault>
+    requires writer { room_has_failed answers.old ≡ false }
+{
+    let mut commands = Bytes::failing(scene.commands.as_slice(), 3, scene.read as usize);
+    let mut runner = Refusing::new(scene.lists, scene.lack);
+    session(
+        alloc,
+        &mut trial.machine,
+        program,
+        &mut commands,
+        answers,
+        &mut runner,
+    )
+}
+
+fn tell_end(
+    alloc: Global,
+    end: Result<(), SessionFault>,
+    told: &mut Vec<u8>,
+) -> Result<(), AllocError> {
+    tell(told, format!(in alloc; "= {end:?}")?.as_bytes())
+}

@@ -1,0 +1,141 @@
+//! Scenes as a text tells them, line by line.
+
+use crate::playing::{count, listing, play, read_alone, tell};
+use crate::refusing::Lack;
+use cm_bits::{Lines, Words, read_number};
+use std::alloc::{AllocError, Global};
+
+/// A machine, a program, commands, and where reading, writing and the runner fail.
+#[derive(Drop)]
+pub(crate) struct Scene {
+    /// The cube's dimensions, and how many messages a router holds.
+    pub(crate) dimensions: u64,
+    pub(crate) room: u64,
+    /// The petit cycles that the machine has run.
+    pub(crate) clock: u64,
+    pub(crate) program: Vec<u8>,
+    pub(crate) commands: Vec<u8>,
+    /// How often the next line of the program or of commands stands there.
+    times: u64,
+    /// After how many bytes of commands reading fails, and after how many of answers writing.
+    pub(crate) read: u64,
+    pub(crate) written: u64,
+    /// After how many lists of acts the runner lacks something.
+    pub(crate) lists: u64,
+    pub(crate) lack: Lack,
+}
+
+impl Scene {
+    /// One chip with room for seven messages; nothing fails.
+    fn new(alloc: Global) -> Scene {
+        Scene {
+            dimensions: 0,
+            room: 7,
+            clock: 0,
+            program: Vec::new(alloc),
+            commands: Vec::new(alloc),
+            times: 1,
+            read: u64::MAX,
+            written: 65536,
+            lists: u64::MAX,
+            lack: Lack::Memory,
+        }
+    }
+
+    /// Takes a line of the program or of commands.
+    fn take(&mut self, mark: u8, line: &[u8]) -> Result<(), AllocError> {
+        let times = self.times;
+        self.times = 1;
+        match mark {
+            b'<' => add(&mut self.program, line, b"\n", times),
+            b'-' => add(&mut self.program, line, b"", times),
+            b'>' => add(&mut self.commands, line, b"\n", times),
+            _ => add(&mut self.commands, line, b"", times),
+        }
+    }
+
+    /// Takes words and their numbers, by turns.
+    fn settle(&mut self, line: &[u8]) {
+        let mut words = Words::new(line);
+        for _ in 0..8 {
+            match (words.next(), words.next()) {
+                (Some(name), Some(word)) => self.set(name, read_number(word).unwrap_or(0)),
+                _ => return,
+            }
+        }
+    }
+
+    fn set(&mut self, name: &[u8], number: u64) {
+        if name == b"dimensions".as_slice() {
+            self.dimensions = number;
+        } else if name == b"room".as_slice() {
+            self.room = number;
+        } else if name == b"clock".as_slice() {
+            self.clock = number;
+        } else if name == b"read".as_slice() {
+            self.read = number;
+        } else if name == b"written".as_slice() {
+            self.written = number;
+        } else if name == b"memory".as_slice() {
+            self.lists = number;
+        } else if name == b"thread".as_slice() {
+            self.lists = number;
+            self.lack = Lack::Thread;
+        }
+    }
+}
+
+/// Adds a line with what ends it to a text, so many times.
+fn add(text: &mut Vec<u8>, line: &[u8], end: &[u8], times: u64) -> Result<(), AllocError> {
+    for _ in 0..times {
+        text.extend_from_slice(line)?;
+        text.extend_from_slice(end)?;
+    }
+    Ok(())
+}
+
+/// Goes over the lines of scenes, and tells what came of them.
+pub(crate) fn perform(alloc: Global, lines: Lines, told: &mut Vec<u8>) -> Result<(), AllocError> {
+    let mut scene = Scene::new(alloc);
+    for line in lines {
+        obey(alloc, &mut scene, line, told)?;
+    }
+    Ok(())
+}
+
+/// Does what a line says, by its first character:
+/// `#` a title, which is told again: a scene begins;
+/// `=` words of the scene (`dimensions`, `room`, `clock`, `read`, `written`, `memory`, `thread`), each with its number;
+/// `<` a line of the program, `-` one without its end;
+/// `>` a line of commands, `+` one without its end;
+/// `*` how often the next of these four stands there;
+/// `!` the commands are answered;
+/// `@` the number of the program's acts, or its first fault, is told, and `%` its listing;
+/// `?` dimensions of a cube, acts of a program, and a line of commands, which is read alone.
+fn obey(
+    alloc: Global,
+    scene: &mut Scene,
+    line: &[u8],
+    told: &mut Vec<u8>,
+) -> Result<(), AllocError> {
+    match line {
+        [b'#', ..] => {
+            *scene = Scene::new(alloc);
+            tell(told, line)
+        }
+        [b'=', rest @ ..] => {
+            scene.settle(rest);
+            Ok(())
+        }
+        [b'*', rest @ ..] => {
+            scene.times = read_number(rest).unwrap_or(1);
+            Ok(())
+        }
+        [b'!', ..] => play(alloc, scene, told),
+        [b'@', ..] => count(alloc, scene, told),
+        [b'%', ..] => listing(alloc, scene, told),
+        [b'?', rest @ ..] => read_alone(alloc, rest, told),
+        [mark, rest @ ..] => scene.take(*mark, rest),
+        [] => Ok(()),
+    }
+}
