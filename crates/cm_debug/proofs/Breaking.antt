@@ -1,6 +1,6 @@
 -- Lines answered one more, and lines that break off.
-use Rattle.std.proofs.Common.{◌≡◌, ℕ, zero, suc, ◌+◌, ◌-◌, ◌<◌, ◌≤◌, ◌⊎◌, inl, inr, Bool, true, false, List, [], ◌∷◌}
-use Rattle.std.proofs.Common.{◌++◌, length, take, drop, take-add, take-append-drop, get_or, Option, Some, None, Result}
+use Rattle.std.proofs.Common.{◌≡◌, ℕ, suc, ◌+◌, ◌-◌, ◌<◌, ◌⊎◌, inl, inr, false, List, [], ◌∷◌}
+use Rattle.std.proofs.Common.{◌++◌, length, take, drop, take-add, take-append-drop, get_or, Option, Result}
 use Rattle.std.proofs.Common.{refl, ap, ◌∙◌, sym, subst, arith}
 use Rattle.std.proofs.Common.{append_assoc, append-nil, length-append}
 use Rattle.std.proofs.lemmas.Grind.{common_steps}
@@ -20,7 +20,7 @@ use Rattle.cm_session.specs.Ends.{ended_lines, open_line, session_after, IsBefor
 use Rattle.cm_session.specs.Ends.{IsStopped, IsBrokenOff, IsAnswered}
 use Rattle.cm_session.proofs.Lines.{after_lines-append, ended_lines-end, open_line-end, ended_lines-more}
 use Rattle.cm_session.proofs.Lines.{open_line-more, lines_of-open, ended_lines-append, ended_after}
-use Rattle.cm_debug.specs.Gathering.{IsCutOff, BreaksOffBetween}
+use Rattle.cm_debug.specs.Gathering.{BreaksOffBetween}
 use Rattle.cm_debug.proofs.Sending.{take_front, front_written, all_written, with_none, as_gathered}
 use Rattle.cm_debug.specs.Telling.{IsTold, IsCutShort, IsGivenUp, IsUnended, BreaksOff, Stops}
 

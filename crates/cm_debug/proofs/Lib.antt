@@ -5,3 +5,4 @@ pub mod Sending
 pub mod Coming
 pub mod Breaking
 pub mod Ending
+pub mod Finding

@@ -21,7 +21,7 @@ use crate::running::run_on;
 use crate::want::Want;
 use cm_array::{Machine, Runner};
 use cm_bits::{Addr, Field, FlagNo, Place};
-use cm_model::Act;
+use cm_model::{Act, Found, Tag};
 use cm_session::Command;
 use std::alloc::AllocError;
 
@@ -101,7 +101,7 @@ pub fn obey<const N: usize, const CAP: usize, R: Runner<N, CAP>>(
             Ok(())
         }
         Command::Find(tag) => {
-            push_found(text, machine.find(tag))?;
+            push_found(text, whereabouts(machine, tag))?;
             Ok(())
         }
         Command::Events(chip) => {
@@ -116,6 +116,17 @@ pub fn runs_acts(command: Command) -> bool
     ensures value { result ≡ runs_acts command }
 {
     matches!(command, Command::Step | Command::Run)
+}
+
+/// Where the message of a tag is. A birth that is still to come is of none: then nothing is looked through.
+#[tactic(auto, using(crate::proofs::Finding::unborn))]
+fn whereabouts<const N: usize, const CAP: usize>(machine: &Machine<N, CAP>, tag: Tag) -> Found
+    ensures value { result ≡ found_in N machine.now.machine tag }
+{
+    if tag.birth >= machine.clock() {
+        return Found::Unknown;
+    }
+    machine.find(tag)
 }
 
 #[tactic(auto, unfolding(cm_session::specs::Answer::line))]

@@ -1,4 +1,4 @@
-use Rattle.std.proofs.Common.{◌++◌, ◌<◌, length, take, refl, ◌∙◌, arith}
+use Rattle.std.proofs.Common.{◌++◌, take, refl, ◌∙◌, arith}
 use Rattle.cm_debug.specs.Desk.{session_of}
 use Rattle.cm_debug.specs.Gathering.{answered_bytes, with_gathered}
 use Rattle.cm_debug.proofs.Breaking.{told_rest, told_at, stops_at, stops_in_rest}

@@ -1,4 +1,4 @@
-use Rattle.std.proofs.Common.{[], ◌∷◌, sym}
+use Rattle.std.proofs.Common.{[], ◌∷◌}
 use Rattle.cm_session.specs.declared.fault.SessionFault.TheVariants.{Write}
 use Rattle.cm_session.specs.Session.{answered}
 use Rattle.cm_debug.specs.Desk.{session_of}

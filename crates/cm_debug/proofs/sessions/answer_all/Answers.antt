@@ -1,4 +1,4 @@
-use Rattle.std.proofs.Common.{List, ℕ, [], refl, sym, subst, arith}
+use Rattle.std.proofs.Common.{ℕ, [], refl, sym, subst, arith}
 use Rattle.std.proofs.KnownBytes.{Consumes-nil}
 use Rattle.cm_debug.specs.Desk.{session_of}
 use Rattle.cm_debug.specs.Telling.{IsTold}
