@@ -10,8 +10,9 @@ use Rattle.cm_language.specs.declared.fault.AsmKind.{AsmKind}
 use Rattle.cm_language.specs.declared.fault.AsmKind.TheVariants as kind
 use Rattle.cm_language.specs.declared.statement.Statement.TheVariants as statement
 use Rattle.cm_language.specs.Lines.{◌>>=◌}
-use Rattle.cm_language.specs.Program.{Reading, nothing_read, after_words, after_statement, unless_faulty, after_lines, with_acts, parts}
-use Rattle.cm_language.specs.Program.{MOST_ACTS, IsGrownFor, MatchKind, MayLackMemory, IsLineFault, IsOwnFault}
+use Rattle.cm_language.specs.Program.{Reading, nothing_read, after_words, after_statement, unless_faulty, after_lines}
+use Rattle.cm_language.specs.Program.{with_acts, parts, MOST_ACTS, IsGrownFor, MatchKind, MayLackMemory, IsLineFault}
+use Rattle.cm_language.specs.Program.{IsOwnFault}
 use Rattle.cm_language.specs.Names.{NamedField}
 use Rattle.cm_model.specs.declared.act.Act.{Act}
 use Rattle.cm_model.specs.declared.act.Act.TheVariants as act

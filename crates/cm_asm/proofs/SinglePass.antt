@@ -1,6 +1,8 @@
 -- Words and numbers at the front of a line that may have a comment.
-use Rattle.std.proofs.Common.{◌≡◌, ℕ, suc, zero, ◌+◌, ◌-◌, ◌*◌, ◌^◌, ◌<◌, ◌≤◌, Bool, true, false, cond, not, ◌&&◌, ◌||◌, ◌==◌}
-use Rattle.std.proofs.Common.{List, [], ◌∷◌, length, take, drop, get_or, refl, sym, ap, ◌∙◌, Some, None, Ok, Err, nat_lt, codes, arith}
+use Rattle.std.proofs.Common.{◌≡◌, ℕ, suc, zero, ◌+◌, ◌-◌, ◌*◌, ◌^◌, ◌<◌, ◌≤◌, Bool, true, false, cond, not}
+use Rattle.std.proofs.Common.{◌&&◌, ◌||◌, ◌==◌}
+use Rattle.std.proofs.Common.{List, [], ◌∷◌, length, take, drop, get_or, refl, sym, ap, ◌∙◌, Some, None, Ok}
+use Rattle.std.proofs.Common.{Err, nat_lt, codes, arith}
 use Rattle.std.proofs.lemmas.Bool.{false_from_ne_true}
 use Rattle.std.proofs.lemmas.Bool.Decides.{nat_tests}
 use Rattle.std.proofs.lemmas.Grind.{common_steps}
@@ -326,7 +328,8 @@ pub instruction : (line r0 r1 r2 r3 r4 r5 r6 r7 r8 : List ℕ) (a b read write c
       flag_table = flag;
       dir = dir;
     })
-instruction line r0 r1 r2 r3 r4 r5 r6 r7 r8 a b read write cond' sense mem flag dir begin p1 p2 p3 p4 p5 p6 p7 p8 last says
+instruction line r0 r1 r2 r3 r4 r5 r6 r7 r8 a b read write cond' sense mem flag dir begin
+    p1 p2 p3 p4 p5 p6 p7 p8 last says
     h1 h2 h3 h4 h5 h6 h7 h8 =
     let o1 : operand_of 4096 p1.word ≡ Ok a = operand 4096 a p1.word p1.writes h1 in
     let o2 : operand_of 4096 p2.word ≡ Ok b = operand 4096 b p2.word p2.writes h2 in
@@ -342,7 +345,8 @@ instruction line r0 r1 r2 r3 r4 r5 r6 r7 r8 a b read write cond' sense mem flag 
           ∙ ap (λ (ws : List (List ℕ)). p1.word ∷ ws) (p2.words ∙ ap (λ (ws : List (List ℕ)). p2.word ∷ ws) (p3.words
           ∙ ap (λ (ws : List (List ℕ)). p3.word ∷ ws) (p4.words ∙ ap (λ (ws : List (List ℕ)). p4.word ∷ ws) (p5.words
           ∙ ap (λ (ws : List (List ℕ)). p5.word ∷ ws) (p6.words ∙ ap (λ (ws : List (List ℕ)). p6.word ∷ ws) (p7.words
-          ∙ ap (λ (ws : List (List ℕ)). p7.word ∷ ws) (p8.words ∙ ap (λ (ws : List (List ℕ)). p8.word ∷ ws) last))))))));
+          ∙ ap (λ (ws : List (List ℕ)). p7.word ∷ ws) (p8.words
+          ∙ ap (λ (ws : List (List ℕ)). p8.word ∷ ws) last))))))));
       says = λ i. o1 i >>= λ a'. o2 i >>= λ b'. o3 i >>= λ read'. o4 i >>= λ write'. o5 i >>= λ cond'.
           (o6 i >>= λ n. Ok (n == 1)) >>= λ sense'. o7 i >>= λ mem'. o8 i >>= λ flag'. says i >>= λ dir'.
           Ok (record {
