@@ -8,10 +8,16 @@ use Rattle.std.proofs.lemmas.List.Splits.{slice_split-cons_yes, slice_split-cons
 use Rattle.cm_bits.specs.Text.{lines_of, is_line_end, without_empty_last, words_of}
 use Rattle.cm_language.specs.declared.fault.AsmKind.{AsmKind}
 use Rattle.cm_language.specs.declared.fault.AsmKind.TheVariants as kind
-use Rattle.cm_language.specs.Program.{Reading, nothing_read, after_words, unless_faulty, after_lines, with_acts, parts}
-use Rattle.cm_language.specs.Program.{MOST_ACTS, IsGrownFor, MatchKind, MayLackMemory, IsLineFault, IsOwnFault}
+use Rattle.cm_language.specs.declared.statement.Statement.TheVariants as statement
+use Rattle.cm_language.specs.Lines.{◌>>=◌}
+use Rattle.cm_language.specs.Program.{Reading, nothing_read, after_words, after_statement, unless_faulty, after_lines}
+use Rattle.cm_language.specs.Program.{with_acts, parts, MOST_ACTS, IsGrownFor, MatchKind, MayLackMemory, IsLineFault}
+use Rattle.cm_language.specs.Program.{IsOwnFault}
 use Rattle.cm_language.specs.Names.{NamedField}
 use Rattle.cm_model.specs.declared.act.Act.{Act}
+use Rattle.cm_model.specs.declared.act.Act.TheVariants as act
+use Rattle.cm_model.specs.declared.act.Nano.{Nano}
+use Rattle.cm_asm.specs.SinglePass.{IsInstruction}
 
 -- ---- a text has no more lines than bytes
 
@@ -156,3 +162,10 @@ told_as_it_is kind.Number W P own p = p
 told_as_it_is kind.Name W P own p = p
 told_as_it_is kind.Twice W P own p = p
 told_as_it_is kind.TooLong W P own p = p
+
+-- a line that says an instruction adds it
+pub instruction_line : (read : Reading) (line : List ℕ) (nano : Nano) → IsInstruction line nano
+    → after_words read (words_of line) ≡ with_acts read (act.Nano nano ∷ [])
+instruction_line read line nano is =
+    ap (after_words read) is.words
+    ∙ ap (λ (q : Result Nano AsmKind). (q >>= λ n. Ok (statement.Act (act.Nano n))) >>= after_statement read) is.says

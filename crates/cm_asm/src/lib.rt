@@ -7,6 +7,7 @@ mod listings;
 mod operands;
 mod program;
 mod reader;
+mod single_pass;
 mod statements;
 
 pub use assembler::assemble;

@@ -11,6 +11,7 @@ ghost use Rattle.cm_language.specs.Faults.{first_fault};
 use crate::fields::Fields;
 use crate::operands::read_short;
 use crate::program::Program;
+use crate::single_pass::instruction_of;
 use crate::statements::{read_statement, verb_of};
 use cm_bits::{Field, FieldFault, Words};
 use cm_language::{AsmKind, Context, Macro, MacroFault, Statement};
@@ -55,6 +56,9 @@ impl Reader {
         ensures ok { OnOk result (after_words self.old (words_of line.now) ≡ Ok self.new) }
         ensures fault { IfErr result (IsLineFault self.old (after_words self.old (words_of line.now))) }
     {
+        if let Some(nano) = instruction_of(line) {
+            return self.add_act(Act::Nano(nano));
+        }
         let mut words = Words::new(line);
         let Some(word) = words.next() else {
             return Ok(());
