@@ -9,3 +9,5 @@ mod orders;
 mod refused;
 #[cfg(test)]
 mod rows;
+#[cfg(test)]
+mod trial;

@@ -1,14 +1,12 @@
 //! Orders of steps, each of which ends in the machine of one thread.
 
-ghost use Rattle.std.specs.Prelude.{◌≡◌, ◌^◌};
-
 use crate::machines::{Draws, agree, drawn, sent_on};
+use crate::trial::Trial;
 use cm_array::{Machine, Plain, Runner};
 use cm_bits::Dir;
 use cm_exchange::Step;
 use cm_model::Act;
 use cm_subcube::rounds;
-use cm_weave::World;
 use std::alloc::Global;
 use std::test::Fail;
 
@@ -25,13 +23,13 @@ impl Stages {
     /// A block takes its step, if it can.
     fn goes_on<const N: usize, const CAP: usize>(
         &mut self,
-        world: &mut World<N, CAP>,
+        world: &mut Trial<N, CAP>,
         b: u16,
     ) -> bool {
         let Some(stage) = self.of.get_mut(usize::from(b)) else {
             return false;
         };
-        if world.play(Step::at(b, *stage)).is_err() {
+        if !world.takes(Step::at(b, *stage)) {
             return false;
         }
         *stage = stage.wrapping_add(1) % 4;
@@ -42,14 +40,14 @@ impl Stages {
 /// Which blocks, one after another, take a step: by place from the lowest bit on, the block of that number.
 fn takes(alloc: Global, machine: Machine<1, 2>, order: u16) -> Result<Option<Machine<1, 2>>, Fail> {
     let acts = [Act::Cycle];
-    let mut world = World::new(alloc, machine, &acts, 1)?;
+    let mut world = Trial::new(alloc, machine, &acts, 1)?;
     let mut stages = Stages { of: [0; 4] };
     for place in 0u16..8 {
         if !stages.goes_on(&mut world, order >> place & 1) {
             return Ok(None);
         }
     }
-    Ok(world.finish().ok())
+    Ok(world.finish())
 }
 
 /// Of all orders of eight steps of two blocks, how many can be taken, and of how many of these the machine is that of
@@ -100,7 +98,7 @@ fn ends_as(
     steps: usize,
     draws: &mut Draws,
 ) -> Result<bool, Fail> {
-    let mut world = World::new(alloc, machine, &acts(), 2)?;
+    let mut world = Trial::new(alloc, machine, &acts(), 2)?;
     let mut stages = Stages { of: [0; 4] };
     let mut left = steps;
     for _draw in 0..MOST_DRAWS {
@@ -115,8 +113,8 @@ fn ends_as(
         }
     }
     match world.finish() {
-        Ok(after) => Ok(agree(&after, wanted, 16)),
-        Err(_) => Ok(false),
+        Some(after) => Ok(agree(&after, wanted, 16)),
+        None => Ok(false),
     }
 }
 

@@ -1,11 +1,9 @@
 //! Steps of two chips, a block each, that go through one petit cycle, with their answers.
 
-ghost use Rattle.std.specs.Prelude.{◌≡◌};
-
+use crate::trial::Trial;
 use cm_array::Machine;
 use cm_exchange::Step;
 use cm_model::Act;
-use cm_weave::World;
 use std::alloc::Global;
 use std::test::Fail;
 
@@ -37,9 +35,9 @@ static EIGHT: [Step; 8] = [
     Step::Clear(1),
 ];
 
-fn two_chips(alloc: Global, acts: &[Act]) -> Result<World<1, 1>, Fail> {
+fn two_chips(alloc: Global, acts: &[Act]) -> Result<Trial<1, 1>, Fail> {
     let machine = Machine::<1, 1>::blank(alloc)?;
-    Ok(World::new(alloc, machine, acts, 1)?)
+    Trial::new(alloc, machine, acts, 1)
 }
 
 /// How many of the steps are answered as they should be, until one is not; and whether the world is finished then.
@@ -47,12 +45,12 @@ fn answered(alloc: Global, steps: &[(Step, bool)]) -> Result<(usize, bool), Fail
     let mut world = two_chips(alloc, &[Act::Cycle])?;
     let mut count = 0usize;
     for (step, taken) in steps {
-        if world.play(*step).is_ok() != *taken {
+        if world.takes(*step) != *taken {
             break;
         }
         count = count.wrapping_add(1);
     }
-    Ok((count, world.finish().is_ok()))
+    Ok((count, world.finish().is_some()))
 }
 
 #[test]
@@ -69,13 +67,13 @@ fn named(alloc: Global, steps: &[Step]) -> Result<(usize, bool), Fail> {
     let mut count = 0usize;
     for wanted in steps {
         match world.next() {
-            Some(step) if step == *wanted && world.play(step).is_ok() => {
+            Some(step) if step == *wanted && world.takes(step) => {
                 count = count.wrapping_add(1);
             }
             _ => break,
         }
     }
-    Ok((count, world.next().is_none() && world.finish().is_ok()))
+    Ok((count, world.next().is_none() && world.finish().is_some()))
 }
 
 #[test]
@@ -97,10 +95,13 @@ fn a_look_at_the_wire_is_no_round(rt: HostRuntime) -> Result<(), Fail> {
     let mut world = two_chips(alloc, &[Act::Sense])?;
     let mut refused = 0usize;
     for (step, taken) in &NONE {
-        if world.play(*step).is_ok() == *taken {
+        if world.takes(*step) == *taken {
             refused = refused.wrapping_add(1);
         }
     }
-    assert_eq!(rt; (refused, world.k(), world.finish().is_ok()), (3, 1, true));
+    assert_eq!(rt;
+        (refused, world.k(), world.finish().is_some()),
+        (3, 1, true)
+    );
     Ok(())
 }
