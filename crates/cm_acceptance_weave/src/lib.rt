@@ -1,0 +1,13 @@
+//! Tests of exchanges that are stepped by hand; it has no code of its own.
+#![tactic(auto)]
+
+#[cfg(test)]
+mod machines;
+#[cfg(test)]
+mod orders;
+#[cfg(test)]
+mod refused;
+#[cfg(test)]
+mod rows;
+#[cfg(test)]
+mod trial;
