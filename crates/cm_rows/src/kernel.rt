@@ -20,15 +20,15 @@ const TILE: usize = 256;
 macro_rules! by_tables {
     ($always:literal, $tables:ident, $sense:ident, $memory:ident, $flags:ident, $at:ident, $whole:ident) => {
         match $tables {
-            (0x96, 0xe8) => compute_blocks::<LANES>((0x96, 0xe8), false, $always, $sense, $memory, $flags, $at, $whole),
-            (0x69, 0xb2) => compute_blocks::<LANES>((0x69, 0xb2), false, $always, $sense, $memory, $flags, $at, $whole),
-            (0xf0, 0x8e) => compute_blocks::<LANES>((0xf0, 0x8e), false, $always, $sense, $memory, $flags, $at, $whole),
-            (0xf0, 0x82) => compute_blocks::<LANES>((0xf0, 0x82), false, $always, $sense, $memory, $flags, $at, $whole),
-            (0xaa, 0xf0) => compute_blocks::<LANES>((0xaa, 0xf0), false, $always, $sense, $memory, $flags, $at, $whole),
-            (0xf0, 0xff) => compute_blocks::<LANES>((0xf0, 0xff), false, $always, $sense, $memory, $flags, $at, $whole),
-            (0xf0, 0x00) => compute_blocks::<LANES>((0xf0, 0x00), false, $always, $sense, $memory, $flags, $at, $whole),
-            (0xf0, 0xf0) => compute_blocks::<LANES>((0xf0, 0xf0), false, $always, $sense, $memory, $flags, $at, $whole),
-            (0xf0, 0xaa) => compute_blocks::<LANES>((0xf0, 0xaa), false, $always, $sense, $memory, $flags, $at, $whole),
+            (0x96, 0xe8) => compute_known((0x96, 0xe8), $always, $sense, $memory, $flags, $at, $whole),
+            (0x69, 0xb2) => compute_known((0x69, 0xb2), $always, $sense, $memory, $flags, $at, $whole),
+            (0xf0, 0x8e) => compute_known((0xf0, 0x8e), $always, $sense, $memory, $flags, $at, $whole),
+            (0xf0, 0x82) => compute_known((0xf0, 0x82), $always, $sense, $memory, $flags, $at, $whole),
+            (0xaa, 0xf0) => compute_known((0xaa, 0xf0), $always, $sense, $memory, $flags, $at, $whole),
+            (0xf0, 0xff) => compute_known((0xf0, 0xff), $always, $sense, $memory, $flags, $at, $whole),
+            (0xf0, 0x00) => compute_known((0xf0, 0x00), $always, $sense, $memory, $flags, $at, $whole),
+            (0xf0, 0xf0) => compute_known((0xf0, 0xf0), $always, $sense, $memory, $flags, $at, $whole),
+            (0xf0, 0xaa) => compute_known((0xf0, 0xaa), $always, $sense, $memory, $flags, $at, $whole),
             other => compute_others(other, false, $always, $sense, $memory, $flags, $at, $whole),
         }
     };
@@ -344,6 +344,45 @@ fn tile(
     choose(always, sense, flags, at.cond + from, choice);
     merge(choice, mem, memory, at.a + from);
     merge(choice, flag, flags, at.write + from);
+}
+
+/// The words of whole blocks, in a loop for these tables. Where the flag that is read is the one that is written,
+/// as a carry is, the loop is another: the compiler knows there that it need not be read twice.
+#[inline(always)]
+fn compute_known(
+    tables: (u8, u8),
+    always: bool,
+    sense: bool,
+    memory: &mut [Plane],
+    flags: &mut [Plane],
+    at: Places,
+    whole: usize,
+)
+    requires a { at.a + 32 * whole ≤ length memory.old }
+    requires b { at.b + 32 * whole ≤ length memory.old }
+    requires read { at.read + 32 * whole ≤ length flags.old }
+    requires write { at.write + 32 * whole ≤ length flags.old }
+    requires cond { at.cond + 32 * whole ≤ length flags.old }
+    requires b_apart { IsApart at.a at.b (32 * whole) }
+    requires read_apart { IsApart at.write at.read (32 * whole) }
+    requires cond_apart { IsApart at.write at.cond (32 * whole) }
+    ensures memory { IsComputed tables.0 false always sense at at.a 0 (32 * whole)
+        memory.old flags.old memory.old memory.new }
+    ensures flags { IsComputed tables.1 false always sense at at.write 0 (32 * whole)
+        memory.old flags.old flags.old flags.new }
+{
+    if at.read == at.write {
+        let carried = Places {
+            a: at.a,
+            b: at.b,
+            read: at.read,
+            write: at.read,
+            cond: at.cond,
+        };
+        compute_blocks::<LANES>(tables, false, always, sense, memory, flags, carried, whole);
+    } else {
+        compute_blocks::<LANES>(tables, false, always, sense, memory, flags, at, whole);
+    }
 }
 
 /// The words of so many blocks, in a loop for these tables.
