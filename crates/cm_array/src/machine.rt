@@ -1,7 +1,7 @@
 //! A machine of 2^N chips.
 
 ghost use Rattle.std.specs.Prelude.{◌≡◌, ◌+◌, ◌*◌, ◌^◌, ◌<◌, ◌≤◌, ◌↔◌, ℕ, IfOk, IfSome, IsErr, IsErrOf, IsOk};
-ghost use Rattle.std.specs.Prelude.{IsOkUnless, IsTrue, OnOk, OnErr, None, length, map, slice_index};
+ghost use Rattle.std.specs.Prelude.{IsOkUnless, IsTrue, OnOk, OnErr, None, false, length, map, slice_index};
 ghost use Rattle.cm_model.specs.Processor.{ZERO, memory_bit};
 ghost use Rattle.cm_model.specs.Chip.{IsPlane, processor_at};
 ghost use Rattle.cm_model.specs.Array.{chip_at, wire, list_at};
@@ -204,6 +204,14 @@ impl<const N: usize, const CAP: usize> Machine<N, CAP> {
             (λ p. memory_bit (processor_at (chip_at self.now.machine.chips c) p) at) }
     {
         self.parts.run.plane_row(at)
+    }
+
+    /// Whether memory has a row for an address: where it has none, the bits of all processors are 0 there.
+    pub fn is_in_use(&self, at: Addr) -> bool
+        ensures blank { result ≡ false → (c : ℕ) → c < 2 ^ N
+            → IsPlane 0 (λ p. memory_bit (processor_at (chip_at self.now.machine.chips c) p) at) }
+    {
+        self.parts.run.is_in_use(at)
     }
 
     /// Copies so many chips, from `first` on, to the front of a run: there the planes of a chip lie nearer to

@@ -166,6 +166,14 @@ in_use_le [] = omega arith
 in_use_le (zero ∷ slots) = let rest : in_use slots ≤ length slots = in_use_le slots in omega arith
 in_use_le (suc s ∷ slots) = let rest : in_use slots ≤ length slots = in_use_le slots in omega arith
 
+-- where no slot is taken, an address has none
+pub none_in_use : (slots : List ℕ) (i : ℕ) → in_use slots ≡ 0 → get_or slots i 0 ≡ 0
+unfolding in_use
+none_in_use [] i is = refl
+none_in_use (zero ∷ slots) zero is = refl
+none_in_use (suc s ∷ slots) i is = absurd (omega (arith, is))
+none_in_use (zero ∷ slots) (suc i) is = none_in_use slots i is
+
 -- where an address has no row, one is left
 pub one_left : (words slots : List ℕ) (capacity used stride a : ℕ) → AreSlots words capacity slots used stride
     → a < 4096 → get_or slots a 0 ≡ 0 → used ≤ 4096
@@ -333,7 +341,8 @@ spread-blank words slots stride are =
     ext_get_or 0 (spread words slots stride) (replicate (4096 * stride) 0)
     (length-spread words slots stride ∙ sym (length-replicate {A = ℕ} (4096 * stride) 0))
     (λ k h. let below : k < 4096 * stride = omega (arith, h, length-spread words slots stride) in
-    get_or-each_below (4096 * stride) (λ n. get_or words (get_or slots (n / stride) 0 * stride + n % stride) 0) k 0 below
+    get_or-each_below (4096 * stride) (λ n. get_or words (get_or slots (n / stride) 0 * stride + n % stride) 0) k 0
+    below
     ∙ get_or-blank stride words (get_or slots (k / stride) 0 * stride + k % stride) are
     ∙ sym (get_or-zeros (4096 * stride) k))
 

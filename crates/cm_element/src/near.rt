@@ -12,8 +12,8 @@ use cm_bits::{Addr, FlagNo, NoMemory, Plane};
 use std::alloc::Global;
 use std::marker::Model;
 
-/// So many chips are near: 256 KB, which a cache holds while they are filled.
-const WIDTH: u16 = 32;
+/// So many chips are near: 512 KB, which a cache holds while they are filled.
+const WIDTH: u16 = 64;
 
 /// A run that is filled chip by chip. In a large run the planes of one chip lie far apart, so some chips are
 /// kept in a small run of their own, and go back when another chip is filled.
@@ -41,7 +41,7 @@ impl Model for NearRun {
 }
 
 impl NearRun {
-    /// The same chips, to be filled. Memory is taken twice.
+    /// The same chips, to be filled. Memory is taken three times.
     pub fn of(alloc: Global, far: Run, chips: u16) -> Result<NearRun, NoMemory>
         requires chips { length far ≡ chips }
         ensures value { IfOk result (λ run. run ≡ far) }
@@ -68,6 +68,7 @@ impl NearRun {
     }
 
     /// Puts a plane at an address of a chip: bit p is that of processor p.
+    #[inline(always)]
     pub fn poke_plane(&mut self, chip: u16, at: Addr, plane: Plane)
         requires chip { chip < length self.old }
         ensures value { self.new

@@ -116,6 +116,14 @@ impl Run {
             .row(usize::from(at.get()), self.stride, self.chips)
     }
 
+    /// Whether an address has a row: where it has none, the bits of all processors are 0 there.
+    pub fn is_in_use(&self, at: Addr) -> bool
+        ensures blank { result ≡ false → (c : ℕ) → c < length self.now
+            → IsPlane 0 (λ p. memory_bit (processor_at (chip_at self.now c) p) at) }
+    {
+        self.memory.is_in_use(usize::from(at.get()), self.stride)
+    }
+
     /// One flag of all processors of a chip: bit p is that of processor p.
     pub fn flag_plane(&self, chip: u16, number: FlagNo) -> Plane
         requires chip { chip < length self.now }

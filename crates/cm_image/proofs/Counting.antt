@@ -1,9 +1,12 @@
 -- How many planes of each chip are listed, one address more at a time.
 use Rattle.std.proofs.Common.{◌≡◌, ℕ, ◌+◌, ◌<◌, ◌≤◌, ◌==◌, Bool, true, false, List, length, get_or}
-use Rattle.std.proofs.Common.{replicate, refl, ap, ◌∙◌, if◌then◌else◌, arith}
+use Rattle.std.proofs.Common.{replicate, refl, sym, ap, ◌∙◌, if◌then◌else◌, arith}
 use Rattle.std.proofs.lemmas.Simd.{length-replicate}
 use Rattle.std.proofs.lemmas.List.{get_or-replicate}
+use Rattle.cm_model.specs.Processor.{Processor, memory_bit}
+use Rattle.cm_model.specs.Chip.{IsPlane, processor_at, plane_number}
 use Rattle.cm_model.specs.Array.{Chips, chip_at}
+use Rattle.cm_model.proofs.Values.{plane_number-is}
 use Rattle.cm_image_format.specs.Whole.{memory_plane_of}
 use Rattle.cm_image.specs.Planes.{AreCounted}
 use Rattle.cm_image.proofs.Dumping.{planes_none, counted_more}
@@ -29,17 +32,25 @@ one_at_most : (b : Bool) → (if b then 0 else 1) ≤ 1
 one_at_most true = omega arith
 one_at_most false = omega arith
 
-pub row_counted : (count at : ℕ) (chips : Chips) (counts new row : List ℕ) → AreSoFar count chips at counts
+pub row_counted : (count at : ℕ) (chips : Chips) (counts new : List ℕ) → AreSoFar count chips at counts
     → length new ≡ count
-    → ((c : ℕ) → c < count → get_or new c 0 ≡ get_or counts c 0 + (if get_or row c 0 == 0 then 0 else 1))
-    → ((c : ℕ) → c < count → get_or row c 0 ≡ memory_plane_of (chip_at chips c) at)
+    → ((c : ℕ) → c < count
+    → get_or new c 0 ≡ get_or counts c 0 + (if memory_plane_of (chip_at chips c) at == 0 then 0 else 1))
     → AreSoFar count chips (at + 1) new
-row_counted count at chips counts new row before long more planes = record {
+row_counted count at chips counts new before long more = record {
   counted = record {
     long = long;
     each = λ c h. more c h
-        ∙ counted_more (chip_at chips c) at (get_or counts c 0) (if get_or row c 0 == 0 then 0 else 1) (get_or row c 0)
-        (before.counted.each c h) refl (planes c h);
+        ∙ counted_more (chip_at chips c) at (get_or counts c 0)
+        (if memory_plane_of (chip_at chips c) at == 0 then 0 else 1) (memory_plane_of (chip_at chips c) at)
+        (before.counted.each c h) refl refl;
   };
-  few = λ c h. omega (arith, more c h, before.few c h, one_at_most (get_or row c 0 == 0));
+  few = λ c h. omega (arith, more c h, before.few c h, one_at_most (memory_plane_of (chip_at chips c) at == 0));
 }
+
+-- the plane of an address at which all processors have 0
+pub no_plane : (chip : List Processor) (address at : ℕ) → IsPlane 0 (λ p. memory_bit (processor_at chip p) address)
+    → address ≡ at → memory_plane_of chip at ≡ 0
+no_plane chip address at is same =
+    sym (plane_number-is 0 (λ p. memory_bit (processor_at chip p) address) (omega arith) is
+    ∙ ap (λ (n : ℕ). plane_number (λ p. memory_bit (processor_at chip p) n)) same)

@@ -1,20 +1,22 @@
 -- What a dump has written so far, one part more at a time.
-use Rattle.std.proofs.Common.{◌≡◌, ℕ, zero, suc, ◌+◌, ◌==◌, ◌<◌, ◌^◌, not, cond, Bool, true, false, List, []}
-use Rattle.std.proofs.Common.{◌∷◌, ◌++◌, length, take, get_or, refl, sym, ap, ◌∙◌, arith, append_assoc, if◌then◌else◌}
+use Rattle.std.proofs.Common.{◌≡◌, ℕ, zero, suc, ◌+◌, ◌==◌, ◌<◌, ◌≤◌, ◌^◌, not, cond, Bool, true, false, List, []}
+use Rattle.std.proofs.Common.{◌∷◌, ◌++◌, length, take, get_or, refl, sym, ap, ◌∙◌, ⊎_elim, arith, append_assoc}
+use Rattle.std.proofs.Common.{if◌then◌else◌}
 use Rattle.std.specs.Int.{w8, w16, w32, w64}
 use Rattle.std.specs.List.{flat_map}
-use Rattle.std.proofs.lemmas.List.{append-nil, length-append, take_more}
+use Rattle.std.proofs.lemmas.Bool.{cases_lt}
+use Rattle.std.proofs.lemmas.List.{append-nil, length-append, length_push, get_or_append_left, get_or_push, take_more}
 use Rattle.std.proofs.lemmas.List.Concat.{flat_map-append}
 use Rattle.std.proofs.lemmas.List.FromFn.{map-range_with_len_more, filter_of_map_range_with_len_more}
 use Rattle.cm_model.specs.declared.message.Message.{Message}
 use Rattle.cm_model.specs.Each.{each_from}
 use Rattle.cm_model.specs.Processor.{Processor}
-use Rattle.cm_model.specs.Array.{chip_at, list_at}
+use Rattle.cm_model.specs.Array.{Chips, chip_at, list_at}
 use Rattle.cm_model.specs.Machine.{Machine}
 use Rattle.cm_message.specs.Bytes.{number, message_text}
 use Rattle.cm_image_format.specs.Image.{MAGIC, Listed, ChipImage, listed_text, chip_text, shape_text}
 use Rattle.cm_image_format.specs.Whole.{flag_plane_of, memory_plane_of, image_of_chip, image_text, text_of}
-use Rattle.cm_image.specs.Planes.{flags_text, planes_below, listed_below, listing_of, chips_text}
+use Rattle.cm_image.specs.Planes.{AreInUse, flags_text, planes_below, listed_below, listing_of, listing_at, chips_text}
 
 -- ---- what is made of each number
 
@@ -107,7 +109,7 @@ one_listed : (b : Bool) (e : Listed)
 one_listed true e = refl
 one_listed false e = append-nil (listed_text e)
 
-listed_step : (chip : List Processor) (n : ℕ)
+pub listed_step : (chip : List Processor) (n : ℕ)
     → listed_below chip (n + 1) ≡ listed_below chip n ++ listing_of n (memory_plane_of chip n)
 unfolding listed_below
 listed_step chip n =
@@ -117,27 +119,52 @@ listed_step chip n =
     ∙ ap (λ (xs : List ℕ). flat_map listed_text (planes_below chip n) ++ xs)
     (one_listed (memory_plane_of chip n == 0) (plane_entry chip n)))
 
-pub listed_more : (chip : List Processor) (text before after : List ℕ) (n plane : ℕ)
-    → before ≡ text ++ listed_below chip n → after ≡ before ++ listing_of n plane → plane ≡ memory_plane_of chip n
-    → after ≡ text ++ listed_below chip (n + 1)
-listed_more chip text before after n plane is more same =
-    grown text (listed_below chip n) (listing_of n plane) before after is more
-    ∙ ap (λ (xs : List ℕ). text ++ xs) (ap (λ (k : ℕ). listed_below chip n ++ listing_of n k) same
-    ∙ sym (listed_step chip n))
+-- ---- addresses in use
 
--- ---- messages
+pub none_in_use : (count : ℕ) (chips : Chips) → AreInUse count chips 0 []
+unfolding listed_below planes_below each_from
+none_in_use count chips = record { within = λ i h. absurd (omega (arith, h)); listed = λ c h. refl }
 
-pub messages_more : (messages : List Message) (text before after : List ℕ) (i : ℕ) (m : Message) → i < length messages
-    → m ≡ get_or messages i m
-    → before ≡ text ++ flat_map message_text (take i messages) → after ≡ before ++ message_text m
-    → after ≡ text ++ flat_map message_text (take (i + 1) messages)
-messages_more messages text before after i m h read is more =
-    let next : take (i + 1) messages ≡ take i messages ++ m ∷ [] = take_more messages i m h
-    ∙ ap (λ (x : Message). take i messages ++ x ∷ []) (sym read) in
-    grown text (flat_map message_text (take i messages)) (message_text m) before after is more
-    ∙ ap (λ (xs : List ℕ). text ++ xs) (sym (ap (flat_map message_text) next
-    ∙ (flat_map-append message_text (take i messages) (m ∷ [])
-    ∙ ap (λ (xs : List ℕ). flat_map message_text (take i messages) ++ xs) (append-nil (message_text m)))))
+-- an address at which all planes are 0
+pub in_use_past : (count at : ℕ) (chips : Chips) (used : List ℕ) → AreInUse count chips at used
+    → ((c : ℕ) → c < count → memory_plane_of (chip_at chips c) at ≡ 0) → AreInUse count chips (at + 1) used
+in_use_past count at chips used are none = record {
+  within = λ i h. omega (arith, are.within i h);
+  listed = λ c h. listed_step (chip_at chips c) at
+      ∙ ap (λ (k : ℕ). listed_below (chip_at chips c) at ++ listing_of at k) (none c h)
+      ∙ append-nil (listed_below (chip_at chips c) at) ∙ are.listed c h;
+}
+
+-- and one more that is in use
+pub in_use_more : (count at : ℕ) (chips : Chips) (used : List ℕ) → AreInUse count chips at used
+    → AreInUse count chips (at + 1) (used ++ at ∷ [])
+in_use_more count at chips used are = record {
+  within = λ i h. ⊎_elim
+      (λ (l : i < length used). omega (arith, are.within i l, get_or_append_left used (at ∷ []) 0 i l))
+      (λ (l : length used ≤ i). let last : i ≡ length used = omega (arith, h, l, length_push used at) in
+      omega (arith, ap (λ (k : ℕ). get_or (used ++ at ∷ []) k 0) last, get_or_push used at 0 (length used) refl))
+      (cases_lt i (length used));
+  listed = λ c h. listed_step (chip_at chips c) at
+      ∙ ap (λ (xs : List ℕ). xs ++ listing_at (chip_at chips c) at) (are.listed c h)
+      ∙ sym (flat_map-append (listing_at (chip_at chips c)) used (at ∷ [])
+      ∙ ap (λ (xs : List ℕ). flat_map (listing_at (chip_at chips c)) used ++ xs)
+      (append-nil (listing_at (chip_at chips c) at)));
+}
+
+-- ---- items of a list, as messages
+
+-- what is written of one item more
+pub items_more : {X : Type 0} (g : X → List ℕ) (xs : List X) (text before after : List ℕ) (i : ℕ) (x d : X)
+    → i < length xs → x ≡ get_or xs i d
+    → before ≡ text ++ flat_map g (take i xs) → after ≡ before ++ g x
+    → after ≡ text ++ flat_map g (take (i + 1) xs)
+items_more {X} g xs text before after i x d h read is more =
+    let next : take (i + 1) xs ≡ take i xs ++ x ∷ [] = take_more xs i d h
+    ∙ ap (λ (y : X). take i xs ++ y ∷ []) (sym read) in
+    grown text (flat_map g (take i xs)) (g x) before after is more
+    ∙ ap (λ (ys : List ℕ). text ++ ys) (sym (ap (flat_map g) next
+    ∙ (flat_map-append g (take i xs) (x ∷ [])
+    ∙ ap (λ (ys : List ℕ). flat_map g (take i xs) ++ ys) (append-nil (g x)))))
 
 -- ---- a chip
 

@@ -30,6 +30,16 @@ listed_below chip count = flat_map listed_text (planes_below chip count)
 abbrev pub listing_of : ℕ → ℕ → List ℕ
 listing_of address plane = if plane == 0 then [] else listed_text (record { at = address; plane = plane })
 
+-- how that of an address is listed, if it is
+abbrev pub listing_at : List Processor → ℕ → List ℕ
+listing_at chip address = listing_of address (memory_plane_of chip address)
+
+-- addresses below this one, at which alone planes of so many chips are listed
+pub record AreInUse (count : ℕ) (chips : Chips) (below : ℕ) (addresses : List ℕ) : Type 0 where
+  pub within : (i : ℕ) → i < length addresses → slice_index addresses i < below
+  pub listed : (c : ℕ) → c < count
+      → listed_below (chip_at chips c) below ≡ flat_map (listing_at (chip_at chips c)) addresses
+
 -- by chip, how many planes below an address are listed
 pub record AreCounted (count : ℕ) (chips : Chips) (below : ℕ) (counts : List ℕ) : Type 0 where
   pub long : length counts ≡ count

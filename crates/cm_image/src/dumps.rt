@@ -1,7 +1,7 @@
 //! Writing the bytes of a machine.
 
 ghost use Rattle.std.specs.Prelude.{◌≡◌, ℕ, ◌==◌, ◌+◌, ◌++◌, ◌^◌, ◌<◌, ◌≤◌, List, length, IfOk, Ok, OnOk};
-ghost use Rattle.std.specs.Prelude.{if◌then◌else◌};
+ghost use Rattle.std.specs.Prelude.{if◌then◌else◌, slice_index};
 ghost use Rattle.std.specs.List.{flat_map};
 ghost use Rattle.std.specs.Int.{w8, w16, w32, w64};
 ghost use Rattle.cm_model.specs.Processor.{Processor};
@@ -11,9 +11,10 @@ ghost use Rattle.cm_image_format.specs.Image.{chip_text, shape_text};
 ghost use Rattle.cm_image_format.specs.Whole.{flag_plane_of, memory_plane_of, image_of_chip, image_of, text_of};
 ghost use Rattle.cm_image_format.specs.Whole.{read_image};
 ghost use Rattle.cm_image_format.specs.Laws.{without_logs};
-ghost use Rattle.cm_image.specs.Planes.{AreCounted, chips_text, flags_text, listing_of, listed_below, planes_below};
+ghost use Rattle.cm_image.specs.Planes.{AreCounted, AreInUse, chips_text, flags_text, listing_of, listing_at};
+ghost use Rattle.cm_image.specs.Planes.{listed_below, planes_below};
 
-use crate::counts::listed_planes;
+use crate::counts::{addresses_in_use, listed_planes};
 use crate::numbers::chip_count;
 use cm_array::Machine;
 use cm_bits::{Addr, FlagNo, NoMemory, Plane};
@@ -28,8 +29,6 @@ const VERSION: u8 = 1;
 
 const FLAGS: u8 = 16;
 
-const ADDRESSES: u16 = 4096;
-
 const HEADER_LEN: usize = 16;
 
 const BLANK_CHIP_LEN: usize = 35;
@@ -38,8 +37,8 @@ const LISTED_LEN: usize = 4;
 
 const MESSAGE_LEN: usize = 18;
 
-/// So many chips at a time are laid out near: 256 KB, which a cache holds while they are written.
-const TILE: u16 = 32;
+/// So many chips at a time are laid out near: 512 KB, which a cache holds while they are written.
+const TILE: u16 = 64;
 
 /// The image of a machine: its one text. Its logs are not in it.
 pub fn dump<const N: usize, const CAP: usize>(
@@ -52,11 +51,12 @@ pub fn dump<const N: usize, const CAP: usize>(
     let cycles = machine.clock();
     texts_leave_out_logs();
     let counts = listed_planes(alloc, machine)?;
+    let addresses = addresses_in_use(alloc, machine)?;
     let mut text = Vec::with_capacity(alloc, text_len(machine, &counts))?;
     let mut tile = Run::blank(alloc, TILE)?;
     push_shape(&mut text, N, CAP)?;
     push_u64(&mut text, cycles)?;
-    push_chips(&mut text, machine, &counts, &mut tile)?;
+    push_chips(&mut text, machine, &counts, &addresses, &mut tile)?;
     Ok(text)
 }
 
@@ -90,12 +90,14 @@ fn push_chips<const N: usize, const CAP: usize>(
     text: &mut Vec<u8>,
     machine: &Machine<N, CAP>,
     counts: &[u16],
+    addresses: &[u16],
     tile: &mut Run,
 ) -> Result<(), NoMemory>
     requires dimension { N ≤ 12 }
     requires room { CAP ≤ 15 }
     requires counts { AreCounted (2 ^ N) machine.now.machine.chips 4096 counts.now }
-    requires tile { length tile.old ≡ 32 }
+    requires in_use { AreInUse (2 ^ N) machine.now.machine.chips 4096 addresses.now }
+    requires tile { length tile.old ≡ 64 }
     ensures ok { OnOk result (text.new.items
         ≡ text.old.items ++ flat_map chip_text (image_of N machine.now.machine).chips) }
 {
@@ -104,7 +106,7 @@ fn push_chips<const N: usize, const CAP: usize>(
     while first < count {
         let some = TILE.min(count - first);
         machine.lay_out(first, some, tile);
-        push_tile(text, machine, counts, tile, first, some)?;
+        push_tile(text, machine, counts, addresses, tile, first, some)?;
         first += some;
     }
     Ok(())
@@ -115,12 +117,14 @@ fn push_tile<const N: usize, const CAP: usize>(
     text: &mut Vec<u8>,
     machine: &Machine<N, CAP>,
     counts: &[u16],
+    addresses: &[u16],
     tile: &Run,
     first: u16,
     some: u16,
 ) -> Result<(), NoMemory>
     requires room { CAP ≤ 15 }
     requires counts { AreCounted (2 ^ N) machine.now.machine.chips 4096 counts.now }
+    requires in_use { AreInUse (2 ^ N) machine.now.machine.chips 4096 addresses.now }
     requires chips { first + some ≤ 2 ^ N }
     requires within { first + some < 65536 }
     requires few { some ≤ length tile.now }
@@ -131,7 +135,7 @@ fn push_tile<const N: usize, const CAP: usize>(
         let number = first + c;
         let buffer = machine.buffer(number);
         let planes = counts[usize::from(number)];
-        push_chip(text, &tile.view(c), planes, buffer)?;
+        push_chip(text, &tile.view(c), planes, addresses, buffer)?;
     }
     Ok(())
 }
@@ -185,20 +189,23 @@ fn push_shape(text: &mut Vec<u8>, n: usize, cap: usize) -> Result<(), NoMemory>
     Ok(())
 }
 
-/// What an image has of a chip with so many listed planes and this buffer.
+/// What an image has of a chip with so many listed planes, all of them at these addresses, and this buffer.
 fn push_chip(
     text: &mut Vec<u8>,
     chip: &ChipView<'_>,
     planes: u16,
+    addresses: &[u16],
     buffer: &[Message],
 ) -> Result<(), NoMemory>
     requires planes { planes ≡ length (planes_below chip.now 4096) }
+    requires within { (i : ℕ) → i < length addresses.now → slice_index addresses.now i < 4096 }
+    requires listed { listed_below chip.now 4096 ≡ flat_map (listing_at chip.now) addresses.now }
     requires few { length buffer.now < 256 }
     ensures ok { OnOk result (text.new.items ≡ text.old.items ++ chip_text (image_of_chip chip.now buffer.now)) }
 {
     push_flags(text, chip)?;
     push_u16(text, planes)?;
-    push_planes(text, chip)?;
+    push_planes(text, chip, addresses)?;
     push_u8(text, buffer.len() as u8)?;
     push_messages(text, buffer)?;
     Ok(())
@@ -213,11 +220,13 @@ fn push_flags(text: &mut Vec<u8>, chip: &ChipView<'_>) -> Result<(), NoMemory>
     Ok(())
 }
 
-fn push_planes(text: &mut Vec<u8>, chip: &ChipView<'_>) -> Result<(), NoMemory>
-    ensures ok { OnOk result (text.new.items ≡ text.old.items ++ listed_below chip.now 4096) }
+/// The planes at these addresses that are not 0.
+fn push_planes(text: &mut Vec<u8>, chip: &ChipView<'_>, addresses: &[u16]) -> Result<(), NoMemory>
+    requires within { (i : ℕ) → i < length addresses.now → slice_index addresses.now i < 4096 }
+    ensures ok { OnOk result (text.new.items ≡ text.old.items ++ flat_map (listing_at chip.now) addresses.now) }
 {
-    for at in 0..ADDRESSES {
-        push_plane(text, at, memory_plane(chip, at))?;
+    for at in addresses {
+        push_plane(text, *at, memory_plane(chip, *at))?;
     }
     Ok(())
 }

@@ -38,7 +38,8 @@ impl Model for MemoryRows {
 
     ghost view = { λ rows. spread rows.words.items rows.slots.items rows.stride };
 
-    ghost invariant = { λ rows. AreSlots rows.words.items (vec_capacity rows.words) rows.slots.items rows.used rows.stride };
+    ghost invariant = { λ rows.
+        AreSlots rows.words.items (vec_capacity rows.words) rows.slots.items rows.used rows.stride };
 }
 
 impl MemoryRows {
@@ -73,6 +74,15 @@ impl MemoryRows {
             used: self.used,
             stride: self.stride,
         })
+    }
+
+    /// Whether an address has a row of its own. One without reads 0.
+    pub(crate) fn is_in_use(&self, at: usize, stride: usize) -> bool
+        requires at { at < 4096 }
+        requires words { length self.now ≡ 4096 * stride }
+        ensures blank { result ≡ false → (c : ℕ) → c < stride → slice_index self.now (at * stride + c) ≡ 0 }
+    {
+        self.slots[at] != 0
     }
 
     /// The words of an address, so many from the first on.
@@ -224,7 +234,7 @@ impl MemoryRows {
         store_row(&mut self.words, here, holds, planes);
     }
 
-    /// Copies so many words of each row of others.
+    /// Copies so many words of each row of others. Where no row is in use, zeros need no copy.
     pub(crate) fn lay(&mut self, here: Band, from: &MemoryRows, there: Band, count: usize)
         requires to { length self.old ≡ 4096 * here.stride }
         requires from { length from.now ≡ 4096 * there.stride }
@@ -233,6 +243,9 @@ impl MemoryRows {
         ensures value { AreLaidRows here there 4096 count from.now self.old self.new }
         ensures words { length self.new ≡ length self.old }
     {
+        if self.used == 1 && from.used == 1 {
+            return;
+        }
         for row in 0..ADDRESSES {
             self.lay_row(row, here, from, there, count);
         }

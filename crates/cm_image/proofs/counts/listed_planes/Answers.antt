@@ -2,9 +2,6 @@ use Rattle.std.proofs.Common.{◌≡◌, ◌<◌, ◌+◌, ◌^◌, ◌==◌, if
 use Rattle.std.proofs.Common.{List, length, get_or, replicate, sym, ap, ◌∙◌, subst, arith}
 use Rattle.std.proofs.lemmas.List.{with_items_is}
 use Rattle.cm_model.specs.Array.{Chips, chip_at}
-use Rattle.cm_model.specs.Processor.{memory_bit}
-use Rattle.cm_model.specs.Chip.{processor_at, plane_number}
-use Rattle.cm_model.proofs.Values.{plane_number-is}
 use Rattle.cm_image_format.specs.Whole.{memory_plane_of}
 use Rattle.cm_image.proofs.Counting.{AreSoFar, none_counted, row_counted}
 use Rattle.cm_image.proofs.counts.listed_planes.Goals as goal
@@ -20,20 +17,14 @@ loop-at-preserved g c =
     let chips : Chips = c.args.machine.now.machine.chips in
     let at : ℕ = c.loop-at.at in
     let counts = c.loop-at.counts in
-    let new : List ℕ = c.count_row.new.counts in
-    let row : List ℕ = c.plane_row-row.result.now in
+    let new : List ℕ = c.count_planes.new.counts in
     let lent = c.deref_mut.ensures in
     let before = c.loop-at.invariant in
-    let long : length new ≡ length counts.items = omega (arith, c.count_row.auto.counts, ap length lent.value) in
+    let long : length new ≡ length counts.items = omega (arith, c.count_planes.auto.counts, ap length lent.value) in
     let new_is = with_items_is counts new (omega (arith, long, ap length lent.value, lent.len)) in
-    let number_is : c.unwrap.result ≡ at = rw c.unwrap.ensures at c.new.ensures.value in
     let more : (k : ℕ) → k < 2 ^ g.row.N
-    → get_or new k 0 ≡ get_or counts.items k 0 + (if get_or row k 0 == 0 then 0 else 1) =
-    λ k h. c.count_row.ensures.value k (omega (arith, h, before.counted.long, ap length lent.value))
-    ∙ ap (λ (ns : List ℕ). get_or ns k 0 + (if get_or row k 0 == 0 then 0 else 1)) lent.value in
-    let planes : (k : ℕ) → k < 2 ^ g.row.N → get_or row k 0 ≡ memory_plane_of (chip_at chips k) at =
-    λ k h. plane_number-is (get_or row k 0) (λ p. memory_bit (processor_at (chip_at chips k) p) c.unwrap.result)
-    (c.count_row.ensures.words k) (c.plane_row-row.ensures.value k h)
-    ∙ ap (λ (n : ℕ). plane_number (λ p. memory_bit (processor_at (chip_at chips k) p) n)) number_is in
+    → get_or new k 0 ≡ get_or counts.items k 0 + (if memory_plane_of (chip_at chips k) at == 0 then 0 else 1) =
+    λ k h. c.count_planes.ensures.value k h
+    ∙ ap (λ (ns : List ℕ). get_or ns k 0 + (if memory_plane_of (chip_at chips k) at == 0 then 0 else 1)) lent.value in
     subst (λ (ns : List ℕ). AreSoFar (2 ^ g.row.N) chips (at + 1) ns) (sym new_is)
-    (row_counted (2 ^ g.row.N) at chips counts.items new row before (long ∙ before.counted.long) more planes)
+    (row_counted (2 ^ g.row.N) at chips counts.items new before (long ∙ before.counted.long) more)

@@ -2,14 +2,15 @@ use Rattle.std.proofs.Common.{◌≡◌, ◌∙◌, ◌^◌, ℕ, List, length, 
 use Rattle.cm_model.specs.Chip.{blank_chip}
 use Rattle.cm_model.proofs.Each.{length-each_from}
 use Rattle.cm_image_format.specs.Whole.{text_of, read_image}
-use Rattle.cm_image.specs.Planes.{AreCounted}
+use Rattle.cm_image.specs.Planes.{AreCounted, AreInUse}
 use Rattle.cm_image.proofs.Dumping.{all_written}
 use Rattle.cm_image.proofs.dumps.dump.Goals as goal
 
 pub push_chips-requires : goal.push_chips-requires
 push_chips-requires g c =
     let sizes = c.clock-cycles.ensures.sizes in
-    let same : c.deref-2.result.now ≡ c.in_ok-counts.counts.items = c.deref-2.ensures.value in (
+    let same : c.deref-2.result.now ≡ c.in_ok-counts.counts.items = c.deref-2.ensures.value in
+    let in_use : c.deref-3.result.now ≡ c.in_ok-addresses.addresses.items = c.deref-3.ensures.value in (
       lit< tt,
       (
         sizes.dimension,
@@ -19,7 +20,12 @@ push_chips-requires g c =
             subst (λ (counts : List ℕ). AreCounted (2 ^ g.row.N) c.args.machine.now.machine.chips 4096 counts)
                 (sym same)
                 c.in_ok-counts.ensures.value,
-            ap length c.in_ok-tile.ensures.value ∙ length-each_from 0 32 (λ k. blank_chip),
+            (
+              subst (λ (addresses : List ℕ). AreInUse (2 ^ g.row.N) c.args.machine.now.machine.chips 4096 addresses)
+                  (sym in_use)
+                  c.in_ok-addresses.ensures.value,
+              ap length c.in_ok-tile.ensures.value ∙ length-each_from 0 64 (λ k. blank_chip),
+            ),
           ),
         ),
       ),

@@ -5,7 +5,7 @@ use Rattle.cm_image.proofs.dumps.push_chips.Given as goal
 abbrev pub invariant-loop-first : goal.invariant-loop-first
 invariant-loop-first g l = record {
   within : l.first ≤ l.count;
-  tile : length l.tile ≡ 32;
+  tile : length l.tile ≡ 64;
   is : l.text.items ≡ l.initial.text.items ++ chips_text l.machine.machine 0 l.first;
 }
 

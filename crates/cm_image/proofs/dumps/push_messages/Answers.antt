@@ -1,6 +1,7 @@
 use Rattle.std.proofs.Common.{◌++◌, List, ℕ, sym, ap, ◌∙◌, arith}
 use Rattle.std.proofs.lemmas.List.{append-nil}
-use Rattle.cm_image.proofs.Dumping.{messages_more}
+use Rattle.cm_message.specs.Bytes.{message_text}
+use Rattle.cm_image.proofs.Dumping.{items_more}
 use Rattle.cm_image.proofs.dumps.push_messages.Goals as goal
 
 pub loop-message-init : goal.loop-message-init
@@ -8,6 +9,6 @@ loop-message-init c = sym (append-nil c.args.text.now.items)
 
 pub loop-message-preserved : goal.loop-message-preserved
 loop-message-preserved c =
-    messages_more c.args.messages.now c.args.text.now.items _ _ c.loop-message.message-index c.message-item.result
-    (omega arith) c.message-item.is c.loop-message.invariant
+    items_more message_text c.args.messages.now c.args.text.now.items _ _ c.loop-message.message-index
+    c.message-item.result c.message-item.result (omega arith) c.message-item.is c.loop-message.invariant
     (c.in_ok-push.ensures.ok ∙ ap (λ (xs : List ℕ). c.loop-message.text.items ++ xs) c.bytes.ensures.value)

@@ -1,8 +1,11 @@
-use Rattle.std.proofs.Common.{◌≡◌, ◌<◌, ◌≤◌, ◌+◌, ◌++◌, ◌^◌, ℕ, length, get_or, refl, sym, ap, ◌∙◌, arith}
+use Rattle.std.proofs.Common.{◌≡◌, ◌<◌, ◌≤◌, ◌+◌, ◌++◌, ◌^◌, ℕ, List, length, get_or, refl, sym, ap, ◌∙◌, subst}
+use Rattle.std.proofs.Common.{arith}
+use Rattle.std.specs.List.{flat_map}
+use Rattle.cm_model.specs.Processor.{Processor}
 use Rattle.cm_model.specs.Array.{chip_at, list_at}
 use Rattle.cm_image_format.specs.Image.{chip_text}
 use Rattle.cm_image_format.specs.Whole.{image_of_chip}
-use Rattle.cm_image.specs.Planes.{chips_text, planes_below}
+use Rattle.cm_image.specs.Planes.{chips_text, planes_below, listed_below, listing_at}
 use Rattle.cm_image.proofs.Dumping.{chips_none, chips_more}
 use Rattle.cm_image.proofs.dumps.push_tile.Goals as goal
 
@@ -21,6 +24,9 @@ push_chip-requires g c =
       planes = ap (λ (k : ℕ). get_or c.args.counts.now k 0) c.from.ensures
           ∙ (c.requires.counts.each number below ∙ sym (λ i. length (planes_below (same i) 4096)));
       few = rw c.buffer-buffer.ensures.value (omega (arith, room, c.requires.room));
+      within = c.requires.in_use.within;
+      listed = subst (λ (v : List Processor). listed_below v 4096 ≡ flat_map (listing_at v) c.args.addresses.now)
+          (sym same) (c.requires.in_use.listed number below);
     }
 
 pub loop-c-preserved : goal.loop-c-preserved
