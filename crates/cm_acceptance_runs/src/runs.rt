@@ -34,7 +34,7 @@ const ASKS: &[u8] = b"run\nfield 0 0 0 8\nflag 0 0 7\n";
 
 const ANSWERS: &[u8] = b"end\nfield 44\nflag 1\n";
 
-const RUNS: [Row; 19] = [
+static RUNS: [Row; 19] = [
     // a sum on each of the program's own rooms, and on more chips
     (Given::Blank(0, 7), SUM, ASKS, 100, 100, ANSWERS, 0),
     (Given::Blank(0, 1), SUM, ASKS, 100, 100, ANSWERS, 0),
@@ -86,7 +86,7 @@ const WHOLE: (u8, u8) = (0, 1);
 /// of the fault, 0 for none.
 type SharedRow = (Given, Text, (u8, u8), u8);
 
-const SHARED_RUNS: [SharedRow; 22] = [
+static SHARED_RUNS: [SharedRow; 22] = [
     // as many cuts as the cube has room for, and as many workers as there are blocks
     (Given::Blank(4, 7), SUM, (0, 1), 0),
     (Given::Blank(4, 7), SUM, (1, 1), 0),

@@ -45,7 +45,7 @@ const ANSWERS: &[u8] = b"\
 const WHOLE: (u8, u8) = (0, 1);
 
 /// Blocks and workers: 2^k, and how many.
-const SHARINGS: [(u8, u8); 6] = [(1, 1), (1, 2), (2, 1), (2, 2), (2, 3), (2, 4)];
+static SHARINGS: [(u8, u8); 6] = [(1, 1), (1, 2), (2, 1), (2, 2), (2, 3), (2, 4)];
 
 /// The text of the program.
 fn program(alloc: Global) -> Result<Vec<u8>, AllocError> {
@@ -87,7 +87,8 @@ fn left<R: Threads + Wait + Sync>(
 fn messages_cross_blocks_as_they_cross_chips(rt: HostRuntime) {
     let whole = left(&rt, rt.alloc(), WHOLE);
     assert!(rt; whole.is_some());
-    for (split, workers) in SHARINGS {
+    for sharing in &SHARINGS {
+        let (split, workers) = *sharing;
         let shared = left(&rt, rt.alloc(), (split, workers));
         assert!(rt; shared == whole, "{split} cuts, {workers} workers");
     }
