@@ -1,3 +1,4 @@
+mod Accounts
 mod Clocks
 pub mod Stretching
 pub mod Lines

@@ -10,5 +10,6 @@ mod laws;
 pub use command::{Command, Refusal};
 pub use fault::SessionFault;
 pub use laws::{
-    lines_can_be_parted, sessions_never_go_back, stretches_are_answered_alike, texts_can_be_parted,
+    lines_can_be_parted, sessions_conserve_the_account, sessions_never_go_back,
+    stretches_are_answered_alike, texts_can_be_parted,
 };
