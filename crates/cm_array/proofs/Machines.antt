@@ -1,10 +1,12 @@
 -- The parts of a machine stay the parts of a machine.
-use Rattle.std.proofs.Common.{◌≡◌, ℕ, ◌^◌, ◌<◌, ◌≤◌, ◌↔◌, Bool, true, false, List, [], length, set, refl, sym, ap}
+use Rattle.std.proofs.Common.{◌≡◌, ℕ, ◌+◌, ◌^◌, ◌<◌, ◌≤◌, ◌↔◌, Bool, true, false, List, [], ◌∷◌, length, set, refl}
+use Rattle.std.proofs.Common.{sym, ap}
 use Rattle.std.proofs.Common.{◌∙◌, subst, arith, Result, Ok, Err, IsErr, OnOk, OnErr}
 use Rattle.std.proofs.lemmas.List.{length-set, length-map}
 use Rattle.std.proofs.Math.Nat.{pow-le-pow_right}
 use Rattle.std.proofs.lemmas.List.Elements.{All-from_get_or}
 use Rattle.std.specs.Prelude.{IsTrue}
+use Rattle.std.specs.List.{list_any}
 use Rattle.cm_model.specs.declared.act.Act.{Act}
 use Rattle.cm_model.specs.declared.act.Act.TheVariants as act
 use Rattle.cm_model.specs.declared.act.Nano.{Nano}
@@ -14,18 +16,21 @@ use Rattle.cm_model.specs.Whole.{IsChip}
 use Rattle.cm_model.specs.Array.{Chips, chip_at, after_nano}
 use Rattle.cm_model.specs.Each.{each_from}
 use Rattle.cm_model.specs.Chip.{blank_chip, with_flag}
-use Rattle.cm_model.specs.Machine.{Machine, blank_machine}
+use Rattle.cm_model.specs.Machine.{Machine, blank_machine, run_of}
 use Rattle.cm_model.specs.Buffers.{after_act}
 use Rattle.cm_model.specs.Account.{account, all_injected}
 use Rattle.cm_model.specs.Keeping.{IsMachine}
 use Rattle.cm_model.proofs.Blanks.{IsMachine-blank_at}
-use Rattle.cm_model.proofs.Keeping.{IsMachine-after_act}
+use Rattle.cm_model.proofs.Keeping.{IsMachine-after_act, IsMachine-run_of}
+use Rattle.cm_model.proofs.Runs.{run_of-nil, run_of-cons}
 use Rattle.cm_crossing.specs.Standing.{UnderWay}
 use Rattle.cm_router.specs.Logs.{Log}
 use Rattle.cm_petit.specs.Routers.{events_of, AreRouters}
 use Rattle.cm_array.specs.declared.parts.Parts.{Parts}
+use Rattle.cm_array.specs.Acts.{cycles_in, is_instruction}
 use Rattle.cm_array.specs.Parts.{machine_of, AreParts, AreUnderWay}
 use Rattle.cm_array.proofs.Lists.{each_after_set}
+use Rattle.cm_array.proofs.Rooms.{cycles_in-append}
 use Rattle.cm_array.proofs.Searching.{AreOf}
 use Rattle.cm_array.proofs.Wholes.{IsChip-with_flag}
 
@@ -104,6 +109,41 @@ AreUnderWay-instructed n cap nano before after h chips logs clock sent incoming 
     AreUnderWay-after_act n cap (act.Nano nano) before after h
     (λ i. record { chips = chips i; buffers = (crossing i).buffers; logs = events_of (logs i).items; clock = clock i })
     (sent ∙ sym h.sent_count) (incoming ∙ sym h.incoming_count) (omega (arith, clock, h.clock))
+
+-- where the counter alone is another after acts, they are the parts of a machine still
+pub AreParts-counted : (n cap : ℕ) (acts : List Act) (parts : Parts) (clock : ℕ) → AreParts n cap parts
+    → machine_of (record parts { clock = clock }) ≡ run_of n cap (machine_of parts) acts → clock < 2 ^ 63
+    → AreParts n cap (record parts { clock = clock })
+AreParts-counted n cap acts parts clock h is few = record {
+  dimension = h.dimension;
+  some_room = h.some_room;
+  most_room = h.most_room;
+  sent_count = h.sent_count;
+  incoming_count = h.incoming_count;
+  clock = few;
+  gathered = h.gathered;
+  machine = subst (λ (m : Machine). IsMachine n cap m) (sym is)
+      (IsMachine-run_of n cap (machine_of parts) acts h.machine);
+}
+
+-- acts among which is no instruction, of a machine in which a petit cycle changes nothing but the counter
+module _ (n cap : ℕ) (at : ℕ → Machine) (long : (k : ℕ) → length (at k).buffers ≡ 2 ^ n)
+    (ticks : (k : ℕ) → at (k + 1) ≡ after_act n cap (at k) act.Cycle) where
+  pub rested : (acts : List Act) (clock : ℕ) → list_any is_instruction acts ≡ false
+      → at (clock + cycles_in acts) ≡ run_of n cap (at clock) acts
+  rested [] clock none =
+      let same : clock + cycles_in [] ≡ clock = omega arith in
+      rw same (sym (run_of-nil n cap (at clock) (long clock)))
+  rested (act.Nano nano ∷ acts) clock none = absurd cc
+  rested (act.Sense ∷ acts) clock none =
+      let same : clock + cycles_in (act.Sense ∷ acts) ≡ clock + cycles_in acts =
+      omega (arith, cycles_in-append (act.Sense ∷ []) acts) in
+      rw same (rested acts clock none ∙ sym (run_of-cons n cap (at clock) act.Sense acts (long clock)))
+  rested (act.Cycle ∷ acts) clock none =
+      let more : clock + cycles_in (act.Cycle ∷ acts) ≡ (clock + 1) + cycles_in acts =
+      omega (arith, cycles_in-append (act.Cycle ∷ []) acts) in
+      rw more (rested acts (clock + 1) none ∙ ap (λ (m : Machine). run_of n cap m acts) (ticks clock)
+      ∙ sym (run_of-cons n cap (at clock) act.Cycle acts (long clock)))
 
 -- one log for each chip
 pub length-logs : (n cap : ℕ) (parts : Parts) → AreUnderWay n cap parts → length parts.logs.items ≡ 2 ^ n

@@ -70,7 +70,7 @@ LoseAtMost-more done one k first second third was is =
 -- ---- petit cycles among acts
 
 -- petit cycles of two lists of acts add up
-cycles_in-append : (first second : List Act) → cycles_in (first ++ second) ≡ cycles_in first + cycles_in second
+pub cycles_in-append : (first second : List Act) → cycles_in (first ++ second) ≡ cycles_in first + cycles_in second
 cycles_in-append first second = sum_by-append (λ a. cond (is_cycle a) 1 0) first second
 
 -- one act more

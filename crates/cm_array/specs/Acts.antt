@@ -10,6 +10,12 @@ is_cycle (Nano nano) = false
 is_cycle Sense = false
 is_cycle Cycle = true
 
+-- the act is an instruction
+abbrev pub is_instruction : Act → Bool
+is_instruction (Nano nano) = true
+is_instruction Sense = false
+is_instruction Cycle = false
+
 -- how many of the acts are petit cycles
 abbrev pub cycles_in : List Act → ℕ
 cycles_in acts = count_by is_cycle acts

@@ -19,7 +19,7 @@ ghost use Rattle.cm_array.specs.Pokes.{machine_with_memory_bit, machine_with_fla
 
 use crate::finding::{delivered_to, router_of};
 use crate::part::Part;
-use crate::parts::{Parts, blank_logs, blank_planes, copied_logs, reserve, run};
+use crate::parts::{Parts, blank_logs, blank_planes, copied_logs, pass_time, reserve, run};
 use crate::put::{IntoPart, put};
 use cm_bits::{Addr, FlagNo, NoMemory, Plane, Proc};
 use cm_crossing::{Crossing, Sizes};
@@ -341,8 +341,12 @@ impl<const N: usize, const CAP: usize> Machine<N, CAP> {
         ensures ok { OnOk result (self.new.machine ≡ run_of N CAP self.old.machine acts.now) }
         ensures err { OnErr result (self.new.machine ≡ self.old.machine) }
     {
-        reserve(&mut self.parts.logs, cycles * (MOST_INJECTED + CAP))?;
-        run(Self::sizes(), &mut self.parts, acts);
+        let parts = &mut self.parts;
+        let sizes = Self::sizes();
+        if !pass_time(sizes, parts, acts, cycles) {
+            reserve(&mut parts.logs, cycles * (MOST_INJECTED + CAP))?;
+            run(sizes, parts, acts);
+        }
         Ok(())
     }
 }

@@ -1,6 +1,8 @@
 //! What a machine is kept as, and what acts do to it.
 
-ghost use Rattle.std.specs.Prelude.{◌≡◌, ◌+◌, ◌*◌, ◌/◌, ◌^◌, ◌<◌, ◌≤◌, [], ◌∷◌, IfOk, IsOk, OnErr, OnOk};
+ghost use Rattle.std.specs.Prelude.{◌≡◌, ◌+◌, ◌*◌, ◌^◌, ◌<◌, ◌≤◌, [], ◌∷◌, IfOk, IsOk, IsFalse, IsTrue, OnErr};
+ghost use Rattle.std.specs.Prelude.{OnOk};
+ghost use Rattle.std.specs.List.{list_any};
 ghost use Rattle.std.specs.Prelude.{length, vec_len, vec_capacity};
 ghost use Rattle.cm_model.specs.Each.{each_from};
 ghost use Rattle.cm_model.specs.Array.{after_nano};
@@ -8,7 +10,7 @@ ghost use Rattle.cm_model.specs.Machine.{run_of};
 ghost use Rattle.cm_model.specs.Buffers.{after_act};
 ghost use Rattle.cm_router.specs.Logs.{log_rooms_of, HaveLogRoom, LoseAtMost};
 ghost use Rattle.cm_petit.specs.Routers.{events_of};
-ghost use Rattle.cm_array.specs.Acts.{cycles_in};
+ghost use Rattle.cm_array.specs.Acts.{cycles_in, is_instruction};
 ghost use Rattle.cm_array.specs.Parts.{machine_of, AreParts, AreUnderWay, LacksLogRoom};
 
 use crate::stepping::step;
@@ -17,7 +19,7 @@ use cm_crossing::{Crossing, Sizes};
 use cm_element::Run;
 use cm_message::Event;
 use cm_model::{Act, Nano};
-use cm_petit::cycle;
+use cm_petit::{cycle, is_at_rest};
 use std::alloc::Global;
 
 /// What a machine keeps, and the working room of instructions and petit cycles, so that these take no
@@ -100,6 +102,37 @@ fn instruct(dims: u8, parts: &mut Parts, nano: &Nano)
     );
 }
 
+/// Runs acts that change nothing but the counter, so many of them petit cycles: no instruction is among them, and a
+/// petit cycle of this machine changes nothing else. Whether it is so; if not, nothing is done.
+pub(crate) fn pass_time(sizes: Sizes, parts: &mut Parts, acts: &[Act], cycles: usize) -> bool
+    requires parts { AreParts sizes.dims sizes.room parts.old }
+    requires cycles { cycles ≡ cycles_in acts.now }
+    requires clock { parts.old.clock + cycles < 2 ^ 63 }
+    ensures value { IsTrue result
+        → machine_of parts.new ≡ run_of sizes.dims sizes.room (machine_of parts.old) acts.now }
+    ensures parts { AreParts sizes.dims sizes.room parts.new }
+    ensures same { IsFalse result → parts.new ≡ parts.old }
+{
+    if has_instruction(acts) || !is_at_rest(sizes, &parts.run, &parts.crossing) {
+        return false;
+    }
+    parts.clock += cycles as u64;
+    true
+}
+
+/// Whether an instruction is among acts.
+fn has_instruction(acts: &[Act]) -> bool
+    ensures value { result ≡ list_any is_instruction acts.now }
+{
+    acts.iter().any(|act| is_instruction(act))
+}
+
+fn is_instruction(act: &Act) -> bool
+    ensures value { result ≡ is_instruction act.now }
+{
+    matches!(act, Act::Nano(_))
+}
+
 /// Makes room in each log for so many events more.
 pub(crate) fn reserve(logs: &mut [Vec<Event>], more: usize) -> Result<(), NoMemory>
     ensures events { events_of logs.new ≡ events_of logs.old }
@@ -117,8 +150,8 @@ pub(crate) fn reserve(logs: &mut [Vec<Event>], more: usize) -> Result<(), NoMemo
 }
 
 /// Makes room in a log for so many events more. A log that has to grow gets twice its room at least, and
-/// an eighth more than is wanted, so that after few events the next list of acts finds room; only the
-/// events that it holds are moved, not all that it had room for.
+/// twice of what is wanted, so that the lists of acts that follow find room: memory that was reserved and not
+/// written yet costs nothing. Only the events that it holds are moved, not all that it had room for.
 fn make_room(log: &mut Vec<Event>, more: usize) -> Result<(), NoMemory>
     ensures items { log.new.items ≡ log.old.items }
     ensures len { vec_len log.new ≡ vec_len log.old }
@@ -128,7 +161,7 @@ fn make_room(log: &mut Vec<Event>, more: usize) -> Result<(), NoMemory>
     ensures grows { OnOk result (vec_capacity log.old < vec_capacity log.new
         → 2 * vec_capacity log.old ≤ vec_capacity log.new) }
     ensures ample { OnOk result (vec_capacity log.old < vec_capacity log.new
-        → vec_len log.old + more + (vec_len log.old + more) / 8 ≤ vec_capacity log.new) }
+        → 2 * (vec_len log.old + more) ≤ vec_capacity log.new) }
 {
     if more <= log.capacity() - log.len() {
         return Ok(());
@@ -136,8 +169,7 @@ fn make_room(log: &mut Vec<Event>, more: usize) -> Result<(), NoMemory>
     let Some(wanted) = log.len().checked_add(more) else {
         return Err(NoMemory);
     };
-    let ample = wanted.saturating_add(wanted / 8);
-    let room = ample.max(log.capacity().saturating_mul(2));
+    let room = wanted.max(log.capacity()).saturating_mul(2);
     let mut grown = Vec::with_capacity(*log.allocator(), room)?;
     grown.extend_from_slice(log)?;
     *log = grown;
