@@ -2,6 +2,7 @@
 
 ghost use Rattle.std.specs.Prelude.{IsTrue};
 ghost use Rattle.std.specs.List.{All};
+ghost use Rattle.std.specs.Thread.{IsSync};
 
 use crate::machines::{agree, flag, poke_plane};
 use cm_array::{Machine, Plain, RunFault, Runner};
@@ -9,9 +10,9 @@ use cm_model::Act;
 use cm_subcube::Block;
 use cm_workers::{Forked, Gate, Passage};
 use std::alloc::Global;
-use std::sync::Arc;
 use std::sync::atomic::{AtomicU64, Ordering};
-use std::test::Fail;
+use std::sync::{Arc, Wait};
+use std::thread::Threads;
 
 /// How often a gate was asked, and how often it was passed.
 #[derive(Drop)]
@@ -49,19 +50,19 @@ impl Gate for Reluctant {
 }
 
 /// A machine of sixteen chips in which some processors ask to send.
-fn asking(alloc: Global) -> Result<Machine<4, 7>, Fail> {
-    let mut machine = Machine::<4, 7>::blank(alloc)?;
+fn asking(alloc: Global) -> Option<Machine<4, 7>> {
+    let mut machine = Machine::<4, 7>::blank(alloc).ok()?;
     poke_plane(&mut machine, 0, flag(12), 0x00ff);
     poke_plane(&mut machine, 9, flag(12), 0xf0f0);
-    Ok(machine)
+    Some(machine)
 }
 
-fn no_calls(alloc: Global) -> Result<Arc<Calls, Global>, Fail> {
+fn no_calls(alloc: Global) -> Option<Arc<Calls, Global>> {
     let calls = Calls {
         asked: AtomicU64::new(0),
         passed: AtomicU64::new(0),
     };
-    Ok(Arc::new(alloc, calls)?)
+    Arc::new(alloc, calls).ok()
 }
 
 /// How a runner ends a petit cycle, and whether the machine is then as one thread leaves it, or else as it was.
@@ -69,39 +70,68 @@ fn cycle<X: Runner<4, 7>>(
     runner: &mut X,
     alloc: Global,
     machine: &mut Machine<4, 7>,
-) -> Result<(Option<RunFault>, bool), Fail>
+) -> Option<(Option<RunFault>, bool)>
     requires runner { X.ready }
 {
-    let mut wanted = machine.copy(alloc)?;
+    let mut wanted = machine.copy(alloc).ok()?;
     let refused = runner.go(machine, &[Act::Cycle]).err();
     if refused.is_none() {
-        Plain.go(&mut wanted, &[Act::Cycle])?;
+        Plain.go(&mut wanted, &[Act::Cycle]).ok()?;
     }
-    Ok((refused, agree(machine, &wanted, 16)))
+    Some((refused, agree(machine, &wanted, 16)))
+}
+
+/// The same, and how often the gate was asked and passed so far.
+type Cycled = ((Option<RunFault>, bool), (u64, u64));
+
+/// What two petit cycles tell, one after the other.
+fn cycles<X: Runner<4, 7>>(
+    runner: &mut X,
+    alloc: Global,
+    machine: &mut Machine<4, 7>,
+    calls: &Arc<Calls, Global>,
+) -> Option<[Cycled; 2]>
+    requires runner { X.ready }
+{
+    let first = cycle(runner, alloc, machine)?;
+    let between = calls.told();
+    let second = cycle(runner, alloc, machine)?;
+    Some([(first, between), (second, calls.told())])
+}
+
+/// What two of two workers tell, of whom the gate does not admit one in the first.
+fn gated<R: Threads + Wait>(
+    rt: &R,
+    alloc: Global,
+    machine: &mut Machine<4, 7>,
+    calls: &Arc<Calls, Global>,
+) -> Option<[Cycled; 2]>
+    requires threads { IsSync R.row }
+{
+    let gate = Reluctant {
+        calls: Arc::try_clone(calls).ok()?,
+    };
+    let passage = Passage::Gated(Box::new(alloc, gate).ok()?);
+    let mut forked = Forked::new::<4>(rt, alloc, 2, 2, passage).ok()?;
+    cycles(&mut forked, alloc, machine, calls)
+}
+
+/// The same of a machine in which some processors ask to send.
+fn told<R: Threads + Wait>(rt: &R, alloc: Global) -> Option<[Cycled; 2]>
+    requires threads { IsSync R.row }
+{
+    let calls = no_calls(alloc)?;
+    let mut machine = asking(alloc)?;
+    gated(rt, alloc, &mut machine, &calls)
 }
 
 #[test]
 fn a_worker_that_is_not_admitted_leaves_the_machine_as_it_was_and_may_be_admitted_later(
     rt: HostRuntime,
-) -> Result<(), Fail> {
-    let alloc = rt.alloc();
-    let calls = no_calls(alloc)?;
-    let gate = Reluctant {
-        calls: Arc::try_clone(&calls)?,
-    };
-    let passage = Passage::Gated(Box::new(alloc, gate)?);
-    let mut forked = Forked::new::<4>(&rt, alloc, 2, 2, passage)?;
-    let mut machine = asking(alloc)?;
-    let first = cycle(&mut forked, alloc, &mut machine)?;
-    let between = calls.told();
-    let second = cycle(&mut forked, alloc, &mut machine)?;
-    let told = (first, between, second, calls.told());
-    let wanted = (
-        (Some(RunFault::NoThread), true),
-        (2, 0),
-        (None, true),
-        (4, 4),
-    );
-    assert_eq!(rt; told, wanted);
-    Ok(())
+) {
+    let wanted = [
+        ((Some(RunFault::NoThread), true), (2, 0)),
+        ((None, true), (4, 4)),
+    ];
+    assert_eq!(rt; told(&rt, rt.alloc()), Some(wanted));
 }

@@ -25,5 +25,3 @@ mod rounds_of_runs;
 mod rows;
 #[cfg(test)]
 mod shares;
-#[cfg(test)]
-mod speed;

@@ -2,6 +2,7 @@
 
 ghost use Rattle.std.specs.Prelude.{IsTrue, ◌<◌};
 ghost use Rattle.std.specs.List.{All};
+ghost use Rattle.std.specs.Thread.{IsSync};
 
 use crate::going::{buffers_at_rounds, end_of};
 use crate::machines::agree;
@@ -13,9 +14,10 @@ use cm_subcube::Block;
 use cm_workers::{Forked, Gate, Passage};
 use std::alloc::Global;
 use std::hint::spin_loop;
-use std::sync::Arc;
 use std::sync::atomic::{AtomicU64, Ordering};
+use std::sync::{Arc, Wait};
 use std::test::Fail;
+use std::thread::Threads;
 
 /// How often a worker looks whether the other has come.
 const TURNS: u32 = 100_000_000;
@@ -136,22 +138,42 @@ fn no_notes(alloc: Global) -> Result<Arc<Notes, Global>, Fail> {
     Ok(Arc::new(alloc, notes)?)
 }
 
+/// A machine goes through the acts by two workers that meet.
+fn meet<R: Threads + Wait>(
+    rt: &R,
+    alloc: Global,
+    machine: &mut Machine<4, 7>,
+    acts: &[Act],
+    notes: &Arc<Notes, Global>,
+) -> Result<(), Fail>
+    requires threads { IsSync R.row }
+{
+    let gate = Meeting {
+        notes: Arc::try_clone(notes)?,
+        lists: buffers_at_rounds(alloc, machine, acts, 2)?,
+    };
+    let passage = Passage::Gated(Box::new(alloc, gate)?);
+    let mut forked = Forked::new::<4>(rt, alloc, 2, 2, passage)?;
+    forked.go(machine, acts)?;
+    Ok(())
+}
+
+/// What both noted, and whether the machine is as one thread leaves it.
+fn told<R: Threads + Wait>(rt: &R, alloc: Global) -> Result<([u64; 5], bool), Fail>
+    requires threads { IsSync R.row }
+{
+    let acts = program(alloc)?;
+    let notes = no_notes(alloc)?;
+    let mut machine = Machine::<4, 7>::blank(alloc)?;
+    meet(rt, alloc, &mut machine, &acts, &notes)?;
+    let is_plain = is_as_plain(alloc, &machine, &acts)?;
+    Ok((notes.told(), is_plain))
+}
+
 #[test]
 fn two_workers_meet_in_each_of_128_rounds_with_the_blocks_of_one_thread(
     rt: HostRuntime,
 ) -> Result<(), Fail> {
-    let alloc = rt.alloc();
-    let acts = program(alloc)?;
-    let mut machine = Machine::<4, 7>::blank(alloc)?;
-    let notes = no_notes(alloc)?;
-    let gate = Meeting {
-        notes: Arc::try_clone(&notes)?,
-        lists: buffers_at_rounds(alloc, &machine, &acts, 2)?,
-    };
-    let passage = Passage::Gated(Box::new(alloc, gate)?);
-    let mut forked = Forked::new::<4>(&rt, alloc, 2, 2, passage)?;
-    forked.go(&mut machine, &acts)?;
-    assert_eq!(rt; notes.told(), [128, 128, 0, 0, 128 * 16]);
-    assert!(rt; is_as_plain(alloc, &machine, &acts)?);
+    assert_eq!(rt; told(&rt, rt.alloc())?, ([128, 128, 0, 0, 128 * 16], true));
     Ok(())
 }

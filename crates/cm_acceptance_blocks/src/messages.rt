@@ -7,7 +7,7 @@ use cm_array::Machine;
 use cm_bits::Dir;
 use cm_message::{Event, Message, Tag};
 use cm_model::{Act, Found, Nano};
-use std::alloc::Global;
+use std::alloc::{AllocError, Global};
 use std::test::Fail;
 
 const DAISY: u8 = 11;
@@ -38,7 +38,7 @@ fn instruction(at: u16, read: u8, write: u8, cond: u8, mem_table: u8, flag_table
 
 /// 121 acts: over the chain flag DAISY becomes 0 in the first four processors of each chip and 1 in the others; those
 /// four write down a message and ask to send it; and 64 petit cycles.
-pub(crate) fn program(alloc: Global) -> Result<Vec<Act>, Fail> {
+pub(crate) fn program(alloc: Global) -> Result<Vec<Act>, AllocError> {
     let mut acts = Vec::new(alloc);
     acts.push(instruction(0, ZERO, DAISY, ZERO, 0xf0, 0xff))?;
     for _turn in 0..3 {

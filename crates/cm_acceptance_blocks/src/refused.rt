@@ -8,7 +8,7 @@ use std::test::Fail;
 use std::thread::Threads;
 
 /// For machines of sixteen chips.
-const SHARES: [(Share, Option<ForkFault>); 8] = [
+static SHARES: [(Share, Option<ForkFault>); 8] = [
     (Share { k: 3, workers: 1 }, Some(ForkFault::Split)),
     (Share { k: 3, workers: 0 }, Some(ForkFault::Split)),
     (Share { k: 255, workers: 9 }, Some(ForkFault::Split)),
@@ -27,7 +27,8 @@ fn fault_of<R: Threads + Wait>(rt: &R, alloc: Global, share: Share) -> Option<Fo
 fn too_many_blocks_are_refused_before_too_few_or_too_many_workers(
     rt: HostRuntime,
 ) -> Result<(), Fail> {
-    for (share, wanted) in SHARES {
+    for row in &SHARES {
+        let (share, wanted) = *row;
         assert_eq!(rt; fault_of(&rt, rt.alloc(), share), wanted, "{share:?}");
     }
     Ok(())

@@ -8,7 +8,7 @@ use std::alloc::Global;
 use std::test::Fail;
 
 /// Where flag 0 goes, its planes on two chips, and those of flag NEWS that are left.
-pub(crate) const ROWS: [(Dir, [Plane; 2], [Plane; 2]); 3] = [
+pub(crate) static ROWS: [(Dir, [Plane; 2], [Plane; 2]); 3] = [
     (Dir::South, [0xf000, 0x1000], [0x0001, 0x000f]),
     (Dir::North, [0x0001, 0x000f], [0xf000, 0x1000]),
     (Dir::North, [0xf000, 0x1000], [0x0f00, 0x0100]),
@@ -37,7 +37,8 @@ fn left(alloc: Global, dir: Dir, planes: [Plane; 2]) -> Result<[Plane; 2], Fail>
 fn two_chips_of_a_block_each_send_their_last_and_first_rows_to_each_other(
     rt: HostRuntime,
 ) -> Result<(), Fail> {
-    for (dir, planes, wanted) in ROWS {
+    for row in &ROWS {
+        let (dir, planes, wanted) = *row;
         assert_eq!(rt; left(rt.alloc(), dir, planes)?, wanted);
     }
     Ok(())

@@ -149,7 +149,7 @@ fn machines_of_32_to_256_chips_go_by_workers_as_on_one_thread(rt: HostRuntime) -
     Ok(())
 }
 
-const SHARES: [Share; 5] = [
+static SHARES: [Share; 5] = [
     Share { k: 0, workers: 1 },
     Share { k: 2, workers: 1 },
     Share { k: 2, workers: 2 },
@@ -172,8 +172,8 @@ fn sent<R: Threads + Wait>(rt: &R, alloc: Global, share: Share) -> Result<(bool,
 fn workers_send_four_messages_of_each_of_sixteen_chips_across_the_cube(
     rt: HostRuntime,
 ) -> Result<(), Fail> {
-    for share in SHARES {
-        assert_eq!(rt; sent(&rt, rt.alloc(), share)?, (true, true), "{share:?}");
+    for share in &SHARES {
+        assert_eq!(rt; sent(&rt, rt.alloc(), *share)?, (true, true), "{share:?}");
     }
     Ok(())
 }
@@ -200,7 +200,8 @@ fn passed<R: Threads + Wait>(
 
 #[test]
 fn one_worker_and_two_pass_rows_on_between_two_chips(rt: HostRuntime) -> Result<(), Fail> {
-    for (dir, planes, wanted) in ROWS {
+    for row in &ROWS {
+        let (dir, planes, wanted) = *row;
         for workers in 1u16..3 {
             assert_eq!(rt;
                 passed(&rt, rt.alloc(), workers, dir, planes)?,
