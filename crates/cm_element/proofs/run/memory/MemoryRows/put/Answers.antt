@@ -18,8 +18,12 @@ invariant_of-self c =
     let words = rows.words in
     let slots = rows.slots in
     let index : ℕ = c.start.result + c.from.result in
-    let own : 0 < get_or slots.items c.args.at 0 = omega (arith, c.if-index-eq0.false, get_or_read slots.items
-      c.args.at c.index.result.now (omega (arith, c.self.invariant.count, c.requires.at)) c.index.ensures 0) in
+    let own : 0 < get_or slots.items c.args.at 0 = omega (
+      arith,
+      c.if-index-eq0.false,
+      get_or_read slots.items
+          c.args.at c.index.result.now (omega (arith, c.self.invariant.count, c.requires.at)) c.index.ensures 0,
+    ) in
     let same : rows.stride ≡ c.args.stride =
     same_stride words.items slots.items rows.stride c.args.stride (rw c.self.view_is c.requires.words) in
     let place : index ≡ get_or slots.items c.args.at 0 * rows.stride + c.args.place =
@@ -41,8 +45,12 @@ returns c =
     let words = rows.words in
     let slots = rows.slots in
     let index : ℕ = c.start.result + c.from.result in
-    let own : 0 < get_or slots.items c.args.at 0 = omega (arith, c.if-index-eq0.false, get_or_read slots.items
-      c.args.at c.index.result.now (omega (arith, c.self.invariant.count, c.requires.at)) c.index.ensures 0) in
+    let own : 0 < get_or slots.items c.args.at 0 = omega (
+      arith,
+      c.if-index-eq0.false,
+      get_or_read slots.items
+          c.args.at c.index.result.now (omega (arith, c.self.invariant.count, c.requires.at)) c.index.ensures 0,
+    ) in
     let same : rows.stride ≡ c.args.stride =
     same_stride words.items slots.items rows.stride c.args.stride (rw c.self.view_is c.requires.words) in
     let place : index ≡ get_or slots.items c.args.at 0 * rows.stride + c.args.place =
