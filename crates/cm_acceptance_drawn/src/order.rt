@@ -10,6 +10,7 @@ use std::alloc::Global;
 use std::cell::Cell;
 
 /// What was written so far: in how many calls, and how many bytes.
+#[derive(Drop)]
 struct Written {
     calls: Cell<usize>,
     bytes: Cell<usize>,
@@ -98,25 +99,21 @@ static ORDERS: [(&[Part], usize); 4] = [
     (&[(b"jump\n\nwire show\nstep\njump\n", 0), (b"", 22)], 2),
 ];
 
-/// Whether what these parts are answered comes in time, in so many calls.
-fn is_in_order(alloc: Global, parts: &'static [Part], calls: usize) -> bool {
+/// Whether what these parts are answered comes in time.
+fn comes_in_time(alloc: Global, parts: &'static [Part], written: &Written) -> bool {
     let Ok(program) = assemble(alloc, b"set 9\nset 0\n") else {
         return false;
     };
     let Ok(mut machine) = Machine::<0, 7>::blank(alloc) else {
         return false;
     };
-    let written = Written {
-        calls: Cell::new(0),
-        bytes: Cell::new(0),
-    };
     let mut commands = Asking {
         parts,
         next: 0,
         in_time: true,
-        written: &written,
+        written,
     };
-    let mut answers = Counting { written: &written };
+    let mut answers = Counting { written };
     let end = session(
         alloc,
         &mut machine,
@@ -125,10 +122,16 @@ fn is_in_order(alloc: Global, parts: &'static [Part], calls: usize) -> bool {
         &mut answers,
         &mut Plain,
     );
-    end == Ok(())
-        && commands.in_time
-        && commands.next == parts.len()
-        && written.calls.get() == calls
+    end == Ok(()) && commands.in_time && commands.next == parts.len()
+}
+
+/// And in so many calls.
+fn is_in_order(alloc: Global, parts: &'static [Part], calls: usize) -> bool {
+    let written = Written {
+        calls: Cell::new(0),
+        bytes: Cell::new(0),
+    };
+    comes_in_time(alloc, parts, &written) && written.calls.get() == calls
 }
 
 #[test]
