@@ -6,6 +6,8 @@ mod examples;
 #[cfg(test)]
 mod gallery;
 #[cfg(test)]
+mod order;
+#[cfg(test)]
 mod reader;
 #[cfg(test)]
 mod refusing;

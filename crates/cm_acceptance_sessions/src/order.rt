@@ -1,0 +1,142 @@
+//! In which order a session reads and writes: what was answered goes out before more is asked for, and at once.
+
+ghost use Rattle.std.specs.Prelude.{None, false};
+
+use cm_array::{Machine, Plain};
+use cm_asm::assemble;
+use cm_bits::{Failed, Sink, Source};
+use cm_debug::session;
+use std::alloc::Global;
+use std::cell::Cell;
+
+/// What was written so far: in how many calls, and how many bytes.
+#[derive(Drop)]
+struct Written {
+    calls: Cell<usize>,
+    bytes: Cell<usize>,
+}
+
+/// Bytes that one read gives, and how many bytes of answers are to be written by then.
+type Part = (&'static [u8], usize);
+
+/// It gives its parts, one a call, and sees whether their answers come in time.
+#[derive(Drop)]
+struct Asking<'a> {
+    parts: &'static [Part],
+    next: usize,
+    in_time: bool,
+    written: &'a Written,
+}
+
+impl<'a> Source for Asking<'a> {
+    ghost left = { λ _. None };
+
+    ghost has_failed = { λ _. false };
+
+    fn read(&mut self, buf: &mut [u8]) -> Result<usize, Failed> {
+        let Some((part, written)) = self.parts.get(self.next) else {
+            return Ok(0);
+        };
+        if self.written.bytes.get() != *written {
+            self.in_time = false;
+        }
+        let count = part.len().min(buf.len());
+        buf[..count].copy_from_slice(&part[..count]);
+        self.next = self.next.saturating_add(1);
+        Ok(count)
+    }
+}
+
+/// It counts what it takes.
+#[derive(Drop)]
+struct Counting<'a> {
+    written: &'a Written,
+}
+
+impl<'a> Sink for Counting<'a> {
+    ghost contents = { λ _. None };
+
+    ghost has_failed = { λ _. false };
+
+    fn write(&mut self, buf: &[u8]) -> Result<usize, Failed> {
+        self.written
+            .calls
+            .set(self.written.calls.get().saturating_add(1));
+        self.written
+            .bytes
+            .set(self.written.bytes.get().saturating_add(buf.len()));
+        Ok(buf.len())
+    }
+}
+
+/// With a program of two acts: the parts that are read, and in how many calls their answers are written.
+static ORDERS: [(&[Part], usize); 4] = [
+    // at a terminal: an answer stands before the next line is asked for
+    (&[(b"step\n", 0), (b"flag 0 0 9\n", 5), (b"", 12)], 2),
+    // byte by byte
+    (
+        &[
+            (b"r", 0),
+            (b"u", 0),
+            (b"n", 0),
+            (b"\n", 0),
+            (b"r", 4),
+            (b"un", 4),
+            (b"", 4),
+        ],
+        2,
+    ),
+    // many lines at once
+    (
+        &[
+            (b"flag 0 0 9\nflag 0 0 8\njump\nwire show\nfl", 0),
+            (b"ag 0 0 9\n", 26),
+            (b"", 33),
+        ],
+        2,
+    ),
+    // acts are run when the answers before them stand
+    (&[(b"jump\n\nwire show\nstep\njump\n", 0), (b"", 22)], 2),
+];
+
+/// Whether what these parts are answered comes in time.
+fn comes_in_time(alloc: Global, parts: &'static [Part], written: &Written) -> bool {
+    let Ok(program) = assemble(alloc, b"set 9\nset 0\n") else {
+        return false;
+    };
+    let Ok(mut machine) = Machine::<0, 7>::blank(alloc) else {
+        return false;
+    };
+    let mut commands = Asking {
+        parts,
+        next: 0,
+        in_time: true,
+        written,
+    };
+    let mut answers = Counting { written };
+    let end = session(
+        alloc,
+        &mut machine,
+        &program,
+        &mut commands,
+        &mut answers,
+        &mut Plain,
+    );
+    end == Ok(()) && commands.in_time && commands.next == parts.len()
+}
+
+/// And in so many calls.
+fn is_in_order(alloc: Global, parts: &'static [Part], calls: usize) -> bool {
+    let written = Written {
+        calls: Cell::new(0),
+        bytes: Cell::new(0),
+    };
+    comes_in_time(alloc, parts, &written) && written.calls.get() == calls
+}
+
+#[test]
+fn answers_go_out_before_more_is_asked_for(rt: HostRuntime) {
+    for (i, (parts, calls)) in ORDERS.iter().enumerate() {
+        assert!(rt; is_in_order(rt.alloc(), parts, *calls), "in row {i}");
+    }
+}
