@@ -115,7 +115,9 @@ impl MemoryRows {
         ensures value { self.new ≡ slice_set self.old (at * stride + place) word }
     {
         if self.slots[at] == 0 {
-            self.put_first(at, stride, place, word);
+            if word != 0 {
+                self.put_first(at, stride, place, word);
+            }
             return;
         }
         let here = start(&self.words, &self.slots, self.used, self.stride, at) + usize::from(place);

@@ -1,9 +1,26 @@
-use Rattle.std.proofs.Common.{◌≡◌, ◌≢◌, ℕ, ◌+◌, ◌*◌, ◌<◌, get_or, set, ap, ◌∙◌, arith}
+use Rattle.std.proofs.Common.{◌≡◌, ◌≢◌, ℕ, ◌+◌, ◌*◌, ◌<◌, get_or, set, ap, sym, ◌∙◌, arith}
 use Rattle.std.proofs.Common.{get_or-set_other, length-set}
 use Rattle.std.proofs.lemmas.List.{get_or_read}
 use Rattle.cm_element.specs.Sparse.{spread}
-use Rattle.cm_element.proofs.Spreading.{same_stride, slots_kept, spread-set, IsChangedAt}
+use Rattle.cm_element.proofs.Spreading.{same_stride, slots_kept, spread-set, spread-zero, IsChangedAt}
 use Rattle.cm_element.proofs.run.memory.MemoryRows.put.Goals as goal
+
+pub returns-else-word-ne0 : goal.returns-else-word-ne0
+returns-else-word-ne0 c =
+    let rows = c.self.inside in
+    let same : rows.stride ≡ c.args.stride =
+    same_stride rows.words.items rows.slots.items rows.stride c.args.stride (rw c.self.view_is c.requires.words) in
+    let none : get_or rows.slots.items c.args.at 0 ≡ 0 =
+    sym (get_or_read rows.slots.items c.args.at c.index.result.now
+    (omega (arith, c.self.invariant.count, c.requires.at)) c.index.ensures 0) ∙ c.if-index-eq0.true in
+    let zero : c.args.word ≡ 0 = omega (arith, c.if-word-ne0.false) in
+    record {
+      value = rw (← c.self.view_is, zero)
+          (spread-zero rows.words.items rows.slots.items _ rows.used rows.stride c.args.at c.args.place
+          c.self.invariant c.requires.at none (omega (arith, same, c.requires.place))
+          ∙ ap (λ (n : ℕ). set (spread rows.words.items rows.slots.items rows.stride)
+          (c.args.at * n + c.args.place) 0) same);
+    }
 
 pub index_mut-requires : goal.index_mut-requires
 index_mut-requires c =
