@@ -23,3 +23,13 @@ pub record AreRows (memory flags : List ℕ) (stride chips : ℕ) : Type 0 where
   pub within : chips ≤ stride
   pub few : stride < 2 ^ 20
   pub zero : (c : ℕ) → c < chips → slice_index flags (ZERO * stride + c) ≡ 0
+
+-- chip c of planes that lie chip by chip: those of memory 4128 words apart, sixteen of flags
+abbrev pub chip_beside : List ℕ → List ℕ → ℕ → List Processor
+chip_beside memory flags c =
+    chip_of (each_from 0 4096 (λ a. slice_index memory (c * 4128 + a)))
+    (each_from 0 16 (λ f. slice_index flags (c * 16 + f)))
+
+-- so many of them
+unfoldable pub chips_beside : List ℕ → List ℕ → ℕ → List (List Processor)
+chips_beside memory flags count = each_from 0 count (chip_beside memory flags)
