@@ -5,7 +5,7 @@ use Rattle.cm_bits.specs.Bit.{bit}
 use Rattle.cm_model.specs.declared.act.Nano.{Nano}
 use Rattle.cm_rows.specs.declared.places.Places.{Places}
 use Rattle.cm_rows.specs.Rows.{stores, output, IsComputed}
-use Rattle.cm_element.specs.Laid.{IsRowLaid}
+use Rattle.cm_element.specs.Laid.{IsRowPut, IsRowLaid}
 use Rattle.cm_element.specs.Sparse.{spread, AreSlots}
 use Rattle.cm_element.specs.Steps.{ArePlaces, IsStored}
 use Rattle.cm_element.proofs.Spreading.{IsChangedAt, get_or-spread, spread_changed}
@@ -145,23 +145,21 @@ row_stored words slots new holds planes capacity used stride address are below o
       (stored_changed (get_or slots address 0 * stride) holds planes words new stored)
 
 -- words that were put into the row of an address
-pub row_filled : (words slots new part : List ℕ) (capacity used stride address first count place : ℕ)
+pub row_put : (words slots new : List ℕ) (word : ℕ → ℕ) (capacity used stride address first count place : ℕ)
     → AreSlots words capacity slots used stride → address < 4096 → 0 < get_or slots address 0
     → first + count ≤ stride → place ≡ get_or slots address 0 * stride + first
-    → ((c : ℕ) → c < count → get_or new (place + c) 0 ≡ get_or part c 0)
+    → ((c : ℕ) → c < count → get_or new (place + c) 0 ≡ word c)
     → IsChangedAt (get_or slots address 0 * stride) first (first + count) words new
-    → IsRowLaid (address * stride + first) 0 count part (spread words slots stride) (spread new slots stride)
-row_filled words slots new part capacity used stride address first count place are below own here start laid changed =
+    → IsRowPut (address * stride + first) count word (spread words slots stride) (spread new slots stride)
+row_put words slots new word capacity used stride address first count place are below own here start laid changed =
     record {
       laid = λ k h.
           let there : address * stride + first + k ≡ address * stride + (first + k) = omega arith in
           let slot : get_or slots address 0 * stride + (first + k) ≡ place + k = omega (arith, start) in
-          let from : k ≡ 0 + k = omega arith in
           ap (λ (n : ℕ). get_or (spread new slots stride) n 0) there
           ∙ get_or-spread new slots stride address (first + k) below (omega arith)
           ∙ ap (λ (n : ℕ). get_or new n 0) slot
-          ∙ laid k h
-          ∙ ap (λ (n : ℕ). get_or part n 0) from;
+          ∙ laid k h;
       below = λ i h. others i (inl h);
       above = λ i h. others i (inr (omega arith));
     } where
@@ -169,6 +167,18 @@ row_filled words slots new part capacity used stride address first count place a
           → get_or (spread new slots stride) k 0 ≡ get_or (spread words slots stride) k 0
       others = spread_changed words slots capacity used stride address first (first + count) new are here below own
           changed
+
+-- those of a list
+pub row_filled : (words slots new part : List ℕ) (capacity used stride address first count place : ℕ)
+    → AreSlots words capacity slots used stride → address < 4096 → 0 < get_or slots address 0
+    → first + count ≤ stride → place ≡ get_or slots address 0 * stride + first
+    → ((c : ℕ) → c < count → get_or new (place + c) 0 ≡ get_or part c 0)
+    → IsChangedAt (get_or slots address 0 * stride) first (first + count) words new
+    → IsRowLaid (address * stride + first) 0 count part (spread words slots stride) (spread new slots stride)
+row_filled words slots new part capacity used stride address first count place are below own here start laid =
+    row_put words slots new (λ c. get_or part (0 + c) 0) capacity used stride address first count place are below own
+    here start
+    (λ k h. let from : k ≡ 0 + k = omega arith in laid k h ∙ ap (λ (n : ℕ). get_or part n 0) from)
 
 -- all rows before and after, as their list is told
 pub retold : (P : List ℕ → List ℕ → Type 0) (words slots items new old : List ℕ) (stride : ℕ)

@@ -3,11 +3,13 @@ use Rattle.std.proofs.Common.{◌≡◌, ◌⊎◌, inl, inr, ℕ, ◌+◌, ◌-
 use Rattle.std.proofs.Common.{ap, ◌∙◌, ⊎_elim, arith, length-take, length-drop}
 use Rattle.std.proofs.lemmas.Bool.{cases_lt}
 use Rattle.std.proofs.lemmas.List.{get_or-take, get_or-drop, get_or_past}
-use Rattle.cm_model.proofs.Each.{same_each_below}
+use Rattle.cm_model.specs.Each.{each_from}
+use Rattle.cm_model.specs.Array.{Chips, chip_at}
+use Rattle.cm_model.proofs.Each.{same_each_below, get_or-each_below}
 use Rattle.cm_element.specs.declared.run.lay.Band.{Band}
-use Rattle.cm_element.specs.Laid.{AreLaid, AreLaidRows}
+use Rattle.cm_element.specs.Laid.{AreLaid, ArePutRows, AreLaidRows}
 use Rattle.cm_element.specs.Planes.{chip_of}
-use Rattle.cm_element.specs.Runs.{column, chips_of, AreRows}
+use Rattle.cm_element.specs.Runs.{column, chips_of, chip_beside, chips_beside, AreRows}
 use Rattle.cm_element.proofs.Columns.{next_row, chip_at-chips_of, length-chips_of}
 
 -- ---- words
@@ -29,6 +31,21 @@ pub record IsPutAt (at count : ℕ) (part old new : List ℕ) : Type 0 where
   pub below : (i : ℕ) → i < at → get_or new i 0 ≡ get_or old i 0
   pub above : (i : ℕ) → at + count ≤ i → get_or new i 0 ≡ get_or old i 0
 
+-- these words were put into one more row
+pub put_more : (here : Band) (row count : ℕ) (word : ℕ → ℕ → ℕ) (old new part : List ℕ)
+    → here.first + count ≤ here.stride → IsPutAt (row * here.stride + here.first) count part old new
+    → ((c : ℕ) → c < count → get_or part c 0 ≡ word row c)
+    → ((i c : ℕ) → i < row → c < count → get_or old (i * here.stride + (here.first + c)) 0 ≡ word i c)
+    → (i c : ℕ) → i < row + 1 → c < count → get_or new (i * here.stride + (here.first + c)) 0 ≡ word i c
+put_more here row count word old new part wide put part_is before i c h few = ⊎_elim
+    (λ (l : i < row). let far : i * here.stride + here.stride ≤ row * here.stride = next_row i row here.stride l in
+    put.below (i * here.stride + (here.first + c)) (omega arith) ∙ before i c l few)
+    (λ (l : row ≤ i).
+    let same : i ≡ row = omega arith in
+    let place : row * here.stride + (here.first + c) ≡ row * here.stride + here.first + c = omega arith in
+    rw same (ap (λ (k : ℕ). get_or new k 0) place ∙ put.value c few ∙ part_is c few))
+    (cases_lt i row)
+
 -- one more row was laid
 pub laid_more : (here there : Band) (row count : ℕ) (from old new part : List ℕ) → here.first + count ≤ here.stride
     → IsPutAt (row * here.stride + here.first) count part old new
@@ -37,16 +54,11 @@ pub laid_more : (here there : Band) (row count : ℕ) (from old new part : List 
     → get_or old (i * here.stride + (here.first + c)) 0 ≡ get_or from (i * there.stride + (there.first + c)) 0)
     → (i c : ℕ) → i < row + 1 → c < count
     → get_or new (i * here.stride + (here.first + c)) 0 ≡ get_or from (i * there.stride + (there.first + c)) 0
-laid_more here there row count from old new part wide put part_is before i c h few = ⊎_elim
-    (λ (l : i < row). let far : i * here.stride + here.stride ≤ row * here.stride = next_row i row here.stride l in
-    put.below (i * here.stride + (here.first + c)) (omega arith) ∙ before i c l few)
-    (λ (l : row ≤ i).
-    let same : i ≡ row = omega arith in
-    let place : row * here.stride + (here.first + c) ≡ row * here.stride + here.first + c = omega arith in
-    let source : row * there.stride + there.first + c ≡ row * there.stride + (there.first + c) = omega arith in
-    rw same (ap (λ (k : ℕ). get_or new k 0) place ∙ put.value c few ∙ part_is c few
-    ∙ ap (λ (k : ℕ). get_or from k 0) source))
-    (cases_lt i row)
+laid_more here there row count from old new part wide put part_is before =
+    put_more here row count (λ i c. get_or from (i * there.stride + (there.first + c)) 0) old new part wide put
+    (λ c few. let source : row * there.stride + there.first + c ≡ row * there.stride + (there.first + c) = omega arith in
+    part_is c few ∙ ap (λ (k : ℕ). get_or from k 0) source)
+    before
 
 -- and the other words stay
 pub others_more : (here : Band) (row count : ℕ) (first old new part : List ℕ) → here.first + count ≤ here.stride
@@ -78,24 +90,94 @@ others_more here row count first old new part wide put before i k inside out = �
 
 -- ---- chips
 
--- the planes of a chip that was laid
-column-laid : (here there : Band) (rows count c : ℕ) (from old new : List ℕ)
-    → AreLaidRows here there rows count from old new → c < count
-    → column new here.stride rows (here.first + c) ≡ column from there.stride rows (there.first + c)
+-- the planes of a chip whose words were put into rows
+column-put : (here : Band) (rows count c : ℕ) (word : ℕ → ℕ → ℕ) (old new : List ℕ)
+    → ArePutRows here rows count word old new → c < count
+    → column new here.stride rows (here.first + c) ≡ each_from 0 rows (λ i. word i c)
 unfolding column
-column-laid here there rows count c from old new laid few =
-    same_each_below 0 rows (λ i. get_or new (i * here.stride + (here.first + c)) 0)
-    (λ i. get_or from (i * there.stride + (there.first + c)) 0)
-    (λ i h. laid.laid i c h few)
+column-put here rows count c word old new put few =
+    same_each_below 0 rows (λ i. get_or new (i * here.stride + (here.first + c)) 0) (λ i. word i c)
+    (λ i h. put.laid i c h few)
 
 -- those of another
-column-others : (here there : Band) (rows count k : ℕ) (from old new : List ℕ)
-    → AreLaidRows here there rows count from old new → k < here.stride
+column-others : (here : Band) (rows count k : ℕ) (word : ℕ → ℕ → ℕ) (old new : List ℕ)
+    → ArePutRows here rows count word old new → k < here.stride
     → (k < here.first) ⊎ (here.first + count ≤ k) → column new here.stride rows k ≡ column old here.stride rows k
 unfolding column
-column-others here there rows count k from old new laid inside beside =
+column-others here rows count k word old new put inside beside =
     same_each_below 0 rows (λ i. get_or new (i * here.stride + k) 0) (λ i. get_or old (i * here.stride + k) 0)
-    (λ i h. laid.others i k h inside beside)
+    (λ i h. put.others i k h inside beside)
+
+-- a run, and words of some chips that were put into its rows
+pub record AreWordsPut (here : Band) (count : ℕ) (memory flags memory_new flags_new : List ℕ) (chips : ℕ)
+    (word flag_word : ℕ → ℕ → ℕ) : Type 0 where
+  pub rows : AreRows memory flags here.stride chips
+  pub inside : here.first + count ≤ chips
+  pub zero : (c : ℕ) → c < count → flag_word 8 c ≡ 0
+  pub laid : ArePutRows here 4096 count word memory memory_new
+  pub flags_laid : ArePutRows here 16 count flag_word flags flags_new
+
+other_chip : (here : Band) (count : ℕ) (memory flags memory_new flags_new : List ℕ) (chips : ℕ)
+    (word flag_word : ℕ → ℕ → ℕ)
+    → AreWordsPut here count memory flags memory_new flags_new chips word flag_word
+    → (k : ℕ) → (k < here.first) ⊎ (here.first + count ≤ k)
+    → get_or (chips_of memory_new flags_new here.stride chips) k [] ≡ get_or
+    (chips_of memory flags here.stride chips) k []
+other_chip here count memory flags memory_new flags_new chips word flag_word is k beside = ⊎_elim
+    (λ (h : k < chips). let few : chips ≤ here.stride = is.rows.within in let inside : k < here.stride = omega arith in
+    chip_at-chips_of memory_new flags_new here.stride chips k h
+    ∙ (λ j. chip_of (column-others here 4096 count k word memory memory_new is.laid inside beside j)
+    (column-others here 16 count k flag_word flags flags_new is.flags_laid inside beside j))
+    ∙ sym (chip_at-chips_of memory flags here.stride chips k h))
+    (λ (h : chips ≤ k).
+    get_or_past (chips_of memory_new flags_new here.stride chips)
+    k [] (omega (arith, h, length-chips_of memory_new flags_new here.stride chips))
+    ∙ sym (get_or_past (chips_of memory flags here.stride chips)
+    k [] (omega (arith, h, length-chips_of memory flags here.stride chips))))
+    (cases_lt k chips)
+
+-- the chips that were put, if these are those of the words
+pub chips_put : (here : Band) (count : ℕ) (memory flags memory_new flags_new : List ℕ) (chips : ℕ)
+    (word flag_word : ℕ → ℕ → ℕ) (first : ℕ) (from : Chips)
+    → AreWordsPut here count memory flags memory_new flags_new chips word flag_word
+    → ((c : ℕ) → c < count → chip_of (each_from 0 4096 (λ i. word i c)) (each_from 0 16 (λ i. flag_word i c))
+    ≡ chip_at from (first + c))
+    → AreLaid here.first first count from (chips_of memory flags here.stride chips)
+    (chips_of memory_new flags_new here.stride chips)
+chips_put here count memory flags memory_new flags_new chips word flag_word first from is same = record {
+  chips = length-chips_of memory_new flags_new here.stride chips ∙ sym (length-chips_of memory flags here.stride chips);
+  laid = λ c few. let inside = is.inside in
+      chip_at-chips_of memory_new flags_new here.stride chips (here.first + c) (omega arith)
+      ∙ (λ j. chip_of (column-put here 4096 count c word memory memory_new is.laid few j)
+      (column-put here 16 count c flag_word flags flags_new is.flags_laid few j))
+      ∙ same c few;
+  below = λ c h. other_chip here count memory flags memory_new flags_new chips word flag_word is c (inl h);
+  above = λ c h. other_chip here count memory flags memory_new flags_new chips word flag_word is c (inr h);
+}
+
+-- the new rows are rows
+pub rows_put : (here : Band) (count : ℕ) (memory flags memory_new flags_new : List ℕ) (chips : ℕ)
+    (word flag_word : ℕ → ℕ → ℕ)
+    → AreWordsPut here count memory flags memory_new flags_new chips word flag_word
+    → length memory_new ≡ length memory → length flags_new ≡ length flags
+    → AreRows memory_new flags_new here.stride chips
+rows_put here count memory flags memory_new flags_new chips word flag_word is memory_long flags_long = record {
+  memory_words = memory_long ∙ is.rows.memory_words;
+  flag_words = flags_long ∙ is.rows.flag_words;
+  within = is.rows.within;
+  few = is.rows.few;
+  zero = λ k h. let few : chips ≤ here.stride = is.rows.within in ⊎_elim
+      (λ (b : k < here.first). is.flags_laid.others 8 k (omega arith) (omega arith) (inl b) ∙ is.rows.zero k h)
+      (λ (from : here.first ≤ k). ⊎_elim
+      (λ (l : k < here.first + count).
+      let place : 8 * here.stride + k ≡ 8 * here.stride + (here.first + (k - here.first)) = omega arith in
+      ap (λ (i : ℕ). get_or flags_new i 0) place ∙ is.flags_laid.laid 8 (k - here.first) (omega arith) (omega arith)
+      ∙ is.zero (k - here.first) (omega arith))
+      (λ (a : here.first + count ≤ k). is.flags_laid.others 8 k (omega arith) (omega arith) (inr a)
+      ∙ is.rows.zero k h)
+      (cases_lt k (here.first + count)))
+      (cases_lt k here.first);
+}
 
 -- two runs, and one that has chips of both
 pub record AreRunsLaid (here there : Band) (count : ℕ)
@@ -107,43 +189,35 @@ pub record AreRunsLaid (here there : Band) (count : ℕ)
   pub laid : AreLaidRows here there 4096 count memory_from memory memory_new
   pub flags_laid : AreLaidRows here there 16 count flags_from flags flags_new
 
-other_chip : (here there : Band) (count : ℕ) (memory flags memory_from flags_from memory_new flags_new : List ℕ)
+-- the words of the other run
+words_of : (here there : Band) (count : ℕ) (memory flags memory_from flags_from memory_new flags_new : List ℕ)
     (chips chips_from : ℕ)
     → AreRunsLaid here there count memory flags memory_from flags_from memory_new flags_new chips chips_from
-    → (k : ℕ) → (k < here.first) ⊎ (here.first + count ≤ k)
-    → get_or (chips_of memory_new flags_new here.stride chips) k [] ≡ get_or
-    (chips_of memory flags here.stride chips) k []
-other_chip here there count memory flags memory_from flags_from memory_new flags_new chips
-    chips_from is k beside = ⊎_elim
-    (λ (h : k < chips). let few : chips ≤ here.stride = is.rows.within in let inside : k < here.stride = omega arith in
-    chip_at-chips_of memory_new flags_new here.stride chips k h
-    ∙ (λ j. chip_of (column-others here there 4096 count k memory_from memory memory_new is.laid inside beside j)
-    (column-others here there 16 count k flags_from flags flags_new is.flags_laid inside beside j))
-    ∙ sym (chip_at-chips_of memory flags here.stride chips k h))
-    (λ (h : chips ≤ k).
-    get_or_past (chips_of memory_new flags_new here.stride chips)
-    k [] (omega (arith, h, length-chips_of memory_new flags_new here.stride chips))
-    ∙ sym (get_or_past (chips_of memory flags here.stride chips)
-    k [] (omega (arith, h, length-chips_of memory flags here.stride chips))))
-    (cases_lt k chips)
+    → AreWordsPut here count memory flags memory_new flags_new chips
+    (λ i c. get_or memory_from (i * there.stride + (there.first + c)) 0)
+    (λ i c. get_or flags_from (i * there.stride + (there.first + c)) 0)
+words_of here there count memory flags memory_from flags_from memory_new flags_new chips chips_from is = record {
+  rows = is.rows;
+  inside = is.inside;
+  zero = λ c h. is.rows_from.zero (there.first + c) (omega (arith, is.inside_from));
+  laid = is.laid;
+  flags_laid = is.flags_laid;
+}
 
 pub chips_laid : (here there : Band) (count : ℕ) (memory flags memory_from flags_from memory_new flags_new : List ℕ)
     (chips chips_from : ℕ)
     → AreRunsLaid here there count memory flags memory_from flags_from memory_new flags_new chips chips_from
     → AreLaid here.first there.first count (chips_of memory_from flags_from there.stride chips_from)
     (chips_of memory flags here.stride chips) (chips_of memory_new flags_new here.stride chips)
-chips_laid here there count memory flags memory_from flags_from memory_new flags_new chips chips_from is = record {
-  chips = length-chips_of memory_new flags_new here.stride chips ∙ sym (length-chips_of memory flags here.stride chips);
-  laid = λ c few. let inside = is.inside in let inside_from = is.inside_from in
-      chip_at-chips_of memory_new flags_new here.stride chips (here.first + c) (omega arith)
-      ∙ (λ j. chip_of (column-laid here there 4096 count c memory_from memory memory_new is.laid few j)
-      (column-laid here there 16 count c flags_from flags flags_new is.flags_laid few j))
-      ∙ sym (chip_at-chips_of memory_from flags_from there.stride chips_from (there.first + c) (omega arith));
-  below = λ c h. other_chip here there count memory flags memory_from flags_from memory_new flags_new chips
-      chips_from is c (inl h);
-  above = λ c h. other_chip here there count memory flags memory_from flags_from memory_new flags_new chips
-      chips_from is c (inr h);
-}
+unfolding column
+chips_laid here there count memory flags memory_from flags_from memory_new flags_new chips chips_from is =
+    chips_put here count memory flags memory_new flags_new chips
+    (λ i c. get_or memory_from (i * there.stride + (there.first + c)) 0)
+    (λ i c. get_or flags_from (i * there.stride + (there.first + c)) 0) there.first
+    (chips_of memory_from flags_from there.stride chips_from)
+    (words_of here there count memory flags memory_from flags_from memory_new flags_new chips chips_from is)
+    (λ c h. sym (chip_at-chips_of memory_from flags_from there.stride chips_from (there.first + c)
+    (omega (arith, is.inside_from))))
 
 -- the new rows are rows
 pub rows_laid : (here there : Band) (count : ℕ) (memory flags memory_from flags_from memory_new flags_new : List ℕ)
@@ -151,21 +225,27 @@ pub rows_laid : (here there : Band) (count : ℕ) (memory flags memory_from flag
     → AreRunsLaid here there count memory flags memory_from flags_from memory_new flags_new chips chips_from
     → length memory_new ≡ length memory → length flags_new ≡ length flags
     → AreRows memory_new flags_new here.stride chips
-rows_laid here there count memory flags memory_from flags_from memory_new flags_new chips chips_from is
-    memory_long flags_long = record {
-      memory_words = memory_long ∙ is.rows.memory_words;
-      flag_words = flags_long ∙ is.rows.flag_words;
-      within = is.rows.within;
-      few = is.rows.few;
-      zero = λ k h. let few : chips ≤ here.stride = is.rows.within in let inside_from = is.inside_from in ⊎_elim
-          (λ (b : k < here.first). is.flags_laid.others 8 k (omega arith) (omega arith) (inl b) ∙ is.rows.zero k h)
-          (λ (from : here.first ≤ k). ⊎_elim
-          (λ (l : k < here.first + count).
-          let place : 8 * here.stride + k ≡ 8 * here.stride + (here.first + (k - here.first)) = omega arith in
-          ap (λ (i : ℕ). get_or flags_new i 0) place ∙ is.flags_laid.laid 8 (k - here.first) (omega arith) (omega arith)
-          ∙ is.rows_from.zero (there.first + (k - here.first)) (omega arith))
-          (λ (a : here.first + count ≤ k). is.flags_laid.others 8 k (omega arith) (omega arith) (inr a)
-          ∙ is.rows.zero k h)
-          (cases_lt k (here.first + count)))
-          (cases_lt k here.first);
-    }
+rows_laid here there count memory flags memory_from flags_from memory_new flags_new chips chips_from is =
+    rows_put here count memory flags memory_new flags_new chips
+    (λ i c. get_or memory_from (i * there.stride + (there.first + c)) 0)
+    (λ i c. get_or flags_from (i * there.stride + (there.first + c)) 0)
+    (words_of here there count memory flags memory_from flags_from memory_new flags_new chips chips_from is)
+
+-- chip c of those that lie chip by chip
+pub chip_at-chips_beside : (memory flags : List ℕ) (count c : ℕ) → c < count
+    → chip_at (chips_beside memory flags count) c ≡ chip_beside memory flags c
+unfolding chips_beside
+chip_at-chips_beside memory flags count c h = get_or-each_below count (chip_beside memory flags) c [] h
+
+-- and put into rows
+pub chips_turned : (here : Band) (count : ℕ) (memory flags memory_from flags_from memory_new flags_new : List ℕ)
+    (chips : ℕ)
+    → AreWordsPut here count memory flags memory_new flags_new chips (λ i c. get_or memory_from (c * 4128 + i) 0)
+    (λ i c. get_or flags_from (c * 16 + i) 0)
+    → AreLaid here.first 0 count (chips_beside memory_from flags_from count)
+    (chips_of memory flags here.stride chips) (chips_of memory_new flags_new here.stride chips)
+chips_turned here count memory flags memory_from flags_from memory_new flags_new chips is =
+    chips_put here count memory flags memory_new flags_new chips (λ i c. get_or memory_from (c * 4128 + i) 0)
+    (λ i c. get_or flags_from (c * 16 + i) 0) 0 (chips_beside memory_from flags_from count) is
+    (λ c h. sym (chip_at-chips_beside memory_from flags_from count (0 + c) (omega arith)
+    ∙ ap (λ (k : ℕ). chip_beside memory_from flags_from k) (let same : 0 + c ≡ c = omega arith in same)))

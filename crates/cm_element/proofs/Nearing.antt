@@ -1,5 +1,5 @@
 -- Chips that are kept in another run, and what is put into them.
-use Rattle.std.proofs.Common.{◌≡◌, ℕ, ◌+◌, ◌-◌, ◌<◌, ◌≤◌, ◌++◌, List, [], length, get_or, set, take, drop, refl}
+use Rattle.std.proofs.Common.{◌≡◌, ◌⊎◌, ℕ, ◌+◌, ◌-◌, ◌<◌, ◌≤◌, ◌++◌, List, [], length, get_or, set, take, drop, refl}
 use Rattle.std.proofs.Common.{sym, ap, ◌∙◌, ⊎_elim, arith, length-take, length-drop, length-set, ext_get_or}
 use Rattle.std.proofs.lemmas.Bool.{cases_lt}
 use Rattle.std.proofs.lemmas.List.{get_or-take, get_or-drop, get_or_append_left, get_or-append_right, set-append_left}
@@ -118,3 +118,40 @@ near_put far near new first width chips k c put is h place told =
     near_set far near new first width chips k c (put (chip_at near k)) is h place told
     ∙ ap (λ (v : List Processor). set (with_near far near first) c (put v))
     (sym (chip-near far near first width chips k c is h place))
+
+-- a chip of the run that stays as it is
+same_chip : (far near new : Chips) (first width chips c : ℕ) → AreNear far near first width chips
+    → AreNear new near first width chips → chip_at new c ≡ chip_at far c
+    → chip_at (with_near new near first) c ≡ chip_at (with_near far near first) c
+same_chip far near new first width chips c is is_new same = ⊎_elim
+    (λ (l : c < first). chip-below new near first width chips c is_new l
+    ∙ (same ∙ sym (chip-below far near first width chips c is l)))
+    (λ (l : first ≤ c). ⊎_elim
+    (λ (m : c < first + width). let place : first + (c - first) ≡ c = omega arith in
+    chip-near new near first width chips (c - first) c is_new (omega arith) place
+    ∙ sym (chip-near far near first width chips (c - first) c is (omega arith) place))
+    (λ (m : first + width ≤ c). chip-above new near first width chips c is_new m
+    ∙ (same ∙ sym (chip-above far near first width chips c is m)))
+    (cases_lt c (first + width)))
+    (cases_lt c first)
+
+-- chips that were laid into the run, where none of them is near
+pub far_laid : (far near new from : Chips) (first width chips at count : ℕ) → AreNear far near first width chips
+    → (at + count ≤ first) ⊎ (first + width ≤ at) → AreLaid at 0 count from far new
+    → AreLaid at 0 count from (with_near far near first) (with_near new near first)
+far_laid far near new from first width chips at count is apart laid =
+    let is_new : AreNear new near first width chips = record {
+      far_count = laid.chips ∙ is.far_count;
+      near_count = is.near_count;
+      within = is.within;
+      some = is.some;
+    } in
+    record {
+      chips = length-with_near new near first width chips is_new ∙ sym (length-with_near far near first width chips is);
+      laid = λ c h. ⊎_elim
+          (λ (l : at + count ≤ first). chip-below new near first width chips (at + c) is_new (omega arith))
+          (λ (l : first + width ≤ at). chip-above new near first width chips (at + c) is_new (omega arith))
+          apart ∙ laid.laid c h;
+      below = λ c h. same_chip far near new first width chips c is is_new (laid.below c h);
+      above = λ c h. same_chip far near new first width chips c is is_new (laid.above c h);
+    }

@@ -1,10 +1,12 @@
 //! A run that is filled chip by chip.
 
-ghost use Rattle.std.specs.Prelude.{◌≡◌, ◌≢◌, ◌+◌, ◌<◌, ◌≤◌, IfOk, length, slice_set};
+ghost use Rattle.std.specs.Prelude.{◌≡◌, ◌≢◌, ◌⊎◌, ℕ, ◌+◌, ◌*◌, ◌<◌, ◌≤◌, true, IfOk, length, slice_index, slice_set};
 ghost use Rattle.cm_bits.specs.Bit.{bit};
 ghost use Rattle.cm_model.specs.Processor.{ZERO};
 ghost use Rattle.cm_model.specs.Array.{chip_at};
+ghost use Rattle.cm_element.specs.Laid.{AreLaid};
 ghost use Rattle.cm_element.specs.Near.{AreNear, with_near};
+ghost use Rattle.cm_element.specs.Runs.{chips_beside};
 ghost use Rattle.cm_element.specs.Wide.{with_memory_plane, with_flag_plane};
 
 use crate::run::Run;
@@ -104,6 +106,35 @@ impl NearRun {
         self.first = first;
         self.near.poke_flag_plane(chip - first, number, plane);
     }
+
+    /// Puts the planes of so many chips into the places from `at` on. They lie chip by chip: those of memory `PITCH`
+    /// words apart, sixteen of flags.
+    pub fn lay_planes(&mut self, at: u16, memory: &[Plane], flags: &[Plane], count: u16)
+        requires here { at + count ≤ length self.old }
+        requires memory { count * 4128 ≤ length memory.now }
+        requires flags { count * 16 ≤ length flags.now }
+        requires zero { (c : ℕ) → c < count → slice_index flags.now (c * 16 + 8) ≡ 0 }
+        ensures value { AreLaid at 0 count (chips_beside memory.now flags.now count) self.old self.new }
+    {
+        if are_apart(at, count, self.first, self.width) {
+            self.far.lay_planes(at, memory, flags, count);
+        } else {
+            self.far.lay(self.first, &self.near, 0, self.width);
+            self.far.lay_planes(at, memory, flags, count);
+            self.near.lay(0, &self.far, self.first, self.width);
+        }
+    }
+}
+
+/// Whether so many chips from a place on and so many from another have none in common.
+fn are_apart(at: u16, count: u16, first: u16, width: u16) -> bool
+    requires first { first + width < 65536 }
+    ensures apart { result ≡ true → (at + count ≤ first) ⊎ (first + width ≤ at) }
+{
+    if usize::from(at) + usize::from(count) <= usize::from(first) {
+        return true;
+    }
+    first + width <= at
 }
 
 /// The first of the chips that are near, when this chip is among them.

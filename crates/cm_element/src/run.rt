@@ -35,6 +35,9 @@ const MANY: usize = 128;
 
 const PADDING: usize = 32;
 
+/// So many words lie the planes of two chips apart where they lie chip by chip, and for the same reason.
+pub const PITCH: usize = 4128;
+
 /// Chips with consecutive numbers, kept as one row of planes for each address and for each flag.
 ///
 /// Contracts see the list of the chips, each the list of its processors.

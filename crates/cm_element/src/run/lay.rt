@@ -1,9 +1,10 @@
 //! Chips of one run copied into another.
 
 ghost use Rattle.std.specs.Prelude.{◌≡◌, ◌⊎◌, ℕ, ◌+◌, ◌*◌, ◌<◌, ◌≤◌, ◌^◌, length, slice_index};
-ghost use Rattle.cm_element.specs.Laid.{AreLaid, AreLaidRows};
+ghost use Rattle.cm_element.specs.Laid.{AreLaid, AreLaidRows, AreTurnedRows, IsRowTurned};
+ghost use Rattle.cm_element.specs.Runs.{chips_beside};
 
-use super::{FLAGS, Run};
+use super::{FLAGS, PITCH, Run};
 use crate::run::rows::put_row;
 use cm_bits::Plane;
 
@@ -33,6 +34,24 @@ impl Run {
         self.memory.lay(here, &from.memory, there, count);
         lay_rows(&mut self.flags, here, &from.flags, there, FLAGS, count);
     }
+
+    /// Puts the planes of so many chips into the places from `at` on. They lie chip by chip: those of memory `PITCH`
+    /// words apart, sixteen of flags.
+    pub fn lay_planes(&mut self, at: u16, memory: &[Plane], flags: &[Plane], count: u16)
+        requires here { at + count ≤ length self.old }
+        requires memory { count * 4128 ≤ length memory.now }
+        requires flags { count * 16 ≤ length flags.now }
+        requires zero { (c : ℕ) → c < count → slice_index flags.now (c * 16 + 8) ≡ 0 }
+        ensures value { AreLaid at 0 count (chips_beside memory.now flags.now count) self.old self.new }
+    {
+        let some = usize::from(count);
+        let here = Band {
+            stride: self.stride,
+            first: usize::from(at),
+        };
+        self.memory.turn(here, memory, some);
+        turn_flags(&mut self.flags, here, flags, some);
+    }
 }
 
 /// Copies so many words of each row.
@@ -53,5 +72,37 @@ fn lay_rows(to: &mut [Plane], here: Band, from: &[Plane], there: Band, rows: usi
             row * here.stride + here.first,
             &from[place..place + count],
         );
+    }
+}
+
+/// Puts the flag planes of so many chips, which lie chip by chip, into rows.
+fn turn_flags(rows: &mut [Plane], here: Band, planes: &[Plane], count: usize)
+    requires rows { length rows.old ≡ 16 * here.stride }
+    requires here { here.first + count ≤ here.stride }
+    requires near { here.stride < 2 ^ 20 }
+    requires planes { count * 16 ≤ length planes.now }
+    ensures value { AreTurnedRows here 16 16 count planes.now rows.old rows.new }
+{
+    for row in 0..FLAGS {
+        turn_row::<FLAGS>(rows, row * here.stride + here.first, planes, row, count);
+    }
+}
+
+/// Puts one plane of each of so many chips into a list from a place on. They lie a pitch apart, from `source` on.
+#[inline(always)]
+pub(crate) fn turn_row<const PITCH: usize>(
+    rows: &mut [Plane],
+    at: usize,
+    planes: &[Plane],
+    source: usize,
+    count: usize,
+)
+    requires within { at + count ≤ length rows.old }
+    requires source { source < PITCH }
+    requires planes { count * PITCH ≤ length planes.now }
+    ensures value { IsRowTurned at source PITCH count planes.now rows.old rows.new }
+{
+    for c in 0..count {
+        rows[at + c] = planes[c * PITCH + source];
     }
 }

@@ -2,12 +2,13 @@
 
 ghost use Rattle.std.specs.Prelude.{◌≡◌, ℕ, ◌+◌, ◌*◌, ◌<◌, ◌≤◌, ◌^◌, false, length, slice_index, slice_set, replicate};
 ghost use Rattle.std.specs.Prelude.{IfOk, vec_capacity};
-ghost use Rattle.cm_element.specs.Laid.{AreLaidRows, IsRowLaid};
+ghost use Rattle.cm_element.specs.Laid.{AreLaidRows, AreTurnedRows, IsRowLaid, IsRowTurned};
 ghost use Rattle.cm_element.specs.Sparse.{spread, AreSlots};
 ghost use Rattle.cm_element.specs.Steps.{ArePlaces, IsStored};
 ghost use Rattle.cm_rows.specs.Rows.{IsComputed};
 
-use crate::run::lay::Band;
+use crate::run::PITCH;
+use crate::run::lay::{Band, turn_row};
 use crate::run::outputs::store_row;
 use crate::run::rows::put_row;
 use cm_bits::{NoMemory, Plane};
@@ -269,6 +270,39 @@ impl MemoryRows {
         }
         let words = from.row(row, there.stride, there.first + count);
         self.fill(row, here, &words[there.first..]);
+    }
+
+    /// Puts the planes of so many chips, which lie chip by chip, into the rows.
+    pub(crate) fn turn(&mut self, here: Band, planes: &[Plane], count: usize)
+        requires to { length self.old ≡ 4096 * here.stride }
+        requires here { here.first + count ≤ here.stride }
+        requires planes { count * 4128 ≤ length planes.now }
+        ensures value { AreTurnedRows here 4096 4128 count planes.now self.old self.new }
+        ensures words { length self.new ≡ length self.old }
+    {
+        for row in 0..ADDRESSES {
+            self.turn_row(row, here, planes, count);
+        }
+    }
+
+    /// Puts those of one address into its row.
+    fn turn_row(&mut self, row: usize, here: Band, planes: &[Plane], count: usize)
+        requires row { row < 4096 }
+        requires to { length self.old ≡ 4096 * here.stride }
+        requires here { here.first + count ≤ here.stride }
+        requires planes { count * 4128 ≤ length planes.now }
+        ensures value { IsRowTurned (row * here.stride + here.first) row 4128 count planes.now self.old self.new }
+        ensures words { length self.new ≡ length self.old }
+    {
+        self.used = own(
+            &mut self.words,
+            &mut self.slots,
+            self.used,
+            self.stride,
+            row,
+        );
+        let place = start(&self.words, &self.slots, self.used, self.stride, row) + here.first;
+        turn_row::<PITCH>(&mut self.words, place, planes, row, count);
     }
 
     /// Puts words into the row of an address.
