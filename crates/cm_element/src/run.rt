@@ -27,6 +27,8 @@ use std::alloc::Global;
 use std::marker::Model;
 pub use view::ChipView;
 
+const ADDRESSES: usize = 4096;
+
 const FLAGS: usize = 16;
 
 /// From so many chips on, rows lie some words further apart than they are long: a power of two would

@@ -1,6 +1,9 @@
 //! Chips of one run copied into another.
 
-ghost use Rattle.std.specs.Prelude.{◌≡◌, ◌⊎◌, ℕ, ◌+◌, ◌*◌, ◌<◌, ◌≤◌, ◌^◌, length, slice_index};
+ghost use Rattle.std.specs.Prelude.{◌≡◌, ◌≢◌, ◌⊎◌, ℕ, ◌+◌, ◌*◌, ◌<◌, ◌≤◌, ◌^◌, length, slice_index};
+ghost use Rattle.cm_model.specs.Processor.{memory_bit};
+ghost use Rattle.cm_model.specs.Chip.{IsPlane, processor_at};
+ghost use Rattle.cm_model.specs.Array.{chip_at};
 ghost use Rattle.cm_element.specs.Laid.{AreLaid, AreLaidRows, AreTurnedRows, IsRowTurned};
 ghost use Rattle.cm_element.specs.Runs.{chips_beside};
 
@@ -51,6 +54,20 @@ impl Run {
         };
         self.memory.turn(here, memory, some);
         turn_flags(&mut self.flags, here, flags, some);
+    }
+
+    /// Writes the memory planes of so many chips, from `first` on, chip by chip and `PITCH` words apart.
+    pub fn write_planes(&self, first: u16, count: u16, memory: &mut [Plane])
+        requires chips { first + count ≤ length self.now }
+        requires memory { count * 4128 ≤ length memory.old }
+        ensures value { (c a : ℕ) → c < count → a < 4096 → IsPlane (slice_index memory.new (c * 4128 + a))
+            (λ p. memory_bit (processor_at (chip_at self.now (first + c)) p) a) }
+    {
+        let there = Band {
+            stride: self.stride,
+            first: usize::from(first),
+        };
+        self.memory.write(there, usize::from(count), memory);
     }
 }
 
@@ -104,5 +121,18 @@ pub(crate) fn turn_row<const PITCH: usize>(
 {
     for c in 0..count {
         rows[at + c] = planes[c * PITCH + source];
+    }
+}
+
+/// Writes a word for each of so many chips, which lie `PITCH` words apart.
+pub(crate) fn write_row(planes: &mut [Plane], at: usize, words: &[Plane])
+    requires at { at < 4096 }
+    requires planes { length words.now * 4128 ≤ length planes.old }
+    ensures value { (c : ℕ) → c < length words.now → slice_index planes.new (c * 4128 + at) ≡ slice_index words.now c }
+    ensures others { (c i : ℕ) → i < 4096 → i ≢ at
+        → slice_index planes.new (c * 4128 + i) ≡ slice_index planes.old (c * 4128 + i) }
+{
+    for c in 0..words.len() {
+        planes[c * PITCH + at] = words[c];
     }
 }

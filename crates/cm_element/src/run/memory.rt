@@ -7,8 +7,8 @@ ghost use Rattle.cm_element.specs.Sparse.{spread, AreSlots};
 ghost use Rattle.cm_element.specs.Steps.{ArePlaces, IsStored};
 ghost use Rattle.cm_rows.specs.Rows.{IsComputed};
 
-use crate::run::PITCH;
-use crate::run::lay::{Band, turn_row};
+use crate::run::{ADDRESSES, PITCH};
+use crate::run::lay::{Band, turn_row, write_row};
 use crate::run::outputs::store_row;
 use crate::run::rows::put_row;
 use cm_bits::{NoMemory, Plane};
@@ -16,8 +16,6 @@ use cm_model::Nano;
 use cm_rows::{Places, compute, compute_memory};
 use std::alloc::Global;
 use std::marker::Model;
-
-const ADDRESSES: usize = 4096;
 
 /// A row for each address. Room for all is reserved, but a row is made when first one of its words is
 /// written: until then its address shares a row of zeros. Room that is never written costs nothing.
@@ -270,6 +268,20 @@ impl MemoryRows {
         }
         let words = from.row(row, there.stride, there.first + count);
         self.fill(row, here, &words[there.first..]);
+    }
+
+    /// Writes the planes of so many chips chip by chip.
+    pub(crate) fn write(&self, there: Band, count: usize, planes: &mut [Plane])
+        requires words { length self.now ≡ 4096 * there.stride }
+        requires there { there.first + count ≤ there.stride }
+        requires planes { count * 4128 ≤ length planes.old }
+        ensures value { (i c : ℕ) → i < 4096 → c < count → slice_index planes.new (c * 4128 + i)
+            ≡ slice_index self.now (i * there.stride + (there.first + c)) }
+    {
+        for row in 0..ADDRESSES {
+            let words = self.row(row, there.stride, there.first + count);
+            write_row(planes, row, &words[there.first..]);
+        }
     }
 
     /// Puts the planes of so many chips, which lie chip by chip, into the rows.
