@@ -1,7 +1,9 @@
 -- A machine that is being built stays one.
 use Rattle.std.proofs.Common.{◌≡◌, ℕ, ◌^◌, ◌+◌, ◌<◌, ◌≤◌, List, [], ◌∷◌, ◌++◌, false, length, set, refl, sym, ap}
-use Rattle.std.proofs.Common.{◌∙◌, subst, arith}
-use Rattle.std.proofs.lemmas.List.{length-set, length-append}
+use Rattle.std.proofs.Common.{◌∙◌, subst, arith, ◌-◌, take, drop, length-drop, ⊎_elim}
+use Rattle.std.proofs.lemmas.Bool.{cases_lt}
+use Rattle.std.proofs.lemmas.List.{length-set, length-append, length-take-le, get_or-take, get_or-drop}
+use Rattle.std.proofs.lemmas.List.{get_or_append_left, get_or-append_right}
 use Rattle.std.proofs.lemmas.List.Elements.{All-nil, All-cons, All-append}
 use Rattle.std.specs.List.{All}
 use Rattle.std.specs.Prelude.{IsTrue}
@@ -16,6 +18,7 @@ use Rattle.cm_model.specs.Unlogged.{IsUnlogged, standing_messages, has_tag_twice
 use Rattle.cm_model.proofs.Each.{length-each_from, get_or-each_below}
 use Rattle.cm_model.proofs.Unlogged.{standing-all, none_injected, HasTagsOnce-standing, BornBefore-buffers}
 use Rattle.cm_model.proofs.Blanks.{IsMachine-blank_at}
+use Rattle.cm_element.specs.Near.{with_near}
 use Rattle.cm_crossing.specs.Standing.{UnderWay}
 use Rattle.cm_array.specs.declared.parts.Parts.{Parts}
 use Rattle.cm_array.specs.Parts.{machine_of, AreParts}
@@ -84,6 +87,55 @@ AreUnfinished-with_chip n cap parts run i chip whole is h = record {
     unlogged = h.machine.unlogged;
   };
 }
+
+-- with other whole chips in their places from the first on
+pub AreUnfinished-with_chips : (n cap : ℕ) (parts : Parts) (run from : Chips) (first : ℕ)
+    → first + length from ≤ 2 ^ n → ((c : ℕ) → c < length from → IsChip (chip_at from c))
+    → run ≡ with_near parts.run from first → AreUnfinished n cap parts → AreUnfinished n cap (record parts { run = run })
+unfolding with_near
+AreUnfinished-with_chips n cap parts run from first inside whole is h =
+    let old : Chips = parts.run in
+    let rest : Chips = drop (first + length from) old in
+    let front : length (take first old) ≡ first = length-take-le first old (omega (arith, inside, h.machine.chip_count)) in
+    let long : length (take first old ++ (from ++ rest)) ≡ length old =
+    omega (
+      arith,
+      length-append (take first old) (from ++ rest),
+      length-append from rest,
+      length-drop (first + length from) old,
+      front,
+      inside,
+      h.machine.chip_count,
+    ) in
+    record {
+      dimension = h.dimension;
+      some_room = h.some_room;
+      most_room = h.most_room;
+      sent_count = h.sent_count;
+      incoming_count = h.incoming_count;
+      clock = h.clock;
+      machine = record {
+        chip_count = ap length is ∙ long ∙ h.machine.chip_count;
+        buffer_count = h.machine.buffer_count;
+        whole = subst (λ (chips : Chips). (c : ℕ) → c < 2 ^ n → IsChip (chip_at chips c)) (sym is)
+            (λ c l. ⊎_elim
+            (λ (b : c < first). rw (get_or_append_left (take first old) (from ++ rest) [] c (omega (arith, b, front)),
+            get_or-take first old c [] b) (h.machine.whole c l))
+            (λ (a : first ≤ c). rw (get_or-append_right (take first old) (from ++ rest) first c [] front a)
+            (⊎_elim
+            (λ (m : c - first < length from). rw (get_or_append_left from rest [] (c - first) m)
+            (whole (c - first) m))
+            (λ (m : length from ≤ c - first). rw (get_or-append_right from rest (length from) (c - first) [] refl m,
+            get_or-drop (first + length from) old (c - first - length from) [])
+            (h.machine.whole (first + length from + (c - first - length from)) (omega (arith, l, m, a))))
+            (cases_lt (c - first) (length from))))
+            (cases_lt c first));
+        room = h.machine.room;
+        messages = h.machine.messages;
+        born = h.machine.born;
+        unlogged = h.machine.unlogged;
+      };
+    }
 
 -- ---- a message more
 

@@ -3,8 +3,9 @@ use Rattle.std.specs.Prelude.{ℕ, Bool, [], ◌∷◌, ◌++◌, slice_set}
 use Rattle.cm_bits.specs.Bit.{bit}
 use Rattle.cm_model.specs.declared.message.Message.{Message}
 use Rattle.cm_model.specs.Chip.{with_memory_bit, with_flag}
-use Rattle.cm_model.specs.Array.{chip_at, list_at}
+use Rattle.cm_model.specs.Array.{Chips, chip_at, list_at}
 use Rattle.cm_model.specs.Machine.{Machine}
+use Rattle.cm_element.specs.Near.{with_near}
 use Rattle.cm_element.specs.Wide.{with_memory_plane, with_flag_plane}
 
 -- the machine with another bit at an address of a processor of a chip
@@ -28,6 +29,10 @@ machine_with_plane machine c address plane =
 abbrev pub machine_with_flag_plane : Machine → ℕ → ℕ → ℕ → Machine
 machine_with_flag_plane machine c number plane =
     record machine { chips = slice_set machine.chips c (with_flag_plane (chip_at machine.chips c) number (bit plane)) }
+
+-- the machine with these chips in their places from the first on
+abbrev pub machine_with_chips : Machine → ℕ → Chips → Machine
+machine_with_chips machine first chips = record machine { chips = with_near machine.chips chips first }
 
 -- the machine with a message more, behind those that stand at a chip
 abbrev pub machine_with_message : Machine → ℕ → Message → Machine

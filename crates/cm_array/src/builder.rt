@@ -1,13 +1,15 @@
 //! A machine that is built of planes and messages.
 
-ghost use Rattle.std.specs.Prelude.{◌≡◌, ◌≢◌, ◌^◌, ◌<◌, ◌≤◌, ◌↔◌, IfOk, IfErr, IfSome, IsErrOf, IsOk};
-ghost use Rattle.std.specs.Prelude.{IsOkUnless, IsTrue, None, Some, length};
+ghost use Rattle.std.specs.Prelude.{◌≡◌, ◌≢◌, ℕ, ◌+◌, ◌*◌, ◌^◌, ◌<◌, ◌≤◌, ◌↔◌, IfOk, IfErr, IfSome, IsErrOf, IsOk};
+ghost use Rattle.std.specs.Prelude.{IsOkUnless, IsTrue, None, Some, length, slice_index};
 ghost use Rattle.cm_model.specs.Processor.{ZERO};
 ghost use Rattle.cm_model.specs.Array.{list_at};
 ghost use Rattle.cm_model.specs.Machine.{blank_machine};
 ghost use Rattle.cm_model.specs.Keeping.{IsMessage, AreSizes};
+ghost use Rattle.cm_element.specs.Runs.{chips_beside};
 ghost use Rattle.cm_array.specs.Faults.{size_fault, build_fault};
-ghost use Rattle.cm_array.specs.Pokes.{machine_with_plane, machine_with_flag_plane, machine_with_message};
+ghost use Rattle.cm_array.specs.Pokes.{machine_with_plane, machine_with_flag_plane, machine_with_chips};
+ghost use Rattle.cm_array.specs.Pokes.{machine_with_message};
 
 use crate::machine::{Machine, MachineFault};
 use crate::parts::Parts;
@@ -133,6 +135,18 @@ impl<const N: usize, const CAP: usize> Builder<N, CAP> {
         ensures value { self.new ≡ machine_with_flag_plane self.old chip number plane }
     {
         self.run.poke_flag_plane(chip, number, plane);
+    }
+
+    /// Puts the planes of so many chips into the chips from `first` on. They lie chip by chip: those of memory `PITCH` words
+    /// of cm_element apart, sixteen of flags.
+    pub fn chips(&mut self, first: u16, memory: &[Plane], flags: &[Plane], count: u16)
+        requires chips { first + count ≤ 2 ^ N }
+        requires memory { count * 4128 ≤ length memory.now }
+        requires flags { count * 16 ≤ length flags.now }
+        requires zero { (c : ℕ) → c < count → slice_index flags.now (c * 16 + 8) ≡ 0 }
+        ensures value { self.new ≡ machine_with_chips self.old first (chips_beside memory.now flags.now count) }
+    {
+        self.run.lay_planes(first, memory, flags, count);
     }
 
     /// Puts a message behind those that stand in a chip's router.

@@ -224,6 +224,16 @@ impl<const N: usize, const CAP: usize> Machine<N, CAP> {
         to.lay(0, &self.parts.run, first, count);
     }
 
+    /// Writes the memory planes of so many chips, from `first` on, chip by chip: `PITCH` words of cm_element apart.
+    pub fn write_planes(&self, first: u16, count: u16, memory: &mut [Plane])
+        requires chips { first + count ≤ 2 ^ N }
+        requires memory { count * 4128 ≤ length memory.old }
+        ensures value { (c a : ℕ) → c < count → a < 4096 → IsPlane (slice_index memory.new (c * 4128 + a))
+            (λ p. memory_bit (processor_at (chip_at self.now.machine.chips (first + c)) p) a) }
+    {
+        self.parts.run.write_planes(first, count, memory);
+    }
+
     /// The messages that stand in a chip's router, in order of arrival.
     pub fn buffer(&self, chip: u16) -> &[Message]
         requires chip { chip < 2 ^ N }

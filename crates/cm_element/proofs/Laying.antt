@@ -5,12 +5,14 @@ use Rattle.std.proofs.lemmas.Bool.{cases_lt}
 use Rattle.std.proofs.lemmas.List.{get_or-take, get_or-drop, get_or_past}
 use Rattle.cm_model.specs.Each.{each_from}
 use Rattle.cm_model.specs.Array.{Chips, chip_at}
-use Rattle.cm_model.proofs.Each.{same_each_below, get_or-each_below}
+use Rattle.cm_model.specs.Whole.{IsChip}
+use Rattle.cm_model.proofs.Each.{same_each_below, get_or-each_below, length-each_from}
 use Rattle.cm_element.specs.declared.run.lay.Band.{Band}
 use Rattle.cm_element.specs.Laid.{AreLaid, ArePutRows, AreLaidRows}
 use Rattle.cm_element.specs.Planes.{chip_of}
 use Rattle.cm_element.specs.Runs.{column, chips_of, chip_beside, chips_beside, AreRows}
 use Rattle.cm_element.proofs.Columns.{next_row, chip_at-chips_of, length-chips_of}
+use Rattle.cm_element.proofs.Planes.{planes_are_whole}
 
 -- ---- words
 
@@ -249,3 +251,19 @@ chips_turned here count memory flags memory_from flags_from memory_new flags_new
     (λ i c. get_or flags_from (c * 16 + i) 0) 0 (chips_beside memory_from flags_from count) is
     (λ c h. sym (chip_at-chips_beside memory_from flags_from count (0 + c) (omega arith)
     ∙ ap (λ (k : ℕ). chip_beside memory_from flags_from k) (let same : 0 + c ≡ c = omega arith in same)))
+
+pub length-chips_beside : (memory flags : List ℕ) (count : ℕ) → length (chips_beside memory flags count) ≡ count
+unfolding chips_beside
+length-chips_beside memory flags count = length-each_from 0 count (chip_beside memory flags)
+
+-- each is whole, if its flag ZERO is 0
+pub IsChip-chips_beside : (memory flags : List ℕ) (count c : ℕ) → c < count → get_or flags (c * 16 + 8) 0 ≡ 0
+    → IsChip (chip_at (chips_beside memory flags count) c)
+IsChip-chips_beside memory flags count c h zero =
+    rw (chip_at-chips_beside memory flags count c h)
+    (planes_are_whole (each_from 0 4096 (λ a. get_or memory (c * 4128 + a) 0))
+    (each_from 0 16 (λ f. get_or flags (c * 16 + f) 0)) (record {
+      memory_planes = length-each_from 0 4096 (λ a. get_or memory (c * 4128 + a) 0);
+      flag_planes = length-each_from 0 16 (λ f. get_or flags (c * 16 + f) 0);
+      zero = get_or-each_below 16 (λ f. get_or flags (c * 16 + f) 0) 8 0 (omega arith) ∙ zero;
+    }))

@@ -1,9 +1,9 @@
 -- Chips that are kept in another run, and what is put into them.
-use Rattle.std.proofs.Common.{◌≡◌, ◌⊎◌, ℕ, ◌+◌, ◌-◌, ◌<◌, ◌≤◌, ◌++◌, List, [], length, get_or, set, take, drop, refl}
+use Rattle.std.proofs.Common.{◌≡◌, ◌⊎◌, ℕ, ◌+◌, ◌-◌, ◌<◌, ◌≤◌, ◌++◌, List, [], ◌∷◌, length, get_or, set, take, drop, refl}
 use Rattle.std.proofs.Common.{sym, ap, ◌∙◌, ⊎_elim, arith, length-take, length-drop, length-set, ext_get_or}
 use Rattle.std.proofs.lemmas.Bool.{cases_lt}
 use Rattle.std.proofs.lemmas.List.{get_or-take, get_or-drop, get_or_append_left, get_or-append_right, set-append_left}
-use Rattle.std.proofs.lemmas.List.{set-append_right, length-append}
+use Rattle.std.proofs.lemmas.List.{set-append_right, length-append, take-append-drop}
 use Rattle.cm_model.specs.Processor.{Processor}
 use Rattle.cm_model.specs.Array.{Chips, chip_at}
 use Rattle.cm_element.specs.Laid.{AreLaid}
@@ -155,3 +155,31 @@ far_laid far near new from first width chips at count is apart laid =
       below = λ c h. same_chip far near new first width chips c is is_new (laid.below c h);
       above = λ c h. same_chip far near new first width chips c is is_new (laid.above c h);
     }
+
+no_chips : (from : Chips) → length from ≡ 0 → from ≡ []
+no_chips [] none = refl
+no_chips (chip ∷ from) none = absurd (omega arith)
+
+-- a run into which these chips were laid has them in their places
+pub laid_is : (at count : ℕ) (from old new : Chips) → length from ≡ count → at + count ≤ length old
+    → AreLaid at 0 count from old new → new ≡ with_near old from at
+unfolding with_near
+laid_is at count from old new long inside laid = ⊎_elim
+    (λ (some : 0 < count). let is : AreNear old from at count (length old) = record {
+      far_count = refl;
+      near_count = long;
+      within = inside;
+      some = λ h. some;
+    } in
+    sym (near_is old from new at count (length old) is laid.chips
+    (λ c h. let same : 0 + c ≡ c = omega arith in ap (λ (i : ℕ). chip_at from i) (sym same) ∙ sym (laid.laid c h))
+    (λ c h. sym (laid.below c h)) (λ c h. sym (laid.above c h))))
+    (λ (none : count ≤ 0).
+    let empty : from ≡ [] = no_chips from (omega (arith, long, none)) in
+    let end : at + 0 ≡ at = omega arith in
+    ext_get_or [] new old laid.chips (λ c h. ⊎_elim (λ (l : c < at). laid.below c l)
+    (λ (l : at ≤ c). laid.above c (omega (arith, l, none))) (cases_lt c at))
+    ∙ (sym (take-append-drop at old)
+    ∙ (ap (λ (k : ℕ). take at old ++ drop k old) (sym end)
+    ∙ ap (λ (xs : Chips). take at old ++ (xs ++ drop (at + length xs) old)) (sym empty))))
+    (cases_lt 0 count)

@@ -4,7 +4,7 @@ ghost use Rattle.std.specs.Prelude.{◌≡◌, ◌≢◌, ◌⊎◌, ℕ, ◌+�
 ghost use Rattle.cm_bits.specs.Bit.{bit};
 ghost use Rattle.cm_model.specs.Processor.{ZERO};
 ghost use Rattle.cm_model.specs.Array.{chip_at};
-ghost use Rattle.cm_element.specs.Laid.{AreLaid};
+ghost use Rattle.cm_model.specs.Whole.{IsChip};
 ghost use Rattle.cm_element.specs.Near.{AreNear, with_near};
 ghost use Rattle.cm_element.specs.Runs.{chips_beside};
 ghost use Rattle.cm_element.specs.Wide.{with_memory_plane, with_flag_plane};
@@ -114,7 +114,8 @@ impl NearRun {
         requires memory { count * 4128 ≤ length memory.now }
         requires flags { count * 16 ≤ length flags.now }
         requires zero { (c : ℕ) → c < count → slice_index flags.now (c * 16 + 8) ≡ 0 }
-        ensures value { AreLaid at 0 count (chips_beside memory.now flags.now count) self.old self.new }
+        ensures value { self.new ≡ with_near self.old (chips_beside memory.now flags.now count) at }
+        ensures whole { (c : ℕ) → c < count → IsChip (chip_at (chips_beside memory.now flags.now count) c) }
     {
         if are_apart(at, count, self.first, self.width) {
             self.far.lay_planes(at, memory, flags, count);
