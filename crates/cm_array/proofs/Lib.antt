@@ -8,7 +8,7 @@ mod Machines
 mod Accounts
 mod Building
 mod Tagging
-mod Poking
+pub mod Poking
 mod Laying
 mod Cutting
 mod Putting

@@ -21,3 +21,4 @@ pub mod OperandsRead
 pub mod StatementsRead
 pub mod TextsRead
 pub mod ReadingBack
+pub mod Places

@@ -7,3 +7,4 @@ pub mod Program
 pub mod Listing
 pub mod Whole
 pub mod Laws
+pub mod Places

@@ -2,6 +2,7 @@
 
 ghost use Rattle.cm_language.specs.Laws.{MacrosAreRight, NumbersReadBack, MacrosLeaveTheRest, ProgramsAreWhole};
 ghost use Rattle.cm_language.specs.Laws.{ProgramsAreListed, ListingsReadBack, ListingsAreTheirOwn};
+ghost use Rattle.cm_language.specs.Places.{MacrosStandInTheirProgram};
 
 /// The acts of a macro that is not refused do what it says in whole numbers, in all processors at once.
 pub fn macros_are_right()
@@ -37,4 +38,9 @@ pub fn listings_read_back()
 /// The listing of a listing is that listing, byte for byte.
 pub fn listings_are_their_own()
     ensures { ListingsAreTheirOwn }
+{}
+
+/// The acts of each macro of a text stand in its program, after those of the lines before it.
+pub fn macros_stand_in_their_program()
+    ensures { MacrosStandInTheirProgram }
 {}

@@ -11,7 +11,7 @@ mod statement;
 pub use fault::{AsmFault, AsmKind, MacroFault};
 pub use laws::{
     listings_are_their_own, listings_read_back, macros_are_right, macros_leave_the_rest,
-    numbers_read_back, programs_are_listed, programs_are_whole,
+    macros_stand_in_their_program, numbers_read_back, programs_are_listed, programs_are_whole,
 };
 pub use macros::{Context, Macro};
 pub use statement::{Statement, Verb};

@@ -116,7 +116,7 @@ no_injection b [] = refl
 no_injection b (m ∷ ms) = no_injection b ms
 
 -- what more events add to a count over all logs
-more_events : (p : Triple → Bool) (n : ℕ) (h : ℕ → Event → Option Triple) (logs : List (List Event)) (more : ℕ
+pub more_events : (p : Triple → Bool) (n : ℕ) (h : ℕ → Event → Option Triple) (logs : List (List Event)) (more : ℕ
     → List Event) →
     sum_by (λ c. count_by p (filter_map (h c) (list_at (each_chip n (λ b. list_at logs b ++ more b)) c))) (chips_of n)
     ≡ sum_by (λ c. count_by p (filter_map (h c) (list_at logs c))) (chips_of n) + sum_by

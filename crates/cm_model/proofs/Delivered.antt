@@ -23,10 +23,10 @@ use Rattle.cm_model.proofs.Receiving.{payloads_are_received}
 
 -- ---- one of a kind is found
 
-later_place : {X : Type 0} (x m : X) (xs : List X) → Contains xs m → Contains (x ∷ xs) m
+pub later_place : {X : Type 0} (x m : X) (xs : List X) → Contains xs m → Contains (x ∷ xs) m
 later_place x m xs h = (suc h.0, omega (arith, h.1), h.2)
 
-counted : {X : Type 0} (p : X → Bool) (xs : List X) (m : X) → Contains xs m → p m ≡ true → 1 ≤ count_by p xs
+pub counted : {X : Type 0} (p : X → Bool) (xs : List X) (m : X) → Contains xs m → p m ≡ true → 1 ≤ count_by p xs
 counted p [] m h so = absurd (omega (arith, h.1))
 counted p (x ∷ xs) m (zero, l, e) so =
     let here : ◌≡◌ {A = ℕ} (cond (p x) 1 0) 1 = rw (ap p e ∙ so) refl in

@@ -141,7 +141,7 @@ sound-step n cap machine Inject s h = sound-injection n cap machine h
 sound-step n cap machine (Cross d) s h = sound-dimension n cap d machine s h
 sound-step n cap machine Deliver s h = sound-delivery n cap machine h
 
-sound-steps : (n cap : ℕ) (machine : Machine) (steps : List Step) → AreSteps n steps → IsSound n cap machine
+pub sound-steps : (n cap : ℕ) (machine : Machine) (steps : List Step) → AreSteps n steps → IsSound n cap machine
     → IsSound n cap (after_steps n cap machine steps)
 sound-steps n cap machine [] s h = h
 sound-steps n cap machine (step ∷ steps) s h =

@@ -34,4 +34,8 @@ pub mod Finding
 pub mod Unlogged
 pub mod Sinces
 pub mod Delivered
+pub mod Following
+pub mod Origins
+pub mod Moments
+pub mod OnePlace
 pub mod Scan

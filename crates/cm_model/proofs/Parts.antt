@@ -114,7 +114,7 @@ steps_rise n cap machine acts count c =
 
 -- ---- room at each step
 
-AreSteps-take : (n k : ℕ) (steps : List Step) → AreSteps n steps → AreSteps n (take k steps)
+pub AreSteps-take : (n k : ℕ) (steps : List Step) → AreSteps n steps → AreSteps n (take k steps)
 AreSteps-take n zero steps h = tt
 AreSteps-take n (suc k) [] h = tt
 AreSteps-take n (suc k) (step ∷ steps) h = (h.0, AreSteps-take n k steps h.1)
@@ -148,7 +148,7 @@ steps_in-phases_from n at (a ∷ acts) =
     ∙ (ap (λ z. z ++ steps_in (phases_from n (at + 1) acts)) (steps_in-phases_of n at a (steps_of n a))
     ∙ ap (λ z. steps_of n a ++ z) (steps_in-phases_from n (at + 1) acts))
 
-after_acts-steps : (n cap : ℕ) (machine : Machine) (acts : List Act)
+pub after_acts-steps : (n cap : ℕ) (machine : Machine) (acts : List Act)
     → after_acts n cap machine acts ≡ after_steps n cap machine (all_steps n acts)
 after_acts-steps n cap machine [] = refl
 after_acts-steps n cap machine (a ∷ acts) = after_acts-steps n cap (after_act n cap machine a) acts

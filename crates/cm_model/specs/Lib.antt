@@ -20,5 +20,6 @@ pub mod Keeping
 pub mod StepLaws
 pub mod Laws
 pub mod RunLaws
+pub mod Deliveries
 pub mod Leaver
 pub mod Unlogged

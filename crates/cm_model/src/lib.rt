@@ -4,6 +4,7 @@
 #![tactic(auto)]
 
 mod act;
+mod delivery_laws;
 mod found;
 mod grid;
 mod laws;
@@ -12,6 +13,9 @@ mod message;
 mod run_laws;
 
 pub use act::{Act, Nano};
+pub use delivery_laws::{
+    deliveries_are_of_messages, messages_are_in_one_place, messages_stand_or_were_delivered,
+};
 pub use found::Found;
 pub use grid::{PlainGrid, opposite};
 pub use laws::{
