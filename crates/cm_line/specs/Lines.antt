@@ -1,10 +1,15 @@
 -- The command line, as clap reads it: the program's name, a subcommand, its arguments; ours.
-use Rattle.std.specs.Prelude.{◌≡◌, ℕ, ◌≤◌, ◌⊎◌, List, [], Option, Some, None, option_map, IsSomeAnd, codes}
-use Rattle.std.specs.Prelude.{string_bytes, true}
+use Rattle.std.specs.Prelude.{◌≡◌, ℕ, ◌≤◌, ◌⊎◌, List, [], ◌∷◌, ◌++◌, map, Option, Some, None, option_map, IsSomeAnd}
+use Rattle.std.specs.Prelude.{codes, string_bytes, true, false}
 use Rattle.std.specs.Str.Parse.{IsNumeral, digits_value, without_leading_plus}
 use Rattle.clap.specs.Walk.{Row, Rule, Text, first_of}
-use Rattle.clap.specs.Simple.{App, Shape, new_app, new_rule, on_top, subcommand_of, with_rule, with_subcommand}
+use Rattle.clap.specs.Simple.{App, Shape, new_app, new_rule, on_top, subcommand_of, subcommand_rows_of}
+use Rattle.clap.specs.Simple.{with_rule, with_subcommand}
 use Rattle.clap.specs.Faults.{fault_of}
+use Rattle.clap.specs.declared.builder.arg.Arg.{Arg}
+use Rattle.clap.specs.declared.builder.command.Command.{Command}
+use Rattle.clap.specs.declared.parser.matches.ArgMatches.{ArgMatches}
+use Rattle.clap.specs.declared.builder.command.Command.TheViews.{out-Command as fields_of}
 use Rattle.cm_line.specs.declared.line.Line.{Line}
 use Rattle.cm_line.specs.declared.line.Line.TheVariants as line
 
@@ -12,65 +17,74 @@ use Rattle.cm_line.specs.declared.line.Line.TheVariants as line
 abbrev pub without_help_flag : App → App
 without_help_flag = on_top (λ (s : Shape). record s { disable_help_flag = true })
 
--- the command with no subcommand for help, which asks for a subcommand
-abbrev pub asking_for_subcommand : App → App
-asking_for_subcommand = on_top (λ (s : Shape). record s {
-  disable_help_subcommand = true;
-  subcommand_required = true;
-})
-
--- the subcommand `chip`, which has no operands and no options
-abbrev pub chip_app : App
-chip_app = without_help_flag (new_app (codes "chip"))
-
 -- an operand that must stand there
 abbrev pub required_operand : Text → Rule
 required_operand name = record (new_rule name) { required = true }
-
--- the subcommand `list`, whose one operand is a program's file
-abbrev pub list_app : App
-list_app = with_rule (without_help_flag (new_app (codes "list"))) (required_operand (codes "program"))
-
--- the subcommand `fresh`, whose operands are a dimension, a room and a file
-abbrev pub fresh_app : App
-fresh_app =
-    with_rule (with_rule (with_rule (without_help_flag (new_app (codes "fresh"))) (required_operand (codes "n")))
-    (required_operand (codes "cap"))) (required_operand (codes "file"))
 
 -- an option `--name VALUE` or `--name=VALUE`, which may stand there, once
 abbrev pub option_with_value : Text → Rule
 option_with_value name = record (new_rule name) { long = Some name }
 
--- the operands of `run`: an image's file and a program's file
-abbrev pub run_operands_app : App
-run_operands_app =
-    with_rule
-    (with_rule (without_help_flag (new_app (codes "run"))) (required_operand (codes "image")))
-    (required_operand (codes "program"))
+-- the command with these arguments more, in turn
+abbrev pub with_rules : App → List Rule → App
+with_rules app [] = app
+with_rules app (rule ∷ rules) = with_rules (with_rule app rule) rules
 
--- the subcommand `run`, whose options are two numbers and a file
+-- a subcommand of this name, with these operands and these options
+abbrev pub leaf_app : Text → List Text → List Text → App
+leaf_app name operands options =
+    with_rules (without_help_flag (new_app name)) (map required_operand operands ++ map option_with_value options)
+
+-- the subcommand `chip`, which has no operands and no options
+abbrev pub chip_app : App
+chip_app = leaf_app (codes "chip") [] []
+
+-- the subcommand `list`, whose one operand is a program's file
+abbrev pub list_app : App
+list_app = leaf_app (codes "list") (codes "program" ∷ []) []
+
+-- the subcommand `fresh`, whose operands are a dimension, a room and a file
+abbrev pub fresh_app : App
+fresh_app = leaf_app (codes "fresh") (codes "n" ∷ codes "cap" ∷ codes "file" ∷ []) []
+
+-- the subcommand `run`, whose operands are the files of an image and of a program, and whose options are two numbers
+-- and a file
 abbrev pub run_app : App
 run_app =
-    with_rule
-    (with_rule
-    (with_rule run_operands_app (option_with_value (codes "split")))
-    (option_with_value (codes "workers")))
-    (option_with_value (codes "out"))
+    leaf_app (codes "run") (codes "image" ∷ codes "program" ∷ [])
+    (codes "split" ∷ codes "workers" ∷ codes "out" ∷ [])
 
--- the program, with those of its subcommands that read and write texts alone
-abbrev pub texts_app : App
-texts_app =
-    with_subcommand
-    (with_subcommand (asking_for_subcommand (without_help_flag (new_app (codes "cm1")))) chip_app.top)
-    list_app.top
+-- the program before it has a subcommand: it asks for one, and has none for help
+abbrev pub bare_app : App
+bare_app = on_top
+    (λ (s : Shape). record s { disable_help_subcommand = true; subcommand_required = true })
+    (without_help_flag (new_app (codes "cm1")))
+
+-- the command with these subcommands more, in turn
+abbrev pub with_subcommands : App → List Shape → App
+with_subcommands app [] = app
+with_subcommands app (leaf ∷ leaves) = with_subcommands (with_subcommand app leaf) leaves
 
 -- the program, with each of its subcommands
 abbrev pub program_app : App
-program_app = with_subcommand (with_subcommand texts_app fresh_app.top) run_app.top
+program_app = with_subcommands bare_app (chip_app.top ∷ list_app.top ∷ fresh_app.top ∷ run_app.top ∷ [])
+
+-- a command with no argument that counts for its subcommands too
+abbrev pub IsLocal : Command → Type 0
+IsLocal command = (fields_of command).has_globals ≡ false
+
+-- an argument that counts for its own command alone
+abbrev pub IsLocalArg : Arg → Type 0
+IsLocalArg argument = argument.global ≡ false
 
 -- clap finds no fault in the words, of which the first is the program's name
 abbrev pub IsTaken : List Text → Type 0
 IsTaken words = fault_of program_app words ≡ []
+
+-- clap finds no fault in the words, and this in them
+pub record IsRead (words : List Text) (found : ArgMatches) : Type 0 where
+  pub taken : IsTaken words
+  pub subcommand : subcommand_rows_of found ≡ subcommand_of program_app words
 
 -- the number that stands for an operand, in plain decimal and within its range; a plus may stand before its digits
 pub record IsNumberOperand (name : Text) (found : List Row) (least most number : ℕ) : Type 0 where

@@ -1,6 +1,7 @@
 //! The command line of the program: which subcommand the words ask for.
 #![tactic(auto)]
 
+mod app;
 mod fault;
 mod line;
 

@@ -1,36 +1,14 @@
 ghost use Rattle.std.specs.Prelude.{◌≡◌, ℕ, List, [], ◌∷◌, Option, Some, None, IfOk, IfSome, IsErrOf, String};
-ghost use Rattle.std.specs.Prelude.{codes, string_bytes, false};
+ghost use Rattle.std.specs.Prelude.{codes, string_bytes};
 ghost use Rattle.clap.specs.Walk.{first_of, rows_of, texts};
 ghost use Rattle.clap.specs.Matches.{found_of};
-ghost use Rattle.clap.specs.Simple.{app_of, with_rule, with_subcommand};
-ghost use Rattle.clap.specs.declared.builder.command.Command.TheViews.{out-Command as fields_of};
 ghost use Rattle.cm_line.specs.Lines.{AsksFor, IsBadLine, IsLine, IsFreshLine, IsRunLine, IsNumberOperand};
-ghost use Rattle.cm_line.specs.Lines.{IsNumberOption, required_operand, option_with_value, chip_app, list_app};
-ghost use Rattle.cm_line.specs.Lines.{fresh_app, run_app, texts_app, program_app};
+ghost use Rattle.cm_line.specs.Lines.{IsNumberOption};
 
+use crate::app::{DIMENSION, FILE, IMAGE, OUT, PROGRAM, ROOM, SPLIT, WORKERS, matches};
 use crate::fault::LineFault;
-use clap::error::ErrorKind;
-use clap::{Arg, ArgMatches, Command};
-use std::alloc::{AllocError, Global};
-
-/// The name of the operand that is a program's file.
-const PROGRAM: &str = "program";
-
-/// The names of the operands of `fresh`.
-const DIMENSION: &str = "n";
-
-const ROOM: &str = "cap";
-
-const FILE: &str = "file";
-
-/// The names of what `run` has besides its program: an operand, and options.
-const IMAGE: &str = "image";
-
-const SPLIT: &str = "split";
-
-const WORKERS: &str = "workers";
-
-const OUT: &str = "out";
+use clap::ArgMatches;
+use std::alloc::Global;
 
 /// What the program is asked to do.
 #[derive(Debug, PartialEq, Eq, Drop)]
@@ -69,11 +47,7 @@ pub fn command<'a>(alloc: Global, words: &'a [&'a str]) -> Result<Line, LineFaul
     ensures value { IfOk result (AsksFor (texts words.now)) }
     ensures bad_line { IsErrOf result LineFault.BadLine → IsBadLine (texts words.now) }
 {
-    let matches = match program(alloc)?.try_get_matches_from(words) {
-        Ok(matches) => matches,
-        Err(error) if error.kind() == ErrorKind::OutOfMemory => return Err(LineFault::Memory),
-        Err(_) => return Err(LineFault::BadLine),
-    };
+    let matches = matches(alloc, words)?;
     match matches.subcommand() {
         Some(("chip", _)) => Ok(Line::Chip),
         Some(("list", operands)) => list_line(alloc, operands),
@@ -256,104 +230,3 @@ pub fn lines_and_bad_lines()
         (codes "cm1" ∷ codes "run" ∷ codes "a.image" ∷ codes "sums.txt" ∷ codes "--workers=1" ∷ codes "--workers=2"
         ∷ []) }
 {}
-
-fn program<'a>(alloc: Global) -> Result<Command<'a>, AllocError>
-    ensures app { IfOk result (λ made. app_of made ≡ program_app) }
-    ensures local { IfOk result (λ made. (fields_of made).has_globals ≡ false) }
-{
-    let program = program_of_texts(alloc)?;
-    let program = adding_subcommand(program, fresh(alloc)?)?;
-    adding_subcommand(program, run(alloc)?)
-}
-
-/// The program, with those of its subcommands that read and write texts alone.
-fn program_of_texts<'a>(alloc: Global) -> Result<Command<'a>, AllocError>
-    ensures app { IfOk result (λ made. app_of made ≡ texts_app) }
-    ensures local { IfOk result (λ made. (fields_of made).has_globals ≡ false) }
-{
-    let program = Command::new(alloc, "cm1")
-        .disable_help_flag(true)
-        .disable_help_subcommand(true)
-        .subcommand_required(true);
-    let program = adding_subcommand(program, chip(alloc))?;
-    adding_subcommand(program, list(alloc)?)
-}
-
-fn chip<'a>(alloc: Global) -> Command<'a>
-    ensures app { app_of result ≡ chip_app }
-    ensures local { (fields_of result).has_globals ≡ false }
-{
-    Command::new(alloc, "chip").disable_help_flag(true)
-}
-
-fn list<'a>(alloc: Global) -> Result<Command<'a>, AllocError>
-    ensures app { IfOk result (λ made. app_of made ≡ list_app) }
-    ensures local { IfOk result (λ made. (fields_of made).has_globals ≡ false) }
-{
-    let list = Command::new(alloc, "list").disable_help_flag(true);
-    adding_operand(alloc, list, PROGRAM)
-}
-
-fn fresh<'a>(alloc: Global) -> Result<Command<'a>, AllocError>
-    ensures app { IfOk result (λ made. app_of made ≡ fresh_app) }
-    ensures local { IfOk result (λ made. (fields_of made).has_globals ≡ false) }
-{
-    let fresh = Command::new(alloc, "fresh").disable_help_flag(true);
-    let fresh = adding_operand(alloc, fresh, DIMENSION)?;
-    let fresh = adding_operand(alloc, fresh, ROOM)?;
-    adding_operand(alloc, fresh, FILE)
-}
-
-fn run<'a>(alloc: Global) -> Result<Command<'a>, AllocError>
-    ensures app { IfOk result (λ made. app_of made ≡ run_app) }
-    ensures local { IfOk result (λ made. (fields_of made).has_globals ≡ false) }
-{
-    let run = Command::new(alloc, "run").disable_help_flag(true);
-    let run = adding_operand(alloc, run, IMAGE)?;
-    let run = adding_operand(alloc, run, PROGRAM)?;
-    let run = adding_option(alloc, run, SPLIT)?;
-    let run = adding_option(alloc, run, WORKERS)?;
-    adding_option(alloc, run, OUT)
-}
-
-/// The command with one more operand, which must stand there.
-fn adding_operand<'a>(
-    alloc: Global,
-    command: Command<'a>,
-    name: &'a str,
-) -> Result<Command<'a>, AllocError>
-    ensures app { IfOk result
-        (λ made. app_of made ≡ with_rule (app_of command.entry) (required_operand name.entry.now)) }
-    ensures local { (fields_of command.entry).has_globals ≡ false
-        → IfOk result (λ made. (fields_of made).has_globals ≡ false) }
-{
-    command.arg(Arg::new(alloc, name).required(true))
-}
-
-/// The command with one more option, which has a value.
-fn adding_option<'a>(
-    alloc: Global,
-    command: Command<'a>,
-    name: &'a str,
-) -> Result<Command<'a>, AllocError>
-    ensures app { IfOk result
-        (λ made. app_of made ≡ with_rule (app_of command.entry) (option_with_value name.entry.now)) }
-    ensures local { (fields_of command.entry).has_globals ≡ false
-        → IfOk result (λ made. (fields_of made).has_globals ≡ false) }
-{
-    command.arg(Arg::new(alloc, name).long(name))
-}
-
-/// The command with one more subcommand, which has no global argument.
-fn adding_subcommand<'a>(
-    command: Command<'a>,
-    subcommand: Command<'a>,
-) -> Result<Command<'a>, AllocError>
-    requires local { (fields_of subcommand).has_globals ≡ false }
-    ensures app { IfOk result
-        (λ made. app_of made ≡ with_subcommand (app_of command.entry) (app_of subcommand.entry).top) }
-    ensures local { (fields_of command.entry).has_globals ≡ false
-        → IfOk result (λ made. (fields_of made).has_globals ≡ false) }
-{
-    command.subcommand(subcommand)
-}
