@@ -20,13 +20,13 @@ grid_size n =
     sixteen ∙ ap (λ (k : ℕ). 16 * k) (sym split)
 
 -- the row in which the processor of an index stands
-row-lt : (n i : ℕ) → i < processors n → i / columns n < rows n
+pub row-lt : (n i : ℕ) → i < processors n → i / columns n < rows n
 row-lt n i h =
     let some : 0 < columns n = omega (arith, columns_some n) in
     let size : columns n * rows n ≡ processors n = grid_size n in
     div_below i (columns n) (rows n) some (omega (arith, size, h))
 
-column-lt : (n i : ℕ) → i % columns n < columns n
+pub column-lt : (n i : ℕ) → i % columns n < columns n
 column-lt n i = mod-lt i (let some : 0 < columns n = omega (arith, columns_some n) in some)
 
 pub each_processor_comes_once : (n : ℕ) (order : Order) → AreOrdered n order

@@ -25,6 +25,11 @@ abbrev pub index_in : ℕ → Order → Place → ℕ
 index_in n by_chips place = place.chip * 16 + place.proc
 index_in n by_rows place = row_of n place * columns n + column_of n place
 
+-- how many numbers stand in a line: those of a chip, or of a row of the grid
+abbrev pub width_in : ℕ → Order → ℕ
+width_in n by_chips = 16
+width_in n by_rows = columns n
+
 -- the number that each processor has in the memory field of this length at this address
 unfoldable pub numbers_of : ℕ → Order → ℕ → ℕ → Chips → List ℕ
 numbers_of n order at len chips =
