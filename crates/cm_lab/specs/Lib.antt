@@ -1,0 +1,4 @@
+pub mod Data
+pub mod DataLaws
+pub mod Lab
+pub mod Numbers

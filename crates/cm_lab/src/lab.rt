@@ -1,0 +1,196 @@
+//! What the laboratory does with an image: from bytes to bytes.
+
+ghost use Rattle.std.specs.Prelude.{◌≡◌, ◌≢◌, ◌≤◌, true, [], Ok, Err, IfOk, IfErr};
+ghost use Rattle.cm_image_format.specs.Whole.{read_shape, read_image};
+ghost use Rattle.cm_lab.specs.declared.lab.Task.TheVariants as task;
+ghost use Rattle.cm_lab.specs.Lab.{is_own_room, work_of, done_with, IsRefused};
+
+use crate::data::{get, put};
+use crate::numbers::{NumbersFault, read_numbers, write_numbers};
+use crate::order::{Order, processors};
+use cm_array::Machine;
+use cm_bits::Field;
+use cm_image::{ImageFault, dump, load, shape};
+use std::alloc::Global;
+use thiserror::Error;
+
+/// What is asked of a machine.
+#[derive(Clone, Copy, Debug, PartialEq, Eq)]
+pub enum Task {
+    /// The number that each processor has in a field is told.
+    Get(Order, Field),
+    /// The numbers that are given are put into a field of all processors.
+    Put(Order, Field),
+}
+
+/// Why nothing was done.
+#[derive(Clone, Copy, Debug, PartialEq, Eq, Error)]
+pub enum LabFault {
+    /// The image is none.
+    #[error("{0}")]
+    Image(ImageFault),
+    /// Its routers have another room than those of the laboratory's machines.
+    #[error("routers with room for another number of messages than 1 or 7")]
+    Room,
+    /// What was given is not one number for each processor.
+    #[error("{0}")]
+    Numbers(NumbersFault),
+    #[error("out of memory")]
+    Memory,
+}
+
+/// Does with the machine of an image what is asked: gives the text that tells it, or the image of the machine that it
+/// leaves. The image is judged before what is given.
+pub fn perform(alloc: Global, task: Task, image: &[u8], given: &[u8]) -> Result<Vec<u8>, LabFault>
+    ensures value { IfOk result (λ text. done_with task given.now image.now ≡ Ok text.items) }
+    ensures refused { IfErr result (λ fault. fault ≢ LabFault.Memory → done_with task given.now image.now ≡ Err fault) }
+{
+    let (n, cap) = match shape(image) {
+        Ok(sizes) => sizes,
+        Err(fault) => return Err(LabFault::Image(fault)),
+    };
+    match cap {
+        1 => perform_sized::<1>(alloc, n, task, image, given),
+        7 => perform_sized::<7>(alloc, n, task, image, given),
+        _ => Err(LabFault::Room),
+    }
+}
+
+/// The same, where routers have this room.
+fn perform_sized<const CAP: usize>(
+    alloc: Global,
+    n: u8,
+    task: Task,
+    image: &[u8],
+    given: &[u8],
+) -> Result<Vec<u8>, LabFault>
+    requires dimension { n ≤ 12 }
+    requires shape { read_shape image.now ≡ Ok (n, CAP) }
+    requires own { is_own_room CAP ≡ true }
+    ensures value { IfOk result (λ text. done_with task given.now image.now ≡ Ok text.items) }
+    ensures refused { IfErr result (λ fault. fault ≢ LabFault.Memory → done_with task given.now image.now ≡ Err fault) }
+{
+    match n {
+        0 => perform_on::<0, CAP>(alloc, task, image, given),
+        1 => perform_on::<1, CAP>(alloc, task, image, given),
+        2 => perform_on::<2, CAP>(alloc, task, image, given),
+        3 => perform_on::<3, CAP>(alloc, task, image, given),
+        4 => perform_on::<4, CAP>(alloc, task, image, given),
+        5 => perform_on::<5, CAP>(alloc, task, image, given),
+        6 => perform_on::<6, CAP>(alloc, task, image, given),
+        7 => perform_on::<7, CAP>(alloc, task, image, given),
+        8 => perform_on::<8, CAP>(alloc, task, image, given),
+        9 => perform_on::<9, CAP>(alloc, task, image, given),
+        10 => perform_on::<10, CAP>(alloc, task, image, given),
+        11 => perform_on::<11, CAP>(alloc, task, image, given),
+        _ => perform_on::<12, CAP>(alloc, task, image, given),
+    }
+}
+
+/// The same, on a machine of these sizes.
+fn perform_on<const N: usize, const CAP: usize>(
+    alloc: Global,
+    task: Task,
+    image: &[u8],
+    given: &[u8],
+) -> Result<Vec<u8>, LabFault>
+    requires shape { read_shape image.now ≡ Ok (N, CAP) }
+    requires own { is_own_room CAP ≡ true }
+    ensures value { IfOk result (λ text. done_with task given.now image.now ≡ Ok text.items) }
+    ensures refused { IfErr result (λ fault. fault ≢ LabFault.Memory → done_with task given.now image.now ≡ Err fault) }
+{
+    let mut machine = match machine_of::<N, CAP>(alloc, image) {
+        Ok(machine) => machine,
+        Err(fault) => return Err(fault),
+    };
+    work(alloc, &mut machine, task, given)
+}
+
+/// Does with a machine what is asked.
+fn work<const N: usize, const CAP: usize>(
+    alloc: Global,
+    machine: &mut Machine<N, CAP>,
+    task: Task,
+    given: &[u8],
+) -> Result<Vec<u8>, LabFault>
+    ensures value { IfOk result (λ text. work_of N CAP task given.now machine.old.machine ≡ Ok text.items) }
+    ensures refused { IfErr result (λ fault. fault ≢ LabFault.Memory
+        → work_of N CAP task given.now machine.old.machine ≡ Err fault) }
+{
+    match task {
+        Task::Get(order, field) => told(alloc, machine, order, field),
+        Task::Put(order, field) => filled(alloc, machine, order, field, given),
+    }
+}
+
+/// The machine of an image.
+fn machine_of<const N: usize, const CAP: usize>(
+    alloc: Global,
+    image: &[u8],
+) -> Result<Machine<N, CAP>, LabFault>
+    ensures value { IfOk result (λ kept. read_image N CAP image.now ≡ Ok kept.machine) }
+    ensures refused { IfErr result (λ fault. fault ≢ LabFault.Memory → IsRefused (read_image N CAP image.now) fault) }
+{
+    match load(alloc, image) {
+        Ok(machine) => Ok(machine),
+        Err(fault) => Err(of_image(fault)),
+    }
+}
+
+/// Why an image is none: want of memory is the same everywhere.
+fn of_image(fault: ImageFault) -> LabFault
+    ensures memory { fault ≡ ImageFault.Memory → result ≡ LabFault.Memory }
+    ensures other { fault ≢ ImageFault.Memory → result ≡ LabFault.Image fault }
+{
+    match fault {
+        ImageFault::Memory => LabFault::Memory,
+        other => LabFault::Image(other),
+    }
+}
+
+/// The text of the numbers that the processors of a machine have in a field.
+fn told<const N: usize, const CAP: usize>(
+    alloc: Global,
+    machine: &Machine<N, CAP>,
+    order: Order,
+    field: Field,
+) -> Result<Vec<u8>, LabFault>
+    ensures value { IfOk result
+        (λ text. work_of N CAP (task.Get order field) [] machine.now.machine ≡ Ok text.items) }
+    ensures memory { IfErr result (λ fault. fault ≡ LabFault.Memory) }
+{
+    let _clock = machine.clock();
+    let Ok(numbers) = get(alloc, machine, order, field) else {
+        return Err(LabFault::Memory);
+    };
+    match write_numbers(alloc, &numbers, order.width::<N>()) {
+        Ok(text) => Ok(text),
+        Err(_) => Err(LabFault::Memory),
+    }
+}
+
+/// The image of a machine into which the numbers of a text were put.
+fn filled<const N: usize, const CAP: usize>(
+    alloc: Global,
+    machine: &mut Machine<N, CAP>,
+    order: Order,
+    field: Field,
+    given: &[u8],
+) -> Result<Vec<u8>, LabFault>
+    ensures value { IfOk result
+        (λ text. work_of N CAP (task.Put order field) given.now machine.old.machine ≡ Ok text.items) }
+    ensures refused { IfErr result (λ fault. fault ≢ LabFault.Memory
+        → work_of N CAP (task.Put order field) given.now machine.old.machine ≡ Err fault) }
+{
+    let _clock = machine.clock();
+    let numbers = match read_numbers(alloc, given, field.len(), processors::<N>()) {
+        Ok(numbers) => numbers,
+        Err(NumbersFault::Memory) => return Err(LabFault::Memory),
+        Err(fault) => return Err(LabFault::Numbers(fault)),
+    };
+    put(machine, order, field, &numbers);
+    match dump(alloc, machine) {
+        Ok(text) => Ok(text),
+        Err(_) => Err(LabFault::Memory),
+    }
+}
