@@ -129,3 +129,14 @@ steps_are_counted exchange steps world is reached =
           let stage = s.stage in
           omega (arith, all, stage)),
     )
+
+pub orders_come_to_an_end : (exchange : Exchange) (steps : List Step) (world : World) → IsExchange exchange
+    → IsReached exchange steps world → length steps ≤ 4 * round_count exchange * 2 ^ exchange.k
+orders_come_to_an_end exchange steps world is reached =
+    let sound : IsSound exchange world = reached-sound exchange steps world is reached in
+    let stands : All (IsStand (round_count exchange)) world.stands = stands-all exchange world sound in
+    let taken : steps_in world ≡ length steps = reached-counts exchange steps world is reached in
+    let most = at_most steps_by (4 * round_count exchange) world.stands (λ i d l. (stands i d l).within) in
+    let whole : length world.stands * (4 * round_count exchange) ≡ 4 * round_count exchange * 2 ^ exchange.k =
+    ap (λ (z : ℕ). z * (4 * round_count exchange)) sound.stand_count ∙ grind arith in
+    omega (arith, taken, most, whole)

@@ -71,3 +71,8 @@ abbrev pub StepsAreCounted : Type 0
 StepsAreCounted = (exchange : Exchange) (steps : List Step) (world : World) → IsExchange exchange
     → IsReached exchange steps world →
     IsFinished exchange world ↔ (length steps ≡ 4 * round_count exchange * 2 ^ exchange.k)
+
+-- no order has more
+abbrev pub OrdersComeToAnEnd : Type 0
+OrdersComeToAnEnd = (exchange : Exchange) (steps : List Step) (world : World) → IsExchange exchange
+    → IsReached exchange steps world → length steps ≤ 4 * round_count exchange * 2 ^ exchange.k

@@ -2,6 +2,7 @@
 
 ghost use Rattle.cm_exchange.specs.Laws.{LanesHaveTwoEnds, RoundsAreDueInOrder, LanesHoldWhatIsDue};
 ghost use Rattle.cm_exchange.specs.Laws.{WordsTellSteps, WorldsAreNeverStuck, StepsAreCounted};
+ghost use Rattle.cm_exchange.specs.Laws.{OrdersComeToAnEnd};
 
 /// Each block gets from one block over a lane of each kind, which sends to it, and no other.
 pub fn lanes_have_two_ends()
@@ -31,4 +32,9 @@ pub fn worlds_are_never_stuck()
 /// All orders of steps come to the end after the same number.
 pub fn steps_are_counted()
     ensures { StepsAreCounted }
+{}
+
+/// No order of steps goes on for ever.
+pub fn orders_come_to_an_end()
+    ensures { OrdersComeToAnEnd }
 {}

@@ -7,8 +7,8 @@ mod stand;
 mod step;
 
 pub use laws::{
-    lanes_have_two_ends, lanes_hold_what_is_due, rounds_are_due_in_order, steps_are_counted,
-    words_tell_steps, worlds_are_never_stuck,
+    lanes_have_two_ends, lanes_hold_what_is_due, orders_come_to_an_end, rounds_are_due_in_order,
+    steps_are_counted, words_tell_steps, worlds_are_never_stuck,
 };
 pub use stand::Stand;
 pub use step::Step;

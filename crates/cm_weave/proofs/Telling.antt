@@ -17,7 +17,7 @@ use Rattle.cm_weave.specs.declared.lane.Lane.{Lane}
 use Rattle.cm_weave.specs.Woven.{Woven, AreWoven, IsOnItsWay}
 use Rattle.cm_weave.proofs.Finishing.{no_block}
 use Rattle.cm_weave.proofs.Following.{exchange_is}
-use Rattle.cm_weave.proofs.Playing.{view}
+use Rattle.cm_weave.proofs.Playing.{view, as_many}
 
 pub on_its_way : (n cap k : ℕ) (machine : Machine) (acts : List Act) (rounds_kept : List Round)
     (blocks : List KeptBlock) (stands : List Stand) (lanes : List Lane)
@@ -26,6 +26,9 @@ pub on_its_way : (n cap k : ℕ) (machine : Machine) (acts : List Act) (rounds_k
 on_its_way n cap k machine acts rounds_kept blocks stands lanes w now is = subst (IsOnItsWay n cap) is (record {
   few = w.few;
   within = w.within;
+  few_rounds =
+      let f = w.few_rounds in
+      let m = as_many n cap k machine acts rounds_kept blocks stands lanes w in omega (arith, f, m);
   reached = w.reached;
   count = length-map blocks (λ (b : KeptBlock). b.kept.part) ∙ w.block_count;
   parts = λ b d l.

@@ -15,7 +15,7 @@ use Rattle.cm_subcube.specs.Rounds.{kind_of, rounds_of}
 use Rattle.cm_subcube.specs.Parcels.{blank_parcel, HaveSpaceFor}
 use Rattle.cm_exchange.specs.declared.stand.Stand.{Stand}
 use Rattle.cm_exchange.specs.declared.step.Step.{Step}
-use Rattle.cm_exchange.specs.Lanes.{Exchange, exchange_of}
+use Rattle.cm_exchange.specs.Lanes.{Exchange, exchange_of, round_count}
 use Rattle.cm_exchange.specs.Worlds.{World, at_first, stand_of}
 use Rattle.cm_exchange.specs.Steps.{IsReached}
 use Rattle.cm_exchange.specs.Worlds as worlds
@@ -92,6 +92,7 @@ pub record AreWoven (n cap k : ℕ) (machine : Machine) (acts : List Act) (round
 pub record IsOnItsWay (n cap : ℕ) (woven : Woven) : Type 0 where
   pub few : n ≤ 12
   pub within : woven.k ≤ n - n / 2
+  pub few_rounds : round_count (exchange_of n cap woven.k woven.machine woven.acts) ≤ 2 ^ 20
   pub reached : IsSomehowReached (exchange_of n cap woven.k woven.machine woven.acts) woven.world
   pub count : length woven.parts ≡ 2 ^ woven.k
   pub parts : (b : ℕ) (d : Part) → b < 2 ^ woven.k
