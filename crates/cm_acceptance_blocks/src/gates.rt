@@ -3,6 +3,7 @@
 ghost use Rattle.std.specs.Prelude.{IsTrue};
 ghost use Rattle.std.specs.List.{All};
 ghost use Rattle.std.specs.Thread.{IsSync};
+ghost use Rattle.cm_workers.specs.Gates.{ComesBy};
 
 use crate::machines::{agree, flag, poke_plane};
 use cm_array::{Machine, Plain, RunFault, Runner};
@@ -37,6 +38,8 @@ struct Reluctant {
 }
 
 impl Gate for Reluctant {
+    ghost admits = { λ gate worker. Unit {0} };
+
     fn admit(&self, worker: u16) -> bool {
         let before = self.calls.asked.fetch_add(1, Ordering::SeqCst);
         worker != 1 || before != 1
@@ -44,6 +47,7 @@ impl Gate for Reluctant {
 
     fn pass(&self, _worker: u16, _round: u32, _blocks: &[Block])
         requires gathered { All (λ b. IsTrue b.kept.gathered) _blocks.now }
+        requires own { ComesBy _worker _round _blocks.now }
     {
         self.calls.passed.fetch_add(1, Ordering::SeqCst);
     }

@@ -1,8 +1,9 @@
-//! Two workers that wait for each other in each round, and show their blocks as they are then.
+//! Workers that wait for each other in each round, and show their blocks as they are then.
 
 ghost use Rattle.std.specs.Prelude.{IsTrue, ◌<◌};
 ghost use Rattle.std.specs.List.{All};
 ghost use Rattle.std.specs.Thread.{IsSync};
+ghost use Rattle.cm_workers.specs.Gates.{ComesBy};
 
 use crate::going::{buffers_at_rounds, end_of};
 use crate::machines::agree;
@@ -19,17 +20,15 @@ use std::sync::{Arc, Wait};
 use std::test::Fail;
 use std::thread::Threads;
 
-/// How often a worker looks whether the other has come.
+/// How often a worker looks whether the others have come.
 const TURNS: u32 = 100_000_000;
 
-/// What both workers noted.
+/// What all workers noted.
 #[derive(Drop)]
 struct Notes {
-    /// How many rounds the first worker has come to.
-    first: AtomicU64,
-    /// The same of the second.
-    second: AtomicU64,
-    /// How often one did not come in time.
+    /// How often one came to a round.
+    came: AtomicU64,
+    /// How often another did not come in time.
     late: AtomicU64,
     /// How many chips were shown with other messages than they should have, and how often with another's blocks.
     wrong: AtomicU64,
@@ -38,19 +37,15 @@ struct Notes {
 }
 
 impl Notes {
-    /// Notes the call of a worker for a round, and waits until that of the other is noted.
-    fn meet(&self, worker: u16, round: u64) {
-        let (own, other) = if worker == 0 {
-            (&self.first, &self.second)
-        } else {
-            (&self.second, &self.first)
-        };
-        own.fetch_add(1, Ordering::SeqCst);
+    /// Notes the call of one of so many workers for a round, and waits until those of all others are noted.
+    fn meet(&self, workers: u16, round: u64) {
+        self.came.fetch_add(1, Ordering::SeqCst);
         if self.late.load(Ordering::SeqCst) > 0 {
             return;
         }
+        let all = u64::from(workers).saturating_mul(round.saturating_add(1));
         for _turn in 0..TURNS {
-            if other.load(Ordering::SeqCst) > round {
+            if self.came.load(Ordering::SeqCst) >= all {
                 return;
             }
             spin_loop();
@@ -58,11 +53,10 @@ impl Notes {
         self.late.fetch_add(1, Ordering::SeqCst);
     }
 
-    /// Calls of both, how often one was late, and how many chips were shown, and with wrong messages.
-    fn told(&self) -> [u64; 5] {
+    /// Calls of all, how often one was late, and how many chips were shown, and with wrong messages.
+    fn told(&self) -> [u64; 4] {
         [
-            self.first.load(Ordering::SeqCst),
-            self.second.load(Ordering::SeqCst),
+            self.came.load(Ordering::SeqCst),
             self.late.load(Ordering::SeqCst),
             self.wrong.load(Ordering::SeqCst),
             self.shown.load(Ordering::SeqCst),
@@ -70,9 +64,10 @@ impl Notes {
     }
 }
 
-/// A gate of two workers that meet in each round. By round and chip it has the messages that should stand there.
+/// A gate of so many workers that meet in each round. By round and chip it has the messages that should stand there.
 #[derive(Drop)]
 struct Meeting {
+    workers: u16,
     notes: Arc<Notes, Global>,
     lists: Vec<Vec<Vec<Message>>>,
 }
@@ -90,15 +85,18 @@ impl Meeting {
 }
 
 impl Gate for Meeting {
+    ghost admits = { λ gate worker. worker < gate.workers };
+
     fn admit(&self, worker: u16) -> bool {
-        worker < 2
+        worker < self.workers
     }
 
     fn pass(&self, worker: u16, round: u32, blocks: &[Block])
         requires gathered { All (λ b. IsTrue b.kept.gathered) blocks.now }
+        requires own { ComesBy worker round blocks.now }
     {
-        self.notes.meet(worker, u64::from(round));
-        if !are_of(worker, blocks) {
+        self.notes.meet(self.workers, u64::from(round));
+        if !are_of(worker, self.workers, blocks) {
             self.notes.wrong.fetch_add(1, Ordering::SeqCst);
         }
         for block in blocks {
@@ -112,12 +110,16 @@ impl Gate for Meeting {
     }
 }
 
-/// Whether these are the blocks that such a worker has of four blocks of four chips, the lowest first.
-fn are_of(worker: u16, blocks: &[Block]) -> bool {
-    let [low, high] = blocks else {
-        return false;
-    };
-    low.first() / 4 == worker && high.first() / 4 == worker + 2
+/// Whether these are all the blocks that such a worker has of four blocks of four chips, the lowest first.
+fn are_of(worker: u16, workers: u16, blocks: &[Block]) -> bool {
+    let mut number = worker;
+    for block in blocks {
+        if block.first() / 4 != number {
+            return false;
+        }
+        number = number.saturating_add(workers);
+    }
+    number >= 4
 }
 
 /// Whether a machine that went through the program of messages is as one thread leaves it.
@@ -129,8 +131,7 @@ fn is_as_plain(alloc: Global, machine: &Machine<4, 7>, acts: &[Act]) -> Result<b
 
 fn no_notes(alloc: Global) -> Result<Arc<Notes, Global>, Fail> {
     let notes = Notes {
-        first: AtomicU64::new(0),
-        second: AtomicU64::new(0),
+        came: AtomicU64::new(0),
         late: AtomicU64::new(0),
         wrong: AtomicU64::new(0),
         shown: AtomicU64::new(0),
@@ -138,10 +139,11 @@ fn no_notes(alloc: Global) -> Result<Arc<Notes, Global>, Fail> {
     Ok(Arc::new(alloc, notes)?)
 }
 
-/// A machine goes through the acts by two workers that meet.
+/// A machine goes through the acts by so many workers that meet.
 fn meet<R: Threads + Wait>(
     rt: &R,
     alloc: Global,
+    workers: u16,
     machine: &mut Machine<4, 7>,
     acts: &[Act],
     notes: &Arc<Notes, Global>,
@@ -149,31 +151,41 @@ fn meet<R: Threads + Wait>(
     requires threads { IsSync R.row }
 {
     let gate = Meeting {
+        workers,
         notes: Arc::try_clone(notes)?,
         lists: buffers_at_rounds(alloc, machine, acts, 2)?,
     };
     let passage = Passage::Gated(Box::new(alloc, gate)?);
-    let mut forked = Forked::new::<4>(rt, alloc, 2, 2, passage)?;
+    let mut forked = Forked::new::<4>(rt, alloc, 2, workers, passage)?;
     forked.go(machine, acts)?;
     Ok(())
 }
 
-/// What both noted, and whether the machine is as one thread leaves it.
-fn told<R: Threads + Wait>(rt: &R, alloc: Global) -> Result<([u64; 5], bool), Fail>
+/// What all noted, and whether the machine is as one thread leaves it.
+fn told<R: Threads + Wait>(rt: &R, alloc: Global, workers: u16) -> Result<([u64; 4], bool), Fail>
     requires threads { IsSync R.row }
 {
     let acts = program(alloc)?;
     let notes = no_notes(alloc)?;
     let mut machine = Machine::<4, 7>::blank(alloc)?;
-    meet(rt, alloc, &mut machine, &acts, &notes)?;
+    meet(rt, alloc, workers, &mut machine, &acts, &notes)?;
     let is_plain = is_as_plain(alloc, &machine, &acts)?;
     Ok((notes.told(), is_plain))
 }
 
+/// How many workers meet, and how often they come to a round.
+static MEETINGS: [(u16, u64); 2] = [(2, 256), (4, 512)];
+
 #[test]
-fn two_workers_meet_in_each_of_128_rounds_with_the_blocks_of_one_thread(
+fn workers_meet_in_each_of_128_rounds_with_the_blocks_of_one_thread(
     rt: HostRuntime,
 ) -> Result<(), Fail> {
-    assert_eq!(rt; told(&rt, rt.alloc())?, ([128, 128, 0, 0, 128 * 16], true));
+    for row in &MEETINGS {
+        let (workers, came) = *row;
+        assert_eq!(rt;
+            told(&rt, rt.alloc(), workers)?,
+            ([came, 0, 0, 128 * 16], true)
+        );
+    }
     Ok(())
 }

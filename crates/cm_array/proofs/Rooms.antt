@@ -1,6 +1,7 @@
 -- How many events more each log takes, and how many petit cycles are among acts.
-use Rattle.std.proofs.Common.{◌≡◌, ◌≢◌, ℕ, ◌+◌, ◌*◌, ◌<◌, ◌≤◌, Result, Ok, Err, OnErr, List, [], ◌∷◌, ◌++◌, length, map}
-use Rattle.std.proofs.Common.{get_or, set, take, cond, sym, ◌∙◌, ap, arith}
+use Rattle.std.proofs.Common.{◌≡◌, ◌≢◌, ℕ, ◌+◌, ◌*◌, ◌<◌, ◌≤◌, Result, Ok, Err, OnErr, IfOk, List, [], ◌∷◌, ◌++◌, length, map}
+use Rattle.std.proofs.Common.{get_or, set, take, cond, min, ◌-◌, ◌^◌, slice_index, sym, subst, ◌∙◌, ap, arith}
+use Rattle.std.proofs.lemmas.Bool.Decides.{nat_tests}
 use Rattle.std.proofs.Common.{below_more, get_or-set_same, get_or-set_other}
 use Rattle.std.proofs.lemmas.List.{map-set, length-map, get_or-map, take_more}
 use Rattle.std.proofs.lemmas.List.Sums.{sum_by-append, sum_by-take-le}
@@ -47,10 +48,25 @@ room_lacks logs was more c none l same some full kept = record {
       omega (arith, get_or-map log_room logs c none 0 l, kept, few);
 }
 
+-- room for as many as a number tells, in logs that cannot have so much, is room for more than that
+pub room_that_can_be : (wanted more : ℕ) (rooms : List ℕ) → more ≡ min wanted (2 ^ 64 - 1)
+    → (0 < length rooms → more < 2 ^ 63)
+    → HaveLogRoom more rooms → HaveLogRoom wanted rooms
+room_that_can_be wanted more rooms is can_be room i below =
+    let few = can_be (omega (arith, below)) in
+    let same : more ≡ wanted = grind (arith, nat_tests) in
+    subst (λ (m : ℕ). m ≤ slice_index rooms i) same (room i below)
+
 -- a fact that holds holds of every error
 pub on_err : {A E P : Type 0} (result : Result A E) → P → OnErr result P
 on_err (Ok x) p = tt
 on_err (Err e) p = p
+
+-- what follows from two facts of a result that came
+pub if_both : {X E : Type 0} (result : Result X E) (A B C : X → Type 0) → ((x : X) → A x → B x → C x)
+    → IfOk result A → IfOk result B → IfOk result C
+if_both (Ok x) A B C f a b = f x a b
+if_both (Err e) A B C f a b = tt
 
 -- ---- room for a run of acts
 

@@ -174,9 +174,7 @@ impl<const N: usize, const CAP: usize> Machine<N, CAP> {
         ensures gathered { IfOk result (λ kept. IsTrue kept.gathered) }
     {
         let parts = &self.parts;
-        let Some(more) = cycles.checked_mul(MOST_INJECTED + CAP) else {
-            return Err(NoMemory);
-        };
+        let more = cycles.saturating_mul(MOST_INJECTED + CAP);
         Part::cut(alloc, Self::sizes(), parts, first, count, more)
     }
 

@@ -65,6 +65,7 @@ impl Part {
         ensures dims { IfOk result (λ kept. kept.dims ≡ sizes.dims) }
         ensures room { IfOk result (λ kept. kept.room ≡ sizes.room) }
         ensures log_room { IfOk result (λ kept. HaveLogRoom more kept.log_rooms) }
+        ensures can_be { IfOk result (λ kept. 0 < length kept.log_rooms → more < 2 ^ 63) }
         ensures gathered { IfOk result (λ kept. IsTrue kept.gathered) }
     {
         let at = usize::from(first);

@@ -137,6 +137,7 @@ fn is_instruction(act: &Act) -> bool
 pub(crate) fn reserve(logs: &mut [Vec<Event>], more: usize) -> Result<(), NoMemory>
     ensures events { events_of logs.new ≡ events_of logs.old }
     ensures ok { OnOk result (HaveLogRoom more (log_rooms_of logs.new)) }
+    ensures can_be { OnOk result (0 < length logs.old → more < 2 ^ 63) }
     ensures err { OnErr result (LacksLogRoom more (log_rooms_of logs.old)) }
     ensures no_more { more ≡ 0 → IsOk result }
 {
@@ -156,6 +157,7 @@ fn make_room(log: &mut Vec<Event>, more: usize) -> Result<(), NoMemory>
     ensures items { log.new.items ≡ log.old.items }
     ensures len { vec_len log.new ≡ vec_len log.old }
     ensures ok { OnOk result (vec_len log.new + more ≤ vec_capacity log.new) }
+    ensures can_be { OnOk result (more < 2 ^ 63) }
     ensures succeeds { vec_len log.old + more ≤ vec_capacity log.old → IsOk result }
     ensures full { OnErr result (vec_capacity log.old < vec_len log.old + more) }
     ensures grows { OnOk result (vec_capacity log.old < vec_capacity log.new
@@ -166,9 +168,7 @@ fn make_room(log: &mut Vec<Event>, more: usize) -> Result<(), NoMemory>
     if more <= log.capacity() - log.len() {
         return Ok(());
     }
-    let Some(wanted) = log.len().checked_add(more) else {
-        return Err(NoMemory);
-    };
+    let wanted = log.len().saturating_add(more);
     let room = wanted.max(log.capacity()).saturating_mul(2);
     let mut grown = Vec::with_capacity(*log.allocator(), room)?;
     grown.extend_from_slice(log)?;

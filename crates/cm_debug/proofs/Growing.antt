@@ -1,13 +1,23 @@
 -- A stretch that grows by one act.
-use Rattle.std.proofs.Common.{◌≡◌, ℕ, ◌+◌, ◌^◌, ◌<◌, ◌≤◌, ◌⊎◌, inl, inr, ◌&&◌, Bool, false, cond, List, length, take}
+use Rattle.std.proofs.Common.{◌≡◌, ℕ, ◌+◌, ◌^◌, ◌<◌, ◌≤◌, ◌⊎◌, inl, inr, ◌&&◌, Bool, true, false, cond, IsFalse, List, length, take}
 use Rattle.std.proofs.Common.{slice_index_or, ap, ◌∙◌, sym, arith}
 use Rattle.std.proofs.lemmas.Bool.{cases_lt}
+use Rattle.std.proofs.lemmas.Bool.Decides.{nat_tests}
 use Rattle.std.proofs.lemmas.Grind.{common_steps}
 use Rattle.std.proofs.lemmas.List.Sums.{sum_by_more}
 use Rattle.cm_model.specs.declared.act.Act.{Act}
 use Rattle.cm_model.specs.declared.act.Act.TheVariants.{Cycle}
-use Rattle.cm_array.specs.Acts.{cycles_in, is_cycle}
+use Rattle.cm_array.specs.Acts.{cycles_in, is_cycle, is_long}
 use Rattle.cm_session.specs.Stretches.{is_look, looks_at, IsStretch}
+use Rattle.cm_debug.specs.Longest.{IsLongest}
+
+-- what a runner takes at once
+record IsShort (acts : List Act) : Type 0 where
+  few_acts : length acts ≤ 4096
+  few : cycles_in acts ≤ 64
+
+is_short : (acts : List Act) → IsFalse (is_long acts) → IsShort acts
+is_short acts short = record { few_acts = grind (arith, nat_tests); few = grind (arith, nat_tests) }
 
 -- petit cycles in one act more
 pub one_more : (acts : List Act) (count : ℕ) (act : Act) → count < length acts → act ≡ slice_index_or acts count act
@@ -70,3 +80,47 @@ begins stops report position clock acts some room = record {
 } where
   longer : length (take 1 acts) ≡ 1
   longer = grind (arith, common_steps)
+
+-- an act at which a stretch ends: it is told, or stopped at, or has no room
+abbrev pub EndsStretch : (ℕ → Bool) → Bool → ℕ → ℕ → ℕ → ℕ → Act → Type 0
+EndsStretch stops report position clock count cycles act =
+    ((report && is_look act) ≡ true) ⊎ (stops (position + count) ≡ true)
+    ⊎ (64 < cycles + cond (is_cycle act) 1 0) ⊎ (2 ^ 63 ≤ clock + (cycles + cond (is_cycle act) 1 0))
+
+-- behind so many acts none can follow
+pub ends_here : (stops : ℕ → Bool) (report : Bool) (position clock : ℕ) (acts : List Act) (count cycles : ℕ) (act : Act)
+    → 0 < count → count < length acts → act ≡ slice_index_or acts count act
+    → cycles ≡ cycles_in (take count acts) → EndsStretch stops report position clock count cycles act
+    → IsLongest stops report position clock acts count
+ends_here stops report position clock acts count cycles act some inside found counted ends below short stretch =
+    by_end ends
+  where
+    longer : length (take (count + 1) acts) ≡ count + 1
+    longer = grind (arith, common_steps)
+
+    last : slice_index_or (take (count + 1) acts) count Cycle ≡ act
+    last = same_act acts count (count + 1) (omega arith) ∙ any_other acts count act inside ∙ sym found
+
+    by_end : EndsStretch stops report position clock count cycles act → ⊥
+    by_end (inl told) =
+        let silent = stretch.silent count some (omega (arith, longer)) in
+        let wrong : true ≡ false = sym told ∙ sym (ap (λ (a : Act). report && is_look a) last) ∙ silent in cc
+    by_end (inr (inl stopped)) =
+        let goes = stretch.goes count some (omega (arith, longer)) in
+        let wrong : true ≡ false = sym stopped ∙ goes in cc
+    by_end (inr (inr (inl many))) =
+        let more = one_more acts count act inside found in
+        let few = (is_short (take (count + 1) acts) short).few in
+        omega (arith, more, many, few, counted)
+    by_end (inr (inr (inr late))) =
+        let more = one_more acts count act inside found in
+        let room = stretch.room in
+        omega (arith, more, late, room, counted)
+
+-- so many acts are as many as a runner takes
+pub enough : (stops : ℕ → Bool) (report : Bool) (position clock : ℕ) (acts : List Act) (count : ℕ)
+    → 4096 ≤ count → IsLongest stops report position clock acts count
+enough stops report position clock acts count many below short stretch =
+    let few = (is_short (take (count + 1) acts) short).few_acts in
+    let longer : length (take (count + 1) acts) ≡ count + 1 = grind (arith, common_steps) in
+    omega (arith, many, few, longer)

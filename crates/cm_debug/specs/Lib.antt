@@ -1,3 +1,4 @@
 pub mod Desk
+pub mod Longest
 pub mod Gathering
 pub mod Telling

@@ -9,6 +9,7 @@ ghost use Rattle.cm_array.specs.Faults.{one_more_lacked};
 ghost use Rattle.cm_session.specs.Session.{has_acts, lacks_room, told_by};
 ghost use Rattle.cm_session.specs.Ends.{IsOnTheWay};
 ghost use Rattle.cm_debug.specs.Desk.{come, gone, session_of, stops_at, IsDeskOf};
+ghost use Rattle.cm_debug.specs.Longest.{IsLongest};
 ghost use Rattle.cm_debug.specs.Telling.{is_thread};
 
 use crate::answers::{push_number, push_sense, push_word};
@@ -90,6 +91,8 @@ fn run_stretch<const N: usize, const CAP: usize, R: Runner<N, CAP>>(
     ensures machine { OnOk result (machine.new.machine ≡ run_of N CAP machine.old.machine
         (take (desk.new.position - desk.old.position) (drop desk.old.position acts.now))) }
     ensures further { OnOk result (desk.old.position < desk.new.position) }
+    ensures longest { OnOk result (IsLongest (stops_at stops desk.old.breaks.items) desk.old.report desk.old.position
+        machine.old.machine.clock (drop desk.old.position acts.now) (desk.new.position - desk.old.position)) }
     ensures inside { OnOk result (desk.new.position < length acts.now + 1) }
     ensures breaks { desk.new.breaks.items ≡ desk.old.breaks.items }
     ensures report { desk.new.report ≡ desk.old.report }

@@ -1,12 +1,13 @@
 //! How many acts are run at once.
 
 ghost use Rattle.std.specs.Prelude.{◌≡◌, ◌+◌, ◌&&◌, ◌^◌, ◌<◌, ◌≤◌, false, true, length, take};
-ghost use Rattle.std.specs.Prelude.{cond, slice_index_or, IsFalse};
+ghost use Rattle.std.specs.Prelude.{cond, slice_index_or, IsFalse, IsTrue, ◌⊎◌};
 ghost use Rattle.cm_model.specs.declared.act.Act.TheVariants as act;
 ghost use Rattle.cm_array.specs.Acts.{cycles_in, is_cycle, is_long};
 ghost use Rattle.cm_session.specs.Session.{lacks_room};
 ghost use Rattle.cm_session.specs.Stretches.{is_look, looks_at, IsStretch};
 ghost use Rattle.cm_debug.specs.Desk.{stops_at};
+ghost use Rattle.cm_debug.specs.Longest.{IsLongest};
 
 use crate::desk::{Desk, Stops};
 use cm_model::Act;
@@ -46,6 +47,8 @@ pub fn stretch_len(acts: &[Act], desk: &Desk, stops: Stops, clock: u64) -> usize
     ensures stretch { IsStretch (stops_at stops desk.now.breaks.items) desk.now.report desk.now.position clock
         (take result acts.now) }
     ensures short { IsFalse (is_long (take result acts.now)) }
+    ensures longest { IsLongest (stops_at stops desk.now.breaks.items) desk.now.report desk.now.position clock
+        acts.now result }
 {
     let mut cycles = cycle_count(&acts[0]);
     let mut count = 1;
@@ -68,6 +71,10 @@ fn ends_at(act: &Act, desk: &Desk, stops: Stops, index: usize, clock: u64, cycle
     ensures goes { IsFalse result → stops_at stops desk.now.breaks.items index ≡ false }
     ensures few { IsFalse result → cycles + cond (is_cycle act.now) 1 0 ≤ 64 }
     ensures room { IsFalse result → clock + (cycles + cond (is_cycle act.now) 1 0) < 2 ^ 63 }
+    ensures ends { IsTrue result → ((desk.now.report && is_look act.now) ≡ true)
+        ⊎ (stops_at stops desk.now.breaks.items index ≡ true)
+        ⊎ (64 < cycles + cond (is_cycle act.now) 1 0)
+        ⊎ (2 ^ 63 ≤ clock + (cycles + cond (is_cycle act.now) 1 0)) }
 {
     if desk.report && is_look(act) || desk.stops(stops, index) {
         return true;

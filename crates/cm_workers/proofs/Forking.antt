@@ -1,5 +1,5 @@
 -- A machine cut into blocks for a run, and the machine that these are afterwards.
-use Rattle.std.proofs.Common.{◌≡◌, ℕ, ◌+◌, ◌-◌, ◌*◌, ◌/◌, ◌<◌, ◌≤◌, ◌^◌, List, [], ◌∷◌, ◌++◌, true, length, map, get_or}
+use Rattle.std.proofs.Common.{◌≡◌, ℕ, ◌+◌, ◌*◌, ◌<◌, ◌≤◌, ◌^◌, List, [], ◌∷◌, ◌++◌, true, length, map, get_or}
 use Rattle.std.proofs.Common.{ap, sym, subst, ◌∙◌, arith}
 use Rattle.std.specs.List.{All}
 use Rattle.std.proofs.lemmas.List.{length-map, get_or-map}
@@ -8,13 +8,11 @@ use Rattle.cm_model.specs.declared.act.Act.{Act}
 use Rattle.cm_model.specs.Machine.{Machine, run_of}
 use Rattle.cm_model.specs.Account.{account, newly_injected, SameLines}
 use Rattle.cm_model.specs.Keeping.{IsMachine}
-use Rattle.cm_model.specs.Each.{each_from}
 use Rattle.cm_model.proofs.Accounting.{account_is_conserved}
 use Rattle.cm_model.proofs.Each.{length-each_from, get_or-each_below, is_each}
 use Rattle.cm_model.proofs.Runs.{run_of-nil}
 use Rattle.cm_model.proofs.Keeping.{IsMachine-run_of}
 use Rattle.cm_blocks.specs.Parts.{Part, block}
-use Rattle.cm_blocks.specs.Rounds.{rounds, before_round}
 use Rattle.cm_blocks.proofs.Rounding.{rounds_end_the_run}
 use Rattle.cm_array.specs.Acts.{cycles_in}
 use Rattle.cm_router.specs.Logs.{HaveLogRoom}

@@ -1,11 +1,11 @@
 -- Things dealt out, one more and one less.
-use Rattle.std.proofs.Common.{rules, ◌≡◌, ◌≢◌, ◌↔◌, ℕ, ◌+◌, ◌-◌, ◌*◌, ◌/◌, ◌%◌, ◌<◌, ◌≤◌, ◌++◌, [], ◌∷◌, ◌⊎◌, inl, inr}
+use Rattle.std.proofs.Common.{◌≡◌, ◌≢◌, ◌↔◌, ℕ, ◌+◌, ◌-◌, ◌*◌, ◌/◌, ◌%◌, ◌<◌, ◌≤◌, ◌++◌, [], ◌∷◌, ◌⊎◌, inl, inr}
 use Rattle.std.proofs.Common.{⊎_elim, List, length, reverse, get_or, Vec, sym, ap, ◌∙◌, refl, subst, arith}
 use Rattle.std.specs.declared.alloc.Global.{Global}
 use Rattle.std.proofs.lemmas.List.{length-append, length-reverse, get_or_append_left, get_or_push, get_or-reverse}
 use Rattle.std.proofs.lemmas.Nat.{div-add-mod', mul-le}
 use Rattle.std.proofs.lemmas.Bool.{cases_lt}
-use Rattle.std.proofs.Math.Nat.{mod-lt, mod-eq_of_lt}
+use Rattle.std.proofs.Math.Nat.{mod-lt}
 use Rattle.cm_workers.specs.Dealing.{hand, AreDealt, AreEmpty, AreShares, HasPut}
 
 -- one row more

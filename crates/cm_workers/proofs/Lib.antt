@@ -6,4 +6,5 @@ mod Shifting
 mod Sharing
 mod Staging
 mod Standing
+mod Passing
 mod Forking

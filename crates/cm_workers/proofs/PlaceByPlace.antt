@@ -1,10 +1,8 @@
 -- What two lists become, place by place.
-use Rattle.std.proofs.Common.{rules, ◌≡◌, ◌≢◌, ℕ, ◌+◌, ◌<◌, ◌≤◌, ◌⊎◌, ⊎_elim, List, length, get_or, slice_set, take}
-use Rattle.std.proofs.Common.{drop, ◌++◌, sym, ap, ◌∙◌, refl, subst, arith}
-use Rattle.std.specs.List.{All}
+use Rattle.std.proofs.Common.{◌≡◌, ◌≢◌, ℕ, ◌+◌, ◌<◌, ◌≤◌, ⊎_elim, List, length, get_or, slice_set, take}
+use Rattle.std.proofs.Common.{drop, ◌++◌, sym, ◌∙◌, refl, subst, arith}
 use Rattle.std.proofs.lemmas.List.{length-set, get_or-set_same, get_or-set_other, get_or_default}
 use Rattle.std.proofs.lemmas.List.{take-append-le, take_all}
-use Rattle.std.proofs.lemmas.Bool.{cases_lt}
 use Rattle.cm_workers.specs.Each.{AreEach, AreEachBelow}
 use Rattle.cm_workers.proofs.Hands.{either_same, less_than}
 

@@ -1,8 +1,8 @@
 -- Blocks from turn to turn of a run.
-use Rattle.std.proofs.Common.{◌≡◌, ◌≢◌, ℕ, zero, suc, ◌+◌, ◌-◌, ◌*◌, ◌/◌, ◌%◌, ◌<◌, ◌≤◌, ◌^◌, Bool, true, false}
-use Rattle.std.proofs.Common.{List, [], ◌∷◌, cond, Option, Some, None, length, map, get_or, refl, ap, sym}
+use Rattle.std.proofs.Common.{◌≡◌, ℕ, suc, ◌+◌, ◌-◌, ◌*◌, ◌/◌, ◌<◌, ◌≤◌, ◌^◌, Bool, true, false}
+use Rattle.std.proofs.Common.{List, [], ◌∷◌, cond, Option, Some, None, length, refl, ap, sym}
 use Rattle.std.proofs.Common.{subst, ◌∙◌, arith}
-use Rattle.std.specs.Prelude.{slice_get, slice_index}
+use Rattle.std.specs.Prelude.{slice_get}
 use Rattle.std.specs.Option.{option_map}
 use Rattle.std.proofs.lemmas.Option.{slice_get-map}
 use Rattle.std.proofs.lemmas.List.Sums.{sum_by-cons}
@@ -10,9 +10,8 @@ use Rattle.std.proofs.lemmas.Bool.Decides.{nat_tests}
 use Rattle.cm_bits.specs.declared.plane.Dir.{Dir}
 use Rattle.cm_bits.specs.declared.plane.Dir.TheVariants as dir
 use Rattle.cm_model.specs.declared.act.Act.{Act}
-use Rattle.cm_model.specs.declared.act.Nano.{Nano}
 use Rattle.cm_model.specs.Machine.{Machine}
-use Rattle.cm_model.specs.Steps.{Step, Instruct, Look, Inject, Cross, Deliver, IsStep, Phase}
+use Rattle.cm_model.specs.Steps.{Step, Instruct, Look, Inject, Cross, Deliver, Phase}
 use Rattle.cm_blocks.specs.Counts.{is_delivery, deliveries, events_in}
 use Rattle.cm_model.specs.Place.{columns, place_at}
 use Rattle.cm_model.specs.Array.{output}
@@ -20,7 +19,7 @@ use Rattle.cm_model.specs.Buffers.{outgoing}
 use Rattle.cm_model.proofs.Each.{length-each_from}
 use Rattle.cm_blocks.specs.Parts.{Part, part, block, size, chip_in, buffer_in}
 use Rattle.cm_blocks.specs.Parcels.{Parcel, Blank, Edge, due, sender, sender_over, edge_row}
-use Rattle.cm_blocks.specs.Rounds.{is_round, is_vertical, rounds, before_round, steps_until, steps_between, ahead}
+use Rattle.cm_blocks.specs.Rounds.{is_round, is_vertical, rounds, before_round, steps_between, ahead}
 use Rattle.cm_blocks.specs.Steps.{part_after, part_after_all, less, absorbed}
 use Rattle.cm_blocks.proofs.Rounding.{blocks_begin, blocks_go_on}
 use Rattle.cm_blocks.proofs.Filling.{leaving_then_taking_in}
@@ -34,15 +33,14 @@ use Rattle.cm_subcube.specs.declared.round.Round.{Round}
 use Rattle.cm_subcube.specs.Rounds.{kind_of, kind_over, round_of, rounds_of, step_of}
 use Rattle.cm_subcube.specs.Parcels.{IsOfKind, HaveSpaceFor}
 use Rattle.cm_subcube.specs.Local.{local_after, IsRoundOf}
-use Rattle.cm_subcube.specs.Laws.{IsFollowed}
 use Rattle.cm_subcube.proofs.Counting.{steps_until-first, deliveries_shared, events_shared}
 use Rattle.cm_subcube.proofs.Following.{round_is_followed}
 use Rattle.cm_workers.specs.declared.post.Post.{Post}
 use Rattle.cm_workers.specs.Posts.{lane_in, post_of, blank_post, giver}
-use Rattle.cm_workers.specs.Turns.{round_before, taken_in, gone_on, left_in, sent_by, IsFollowing, HasComeBefore}
+use Rattle.cm_workers.specs.Turns.{taken_in, gone_on, left_in, sent_by, IsFollowing, HasComeBefore}
 use Rattle.cm_workers.specs.Turns.{HaveSpaceIn, CanGo, HasGone}
 use Rattle.cm_workers.proofs.Turning.{clock_stands}
-use Rattle.cm_workers.specs.Runs.{part_at, post_at, come_in, without_sent, HaveSpaceAt, StandsAt, StandAt}
+use Rattle.cm_workers.specs.Runs.{part_at, post_at, come_in, without_sent, HaveSpaceAt, StandsAt}
 
 -- a lane is what a post of its kind was made of
 pub lane_of_post : (n k : ℕ) (round : Kind) (parcel : Parcel) → lane_in round (post_of n k round parcel) ≡ parcel

@@ -1,7 +1,7 @@
 -- All blocks from turn to turn of a run.
-use Rattle.std.proofs.Common.{◌≡◌, ◌≢◌, ℕ, zero, suc, ◌+◌, ◌-◌, ◌*◌, ◌/◌, ◌%◌, ◌<◌, ◌≤◌, ◌^◌, true, List, [], ◌∷◌}
-use Rattle.std.proofs.Common.{Option, Some, None, length, map, get_or, refl, ap, sym, subst, ◌∙◌, arith}
-use Rattle.std.specs.Prelude.{slice_get, bit_xor}
+use Rattle.std.proofs.Common.{◌≡◌, ℕ, zero, suc, ◌+◌, ◌-◌, ◌*◌, ◌/◌, ◌<◌, ◌≤◌, ◌^◌, List, [], ◌∷◌}
+use Rattle.std.proofs.Common.{Option, Some, None, length, get_or, refl, ap, sym, subst, ◌∙◌, arith}
+use Rattle.std.specs.Prelude.{slice_get}
 use Rattle.std.specs.Option.{option_map}
 use Rattle.std.proofs.lemmas.Option.{slice_get-map, slice_get_past, get_or_from_slice_get}
 use Rattle.std.proofs.lemmas.List.{length-map}
@@ -11,7 +11,7 @@ use Rattle.cm_model.specs.declared.act.Act.{Act}
 use Rattle.cm_model.specs.Machine.{Machine}
 use Rattle.cm_model.specs.Steps.{Phase}
 use Rattle.cm_blocks.specs.Counts.{deliveries, events_in}
-use Rattle.cm_blocks.specs.Parts.{Part, block}
+use Rattle.cm_blocks.specs.Parts.{block}
 use Rattle.cm_blocks.specs.Rounds.{rounds, before_round, steps_between, ahead}
 use Rattle.cm_array.specs.Acts.{cycles_in}
 use Rattle.cm_subcube.specs.declared.round.Kind.{Kind}
@@ -19,17 +19,16 @@ use Rattle.cm_subcube.specs.declared.round.Kind.TheVariants as kind
 use Rattle.cm_subcube.specs.declared.round.Round.{Round}
 use Rattle.cm_subcube.specs.Blocks.{KeptBlock}
 use Rattle.cm_subcube.specs.Rounds.{kind_of, round_of, rounds_of}
-use Rattle.cm_subcube.specs.Local.{local_after}
-use Rattle.cm_subcube.specs.Parcels.{IsOuter, IsExchange, IsExchangeBy}
+use Rattle.cm_subcube.specs.Parcels.{IsExchangeBy}
 use Rattle.cm_subcube.proofs.Counting.{deliveries_shared, events_shared}
 use Rattle.cm_subcube.proofs.Following.{round_is_followed}
 use Rattle.cm_workers.specs.declared.post.Post.{Post}
 use Rattle.cm_workers.specs.Posts.{blank_post, giver, AreHandedOver, CanBeOver}
 use Rattle.cm_workers.specs.Each.{AreEach}
-use Rattle.cm_workers.specs.Turns.{round_before, CanGo, CanAllGo, HasGone}
+use Rattle.cm_workers.specs.Turns.{round_before, gone_on, CanGo, CanAllGo, HasGone}
 use Rattle.cm_workers.specs.Runs.{StandsAt, StandAt, HaveBegun, AreAfter}
 use Rattle.cm_workers.proofs.Staging.{first_turn, later_turn, ready_first, ready_later, following_next, has_sent}
-use Rattle.cm_workers.proofs.Staging.{HasSentAt, sent_at, stands_next}
+use Rattle.cm_workers.proofs.Staging.{HasSentAt, stands_next}
 
 -- an element that is there
 record IsThere {X : Type 0} (xs : List X) (i : ℕ) : Type 0 where
@@ -74,6 +73,19 @@ module _ (n k room : ℕ) (machine : Machine) (acts : List Act) (within : k ≤ 
             one.dims one.blocks one.room_is
             (following_next n k (suc r) acts) r it.one it.is one);
       }
+
+  -- from the beginning of a turn to its round, by itself
+  pub gone_to : (t b : ℕ) (kept : KeptBlock) (post : Post) → t ≤ length rs → b < 2 ^ k
+      → StandsAt n k room machine acts t b kept post
+      → gone_on n k room acts (round_before rs t) post kept.kept.part
+      ≡ block n k b (before_round n room k machine acts t)
+  gone_to zero b kept post below l stood = first_turn n k room machine acts within b l kept.kept.part post stood.part
+  gone_to (suc r) b kept post below l stood =
+      let it = there (rounds n k acts) r (omega (arith, below, as_many)) in
+      let more : r + 1 ≡ suc r = omega arith in
+      ap (λ (before : Option Round). gone_on n k room acts before post kept.kept.part) (round_is r (Some it.one) it.is)
+      ∙ later_turn n k room machine acts within b l r it.one kept.kept.part post it.is stood.part stood.come
+      ∙ ap (λ (j : ℕ). block n k b (before_round n room k machine acts j)) more
 
   sent_each : (t : ℕ) (one : Option Phase) (blocks bs : List KeptBlock) (posts ps : List Post) → t ≤ length rs
       → slice_get (rounds n k acts) t ≡ one

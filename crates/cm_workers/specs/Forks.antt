@@ -1,5 +1,5 @@
 -- Forked runners: which there are, and what they count. Ours.
-use Rattle.std.specs.Prelude.{ℕ, ◌-◌, ◌/◌, ◌^◌, min, Bool, true, false, ◌==◌, ◌||◌, ltb}
+use Rattle.std.specs.Prelude.{ℕ, ◌-◌, ◌/◌, ◌^◌, min, ◌==◌, ◌||◌, ltb}
 use Rattle.std.specs.Prelude.{Option, Some, None, if◌then◌else◌}
 use Rattle.cm_workers.specs.declared.forked.ForkFault.{ForkFault}
 use Rattle.cm_workers.specs.declared.forked.ForkFault.TheVariants.{Split, Workers}

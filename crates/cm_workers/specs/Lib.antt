@@ -4,4 +4,5 @@ pub mod Each
 pub mod Turns
 pub mod Shifts
 pub mod Runs
+pub mod Gates
 pub mod Forks

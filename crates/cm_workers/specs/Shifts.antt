@@ -9,6 +9,7 @@ use Rattle.cm_workers.specs.declared.shift.HasHad.{HasHad}
 use Rattle.cm_workers.specs.Dealing.{hand}
 use Rattle.cm_workers.specs.Each.{AreEach}
 use Rattle.cm_workers.specs.Turns.{round_before, CanAllGo, HasGone}
+use Rattle.cm_workers.specs.Gates.{IsWorkersTurn}
 
 -- a promise of a turn of these blocks and posts
 pub record IsPromised (acts : List Act) (rounds : List Round) (number : ℕ) (blocks : List KeptBlock) (posts : List Post)
@@ -32,6 +33,13 @@ pub record CanHandsGo (acts : List Act) (before next : Option Round) (blocks : L
   pub len : length posts ≡ length blocks
   pub each : (w : ℕ) (e : Vec KeptBlock Global) (f : Vec Post Global) → w < length blocks
       → CanAllGo acts before next (hand blocks e w) (hand posts f w)
+
+-- each hand is that of the worker of its number
+abbrev pub AreWorkersTurns : List Act → Option Round → Option Round → ℕ → List (Vec KeptBlock Global)
+    → List (Vec Post Global) → Type 0
+AreWorkersTurns acts before next t blocks posts =
+    (w : ℕ) (e : Vec KeptBlock Global) (f : Vec Post Global) → w < length blocks
+    → IsWorkersTurn acts before next t w (hand blocks e w) (hand posts f w)
 
 -- all hands have had it
 pub record HandsHaveGone (acts : List Act) (before next : Option Round) (blocks : List (Vec KeptBlock Global))

@@ -1,6 +1,6 @@
 //! The runner of many threads.
 
-ghost use Rattle.std.specs.Prelude.{◌≡◌, ◌↔◌, ℕ, ◌+◌, ◌-◌, ◌*◌, ◌/◌, ◌^◌, ◌<◌, ◌≤◌, ◌++◌, [], None, List};
+ghost use Rattle.std.specs.Prelude.{◌≡◌, ◌≢◌, ◌↔◌, ℕ, ◌+◌, ◌-◌, ◌*◌, ◌/◌, ◌^◌, ◌<◌, ◌≤◌, ◌++◌, [], None, List};
 ghost use Rattle.std.specs.Prelude.{cond, IfOk, IfSome, IsErrOf, IsFalse, IsOk, IsTrue, ltb, MatchResult};
 ghost use Rattle.std.specs.Prelude.{OnOk, OnErr, length};
 ghost use Rattle.std.specs.Thread.{IsSync};
@@ -14,7 +14,7 @@ ghost use Rattle.cm_workers.specs.Forks.{fork_fault, most_blocks, most_workers, 
 ghost use Rattle.cm_workers.specs.Posts.{blank_post};
 ghost use Rattle.cm_workers.specs.Runs.{StandAt};
 
-use crate::gate::Passage;
+use crate::gate::{Gate, Passage};
 use crate::post::Post;
 use crate::running::{Sizes, run_blocks};
 use crate::turn::Crew;
@@ -123,6 +123,8 @@ impl<'a, const N: usize, const CAP: usize, R: Threads + Wait> Runner<N, CAP> for
             (λ _. self.new.threads_lacked ≡ self.old.threads_lacked)
             (λ fault. self.new.threads_lacked
             ≡ cond (is_no_thread fault) (one_more_lacked self.old.threads_lacked) self.old.threads_lacked) }
+        ensures admitted { IfOk result (λ _. acts.now ≢ [] → (gate : _) → self.old.passage ≡ Passage.Gated gate
+            → (w : ℕ) → w < most_workers N self.old.k self.old.workers → admits gate w) }
         ensures err { OnErr result (machine.new.machine ≡ machine.old.machine) }
     {
         let cycles = check_stretch(acts, machine.clock())?;
@@ -183,6 +185,8 @@ fn fork<const N: usize, const CAP: usize, R: Threads + Wait>(
     ensures ok { OnOk result (machine.new.machine ≡ run_of N CAP machine.old.machine acts.now) }
     ensures account { OnOk result (SameLines (account N machine.new.machine)
         (account N machine.old.machine ++ newly_injected N machine.old.machine machine.new.machine)) }
+    ensures admitted { IfOk result (λ _. (gate : _) → passage.now ≡ Passage.Gated gate
+        → (w : ℕ) → w < sizes.workers → admits gate w) }
     ensures err { OnErr result (machine.new.machine ≡ machine.old.machine) }
 {
     let _clock = machine.clock();
@@ -198,10 +202,20 @@ fn fork<const N: usize, const CAP: usize, R: Threads + Wait>(
 fn admit_all(passage: &Passage, workers: u16) -> Result<(), Want>
     ensures memory { ¬ IsErrOf result Want.Memory }
     ensures open { passage.now ≡ Passage.Open → IsOk result }
+    ensures admitted { IfOk result (λ _. (gate : _) → passage.now ≡ Passage.Gated gate
+        → (w : ℕ) → w < workers → admits gate w) }
 {
-    let Passage::Gated(gate) = passage else {
-        return Ok(());
-    };
+    match passage {
+        Passage::Open => Ok(()),
+        Passage::Gated(gate) => admit_each(&**gate, workers),
+    }
+}
+
+/// Asks a gate whether so many workers may begin; no further one once a worker was refused.
+fn admit_each(gate: &dyn Gate, workers: u16) -> Result<(), Want>
+    ensures memory { ¬ IsErrOf result Want.Memory }
+    ensures admitted { IfOk result (λ _. (w : ℕ) → w < workers → admits gate.now w) }
+{
     for worker in 0..workers {
         if !gate.admit(worker) {
             return Err(Want::Thread);

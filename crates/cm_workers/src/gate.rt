@@ -1,21 +1,27 @@
 //! Gates: who looks at workers while they run.
 
-ghost use Rattle.std.specs.Prelude.{IsTrue};
+ghost use Rattle.std.specs.Prelude.{ℕ, IsTrue};
 ghost use Rattle.std.specs.List.{All};
+ghost use Rattle.cm_workers.specs.Gates.{ComesBy};
 
 use cm_subcube::Block;
 
 /// Looks at the workers of a run, from within their threads.
 pub trait Gate: Sync + Send + Drop {
+    /// What a worker of a number that it lets begin has of it.
+    ghost admits: { Self → ℕ → Type 0 };
+
     /// Whether a worker may begin. It is asked once for each list of acts, the worker with the lowest number first,
     /// before memory is asked for; no further one once a worker was refused. It is not asked for a list that is empty
     /// or refused as too long or too late, nor for workers that a smaller machine has no blocks for.
-    fn admit(&self, worker: u16) -> bool;
+    fn admit(&self, worker: u16) -> bool
+        ensures admitted { IsTrue result → admits self.now worker };
 
     /// Called in a worker's thread before it sends in the round of that number, with its blocks as they are then, that
     /// of the lowest number first.
     fn pass(&self, worker: u16, round: u32, blocks: &[Block])
-        requires gathered { All (λ b. IsTrue b.kept.gathered) blocks.now };
+        requires gathered { All (λ b. IsTrue b.kept.gathered) blocks.now }
+        requires own { ComesBy worker round blocks.now };
 }
 
 /// Whether somebody looks.

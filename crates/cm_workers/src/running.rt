@@ -53,16 +53,7 @@ pub fn run_blocks<R: Threads + Wait>(
     for number in 0..rounds.len() {
         all = to_round(rt, alloc, sizes, acts, rounds, number, passage, all)?;
     }
-    shift(
-        rt,
-        alloc,
-        acts,
-        rounds,
-        rounds.len(),
-        passage,
-        sizes.workers,
-        all,
-    )
+    shift(rt, alloc, acts, rounds, rounds.len(), passage, sizes, all)
 }
 
 /// All blocks go on to a round, and exchange there.
@@ -88,7 +79,7 @@ fn to_round<R: Threads + Wait>(
         → IfOk result (λ now. StandAt sizes.dims sizes.k room machine acts.now (number + 1)
         now.blocks.items now.posts.items) }
 {
-    let mut now = shift(rt, alloc, acts, rounds, number, passage, sizes.workers, all)?;
+    let mut now = shift(rt, alloc, acts, rounds, number, passage, sizes, all)?;
     hand_over(&mut now.posts, sizes.dims, sizes.k, rounds[number].kind);
     Ok(now)
 }

@@ -1,17 +1,21 @@
 //! A turn of all workers at once, each in a thread of its own.
 
-ghost use Rattle.std.specs.Prelude.{◌≡◌, ℕ, ◌<◌, ◌≤◌, IfOk, IsErrOf, get_or, [], length};
+ghost use Rattle.std.specs.Prelude.{◌≡◌, ℕ, ◌-◌, ◌/◌, ◌<◌, ◌≤◌, IfOk, IsErrOf, get_or, [], length};
 ghost use Rattle.std.specs.Prelude.{slice_get, vec_len, vec_capacity};
 ghost use Rattle.std.specs.Option.{option_copied};
 ghost use Rattle.std.specs.Thread.{IsSync};
 ghost use Rattle.cm_workers.specs.Dealing.{hand};
 ghost use Rattle.cm_workers.specs.Each.{AreEach};
-ghost use Rattle.cm_workers.specs.Shifts.{IsPromised, IsKept, CanHandsGo, HandsHaveGone};
+ghost use Rattle.cm_workers.specs.Shifts.{IsPromised, IsKept, CanHandsGo, AreWorkersTurns, HandsHaveGone};
 ghost use Rattle.cm_workers.specs.Turns.{round_before, CanAllGo, HasGone};
+ghost use Rattle.cm_subcube.specs.Rounds.{rounds_of};
+ghost use Rattle.cm_workers.specs.Runs.{HaveBegun};
+ghost use Rattle.cm_workers.specs.Gates.{IsWorkersTurn};
 
 use crate::dealing::{collect, deal};
 use crate::gate::Passage;
 use crate::post::Post;
+use crate::running::Sizes;
 use crate::turn::Crew;
 use crate::want::Want;
 use cm_bits::NoMemory;
@@ -55,6 +59,8 @@ fn start<'s, E>(
 ) -> Result<PromisedHandle<Crew, HasHad<'s>>, Want>
     requires ready { CanAllGo acts.now (round_before rounds.now number) (slice_get rounds.now number)
         crew.blocks.items crew.posts.items }
+    requires own { IsWorkersTurn acts.now (round_before rounds.now number) (slice_get rounds.now number)
+        number worker crew.blocks.items crew.posts.items }
     ensures memory { ¬ IsErrOf result Want.Memory }
     ensures ok { IfOk result (λ handle.
         IsPromised acts.entry.now rounds.entry.now number crew.blocks.items crew.posts.items handle.promise) }
@@ -69,7 +75,9 @@ fn start<'s, E>(
         },
         move || -> Crew
             requires { CanAllGo acts.now (round_before rounds.now number) (slice_get rounds.now number)
-                crew.blocks.items crew.posts.items }
+                crew.blocks.items crew.posts.items
+                × IsWorkersTurn acts.now (round_before rounds.now number) (slice_get rounds.now number)
+                number worker crew.blocks.items crew.posts.items }
             ensures { AreEach (HasGone acts.entry.now (round_before rounds.entry.now number)
                 (slice_get rounds.entry.now number))
                 crew.blocks.items crew.posts.items result.blocks.items result.posts.items }
@@ -100,6 +108,8 @@ fn start_all<'s, E>(
 ) -> Result<Vec<PromisedHandle<Crew, HasHad<'s>>>, Want>
     requires ready { CanHandsGo acts.now (round_before rounds.now number) (slice_get rounds.now number)
         hands.blocks.items hands.posts.items }
+    requires own { AreWorkersTurns acts.now (round_before rounds.now number) (slice_get rounds.now number)
+        number hands.blocks.items hands.posts.items }
     requires few { length hands.blocks.items ≤ 64 }
     ensures count { IfOk result (λ handles. length handles.items ≡ length hands.blocks.items) }
     ensures promised { IfOk result (λ handles. (w : ℕ) (d : _) (e f : _) → w < length hands.blocks.items
@@ -153,6 +163,8 @@ fn start_and_join<'s, E, R: Threads>(
 ) -> Result<Hands, Want>
     requires ready { CanHandsGo acts.now (round_before rounds.now number) (slice_get rounds.now number)
         hands.blocks.items hands.posts.items }
+    requires own { AreWorkersTurns acts.now (round_before rounds.now number) (slice_get rounds.now number)
+        number hands.blocks.items hands.posts.items }
     requires few { length hands.blocks.items ≤ 64 }
     ensures value { IfOk result
         (λ now. HandsHaveGone acts.entry.now (round_before rounds.entry.now number) (slice_get rounds.entry.now number)
@@ -174,6 +186,8 @@ fn turn_hands<R: Threads + Wait>(
 ) -> Result<Hands, Want>
     requires ready { CanHandsGo acts.now (round_before rounds.now number) (slice_get rounds.now number)
         hands.blocks.items hands.posts.items }
+    requires own { AreWorkersTurns acts.now (round_before rounds.now number) (slice_get rounds.now number)
+        number hands.blocks.items hands.posts.items }
     requires few { length hands.blocks.items ≤ 64 }
     ensures value { IfOk result
         (λ now. HandsHaveGone acts.now (round_before rounds.now number) (slice_get rounds.now number)
@@ -184,7 +198,9 @@ fn turn_hands<R: Threads + Wait>(
         rt,
         |scope| -> Result<Hands, Want>
             requires { CanHandsGo acts.now (round_before rounds.now number) (slice_get rounds.now number)
-                hands.blocks.items hands.posts.items × (length hands.blocks.items ≤ 64) }
+                hands.blocks.items hands.posts.items
+                × AreWorkersTurns acts.now (round_before rounds.now number) (slice_get rounds.now number)
+                number hands.blocks.items hands.posts.items × (length hands.blocks.items ≤ 64) }
             ensures { IfOk result (λ now. HandsHaveGone acts.entry.now (round_before rounds.entry.now number)
                 (slice_get rounds.entry.now number)
                 hands.blocks.items hands.posts.items now.blocks.items now.posts.items) }
@@ -201,18 +217,22 @@ pub(crate) fn shift<R: Threads + Wait>(
     rounds: &[Round],
     number: usize,
     passage: &Passage,
-    workers: u16,
+    sizes: Sizes,
     all: Crew,
 ) -> Result<Crew, Want>
-    requires some { 0 < workers }
-    requires few { workers ≤ 64 }
+    requires within { sizes.k ≤ sizes.dims - sizes.dims / 2 }
+    requires some { 0 < sizes.workers }
+    requires few { sizes.workers ≤ 64 }
+    requires rounds { rounds.now ≡ rounds_of sizes.dims sizes.k acts.now }
+    requires number { number ≤ length rounds.now }
+    requires begun { HaveBegun sizes.dims sizes.k acts.now number all.blocks.items all.posts.items }
     requires ready { CanAllGo acts.now (round_before rounds.now number) (slice_get rounds.now number)
         all.blocks.items all.posts.items }
     ensures value { IfOk result
         (λ now. AreEach (HasGone acts.now (round_before rounds.now number) (slice_get rounds.now number))
         all.blocks.items all.posts.items now.blocks.items now.posts.items) }
 {
-    let count = usize::from(workers);
+    let count = usize::from(sizes.workers);
     let many = all.blocks.len();
     let blocks = deal(alloc, all.blocks, count)?;
     let posts = deal(alloc, all.posts, count)?;

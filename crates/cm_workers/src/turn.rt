@@ -1,6 +1,6 @@
 //! What a worker does from one exchange to the next.
 
-ghost use Rattle.std.specs.Prelude.{◌≡◌, ◌<◌, ◌≤◌, ◌-◌, ◌^◌, IsTrue, slice_get};
+ghost use Rattle.std.specs.Prelude.{◌≡◌, ◌<◌, ◌≤◌, ◌-◌, ◌^◌, IsTrue, IfSome, slice_get};
 ghost use Rattle.std.specs.List.{All};
 ghost use Rattle.std.specs.Option.{option_copied};
 ghost use Rattle.cm_blocks.specs.Steps.{absorbed};
@@ -10,8 +10,9 @@ ghost use Rattle.cm_workers.specs.Posts.{lane_in, blank_post};
 ghost use Rattle.cm_workers.specs.Each.{AreEach};
 ghost use Rattle.cm_workers.specs.Turns.{round_before, CanGo, CanAllGo, CanSend, CanAllSend, HasCome, HasGoneOn};
 ghost use Rattle.cm_workers.specs.Turns.{HasSent, HasGone, AreShown};
+ghost use Rattle.cm_workers.specs.Gates.{told_number, ComesBy, IsWorkersTurn};
 
-use crate::gate::Passage;
+use crate::gate::{Gate, Passage};
 use crate::post::Post;
 use cm_model::Act;
 use cm_subcube::{Block, Kind, Round};
@@ -47,6 +48,8 @@ impl Crew {
     ) -> Crew
         requires ready { CanAllGo acts.now (round_before rounds.now number) (slice_get rounds.now number)
             self.blocks.items self.posts.items }
+        requires own { IsWorkersTurn acts.now (round_before rounds.now number) (slice_get rounds.now number)
+            number worker self.blocks.items self.posts.items }
         ensures value { AreEach (HasGone acts.now (round_before rounds.now number) (slice_get rounds.now number))
             self.blocks.items self.posts.items result.blocks.items result.posts.items }
     {
@@ -91,6 +94,8 @@ fn have_turn(
 )
     requires ready { CanAllGo turn.now.acts.now (option_copied turn.now.before)
         (option_copied turn.now.next) blocks.old posts.old }
+    requires own { IsWorkersTurn turn.now.acts.now (option_copied turn.now.before) (option_copied turn.now.next)
+        turn.now.number worker blocks.old posts.old }
     ensures value { AreEach (HasGone turn.now.acts.now (option_copied turn.now.before) (option_copied turn.now.next))
         blocks.old posts.old blocks.new posts.new }
 {
@@ -142,23 +147,32 @@ fn take_in(block: &mut Block, post: &mut Post, round: &Round)
 
 /// Shows the blocks to who looks, if a round is ahead.
 fn show(blocks: &mut [Block], turn: &Turn<'_>, worker: u16, passage: &Passage)
+    requires own { IfSome (option_copied turn.now.next)
+        (λ _. ComesBy worker (told_number turn.now.number) blocks.old) }
     ensures value { AreShown blocks.old blocks.new }
 {
-    if turn.next.is_none() {
+    let Some(_round) = turn.next else {
         return;
-    }
+    };
     if let Passage::Gated(gate) = passage {
         gather_all(blocks);
-        gate.pass(worker, as_told(turn.number), blocks);
+        come_by(&**gate, worker, as_told(turn.number), blocks);
     }
+}
+
+/// Shows a worker's blocks to a gate.
+fn come_by(gate: &dyn Gate, worker: u16, told: u32, blocks: &[Block])
+    requires gathered { All (λ b. IsTrue b.kept.gathered) blocks.now }
+    requires own { ComesBy worker told blocks.now }
+{
+    gate.pass(worker, told, blocks);
 }
 
 /// The number of a round as a gate is told it: one that is too large as the largest.
 fn as_told(number: usize) -> u32
-    ensures value { number < 2 ^ 32 → result ≡ number }
-    ensures most { 2 ^ 32 ≤ number → result ≡ 2 ^ 32 - 1 }
+    ensures value { result ≡ told_number number }
 {
-    u32::try_from(number).unwrap_or(u32::MAX)
+    number.min(u32::MAX as usize) as u32
 }
 
 fn gather_all(blocks: &mut [Block])

@@ -26,5 +26,6 @@ loop-c-preserved c =
       room = room_made c.loop-c.logs c.args.more c.loop-c.c c.make_room.new.log inside c.in_ok-make_room.ensures.ok
           c.loop-c.invariant.room;
       rest = room_kept c.loop-c.logs c.args.logs.now c.loop-c.c c.make_room.new.log c.loop-c.invariant.rest;
+      can_be = λ some. c.in_ok-make_room.ensures.can_be;
       count = length-set c.loop-c.logs c.loop-c.c c.make_room.new.log ∙ c.loop-c.invariant.count;
     }

@@ -1,6 +1,7 @@
 use Rattle.std.proofs.Common.{◌≡◌, ◌+◌, take, cond, refl, arith}
 use Rattle.cm_array.specs.Acts.{cycles_in, is_cycle}
-use Rattle.cm_debug.proofs.Growing.{grows, one_more}
+use Rattle.cm_debug.specs.Desk.{stops_at}
+use Rattle.cm_debug.proofs.Growing.{grows, one_more, ends_here}
 use Rattle.cm_debug.proofs.stretch.stretch_len.Goals as goal
 
 pub loop-count-preserved : goal.loop-count-preserved
@@ -20,3 +21,10 @@ loop-count-preserved c =
           l.invariant.stretch (told.silent refl)
           (told.goes refl) (omega (arith, told.room refl, l.invariant.cycles));
     }
+
+pub returns-then-ends_at-clause-longest : goal.returns-then-ends_at-clause-longest
+returns-then-ends_at-clause-longest c =
+    let l = c.loop-count in
+    ends_here (stops_at c.args.stops c.args.desk.now.breaks.items) c.args.desk.now.report c.args.desk.now.position
+    c.args.clock c.args.acts.now l.count l.cycles c.index-acts-count.result l.invariant.some c.loop-count-test.true
+    c.index-acts-count.is l.invariant.cycles (c.ends_at.ensures.ends c.if-ends_at.true)

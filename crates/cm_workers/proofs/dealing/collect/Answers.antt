@@ -1,4 +1,4 @@
-use Rattle.std.proofs.Common.{rules, ◌≡◌, ℕ, ◌+◌, List, arith, sym, subst}
+use Rattle.std.proofs.Common.{rules, ◌+◌, List, arith, sym, subst}
 use Rattle.cm_workers.proofs.Hands.{AreLeft, one_taken}
 use Rattle.cm_workers.proofs.dealing.collect.Goals as goal
 

@@ -1,4 +1,4 @@
-use Rattle.std.proofs.Common.{◌≡◌, ◌≤◌, ℕ, length, vec_capacity}
+use Rattle.std.proofs.Common.{◌≤◌, vec_capacity}
 use Rattle.cm_workers.proofs.Hands.{AreLeft}
 use Rattle.cm_workers.proofs.dealing.collect.Given as goal
 

@@ -1,4 +1,4 @@
-use Rattle.std.proofs.Common.{rules, ◌≡◌, ℕ, ◌+◌, ◌%◌, ◌∷◌, ◌∙◌, [], ap, arith, sym, subst}
+use Rattle.std.proofs.Common.{ℕ, ◌+◌, ◌%◌, ◌∷◌, ◌∙◌, [], ap, sym, subst}
 use Rattle.std.proofs.lemmas.List.{length-append}
 use Rattle.cm_workers.specs.Dealing.{HasPut}
 use Rattle.cm_workers.proofs.Hands.{one_dealt}

@@ -1,4 +1,4 @@
-use Rattle.std.proofs.Common.{◌≡◌, ℕ, length}
+use Rattle.std.proofs.Common.{◌≡◌, length}
 use Rattle.cm_workers.specs.Dealing.{AreDealt}
 use Rattle.cm_workers.proofs.dealing.deal.Given as goal
 

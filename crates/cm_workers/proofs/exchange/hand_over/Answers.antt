@@ -1,4 +1,4 @@
-use Rattle.std.proofs.Common.{◌≡◌, ℕ, ◌^◌, subst, sym}
+use Rattle.std.proofs.Common.{ℕ, ◌^◌, subst, sym}
 use Rattle.std.specs.List.{RotatedRight}
 use Rattle.cm_subcube.specs.declared.round.Kind.{Kind}
 use Rattle.cm_workers.specs.Posts.{AreHandedOver}

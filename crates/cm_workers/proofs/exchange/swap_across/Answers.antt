@@ -1,5 +1,4 @@
-use Rattle.std.proofs.Common.{rules, ◌≡◌, ℕ, ◌+◌, ◌<◌, ◌≤◌, List, length, ◌∙◌, subst, sym, refl, arith}
-use Rattle.std.specs.Prelude.{bit_xor}
+use Rattle.std.proofs.Common.{rules, ◌+◌, List, length, subst, sym, refl, arith}
 use Rattle.cm_workers.proofs.Across.{AreCrossed, none_crossed, across_below, not_itself, one_more_crosses, one_more_did}
 use Rattle.cm_workers.proofs.exchange.swap_across.Goals as goal
 use Rattle.cm_workers.proofs.exchange.swap_across.Goals.{then-b-across, else-b-across}

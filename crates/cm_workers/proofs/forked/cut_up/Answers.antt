@@ -1,4 +1,4 @@
-use Rattle.std.proofs.Common.{◌∙◌, ℕ, ap, sym}
+use Rattle.std.proofs.Common.{◌∙◌, ℕ, ap}
 use Rattle.cm_workers.specs.Posts.{blank_post}
 use Rattle.cm_workers.proofs.Forking.{stand_first}
 use Rattle.cm_workers.proofs.forked.cut_up.Goals as goal

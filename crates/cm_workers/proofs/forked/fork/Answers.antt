@@ -1,8 +1,5 @@
-use Rattle.std.proofs.Common.{◌≡◌, ◌≤◌, ◌<◌, ◌∙◌, ℕ, List, map, subst, sym, arith, lit<}
-use Rattle.cm_model.specs.Machine.{Machine}
-use Rattle.cm_subcube.specs.Blocks.{KeptBlock}
-use Rattle.cm_workers.specs.Posts.{blank_post}
-use Rattle.cm_workers.specs.Runs.{StandAt, HaveBegun, AreAfter}
+use Rattle.std.proofs.Common.{◌∙◌, ℕ, subst, sym, arith, lit<}
+use Rattle.cm_workers.specs.Runs.{StandAt}
 use Rattle.cm_workers.proofs.Forking.{parts_after, whole_after, joined_after, account_after}
 use Rattle.cm_workers.proofs.forked.fork.Goals as goal
 
@@ -49,5 +46,6 @@ returns g c =
     record {
       ok = is;
       account = account_after g.row.N g.row.CAP c.args.machine.now.machine c.join.new.into.machine c.args.acts.now is;
+      admitted = c.in_ok-admit_all.ensures.admitted;
       err = tt;
     }

@@ -1,10 +1,9 @@
-use Rattle.std.proofs.Common.{◌≡◌, ℕ, ◌≤◌, length, subst, List, arith}
+use Rattle.std.proofs.Common.{◌≡◌, ℕ, length, subst, arith}
 use Rattle.std.specs.Prelude.{slice_get}
-use Rattle.cm_model.specs.Machine.{Machine}
 use Rattle.cm_workers.specs.declared.turn.Crew.{Crew}
 use Rattle.cm_workers.specs.Each.{AreEach}
 use Rattle.cm_workers.specs.Turns.{round_before, HasGone}
-use Rattle.cm_workers.specs.Runs.{StandAt, HaveBegun, AreAfter}
+use Rattle.cm_workers.specs.Runs.{StandAt, AreAfter}
 use Rattle.cm_workers.proofs.Shifting.{if_came}
 use Rattle.cm_workers.proofs.Standing.{can_over, last_over}
 use Rattle.cm_workers.proofs.running.run_blocks.Goals as goal
@@ -25,6 +24,20 @@ shift-requires-clause-ready g c =
           c.loop-number.all.posts.items) last
           (c.loop-number.invariant begun.room begun.machine begun.at);
     })
+
+pub shift-requires-clause-begun : goal.shift-requires-clause-begun
+shift-requires-clause-begun g c =
+    let n = c.args.sizes.dims in let k = c.args.sizes.k in let acts = c.args.acts.now in
+    let begun = c.requires.begun in
+    let last : c.loop-number.number ≡ length c.args.rounds.now =
+    omega (arith, c.loop-number-test.false, c.loop-number.auto.number-end) in
+    record {
+      room = begun.room;
+      machine = begun.machine;
+      at = subst (λ (t : ℕ). StandAt n k begun.room begun.machine acts t c.loop-number.all.blocks.items
+          c.loop-number.all.posts.items) last
+          (c.loop-number.invariant begun.room begun.machine begun.at);
+    }
 
 pub returns : goal.returns
 returns g c = record {

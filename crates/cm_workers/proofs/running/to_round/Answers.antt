@@ -1,4 +1,4 @@
-use Rattle.std.proofs.Common.{rules, ◌≡◌, ℕ, ◌≤◌, length, sym, subst, ap, ◌∙◌, List, get_or, arith}
+use Rattle.std.proofs.Common.{length, sym, subst, ap, ◌∙◌, List, get_or, arith}
 use Rattle.cm_workers.specs.declared.post.Post.{Post}
 use Rattle.cm_workers.specs.Posts.{AreHandedOver}
 use Rattle.cm_workers.proofs.PlaceByPlace.{written_back}

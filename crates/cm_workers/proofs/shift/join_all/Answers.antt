@@ -1,4 +1,4 @@
-use Rattle.std.proofs.Common.{rules, ◌≡◌, ℕ, ◌≤◌, ◌∷◌, [], ◌∙◌, ap, sym, subst, length, get_or, ◌<◌}
+use Rattle.std.proofs.Common.{rules, ◌∷◌, [], ◌∙◌, sym, subst, length, get_or, ◌<◌}
 use Rattle.std.proofs.lemmas.List.{length-append, map-id}
 use Rattle.std.proofs.lemmas.Iterator.Adapters.{YieldsList-from_vec}
 use Rattle.std.proofs.lemmas.Iterator.Consumers.{YieldsList-end}

@@ -1,10 +1,9 @@
-use Rattle.std.proofs.Common.{rules, ◌≡◌, ℕ, ◌<◌, ◌∙◌, List, Option, Vec, length, subst, sym, ap, arith}
+use Rattle.std.proofs.Common.{rules, ◌≡◌, ℕ, ◌<◌, ◌∙◌, length, subst, sym}
 use Rattle.std.specs.Prelude.{slice_get}
-use Rattle.cm_subcube.specs.Blocks.{KeptBlock}
-use Rattle.cm_workers.specs.declared.post.Post.{Post}
 use Rattle.cm_workers.specs.Dealing.{AreDealt, AreShares}
 use Rattle.cm_workers.specs.Turns.{round_before}
 use Rattle.cm_workers.proofs.Sharing.{hands_ready, block_count, post_count, now_shares, sent_shares, all_had_turn}
+use Rattle.cm_workers.proofs.Passing.{hands_turns}
 use Rattle.cm_workers.proofs.shift.shift.Goals as goal
 
 pub turn_hands-requires-clause-ready : goal.turn_hands-requires-clause-ready
@@ -15,6 +14,13 @@ turn_hands-requires-clause-ready g c =
     c.args.all.blocks.items c.args.all.posts.items c.in_ok-blocks.blocks.items
     c.in_ok-posts.posts.items c.requires.ready.len
     c.in_ok-blocks.ensures.value c.in_ok-posts.ensures.value c.requires.ready
+
+pub turn_hands-requires-clause-own : goal.turn_hands-requires-clause-own
+turn_hands-requires-clause-own g c =
+    hands_turns c.args.sizes.dims c.args.sizes.k c.args.number c.from-count.result c.args.acts.now c.args.rounds.now
+    c.args.all.blocks.items c.args.all.posts.items c.in_ok-blocks.blocks.items c.in_ok-posts.posts.items
+    c.requires.within c.requires.rounds c.requires.number c.requires.begun
+    c.in_ok-blocks.ensures.value c.in_ok-posts.ensures.value
 
 pub collect-requires-clause-shares : goal.collect-requires-clause-shares
 collect-requires-clause-shares g c =

@@ -1,4 +1,4 @@
-use Rattle.std.proofs.Common.{◌≡◌, subst, sym}
+use Rattle.std.proofs.Common.{subst, sym}
 use Rattle.std.specs.Prelude.{slice_get}
 use Rattle.cm_workers.specs.declared.turn.Crew.{Crew}
 use Rattle.cm_workers.specs.Each.{AreEach}

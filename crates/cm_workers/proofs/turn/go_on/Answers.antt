@@ -1,4 +1,4 @@
-use Rattle.std.proofs.Common.{◌≡◌, Some, subst, sym, ap}
+use Rattle.std.proofs.Common.{subst, sym, ap}
 use Rattle.std.specs.Option.{option_copied}
 use Rattle.cm_subcube.specs.Rounds.{step_of}
 use Rattle.cm_workers.specs.Posts.{lane_in}

@@ -1,4 +1,4 @@
-use Rattle.std.proofs.Common.{◌≡◌, ℕ, ◌<◌, arith}
+use Rattle.std.proofs.Common.{arith}
 use Rattle.std.specs.Option.{option_copied}
 use Rattle.cm_workers.specs.Turns.{CanGo, HasGoneOn}
 use Rattle.cm_workers.proofs.PlaceByPlace.{still_so, next_place}

@@ -1,8 +1,9 @@
-use Rattle.std.proofs.Common.{ℕ, ◌+◌, List, length, ap, sym, ◌∙◌, refl, subst}
+use Rattle.std.proofs.Common.{ℕ, ◌+◌, List, length, ap, sym, ◌∙◌, refl, subst, arith}
+use Rattle.std.proofs.lemmas.List.{length-map}
 use Rattle.std.specs.List.{slice_range}
 use Rattle.std.specs.Vec.{with_items}
 use Rattle.cm_blocks.specs.Parts.{cut}
-use Rattle.cm_router.specs.Logs.{Log, log_rooms_of, HaveLogRoom}
+use Rattle.cm_router.specs.Logs.{Log, log_room, log_rooms_of, HaveLogRoom}
 use Rattle.cm_petit.specs.Routers.{events_of}
 use Rattle.cm_array.specs.declared.parts.Parts.{Parts}
 use Rattle.cm_array.proofs.Lists.{items-lent}
@@ -69,3 +70,11 @@ returns-clause-log_room c =
     (c.reserve.auto.logs ∙ ap length c.deref_mut.ensures.value) in
     subst (λ (logs : List Log). HaveLogRoom c.args.more (log_rooms_of logs)) (sym same)
     c.in_ok-reserve.ensures.ok
+
+pub returns-clause-can_be : goal.returns-clause-can_be
+returns-clause-can_be c some =
+    let same = items-lent c.in_ok-logs.logs c.reserve.new.logs
+    (c.reserve.auto.logs ∙ ap length c.deref_mut.ensures.value) in
+    let rooms = length-map (with_items c.in_ok-logs.logs c.reserve.new.logs).items log_room in
+    let many = ap length same in
+    c.in_ok-reserve.ensures.can_be (omega (arith, some, rooms, many, c.reserve.auto.logs))

@@ -1,6 +1,4 @@
-use Rattle.std.proofs.Common.{rules, ◌≡◌, ◌∙◌, List, [], ap, sym, arith, lit<}
-use Rattle.cm_model.specs.declared.act.Act.{Act}
-use Rattle.cm_model.specs.Machine.{run_of}
+use Rattle.std.proofs.Common.{rules, ◌∙◌, arith, lit<}
 use Rattle.cm_workers.proofs.Forking.{nothing_run, account_after}
 use Rattle.cm_workers.proofs.forked.ForkedRunner.go.Goals as goal
 

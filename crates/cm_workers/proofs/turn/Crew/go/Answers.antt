@@ -1,9 +1,10 @@
-use Rattle.std.proofs.Common.{◌≡◌, ◌∙◌, ap, sym, length}
+use Rattle.std.proofs.Common.{◌∙◌, ap, sym, length}
 use Rattle.std.specs.Prelude.{slice_get}
 use Rattle.std.specs.Option.{option_copied}
 use Rattle.cm_workers.specs.Turns.{round_before}
 use Rattle.cm_workers.proofs.PlaceByPlace.{written_back}
 use Rattle.cm_workers.proofs.Turning.{as_numbered, ready_as_numbered}
+use Rattle.cm_workers.proofs.Passing.{own_as_numbered}
 use Rattle.cm_workers.proofs.turn.Crew.go.Goals as goal
 
 pub have_turn-requires : goal.have_turn-requires
@@ -16,6 +17,13 @@ have_turn-requires g c =
           c.args.self.blocks.items c.deref_mut.result.now c.args.self.posts.items c.deref_mut-2.result.now
           c.before-2.ensures.value c.next.ensures.value c.deref_mut.ensures.value
           c.deref_mut-2.ensures.value c.requires.ready;
+      own =
+          own_as_numbered c.args.acts.now (option_copied c.before-2.result)
+          (round_before c.args.rounds.now c.args.number) (option_copied c.next.result)
+          (slice_get c.args.rounds.now c.args.number) c.args.number c.args.worker
+          c.args.self.blocks.items c.deref_mut.result.now c.args.self.posts.items c.deref_mut-2.result.now
+          c.before-2.ensures.value c.next.ensures.value c.deref_mut.ensures.value
+          c.deref_mut-2.ensures.value c.requires.own;
     }
 
 pub returns : goal.returns

@@ -1,0 +1,142 @@
+-- Workers that come by a gate.
+use Rattle.std.proofs.Common.{◌≡◌, ◌↔◌, ℕ, ◌+◌, ◌-◌, ◌*◌, ◌/◌, ◌<◌, ◌≤◌, ◌^◌, ⊎_elim, List, Option, None, Some, Vec}
+use Rattle.std.proofs.Common.{length, get_or, refl, ap, sym, subst, ◌∙◌, arith}
+use Rattle.std.specs.declared.alloc.Global.{Global}
+use Rattle.std.specs.Prelude.{slice_get, IfSome}
+use Rattle.std.proofs.lemmas.Bool.{cases_lt}
+use Rattle.std.proofs.lemmas.List.{length-map}
+use Rattle.std.proofs.lemmas.Option.{slice_get_past}
+use Rattle.cm_model.specs.declared.act.Act.{Act}
+use Rattle.cm_blocks.specs.Parts.{block}
+use Rattle.cm_blocks.specs.Rounds.{rounds, before_round}
+use Rattle.cm_array.specs.Cuts.{KeptPart}
+use Rattle.cm_subcube.specs.declared.round.Round.{Round}
+use Rattle.cm_subcube.specs.Blocks.{KeptBlock}
+use Rattle.cm_subcube.specs.Rounds.{round_of, rounds_of}
+use Rattle.cm_workers.specs.declared.post.Post.{Post}
+use Rattle.cm_workers.specs.Posts.{blank_post}
+use Rattle.cm_workers.specs.Dealing.{hand, AreDealt}
+use Rattle.cm_workers.specs.Each.{AreEach}
+use Rattle.cm_workers.specs.Turns.{round_before, gone_on, HasGoneOn, AreShown}
+use Rattle.cm_workers.specs.Runs.{StandsAt, HaveBegun}
+use Rattle.cm_workers.specs.Gates.{told_number, ComesBy, IsWorkersTurn}
+use Rattle.cm_workers.specs.Shifts.{AreWorkersTurns}
+use Rattle.cm_workers.proofs.Standing.{gone_to}
+
+-- an element that is there has its place below the end
+there_below : {X : Type 0} (xs : List X) (i : ℕ) (x : X) → slice_get xs i ≡ Some x → i < length xs
+there_below xs i x is = ⊎_elim
+    (λ (l : i < length xs). l)
+    (λ (l : length xs ≤ i). absurd (let wrong : None ≡ Some x = sym (slice_get_past xs i l) ∙ is in cc))
+    (cases_lt i (length xs))
+
+module _ (acts : List Act) (before : Option Round) (t w : ℕ) (blocks bs : List KeptBlock) (posts ps : List Post)
+    (gone : AreEach (HasGoneOn acts before) blocks posts bs ps) where
+  -- each block is as it is before the round
+  one_comes : (next : Option Round) (turn : IsWorkersTurn acts before next t w blocks posts) (q : ℕ) (b : KeptBlock)
+      → q < length blocks
+      → (get_or bs q b).kept.part
+      ≡ block turn.n turn.k (q * turn.count + w) (before_round turn.n turn.room turn.k turn.machine acts t)
+  one_comes next turn q b l =
+      let n = turn.n in let k = turn.k in let room = turn.room in
+      let p : Post = blank_post n k in
+      let kept : KeptBlock = get_or blocks q b in let post : Post = get_or posts q p in
+      let stood = turn.at.each q b p l in
+      (gone.each q b p l).part
+      ∙ ap (λ (d : ℕ). gone_on d kept.k kept.kept.room acts before post kept.kept.part) stood.dims
+      ∙ ap (λ (j : ℕ). gone_on n j kept.kept.room acts before post kept.kept.part) stood.blocks
+      ∙ ap (λ (r : ℕ). gone_on n k r acts before post kept.kept.part) stood.room_is
+      ∙ ap (λ (one : Option Round). gone_on n k room acts one post kept.kept.part) turn.before_is
+      ∙ gone_to n k room turn.machine acts turn.within t (q * turn.count + w) kept post turn.below
+      ((turn.at.share q).0 l) stood
+
+  -- a worker whose blocks have gone on comes by, if a round is ahead
+  pub comes_by : (next : Option Round) → IsWorkersTurn acts before next t w blocks posts
+      → IfSome next (λ _. ComesBy w (told_number t) bs)
+  comes_by None turn = tt
+  comes_by (Some round) turn = record {
+    n = turn.n;
+    k = turn.k;
+    room = turn.room;
+    machine = turn.machine;
+    acts = acts;
+    count = turn.count;
+    number = t;
+    there = subst (λ (m : ℕ). t < m) (length-map (rounds turn.n turn.k acts) round_of)
+        (there_below (rounds_of turn.n turn.k acts) t round (sym turn.next_is));
+    told_is = refl;
+    one_of = turn.at.one_of;
+    share = λ q. subst (λ (m : ℕ). (q < m) ↔ (q * turn.count + w < 2 ^ turn.k)) (sym gone.first_len) (turn.at.share q);
+    each = λ q b l. one_comes (Some round) turn q b (omega (arith, l, gone.first_len));
+  }
+
+-- so it does with blocks that can be read
+pub still_comes : (w told : ℕ) (bs now : List KeptBlock) → AreShown bs now → ComesBy w told bs → ComesBy w told now
+still_comes w told bs now shown was = record {
+  n = was.n;
+  k = was.k;
+  room = was.room;
+  machine = was.machine;
+  acts = was.acts;
+  count = was.count;
+  number = was.number;
+  there = was.there;
+  told_is = was.told_is;
+  one_of = was.one_of;
+  share = λ q. subst (λ (m : ℕ). (q < m) ↔ (q * was.count + w < 2 ^ was.k)) (sym shown.len) (was.share q);
+  each = λ q b l.
+      let m : q < length bs = omega (arith, l, shown.len) in
+      ap (λ (kept : KeptPart). kept.part) (shown.each q b m).kept ∙ was.each q b m;
+}
+
+-- so it does before a round that is there, of which it is told by its number
+pub shown_comes : (next : Option Round) (round : Round) (w number told : ℕ) (bs now : List KeptBlock)
+    → next ≡ Some round → told ≡ told_number number → AreShown bs now
+    → IfSome next (λ _. ComesBy w (told_number number) bs) → ComesBy w told now
+shown_comes next round w number told bs now is told_is shown own =
+    subst (λ (t : ℕ). ComesBy w t now) (sym told_is)
+    (still_comes w (told_number number) bs now shown
+    (subst (λ (one : Option Round). IfSome one (λ _. ComesBy w (told_number number) bs)) is own))
+
+-- the turn of a worker as it is told by its number
+pub own_as_numbered : (acts : List Act) (before before_it next next_it : Option Round) (t w : ℕ)
+    (blocks bs : List KeptBlock) (posts ps : List Post)
+    → before ≡ before_it → next ≡ next_it → bs ≡ blocks → ps ≡ posts
+    → IsWorkersTurn acts before_it next_it t w blocks posts
+    → IsWorkersTurn acts before next t w bs ps
+own_as_numbered acts before before_it next next_it t w blocks bs posts ps b n bs_is ps_is turn =
+    subst (λ (one : Option Round). IsWorkersTurn acts one next t w bs ps) (sym b)
+    (subst (λ (one : Option Round). IsWorkersTurn acts before_it one t w bs ps) (sym n)
+    (subst (λ (xs : List KeptBlock). IsWorkersTurn acts before_it next_it t w xs ps) (sym bs_is)
+    (subst (λ (xs : List Post). IsWorkersTurn acts before_it next_it t w blocks xs) (sym ps_is) turn)))
+
+-- hands that were dealt from all blocks of a run are those of its workers
+pub hands_turns : (n k t count : ℕ) (acts : List Act) (rounds_now : List Round) (blocks : List KeptBlock)
+    (posts : List Post) (hb : List (Vec KeptBlock Global)) (hp : List (Vec Post Global))
+    → k ≤ n - n / 2 → rounds_now ≡ rounds_of n k acts → t ≤ length rounds_now → HaveBegun n k acts t blocks posts
+    → AreDealt count blocks hb → AreDealt count posts hp
+    → AreWorkersTurns acts (round_before rounds_now t) (slice_get rounds_now t) t hb hp
+hands_turns n k t count acts rounds_now blocks posts hb hp within is below begun db dp w e f there =
+    let l : w < count = omega (arith, there, db.len) in
+    let many = begun.at.block_count in let as_many = begun.at.post_count in record {
+      n = n;
+      k = k;
+      room = begun.room;
+      machine = begun.machine;
+      count = count;
+      within = within;
+      below = subst (λ (rs : List Round). t ≤ length rs) is below;
+      before_is = ap (λ (rs : List Round). round_before rs t) is;
+      next_is = ap (λ (rs : List Round). slice_get rs t) is;
+      at = record {
+        one_of = l;
+        share = λ q. subst (λ (m : ℕ). (q < length (hand hb e w)) ↔ (q * count + w < m)) many (db.shares w q e l);
+        each = λ q b p r.
+            let at : q * count + w < length blocks = (db.shares w q e l).0 r in
+            subst (λ (x : KeptBlock). StandsAt n k begun.room begun.machine acts t (q * count + w) x
+            (get_or (hand hp f w) q p)) (sym (db.each w q e b l at))
+            (subst (λ (x : Post). StandsAt n k begun.room begun.machine acts t (q * count + w)
+            (get_or blocks (q * count + w) b) x) (sym (dp.each w q f p l (omega (arith, at, many, as_many))))
+            (begun.at.each (q * count + w) b p (omega (arith, at, many))));
+      };
+    }

@@ -1,0 +1,58 @@
+-- What a gate sees of the workers of a run: their own blocks, before they send. Ours.
+use Rattle.std.specs.Prelude.{◌≡◌, ◌↔◌, ℕ, ◌+◌, ◌-◌, ◌*◌, ◌/◌, ◌<◌, ◌≤◌, ◌^◌, min, List, Option, length, get_or, slice_get}
+use Rattle.cm_model.specs.declared.act.Act.{Act}
+use Rattle.cm_model.specs.Machine.{Machine}
+use Rattle.cm_blocks.specs.Parts.{block}
+use Rattle.cm_blocks.specs.Rounds.{rounds, before_round}
+use Rattle.cm_subcube.specs.declared.round.Round.{Round}
+use Rattle.cm_subcube.specs.Blocks.{KeptBlock}
+use Rattle.cm_subcube.specs.Rounds.{rounds_of}
+use Rattle.cm_workers.specs.declared.post.Post.{Post}
+use Rattle.cm_workers.specs.Runs.{StandsAt}
+use Rattle.cm_workers.specs.Turns.{round_before}
+
+-- a worker of so many has that one of 2 ^ k blocks whose number is its own, and then every so many on
+abbrev pub IsShareOf : ℕ → ℕ → ℕ → List KeptBlock → Type 0
+IsShareOf k count w blocks = (q : ℕ) → (q < length blocks) ↔ (q * count + w < 2 ^ k)
+
+-- the number of a round as a gate is told it: one that is too large as the largest
+abbrev pub told_number : ℕ → ℕ
+told_number number = min number (2 ^ 32 - 1)
+
+-- a worker comes by before it sends in a round of a run, whose number is told: each of its blocks is as it is then
+pub record ComesBy (w told : ℕ) (blocks : List KeptBlock) : Type 0 where
+  pub n : ℕ
+  pub k : ℕ
+  pub room : ℕ
+  pub machine : Machine
+  pub acts : List Act
+  pub count : ℕ
+  pub number : ℕ
+  pub there : number < length (rounds n k acts)
+  pub told_is : told ≡ told_number number
+  pub one_of : w < count
+  pub share : IsShareOf k count w blocks
+  pub each : (q : ℕ) (b : KeptBlock) → q < length blocks
+      → (get_or blocks q b).kept.part ≡ block n k (q * count + w) (before_round n room k machine acts number)
+
+-- one of so many workers, with its blocks and their posts, when turn t of a run begins
+pub record StandsAsWorker (n k room : ℕ) (machine : Machine) (acts : List Act) (t count w : ℕ) (blocks : List KeptBlock)
+    (posts : List Post) : Type 0 where
+  pub one_of : w < count
+  pub share : IsShareOf k count w blocks
+  pub each : (q : ℕ) (b : KeptBlock) (p : Post) → q < length blocks
+      → StandsAt n k room machine acts t (q * count + w) (get_or blocks q b) (get_or posts q p)
+
+-- so it is in some run, of which the turn's rounds are
+pub record IsWorkersTurn (acts : List Act) (before next : Option Round) (t w : ℕ) (blocks : List KeptBlock)
+    (posts : List Post) : Type 0 where
+  pub n : ℕ
+  pub k : ℕ
+  pub room : ℕ
+  pub machine : Machine
+  pub count : ℕ
+  pub within : k ≤ n - n / 2
+  pub below : t ≤ length (rounds_of n k acts)
+  pub before_is : before ≡ round_before (rounds_of n k acts) t
+  pub next_is : next ≡ slice_get (rounds_of n k acts) t
+  pub at : StandsAsWorker n k room machine acts t count w blocks posts
