@@ -119,14 +119,18 @@ AreUnfinished-with_chips n cap parts run from first inside whole is h =
         buffer_count = h.machine.buffer_count;
         whole = subst (λ (chips : Chips). (c : ℕ) → c < 2 ^ n → IsChip (chip_at chips c)) (sym is)
             (λ c l. ⊎_elim
-            (λ (b : c < first). rw (get_or_append_left (take first old) (from ++ rest) [] c (omega (arith, b, front)),
-            get_or-take first old c [] b) (h.machine.whole c l))
+            (λ (b : c < first). rw (
+              get_or_append_left (take first old) (from ++ rest) [] c (omega (arith, b, front)),
+              get_or-take first old c [] b,
+            ) (h.machine.whole c l))
             (λ (a : first ≤ c). rw (get_or-append_right (take first old) (from ++ rest) first c [] front a)
             (⊎_elim
             (λ (m : c - first < length from). rw (get_or_append_left from rest [] (c - first) m)
             (whole (c - first) m))
-            (λ (m : length from ≤ c - first). rw (get_or-append_right from rest (length from) (c - first) [] refl m,
-            get_or-drop (first + length from) old (c - first - length from) [])
+            (λ (m : length from ≤ c - first). rw (
+              get_or-append_right from rest (length from) (c - first) [] refl m,
+              get_or-drop (first + length from) old (c - first - length from) [],
+            )
             (h.machine.whole (first + length from + (c - first - length from)) (omega (arith, l, m, a))))
             (cases_lt (c - first) (length from))))
             (cases_lt c first));

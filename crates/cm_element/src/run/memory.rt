@@ -7,10 +7,10 @@ ghost use Rattle.cm_element.specs.Sparse.{spread, AreSlots};
 ghost use Rattle.cm_element.specs.Steps.{ArePlaces, IsStored};
 ghost use Rattle.cm_rows.specs.Rows.{IsComputed};
 
-use crate::run::{ADDRESSES, PITCH};
 use crate::run::lay::{Band, turn_row, write_row};
 use crate::run::outputs::store_row;
 use crate::run::rows::put_row;
+use crate::run::{ADDRESSES, PITCH};
 use cm_bits::{NoMemory, Plane};
 use cm_model::Nano;
 use cm_rows::{Places, compute, compute_memory};
