@@ -1,4 +1,3 @@
-pub mod ReaderLemmas
 pub mod Growing
 pub mod Telling
 pub mod Sending

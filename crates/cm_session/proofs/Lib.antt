@@ -1,4 +1,8 @@
 mod Accounts
+pub mod Bounded
+mod Running
+mod Macros
+mod Messages
 mod Clocks
 pub mod Stretching
 pub mod Lines

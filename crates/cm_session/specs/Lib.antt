@@ -6,4 +6,5 @@ pub mod Session
 pub mod Stretches
 pub mod Ends
 pub mod Laws
+pub mod Whole
 pub mod Faults

@@ -6,10 +6,15 @@
 mod command;
 mod fault;
 mod laws;
+mod whole_laws;
 
 pub use command::{Command, Refusal};
 pub use fault::SessionFault;
 pub use laws::{
     lines_can_be_parted, sessions_conserve_the_account, sessions_never_go_back,
     stretches_are_answered_alike, texts_can_be_parted,
+};
+pub use whole_laws::{
+    lines_run_their_acts, sessions_deliver, sessions_do_macros, sessions_keep_machines,
+    sessions_keep_messages,
 };

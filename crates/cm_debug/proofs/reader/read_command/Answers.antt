@@ -2,7 +2,7 @@ use Rattle.std.proofs.Common.{sym}
 use Rattle.std.proofs.lemmas.Result.{IfOk-at_ok}
 use Rattle.cm_bits.specs.Text.{words_left}
 use Rattle.cm_session.specs.Bounds.{IsFor}
-use Rattle.cm_debug.proofs.ReaderLemmas.{named_is_for}
+use Rattle.cm_session.proofs.Bounded.{named_is_for}
 use Rattle.cm_debug.proofs.reader.read_command.Goals as goal
 
 pub returns-clause-inside : goal.returns-clause-inside
