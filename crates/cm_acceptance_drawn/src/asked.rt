@@ -37,7 +37,7 @@ pub(crate) struct Asked {
 }
 
 /// How often each is drawn.
-const KINDS: [Kind; 32] = [
+static KINDS: [Kind; 32] = [
     Kind::Step,
     Kind::Step,
     Kind::Step,

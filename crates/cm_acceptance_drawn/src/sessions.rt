@@ -12,7 +12,7 @@ use cm_asm::{Program, assemble};
 use cm_bits::doubles::{Bytes, Room};
 use cm_debug::session;
 use cm_image::dump;
-use std::alloc::Global;
+use std::alloc::{AllocError, Global};
 
 const ROOM: usize = 65_536;
 
@@ -28,7 +28,7 @@ enum Shape {
 }
 
 /// Machines, the first seed of their sessions, and the first that is none of theirs.
-const DRAWN: [(Shape, u32, u32); 6] = [
+static DRAWN: [(Shape, u32, u32); 6] = [
     (Shape::OneOfSeven, 1000, 1060),
     (Shape::TwoOfOne, 2000, 2060),
     (Shape::TwoOfTwo, 3000, 3060),
@@ -45,33 +45,40 @@ struct Drawn<'a, const N: usize, const CAP: usize> {
 }
 
 impl<'a, const N: usize, const CAP: usize> Drawn<'a, N, CAP> {
-    /// Draws up to 40 lines, and in the end asks for all messages and events.
+    /// No line yet.
     fn new(
         alloc: Global,
-        draws: &mut Draws,
         start: Machine<N, CAP>,
         program: &'a Program,
-        chips: u16,
-    ) -> Option<Drawn<'a, N, CAP>>
+    ) -> Result<Drawn<'a, N, CAP>, AllocError> {
+        Ok(Drawn {
+            plain: Debugger::new(alloc, start, program.acts())?,
+            commands: String::new(alloc),
+        })
+    }
+
+    /// Draws up to 40 lines for a program of so many acts.
+    fn draw(&mut self, alloc: Global, draws: &mut Draws, count: u16, chips: u16) -> Option<()>
         requires cube { chips ≡ 2 ^ N }
     {
-        let acts = program.acts();
-        let count = u16::try_from(acts.len()).ok()?;
-        let mut drawn = Drawn {
-            commands: String::new(alloc),
-            plain: Debugger::new(alloc, start, acts).ok()?,
-        };
         for _ in 0..draws.below(40) {
             if count > 0 && chips > 0 {
-                let asked = drawn.next(draws, chips, count);
-                drawn.ask(alloc, draws, &asked, chips)?;
+                let asked = self.next(draws, chips, count);
+                self.ask(alloc, draws, &asked, chips)?;
             }
         }
+        Some(())
+    }
+
+    /// Asks for all messages and events.
+    fn ask_for_all(&mut self, alloc: Global, draws: &mut Draws, chips: u16) -> Option<()>
+        requires cube { chips ≡ 2 ^ N }
+    {
         for chip in 0..chips {
-            drawn.ask(alloc, draws, &Asked::of(Kind::Buffer, chip), chips)?;
-            drawn.ask(alloc, draws, &Asked::of(Kind::Events, chip), chips)?;
+            self.ask(alloc, draws, &Asked::of(Kind::Buffer, chip), chips)?;
+            self.ask(alloc, draws, &Asked::of(Kind::Events, chip), chips)?;
         }
-        Some(drawn)
+        Some(())
     }
 
     /// The next line; where it asks for a message, it is mostly one that there is.
@@ -98,32 +105,93 @@ impl<'a, const N: usize, const CAP: usize> Drawn<'a, N, CAP> {
     }
 }
 
-/// Whether a drawn session answers as the plain debugger does, and leaves the same machine.
-fn is_so<const N: usize, const CAP: usize>(alloc: Global, seed: u32, chips: u16) -> Option<bool>
-    requires cube { chips ≡ 2 ^ N }
-{
-    let draws = &mut Draws::new(seed);
-    let mut start = machine::<N, CAP>(alloc, draws, chips)?;
+/// A drawn program.
+fn drawn_program(alloc: Global, draws: &mut Draws) -> Option<Program> {
     let text = program(alloc, draws).ok()?;
-    let program = assemble(alloc, text.as_bytes()).ok()?;
-    let drawn = Drawn::new(alloc, draws, start.copy(alloc).ok()?, &program, chips)?;
-    let step = 1 + usize::from(draws.below(90));
-    let mut commands = Bytes::new(drawn.commands.as_bytes(), step);
-    let mut answers = Room::new(alloc, ROOM, step).ok()?;
+    assemble(alloc, text.as_bytes()).ok()
+}
+
+/// Whether cm_debug answers these commands so, read and written by so many bytes.
+fn answers<const N: usize, const CAP: usize>(
+    alloc: Global,
+    machine: &mut Machine<N, CAP>,
+    program: &Program,
+    (commands, told): (&[u8], &[u8]),
+    step: usize,
+) -> bool {
+    let Ok(mut answers) = Room::new(alloc, ROOM, step) else {
+        return false;
+    };
+    let mut commands = Bytes::new(commands, step);
     let end = session(
         alloc,
-        &mut start,
-        &program,
+        machine,
+        program,
         &mut commands,
         &mut answers,
         &mut Plain,
     );
+    end.is_ok() && answers.taken() == told
+}
+
+/// Whether two machines have one image.
+fn are_alike<const N: usize, const CAP: usize>(
+    alloc: Global,
+    one: &Machine<N, CAP>,
+    other: &Machine<N, CAP>,
+) -> bool {
+    match (dump(alloc, one), dump(alloc, other)) {
+        (Ok(one), Ok(other)) => one == other,
+        _ => false,
+    }
+}
+
+/// Whether a session on this machine goes as the plain debugger's, which has its copy.
+fn goes_as_plain<const N: usize, const CAP: usize>(
+    alloc: Global,
+    draws: &mut Draws,
+    machine: &mut Machine<N, CAP>,
+    mut drawn: Drawn<N, CAP>,
+    program: &Program,
+    chips: u16,
+) -> bool
+    requires cube { chips ≡ 2 ^ N }
+{
+    let Ok(count) = u16::try_from(program.acts().len()) else {
+        return false;
+    };
+    if drawn.draw(alloc, draws, count, chips).is_none()
+        || drawn.ask_for_all(alloc, draws, chips).is_none()
+    {
+        return false;
+    }
     let plain = &drawn.plain;
-    Some(
-        end.is_ok()
-            && answers.taken() == plain.told.bytes()
-            && dump(alloc, &start).ok()? == dump(alloc, &plain.machine).ok()?,
-    )
+    let step = 1 + usize::from(draws.below(90));
+    let texts = (drawn.commands.as_bytes(), plain.told.bytes());
+    answers(alloc, machine, program, texts, step) && are_alike(alloc, machine, &plain.machine)
+}
+
+/// Whether a drawn session on this machine answers as the plain debugger does, and leaves the same machine.
+fn is_so_on<const N: usize, const CAP: usize>(
+    alloc: Global,
+    draws: &mut Draws,
+    machine: &mut Machine<N, CAP>,
+    chips: u16,
+) -> Option<bool>
+    requires cube { chips ≡ 2 ^ N }
+{
+    let program = drawn_program(alloc, draws)?;
+    let drawn = Drawn::new(alloc, machine.copy(alloc).ok()?, &program).ok()?;
+    Some(goes_as_plain(alloc, draws, machine, drawn, &program, chips))
+}
+
+/// The same of a drawn machine.
+fn is_so<const N: usize, const CAP: usize>(alloc: Global, seed: u32, chips: u16) -> Option<bool>
+    requires cube { chips ≡ 2 ^ N }
+{
+    let mut draws = Draws::new(seed);
+    let mut machine = machine::<N, CAP>(alloc, &mut draws, chips)?;
+    is_so_on(alloc, &mut draws, &mut machine, chips)
 }
 
 impl Shape {
@@ -146,7 +214,7 @@ fn first_not_so(alloc: Global, (shape, first, end): (Shape, u32, u32)) -> Option
 
 #[test]
 fn drawn_sessions_go_as_by_a_plain_debugger(rt: HostRuntime) {
-    for row in DRAWN {
-        assert_eq!(rt; first_not_so(rt.alloc(), row), None);
+    for row in DRAWN.iter() {
+        assert_eq!(rt; first_not_so(rt.alloc(), *row), None);
     }
 }

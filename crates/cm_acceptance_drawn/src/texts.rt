@@ -10,7 +10,7 @@ const HEAD: &str =
     "field x 0 4\nfield y 4 4\nfield rel 3968 16\nfield proc 3984 4\nfield data 3988 32\n";
 
 /// What ends a line; nothing that it says is asked for.
-const ENDS: [&str; 8] = [
+static ENDS: [&str; 8] = [
     "\n",
     "\n",
     "\n",
