@@ -1,0 +1,53 @@
+-- Text that goes out behind other text.
+use Rattle.std.proofs.Common.{◌≡◌, ℕ, ◌+◌, ◌≤◌, List, [], ◌++◌, length, take}
+use Rattle.std.proofs.Common.{Option, ap, ◌∙◌, sym, subst, arith, append-nil, length-append}
+use Rattle.std.proofs.lemmas.Grind.{common_steps}
+use Rattle.std.proofs.Math.Seq.{take-append-add}
+use Rattle.std.proofs.KnownBytes.{Appends-trans, Appends-nil}
+use Rattle.std.specs.Io.KnownBytes.{Appends}
+use Rattle.cm_steps.specs.declared.fault.WeaveFault.{WeaveFault}
+use Rattle.cm_steps.specs.declared.fault.WeaveFault.TheVariants.{Read, Write, TooMuch, Memory, Unfinished}
+use Rattle.cm_steps.specs.Ends.{IsCutBy}
+use Rattle.cm_steps.specs.Hearing.{BreaksOff, HasGone}
+
+front_of : (front rest : List ℕ) (count : ℕ) → count ≤ length front → take count (front ++ rest) ≡ take count front
+front_of front rest count within = grind (arith, common_steps)
+
+all_of : (xs : List ℕ) → take (length xs) xs ≡ xs
+all_of xs = grind (arith, common_steps)
+
+-- what breaks off behind a front that was written is cut
+pub cut_text : (whole gone text more : List ℕ) (held holds on : Option (List ℕ)) (sent : ℕ) (fault : WeaveFault)
+    → Appends held holds gone → sent ≡ length gone → whole ≡ gone ++ (text ++ more)
+    → BreaksOff text sent holds on fault → IsCutBy whole held on fault
+cut_text whole gone text more held holds on sent (Write count) wrote long is cut =
+    let at : count ≡ length gone + cut.part = cut.count_is ∙ ap (λ (k : ℕ). k + cut.part) long in
+    let taken : take count whole ≡ gone ++ take cut.part text =
+    (λ i. take (at i) (is i)) ∙ take-append-add gone (text ++ more) cut.part
+    ∙ ap (λ (xs : List ℕ). gone ++ xs) (front_of text more cut.part (let w = cut.within in omega (arith, w))) in
+    record {
+      within = let w = cut.within in
+          omega (arith, at, w, ap length is, length-append gone (text ++ more), length-append text more);
+      written = subst (Appends held on) (sym taken) (Appends-trans held holds on _ _ wrote cut.written);
+    }
+cut_text whole gone text more held holds on sent Memory wrote long is none =
+    let front : take (length gone) whole ≡ gone =
+    ap (take (length gone)) is ∙ front_of gone (text ++ more) (length gone) (omega arith) ∙ all_of gone in
+    record {
+      count = length gone;
+      within = omega (arith, ap length is, length-append gone (text ++ more));
+      written = subst (Appends held on) (append-nil gone ∙ sym front) (Appends-trans held holds on gone [] wrote none);
+    }
+cut_text whole gone text more held holds on sent Read wrote long is none = absurd none
+cut_text whole gone text more held holds on sent TooMuch wrote long is none = absurd none
+cut_text whole gone text more held holds on sent Unfinished wrote long is none = absurd none
+
+-- a text of which nothing went out is kept
+pub none_gone : (text rest : List ℕ) (sent : ℕ) (held : Option (List ℕ)) → rest ≡ text
+    → HasGone text sent held held rest sent
+none_gone text rest sent held is = record {
+  gone = [];
+  written = Appends-nil held;
+  text_is = sym is;
+  count_is = omega arith;
+}

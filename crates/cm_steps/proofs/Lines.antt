@@ -1,0 +1,90 @@
+-- Lines of steps in two parts, and the lines of a text that are answered.
+use Rattle.std.proofs.Common.{◌≡◌, ℕ, ◌+◌, ◌-◌, ◌<◌, ◌≤◌, Bool, true, false, cond, nat_le, List, [], ◌∷◌, ◌++◌, length}
+use Rattle.std.proofs.Common.{take, refl, ap, ◌∙◌, sym, arith, append_assoc, append-nil}
+use Rattle.std.proofs.lemmas.Bool.{le-leb}
+use Rattle.std.proofs.Math.Seq.{take-append-add}
+use Rattle.cm_bits.specs.Text.{lines_of, without_empty_last}
+use Rattle.cm_session.specs.Laws.{BeginsWith}
+use Rattle.cm_session.specs.Ends.{ended_lines, open_line}
+use Rattle.cm_session.proofs.Lines.{ended_lines-append, ended_lines-end, ended_after, lines_of-append, lines_of-open}
+use Rattle.cm_session.proofs.Lines.{lines_after}
+use Rattle.cm_exchange.specs.Lanes.{Exchange}
+use Rattle.cm_exchange.specs.Worlds.{World}
+use Rattle.cm_steps.specs.Session.{Answered, told, preceded_by, after_line, after_lines, answers, left}
+use Rattle.cm_steps.specs.Ends.{LIMIT, heard_lines, last_line, told_text}
+
+preceded_by-twice : (first second : List ℕ) (rest : Answered)
+    → preceded_by first (preceded_by second rest) ≡ preceded_by (first ++ second) rest
+preceded_by-twice first second rest = ap (told rest.world) (sym (append_assoc first second rest.answer))
+
+-- the second part is answered by the world that the first part leaves
+pub after_lines-append : (exchange : Exchange) (world : World) (lines more : List (List ℕ))
+    → after_lines exchange world (lines ++ more)
+    ≡ preceded_by (after_lines exchange world lines).answer
+    (after_lines exchange (after_lines exchange world lines).world more)
+unfolding after_lines
+after_lines-append exchange world [] more = refl
+after_lines-append exchange world (line ∷ lines) more =
+    let one : Answered = after_line exchange world line in
+    ap (preceded_by one.answer) (after_lines-append exchange one.world lines more)
+    ∙ preceded_by-twice one.answer (after_lines exchange one.world lines).answer _
+
+-- ---- the lines that are answered
+
+-- of a text within the limit, all
+pub heard_whole : (text : List ℕ) → length text ≤ LIMIT → heard_lines text ≡ lines_of text
+heard_whole text within = ap (λ (b : Bool). cond b (lines_of text) (ended_lines (take LIMIT text)))
+    (le-leb (length text) LIMIT within)
+
+-- those that ended in a front within the limit come first
+pub heard_first : (front more : List ℕ) → length front ≤ LIMIT
+    → BeginsWith (heard_lines (front ++ more)) (ended_lines front)
+heard_first front more within = by (nat_le (length (front ++ more)) LIMIT) where
+  rest : ℕ
+  rest = LIMIT - length front
+
+  long : LIMIT ≡ length front + rest
+  long = omega (arith, within)
+
+  by : (b : Bool)
+      → BeginsWith (cond b (lines_of (front ++ more)) (ended_lines (take LIMIT (front ++ more)))) (ended_lines front)
+  by true = record { more = lines_after front more; is = lines_of-append front more }
+  by false = record {
+    more = ended_after front (take rest more);
+    is = ap (λ (k : ℕ). ended_lines (take k (front ++ more))) long
+        ∙ ap ended_lines (take-append-add front more rest) ∙ ended_lines-append front (take rest more);
+  }
+
+-- what is told of all lines begins with the answers to the first
+pub record IsGoneOn (text first : List ℕ) : Type 0 where
+  pub more : List ℕ
+  pub is : text ≡ first ++ more
+
+pub told_on : (exchange : Exchange) (start : World) (lines first : List (List ℕ)) → BeginsWith lines first
+    → IsGoneOn (told_text exchange start lines) (answers exchange start first)
+told_on exchange start lines first begins =
+    let last : List ℕ = last_line exchange (left exchange start lines) in
+    let others : List ℕ = answers exchange (left exchange start first) begins.more in
+    record {
+      more = others ++ last;
+      is = ap (λ (xs : List ℕ). xs ++ last)
+          (ap (answers exchange start) begins.is
+          ∙ ap (λ (a : Answered). a.answer) (after_lines-append exchange start first begins.more))
+          ∙ append_assoc (answers exchange start first) others last;
+    }
+
+-- ---- the end of a text
+
+-- no line is open
+pub lines_closed : (text line : List ℕ) → line ≡ open_line text → line ≡ [] → lines_of text ≡ ended_lines text
+lines_closed text line is none = lines_of-open text
+    ∙ ap (λ (l : List ℕ). ended_lines text ++ without_empty_last (l ∷ [])) (sym is ∙ none)
+    ∙ append-nil (ended_lines text)
+
+-- a line is open, and the end of the text ends it
+pub lines_at_last : (text line : List ℕ) → 0 < length line → line ≡ open_line text
+    → lines_of text ≡ ended_lines (text ++ 10 ∷ [])
+lines_at_last text [] some is = absurd (omega arith)
+lines_at_last text (byte ∷ line) some is = lines_of-open text
+    ∙ ap (λ (l : List ℕ). ended_lines text ++ without_empty_last (l ∷ [])) (sym is)
+    ∙ ap (λ (l : List ℕ). ended_lines text ++ l ∷ []) is ∙ sym (ended_lines-end text)

@@ -1,0 +1,105 @@
+-- How a session of steps ends: what it wrote, after each of its faults too. Ours.
+use Rattle.std.specs.Prelude.{ℕ, ◌<◌, ◌≤◌, ◌==◌, Bool, true, false, if◌then◌else◌, nat_le, Option, Some, Result, Ok, Err}
+use Rattle.std.specs.Prelude.{List, [], ◌∷◌, ◌++◌, length, take, codes}
+use Rattle.std.specs.List.{list_all}
+use Rattle.std.specs.Io.KnownBytes.{Appends, Consumes}
+use Rattle.cm_bits.specs.Text.{lines_of}
+use Rattle.cm_session.specs.Answer.{line}
+use Rattle.cm_session.specs.Ends.{ended_lines}
+use Rattle.cm_exchange.specs.Lanes.{Exchange, round_count}
+use Rattle.cm_exchange.specs.Worlds.{World, IsFinished}
+use Rattle.cm_steps.specs.declared.fault.WeaveFault.{WeaveFault}
+use Rattle.cm_steps.specs.declared.fault.WeaveFault.TheVariants.{Read, Write, TooMuch, Memory, Unfinished}
+use Rattle.cm_steps.specs.Session.{answers, left}
+
+-- the most bytes of steps
+abbrev pub LIMIT : ℕ
+LIMIT = 16777216
+
+-- the lines of a text that are answered: all of them, or those that end within the most bytes
+abbrev pub heard_lines : List ℕ → List (List ℕ)
+heard_lines text = if nat_le (length text) LIMIT then lines_of text else ended_lines (take LIMIT text)
+
+-- ---- the last line
+
+-- every block is through all rounds
+abbrev pub is_finished : Exchange → World → Bool
+is_finished exchange world = list_all (λ stand. stand.round == round_count exchange) world.stands
+
+abbrev pub finished_line : List ℕ
+finished_line = line (codes "finished" ∷ [])
+
+abbrev pub unfinished_line : List ℕ
+unfinished_line = line (codes "unfinished" ∷ [])
+
+abbrev pub last_line : Exchange → World → List ℕ
+last_line exchange world = if is_finished exchange world then finished_line else unfinished_line
+
+-- all that is told of these lines
+abbrev pub told_text : Exchange → World → List (List ℕ) → List ℕ
+told_text exchange start lines = answers exchange start lines ++ last_line exchange (left exchange start lines)
+
+-- ---- ends
+
+-- so many bytes of a text are written, not all
+pub record IsCut (text : List ℕ) (held holds : Option (List ℕ)) (count : ℕ) : Type 0 where
+  pub within : count < length text
+  pub written : Appends held holds (take count text)
+
+-- some bytes of a text are written
+pub record IsBegun (text : List ℕ) (held holds : Option (List ℕ)) : Type 0 where
+  pub count : ℕ
+  pub within : count ≤ length text
+  pub written : Appends held holds (take count text)
+
+-- a source that has this text gave these bytes, not more than the most, and the answers to the lines that ended in them
+-- are written
+pub record IsAnsweredSoFar (exchange : Exchange) (text : List ℕ) (rest : Option (List ℕ)) (start : World)
+    (held holds : Option (List ℕ)) : Type 0 where
+  pub taken : List ℕ
+  pub consumed : Consumes (Some text) rest taken
+  pub within : length taken ≤ LIMIT
+  pub written : Appends held holds (answers exchange start (ended_lines taken))
+
+-- all lines of a text are answered, and the last line told
+pub record IsTold (exchange : Exchange) (text : List ℕ) (start : World) (last : List ℕ) (held holds : Option (List ℕ))
+    : Type 0 where
+  pub within : length text ≤ LIMIT
+  pub written : Appends held holds (answers exchange start (lines_of text) ++ last)
+
+-- a text is written in part: it was cut by a write, or for want of memory
+abbrev pub IsCutBy : List ℕ → Option (List ℕ) → Option (List ℕ) → WeaveFault → Type 0
+IsCutBy text held holds (Write count) = IsCut text held holds count
+IsCutBy text held holds Memory = IsBegun text held holds
+IsCutBy text held holds Read = ⊥
+IsCutBy text held holds TooMuch = ⊥
+IsCutBy text held holds Unfinished = ⊥
+
+-- how a session ends finished whose source has this text
+pub record EndsFinished (exchange : Exchange) (text : List ℕ) (start : World) (held holds : Option (List ℕ))
+    : Type 0 where
+  pub finished : IsFinished exchange (left exchange start (lines_of text))
+  pub told : IsTold exchange text start finished_line held holds
+
+-- how it ends by a fault, where that is left of the source
+abbrev pub EndsBy : Exchange → List ℕ → Option (List ℕ) → World → Option (List ℕ) → Option (List ℕ) → WeaveFault
+    → Type 0
+EndsBy exchange text rest start held holds Read = IsAnsweredSoFar exchange text rest start held holds
+EndsBy exchange text rest start held holds (Write count) =
+    IsCutBy (told_text exchange start (heard_lines text)) held holds (Write count)
+EndsBy exchange text rest start held holds TooMuch =
+    (LIMIT < length text) × Appends held holds (answers exchange start (ended_lines (take LIMIT text)))
+EndsBy exchange text rest start held holds Memory =
+    IsCutBy (told_text exchange start (heard_lines text)) held holds Memory
+EndsBy exchange text rest start held holds Unfinished =
+    (IsFinished exchange (left exchange start (lines_of text)) → ⊥)
+    × IsTold exchange text start unfinished_line held holds
+
+-- it ended by a write
+abbrev pub is_write : {M : Type 0} → Result M WeaveFault → Bool
+is_write (Ok machine) = false
+is_write (Err Read) = false
+is_write (Err (Write count)) = true
+is_write (Err TooMuch) = false
+is_write (Err Memory) = false
+is_write (Err Unfinished) = false
