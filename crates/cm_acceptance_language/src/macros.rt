@@ -240,7 +240,7 @@ fn drawn_macro(draws: &mut Draws, kind: u32) -> Result<Macro, Fail> {
 }
 
 /// Flags that no macro of the trials writes.
-const CONDITIONS: [u16; 10] = [0, 1, 2, 3, 4, 5, 8, 9, 10, 11];
+static CONDITIONS: [u16; 10] = [0, 1, 2, 3, 4, 5, 8, 9, 10, 11];
 
 fn drawn_context(draws: &mut Draws) -> Context {
     let f = flag(CONDITIONS[usize::from(draws.below(10))]);
@@ -251,7 +251,35 @@ fn drawn_context(draws: &mut Draws) -> Context {
     }
 }
 
-/// A drawn macro under a drawn context on a drawn machine does what it says in whole numbers.
+/// A macro, and the context that it stands in.
+#[derive(Drop)]
+struct Placed {
+    wanted: Macro,
+    context: Context,
+}
+
+/// Runs it.
+fn run(alloc: Global, placed: &Placed, machine: &mut Machine<0, 7>) -> Result<(), Fail> {
+    let mut list = Vec::new(alloc);
+    expand(&placed.wanted, placed.context, &mut list)?;
+    Plain.go(machine, list.as_slice())?;
+    Ok(())
+}
+
+/// All memory bits and flags are as they should be.
+fn is_right(placed: &Placed, before: &Machine<0, 7>, after: &Machine<0, 7>) -> bool {
+    let (before, after) = (before.chip(0), after.chip(0));
+    (0..16u8).all(|number| is_right_in(&placed.wanted, placed.context, &before, &after, number))
+}
+
+/// It does what it says in whole numbers on a machine like this one.
+fn goes_right_on(alloc: Global, placed: &Placed, machine: &Machine<0, 7>) -> Result<bool, Fail> {
+    let mut after = machine.copy(alloc)?;
+    run(alloc, placed, &mut after)?;
+    Ok(is_right(placed, machine, &after))
+}
+
+/// The same of a drawn macro under a drawn context on a drawn machine.
 fn goes_right(alloc: Global, seed: u32) -> Result<bool, Fail> {
     let mut draws = Draws::new(seed << 8);
     let wanted = drawn_macro(&mut draws, seed)?;
@@ -259,13 +287,8 @@ fn goes_right(alloc: Global, seed: u32) -> Result<bool, Fail> {
         Macro::Mul(_, _, _) => Context::Always,
         _ => drawn_context(&mut draws),
     };
-    let before = drawn_machine(alloc, seed << 8)?;
-    let mut after = before.copy(alloc)?;
-    let mut list = Vec::new(alloc);
-    expand(&wanted, context, &mut list)?;
-    Plain.go(&mut after, list.as_slice())?;
-    let (before, after) = (before.chip(0), after.chip(0));
-    Ok((0..16u8).all(|number| is_right_in(&wanted, context, &before, &after, number)))
+    let machine = drawn_machine(alloc, seed << 8)?;
+    goes_right_on(alloc, &Placed { wanted, context }, &machine)
 }
 
 #[test]
