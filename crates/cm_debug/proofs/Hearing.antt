@@ -8,7 +8,8 @@ use Rattle.cm_session.specs.declared.fault.SessionFault.TheVariants.{Read, TooMu
 use Rattle.cm_session.specs.Session.{Session}
 use Rattle.cm_session.specs.Ends.{LIMIT, ended_lines, EndsForSome}
 use Rattle.cm_debug.specs.Telling.{IsTold, Stops}
-use Rattle.cm_debug.proofs.Ending.{ends_read, ends_first, ends_in_read, ends_over, ends_closed, ends_answered, ends_broken}
+use Rattle.cm_debug.proofs.Ending.{ends_read, ends_first, ends_in_read, ends_over, ends_closed, ends_answered}
+use Rattle.cm_debug.proofs.Ending.{ends_broken}
 
 -- before the first byte
 pub heard_first : (n cap : ℕ) (acts : List Act) (start : Machine) (held : Option (List ℕ))
@@ -44,11 +45,13 @@ pub heard_over : (n cap : ℕ) (acts : List Act) (start : Machine) (held : Optio
     → count ≤ length buf → room ≡ min count (LIMIT - used) → room < count → used ≡ length taken → used ≤ LIMIT
     → IsTold n cap acts start held (taken ++ take room buf) session holds sent line
     → EndsForSome n cap acts start held session.machine holds (Err TooMuch)
-heard_over n cap acts start held taken buf count room used session holds sent line inside is less so few told' = record {
-  text = taken ++ take count buf;
-  ends = ends_over n cap acts start held (Some (taken ++ take count buf)) (Some (take count buf)) (Some []) taken buf
-      count room used session holds sent line inside is less so few refl (sym (append-nil (take count buf))) told';
-}
+heard_over n cap acts start held taken buf count room used session holds sent line inside is less so few told' =
+    record {
+      text = taken ++ take count buf;
+      ends = ends_over n cap acts start held (Some (taken ++ take count buf)) (Some (take count buf)) (Some [])
+          taken buf count room used session holds sent line inside is less so few refl
+          (sym (append-nil (take count buf))) told';
+    }
 
 -- at the end, where no line is open
 pub heard_closed : (n cap : ℕ) (acts : List Act) (start : Machine) (held : Option (List ℕ)) (taken buf : List ℕ)
@@ -72,8 +75,8 @@ pub heard_answered : (n cap : ℕ) (acts : List Act) (start : Machine) (held : O
 heard_answered n cap acts start held taken buf count used session on holds gone sent more line last none so few some
     told' ended = record {
       text = taken ++ take count buf;
-      ends = ends_answered n cap acts start held (Some (taken ++ take count buf)) (Some (take count buf)) (Some []) taken
-          buf count used session on holds gone sent more line last none so few refl
+      ends = ends_answered n cap acts start held (Some (taken ++ take count buf)) (Some (take count buf)) (Some [])
+          taken buf count used session on holds gone sent more line last none so few refl
           (sym (append-nil (take count buf))) refl some told' ended;
     }
 
@@ -87,7 +90,7 @@ pub heard_broken : (n cap : ℕ) (acts : List Act) (start : Machine) (held : Opt
 heard_broken n cap acts start held taken buf count used session holds gone sent line machine fault none so few some
     told' stops = record {
       text = taken ++ take count buf;
-      ends = ends_broken n cap acts start held (Some (taken ++ take count buf)) (Some (take count buf)) (Some []) taken buf
-          count used session holds gone sent line machine fault none so few refl (sym (append-nil (take count buf))) refl
-          some told' stops;
+      ends = ends_broken n cap acts start held (Some (taken ++ take count buf)) (Some (take count buf)) (Some [])
+          taken buf count used session holds gone sent line machine fault none so few refl
+          (sym (append-nil (take count buf))) refl some told' stops;
     }
