@@ -214,6 +214,27 @@ answer-first : (n cap : ℕ) (acts : List Act) (session : Session) (line : List 
 unfolding after_lines
 answer-first n cap acts session line lines = refl
 
+-- more lines have as many bytes of answers, or more
+further_reached : (n cap : ℕ) (acts : List Act) (start : Machine) (lines more : List (List ℕ)) (count : ℕ)
+    → count < length (answers n cap start acts lines) → count < length (answers n cap start acts (lines ++ more))
+further_reached n cap acts start lines more count within =
+    omega (
+      arith,
+      within,
+      ap length (answers_begin n cap acts start lines more),
+      length-append (answers n cap start acts lines)
+          (after_lines n cap acts (session_after n cap acts start lines) more).answer,
+    )
+
+-- a byte in reach before more lines come is in reach then
+still_reached : (n cap : ℕ) (acts : List Act) (start : Machine) (done undone more : List (List ℕ)) (count : ℕ)
+    → count < length (answers n cap start acts (done ++ take 1 undone))
+    → count < length (answers n cap start acts (done ++ take 1 (undone ++ more)))
+still_reached n cap acts start done [] more count within =
+    further_reached n cap acts start done (take 1 more) count
+    (subst (λ (lines : List (List ℕ)). count < length (answers n cap start acts lines)) (append-nil done) within)
+still_reached n cap acts start done (line ∷ undone) more count within = within
+
 -- after a line whose answer was cut short
 stopped_short : (n cap : ℕ) (acts : List Act) (start : Machine) (held : Option (List ℕ)) (done more : List (List ℕ))
     (line : List ℕ) (session : Session) (sent : ℕ) (kept : List ℕ) (machine : Machine) (holds on : Option (List ℕ))
@@ -251,6 +272,15 @@ stopped_short n cap acts start held done more line session sent kept machine hol
           (front_written held holds on kept first one.answer rest sent short.cut.part wrote long short.cut.within
           short.cut.written)
 
+      with_line : length (answers n cap start acts (done ++ line ∷ [])) ≡ length first + length one.answer
+      with_line = ap (λ (a : Answered). length a.answer) (answers-more n cap acts start done line)
+          ∙ length-append first (after_line n cap acts (session_after n cap acts start done) line).answer
+          ∙ ap (λ (s : Session). length first + length (after_line n cap acts s line).answer) (sym is)
+
+      in_reach : count < length (answers n cap start acts (done ++ line ∷ []))
+      in_reach =
+          omega (arith, short.cut.count_is, short.cut.within, long, length-append kept one.answer, with_line)
+
       after : session_after n cap acts start (done ++ line ∷ []) ≡ one.session
       after = ap (λ (a : Answered). a.session) (answers-more n cap acts start done line)
           ∙ ap (λ (s : Session). (after_line n cap acts s line).session) (sym is)
@@ -263,6 +293,7 @@ stopped_short n cap acts start held done more line session sent kept machine hol
         done = done ++ line ∷ [];
         undone = more;
         lines_are = sym (append_assoc done (line ∷ []) more);
+        reached = further_reached n cap acts start (done ++ line ∷ []) (take 1 more) count in_reach;
         machine_is = unmoved n cap acts (session_after n cap acts start (done ++ line ∷ [])) more machine
             (there ∙ sym (ap (λ (s : Session). s.machine) after));
       }
@@ -272,6 +303,7 @@ stopped_short n cap acts start held done more line session sent kept machine hol
         done = done;
         undone = line ∷ more;
         lines_are = refl;
+        reached = in_reach;
         machine_is = subst (λ (s : Session). IsBeforeOrAmid n cap acts s (line ∷ more) machine) is way;
       }
 
@@ -321,6 +353,7 @@ stops_further n cap acts start held lines more machine on (Write count) stops =
       done = stops.done;
       undone = stops.undone ++ more;
       lines_are = ap (λ (ls : List (List ℕ)). ls ++ more) stops.lines_are ∙ append_assoc stops.done stops.undone more;
+      reached = still_reached n cap acts start stops.done stops.undone more count stops.reached;
       machine_is = further n cap acts (session_after n cap acts start stops.done)
           stops.undone more machine stops.machine_is;
     }
@@ -418,8 +451,9 @@ pub stops_between : (n cap : ℕ) (acts : List Act) (start : Machine) (held : Op
 stops_between n cap acts start held taken session holds on sent kept line (Write count) told' cut =
     let first : List ℕ = answers n cap start acts (ended_lines taken) in
     let none : kept ++ [] ≡ kept = append-nil kept in
+    let within : count < length first = omega (arith, cut.count_is, cut.within, told'.sent_is) in
     record {
-      within = omega (arith, cut.count_is, cut.within, told'.sent_is);
+      within = within;
       written = subst (Appends held on) (λ i. take (sym cut.count_is i) (append-nil first i))
           (front_written held holds on kept first [] [] sent cut.part told'.written told'.sent_is
           (omega (arith, cut.within, ap length none))
@@ -427,6 +461,7 @@ stops_between n cap acts start held taken session holds on sent kept line (Write
       done = ended_lines taken;
       undone = [];
       lines_are = sym (append-nil (ended_lines taken));
+      reached = further_reached n cap acts start (ended_lines taken) [] count within;
       machine_is = ap (λ (s : Session). s.machine) told'.session_is;
     }
 stops_between n cap acts start held taken session holds on sent kept line Memory told' wrote =

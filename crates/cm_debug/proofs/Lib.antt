@@ -4,4 +4,5 @@ pub mod Sending
 pub mod Coming
 pub mod Breaking
 pub mod Ending
+pub mod Hearing
 pub mod Finding

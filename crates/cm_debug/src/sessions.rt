@@ -2,7 +2,7 @@
 
 ghost use Rattle.std.specs.Prelude.{◌≡◌, ◌↔◌, cond, true, false, IfSome, IsErrOf, MatchResult};
 ghost use Rattle.cm_array.specs.Faults.{one_more_lacked};
-ghost use Rattle.cm_session.specs.Ends.{Ends, is_no_thread, is_write};
+ghost use Rattle.cm_session.specs.Ends.{Ends, EndsForSome, is_no_thread, is_write};
 
 use crate::desk::Desk;
 use crate::feeding::feed;
@@ -37,6 +37,8 @@ pub fn session<const N: usize, const CAP: usize, R: Runner<N, CAP>, I: Source, O
     requires writer { O.has_failed out.old ≡ false }
     ensures ends { IfSome (I.left commands.old) (λ text. Ends N CAP program.now.acts text (I.left commands.new)
         machine.old.machine (O.contents out.old) machine.new.machine (O.contents out.new) result) }
+    ensures heard { EndsForSome N CAP program.now.acts machine.old.machine (O.contents out.old) machine.new.machine
+        (O.contents out.new) result }
     ensures read { (I.has_failed commands.new ≡ true) ↔ IsErrOf result SessionFault.Read }
     ensures write { O.has_failed out.new ≡ is_write result }
     ensures thread { MatchResult result
@@ -61,6 +63,8 @@ fn answer_all<const N: usize, const CAP: usize, R: Runner<N, CAP>, I: Source, O:
     requires writer { O.has_failed out.old ≡ false }
     ensures ends { IfSome (I.left commands.old) (λ text. Ends N CAP acts.now text (I.left commands.new)
         machine.old.machine (O.contents out.old) machine.new.machine (O.contents out.new) result) }
+    ensures heard { EndsForSome N CAP acts.now machine.old.machine (O.contents out.old) machine.new.machine
+        (O.contents out.new) result }
     ensures read { (I.has_failed commands.new ≡ true) ↔ IsErrOf result SessionFault.Read }
     ensures write { O.has_failed out.new ≡ is_write result }
     ensures thread { MatchResult result

@@ -61,7 +61,8 @@ IsBeforeOrAmid n cap acts before [] machine = machine ≡ before.machine
 IsBeforeOrAmid n cap acts before (line ∷ lines) machine =
     IsOnTheWay n cap acts before (after_line n cap acts before line).session machine
 
--- so many bytes of the answers to these lines are written; some lines are done, and perhaps some acts of the next
+-- so many bytes of the answers to these lines are written; some lines are done, and perhaps some acts of the next;
+-- the first byte that is not written answers one of those that are done, or the next
 pub record IsStopped (n cap : ℕ) (acts : List Act) (start : Machine) (held : Option (List ℕ))
     (lines : List (List ℕ)) (machine : Machine)
     (holds : Option (List ℕ)) (count : ℕ) : Type 0 where
@@ -70,6 +71,7 @@ pub record IsStopped (n cap : ℕ) (acts : List Act) (start : Machine) (held : O
   pub done : List (List ℕ)
   pub undone : List (List ℕ)
   pub lines_are : lines ≡ done ++ undone
+  pub reached : count < length (answers n cap start acts (done ++ take 1 undone))
   pub machine_is : IsBeforeOrAmid n cap acts (session_after n cap acts start done) undone machine
 
 -- a source that has this text gave these bytes, not more than the most,
@@ -111,6 +113,12 @@ Ends n cap acts text rest start held machine holds (Err Memory) =
     IsBrokenOff n cap acts start held (heard_lines text) machine holds
 Ends n cap acts text rest start held machine holds (Err NoThread) =
     IsBrokenOff n cap acts start held (heard_lines text) machine holds
+
+-- it ends so for some text, all of which was read: this can be said of a source that does not tell its bytes
+pub record EndsForSome (n cap : ℕ) (acts : List Act) (start : Machine) (held : Option (List ℕ)) (machine : Machine)
+    (holds : Option (List ℕ)) (result : Result (Unit {0}) SessionFault) : Type 0 where
+  pub text : List ℕ
+  pub ends : Ends n cap acts text (Some []) start held machine holds result
 
 -- it ended by a write
 abbrev pub is_write : Result (Unit {0}) SessionFault → Bool
