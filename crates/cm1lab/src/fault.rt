@@ -1,17 +1,23 @@
 //! Why the program ends with a status other than 0, and what it tells then.
 
+use crate::words::HELP;
 use cm_bits::FieldFault;
 use cm_lab::{LabFault, NumbersFault};
-use std::alloc::{AllocError, Global};
+use std::alloc::Global;
 use std::io;
 use thiserror::Error;
 
 /// A fault of the whole program.
 #[derive(Debug, Drop, Error)]
 pub enum Fault {
-    /// The words ask for nothing, or for help.
-    #[error("{0}")]
-    Words(clap::Error),
+    /// The words ask for help, which is no fault.
+    #[error("help")]
+    Help,
+    #[error("cm1lab: what is to be done? cm1lab --help tells what can be")]
+    Words,
+    /// A word that is to be a number is none.
+    #[error("cm1lab: {word} is no number of an address or a length")]
+    Number { word: String },
     #[error("cm1lab: {0}")]
     Field(FieldFault),
     /// What is wrong with a file.
@@ -29,13 +35,15 @@ pub enum Fault {
     Memory,
 }
 
-impl From<AllocError> for Fault {
-    fn from(_: AllocError) -> Fault {
-        Fault::Memory
-    }
-}
-
 impl Fault {
+    /// A word that is no number.
+    pub fn number(alloc: Global, word: &str) -> Fault {
+        match String::from_str(alloc, word) {
+            Ok(word) => Fault::Number { word },
+            Err(_) => Fault::Memory,
+        }
+    }
+
     /// What is wrong with a file.
     pub fn file(alloc: Global, path: &str, what: &'static str) -> Fault {
         match String::from_str(alloc, path) {
@@ -55,7 +63,8 @@ impl Fault {
     /// The exit status: 2 for words that ask for nothing, 3 for want of memory, 4 for a file, else 1. Help is no fault.
     pub fn status(&self) -> u8 {
         match self {
-            Fault::Words(error) => if error.use_stderr() { 2 } else { 0 },
+            Fault::Help => 0,
+            Fault::Words | Fault::Number { .. } => 2,
             Fault::Memory => 3,
             Fault::File { .. } | Fault::Input(_) | Fault::Output => 4,
             _ => 1,
@@ -65,7 +74,7 @@ impl Fault {
     /// Tells it on standard error; help goes to standard output.
     pub fn tell<R: Print + Eprint>(&self, rt: &R) -> io::Result<()> {
         match self {
-            Fault::Words(error) => error.print(rt),
+            Fault::Help => rt.println(HELP),
             fault => rt.eprintln(fault),
         }
     }
