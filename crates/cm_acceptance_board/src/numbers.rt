@@ -1,0 +1,83 @@
+//! Numbers that go over a lane.
+ghost use Rattle.std.specs.Prelude.{◌≡◌, ◌≤◌, IfOk};
+ghost use Rattle.cm_board.specs.Courses.{unused};
+ghost use Rattle.cm_acceptance_board.specs.Rising.{rising, after};
+
+use cm_bits::NoMemory;
+use cm_board::{FromEnd, Lane, Plan, ToEnd};
+use std::alloc::Global;
+use std::sync::Wait;
+use std::thread;
+use std::thread::Threads;
+
+/// The plan of a lane that carries so many numbers, from 1 on.
+#[derive(Drop)]
+pub struct Numbers {
+    pub count: u64,
+}
+
+impl Plan<u64> for Numbers {
+    ghost due = { λ plan. rising 1 plan.count };
+}
+
+/// A lane that carries so many numbers.
+pub fn opened(alloc: Global, count: u64) -> Result<(FromEnd<u64>, ToEnd<u64>), NoMemory>
+    requires few { count ≤ 4416 }
+    ensures from { IfOk result (λ ends. ends.0 ≡ unused (rising 1 count) 0) }
+    ensures to { IfOk result (λ ends. ends.1 ≡ unused (rising 1 count) 0) }
+{
+    Lane::open(alloc, 0, Numbers { count })
+}
+
+/// Files all of so many numbers.
+pub fn file_all<R: Wait>(rt: &R, mut end: FromEnd<u64>, count: u64) -> FromEnd<u64>
+    requires end { end ≡ unused (rising 1 count) 0 }
+    ensures end { result ≡ after count count }
+{
+    for i in 0..count {
+        let mut filling = end.grip(rt);
+        *filling.parcel() = i + 1;
+        end = filling.file();
+    }
+    end
+}
+
+/// Draws all of so many numbers, and gives each cell back with 0 in it.
+pub fn draw_all<R: Wait>(
+    rt: &R,
+    alloc: Global,
+    mut end: ToEnd<u64>,
+    count: u64,
+) -> Result<Vec<u64>, NoMemory>
+    requires end { end ≡ unused (rising 1 count) 0 }
+    ensures value { IfOk result (λ seen. seen.items ≡ rising 1 count) }
+{
+    let mut seen = Vec::new(alloc);
+    for _i in 0..count {
+        let mut emptying = end.draw(rt);
+        let parcel = emptying.parcel();
+        seen.reserve(1)?;
+        seen.push_reserved(*parcel);
+        *parcel = 0;
+        end = emptying.clear();
+    }
+    Ok(seen)
+}
+
+/// What one thread draws that another files.
+pub fn relay<R: Threads + Wait + Sync>(
+    rt: &R,
+    alloc: Global,
+    count: u64,
+) -> Result<Vec<u64>, NoMemory>
+    requires few { count ≤ 4416 }
+    ensures value { IfOk result (λ seen. seen.items ≡ rising 1 count) }
+{
+    let (from, to) = opened(alloc, count)?;
+    let (_end, seen) = thread::join(
+        rt,
+        move || file_all(rt, from, count),
+        move || draw_all(rt, alloc, to, count),
+    );
+    seen
+}

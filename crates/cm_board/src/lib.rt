@@ -1,0 +1,13 @@
+//! Lanes: cells that carry one parcel in each use from one thread to another.
+#![tactic(auto)]
+
+mod getting;
+mod lane;
+mod lends;
+mod sending;
+mod table;
+mod waiting;
+
+pub use getting::{Emptying, ToEnd, ToHold};
+pub use lane::{Lane, Plan};
+pub use sending::{Filling, FromEnd, FromHold};

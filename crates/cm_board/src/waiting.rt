@@ -1,0 +1,26 @@
+//! How an end waits for the other.
+ghost use Rattle.std.specs.Prelude.{◌≡◌};
+
+use crate::table::LaneTable;
+use std::sync::Wait;
+use std::thread::yield_now;
+
+/// How often it looks before it parks.
+const LOOKS: u32 = 20;
+
+/// Waits for the other end to come to this word: looks a few times, and lets other threads run between two looks, then
+/// parks until the word changes. It may also return for no reason.
+pub(crate) fn await_word<T: Drop, R: Wait>(rt: &R, table: &LaneTable<T>, word: u64)
+    requires words { table.now.shared.table_id.words ≡ 1 }
+{
+    for _look in 0..LOOKS {
+        if table.shared.peek(0) == word {
+            return;
+        }
+        yield_now();
+    }
+    let found = table.shared.peek(0);
+    if found != word {
+        table.shared.park(rt, 0, (found & 0xffff_ffff) as u32);
+    }
+}
