@@ -18,6 +18,9 @@ pub enum Fault {
     /// A word that is to be a number is none.
     #[error("cm1lab: {word} is no number of an address or a length")]
     Number { word: String },
+    /// A word that is to be a flag is none.
+    #[error("cm1lab: {word} is no number of a flag, 0 to 15")]
+    Flag { word: String },
     #[error("cm1lab: {0}")]
     Field(FieldFault),
     /// What is wrong with a file.
@@ -44,6 +47,14 @@ impl Fault {
         }
     }
 
+    /// A word that is no flag.
+    pub fn flag(alloc: Global, word: &str) -> Fault {
+        match String::from_str(alloc, word) {
+            Ok(word) => Fault::Flag { word },
+            Err(_) => Fault::Memory,
+        }
+    }
+
     /// What is wrong with a file.
     pub fn file(alloc: Global, path: &str, what: &'static str) -> Fault {
         match String::from_str(alloc, path) {
@@ -52,7 +63,7 @@ impl Fault {
         }
     }
 
-    /// What is wrong with an image.
+    /// What is wrong with an image, or with a picture.
     pub fn image(alloc: Global, path: &str, fault: LabFault) -> Fault {
         match String::from_str(alloc, path) {
             Ok(path) => Fault::Image { path, fault },
@@ -64,7 +75,7 @@ impl Fault {
     pub fn status(&self) -> u8 {
         match self {
             Fault::Help => 0,
-            Fault::Words | Fault::Number { .. } => 2,
+            Fault::Words | Fault::Number { .. } | Fault::Flag { .. } => 2,
             Fault::Memory => 3,
             Fault::File { .. } | Fault::Input(_) | Fault::Output => 4,
             _ => 1,

@@ -19,12 +19,13 @@ struct NewFile<F> {
     file: F,
 }
 
-/// The bytes of a file, at most so many.
+/// The bytes of a file, at most so many, for what they are to be.
 pub fn read_file<R: Files>(
     rt: &R,
     alloc: Global,
     path: &str,
     limit: u64,
+    too_much: &'static str,
 ) -> Result<Vec<u8>, Fault> {
     let Ok(file) = fs::open(rt, path) else {
         return Err(Fault::file(alloc, path, "cannot be opened"));
@@ -32,7 +33,7 @@ pub fn read_file<R: Files>(
     match take(alloc, &mut Std::new(file), limit) {
         Ok(bytes) => Ok(bytes),
         Err(TakeFault::Read) => Err(Fault::file(alloc, path, "cannot be read")),
-        Err(TakeFault::TooMuch) => Err(Fault::file(alloc, path, "has too many bytes for an image")),
+        Err(TakeFault::TooMuch) => Err(Fault::file(alloc, path, too_much)),
         Err(TakeFault::Memory) => Err(Fault::Memory),
     }
 }

@@ -1,4 +1,4 @@
-//! The laboratory: data of all processors, out of a machine's image and into it. This is its words, its files, its
+//! The laboratory: data and pictures of all processors, out of a machine's image and into it. This is its words, its files, its
 //! standard input and output; what it does is in cm_lab.
 #![tactic(auto)]
 
@@ -23,6 +23,9 @@ const IMAGE_LIMIT: u64 = 134217728;
 
 /// Most bytes of a text of numbers.
 const NUMBERS_LIMIT: u64 = 16777216;
+
+/// Most bytes of a picture.
+const PICTURE_LIMIT: u64 = 16777216;
 
 fn main(rt: HostRuntime) -> ExitCode {
     match run(&rt, rt.alloc()) {
@@ -55,7 +58,13 @@ fn run<R: Input + Print + Env + Files + AllocGlobal>(rt: &R, alloc: Global) -> R
         }
     }
     let asked = read_words(alloc, words.as_slice())?;
-    let image = read_file(rt, alloc, asked.image, IMAGE_LIMIT)?;
+    let image = read_file(
+        rt,
+        alloc,
+        asked.image,
+        IMAGE_LIMIT,
+        "has too many bytes for an image",
+    )?;
     match asked.out {
         None => show(rt, alloc, &asked, image.as_slice()),
         Some(out) => fill(rt, alloc, &asked, image.as_slice(), out),
@@ -74,7 +83,7 @@ fn show<R: Print>(rt: &R, alloc: Global, asked: &Asked<'_>, image: &[u8]) -> Res
     }
 }
 
-/// What stands on standard input goes into the machine, whose image goes into a file.
+/// What is given goes into the machine, whose image goes into a file.
 fn fill<R: Input + Files + AllocGlobal>(
     rt: &R,
     alloc: Global,
@@ -82,14 +91,28 @@ fn fill<R: Input + Files + AllocGlobal>(
     image: &[u8],
     out: &str,
 ) -> Result<(), Fault> {
-    let numbers = match take(alloc, &mut Std::new(rt.reader()), NUMBERS_LIMIT) {
-        Ok(numbers) => numbers,
-        Err(TakeFault::Read) => return Err(Fault::Input("cannot be read")),
-        Err(TakeFault::TooMuch) => return Err(Fault::Input("has more than 16777216 bytes")),
-        Err(TakeFault::Memory) => return Err(Fault::Memory),
+    let given = match asked.picture {
+        Some(path) => read_file(
+            rt,
+            alloc,
+            path,
+            PICTURE_LIMIT,
+            "has too many bytes for a picture",
+        )?,
+        None => read_input(rt, alloc)?,
     };
-    let left = performed(alloc, asked, image, numbers.as_slice())?;
+    let left = performed(alloc, asked, image, given.as_slice())?;
     write_file(rt, out, left.as_slice())
+}
+
+/// What stands on standard input.
+fn read_input<R: Input>(rt: &R, alloc: Global) -> Result<Vec<u8>, Fault> {
+    match take(alloc, &mut Std::new(rt.reader()), NUMBERS_LIMIT) {
+        Ok(numbers) => Ok(numbers),
+        Err(TakeFault::Read) => Err(Fault::Input("cannot be read")),
+        Err(TakeFault::TooMuch) => Err(Fault::Input("has more than 16777216 bytes")),
+        Err(TakeFault::Memory) => Err(Fault::Memory),
+    }
 }
 
 /// What cm_lab makes of the image and of what is given.
@@ -103,6 +126,16 @@ fn performed(
         Ok(made) => Ok(made),
         Err(LabFault::Memory) => Err(Fault::Memory),
         Err(LabFault::Numbers(fault)) => Err(Fault::Numbers(fault)),
-        Err(fault) => Err(Fault::image(alloc, asked.image, fault)),
+        Err(fault) => Err(Fault::image(alloc, told_of(asked, fault), fault)),
+    }
+}
+
+/// The file of which a fault is told.
+fn told_of<'a>(asked: &Asked<'a>, fault: LabFault) -> &'a str {
+    match fault {
+        LabFault::Picture(_) | LabFault::Greatest(_) | LabFault::Field(_) => {
+            asked.picture.unwrap_or(asked.image)
+        }
+        _ => asked.image,
     }
 }

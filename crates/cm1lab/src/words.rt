@@ -1,13 +1,13 @@
 //! The words of the command line.
 
 use crate::fault::Fault;
-use cm_bits::Field;
-use cm_lab::{Order, Task};
+use cm_bits::{Field, FlagNo};
+use cm_lab::{Form, Order, Shown, Task};
 use std::alloc::Global;
 
 /// What help tells.
 pub const HELP: &str = "\
-Data of all processors, out of the image of a machine and into it
+Data and pictures of all processors, out of the image of a machine and into it
 
 cm1lab get IMAGE ADDRESS LENGTH
     tells the number that each processor has in a memory field, a line for each chip
@@ -16,15 +16,25 @@ cm1lab rows IMAGE ADDRESS LENGTH
 cm1lab put [--rows] IMAGE ADDRESS LENGTH OUT < NUMBERS
     puts a number into the field of each processor, and the image into the file OUT;
     they come chip by chip, with --rows row by row of the grid
+cm1lab picture [--plain] IMAGE flag NUMBER
+cm1lab picture [--plain] IMAGE ADDRESS LENGTH
+cm1lab picture [--plain] IMAGE buffers
+    tells a picture, the north row above, with a dot for each processor: its flag, or its
+    number in a memory field; or with a dot for each chip: how many messages stand there;
+    PBM (1 is black) where a dot has one bit, else PGM (0 is black), with --plain as a text
+cm1lab paint IMAGE PICTURE ADDRESS OUT
+    puts the dots of the file PICTURE, a PBM or a PGM, into a field of each processor that
+    begins at ADDRESS and has as many bits as a dot, and the image into the file OUT
 
 ADDRESS is that of the field's lowest bit, 0 to 4095, and LENGTH how many bits it has, 1 to 64.
-IMAGE is a file that cm1 fresh, cm1 run --out or cm1lab put wrote.";
+IMAGE is a file that cm1 fresh, cm1 run --out or cm1lab wrote.";
 
-/// What the words ask for: of which image, and into which file, if the machine changes.
+/// What the words ask for: of which image, with which file of a picture, and into which file, if the machine changes.
 #[derive(Clone, Copy)]
 pub struct Asked<'a> {
     pub task: Task,
     pub image: &'a str,
+    pub picture: Option<&'a str>,
     pub out: Option<&'a str>,
 }
 
@@ -37,6 +47,9 @@ pub fn read_words<'a>(alloc: Global, words: &[&'a str]) -> Result<Asked<'a>, Fau
         [_, "put", "--rows", image, at, len, out] => {
             filled(alloc, Order::Rows, image, at, len, out)
         }
+        [_, "picture", "--plain", rest @ ..] => pictured(alloc, Form::Plain, rest),
+        [_, "picture", rest @ ..] => pictured(alloc, Form::Raw, rest),
+        [_, "paint", image, picture, at, out] => painted(alloc, image, picture, at, out),
         [_, "--help"] | [_, "-h"] | [_, "help"] => Err(Fault::Help),
         _ => Err(Fault::Words),
     }
@@ -52,6 +65,7 @@ fn shown<'a>(
     Ok(Asked {
         task: Task::Get(order, field(alloc, at, len)?),
         image,
+        picture: None,
         out: None,
     })
 }
@@ -67,8 +81,51 @@ fn filled<'a>(
     Ok(Asked {
         task: Task::Put(order, field(alloc, at, len)?),
         image,
+        picture: None,
         out: Some(out),
     })
+}
+
+/// What is shown is told by the words behind `picture`.
+fn pictured<'a>(alloc: Global, form: Form, words: &[&'a str]) -> Result<Asked<'a>, Fault> {
+    let (image, shown) = match words {
+        [image, "buffers"] => (*image, Shown::Buffers),
+        [image, "flag", number] => (*image, Shown::Flag(flag(alloc, number)?)),
+        [image, at, len] => (*image, Shown::Number(field(alloc, at, len)?)),
+        _ => return Err(Fault::Words),
+    };
+    Ok(Asked {
+        task: Task::Show(shown, form),
+        image,
+        picture: None,
+        out: None,
+    })
+}
+
+fn painted<'a>(
+    alloc: Global,
+    image: &'a str,
+    picture: &'a str,
+    at: &str,
+    out: &'a str,
+) -> Result<Asked<'a>, Fault> {
+    Ok(Asked {
+        task: Task::Paint(number(alloc, at)?),
+        image,
+        picture: Some(picture),
+        out: Some(out),
+    })
+}
+
+fn flag(alloc: Global, word: &str) -> Result<FlagNo, Fault> {
+    let number = word
+        .parse::<u8>()
+        .ok()
+        .and_then(|number| FlagNo::new(number));
+    match number {
+        Some(number) => Ok(number),
+        None => Err(Fault::flag(alloc, word)),
+    }
 }
 
 /// The field of an address and a length.

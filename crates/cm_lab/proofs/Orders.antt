@@ -13,11 +13,19 @@ use Rattle.cm_lab.specs.Data.{processors, place_in, index_in}
 use Rattle.cm_lab.specs.DataLaws.{AreOrdered}
 
 -- the grid has as many places as there are processors
-grid_size : (n : ℕ) → columns n * rows n ≡ processors n
+pub grid_size : (n : ℕ) → columns n * rows n ≡ processors n
 grid_size n =
     let split : 2 ^ n ≡ chip_columns n * 2 ^ (n - n / 2) = chips_in_rows n in
     let sixteen : 4 * chip_columns n * (4 * 2 ^ (n - n / 2)) ≡ 16 * (chip_columns n * 2 ^ (n - n / 2)) = omega arith in
     sixteen ∙ ap (λ (k : ℕ). 16 * k) (sym split)
+
+-- the same, rows first
+pub grid_rows : (n : ℕ) → processors n ≡ rows n * columns n
+grid_rows n = sym (grid_size n) ∙ omega arith
+
+-- the chips are so many rows of so many
+pub chips_in_columns : (n : ℕ) → 2 ^ n ≡ 2 ^ (n - n / 2) * chip_columns n
+chips_in_columns n = chips_in_rows n ∙ omega arith
 
 -- the row in which the processor of an index stands
 pub row-lt : (n i : ℕ) → i < processors n → i / columns n < rows n

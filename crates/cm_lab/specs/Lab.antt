@@ -1,20 +1,49 @@
 -- What the laboratory does with an image: the text that it tells, or the image that it leaves. Ours.
-use Rattle.std.specs.Prelude.{◌≡◌, ℕ, ◌==◌, ◌||◌, Bool, Result, Ok, Err, List, if◌then◌else◌}
+use Rattle.std.specs.Prelude.{◌≡◌, ℕ, ◌==◌, ◌||◌, Bool, Option, Some, None, Result, Ok, Err, List, if◌then◌else◌}
+use Rattle.cm_bits.specs.declared.field.FieldFault.{FieldFault}
+use Rattle.cm_bits.specs.Field.{field_fault}
+use Rattle.cm_model.specs.Place.{rows, columns}
 use Rattle.cm_model.specs.Machine.{Machine}
 use Rattle.cm_image_format.specs.declared.fault.ImageFault.{ImageFault}
 use Rattle.cm_image_format.specs.Whole.{read_shape, read_image, text_of}
-use Rattle.cm_lab.specs.declared.numbers.NumbersFault.{NumbersFault}
+use Rattle.cm_figures.specs.declared.numbers.NumbersFault.{NumbersFault}
 use Rattle.cm_lab.specs.declared.lab.Task.{Task}
-use Rattle.cm_lab.specs.declared.lab.Task.TheVariants.{Get, Put}
+use Rattle.cm_lab.specs.declared.lab.Task.TheVariants.{Get, Put, Show, Paint}
 use Rattle.cm_lab.specs.declared.lab.LabFault.{LabFault}
-use Rattle.cm_lab.specs.declared.lab.LabFault.TheVariants.{Image, Room, Numbers}
+use Rattle.cm_lab.specs.declared.lab.LabFault.TheVariants.{Image, Room, Numbers, Wide, Picture, Greatest, Field}
+use Rattle.cm_lab.specs.declared.order.Order.TheVariants.{Rows as by_rows}
 use Rattle.cm_lab.specs.Data.{processors, width_in, numbers_of, machine_with_numbers}
-use Rattle.cm_lab.specs.Numbers.{numbers_in, numbers_text}
+use Rattle.cm_lab.specs.Pictures.{is_narrow, picture_of, bits_of}
+use Rattle.cm_figures.specs.declared.picture_reading.PictureFault.{PictureFault}
+use Rattle.cm_figures.specs.Numbers.{numbers_in, numbers_text}
+use Rattle.cm_figures.specs.Pictures.{Dots, picture_text}
+use Rattle.cm_figures.specs.PictureReading.{picture_in}
 
 -- what is made of numbers, if they are those that are wanted
 abbrev pub of_numbers : (List ℕ → List ℕ) → Result (List ℕ) NumbersFault → Result (List ℕ) LabFault
 of_numbers made (Ok numbers) = Ok (made numbers)
 of_numbers made (Err fault) = Err (Numbers fault)
+
+-- the image of the machine with the dots of a picture in a field, if there is such a field
+abbrev pub of_field : (List ℕ) → Option FieldFault → Result (List ℕ) LabFault
+of_field image None = Ok image
+of_field image (Some fault) = Err (Field fault)
+
+-- the same, if the greatest number of a dot is that of a field
+abbrev pub of_bits : (ℕ → List ℕ) → ℕ → Dots → Option ℕ → Result (List ℕ) LabFault
+of_bits image at picture (Some len) = of_field (image len) (field_fault at len)
+of_bits image at picture None = Err (Greatest picture.greatest)
+
+-- the same, if it is a picture
+abbrev pub of_picture : ℕ → ℕ → ℕ → Machine → Result Dots PictureFault → Result (List ℕ) LabFault
+of_picture n cap at machine (Ok picture) =
+    of_bits (λ len. text_of n cap (machine_with_numbers n by_rows at len picture.dots machine)) at picture
+    (bits_of picture.greatest)
+of_picture n cap at machine (Err fault) = Err (Picture fault)
+
+-- a text that is no picture is refused with this fault
+abbrev pub IsNoPicture : Result Dots PictureFault → LabFault → Type 0
+IsNoPicture read fault = (n cap at : ℕ) (machine : Machine) → of_picture n cap at machine read ≡ Err fault
 
 -- what a task makes of a machine on a cube of n dimensions whose routers have room for cap messages each,
 -- and of what is given
@@ -24,6 +53,9 @@ work_of n cap (Get order field) given machine =
 work_of n cap (Put order field) given machine =
     of_numbers (λ numbers. text_of n cap (machine_with_numbers n order field.at field.len numbers machine))
     (numbers_in field.len (processors n) given)
+work_of n cap (Show shown form) given machine =
+    if is_narrow shown then Ok (picture_text form (picture_of n cap shown machine)) else Err Wide
+work_of n cap (Paint at) given machine = of_picture n cap at machine (picture_in (columns n) (rows n) given)
 
 -- the rooms of the laboratory's machines
 abbrev pub is_own_room : ℕ → Bool

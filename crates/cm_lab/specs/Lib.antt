@@ -1,4 +1,5 @@
 pub mod Data
 pub mod DataLaws
 pub mod Lab
-pub mod Numbers
+pub mod PictureLaws
+pub mod Pictures

@@ -23,6 +23,7 @@ pub fn get<const N: usize, const CAP: usize>(
 ) -> Result<Vec<u64>, NoMemory>
     ensures value { IfOk result (λ numbers. numbers.items
         ≡ numbers_of N order field.at field.len machine.now.machine.chips) }
+    ensures count { IfOk result (λ numbers. length numbers.items ≡ processors N) }
 {
     let _dims = machine.dims();
     let count = processors::<N>();

@@ -1,15 +1,23 @@
 //! What the laboratory does with an image: from bytes to bytes.
 
-ghost use Rattle.std.specs.Prelude.{◌≡◌, ◌≢◌, ◌≤◌, true, [], Ok, Err, IfOk, IfErr};
+ghost use Rattle.std.specs.Prelude.{◌≡◌, ◌≢◌, ◌≤◌, ◌<◌, ◌*◌, true, [], Ok, Err, IfOk, IfErr, length};
+ghost use Rattle.cm_model.specs.Place.{rows, columns};
+ghost use Rattle.cm_figures.specs.Pictures.{seen, picture_text};
+ghost use Rattle.cm_figures.specs.PictureReading.{picture_in};
+ghost use Rattle.cm_lab.specs.Data.{processors};
 ghost use Rattle.cm_image_format.specs.Whole.{read_shape, read_image};
 ghost use Rattle.cm_lab.specs.declared.lab.Task.TheVariants as task;
-ghost use Rattle.cm_lab.specs.Lab.{is_own_room, work_of, done_with, IsRefused};
+ghost use Rattle.cm_lab.specs.Lab.{is_own_room, work_of, done_with, IsRefused, IsNoPicture};
 
 use crate::data::{get, put};
-use crate::numbers::{NumbersFault, read_numbers, write_numbers};
-use crate::order::{Order, processors};
+use crate::order::{Order, columns, processors, rows};
+use crate::pictures::{ShowFault, Shown, bits_of, show};
 use cm_array::Machine;
-use cm_bits::Field;
+use cm_bits::{Field, FieldFault};
+use cm_figures::{
+    Form, NumbersFault, Picture, PictureFault, read_numbers, read_picture, write_numbers,
+    write_picture,
+};
 use cm_image::{ImageFault, dump, load, shape};
 use std::alloc::Global;
 use thiserror::Error;
@@ -21,6 +29,10 @@ pub enum Task {
     Get(Order, Field),
     /// The numbers that are given are put into a field of all processors.
     Put(Order, Field),
+    /// The picture of it is told.
+    Show(Shown, Form),
+    /// The dots of the picture that is given are put into a field of all processors, which begins at this address.
+    Paint(u16),
 }
 
 /// Why nothing was done.
@@ -35,6 +47,18 @@ pub enum LabFault {
     /// What was given is not one number for each processor.
     #[error("{0}")]
     Numbers(NumbersFault),
+    /// A picture of numbers of more bits.
+    #[error("a picture has numbers of at most 16 bits")]
+    Wide,
+    /// What was given is not a picture with a dot for each processor.
+    #[error("{0}")]
+    Picture(PictureFault),
+    /// Its greatest number is not that of a field.
+    #[error("the greatest value is {0}, none of 1, 3, 7 and so on to 65535; pamdepth 255 makes it 255")]
+    Greatest(u16),
+    /// There is no such field.
+    #[error("{0}")]
+    Field(FieldFault),
     #[error("out of memory")]
     Memory,
 }
@@ -120,6 +144,8 @@ fn work<const N: usize, const CAP: usize>(
     match task {
         Task::Get(order, field) => told(alloc, machine, order, field),
         Task::Put(order, field) => filled(alloc, machine, order, field, given),
+        Task::Show(shown, form) => pictured(alloc, machine, shown, form),
+        Task::Paint(at) => painted(alloc, machine, at, given),
     }
 }
 
@@ -192,5 +218,83 @@ fn filled<const N: usize, const CAP: usize>(
     match dump(alloc, machine) {
         Ok(text) => Ok(text),
         Err(_) => Err(LabFault::Memory),
+    }
+}
+
+/// The picture of a machine.
+fn pictured<const N: usize, const CAP: usize>(
+    alloc: Global,
+    machine: &Machine<N, CAP>,
+    shown: Shown,
+    form: Form,
+) -> Result<Vec<u8>, LabFault>
+    ensures value { IfOk result
+        (λ text. work_of N CAP (task.Show shown form) [] machine.now.machine ≡ Ok text.items) }
+    ensures refused { IfErr result (λ fault. fault ≢ LabFault.Memory
+        → work_of N CAP (task.Show shown form) [] machine.now.machine ≡ Err fault) }
+{
+    match show(alloc, machine, shown) {
+        Ok(picture) => drawn(alloc, &picture, form),
+        Err(ShowFault::Wide) => Err(LabFault::Wide),
+        Err(ShowFault::Memory) => Err(LabFault::Memory),
+    }
+}
+
+/// The text of a picture.
+fn drawn(alloc: Global, picture: &Picture, form: Form) -> Result<Vec<u8>, LabFault>
+    requires some { 0 < picture.now.width }
+    requires dots { length picture.now.dots.items ≡ picture.now.height * picture.now.width }
+    ensures value { IfOk result (λ text. text.items ≡ picture_text form (seen picture.now)) }
+    ensures memory { IfErr result (λ fault. fault ≡ LabFault.Memory) }
+{
+    match write_picture(alloc, picture, form) {
+        Ok(text) => Ok(text),
+        Err(_) => Err(LabFault::Memory),
+    }
+}
+
+/// The image of a machine into which the dots of a picture were put.
+fn painted<const N: usize, const CAP: usize>(
+    alloc: Global,
+    machine: &mut Machine<N, CAP>,
+    at: u16,
+    given: &[u8],
+) -> Result<Vec<u8>, LabFault>
+    ensures value { IfOk result
+        (λ text. work_of N CAP (task.Paint at) given.now machine.old.machine ≡ Ok text.items) }
+    ensures refused { IfErr result (λ fault. fault ≢ LabFault.Memory
+        → work_of N CAP (task.Paint at) given.now machine.old.machine ≡ Err fault) }
+{
+    let _clock = machine.clock();
+    let picture = match read_grid::<N>(alloc, given) {
+        Ok(picture) => picture,
+        Err(fault) => return Err(fault),
+    };
+    let Some(len) = bits_of(picture.greatest) else {
+        return Err(LabFault::Greatest(picture.greatest));
+    };
+    let field = match Field::new(at, len) {
+        Ok(field) => field,
+        Err(fault) => return Err(LabFault::Field(fault)),
+    };
+    put(machine, Order::Rows, field, &picture.dots);
+    match dump(alloc, machine) {
+        Ok(text) => Ok(text),
+        Err(_) => Err(LabFault::Memory),
+    }
+}
+
+/// The picture of a text, which is to have a dot for each processor.
+fn read_grid<const N: usize>(alloc: Global, given: &[u8]) -> Result<Picture, LabFault>
+    requires dimension { N ≤ 12 }
+    ensures value { IfOk result (λ picture. picture_in (columns N) (rows N) given.now ≡ Ok (seen picture)) }
+    ensures count { IfOk result (λ picture. length picture.dots.items ≡ processors N) }
+    ensures refused { IfErr result (λ fault. fault ≢ LabFault.Memory
+        → IsNoPicture (picture_in (columns N) (rows N) given.now) fault) }
+{
+    match read_picture(alloc, given, columns::<N>() as u16, rows::<N>() as u16) {
+        Ok(picture) => Ok(picture),
+        Err(PictureFault::Memory) => Err(LabFault::Memory),
+        Err(fault) => Err(LabFault::Picture(fault)),
     }
 }

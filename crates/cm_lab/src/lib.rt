@@ -1,14 +1,20 @@
-//! The laboratory: data that goes into machines and comes out of them.
+//! The laboratory: data and pictures that go into machines and come out of them.
 #![tactic(auto)]
 
 mod data;
 mod data_laws;
 mod lab;
-mod numbers;
 mod order;
+mod picture_laws;
+mod pictures;
 
+pub use cm_figures::{
+    Form, NumbersFault, Picture, PictureFault, read_numbers, read_picture, write_numbers,
+    write_picture,
+};
 pub use data::{get, put};
 pub use data_laws::{each_processor_comes_once, numbers_read_back};
 pub use lab::{LabFault, Task, perform};
-pub use numbers::{NumbersFault, read_numbers, write_numbers};
 pub use order::Order;
+pub use picture_laws::{dots_are_places, pictures_read_back};
+pub use pictures::{ShowFault, Shown, show};

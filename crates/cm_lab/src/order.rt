@@ -4,6 +4,7 @@ ghost use Rattle.std.specs.Prelude.{◌≡◌, ◌*◌, ◌^◌, ◌<◌, ◌≤
 ghost use Rattle.cm_model.specs.Laws.{IsPlace};
 ghost use Rattle.cm_model.specs.Place.{rows, columns, chip_columns, row_of, column_of, place_at};
 ghost use Rattle.cm_lab.specs.Data.{processors, place_in, index_in, width_in};
+ghost use Rattle.cm_lab.specs.Pictures.{chip_rows};
 
 use cm_bits::{Place, Proc};
 
@@ -88,14 +89,32 @@ pub(crate) fn columns<const N: usize>() -> usize
     4 * chip_columns::<N>()
 }
 
+/// How many rows its grid has.
+pub(crate) fn rows<const N: usize>() -> usize
+    requires dimension { N ≤ 12 }
+    ensures value { result ≡ rows N }
+    ensures within { result ≤ 256 }
+{
+    4 * chip_rows::<N>()
+}
+
 /// How many chips stand in a row of chips.
-fn chip_columns<const N: usize>() -> usize
+pub(crate) fn chip_columns<const N: usize>() -> usize
     requires dimension { N ≤ 12 }
     ensures value { result ≡ chip_columns N }
     ensures some { 0 < result }
     ensures within { result ≤ 64 }
 {
     1 << (N / 2)
+}
+
+/// How many rows of chips there are.
+pub(crate) fn chip_rows<const N: usize>() -> usize
+    requires dimension { N ≤ 12 }
+    ensures value { result ≡ chip_rows N }
+    ensures within { result ≤ 64 }
+{
+    1 << (N - N / 2)
 }
 
 /// The place in a row and a column.

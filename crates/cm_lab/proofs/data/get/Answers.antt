@@ -1,9 +1,10 @@
-use Rattle.std.proofs.Common.{◌≡◌, ℕ, ◌++◌, ◌∷◌, [], ap, ◌∙◌, sym, arith}
+use Rattle.std.proofs.Common.{◌≡◌, ℕ, ◌++◌, ◌∷◌, [], length, ap, ◌∙◌, sym, arith}
 use Rattle.cm_bits.specs.declared.place.Place.{Place}
 use Rattle.cm_model.specs.Each.{each_from}
 use Rattle.cm_model.specs.Processor.{field_value}
 use Rattle.cm_model.specs.Chip.{processor_at}
 use Rattle.cm_model.specs.Array.{processor_of}
+use Rattle.cm_model.proofs.Each.{length-each_from}
 use Rattle.cm_lab.specs.Data.{processors, place_in, numbers_of}
 use Rattle.cm_lab.proofs.Filling.{each_from-more}
 use Rattle.cm_lab.proofs.data.get.Goals as goal
@@ -37,4 +38,6 @@ returns g c =
       c.loop-index.auto.index-end,
       c.processors-count.ensures.value,
     ) in
-    record { value = c.loop-index.invariant ∙ ap (λ (count : ℕ). each_from 0 count read) all }
+    let value : c.loop-index.numbers.items ≡ each_from 0 (processors g.row.N) read =
+    c.loop-index.invariant ∙ ap (λ (count : ℕ). each_from 0 count read) all in
+    record { value = value; count = ap length value ∙ length-each_from 0 (processors g.row.N) read }
