@@ -195,7 +195,7 @@ flags_all c f m flags l long most =
     ap (λ (k : List ℕ). with_flags c m k) (ap (λ (k : ℕ). take f flags ++ replicate k 0) none
     ∙ (append-nil (take f flags) ∙ take_all f flags (omega (arith, long))))
 
-messages_all : (c : ℕ) (m : Machine) (ms : List Message) → c < length m.buffers
+pub messages_all : (c : ℕ) (m : Machine) (ms : List Message) → c < length m.buffers
     → fold (with_message c) m ms ≡ record m { buffers = set m.buffers c (list_at m.buffers c ++ ms) }
 messages_all c m [] h =
     ap (λ (buffers : List (List Message)). record m { buffers = buffers })

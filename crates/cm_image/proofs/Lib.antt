@@ -1,5 +1,7 @@
 mod Filling
 mod Taking
+mod Nearing
+mod Waiting
 mod Building
 mod Loading
 mod Dumping

@@ -1,20 +1,26 @@
 -- From the parts of an image to the whole, and from its machine to what is answered.
 use Rattle.std.proofs.Common.{◌≡◌, ℕ, zero, suc, ◌+◌, ◌-◌, ◌<◌, ◌≤◌, ◌^◌, Bool, true, false, List, [], ◌∷◌, ◌++◌}
-use Rattle.std.proofs.Common.{map, fold, Result, Ok, Err, length, refl, sym, ap, ◌∙◌, subst, arith, if◌then◌else◌}
+use Rattle.std.proofs.Common.{map, fold, set, Result, Ok, Err, IfOk, IfErr, length, refl, sym, ap, ◌∙◌, subst, arith, if◌then◌else◌}
 use Rattle.std.specs.List.{flat_map}
-use Rattle.std.proofs.lemmas.List.{nil_from_length}
+use Rattle.std.proofs.lemmas.List.{nil_from_length, length_push}
 use Rattle.cm_model.specs.declared.message.Message.{Message}
+use Rattle.cm_model.specs.Processor.{Processor}
+use Rattle.cm_model.specs.Array.{Chips, list_at}
 use Rattle.cm_model.specs.Machine.{Machine}
 use Rattle.cm_model.specs.Unlogged.{standing_messages, has_tag_twice}
 use Rattle.cm_image_format.specs.declared.fault.ImageFault.{ImageFault}
 use Rattle.cm_image_format.specs.declared.fault.ImageFault.TheVariants.{TagTwice, Extra}
 use Rattle.cm_image_format.specs.Reading.{◌>>=◌, Read, made, many}
-use Rattle.cm_image_format.specs.Image.{ChipImage, header_part, flags_part, memory_part, messages_part, chip_part}
-use Rattle.cm_image_format.specs.Whole.{Image, machine_from, messages_in, image_part, ended, read_image}
+use Rattle.cm_image_format.specs.Image.{Listed, ChipImage, header_part, flags_part, memory_part, messages_part, chip_part}
+use Rattle.cm_element.specs.Near.{with_near}
+use Rattle.cm_element.specs.Planes.{chip_of}
+use Rattle.cm_image_format.specs.Whole.{planes_of, chip_from, Image, machine_from, messages_in, image_part, ended, read_image}
 use Rattle.cm_image.specs.Chips.{with_flags, with_listed, with_message, with_chip_image, IsBlankFrom, blank_at}
 use Rattle.cm_image.specs.Chips.{chips_part, machine_of_chips}
+use Rattle.cm_image.specs.Tile.{with_waiting}
 use Rattle.cm_image.proofs.Filling.{fill, fill_on, fill_err, fill_done, fill_is, many_err}
-use Rattle.cm_image.proofs.Building.{chip_built, blank_from-next, put_chip, machine_built}
+use Rattle.cm_image.proofs.Building.{chip_built, blank_from-next, put_chip, machine_built, messages_all}
+use Rattle.cm_image.proofs.Nearing.{near_within, near_more}
 
 -- ---- what a value was made of
 
@@ -33,6 +39,16 @@ made_of f read bytes rest y is =
     let x = bound (read bytes) (λ x. Ok (f x.0, x.1)) (y, rest) is in
     let same : (f x.0.0, x.0.1) ≡ (y, rest) = same_ok (f x.0.0, x.0.1) (y, rest) x.2 in
     (x.0.0, x.1 ∙ ap (λ (k : List ℕ). Ok (x.0.0, k)) (ap (λ p. p.1) same), ap (λ p. p.0) same)
+
+-- what holds where there is a value, and where there is a fault
+pub with_value : {T : Type 0} (r : Result T ImageFault) (P Q : T → Type 0) → ((x : T) → P x → Q x) → IfOk r P → IfOk r Q
+with_value (Ok x) P Q f h = f x h
+with_value (Err fault) P Q f h = h
+
+pub with_fault : {T : Type 0} (r : Result T ImageFault) (P Q : ImageFault → Type 0)
+    → ((fault : ImageFault) → P fault → Q fault) → IfErr r P → IfErr r Q
+with_fault (Ok x) P Q f h = h
+with_fault (Err fault) P Q f h = f fault h
 
 -- ---- a chip
 
@@ -54,6 +70,50 @@ chip_read n cap clock c m flagged listed whole bytes after more rest flags h bla
     ∙ (ap (λ (z : Machine). fold (with_message c) (fold (with_listed c) z memory.0) messages.0) (sym with_them)
     ∙ (ap (λ (z : Machine). fold (with_message c) z messages.0) memory.2 ∙ messages.2)) in
     rw (flags_are, memory.1, messages.1) (ap (λ (z : Machine). Ok (z, rest)) built)
+
+-- the same, where all memory planes are listed: the chip waits behind others
+pub full_read : (n cap clock c : ℕ) (m whole : Machine) (waiting more_wait : Chips)
+    (bytes after more rest flags : List ℕ) → c < 2 ^ n → length waiting ≤ c → IsBlankFrom n c (with_waiting c m waiting)
+    → flags_part bytes ≡ Ok (flags, after)
+    → made (λ listed. waiting ++ chip_of (planes_of listed) flags ∷ []) memory_part after ≡ Ok (more_wait, more)
+    → made (λ xs. fold (with_message c) m xs) (messages_part n cap clock) more ≡ Ok (whole, rest)
+    → made (with_chip_image c (with_waiting c m waiting)) (chip_part n cap clock) bytes
+    ≡ Ok (with_waiting (c + 1) whole more_wait, rest)
+unfolding chip_part with_chip_image chip_from chip_of
+full_read n cap clock c m whole waiting more_wait bytes after more rest flags h few blank flags_are memory_is
+    messages_are =
+    let memory = made_of (λ listed. waiting ++ chip_of (planes_of listed) flags ∷ []) memory_part after more more_wait
+    memory_is in
+    let messages = made_of (λ xs. fold (with_message c) m xs) (messages_part n cap clock) more rest whole
+    messages_are in
+    let image : ChipImage = record { flags = flags; memory = memory.0; messages = messages.0 } in
+    let chip : List Processor = chip_of (planes_of memory.0) flags in
+    let first : ℕ = c - length waiting in
+    let behind : first + length waiting ≡ c = omega (arith, few) in
+    let next : c + 1 - length (waiting ++ chip ∷ []) ≡ first = omega (arith, few, length_push waiting chip) in
+    let within : first + length waiting < length m.chips =
+    near_within m.chips waiting first (2 ^ n) blank.chip_count (omega (arith, behind, h)) in
+    let chips : set (with_near m.chips waiting first) c chip
+    ≡ with_near m.chips (waiting ++ chip ∷ []) (c + 1 - length (waiting ++ chip ∷ [])) =
+    ap (λ (k : ℕ). set (with_near m.chips waiting first) k chip) (sym behind)
+    ∙ sym (near_more m.chips waiting chip first within)
+    ∙ ap (λ (k : ℕ). with_near m.chips (waiting ++ chip ∷ []) k) (sym next) in
+    let buffer : messages.0 ≡ list_at m.buffers c ++ messages.0 =
+    ap (λ (b : List Message). b ++ messages.0) (sym (blank.buffers c (omega arith) h)) in
+    let built : with_chip_image c (with_waiting c m waiting) image ≡ with_waiting (c + 1) whole more_wait =
+    (λ i. record m { chips = chips i; buffers = set m.buffers c (buffer i) })
+    ∙ ap (λ (z : Machine). with_waiting (c + 1) z (waiting ++ chip ∷ []))
+    (sym (messages_all c m messages.0 (omega (arith, h, blank.buffer_count))) ∙ messages.2)
+    ∙ ap (λ (w : Chips). with_waiting (c + 1) whole w) memory.2 in
+    rw (flags_are, memory.1, messages.1) (ap (λ (z : Machine). Ok (z, rest)) built)
+
+pub full_wrong : {B : Type 0} (n cap clock : ℕ) (f : List Listed → B) (y : B) (bytes after more flags : List ℕ)
+    (fault : ImageFault) → flags_part bytes ≡ Ok (flags, after) → made f memory_part after ≡ Ok (y, more)
+    → messages_part n cap clock more ≡ Err fault → chip_part n cap clock bytes ≡ Err fault
+unfolding chip_part
+full_wrong n cap clock f y bytes after more flags fault flags_are memory_is is =
+    let memory = made_of f memory_part after more y memory_is in
+    rw (flags_are, memory.1, is) refl
 
 pub flags_wrong : (n cap clock : ℕ) (bytes : List ℕ) (fault : ImageFault) → flags_part bytes ≡ Err fault
     → chip_part n cap clock bytes ≡ Err fault

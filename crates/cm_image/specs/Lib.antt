@@ -1,2 +1,3 @@
 pub mod Planes
 pub mod Chips
+pub mod Tile

@@ -1,13 +1,16 @@
 //! The chips of an image.
 
-ghost use Rattle.std.specs.Prelude.{◌≡◌, ◌≤◌, ◌<◌, ◌^◌, IfOk, IfErr, OnOk, Ok, Err, fold, slice_index};
+ghost use Rattle.std.specs.Prelude.{◌≡◌, ◌≤◌, ◌<◌, ◌+◌, ◌^◌, ℕ, List, [], IfOk, IfErr, OnOk, Ok, Err, fold, length};
+ghost use Rattle.std.specs.Prelude.{slice_index};
 ghost use Rattle.cm_image_format.specs.Reading.{Gives, made};
 ghost use Rattle.cm_image_format.specs.Image.{flag_part, listed_part, flags_part, memory_part, chip_part};
 ghost use Rattle.cm_image.specs.Chips.{with_listed, with_flags, with_chip_image, IsBlankFrom, blank_at, chips_part};
 ghost use Rattle.cm_image.specs.Chips.{machine_of_chips};
+ghost use Rattle.cm_image.specs.Tile.{with_waiting};
 
 use crate::messages::take_messages;
 use crate::numbers::{chip_count, take_u16};
+use crate::tile::{LISTED_LEN, Tile};
 use cm_array::Builder;
 use cm_bits::{Addr, FlagNo, Plane};
 use cm_image_format::ImageFault;
@@ -104,9 +107,35 @@ fn put_flags<const N: usize, const CAP: usize>(
     }
 }
 
-/// Puts what an image has of a chip into it, and gives the bytes after it.
+/// Puts what follows the flag planes of a chip into it, beside these, and gives the bytes after it.
+fn take_listed_chip<'a, const N: usize, const CAP: usize>(
+    builder: &mut Builder<N, CAP>,
+    chip: u16,
+    chips: u16,
+    clock: u64,
+    flags: &[Plane; 16],
+    bytes: &'a [u8],
+) -> Result<&'a [u8], ImageFault>
+    requires cube { chips ≡ 2 ^ N }
+    requires chip { chip < chips }
+    requires blank { IsBlankFrom N chip builder.old }
+    requires clock { builder.old.clock ≡ clock }
+    requires zero { slice_index flags.now 8 ≡ 0 }
+    ensures ok { IfOk result (λ rest. (whole : List ℕ) → flags_part whole ≡ Ok (flags.now, bytes.now)
+        → made (with_chip_image chip builder.old) (chip_part N CAP clock) whole ≡ Ok (builder.new, rest.now)) }
+    ensures refused { IfErr result (λ fault. (whole : List ℕ) → flags_part whole ≡ Ok (flags.now, bytes.now)
+        → chip_part N CAP clock whole ≡ Err fault) }
+{
+    put_flags(builder, chip, flags);
+    let rest = take_memory(builder, chip, bytes)?;
+    take_messages(builder, chip, chips, clock, rest)
+}
+
+/// Takes in what an image has of a chip, and gives the bytes after it. A chip whose memory planes are all listed waits,
+/// with those in front of it that wait; any other is put into its place at once.
 fn take_chip<'a, const N: usize, const CAP: usize>(
     builder: &mut Builder<N, CAP>,
+    tile: &mut Tile,
     chip: u16,
     chips: u16,
     clock: u64,
@@ -114,26 +143,33 @@ fn take_chip<'a, const N: usize, const CAP: usize>(
 ) -> Result<&'a [u8], ImageFault>
     requires cube { chips ≡ 2 ^ N }
     requires chip { chip < chips }
-    requires blank { IsBlankFrom N chip builder.old }
+    requires waiting { length tile.old ≤ chip }
+    requires blank { IsBlankFrom N chip (with_waiting chip builder.old tile.old) }
     requires clock { builder.old.clock ≡ clock }
-    ensures ok { IfOk result (λ rest. made (with_chip_image chip builder.old) (chip_part N CAP clock) bytes.now
-        ≡ Ok (builder.new, rest.now)) }
+    ensures ok { IfOk result (λ rest. made (with_chip_image chip (with_waiting chip builder.old tile.old))
+        (chip_part N CAP clock) bytes.now ≡ Ok (with_waiting (chip + 1) builder.new tile.new, rest.now)) }
     ensures refused { IfErr result (λ fault. chip_part N CAP clock bytes.now ≡ Err fault) }
+    ensures waiting { OnOk result (length tile.new ≤ chip + 1) }
 {
     let (flags, rest) = take_flags(bytes)?;
-    put_flags(builder, chip, &flags);
-    let rest = take_memory(builder, chip, rest)?;
-    take_messages(builder, chip, chips, clock, rest)
+    tile.make_room(builder, chip);
+    if tile.push(&flags, rest) {
+        return take_messages(builder, chip, chips, clock, &rest[LISTED_LEN..]);
+    }
+    tile.put(builder, chip);
+    take_listed_chip(builder, chip, chips, clock, &flags, rest)
 }
 
 /// Puts what an image has of each chip into it, and gives the bytes after the last.
 pub(crate) fn take_chips<'a, const N: usize, const CAP: usize>(
     builder: &mut Builder<N, CAP>,
+    tile: &mut Tile,
     clock: u64,
     bytes: &'a [u8],
 ) -> Result<&'a [u8], ImageFault>
     requires dimension { N ≤ 12 }
     requires blank { builder.old ≡ blank_at N clock }
+    requires none { tile.old ≡ [] }
     ensures ok { IfOk result (λ rest. made (machine_of_chips clock) (chips_part N CAP clock) bytes.now
         ≡ Ok (builder.new, rest.now)) }
     ensures refused { IfErr result (λ fault. chips_part N CAP clock bytes.now ≡ Err fault) }
@@ -141,7 +177,8 @@ pub(crate) fn take_chips<'a, const N: usize, const CAP: usize>(
     let chips = chip_count::<N>();
     let mut rest = bytes;
     for chip in 0..chips {
-        rest = take_chip(builder, chip, chips, clock, rest)?;
+        rest = take_chip(builder, tile, chip, chips, clock, rest)?;
     }
+    tile.put(builder, chips);
     Ok(rest)
 }

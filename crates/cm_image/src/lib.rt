@@ -8,6 +8,7 @@ mod header;
 mod loads;
 mod messages;
 mod numbers;
+mod tile;
 
 pub use cm_image_format::ImageFault;
 pub use dumps::dump;

@@ -7,6 +7,7 @@ ghost use Rattle.cm_image_format.specs.Whole.{read_image, image_fault, header_fa
 
 use crate::chips::take_chips;
 use crate::header::take_header;
+use crate::tile::Tile;
 use cm_array::{BuildFault, Builder, Machine};
 use cm_image_format::ImageFault;
 use std::alloc::Global;
@@ -27,7 +28,10 @@ pub fn load<const N: usize, const CAP: usize>(
     let Ok(mut builder) = Builder::start(alloc, clock) else {
         return Err(ImageFault::Memory);
     };
-    let rest = take_chips(&mut builder, clock, rest)?;
+    let Ok(mut tile) = Tile::new(alloc) else {
+        return Err(ImageFault::Memory);
+    };
+    let rest = take_chips(&mut builder, &mut tile, clock, rest)?;
     let machine = finished(builder)?;
     if !rest.is_empty() {
         return Err(ImageFault::Extra);

@@ -19,7 +19,7 @@ use crate::post::Post;
 use crate::running::{Sizes, run_blocks};
 use crate::turn::Crew;
 use crate::want::Want;
-use cm_array::{Machine, RunFault, Runner, check_stretch};
+use cm_array::{Machine, Plain, RunFault, Runner, check_stretch};
 use cm_bits::NoMemory;
 use cm_model::Act;
 use cm_subcube::{SplitFault, join, rounds, split};
@@ -27,6 +27,9 @@ use std::alloc::Global;
 use std::sync::Wait;
 use std::thread::Threads;
 use thiserror::Error;
+
+/// So many times a chip goes through an act before blocks of 4,096 chips are cut and put together.
+const SOON: usize = 1 << 22;
 
 /// Why there is no such runner.
 #[derive(Clone, Copy, Debug, PartialEq, Eq, Error)]
@@ -191,11 +194,38 @@ fn fork<const N: usize, const CAP: usize, R: Threads + Wait>(
 {
     let _clock = machine.clock();
     admit_all(passage, sizes.workers)?;
+    if is_soon_done(passage, sizes.dims, acts, cycles) {
+        return run_alone(machine, acts);
+    }
     let rounds = rounds(alloc, sizes.dims, acts, sizes.k)?;
     let all = cut_up(alloc, machine, sizes, cycles)?;
     let after = run_blocks(rt, alloc, sizes, acts, &rounds, passage, all)?;
     join(after.blocks, machine);
     Ok(())
+}
+
+/// Whether nobody looks, and a list is run before blocks were cut: it has no petit cycle, and few acts for that many
+/// chips.
+fn is_soon_done(passage: &Passage, dims: u8, acts: &[Act], cycles: usize) -> bool
+    requires dimension { dims ≤ 12 }
+{
+    matches!(passage, Passage::Open) && cycles == 0 && acts.len() <= SOON >> dims
+}
+
+/// A machine goes through a run in the thread of the caller.
+fn run_alone<const N: usize, const CAP: usize>(
+    machine: &mut Machine<N, CAP>,
+    acts: &[Act],
+) -> Result<(), Want>
+    ensures ok { OnOk result (machine.new.machine ≡ run_of N CAP machine.old.machine acts.now) }
+    ensures account { OnOk result (SameLines (account N machine.new.machine)
+        (account N machine.old.machine ++ newly_injected N machine.old.machine machine.new.machine)) }
+    ensures err { OnErr result (machine.new.machine ≡ machine.old.machine) }
+{
+    match Plain.go(machine, acts) {
+        Ok(()) => Ok(()),
+        Err(_fault) => Err(Want::Memory),
+    }
 }
 
 /// Asks whether the workers may begin, the one with the lowest number first.

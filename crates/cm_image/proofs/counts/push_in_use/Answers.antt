@@ -1,4 +1,4 @@
-use Rattle.std.proofs.Common.{◌≡◌, ◌+◌, ◌^◌, ℕ, ◌++◌, ◌∷◌, [], List, refl, sym, subst}
+use Rattle.std.proofs.Common.{◌≡◌, ◌+◌, ◌^◌, ℕ, List, refl, sym, subst}
 use Rattle.cm_model.specs.Array.{chip_at}
 use Rattle.cm_image.specs.Planes.{AreInUse}
 use Rattle.cm_image.proofs.Counting.{no_plane}

@@ -1,0 +1,23 @@
+-- Chips that wait for their places in a machine, and planes of all addresses that are listed: ours.
+use Rattle.std.specs.Prelude.{◌≡◌, ℕ, ◌+◌, ◌*◌, ◌-◌, ◌<◌, ◌≤◌, List, Ok, drop, length, slice_index}
+use Rattle.cm_model.specs.Array.{Chips}
+use Rattle.cm_model.specs.Machine.{Machine}
+use Rattle.cm_array.specs.Pokes.{machine_with_chips}
+use Rattle.cm_image_format.specs.Image.{listed_part}
+
+-- planes that lie chip by chip, of at most 64 chips, with room for all of them
+pub record IsTile (planes : List ℕ) (capacity : ℕ) (flags : List ℕ) (count : ℕ) : Type 0 where
+  pub few : count ≤ 64
+  pub memory : count * 4128 ≤ length planes
+  pub room : 64 * 4128 ≤ capacity
+  pub flag_words : length flags ≡ 1024
+  pub zero : (c : ℕ) → c < count → slice_index flags (c * 16 + 8) ≡ 0
+
+-- the machine with chips that waited in their places, which end before this one
+abbrev pub with_waiting : ℕ → Machine → Chips → Machine
+with_waiting end machine chips = machine_with_chips machine (end - length chips) chips
+
+-- bytes list the planes of so many addresses, one after another
+abbrev pub AreListedFrom : List ℕ → ℕ → (ℕ → ℕ) → Type 0
+AreListedFrom bytes count plane = (a : ℕ) → a < count
+    → listed_part a (drop (4 * a) bytes) ≡ Ok (record { at = a; plane = plane a }, drop (4 * (a + 1)) bytes)
