@@ -5,10 +5,9 @@ ghost use Rattle.std.specs.Prelude.{◌≡◌, ◌<◌, ◌≤◌, ◌^◌};
 
 use crate::accounts::are_found;
 use crate::both::Both;
-use crate::draws::Draws;
-use crate::machines::{RECV, SEND, address, everywhere, flag, message, processor, tag};
-use cm_array::Machine;
+use crate::machines::{RECV, SEND, everywhere, message, tag};
 use cm_bits::Addr;
+use cm_draws::{Draws, address, flag, has_full_buffer, processor};
 use cm_message::{Message, Tag};
 use cm_model::Act;
 use std::alloc::{AllocError, Global};
@@ -98,18 +97,6 @@ fn drawn_address(draws: &mut Draws) -> Addr {
 
 // ---- what is seen afterwards
 
-/// Whether a buffer of the machine is full.
-fn has_full<const N: usize, const CAP: usize>(machine: &Machine<N, CAP>, chips: u16) -> bool
-    requires chips { chips ≡ 2 ^ N }
-{
-    for c in 0..chips {
-        if machine.buffer(c).len() == CAP {
-            return true;
-        }
-    }
-    false
-}
-
 /// Whether both go through the acts, and are the same afterwards.
 fn stays_plain_through<const N: usize, const CAP: usize>(
     both: &mut Both<N, CAP>,
@@ -133,17 +120,40 @@ fn stays_plain<const N: usize, const CAP: usize>(alloc: Global, chips: u16) -> O
     requires some { 0 < chips }
 {
     let mut both = Both::<N, CAP>::blank(alloc)?;
-    let mut draws = Draws::new();
+    stay_plain_in_rounds(alloc, &mut both, chips)
+}
+
+fn stay_plain_in_rounds<const N: usize, const CAP: usize>(
+    alloc: Global,
+    both: &mut Both<N, CAP>,
+    chips: u16,
+) -> Option<bool>
+    requires chips { chips ≡ 2 ^ N }
+    requires some { 0 < chips }
+{
+    let mut draws = Draws::new(0);
     let mut was_full = false;
     for _round in 0..ROUNDS {
-        poke_both(&mut both, &mut draws, chips);
-        let acts = drawn_acts(alloc, &mut draws).ok()?;
-        if !stays_plain_through(&mut both, alloc, acts.as_slice(), chips).ok()? {
+        if !stay_plain_in_round(alloc, both, &mut draws, chips)? {
             return Some(false);
         }
-        was_full |= has_full(&both.machine, chips);
+        was_full |= has_full_buffer(&both.machine, chips);
     }
     Some(was_full)
+}
+
+fn stay_plain_in_round<const N: usize, const CAP: usize>(
+    alloc: Global,
+    both: &mut Both<N, CAP>,
+    draws: &mut Draws,
+    chips: u16,
+) -> Option<bool>
+    requires chips { chips ≡ 2 ^ N }
+    requires some { 0 < chips }
+{
+    poke_both(both, draws, chips);
+    let acts = drawn_acts(alloc, draws).ok()?;
+    stays_plain_through(both, alloc, acts.as_slice(), chips).ok()
 }
 
 /// The same of routers with room for 1, 2, 7 and 15 messages.
@@ -232,10 +242,19 @@ fn stays_plain_in_one_list<const N: usize, const CAP: usize>(
     requires some { 0 < chips }
 {
     let mut both = Both::<N, CAP>::blank(alloc)?;
-    let mut draws = Draws::new();
-    ask_everywhere(&mut both, &mut draws, chips);
+    ask_everywhere(&mut both, &mut Draws::new(0), chips);
+    stays_plain_when_busy(alloc, &mut both, chips)
+}
+
+fn stays_plain_when_busy<const N: usize, const CAP: usize>(
+    alloc: Global,
+    both: &mut Both<N, CAP>,
+    chips: u16,
+) -> Option<bool>
+    requires chips { chips ≡ 2 ^ N }
+{
     let acts = busy_acts(alloc).ok()?;
-    stays_plain_through(&mut both, alloc, acts.as_slice(), chips).ok()
+    stays_plain_through(both, alloc, acts.as_slice(), chips).ok()
 }
 
 #[test]

@@ -3,9 +3,10 @@
 
 ghost use Rattle.std.specs.Prelude.{◌≡◌, ◌+◌, ◌<◌, ◌≤◌, ◌^◌};
 
-use crate::machines::{SEND, address, ask, flag, processor};
+use crate::machines::{SEND, ask};
 use cm_array::{Machine, Plain, Runner};
 use cm_bits::{FlagNo, Plane, Proc};
+use cm_draws::{address, flag, processor};
 use cm_element::ZeroFlag;
 use cm_message::Message;
 use cm_model::Act;

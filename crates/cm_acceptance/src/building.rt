@@ -2,10 +2,10 @@
 
 ghost use Rattle.std.specs.Prelude.{◌<◌, ◌^◌};
 
-use crate::machines::{address, flag};
 use crate::scenario::{At, Letter, To};
 use cm_array::{BuildFault, Builder, Machine, MachineFault, Plain, RunFault, Runner};
 use cm_bits::Plane;
+use cm_draws::{address, flag};
 use cm_model::Act;
 use std::alloc::Global;
 

@@ -12,8 +12,6 @@ mod both;
 #[cfg(test)]
 mod building;
 #[cfg(test)]
-mod draws;
-#[cfg(test)]
 mod machines;
 #[cfg(test)]
 mod nodes;

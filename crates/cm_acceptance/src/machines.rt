@@ -1,9 +1,10 @@
-//! What the tests put into whole machines, and how they see that two are the same.
+//! What the tests put into whole machines.
 
 ghost use Rattle.std.specs.Prelude.{◌≡◌, ◌+◌, ◌<◌, ◌≤◌, ◌^◌};
 
 use cm_array::Machine;
-use cm_bits::{Addr, Dir, FlagNo, Plane, Proc};
+use cm_bits::{Dir, FlagNo, Proc};
+use cm_draws::{address, flag, processor};
 use cm_message::{Message, Tag};
 use cm_model::{Act, Nano};
 
@@ -12,27 +13,6 @@ pub(crate) const SEND: u8 = 12;
 pub(crate) const ACK: u8 = 13;
 
 pub(crate) const RECV: u8 = 14;
-
-pub(crate) fn address(number: u16) -> Addr
-    requires { number < 4096 }
-    ensures { result ≡ number }
-{
-    Addr::new(number).unwrap()
-}
-
-pub(crate) fn flag(number: u8) -> FlagNo
-    requires { number < 16 }
-    ensures { result ≡ number }
-{
-    FlagNo::new(number).unwrap()
-}
-
-pub(crate) fn processor(number: u8) -> Proc
-    requires { number < 16 }
-    ensures { result ≡ number }
-{
-    Proc::new(number).unwrap()
-}
 
 /// In every processor a flag becomes what this table says of memory bit 0, the table's left half where
 /// that is 1.
@@ -48,20 +28,6 @@ pub(crate) fn everywhere(write: FlagNo, flag_table: u8) -> Act {
         flag_table,
         dir: Dir::North,
     })
-}
-
-/// Gives one flag of the sixteen processors of a chip these bits; flag 8 stays as it is.
-pub(crate) fn poke_plane<const N: usize, const CAP: usize>(
-    machine: &mut Machine<N, CAP>,
-    chip: u16,
-    number: FlagNo,
-    plane: Plane,
-)
-    requires chip { chip < 2 ^ N }
-{
-    for p in 0u8..16 {
-        let _ = machine.poke_flag(chip, processor(p), number, plane >> p & 1 == 1);
-    }
 }
 
 /// Puts a number into a field of one processor, the lowest bit first.
@@ -120,43 +86,4 @@ pub(crate) fn message(rel: u16, receiver: u8, payload: u32, tag: Tag) -> Message
         payload,
         tag,
     }
-}
-
-/// Whether two machines of so many chips have the same bits and flags.
-pub(crate) fn are_same<const N: usize, const CAP: usize>(
-    left: &Machine<N, CAP>,
-    right: &Machine<N, CAP>,
-    chips: u16,
-) -> bool
-    requires chips { chips ≡ 2 ^ N }
-{
-    for c in 0..chips {
-        for number in 0u8..16 {
-            if left.chip(c).flag_plane(flag(number)) != right.chip(c).flag_plane(flag(number)) {
-                return false;
-            }
-        }
-        for at in 0u16..4096 {
-            if left.chip(c).plane(address(at)) != right.chip(c).plane(address(at)) {
-                return false;
-            }
-        }
-    }
-    true
-}
-
-/// Whether two machines of so many chips have the same messages, events and petit cycles.
-pub(crate) fn have_same_messages<const N: usize, const CAP: usize>(
-    left: &Machine<N, CAP>,
-    right: &Machine<N, CAP>,
-    chips: u16,
-) -> bool
-    requires chips { chips ≡ 2 ^ N }
-{
-    for c in 0..chips {
-        if left.buffer(c) != right.buffer(c) || left.log(c) != right.log(c) {
-            return false;
-        }
-    }
-    left.clock() == right.clock()
 }

@@ -2,11 +2,10 @@
 
 ghost use Rattle.std.specs.Prelude.{◌≡◌, ◌<◌, ◌≤◌, ◌^◌};
 
-use crate::draws::Draws;
-use crate::machines::{address, flag, processor};
 use crate::steps::{go_by, over_chain, over_news};
 use cm_array::{Machine, Plain};
 use cm_bits::{Dir, Proc};
+use cm_draws::{Draws, address, flag, processor};
 use cm_model::Act;
 use cm_plain::PlainMachine;
 use std::alloc::{AllocError, Global};
@@ -61,6 +60,21 @@ impl<const N: usize> Pair<N> {
             }
         }
         true
+    }
+
+    /// Whether they agree after each of ten stretches of forty acts.
+    fn stays_alike(&mut self, alloc: Global, chips: u16) -> Option<bool>
+        requires chips { chips ≡ 2 ^ N }
+    {
+        let mut draws = Draws::new(0);
+        self.poke_flags(&mut draws, chips);
+        for _stretch in 0..STRETCHES {
+            let acts = drawn_acts(alloc, &mut draws).ok()?;
+            if !self.go(alloc, acts.as_slice()) || !self.agree(chips) {
+                return Some(false);
+            }
+        }
+        Some(true)
     }
 
     /// Whether both have the same flags, and the same bits at the first addresses.
@@ -127,15 +141,7 @@ fn stays_plain<const N: usize>(alloc: Global, chips: u16) -> Option<bool>
     requires chips { chips ≡ 2 ^ N }
 {
     let mut pair = Pair::<N>::blank(alloc)?;
-    let mut draws = Draws::new();
-    pair.poke_flags(&mut draws, chips);
-    for _stretch in 0..STRETCHES {
-        let acts = drawn_acts(alloc, &mut draws).ok()?;
-        if !pair.go(alloc, acts.as_slice()) || !pair.agree(chips) {
-            return Some(false);
-        }
-    }
-    Some(true)
+    pair.stays_alike(alloc, chips)
 }
 
 #[test]

@@ -4,9 +4,10 @@
 ghost use Rattle.std.specs.Prelude.{◌≡◌, ◌<◌, ◌≤◌, ◌^◌};
 
 use crate::both::Both;
-use crate::machines::{RECV, SEND, everywhere, flag};
+use crate::machines::{RECV, SEND, everywhere};
 use cm_array::{Plain, RunFault, Runner};
 use cm_bits::{Field, FlagNo, Plane, Proc};
+use cm_draws::flag;
 use cm_message::{Event, Message, Tag};
 use cm_model::{Act, Found};
 use std::alloc::{AllocError, Global};

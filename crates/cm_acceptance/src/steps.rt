@@ -4,9 +4,9 @@ ghost use Rattle.std.specs.Prelude.{◌≡◌, ◌<◌, ◌≤◌, ◌^◌, ◌�
 ghost use Rattle.cm_model.specs.Machine.{run_of};
 ghost use Rattle.cm_array.specs.Acts.{is_late, is_long};
 
-use crate::machines::{address, are_same, flag, poke_plane, processor};
 use cm_array::{Machine, MachineFault, Plain, RunFault, Runner};
 use cm_bits::{Dir, FlagNo, Plane};
+use cm_draws::{address, flag, have_same_bits, poke_plane, processor};
 use cm_model::{Act, Nano};
 use cm_wire::chip_or;
 use std::alloc::{AllocError, Global};
@@ -137,7 +137,7 @@ impl<const N: usize> Trial<N> {
         requires chips { chips ≡ 2 ^ N }
     {
         match &self.kept {
-            Some(kept) => Some(are_same(&self.machine, kept, chips)),
+            Some(kept) => Some(have_same_bits(&self.machine, kept, chips)),
             None => None,
         }
     }

@@ -1,0 +1,114 @@
+//! Parts of machines, drawn.
+
+ghost use Rattle.std.specs.Prelude.{◌≡◌, ◌<◌, ◌^◌};
+
+use crate::drawing::Draws;
+use crate::numbers::{flag, processor};
+use cm_array::{Builder, Machine};
+use cm_bits::{Addr, FlagNo, Plane};
+use cm_message::{Message, Tag};
+use std::alloc::Global;
+
+/// A machine at rest with bits and flags, in which half of the processors ask to send somewhere, and half can receive.
+pub fn asking_machine<const N: usize, const CAP: usize>(
+    alloc: Global,
+    draws: &mut Draws,
+    chips: u16,
+) -> Option<Machine<N, CAP>>
+    requires cube { chips ≡ 2 ^ N }
+{
+    let mut builder = Builder::<N, CAP>::start(alloc, 0).ok()?;
+    for chip in 0..chips {
+        put_flags(&mut builder, draws, chip, 65_535);
+        put_planes(&mut builder, draws, chip, 3968, 3996);
+    }
+    builder.done().ok()
+}
+
+/// Each flag of a chip but ZERO gets a plane below a limit.
+pub fn put_flags<const N: usize, const CAP: usize>(
+    builder: &mut Builder<N, CAP>,
+    draws: &mut Draws,
+    chip: u16,
+    limit: u16,
+)
+    requires chip { chip < 2 ^ N }
+    requires some { 0 < limit }
+{
+    for number in 0..16u8 {
+        let number = flag(number);
+        if number != FlagNo::ZERO {
+            builder.flag_plane(chip, number, draws.below(limit));
+        }
+    }
+}
+
+/// Each address of a chip from one to before another gets a plane.
+pub fn put_planes<const N: usize, const CAP: usize>(
+    builder: &mut Builder<N, CAP>,
+    draws: &mut Draws,
+    chip: u16,
+    first: u16,
+    end: u16,
+)
+    requires chip { chip < 2 ^ N }
+{
+    for at in first..end {
+        if let Some(at) = Addr::new(at) {
+            builder.plane(chip, at, draws.plane());
+        }
+    }
+}
+
+/// Fewer messages than a limit stand at a chip, as long as there is room.
+pub fn put_messages<const N: usize, const CAP: usize>(
+    builder: &mut Builder<N, CAP>,
+    draws: &mut Draws,
+    chip: u16,
+    chips: u16,
+    limit: u16,
+)
+    requires cube { chips ≡ 2 ^ N }
+    requires chip { chip < chips }
+    requires some { 0 < limit }
+{
+    for birth in 0..u64::from(draws.below(limit)) {
+        let message = drawn_message(draws, chip, chips, birth);
+        if !builder.is_full(chip) && birth < builder.clock() {
+            builder.message(chip, message);
+        }
+    }
+}
+
+/// A message of this birth from a chip, somewhere on its way.
+fn drawn_message(draws: &mut Draws, chip: u16, chips: u16, birth: u64) -> Message
+    requires some { 0 < chips }
+    ensures rel { result.rel < chips }
+    ensures chip { result.tag.chip ≡ chip }
+    ensures birth { result.tag.birth ≡ birth }
+{
+    Message {
+        rel: draws.below(chips),
+        proc: processor(draws.below(16) as u8),
+        payload: draws.number(),
+        tag: Tag {
+            chip,
+            proc: processor(draws.below(16) as u8),
+            birth,
+        },
+    }
+}
+
+/// Gives one flag of the sixteen processors of a chip these bits; flag ZERO stays as it is.
+pub fn poke_plane<const N: usize, const CAP: usize>(
+    machine: &mut Machine<N, CAP>,
+    chip: u16,
+    number: FlagNo,
+    plane: Plane,
+)
+    requires chip { chip < 2 ^ N }
+{
+    for p in 0u8..16 {
+        let _ = machine.poke_flag(chip, processor(p), number, plane >> p & 1 == 1);
+    }
+}

@@ -1,0 +1,14 @@
+//! What tests draw, and how they look at machines: for the crates of tests alone.
+#![tactic(auto)]
+
+mod building;
+mod drawing;
+mod looking;
+mod numbers;
+
+pub use building::{asking_machine, poke_plane, put_flags, put_messages, put_planes};
+pub use drawing::Draws;
+pub use looking::{
+    are_same, has_full_buffer, have_same_bits, have_same_events, have_same_messages,
+};
+pub use numbers::{address, flag, processor};
