@@ -1,6 +1,7 @@
 //! A session, from the bytes of a source to those of a sink.
 
-ghost use Rattle.std.specs.Prelude.{◌≡◌, ◌↔◌, cond, true, false, IfSome, IsErrOf, MatchResult};
+ghost use Rattle.std.specs.Prelude.{◌≡◌, ◌↔◌, cond, true, false, IfSome, IsErrOf, MatchResult, OnOk};
+ghost use Rattle.std.specs.Io.KnownBytes.{IsAtEnd};
 ghost use Rattle.cm_array.specs.Faults.{one_more_lacked};
 ghost use Rattle.cm_session.specs.Ends.{Ends, EndsForSome, is_no_thread, is_write};
 
@@ -39,6 +40,7 @@ pub fn session<const N: usize, const CAP: usize, R: Runner<N, CAP>, I: Source, O
         machine.old.machine (O.contents out.old) machine.new.machine (O.contents out.new) result) }
     ensures heard { EndsForSome N CAP program.now.acts machine.old.machine (O.contents out.old) machine.new.machine
         (O.contents out.new) result }
+    ensures end { OnOk result (IsAtEnd (I.left commands.new)) }
     ensures read { (I.has_failed commands.new ≡ true) ↔ IsErrOf result SessionFault.Read }
     ensures write { O.has_failed out.new ≡ is_write result }
     ensures thread { MatchResult result
@@ -65,6 +67,7 @@ fn answer_all<const N: usize, const CAP: usize, R: Runner<N, CAP>, I: Source, O:
         machine.old.machine (O.contents out.old) machine.new.machine (O.contents out.new) result) }
     ensures heard { EndsForSome N CAP acts.now machine.old.machine (O.contents out.old) machine.new.machine
         (O.contents out.new) result }
+    ensures end { OnOk result (IsAtEnd (I.left commands.new)) }
     ensures read { (I.has_failed commands.new ≡ true) ↔ IsErrOf result SessionFault.Read }
     ensures write { O.has_failed out.new ≡ is_write result }
     ensures thread { MatchResult result

@@ -7,3 +7,4 @@ mod Clocks
 pub mod Stretching
 pub mod Lines
 mod StandardFacts
+mod WholeFacts

@@ -19,7 +19,7 @@ use Rattle.cm_workers.specs.Dealing.{hand, AreDealt}
 use Rattle.cm_workers.specs.Each.{AreEach}
 use Rattle.cm_workers.specs.Turns.{round_before, gone_on, HasGoneOn, AreShown}
 use Rattle.cm_workers.specs.Runs.{StandsAt, HaveBegun}
-use Rattle.cm_workers.specs.Gates.{told_number, ComesBy, IsWorkersTurn}
+use Rattle.cm_workers.specs.Gates.{told_number, IsBeforeRound, ComesBy, IsWorkersTurn}
 use Rattle.cm_workers.specs.Shifts.{AreWorkersTurns}
 use Rattle.cm_workers.proofs.Standing.{gone_to}
 
@@ -32,12 +32,12 @@ there_below xs i x is = ⊎_elim
 
 module _ (acts : List Act) (before : Option Round) (t w : ℕ) (blocks bs : List KeptBlock) (posts ps : List Post)
     (gone : AreEach (HasGoneOn acts before) blocks posts bs ps) where
-  -- each block is as it is before the round
-  one_comes : (next : Option Round) (turn : IsWorkersTurn acts before next t w blocks posts) (q : ℕ) (b : KeptBlock)
+  -- each block's part is as it is before the round
+  part_comes : (next : Option Round) (turn : IsWorkersTurn acts before next t w blocks posts) (q : ℕ) (b : KeptBlock)
       → q < length blocks
       → (get_or bs q b).kept.part
       ≡ block turn.n turn.k (q * turn.count + w) (before_round turn.n turn.room turn.k turn.machine acts t)
-  one_comes next turn q b l =
+  part_comes next turn q b l =
       let n = turn.n in let k = turn.k in let room = turn.room in
       let p : Post = blank_post n k in
       let kept : KeptBlock = get_or blocks q b in let post : Post = get_or posts q p in
@@ -49,6 +49,19 @@ module _ (acts : List Act) (before : Option Round) (t w : ℕ) (blocks bs : List
       ∙ ap (λ (one : Option Round). gone_on n k room acts one post kept.kept.part) turn.before_is
       ∙ gone_to n k room turn.machine acts turn.within t (q * turn.count + w) kept post turn.below
       ((turn.at.share q).0 l) stood
+
+  -- and so is each block
+  one_comes : (next : Option Round) (turn : IsWorkersTurn acts before next t w blocks posts) (q : ℕ) (b : KeptBlock)
+      → q < length blocks
+      → IsBeforeRound turn.n turn.k turn.room turn.machine acts t (q * turn.count + w) (get_or bs q b)
+  one_comes next turn q b l =
+      let p : Post = blank_post turn.n turn.k in
+      let stood = turn.at.each q b p l in let same = (gone.each q b p l).same in record {
+        blocks = same.blocks ∙ stood.blocks;
+        dims = same.dims ∙ stood.dims;
+        room_is = same.room ∙ stood.room_is;
+        part = part_comes next turn q b l;
+      }
 
   -- a worker whose blocks have gone on comes by, if a round is ahead
   pub comes_by : (next : Option Round) → IsWorkersTurn acts before next t w blocks posts
@@ -86,7 +99,12 @@ still_comes w told bs now shown was = record {
   share = λ q. subst (λ (m : ℕ). (q < m) ↔ (q * was.count + w < 2 ^ was.k)) (sym shown.len) (was.share q);
   each = λ q b l.
       let m : q < length bs = omega (arith, l, shown.len) in
-      ap (λ (kept : KeptPart). kept.part) (shown.each q b m).kept ∙ was.each q b m;
+      let is = shown.each q b m in let it = was.each q b m in record {
+        blocks = is.blocks ∙ it.blocks;
+        dims = ap (λ (kept : KeptPart). kept.dims) is.kept ∙ it.dims;
+        room_is = ap (λ (kept : KeptPart). kept.room) is.kept ∙ it.room_is;
+        part = ap (λ (kept : KeptPart). kept.part) is.kept ∙ it.part;
+      };
 }
 
 -- so it does before a round that is there, of which it is told by its number

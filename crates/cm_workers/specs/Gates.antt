@@ -19,6 +19,14 @@ IsShareOf k count w blocks = (q : ℕ) → (q < length blocks) ↔ (q * count + 
 abbrev pub told_number : ℕ → ℕ
 told_number number = min number (2 ^ 32 - 1)
 
+-- block b of 2 ^ k of a cube of n dimensions whose routers have this room, as it is before a round of a run
+pub record IsBeforeRound (n k room : ℕ) (machine : Machine) (acts : List Act) (number b : ℕ) (kept : KeptBlock)
+    : Type 0 where
+  pub blocks : kept.k ≡ k
+  pub dims : kept.kept.dims ≡ n
+  pub room_is : kept.kept.room ≡ room
+  pub part : kept.kept.part ≡ block n k b (before_round n room k machine acts number)
+
 -- a worker comes by before it sends in a round of a run, whose number is told: each of its blocks is as it is then
 pub record ComesBy (w told : ℕ) (blocks : List KeptBlock) : Type 0 where
   pub n : ℕ
@@ -33,7 +41,7 @@ pub record ComesBy (w told : ℕ) (blocks : List KeptBlock) : Type 0 where
   pub one_of : w < count
   pub share : IsShareOf k count w blocks
   pub each : (q : ℕ) (b : KeptBlock) → q < length blocks
-      → (get_or blocks q b).kept.part ≡ block n k (q * count + w) (before_round n room k machine acts number)
+      → IsBeforeRound n k room machine acts number (q * count + w) (get_or blocks q b)
 
 -- one of so many workers, with its blocks and their posts, when turn t of a run begins
 pub record StandsAsWorker (n k room : ℕ) (machine : Machine) (acts : List Act) (t count w : ℕ) (blocks : List KeptBlock)

@@ -162,3 +162,11 @@ returns-clause-heard g c =
     (has_some c.loop-count.line.items c.loop-count.line.items c.loop-count.line.len c.is_empty.result
     (omega (arith, c.loop-count.line.ok.0)) c.is_empty.ensures c.if-is_empty.false refl) so.told
     (c.in-Err-feed.ensures.err c.args.machine.now.machine (g.O.Sink.contents c.args.out.now) so.text so.told)
+
+-- ---- nothing is left to be read
+
+pub returns-then-is_empty-clause-end : goal.returns-then-is_empty-clause-end
+returns-then-is_empty-clause-end g c = c.in-Ok-read.ensures.bytes.1 c.if-count-eq0.true (omega arith)
+
+pub returns-in-Ok-feed-2-clause-end : goal.returns-in-Ok-feed-2-clause-end
+returns-in-Ok-feed-2-clause-end g c = c.in-Ok-read.ensures.bytes.1 c.if-count-eq0.true (omega arith)
