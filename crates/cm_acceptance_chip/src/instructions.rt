@@ -3,6 +3,7 @@
 use crate::cases::{Case, first_not_so};
 use crate::numbers::{address, flag, processor};
 use cm_bits::{Dir, Plane};
+use cm_draws::Draws;
 use cm_element::{Chip, Outputs};
 use cm_model::Nano;
 use cm_plain::PlainMachine;
@@ -103,26 +104,6 @@ fn coming_in(nano: &Nano, flag: Plane) -> Plane {
     }
 }
 
-/// An instruction on the first eight addresses, from two numbers that look random.
-fn nano_of(drawn: u32, tables: u32) -> Result<Nano, Fail> {
-    Ok(Nano {
-        a: address((drawn >> 4 & 7) as u16)?,
-        b: address((drawn >> 7 & 7) as u16)?,
-        read: flag((drawn >> 10 & 15) as u8)?,
-        write: flag((drawn >> 14 & 15) as u8)?,
-        cond: flag((drawn >> 18 & 15) as u8)?,
-        sense: drawn >> 22 & 1 == 1,
-        mem_table: (tables >> 8 & 0xff) as u8,
-        flag_table: (tables >> 16 & 0xff) as u8,
-        dir: match drawn >> 23 & 3 {
-            0 => Dir::North,
-            1 => Dir::East,
-            2 => Dir::West,
-            _ => Dir::South,
-        },
-    })
-}
-
 /// A chip and a plain machine of one chip, after the same instructions.
 #[derive(Drop)]
 struct Beside {
@@ -184,11 +165,10 @@ fn run_beside(alloc: Global) -> Result<(Option<u32>, bool), Fail> {
         chip: Chip::blank(alloc)?,
         plain: PlainMachine::blank(alloc, 8)?,
     };
-    let mut drawn: u32 = 1985;
+    let mut draws = Draws::new(1985);
     for round in 0u32..160 {
-        let tables = drawn;
-        drawn = drawn.wrapping_mul(1_664_525).wrapping_add(1_013_904_223);
-        both.step(alloc, &nano_of(drawn, tables)?)?;
+        let (a, b) = (address(draws.below(8))?, address(draws.below(8))?);
+        both.step(alloc, &draws.nano(a, b))?;
         if !both.agrees()? {
             return Ok((Some(round), true));
         }

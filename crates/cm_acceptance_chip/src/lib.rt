@@ -6,13 +6,13 @@ mod cases;
 #[cfg(test)]
 mod chips;
 #[cfg(test)]
-mod command_lines;
-#[cfg(test)]
-mod examples;
+mod faults;
 #[cfg(test)]
 mod fields;
 #[cfg(test)]
 mod grids;
+#[cfg(test)]
+mod growths;
 #[cfg(test)]
 mod instructions;
 #[cfg(test)]
@@ -20,11 +20,7 @@ mod numbers;
 #[cfg(test)]
 mod planes;
 #[cfg(test)]
-mod refusals;
-#[cfg(test)]
 mod scripted;
-#[cfg(test)]
-mod sessions;
 #[cfg(test)]
 mod sinks;
 #[cfg(test)]

@@ -3,6 +3,7 @@
 use crate::cases::{Case, first_not_so};
 use crate::numbers::{address, processor};
 use cm_bits::{Field, Proc};
+use cm_draws::Draws;
 use cm_element::Chip;
 use std::alloc::Global;
 use std::test::Fail;
@@ -26,11 +27,10 @@ static LENGTHS: [Length; 8] = [
 /// Processors 6, 7 and 8 have drawn bits in all of their memory.
 fn drawn_chip(alloc: Global) -> Result<Chip, Fail> {
     let mut chip = Chip::blank(alloc)?;
-    let mut drawn: u32 = 1985;
+    let mut draws = Draws::new(1985);
     for at in 0u16..4096 {
         for number in 6u8..9 {
-            drawn = drawn.wrapping_mul(1_664_525).wrapping_add(1_013_904_223);
-            chip.poke(processor(number)?, address(at)?, drawn >> 31 == 1);
+            chip.poke(processor(number)?, address(at)?, draws.once_in(2));
         }
     }
     Ok(chip)

@@ -4,6 +4,7 @@
 mod playing;
 mod refusing;
 mod scene;
+mod whole;
 
 use crate::scene::perform;
 use cm_bits::Lines;

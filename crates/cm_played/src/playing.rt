@@ -126,7 +126,11 @@ fn end_of<const N: usize, const CAP: usize>(
 ) -> Result<(), SessionFault>
     requires writer { room_has_failed answers.old ≡ false }
 {
-    let mut commands = Bytes::failing(scene.commands.as_slice(), 3, scene.read as usize);
+    let mut commands = Bytes::failing(
+        scene.commands.as_slice(),
+        scene.piece as usize,
+        scene.read as usize,
+    );
     let mut runner = Refusing::new(scene.lists, scene.lack);
     session(
         alloc,

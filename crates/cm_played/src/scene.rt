@@ -2,6 +2,7 @@
 
 use crate::playing::{count, listing, play, read_alone, tell};
 use crate::refusing::Lack;
+use crate::whole::{What, tell_each, tell_end, tell_line};
 use cm_bits::{Lines, Words, read_number};
 use std::alloc::{AllocError, Global};
 
@@ -17,9 +18,12 @@ pub(crate) struct Scene {
     pub(crate) commands: Vec<u8>,
     /// How often the next line of the program or of commands stands there.
     times: u64,
-    /// After how many bytes of commands reading fails, and after how many of answers writing.
+    /// How many bytes are read at once, after how many reading fails, and for how many that are written there is room.
+    pub(crate) piece: u64,
     pub(crate) read: u64,
     pub(crate) written: u64,
+    /// Once there is no room, nothing is taken in place of failing.
+    pub(crate) takes_nothing: bool,
     /// After how many lists of acts the runner lacks something.
     pub(crate) lists: u64,
     pub(crate) lack: Lack,
@@ -35,8 +39,10 @@ impl Scene {
             program: Vec::new(alloc),
             commands: Vec::new(alloc),
             times: 1,
+            piece: 3,
             read: u64::MAX,
             written: 65536,
+            takes_nothing: false,
             lists: u64::MAX,
             lack: Lack::Memory,
         }
@@ -72,10 +78,14 @@ impl Scene {
             self.room = number;
         } else if name == b"clock".as_slice() {
             self.clock = number;
+        } else if name == b"piece".as_slice() {
+            self.piece = number;
         } else if name == b"read".as_slice() {
             self.read = number;
         } else if name == b"written".as_slice() {
             self.written = number;
+        } else if name == b"nothing".as_slice() {
+            self.takes_nothing = true;
         } else if name == b"memory".as_slice() {
             self.lists = number;
         } else if name == b"thread".as_slice() {
@@ -105,13 +115,17 @@ pub(crate) fn perform(alloc: Global, lines: Lines, told: &mut Vec<u8>) -> Result
 
 /// Does what a line says, by its first character:
 /// `#` a title, which is told again: a scene begins;
-/// `=` words of the scene (`dimensions`, `room`, `clock`, `read`, `written`, `memory`, `thread`), each with its number;
+/// `=` words of the scene (`dimensions`, `room`, `clock`, `piece`, `read`, `written`, `nothing`, `memory`, `thread`),
+/// each with its number;
 /// `<` a line of the program, `-` one without its end;
 /// `>` a line of commands, `+` one without its end;
 /// `*` how often the next of these four stands there;
 /// `!` the commands are answered;
 /// `@` the number of the program's acts, or its first fault, is told, and `%` its listing;
-/// `?` dimensions of a cube, acts of a program, and a line of commands, which is read alone.
+/// `?` dimensions of a cube, acts of a program, and a line of commands, which is read alone;
+/// `~` the program goes from bytes to bytes: `chip`, `list`, or a refusal's number is told, with its line;
+/// `^` the same in pieces, with little room, and with reading that fails;
+/// `$` the words of a command line, each behind a bar.
 fn obey(
     alloc: Global,
     scene: &mut Scene,
@@ -135,7 +149,24 @@ fn obey(
         [b'@', ..] => count(alloc, scene, told),
         [b'%', ..] => listing(alloc, scene, told),
         [b'?', rest @ ..] => read_alone(alloc, rest, told),
+        [b'~', rest @ ..] => whole(alloc, scene, rest, told),
+        [b'^', rest @ ..] => each(alloc, scene, rest, told),
+        [b'$', rest @ ..] => tell_line(alloc, rest, told),
         [mark, rest @ ..] => scene.take(*mark, rest),
         [] => Ok(()),
+    }
+}
+
+fn whole(alloc: Global, scene: &Scene, line: &[u8], told: &mut Vec<u8>) -> Result<(), AllocError> {
+    match What::of(line) {
+        Some(what) => tell_end(alloc, what, scene, told),
+        None => tell(told, b"no such word"),
+    }
+}
+
+fn each(alloc: Global, scene: &Scene, line: &[u8], told: &mut Vec<u8>) -> Result<(), AllocError> {
+    match What::of(line) {
+        Some(what) => tell_each(alloc, what, scene, told),
+        None => tell(told, b"no such word"),
     }
 }

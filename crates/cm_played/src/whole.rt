@@ -1,0 +1,251 @@
+//! What comes of a text from bytes to bytes, and what is told of refusals and command lines, as by the program.
+
+ghost use Rattle.std.specs.Prelude.{◌≡◌, false, IfOk};
+ghost use Rattle.cm_bits.specs.Doubles.{bytes_has_failed, room_has_failed};
+
+use crate::playing::tell;
+use crate::scene::Scene;
+use cm_bits::doubles::{Bytes, Room};
+use cm_bits::{Words, read_number};
+use cm_cli::{ProgramFault, chip_session, list, report};
+use cm_line::command;
+use std::alloc::{AllocError, Global};
+
+/// What is done with the bytes of a text.
+#[derive(Clone, Copy)]
+pub(crate) enum What {
+    /// It is run on one chip.
+    Chip,
+    /// It is listed.
+    Listing,
+    /// The refusal of this number is told, in this line of a text.
+    Refusal(u8, Option<u64>),
+}
+
+/// In what pieces bytes come and go, after how many reading fails, and for how many there is room.
+#[derive(Clone, Copy)]
+struct Ends {
+    piece: usize,
+    read: usize,
+    room: usize,
+    /// A full sink takes nothing in place of failing.
+    takes_nothing: bool,
+}
+
+/// What was written, how it ended, and with which fault of the program.
+#[derive(Drop)]
+struct Played {
+    written: Room,
+    end: String,
+    fault: Option<ProgramFault>,
+}
+
+impl Ends {
+    fn sink(&self, alloc: Global) -> Result<Room, AllocError>
+        ensures working { IfOk result (λ sink. room_has_failed sink ≡ false) }
+    {
+        if self.takes_nothing {
+            Room::taking_nothing(alloc, self.room, self.piece)
+        } else {
+            Room::new(alloc, self.room, self.piece)
+        }
+    }
+}
+
+impl What {
+    /// `chip`, `list`, or a refusal's number, with a line behind it if it stands in one.
+    pub(crate) fn of(text: &[u8]) -> Option<What> {
+        let mut words = Words::new(text);
+        let word = words.next()?;
+        if word == b"chip".as_slice() {
+            return Some(What::Chip);
+        }
+        if word == b"list".as_slice() {
+            return Some(What::Listing);
+        }
+        let number = u8::try_from(read_number(word)?).ok()?;
+        let line = match words.next() {
+            Some(word) => Some(read_number(word)?),
+            None => None,
+        };
+        Some(What::Refusal(number, line))
+    }
+
+    /// What comes of the text.
+    fn play(self, alloc: Global, text: &[u8], ends: Ends) -> Result<Played, AllocError> {
+        let mut source = Bytes::failing(text, ends.piece, ends.read);
+        let mut sink = ends.sink(alloc)?;
+        let (end, fault) = self.end_of(alloc, &mut source, &mut sink)?;
+        Ok(Played {
+            written: sink,
+            end,
+            fault,
+        })
+    }
+
+    fn end_of(
+        self,
+        alloc: Global,
+        source: &mut Bytes,
+        sink: &mut Room,
+    ) -> Result<(String, Option<ProgramFault>), AllocError>
+        requires reader { bytes_has_failed source.old ≡ false }
+        requires writer { room_has_failed sink.old ≡ false }
+    {
+        match self {
+            What::Chip => {
+                let end = chip_session(alloc, source, sink);
+                let fault = match end {
+                    Ok(()) => None,
+                    Err(fault) => Some(ProgramFault::from(fault)),
+                };
+                Ok((format!(in alloc; "{end:?}")?, fault))
+            }
+            What::Listing => {
+                let end = list(alloc, source, sink);
+                Ok((format!(in alloc; "{end:?}")?, end.err()))
+            }
+            What::Refusal(number, line) => { Ok((refusal(alloc, number, line, sink)?, None)) }
+        }
+    }
+}
+
+/// How the telling of a refusal ends: with a status.
+fn refusal(
+    alloc: Global,
+    number: u8,
+    line: Option<u64>,
+    sink: &mut Room,
+) -> Result<String, AllocError>
+    requires writer { room_has_failed sink.old ≡ false }
+{
+    let has_line = number == 1 || number == 2 || 10 <= number && number <= 20;
+    if number < 1 || number > 38 || line.is_some() && !has_line {
+        return String::from_str(alloc, "no such refusal");
+    }
+    let end = report(number, line, sink);
+    format!(in alloc; "{end:?}")
+}
+
+impl Played {
+    fn is(&self, written: &[u8], end: &str) -> bool {
+        self.written.taken() == written && self.end.as_str() == end
+    }
+}
+
+/// Tells what comes of the scene's text, and how it ended; of a fault what the program tells, and its status.
+pub(crate) fn tell_end(
+    alloc: Global,
+    what: What,
+    scene: &Scene,
+    told: &mut Vec<u8>,
+) -> Result<(), AllocError> {
+    let ends = Ends {
+        piece: scene.piece as usize,
+        read: scene.read as usize,
+        room: scene.written.min(1048576) as usize,
+        takes_nothing: scene.takes_nothing,
+    };
+    let played = what.play(alloc, scene.program.as_slice(), ends)?;
+    told.extend_from_slice(played.written.taken())?;
+    tell(told, format!(in alloc; "= {}", played.end)?.as_bytes())?;
+    match played.fault {
+        Some(fault) => tell_fault(alloc, fault, told),
+        None => Ok(()),
+    }
+}
+
+fn tell_fault(alloc: Global, fault: ProgramFault, told: &mut Vec<u8>) -> Result<(), AllocError> {
+    let mut sink = Room::new(alloc, 100, 100)?;
+    let end = report(fault.number(), fault.line(), &mut sink);
+    told.extend_from_slice(sink.taken())?;
+    tell(told, format!(in alloc; "= {end:?}")?.as_bytes())
+}
+
+/// Tells what the words of a command line ask for; each stands behind a bar.
+pub(crate) fn tell_line(alloc: Global, line: &[u8], told: &mut Vec<u8>) -> Result<(), AllocError> {
+    let mut words = Vec::new(alloc);
+    for word in line.split(|byte| *byte == b'|').skip(1) {
+        words.push(str::from_utf8(word).unwrap_or("?"))?;
+    }
+    let end = command(alloc, words.as_slice());
+    tell(told, format!(in alloc; "= {end:?}")?.as_bytes())?;
+    match end {
+        Ok(_) => Ok(()),
+        Err(fault) => tell_fault(alloc, ProgramFault::from(fault), told),
+    }
+}
+
+const WHOLE: Ends = Ends {
+    piece: 4096,
+    read: usize::MAX,
+    room: 65536,
+    takes_nothing: false,
+};
+
+/// Tells how many of these come out as they should, one after another: the text in pieces of 1 to 19 bytes, as it does
+/// whole; room for 0, 1 and more bytes of what is written whole, as its front; reading that fails after 0, 1 and more
+/// bytes of the text, with nothing written.
+pub(crate) fn tell_each(
+    alloc: Global,
+    what: What,
+    scene: &Scene,
+    told: &mut Vec<u8>,
+) -> Result<(), AllocError> {
+    let text = scene.program.as_slice();
+    let whole = what.play(alloc, text, WHOLE)?;
+    let pieces = pieces_alike(alloc, what, text, &whole)?;
+    let rooms = rooms_filled(alloc, what, text, whole.written.taken())?;
+    let reads = reads_failed(alloc, what, text)?;
+    let line = format!(in alloc; "= {pieces} pieces, {rooms} rooms, {reads} failed reads")?;
+    tell(told, line.as_bytes())
+}
+
+fn pieces_alike(
+    alloc: Global,
+    what: What,
+    text: &[u8],
+    whole: &Played,
+) -> Result<usize, AllocError> {
+    for piece in 1usize..20 {
+        let played = what.play(alloc, text, Ends { piece, ..WHOLE })?;
+        if !played.is(whole.written.taken(), &whole.end) {
+            return Ok(piece - 1);
+        }
+    }
+    Ok(19)
+}
+
+fn rooms_filled(
+    alloc: Global,
+    what: What,
+    text: &[u8],
+    written: &[u8],
+) -> Result<usize, AllocError> {
+    for room in 0..written.len() {
+        let played = what.play(alloc, text, Ends { room, ..WHOLE })?;
+        let end = match what {
+            What::Chip => format!(in alloc; "Err(Write({room}))")?,
+            What::Listing => String::from_str(alloc, "Err(Write)")?,
+            What::Refusal(_, _) => String::from_str(alloc, "Err(Failed)")?,
+        };
+        if !played.is(&written[..room], &end) {
+            return Ok(room);
+        }
+    }
+    Ok(written.len())
+}
+
+fn reads_failed(alloc: Global, what: What, text: &[u8]) -> Result<usize, AllocError> {
+    for read in 0..text.len() {
+        let ends = Ends {
+            piece: 16,
+            read,
+            ..WHOLE
+        };
+        if !what.play(alloc, text, ends)?.is(b"", "Err(Read)") {
+            return Ok(read);
+        }
+    }
+    Ok(text.len())
+}
