@@ -1,4 +1,4 @@
-use Rattle.std.proofs.Common.{rules, ◌≡◌, ◌+◌, [], ◌∷◌, ◌++◌, get_or, ap, sym, ◌∙◌, arith}
+use Rattle.std.proofs.Common.{◌≡◌, ◌+◌, [], ◌∷◌, ◌++◌, ap, sym, ◌∙◌, arith}
 use Rattle.cm_board.specs.Courses.{due_now, one_more}
 use Rattle.cm_acceptance_board.specs.Rising.{rising}
 use Rattle.cm_acceptance_board.proofs.Counted.{length-rising, rising_at, rising_more}

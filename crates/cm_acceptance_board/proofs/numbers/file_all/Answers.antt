@@ -1,6 +1,5 @@
-use Rattle.std.proofs.Common.{rules, ◌≡◌, ◌+◌, length, get_or, ap, sym, ◌∙◌, arith}
+use Rattle.std.proofs.Common.{ap, sym, ◌∙◌, arith}
 use Rattle.cm_board.specs.Courses.{due_now}
-use Rattle.cm_acceptance_board.specs.Rising.{rising}
 use Rattle.cm_acceptance_board.proofs.Counted.{length-rising, rising_at}
 use Rattle.cm_acceptance_board.proofs.numbers.file_all.Goals as goal
 
