@@ -8,5 +8,6 @@ pub mod Listed
 pub mod Fresh
 pub mod Laws
 pub mod Opened
+pub mod Sizes
 pub mod Sharing
 pub mod Run
