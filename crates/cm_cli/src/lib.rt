@@ -4,17 +4,23 @@
 
 mod blanks;
 mod fault;
+mod files;
 mod laws;
+mod lines;
 mod listed;
 mod one_chip;
 mod opened;
+mod outside;
+mod performing;
 mod program;
 mod program_fault;
+mod puttings;
 mod reports;
 mod running;
 mod session;
 mod sharing;
 mod takes;
+mod takings;
 mod text;
 mod texts;
 
@@ -22,9 +28,13 @@ pub use blanks::fresh;
 pub use cm_language::{AsmFault, AsmKind};
 pub use cm_line::{Line, LineFault, command};
 pub use fault::ChipFault;
+pub use files::{RunLine, run_files_alone, run_files_shared};
 pub use laws::{chip_faults_are_faults, chip_texts_are_programs};
+pub use lines::{chip_line, fresh_line, list_line};
 pub use listed::list;
 pub use opened::{OfRoom, Opened, open_image};
+pub use outside::{Outside, PutFault};
+pub use performing::perform;
 pub use program_fault::ProgramFault;
 pub use reports::report;
 pub use running::{open_run, run_alone, run_session, run_shared};

@@ -131,8 +131,9 @@ fn alone_in_room<const CAP: usize, I: Source, O: Sink>(
     requires writer { O.has_failed out.old ≡ false }
     ensures run { IfOk result (λ kept. IfSome (I.left commands.old) (λ lines. HasRun (start_in CAP machine.entry)
         program.now.acts lines (I.left commands.new) (O.contents out.old) (O.contents out.new) keeps kept)) }
-    ensures fault { IfErr result (λ fault. IfSome (I.left commands.old) (λ lines. HasBrokenOff (start_in CAP machine.entry)
-        program.now.acts lines (I.left commands.new) (O.contents out.old) (O.contents out.new) keeps fault)) }
+    ensures fault { IfErr result (λ fault. IfSome (I.left commands.old) (λ lines. HasBrokenOff
+        (start_in CAP machine.entry) program.now.acts lines (I.left commands.new) (O.contents out.old)
+        (O.contents out.new) keeps fault)) }
     ensures kept { IfOk result (λ kept. is_some kept ≡ keeps) }
     ensures read { (I.has_failed commands.new ≡ true) ↔ IsErrOf result ProgramFault.Read }
     ensures write { (O.has_failed out.new ≡ true) ↔ IsErrOf result ProgramFault.Write }
@@ -228,8 +229,9 @@ fn shared_in_room<const CAP: usize, R: Threads + Wait + Sync, I: Source, O: Sink
     requires writer { O.has_failed out.old ≡ false }
     ensures run { IfOk result (λ kept. IfSome (I.left commands.old) (λ lines. HasRun (start_in CAP machine.entry)
         program.now.acts lines (I.left commands.new) (O.contents out.old) (O.contents out.new) keeps kept)) }
-    ensures fault { IfErr result (λ fault. IfSome (I.left commands.old) (λ lines. HasBrokenOff (start_in CAP machine.entry)
-        program.now.acts lines (I.left commands.new) (O.contents out.old) (O.contents out.new) keeps fault)) }
+    ensures fault { IfErr result (λ fault. IfSome (I.left commands.old) (λ lines. HasBrokenOff
+        (start_in CAP machine.entry) program.now.acts lines (I.left commands.new) (O.contents out.old)
+        (O.contents out.new) keeps fault)) }
     ensures kept { IfOk result (λ kept. is_some kept ≡ keeps) }
     ensures read { (I.has_failed commands.new ≡ true) ↔ IsErrOf result ProgramFault.Read }
     ensures write { (O.has_failed out.new ≡ true) ↔ IsErrOf result ProgramFault.Write }
