@@ -6,3 +6,6 @@ mod Programs
 mod Opening
 mod Lifting
 mod Refusing
+mod Leading
+mod ToTheEnd
+mod Sessions

@@ -8,5 +8,13 @@ pub mod Listed
 pub mod Fresh
 pub mod Laws
 pub mod Opened
+pub mod Sizes
 pub mod Sharing
 pub mod Run
+pub mod Deeds
+pub mod Takings
+pub mod Puttings
+pub mod Files
+pub mod Runs
+pub mod Lines
+pub mod Performed

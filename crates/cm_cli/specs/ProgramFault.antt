@@ -8,6 +8,8 @@ use Rattle.cm_image_format.specs.declared.fault.ImageFault.{ImageFault}
 use Rattle.cm_image_format.specs.declared.fault.ImageFault.TheVariants as image
 use Rattle.cm_session.specs.declared.fault.SessionFault.{SessionFault}
 use Rattle.cm_session.specs.declared.fault.SessionFault.TheVariants as session
+use Rattle.cm_cli.specs.declared.outside.PutFault.{PutFault}
+use Rattle.cm_cli.specs.declared.outside.PutFault.TheVariants as put
 use Rattle.cm_cli.specs.declared.fault.ChipFault.{ChipFault}
 use Rattle.cm_cli.specs.declared.fault.ChipFault.TheVariants as chip
 use Rattle.cm_cli.specs.declared.takes.TakeFault.{TakeFault}
@@ -86,6 +88,11 @@ abbrev pub of_take : TakeFault → ProgramFault
 of_take take.Read = Read
 of_take take.TooMuch = TooMuch
 of_take take.Memory = Memory
+
+-- a file that was not put where it was wanted, as a fault of the program
+abbrev pub of_put : PutFault → ProgramFault
+of_put put.Write = Write
+of_put put.Memory = Memory
 
 -- a fault of the command line as one of the program
 abbrev pub of_line : LineFault → ProgramFault

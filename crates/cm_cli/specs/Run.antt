@@ -102,6 +102,14 @@ abbrev pub IsNotBegun : List ℕ → (Result (Vec ℕ Global) TakeFault → Type
 IsNotBegun image gives sharing fault =
     IsUnopened image fault ⊎ ((IsOpened image × GivesRefused gives fault) ⊎ IsUnshared image gives sharing fault)
 
+-- a session begins here, with this program: the image has this machine of the program's own, what the text may give is
+-- the program, and the machine can be shared out so
+pub record IsBegun (image : List ℕ) (gives : Result (Vec ℕ Global) TakeFault → Type 0) (sharing : Sharing)
+    (start : Start) (program : ProgramText) : Type 0 where
+  pub begins : opened image ≡ Ok start
+  pub is : GivesProgram gives program
+  pub shared : sharing_fault start.n sharing ≡ None
+
 -- a session began: the image has a machine of the program's own, what the text may give is a program, and the machine
 -- can be shared out so
 pub record HasBegun (image : List ℕ) (gives : Result (Vec ℕ Global) TakeFault → Type 0) (sharing : Sharing)

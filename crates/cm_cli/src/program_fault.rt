@@ -5,6 +5,7 @@ ghost use Rattle.cm_cli.specs.Report.{HasLine};
 ghost use Rattle.cm_cli.specs.ProgramFault.{told_number, kind_number, image_number, line_of};
 
 use crate::fault::ChipFault;
+use crate::outside::PutFault;
 use crate::takes::TakeFault;
 use cm_debug::SessionFault;
 use cm_image_format::ImageFault;
@@ -160,6 +161,20 @@ impl From<TakeFault> for ProgramFault {
             TakeFault::Read => ProgramFault::Read,
             TakeFault::TooMuch => ProgramFault::TooMuch,
             TakeFault::Memory => ProgramFault::Memory,
+        }
+    }
+}
+
+impl From<PutFault> for ProgramFault {
+    ghost use Rattle.std.specs.Prelude.{◌≡◌};
+    ghost use Rattle.cm_cli.specs.ProgramFault.{of_put};
+
+    ghost from_gives = { λ fault whole. whole ≡ of_put fault };
+
+    fn from(fault: PutFault) -> ProgramFault {
+        match fault {
+            PutFault::Write => ProgramFault::Write,
+            PutFault::Memory => ProgramFault::Memory,
         }
     }
 }

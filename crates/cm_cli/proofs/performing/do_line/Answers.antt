@@ -1,0 +1,27 @@
+use Rattle.std.proofs.Common.{refl}
+use Rattle.cm_cli.proofs.Leading.{did_so}
+use Rattle.cm_cli.proofs.performing.do_line.Goals as goal
+
+pub returns-in-Chip : goal.returns-in-Chip
+returns-in-Chip g c = record { does = rw c.in-Chip.is c.chip_line.ensures.does }
+
+pub returns-in-List : goal.returns-in-List
+returns-in-List g c = record {
+  does = rw c.in-List.is (did_so c.list_line.ensures.does
+      (λ deeds h. ((refl, c.requires.reader), rw c.as_str.ensures.value at h)));
+}
+
+pub returns-in-Fresh : goal.returns-in-Fresh
+returns-in-Fresh g c = record {
+  does = rw c.in-Fresh.is (did_so c.fresh_line.ensures.does
+      (λ deeds h. (
+        ((refl, c.requires.reader), refl, c.requires.writer),
+        rw c.as_str-in-Fresh.ensures.value at h,
+      )));
+}
+
+pub returns-then-workers-eq1 : goal.returns-then-workers-eq1
+returns-then-workers-eq1 g c = record { does = rw c.in-Run.is c.run_files_alone.ensures.does }
+
+pub returns-else-workers-eq1 : goal.returns-else-workers-eq1
+returns-else-workers-eq1 g c = record { does = rw c.in-Run.is c.run_files_shared.ensures.does }

@@ -1,0 +1,28 @@
+use Rattle.std.proofs.Common.{Ok, Err, refl}
+use Rattle.cm_cli.specs.Takings.{reads_by}
+use Rattle.cm_cli.proofs.Leading.{one}
+use Rattle.cm_cli.proofs.ToTheEnd.{taken_to}
+use Rattle.cm_cli.proofs.takings.take_file.Goals as goal
+
+pub returns-in-Ok : goal.returns-in-Ok
+returns-in-Ok g c = record {
+  deeds = _;
+  lead = one g.H.Outside.does c.args.outside.now _ c.open.new.self c.in-Ok.ensures.does;
+  so = record {
+    file = Ok c.in-Ok.file;
+    did = refl;
+    given = record {
+      after = c.take.new.source;
+      so = taken_to (reads_by g.H.File.Source.left g.H.File.Source.has_failed) c.args.limit c.in-Ok.file
+          c.take.new.source c.take.result c.take.ensures.within c.take.ensures.ok c.take.ensures.end
+          c.take.ensures.read c.take.ensures.too_much;
+    };
+  };
+}
+
+pub returns-in-Err : goal.returns-in-Err
+returns-in-Err g c = record {
+  deeds = _;
+  lead = one g.H.Outside.does c.args.outside.now _ c.open.new.self c.in-Err.ensures.does;
+  so = record { file = Err c.in-Err.field-0; did = refl; given = refl };
+}

@@ -1,0 +1,82 @@
+-- What the program does from its first word to its last. Ours.
+use Rattle.std.specs.Prelude.{◌≡◌, ◌⊎◌, ℕ, Bool, true, false, Option, Result, Ok, Err, Vec, String, List, [], ◌∷◌}
+use Rattle.std.specs.Prelude.{◌++◌, map, string_bytes}
+use Rattle.std.specs.declared.alloc.Global.{Global}
+use Rattle.std.specs.Io.KnownBytes.{Appends}
+use Rattle.cm_line.specs.declared.fault.LineFault.{LineFault}
+use Rattle.cm_line.specs.declared.fault.LineFault.TheVariants.{BadLine}
+use Rattle.cm_line.specs.declared.line.Line.{Line}
+use Rattle.cm_line.specs.Lines.{AsksFor, IsBadLine}
+use Rattle.cm_cli.specs.declared.program_fault.ProgramFault.{ProgramFault}
+use Rattle.cm_cli.specs.ProgramFault.{of_line, told_number, line_of}
+use Rattle.cm_cli.specs.Report.{HasFront, message_of, status_of}
+use Rattle.cm_cli.specs.Deeds.{Deed, Asked}
+use Rattle.cm_cli.specs.Takings.{Reads}
+use Rattle.cm_cli.specs.Files.{Streams}
+use Rattle.cm_cli.specs.Runs.{IsUntouched}
+use Rattle.cm_cli.specs.Lines.{DoesLine}
+
+-- words that were asked for
+abbrev pub words_in : Vec (String Global) Global → List (List ℕ)
+words_in words = map string_bytes words.items
+
+-- no line was made of these words: they are none, or memory ran out
+pub record AreNoLine (words : Vec (String Global) Global) (fault : ProgramFault) : Type 0 where
+  pub own : LineFault
+  pub told : fault ≡ of_line own
+  pub bad : own ≡ BadLine → IsBadLine (words_in words)
+
+-- why there is no line: the words were not to be had, or are none
+abbrev pub HasNoLine : Result (Vec (String Global) Global) LineFault → ProgramFault → Type 0
+HasNoLine (Ok words) fault = AreNoLine words fault
+HasNoLine (Err own) fault = fault ≡ of_line own
+
+-- the deeds are to ask for the words, which are this line
+pub record AsksLine {F P : Type 0} (line : Line) (deeds : List (Deed F P)) : Type 0 where
+  pub words : Vec (String Global) Global
+  pub did : deeds ≡ Asked (Ok words) ∷ []
+  pub asks : AsksFor (words_in words) line
+
+-- the deeds are to ask for the words, and there is no line
+pub record AsksNoLine {F P : Type 0} (fault : ProgramFault) (deeds : List (Deed F P)) : Type 0 where
+  pub words : Result (Vec (String Global) Global) LineFault
+  pub did : deeds ≡ Asked words ∷ []
+  pub why : HasNoLine words fault
+
+-- there is no line, and nothing more is touched
+pub record DoesNothing {F P : Type 0} (streams : Streams) (result : Result (Unit {0}) ProgramFault)
+    (deeds : List (Deed F P)) : Type 0 where
+  pub fault : ProgramFault
+  pub told : result ≡ Err fault
+  pub asks : AsksNoLine fault deeds
+  pub untouched : IsUntouched streams
+
+-- what the line asks for is done
+pub record DoesAsAsked {F P : Type 0} (reads : Reads F) (streams : Streams) (result : Result (Unit {0}) ProgramFault)
+    (deeds : List (Deed F P)) : Type 0 where
+  pub first : List (Deed F P)
+  pub second : List (Deed F P)
+  pub did : deeds ≡ first ++ second
+  pub line : Line
+  pub asks : AsksLine line first
+  pub does : DoesLine reads line streams result second
+
+abbrev pub DoesWords : {F P : Type 0} → Reads F → Streams → Result (Unit {0}) ProgramFault → List (Deed F P) → Type 0
+DoesWords reads streams result deeds =
+    DoesNothing streams result deeds ⊎ DoesAsAsked reads streams result deeds
+
+-- what standard error takes, and the status, where the program ends so: nothing and 0 without a fault; else the
+-- fault's line and its status, and 4 where that line could not be written
+abbrev pub Tells : Result (Unit {0}) ProgramFault → Option (List ℕ) → Option (List ℕ) → Bool → ℕ → Type 0
+Tells (Ok done) held holds failed status = (holds ≡ held) × (failed ≡ false) × (status ≡ 0)
+Tells (Err fault) held holds false status =
+    Appends held holds (message_of (told_number fault) (line_of fault)) × (status ≡ status_of (told_number fault))
+Tells (Err fault) held holds true status =
+    HasFront held holds (message_of (told_number fault) (line_of fault)) × (status ≡ 4)
+
+-- the whole program: what it does by its words, and what it tells
+pub record Performs {F P : Type 0} (reads : Reads F) (streams : Streams) (held holds : Option (List ℕ))
+    (failed : Bool) (status : ℕ) (deeds : List (Deed F P)) : Type 0 where
+  pub result : Result (Unit {0}) ProgramFault
+  pub does : DoesWords reads streams result deeds
+  pub tells : Tells result held holds failed status

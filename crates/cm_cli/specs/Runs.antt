@@ -1,0 +1,66 @@
+-- What `cm1 run` does from its first file to its last. Ours.
+use Rattle.std.specs.Prelude.{◌≡◌, ◌⊎◌, ◌↔◌, Bool, true, false, Option, Some, None, IfSome, IsErrOf, Result, Ok, Err}
+use Rattle.std.specs.Prelude.{Vec, ℕ, List, ◌++◌}
+use Rattle.std.specs.Option.{is_some}
+use Rattle.std.specs.declared.alloc.Global.{Global}
+use Rattle.cm_model.specs.declared.act.Act.{Act}
+use Rattle.cm_language.specs.Program.{ProgramText}
+use Rattle.cm_cli.specs.declared.files.RunLine.{RunLine}
+use Rattle.cm_cli.specs.declared.program_fault.ProgramFault.{ProgramFault}
+use Rattle.cm_cli.specs.declared.program_fault.ProgramFault.TheVariants.{Read, Write}
+use Rattle.cm_cli.specs.Opened.{Start}
+use Rattle.cm_cli.specs.Run.{HasRun, HasBrokenOff}
+use Rattle.cm_cli.specs.Deeds.{Deed}
+use Rattle.cm_cli.specs.Takings.{Reads}
+use Rattle.cm_cli.specs.Puttings.{Closes}
+use Rattle.cm_cli.specs.Files.{Streams, BeginsFiles, RefusesFiles}
+
+-- nothing was read of standard input
+abbrev pub IsUnread : Streams → Type 0
+IsUnread streams = (streams.rest ≡ streams.lines) × (streams.read_failed ≡ false)
+
+-- and nothing written
+abbrev pub IsUntouched : Streams → Type 0
+IsUntouched streams = IsUnread streams × (streams.holds ≡ streams.held) × (streams.write_failed ≡ false)
+
+-- how a session ends that begins here, with these acts
+abbrev pub EndsSession : Start → List Act → Streams → Bool → Result (Option (Vec ℕ Global)) ProgramFault → Type 0
+EndsSession start acts streams keeps (Ok kept) =
+    IfSome streams.lines (λ lines. HasRun start acts lines streams.rest streams.held streams.holds keeps kept)
+EndsSession start acts streams keeps (Err fault) =
+    IfSome streams.lines (λ lines. HasBrokenOff start acts lines streams.rest streams.held streams.holds keeps fault)
+
+-- a session that begins here, from standard input to standard output
+pub record IsSession (start : Start) (acts : List Act) (streams : Streams) (keeps : Bool)
+    (ran : Result (Option (Vec ℕ Global)) ProgramFault) : Type 0 where
+  pub ends : EndsSession start acts streams keeps ran
+  pub read : (streams.read_failed ≡ true) ↔ IsErrOf ran Read
+  pub write : (streams.write_failed ≡ true) ↔ IsErrOf ran Write
+
+-- no session begins
+pub record BeginsNot {F P : Type 0} (reads : Reads F) (line : RunLine) (streams : Streams)
+    (result : Result (Unit {0}) ProgramFault) (deeds : List (Deed F P)) : Type 0 where
+  pub fault : ProgramFault
+  pub told : result ≡ Err fault
+  pub refused : RefusesFiles reads line fault deeds
+  pub untouched : IsUntouched streams
+
+-- a session begins, and ends; then standard output goes out, and the file is written
+pub record RunsFiles {F P : Type 0} (reads : Reads F) (line : RunLine) (streams : Streams)
+    (result : Result (Unit {0}) ProgramFault) (deeds : List (Deed F P)) : Type 0 where
+  pub first : List (Deed F P)
+  pub second : List (Deed F P)
+  pub did : deeds ≡ first ++ second
+  pub start : Start
+  pub program : ProgramText
+  pub part : Option P
+  pub begins : BeginsFiles reads line start program part first
+  pub ran : Result (Option (Vec ℕ Global)) ProgramFault
+  pub session : IsSession start program.acts streams (is_some part) ran
+  pub closes : Closes part streams.holds ran result second
+
+-- what `cm1 run` does
+abbrev pub DoesRun : {F P : Type 0} → Reads F → RunLine → Streams → Result (Unit {0}) ProgramFault → List (Deed F P)
+    → Type 0
+DoesRun reads line streams result deeds =
+    BeginsNot reads line streams result deeds ⊎ RunsFiles reads line streams result deeds

@@ -1,0 +1,150 @@
+//! The whole program: from its words to the line on standard error and the status.
+
+ghost use Rattle.std.specs.Prelude.{◌≡◌, false, map, string_bytes, IfOk, IfErr, IsErrOf};
+ghost use Rattle.cm_line.specs.Lines.{AsksFor, IsBadLine};
+ghost use Rattle.cm_cli.specs.Deeds.{Did};
+ghost use Rattle.cm_cli.specs.Takings.{reads_by};
+ghost use Rattle.cm_cli.specs.Files.{streams};
+ghost use Rattle.cm_cli.specs.Lines.{DoesLine};
+ghost use Rattle.cm_cli.specs.Performed.{AsksLine, AsksNoLine, DoesWords, Performs, Tells, words_in};
+
+use crate::files::{RunLine, run_files_alone, run_files_shared};
+use crate::lines::{chip_line, fresh_line, list_line};
+use crate::outside::Outside;
+use crate::program_fault::ProgramFault;
+use crate::reports::report;
+use crate::sharing::Sharing;
+use cm_bits::{Sink, Source};
+use cm_line::{Line, LineFault, command};
+use std::alloc::Global;
+use std::sync::Wait;
+use std::thread::Threads;
+
+/// The status where even the line that tells a fault cannot be written.
+const UNTOLD: u8 = 4;
+
+/// Does what the words of the command line ask for, between standard input, output and error and what lies outside, and
+/// answers the status to end with.
+pub fn perform<R: Threads + Wait + Sync, H: Outside, I: Source, O: Sink, E: Sink>(
+    rt: &R,
+    alloc: Global,
+    outside: &mut H,
+    commands: &mut I,
+    answers: &mut O,
+    errors: &mut E,
+) -> u8
+    requires reader { I.has_failed commands.old ≡ false }
+    requires writer { O.has_failed answers.old ≡ false }
+    requires teller { E.has_failed errors.old ≡ false }
+    ensures performs { Did H.does outside.old outside.new (Performs (reads_by H.File.left H.File.has_failed)
+        (streams (I.left commands.old) (I.left commands.new) (O.contents answers.old) (O.contents answers.new)
+        (I.has_failed commands.new) (O.has_failed answers.new))
+        (E.contents errors.old) (E.contents errors.new) (E.has_failed errors.new) result) }
+{
+    let ended = do_words(rt, alloc, outside, commands, answers);
+    tell(ended, errors)
+}
+
+/// Does what the words ask for.
+fn do_words<R: Threads + Wait + Sync, H: Outside, I: Source, O: Sink>(
+    rt: &R,
+    alloc: Global,
+    outside: &mut H,
+    commands: &mut I,
+    answers: &mut O,
+) -> Result<(), ProgramFault>
+    requires reader { I.has_failed commands.old ≡ false }
+    requires writer { O.has_failed answers.old ≡ false }
+    ensures does { Did H.does outside.old outside.new (DoesWords (reads_by H.File.left H.File.has_failed)
+        (streams (I.left commands.old) (I.left commands.new) (O.contents answers.old) (O.contents answers.new)
+        (I.has_failed commands.new) (O.has_failed answers.new)) result) }
+{
+    match ask_line(alloc, outside) {
+        Ok(line) => do_line(rt, alloc, outside, line, commands, answers),
+        Err(fault) => Err(fault),
+    }
+}
+
+/// Does what a line asks for.
+fn do_line<R: Threads + Wait + Sync, H: Outside, I: Source, O: Sink>(
+    rt: &R,
+    alloc: Global,
+    outside: &mut H,
+    line: Line,
+    commands: &mut I,
+    answers: &mut O,
+) -> Result<(), ProgramFault>
+    requires reader { I.has_failed commands.old ≡ false }
+    requires writer { O.has_failed answers.old ≡ false }
+    ensures does { Did H.does outside.old outside.new (DoesLine (reads_by H.File.left H.File.has_failed) line
+        (streams (I.left commands.old) (I.left commands.new) (O.contents answers.old) (O.contents answers.new)
+        (I.has_failed commands.new) (O.has_failed answers.new)) result) }
+{
+    match line {
+        Line::Chip => chip_line(alloc, outside, commands, answers),
+        Line::List { program } => list_line(alloc, outside, program.as_str(), answers),
+        Line::Fresh { n, cap, file } => fresh_line(alloc, outside, n, cap, file.as_str()),
+        Line::Run {
+            image,
+            program,
+            split,
+            workers,
+            out,
+        } => {
+            let line = RunLine {
+                image,
+                program,
+                sharing: Sharing { split, workers },
+                out,
+            };
+            if workers == 1 {
+                return run_files_alone(alloc, outside, &line, commands, answers);
+            }
+            run_files_shared(rt, alloc, outside, &line, commands, answers)
+        }
+    }
+}
+
+/// The line that the words of the command line ask for.
+fn ask_line<H: Outside>(alloc: Global, outside: &mut H) -> Result<Line, ProgramFault>
+    ensures value { IfOk result (λ line. Did H.does outside.old outside.new (AsksLine line)) }
+    ensures refused { IfErr result (λ fault. Did H.does outside.old outside.new (AsksNoLine fault)) }
+{
+    let words = match outside.words(alloc) {
+        Ok(words) => words,
+        Err(fault) => return Err(ProgramFault::from(fault)),
+    };
+    match line_of(alloc, &words) {
+        Ok(line) => Ok(line),
+        Err(fault) => Err(ProgramFault::from(fault)),
+    }
+}
+
+/// The line that these words are.
+fn line_of(alloc: Global, texts: &Vec<String>) -> Result<Line, LineFault>
+    ensures value { IfOk result (AsksFor (words_in texts.now)) }
+    ensures bad { IsErrOf result LineFault.BadLine → IsBadLine (words_in texts.now) }
+{
+    let mut words = Vec::new(alloc);
+    for text in texts {
+        if words.push(text.as_str()).is_err() {
+            return Err(LineFault::Memory);
+        }
+    }
+    command(alloc, words.as_slice())
+}
+
+/// Tells a fault, if there is one, and answers the status to end with.
+fn tell<E: Sink>(ended: Result<(), ProgramFault>, errors: &mut E) -> u8
+    requires working { E.has_failed errors.old ≡ false }
+    ensures value { Tells ended (E.contents errors.old) (E.contents errors.new) (E.has_failed errors.new) result }
+{
+    let fault = match ended {
+        Ok(()) => return 0,
+        Err(fault) => fault,
+    };
+    match report(fault.number(), fault.line(), errors) {
+        Ok(status) => status,
+        Err(_) => UNTOLD,
+    }
+}
