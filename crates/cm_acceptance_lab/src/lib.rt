@@ -1,0 +1,23 @@
+//! Tests of the laboratory: data of whole machines, texts and their faults; it has no code of its own.
+#![tactic(auto)]
+
+#[cfg(test)]
+mod again;
+#[cfg(test)]
+mod drawn;
+#[cfg(test)]
+mod draws;
+#[cfg(test)]
+mod ends;
+#[cfg(test)]
+mod grid;
+#[cfg(test)]
+mod growths;
+#[cfg(test)]
+mod performed;
+#[cfg(test)]
+mod pictures;
+#[cfg(test)]
+mod shown;
+#[cfg(test)]
+mod texts;
