@@ -20,11 +20,11 @@ use Rattle.cm_image.specs.Planes.{AreInUse, flags_text, planes_below, listed_bel
 
 -- ---- what is made of each number
 
-made_zero : {X : Type 0} (g : X → List ℕ) (f : ℕ → X) (text : List ℕ) → text ≡ text ++ flat_map g (each_from 0 0 f)
+pub made_zero : {X : Type 0} (g : X → List ℕ) (f : ℕ → X) (text : List ℕ) → text ≡ text ++ flat_map g (each_from 0 0 f)
 unfolding each_from
 made_zero g f text = sym (append-nil text)
 
-made_more : {X : Type 0} (g : X → List ℕ) (f : ℕ → X) (first n j : ℕ) → first + n ≡ j
+pub made_more : {X : Type 0} (g : X → List ℕ) (f : ℕ → X) (first n j : ℕ) → first + n ≡ j
     → flat_map g (each_from first (n + 1) f) ≡ flat_map g (each_from first n f) ++ g (f j)
 unfolding each_from
 made_more g f first n j is =

@@ -5,5 +5,6 @@ mod Waiting
 mod Building
 mod Loading
 mod Dumping
+mod Listing
 mod Lengths
 mod Counting

@@ -34,6 +34,11 @@ listing_of address plane = if plane == 0 then [] else listed_text (record { at =
 abbrev pub listing_at : List Processor → ℕ → List ℕ
 listing_at chip address = listing_of address (memory_plane_of chip address)
 
+-- those of a list below an address, one after another
+unfoldable pub listings : List ℕ → ℕ → List ℕ
+listings planes count =
+    flat_map (λ address. listing_of address (slice_index planes address)) (each_from 0 count (λ address. address))
+
 -- addresses below this one, at which alone planes of so many chips are listed
 pub record AreInUse (count : ℕ) (chips : Chips) (below : ℕ) (addresses : List ℕ) : Type 0 where
   pub within : (i : ℕ) → i < length addresses → slice_index addresses i < below

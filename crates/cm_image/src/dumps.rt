@@ -15,6 +15,7 @@ ghost use Rattle.cm_image.specs.Planes.{AreCounted, AreInUse, chips_text, flags_
 ghost use Rattle.cm_image.specs.Planes.{listed_below, planes_below};
 
 use crate::counts::{addresses_in_use, listed_planes};
+use crate::dense::{TILE_PLANES, push_dense_chips};
 use crate::numbers::chip_count;
 use cm_array::Machine;
 use cm_bits::{Addr, FlagNo, NoMemory, Plane};
@@ -37,6 +38,9 @@ const LISTED_LEN: usize = 4;
 
 const MESSAGE_LEN: usize = 18;
 
+/// From so many addresses in use on, planes are written near chip by chip, those of all addresses.
+const DENSE: usize = 1024;
+
 /// So many chips at a time are laid out near: 512 KB, which a cache holds while they are written.
 const TILE: u16 = 64;
 
@@ -53,11 +57,33 @@ pub fn dump<const N: usize, const CAP: usize>(
     let counts = listed_planes(alloc, machine)?;
     let addresses = addresses_in_use(alloc, machine)?;
     let mut text = Vec::with_capacity(alloc, text_len(machine, &counts))?;
-    let mut tile = Run::blank(alloc, TILE)?;
     push_shape(&mut text, N, CAP)?;
     push_u64(&mut text, cycles)?;
-    push_chips(&mut text, machine, &counts, &addresses, &mut tile)?;
+    push_all_chips(alloc, &mut text, machine, &counts, &addresses)?;
     Ok(text)
+}
+
+/// What an image has of each chip, by number.
+fn push_all_chips<const N: usize, const CAP: usize>(
+    alloc: Global,
+    text: &mut Vec<u8>,
+    machine: &Machine<N, CAP>,
+    counts: &[u16],
+    addresses: &[u16],
+) -> Result<(), NoMemory>
+    requires dimension { N ≤ 12 }
+    requires room { CAP ≤ 15 }
+    requires counts { AreCounted (2 ^ N) machine.now.machine.chips 4096 counts.now }
+    requires in_use { AreInUse (2 ^ N) machine.now.machine.chips 4096 addresses.now }
+    ensures ok { OnOk result (text.new.items
+        ≡ text.old.items ++ flat_map chip_text (image_of N machine.now.machine).chips) }
+{
+    if addresses.len() >= DENSE {
+        let mut planes = vec![in alloc; 0; TILE_PLANES]?;
+        return push_dense_chips(text, machine, counts, &mut planes);
+    }
+    let mut tile = Run::blank(alloc, TILE)?;
+    push_chips(text, machine, counts, addresses, &mut tile)
 }
 
 /// How many bytes the image has, so that its list need not grow.
@@ -85,7 +111,7 @@ fn chip_len(planes: u16, buffer: &[Message]) -> usize
     BLANK_CHIP_LEN + usize::from(planes) * LISTED_LEN + buffer.len() * MESSAGE_LEN
 }
 
-/// What an image has of each chip, by number: some chips at a time are laid out near.
+/// The same, where few addresses are in use: some chips at a time are laid out near.
 fn push_chips<const N: usize, const CAP: usize>(
     text: &mut Vec<u8>,
     machine: &Machine<N, CAP>,
@@ -140,7 +166,7 @@ fn push_tile<const N: usize, const CAP: usize>(
     Ok(())
 }
 
-fn push(text: &mut Vec<u8>, more: &[u8]) -> Result<(), NoMemory>
+pub(crate) fn push(text: &mut Vec<u8>, more: &[u8]) -> Result<(), NoMemory>
     ensures ok { OnOk result (text.new.items ≡ text.old.items ++ more.now) }
 {
     text.extend_from_slice(more)?;
@@ -148,14 +174,14 @@ fn push(text: &mut Vec<u8>, more: &[u8]) -> Result<(), NoMemory>
 }
 
 #[tactic(auto, unfolding(cm_message::specs::Bytes::number))]
-fn push_u8(text: &mut Vec<u8>, n: u8) -> Result<(), NoMemory>
+pub(crate) fn push_u8(text: &mut Vec<u8>, n: u8) -> Result<(), NoMemory>
     ensures ok { OnOk result (text.new.items ≡ text.old.items ++ number w8 n) }
 {
     push(text, &[n])
 }
 
 #[tactic(auto, unfolding(cm_message::specs::Bytes::number))]
-fn push_u16(text: &mut Vec<u8>, n: u16) -> Result<(), NoMemory>
+pub(crate) fn push_u16(text: &mut Vec<u8>, n: u16) -> Result<(), NoMemory>
     ensures ok { OnOk result (text.new.items ≡ text.old.items ++ number w16 n) }
 {
     push(text, &n.to_be_bytes())
@@ -211,7 +237,7 @@ fn push_chip(
     Ok(())
 }
 
-fn push_flags(text: &mut Vec<u8>, chip: &ChipView<'_>) -> Result<(), NoMemory>
+pub(crate) fn push_flags(text: &mut Vec<u8>, chip: &ChipView<'_>) -> Result<(), NoMemory>
     ensures ok { OnOk result (text.new.items ≡ text.old.items ++ flags_text chip.now 16) }
 {
     for f in 0..FLAGS {
@@ -233,7 +259,7 @@ fn push_planes(text: &mut Vec<u8>, chip: &ChipView<'_>, addresses: &[u16]) -> Re
 
 /// The address and the plane, but nothing where it is 0.
 #[tactic(auto, unfolding(cm_message::specs::Bytes::number))]
-fn push_plane(text: &mut Vec<u8>, at: u16, plane: Plane) -> Result<(), NoMemory>
+pub(crate) fn push_plane(text: &mut Vec<u8>, at: u16, plane: Plane) -> Result<(), NoMemory>
     ensures ok { OnOk result (text.new.items ≡ text.old.items ++ listing_of at plane) }
 {
     if plane == 0 {
@@ -244,7 +270,7 @@ fn push_plane(text: &mut Vec<u8>, at: u16, plane: Plane) -> Result<(), NoMemory>
     push(text, &[at_high, at_low, high, low])
 }
 
-fn push_messages(text: &mut Vec<u8>, messages: &[Message]) -> Result<(), NoMemory>
+pub(crate) fn push_messages(text: &mut Vec<u8>, messages: &[Message]) -> Result<(), NoMemory>
     ensures ok { OnOk result (text.new.items ≡ text.old.items ++ flat_map message_text messages.now) }
 {
     for message in messages {

@@ -3,6 +3,7 @@
 
 mod chips;
 mod counts;
+mod dense;
 mod dumps;
 mod header;
 mod loads;

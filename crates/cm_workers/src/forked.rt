@@ -28,8 +28,11 @@ use std::sync::Wait;
 use std::thread::Threads;
 use thiserror::Error;
 
-/// So many times a chip goes through an act before blocks of 4,096 chips are cut and put together.
-const SOON: usize = 1 << 22;
+/// So many acts go through 4,096 chips before blocks of these are cut and put together.
+const CUT: usize = 1024;
+
+/// And so many before they are through a round.
+const ROUND: usize = 128;
 
 /// Why there is no such runner.
 #[derive(Clone, Copy, Debug, PartialEq, Eq, Error)]
@@ -197,22 +200,23 @@ fn fork<const N: usize, const CAP: usize, R: Threads + Wait>(
 {
     let _clock = machine.clock();
     admit_all(passage, sizes.workers)?;
-    if is_soon_done(passage, sizes.dims, acts, cycles) {
+    let rounds = rounds(alloc, sizes.dims, acts, sizes.k)?;
+    if is_soon_done(passage, sizes.dims, acts, rounds.len(), cycles) {
         return run_alone(machine, acts);
     }
-    let rounds = rounds(alloc, sizes.dims, acts, sizes.k)?;
     let all = cut_up(alloc, machine, sizes, cycles)?;
     let after = run_blocks(rt, alloc, sizes, acts, &rounds, passage, all)?;
     join(after.blocks, machine);
     Ok(())
 }
 
-/// Whether nobody looks, and a list is run before blocks were cut: it has no petit cycle, and few acts for that many
-/// chips.
-fn is_soon_done(passage: &Passage, dims: u8, acts: &[Act], cycles: usize) -> bool
+/// Whether nobody looks, and one thread runs a list before blocks were cut and came through so many rounds: it has no
+/// petit cycle, and few acts for that many chips.
+fn is_soon_done(passage: &Passage, dims: u8, acts: &[Act], rounds: usize, cycles: usize) -> bool
     requires dimension { dims ≤ 12 }
 {
-    matches!(passage, Passage::Open) && cycles == 0 && acts.len() <= SOON >> dims
+    let saved = rounds.saturating_mul(ROUND).saturating_add(CUT);
+    matches!(passage, Passage::Open) && cycles == 0 && acts.len() >> (12 - dims) <= saved
 }
 
 /// A machine goes through a run in the thread of the caller.

@@ -1,13 +1,11 @@
-use Rattle.std.proofs.Common.{◌≡◌, ◌∙◌, ◌^◌, ℕ, List, length, sym, ap, subst, arith, lit<}
-use Rattle.cm_model.specs.Chip.{blank_chip}
-use Rattle.cm_model.proofs.Each.{length-each_from}
+use Rattle.std.proofs.Common.{◌≡◌, ◌∙◌, ◌^◌, ℕ, List, sym, ap, subst, arith, lit<}
 use Rattle.cm_image_format.specs.Whole.{text_of, read_image}
 use Rattle.cm_image.specs.Planes.{AreCounted, AreInUse}
 use Rattle.cm_image.proofs.Dumping.{all_written}
 use Rattle.cm_image.proofs.dumps.dump.Goals as goal
 
-pub push_chips-requires : goal.push_chips-requires
-push_chips-requires g c =
+pub push_all_chips-requires : goal.push_all_chips-requires
+push_all_chips-requires g c =
     let sizes = c.clock-cycles.ensures.sizes in
     let same : c.deref-2.result.now ≡ c.in_ok-counts.counts.items = c.deref-2.ensures.value in
     let in_use : c.deref-3.result.now ≡ c.in_ok-addresses.addresses.items = c.deref-3.ensures.value in (
@@ -20,12 +18,9 @@ push_chips-requires g c =
             subst (λ (counts : List ℕ). AreCounted (2 ^ g.row.N) c.args.machine.now.machine.chips 4096 counts)
                 (sym same)
                 c.in_ok-counts.ensures.value,
-            (
-              subst (λ (addresses : List ℕ). AreInUse (2 ^ g.row.N) c.args.machine.now.machine.chips 4096 addresses)
-                  (sym in_use)
-                  c.in_ok-addresses.ensures.value,
-              ap length c.in_ok-tile.ensures.value ∙ length-each_from 0 64 (λ k. blank_chip),
-            ),
+            subst (λ (addresses : List ℕ). AreInUse (2 ^ g.row.N) c.args.machine.now.machine.chips 4096 addresses)
+                (sym in_use)
+                c.in_ok-addresses.ensures.value,
           ),
         ),
       ),
@@ -33,10 +28,10 @@ push_chips-requires g c =
 
 pub returns : goal.returns
 returns g c =
-    let text : c.push_chips.new.text.items ≡ text_of g.row.N g.row.CAP c.args.machine.now.machine =
+    let text : c.push_all_chips.new.text.items ≡ text_of g.row.N g.row.CAP c.args.machine.now.machine =
     all_written g.row.N g.row.CAP c.clock-cycles.result c.args.machine.now.machine _ _ _ _ c.in_ok-text.ensures.items
     c.in_ok-push_shape.ensures.ok c.in_ok-push_u64.ensures.ok c.clock-cycles.ensures.value
-    c.in_ok-push_chips.ensures.ok in
+    c.in_ok-push_all_chips.ensures.ok in
     let sizes = c.clock-cycles.ensures.sizes in
     record {
       value = text;

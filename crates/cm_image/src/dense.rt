@@ -1,0 +1,178 @@
+//! Writing chips of a machine in which most addresses are in use.
+
+ghost use Rattle.std.specs.Prelude.{◌≡◌, ℕ, ◌+◌, ◌*◌, ◌++◌, ◌^◌, ◌<◌, ◌≤◌, true, length, take, OnOk};
+ghost use Rattle.std.specs.Prelude.{slice_index};
+ghost use Rattle.std.specs.List.{flat_map};
+ghost use Rattle.cm_model.specs.Array.{chip_at};
+ghost use Rattle.cm_image_format.specs.Image.{chip_text};
+ghost use Rattle.cm_image_format.specs.Whole.{memory_plane_of, image_of_chip, image_of};
+ghost use Rattle.cm_image.specs.Planes.{AreCounted, chips_text, listing_of, listings, planes_below};
+
+use crate::dumps::{push, push_flags, push_messages, push_plane, push_u8, push_u16};
+use crate::numbers::chip_count;
+use cm_array::Machine;
+use cm_bits::{NoMemory, Plane};
+use cm_element::{ChipView, PITCH};
+use cm_message::Message;
+
+/// The planes of so many chips at a time are written near: 528 KB, which a cache holds.
+const TILE: u16 = 64;
+
+/// How many planes that is.
+pub(crate) const TILE_PLANES: usize = 64 * PITCH;
+
+const ADDRESSES: u16 = 4096;
+
+/// The bytes that list the planes of all addresses.
+const LISTED_LEN: usize = 16384;
+
+/// What an image has of each chip, by number.
+pub(crate) fn push_dense_chips<const N: usize, const CAP: usize>(
+    text: &mut Vec<u8>,
+    machine: &Machine<N, CAP>,
+    counts: &[u16],
+    planes: &mut [Plane],
+) -> Result<(), NoMemory>
+    requires dimension { N ≤ 12 }
+    requires room { CAP ≤ 15 }
+    requires counts { AreCounted (2 ^ N) machine.now.machine.chips 4096 counts.now }
+    requires planes { length planes.old ≡ 264192 }
+    ensures ok { OnOk result (text.new.items
+        ≡ text.old.items ++ flat_map chip_text (image_of N machine.now.machine).chips) }
+{
+    let count = chip_count::<N>();
+    let mut first = 0;
+    while first < count {
+        let some = TILE.min(count - first);
+        write_tile(machine, first, some, planes);
+        push_tile(text, machine, counts, planes, first, some)?;
+        first += some;
+    }
+    Ok(())
+}
+
+/// Writes the planes of so many chips, from `first` on, chip by chip.
+fn write_tile<const N: usize, const CAP: usize>(
+    machine: &Machine<N, CAP>,
+    first: u16,
+    some: u16,
+    planes: &mut [Plane],
+)
+    requires chips { first + some ≤ 2 ^ N }
+    requires few { some * 4128 ≤ length planes.old }
+    ensures value { (c a : ℕ) → c < some → a < 4096
+        → slice_index planes.new (c * 4128 + a) ≡ memory_plane_of (chip_at machine.now.machine.chips (first + c)) a }
+{
+    machine.write_planes(first, some, planes);
+}
+
+/// What it has of so many chips, from `first` on, whose planes lie chip by chip.
+fn push_tile<const N: usize, const CAP: usize>(
+    text: &mut Vec<u8>,
+    machine: &Machine<N, CAP>,
+    counts: &[u16],
+    planes: &[Plane],
+    first: u16,
+    some: u16,
+) -> Result<(), NoMemory>
+    requires room { CAP ≤ 15 }
+    requires counts { AreCounted (2 ^ N) machine.now.machine.chips 4096 counts.now }
+    requires chips { first + some ≤ 2 ^ N }
+    requires within { first + some < 65536 }
+    requires few { some * 4128 ≤ length planes.now }
+    requires planes { (c a : ℕ) → c < some → a < 4096
+        → slice_index planes.now (c * 4128 + a) ≡ memory_plane_of (chip_at machine.now.machine.chips (first + c)) a }
+    ensures ok { OnOk result (text.new.items ≡ text.old.items ++ chips_text machine.now.machine first some) }
+{
+    for c in 0..some {
+        let number = first + c;
+        let place = usize::from(c) * PITCH;
+        let listed = counts[usize::from(number)];
+        let buffer = machine.buffer(number);
+        push_chip(
+            text,
+            &machine.chip(number),
+            listed,
+            &planes[place..],
+            buffer,
+        )?;
+    }
+    Ok(())
+}
+
+/// What it has of a chip with so many listed planes, all of them among these, and this buffer.
+fn push_chip(
+    text: &mut Vec<u8>,
+    chip: &ChipView<'_>,
+    listed: u16,
+    planes: &[Plane],
+    buffer: &[Message],
+) -> Result<(), NoMemory>
+    requires listed { listed ≡ length (planes_below chip.now 4096) }
+    requires long { 4096 ≤ length planes.now }
+    requires planes { (a : ℕ) → a < 4096 → slice_index planes.now a ≡ memory_plane_of chip.now a }
+    requires few { length buffer.now < 256 }
+    ensures ok { OnOk result (text.new.items ≡ text.old.items ++ chip_text (image_of_chip chip.now buffer.now)) }
+{
+    push_flags(text, chip)?;
+    push_u16(text, listed)?;
+    push_memory(text, planes)?;
+    push_u8(text, buffer.len() as u8)?;
+    push_messages(text, buffer)?;
+    Ok(())
+}
+
+/// The planes of all addresses that are not 0: together, if none is.
+fn push_memory(text: &mut Vec<u8>, planes: &[Plane]) -> Result<(), NoMemory>
+    requires long { 4096 ≤ length planes.now }
+    ensures ok { OnOk result (text.new.items ≡ text.old.items ++ listings planes.now 4096) }
+{
+    let mut listed = [0u8; LISTED_LEN];
+    if list_all(&mut listed, planes) {
+        return push(text, &listed);
+    }
+    push_some(text, planes)
+}
+
+/// Lists the planes of all addresses, and tells whether none is 0.
+fn list_all(listed: &mut [u8], planes: &[Plane]) -> bool
+    requires room { length listed.old ≡ 16384 }
+    requires long { 4096 ≤ length planes.now }
+    ensures full { result ≡ true → listed.new ≡ listings planes.now 4096 }
+{
+    let mut zeros = 0;
+    for at in 0..ADDRESSES {
+        let i = usize::from(at);
+        // Nothing is left early, so that many are listed at a time.
+        zeros += put_listing(listed, 4 * i, at, planes[i]);
+    }
+    zeros == 0
+}
+
+/// Puts the address and the plane into bytes from a place on, and counts it where it is 0.
+#[inline(always)]
+#[tactic(auto, using(crate::proofs::Listing::four_put), unfolding(cm_message::specs::Bytes::number))]
+fn put_listing(bytes: &mut [u8], i: usize, at: u16, plane: Plane) -> u32
+    requires within { i + 4 ≤ length bytes.old }
+    ensures value { result ≡ 0 → take (i + 4) bytes.new ≡ take i bytes.old ++ listing_of at plane }
+    ensures few { result ≤ 1 }
+{
+    let [at_high, at_low] = at.to_be_bytes();
+    let [high, low] = plane.to_be_bytes();
+    bytes[i] = at_high;
+    bytes[i + 1] = at_low;
+    bytes[i + 2] = high;
+    bytes[i + 3] = low;
+    u32::from(plane == 0)
+}
+
+/// Those that are not 0.
+fn push_some(text: &mut Vec<u8>, planes: &[Plane]) -> Result<(), NoMemory>
+    requires long { 4096 ≤ length planes.now }
+    ensures ok { OnOk result (text.new.items ≡ text.old.items ++ listings planes.now 4096) }
+{
+    for at in 0..ADDRESSES {
+        push_plane(text, at, planes[usize::from(at)])?;
+    }
+    Ok(())
+}
