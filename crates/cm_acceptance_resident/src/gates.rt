@@ -1,0 +1,142 @@
+//! Gates that admit workers or do not.
+
+ghost use Rattle.std.specs.Prelude.{IsTrue};
+ghost use Rattle.std.specs.List.{All};
+ghost use Rattle.std.specs.Thread.{IsSync};
+ghost use Rattle.cm_workers.specs.Gates.{ComesBy};
+
+use crate::machines::{agree, flag, poke_plane};
+use cm_array::{Machine, Plain, RunFault, Runner};
+use cm_model::Act;
+use cm_resident::Resident;
+use cm_subcube::Block;
+use cm_workers::{Gate, Passage};
+use std::alloc::Global;
+use std::sync::atomic::{AtomicU64, Ordering};
+use std::sync::{Arc, Wait};
+use std::thread::Threads;
+
+/// How often a gate was asked, and how often it was passed.
+#[derive(Drop)]
+struct Calls {
+    asked: AtomicU64,
+    passed: AtomicU64,
+}
+
+impl Calls {
+    fn told(&self) -> (u64, u64) {
+        (
+            self.asked.load(Ordering::SeqCst),
+            self.passed.load(Ordering::SeqCst),
+        )
+    }
+}
+
+/// A gate that does not admit worker 3 where it is asked for the fourth time.
+#[derive(Drop)]
+struct Reluctant {
+    calls: Arc<Calls, Global>,
+}
+
+impl Gate for Reluctant {
+    ghost admits = { λ gate worker. Unit {0} };
+
+    fn admit(&self, worker: u16) -> bool {
+        let before = self.calls.asked.fetch_add(1, Ordering::SeqCst);
+        worker != 3 || before != 3
+    }
+
+    fn pass(&self, _worker: u16, _round: u32, _blocks: &[Block])
+        requires gathered { All (λ b. IsTrue b.kept.gathered) _blocks.now }
+        requires own { ComesBy _worker _round _blocks.now }
+    {
+        self.calls.passed.fetch_add(1, Ordering::SeqCst);
+    }
+}
+
+/// A machine of sixteen chips in which some processors ask to send.
+fn asking(alloc: Global) -> Option<Machine<4, 7>> {
+    let mut machine = Machine::<4, 7>::blank(alloc).ok()?;
+    poke_plane(&mut machine, 0, flag(12), 0x00ff);
+    poke_plane(&mut machine, 9, flag(12), 0xf0f0);
+    Some(machine)
+}
+
+fn no_calls(alloc: Global) -> Option<Arc<Calls, Global>> {
+    let calls = Calls {
+        asked: AtomicU64::new(0),
+        passed: AtomicU64::new(0),
+    };
+    Arc::new(alloc, calls).ok()
+}
+
+/// How a runner ends a petit cycle, and whether the machine is then as one thread leaves it, or else as it was.
+fn cycle<X: Runner<4, 7>>(
+    runner: &mut X,
+    alloc: Global,
+    machine: &mut Machine<4, 7>,
+) -> Option<(Option<RunFault>, bool)>
+    requires runner { X.ready }
+{
+    let mut wanted = machine.copy(alloc).ok()?;
+    let refused = runner.go(machine, &[Act::Cycle]).err();
+    if refused.is_none() {
+        Plain.go(&mut wanted, &[Act::Cycle]).ok()?;
+    }
+    Some((refused, agree(machine, &wanted, 16)))
+}
+
+/// The same, and how often the gate was asked and passed so far.
+type Cycled = ((Option<RunFault>, bool), (u64, u64));
+
+/// What two petit cycles tell, one after the other.
+fn cycles<X: Runner<4, 7>>(
+    runner: &mut X,
+    alloc: Global,
+    machine: &mut Machine<4, 7>,
+    calls: &Arc<Calls, Global>,
+) -> Option<[Cycled; 2]>
+    requires runner { X.ready }
+{
+    let first = cycle(runner, alloc, machine)?;
+    let between = calls.told();
+    let second = cycle(runner, alloc, machine)?;
+    Some([(first, between), (second, calls.told())])
+}
+
+/// What four workers tell, of whom the gate does not admit one in the first.
+fn gated<R: Threads + Wait + Sync>(
+    rt: &R,
+    alloc: Global,
+    machine: &mut Machine<4, 7>,
+    calls: &Arc<Calls, Global>,
+) -> Option<[Cycled; 2]>
+    requires threads { IsSync R.row }
+{
+    let gate = Reluctant {
+        calls: Arc::try_clone(calls).ok()?,
+    };
+    let passage = Passage::Gated(Box::new(alloc, gate).ok()?);
+    let mut resident = Resident::new::<4>(rt, alloc, 2, 4, passage).ok()?;
+    cycles(&mut resident, alloc, machine, calls)
+}
+
+/// The same of a machine in which some processors ask to send.
+fn told<R: Threads + Wait + Sync>(rt: &R, alloc: Global) -> Option<[Cycled; 2]>
+    requires threads { IsSync R.row }
+{
+    let calls = no_calls(alloc)?;
+    let mut machine = asking(alloc)?;
+    gated(rt, alloc, &mut machine, &calls)
+}
+
+#[test]
+fn a_worker_that_is_not_admitted_leaves_the_machine_as_it_was_and_may_be_admitted_later(
+    rt: HostRuntime,
+) {
+    let wanted = [
+        ((Some(RunFault::NoThread), true), (4, 0)),
+        ((None, true), (8, 8)),
+    ];
+    assert_eq!(rt; told(&rt, rt.alloc()), Some(wanted));
+}

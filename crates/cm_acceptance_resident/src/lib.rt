@@ -1,0 +1,17 @@
+//! Tests of workers that run on; it has no code of its own.
+#![tactic(auto)]
+
+#[cfg(test)]
+mod draws;
+#[cfg(test)]
+mod gates;
+#[cfg(test)]
+mod machines;
+#[cfg(test)]
+mod meeting;
+#[cfg(test)]
+mod messages;
+#[cfg(test)]
+mod refused;
+#[cfg(test)]
+mod shares;

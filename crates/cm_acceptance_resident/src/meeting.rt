@@ -1,0 +1,200 @@
+//! Gates at which workers wait for one another: in each round for all others, or for one that is a round ahead.
+
+ghost use Rattle.std.specs.Prelude.{IsTrue, ◌<◌};
+ghost use Rattle.std.specs.List.{All};
+ghost use Rattle.std.specs.Thread.{IsSync};
+ghost use Rattle.cm_workers.specs.Gates.{ComesBy};
+
+use crate::machines::agree;
+use crate::messages::{has_one_of_four, program};
+use cm_array::{Machine, Plain, Runner};
+use cm_model::Act;
+use cm_resident::Resident;
+use cm_subcube::Block;
+use cm_workers::{Gate, Passage};
+use std::alloc::Global;
+use std::hint::spin_loop;
+use std::sync::atomic::{AtomicU64, Ordering};
+use std::sync::{Arc, Wait};
+use std::test::Fail;
+use std::thread::Threads;
+
+/// How often a worker looks whether the others have come.
+const TURNS: u32 = 100_000_000;
+
+/// What all workers noted.
+#[derive(Drop)]
+struct Notes {
+    /// How often one came to a round.
+    came: AtomicU64,
+    /// How often another did not come in time.
+    late: AtomicU64,
+    /// How often another's blocks were shown.
+    wrong: AtomicU64,
+    /// Whether worker 0 came to round 1.
+    ahead: AtomicU64,
+}
+
+impl Notes {
+    /// Waits until a count is as high; notes where it is not in time.
+    fn wait(&self, count: &AtomicU64, wanted: u64) {
+        if self.late.load(Ordering::SeqCst) > 0 {
+            return;
+        }
+        for _turn in 0..TURNS {
+            if count.load(Ordering::SeqCst) >= wanted {
+                return;
+            }
+            spin_loop();
+        }
+        self.late.fetch_add(1, Ordering::SeqCst);
+    }
+
+    /// Calls of all, how often one was late, and how often another's blocks were shown.
+    fn told(&self) -> [u64; 3] {
+        [
+            self.came.load(Ordering::SeqCst),
+            self.late.load(Ordering::SeqCst),
+            self.wrong.load(Ordering::SeqCst),
+        ]
+    }
+}
+
+/// Who waits for whom.
+#[derive(Clone, Copy)]
+enum Waits {
+    /// Each of so many workers, in each round, for all others.
+    ForAll(u16),
+    /// Worker 2 in round 0 until worker 0 is in round 1; these exchange nothing in round 0.
+    ForOneAhead,
+}
+
+/// A gate of workers that wait so.
+#[derive(Drop)]
+struct Meeting {
+    waits: Waits,
+    workers: u16,
+    notes: Arc<Notes, Global>,
+}
+
+impl Gate for Meeting {
+    ghost admits = { λ gate worker. worker < gate.workers };
+
+    fn admit(&self, worker: u16) -> bool {
+        worker < self.workers
+    }
+
+    fn pass(&self, worker: u16, round: u32, blocks: &[Block])
+        requires gathered { All (λ b. IsTrue b.kept.gathered) blocks.now }
+        requires own { ComesBy worker round blocks.now }
+    {
+        if !are_of(worker, self.workers, blocks) {
+            self.notes.wrong.fetch_add(1, Ordering::SeqCst);
+        }
+        self.notes.came.fetch_add(1, Ordering::SeqCst);
+        match self.waits {
+            Waits::ForAll(workers) => {
+                let rounds = u64::from(round).saturating_add(1);
+                let all = u64::from(workers).saturating_mul(rounds);
+                self.notes.wait(&self.notes.came, all);
+            }
+            Waits::ForOneAhead => match (worker, round) {
+                (0, 1) => {
+                    self.notes.ahead.fetch_add(1, Ordering::SeqCst);
+                }
+                (2, 0) => self.notes.wait(&self.notes.ahead, 1),
+                _ => {}
+            },
+        }
+    }
+}
+
+/// Whether these are all the blocks that such a worker has of four blocks of four chips, the lowest first.
+fn are_of(worker: u16, workers: u16, blocks: &[Block]) -> bool {
+    let mut number = worker;
+    for block in blocks {
+        if block.first() / 4 != number {
+            return false;
+        }
+        number = number.saturating_add(workers);
+    }
+    number >= 4
+}
+
+/// Whether a machine that went through the program of messages is as one thread leaves it.
+fn is_as_plain(alloc: Global, machine: &Machine<4, 7>, acts: &[Act]) -> Result<bool, Fail> {
+    let mut plain = Machine::<4, 7>::blank(alloc)?;
+    Plain.go(&mut plain, acts)?;
+    Ok(has_one_of_four(machine) && agree(machine, &plain, 16))
+}
+
+fn no_notes(alloc: Global) -> Result<Arc<Notes, Global>, Fail> {
+    let notes = Notes {
+        came: AtomicU64::new(0),
+        late: AtomicU64::new(0),
+        wrong: AtomicU64::new(0),
+        ahead: AtomicU64::new(0),
+    };
+    Ok(Arc::new(alloc, notes)?)
+}
+
+/// A machine goes through the acts by so many workers that wait so.
+fn meet<R: Threads + Wait + Sync>(
+    rt: &R,
+    alloc: Global,
+    waits: Waits,
+    workers: u16,
+    machine: &mut Machine<4, 7>,
+    acts: &[Act],
+    notes: &Arc<Notes, Global>,
+) -> Result<(), Fail>
+    requires threads { IsSync R.row }
+{
+    let gate = Meeting {
+        waits,
+        workers,
+        notes: Arc::try_clone(notes)?,
+    };
+    let passage = Passage::Gated(Box::new(alloc, gate)?);
+    let mut resident = Resident::new::<4>(rt, alloc, 2, workers, passage)?;
+    resident.go(machine, acts)?;
+    Ok(())
+}
+
+/// What all noted, and whether the machine is as one thread leaves it.
+fn told<R: Threads + Wait + Sync>(
+    rt: &R,
+    alloc: Global,
+    waits: Waits,
+    workers: u16,
+) -> Result<([u64; 3], bool), Fail>
+    requires threads { IsSync R.row }
+{
+    let acts = program(alloc)?;
+    let notes = no_notes(alloc)?;
+    let mut machine = Machine::<4, 7>::blank(alloc)?;
+    meet(rt, alloc, waits, workers, &mut machine, &acts, &notes)?;
+    let is_plain = is_as_plain(alloc, &machine, &acts)?;
+    Ok((notes.told(), is_plain))
+}
+
+/// Who waits for whom, how many workers there are, and how often they come to a round.
+static MEETINGS: [(Waits, u16, u64); 3] = [
+    (Waits::ForAll(2), 2, 256),
+    (Waits::ForAll(4), 4, 512),
+    (Waits::ForOneAhead, 4, 512),
+];
+
+#[test]
+fn workers_meet_in_each_of_128_rounds_and_may_be_a_round_apart(
+    rt: HostRuntime,
+) -> Result<(), Fail> {
+    for row in &MEETINGS {
+        let (waits, workers, came) = *row;
+        assert_eq!(rt;
+            told(&rt, rt.alloc(), waits, workers)?,
+            ([came, 0, 0], true)
+        );
+    }
+    Ok(())
+}

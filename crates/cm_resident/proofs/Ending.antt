@@ -1,0 +1,161 @@
+-- The machine of the blocks that a team left.
+use Rattle.std.proofs.Common.{◌≡◌, ◌↔◌, ℕ, ◌+◌, ◌*◌, ◌/◌, ◌%◌, ◌<◌, ◌≤◌, ◌^◌, List, [], ◌∷◌, ◌++◌, true, length, map}
+use Rattle.std.proofs.Common.{get_or, Vec, ap, sym, subst, ◌∙◌, arith}
+use Rattle.std.specs.declared.alloc.Global.{Global}
+use Rattle.std.proofs.Math.Nat.{mod-lt}
+use Rattle.std.proofs.lemmas.Nat.{div-add-mod'}
+use Rattle.std.proofs.lemmas.List.{length-map, get_or-map}
+use Rattle.cm_model.specs.declared.act.Act.{Act}
+use Rattle.cm_model.specs.Machine.{Machine, run_of}
+use Rattle.cm_model.specs.Account.{account, newly_injected, SameLines}
+use Rattle.cm_model.specs.Keeping.{IsMachine}
+use Rattle.cm_model.proofs.Accounting.{account_is_conserved}
+use Rattle.cm_model.proofs.Each.{is_each}
+use Rattle.cm_model.proofs.Runs.{run_of-nil}
+use Rattle.cm_model.proofs.Keeping.{IsMachine-run_of}
+use Rattle.cm_blocks.specs.Parts.{Part, block}
+use Rattle.cm_blocks.specs.Rounds.{rounds, before_round}
+use Rattle.cm_blocks.proofs.Rounding.{rounds_end_the_run}
+use Rattle.cm_array.specs.Cuts.{joined, AreWhole}
+use Rattle.cm_subcube.specs.Blocks.{KeptBlock}
+use Rattle.cm_subcube.specs.Laws.{all_blocks}
+use Rattle.cm_subcube.specs.Rounds.{round_of}
+use Rattle.cm_subcube.proofs.Joining.{joined-blocks, AreWhole-blocks}
+use Rattle.cm_workers.specs.Dealing.{hand, AreDealt, AreShares}
+use Rattle.cm_workers.specs.Runs.{AreAfter}
+use Rattle.cm_resident.specs.declared.worker.Worker.{Worker}
+use Rattle.cm_resident.specs.declared.running.Ready.{Ready}
+use Rattle.cm_resident.specs.Lanes.{Run, before, rounds_in}
+use Rattle.cm_resident.specs.Standing.{number}
+use Rattle.cm_resident.specs.Teams.{IsOfTeam, HasWorked}
+
+-- ---- the blocks of all workers
+
+-- what worker w of so many left: its share of the blocks, as they are after the run
+pub record IsLeft (run : Run) (count w : ℕ) (blocks : List KeptBlock) : Type 0 where
+  pub share : (q : ℕ) → (q < length blocks) ↔ (q * count + w < 2 ^ run.k)
+  pub each : (q : ℕ) (d : KeptBlock) → q < length blocks
+      → (get_or blocks q d).kept.part ≡ block run.n run.k (q * count + w) (before run (length (rounds_in run)))
+
+left_by : (run : Run) (count w : ℕ) (worker : Worker) (blocks : List KeptBlock) → worker.id ≡ w
+    → IsOfTeam run count worker → HasWorked worker blocks → IsLeft run count w blocks
+left_by run count w worker blocks id_is of has =
+    let done = has run count of in
+    subst (λ (v : ℕ). IsLeft run count v blocks) id_is (record {
+      share = λ q. subst (λ (m : ℕ). (q < m) ↔ (q * count + worker.id < 2 ^ run.k)) (sym done.len) (of.unused.share q);
+      each = λ q d l. done.each q d (omega (arith, l, done.len));
+    })
+
+-- some thing of a list
+pub first_of : {X : Type 0} (xs : List X) → 0 < length xs → X
+first_of [] some = absurd (omega (arith, some))
+first_of (x ∷ xs) some = x
+
+-- ---- a team whose workers have left their shares
+
+module _ (run : Run) (count : ℕ) (team : List Worker) (readies : List Ready) (shares : List (Vec KeptBlock Global))
+    (some : 0 < count) (team_count : length team ≡ count) (ready_count : length readies ≡ length team)
+    (share_count : length shares ≡ length readies)
+    (ids : (w : ℕ) (d : Worker) → w < count → (get_or team w d).id ≡ w)
+    (are : (w : ℕ) (d : Worker) → w < count → IsOfTeam run count (get_or team w d))
+    (ready : (w : ℕ) (d : Ready) (e : Worker) → w < length team → (get_or readies w d).worker ≡ get_or team w e)
+    (have : (w : ℕ) (d : Ready) (e : Vec KeptBlock Global) → w < length readies
+    → HasWorked (get_or readies w d).worker (get_or shares w e).items) where
+  many : length shares ≡ count
+  many = share_count ∙ ready_count ∙ team_count
+
+  left : (w : ℕ) (e : Vec KeptBlock Global) → w < count → IsLeft run count w (hand shares e w)
+  left w e l =
+      let there : w < length readies = omega (arith, l, ready_count, team_count) in
+      let r : Ready = first_of readies (omega (arith, there)) in
+      let same : (get_or readies w r).worker ≡ get_or team w r.worker = ready w r r.worker (omega (arith, l, team_count)) in
+      left_by run count w (get_or team w r.worker) (hand shares e w) (ids w r.worker l) (are w r.worker l)
+      (subst (λ (x : Worker). HasWorked x (hand shares e w)) same (have w r e there))
+
+  pub some_left : 0 < length shares
+  some_left = omega (arith, some, many)
+
+  pub shares_left : (total : ℕ) → total ≡ 2 ^ run.k → AreShares (length shares) total shares
+  shares_left total is =
+      subst (λ (t : ℕ). AreShares (length shares) t shares) (sym is)
+      (subst (λ (m : ℕ). AreShares m (2 ^ run.k) shares) (sym many) (λ w q e l. (left w e l).share q))
+
+  pub after_all : (total : ℕ) (blocks : List KeptBlock) → total ≡ 2 ^ run.k → length blocks ≡ total
+      → AreDealt (length shares) blocks shares → AreAfter run.n run.k run.room run.machine run.acts blocks
+  after_all total blocks is full dealt = record {
+    count = full ∙ is;
+    each = λ b x l.
+        let q : ℕ = b / count in let w : ℕ = b % count in
+        let whole : q * count + w ≡ b = div-add-mod' b count in
+        let below : w < count = mod-lt b some in
+        let e : Vec KeptBlock Global = first_of shares some_left in
+        let it = left w e below in
+        let there : q * count + w < 2 ^ run.k = omega (arith, whole, l) in
+        let inside : q < length (hand shares e w) = (it.share q).1 there in
+        let as_dealt : AreDealt count blocks shares = subst (λ (m : ℕ). AreDealt m blocks shares) many dealt in
+        let read : get_or (hand shares e w) q x ≡ get_or blocks (q * count + w) x =
+        as_dealt.each w q e x below (omega (arith, there, full, is)) in
+        ap (λ (v : ℕ). (get_or blocks v x).kept.part) (sym whole)
+        ∙ ap (λ (one : KeptBlock). one.kept.part) (sym read)
+        ∙ it.each q x inside
+        ∙ ap (λ (v : ℕ). block run.n run.k v (before run (length (rounds_in run)))) whole
+        ∙ ap (λ (r : ℕ). block run.n run.k b (before run r)) (length-map (rounds run.n run.k run.acts) round_of);
+  }
+
+-- ---- and their machine
+
+-- some block
+no_block : ℕ → ℕ → Machine → KeptBlock
+no_block n k machine = record {
+  k = k;
+  kept = record { dims = n; room = 0; part = block n k 0 machine; log_rooms = []; gathered = true };
+}
+
+-- blocks after a run are those of the machine after it
+pub after_are : (n cap k : ℕ) (machine : Machine) (acts : List Act) (blocks : List KeptBlock) (one : KeptBlock)
+    → IsMachine n cap machine
+    → AreAfter n k cap machine acts blocks
+    → map (λ (b : KeptBlock). b.kept.part) blocks ≡ all_blocks n k (run_of n cap machine acts)
+after_are n cap k machine acts blocks one is after =
+    is_each (block n k 0 machine) (2 ^ k) (λ b. block n k b (run_of n cap machine acts))
+    (map (λ (b : KeptBlock). b.kept.part) blocks)
+    (length-map blocks (λ (b : KeptBlock). b.kept.part) ∙ after.count)
+    (λ b l. let below : b < length blocks = omega (arith, l, after.count) in
+    get_or-map (λ (z : KeptBlock). z.kept.part) blocks b one (block n k 0 machine) below ∙ after.each b one l
+    ∙ ap (λ (m : Machine). block n k b m) (rounds_end_the_run n cap k machine acts is.buffer_count))
+
+pub parts_after : (n cap dims k : ℕ) (machine : Machine) (acts : List Act) (blocks : List KeptBlock) → dims ≡ n
+    → IsMachine n cap machine
+    → AreAfter dims k cap machine acts blocks
+    → map (λ (b : KeptBlock). b.kept.part) blocks ≡ all_blocks n k (run_of n cap machine acts)
+parts_after n cap dims k machine acts blocks same is after =
+    after_are n cap k machine acts blocks (no_block n k machine) is
+    (subst (λ (d : ℕ). AreAfter d k cap machine acts blocks) same after)
+
+-- they are a whole machine
+pub whole_after : (n cap k : ℕ) (machine : Machine) (acts : List Act) (parts : List Part) → k ≤ n
+    → IsMachine n cap machine
+    → parts ≡ all_blocks n k (run_of n cap machine acts) → AreWhole n cap parts
+whole_after n cap k machine acts parts within is are =
+    subst (λ (s : List Part). AreWhole n cap s) (sym are)
+    (AreWhole-blocks n cap k (run_of n cap machine acts) within (IsMachine-run_of n cap machine acts is))
+
+-- and that machine
+pub joined_after : (n cap k : ℕ) (machine : Machine) (acts : List Act) (parts : List Part) → k ≤ n
+    → IsMachine n cap machine
+    → parts ≡ all_blocks n k (run_of n cap machine acts) → joined parts ≡ run_of n cap machine acts
+joined_after n cap k machine acts parts within is are =
+    ap joined are ∙ joined-blocks n cap k (run_of n cap machine acts) within (IsMachine-run_of n cap machine acts is)
+
+-- the account after a run
+pub account_after : (n cap : ℕ) (before after : Machine) (acts : List Act) → after ≡ run_of n cap before acts
+    → SameLines (account n after) (account n before ++ newly_injected n before after)
+account_after n cap before after acts is =
+    subst (λ (m : Machine). SameLines (account n m) (account n before ++ newly_injected n before m)) (sym is)
+    (account_is_conserved n cap before acts)
+
+-- nothing is run, and the machine stays
+pub nothing_run : (n cap : ℕ) (machine : Machine) (acts : List Act) → IsMachine n cap machine → length acts ≡ 0
+    → machine ≡ run_of n cap machine acts
+nothing_run n cap machine [] is none = sym (run_of-nil n cap machine is.buffer_count)
+nothing_run n cap machine (a ∷ acts) is none = absurd (omega (arith, none))

@@ -1,0 +1,13 @@
+mod Places
+mod Picking
+mod Ends
+mod Going
+mod Absorbing
+mod Working
+mod Dealing
+mod Sharing
+mod Starts
+mod Rows
+mod Powers
+mod Ending
+mod Fronts

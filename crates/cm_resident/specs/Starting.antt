@@ -1,0 +1,38 @@
+-- The rule of a start word, and what each step tells its seat. Ours.
+use Rattle.std.specs.Prelude.{◌≡◌, ◌⊎◌, ℕ, ◌≤◌, Bool, List, [], ◌∷◌, if◌then◌else◌}
+use Rattle.atomic_table.specs.Table.{State, Me}
+use Rattle.cm_resident.specs.declared.start.Sight.{Sight}
+use Rattle.cm_resident.specs.declared.start.Place.TheVariants.{Alone, Starts, Waits}
+
+-- the view of the one seat at the beginning
+abbrev pub alone : Sight
+alone = record { place = Alone; word = 0 }
+
+-- that of the starter, who told this word
+abbrev pub starter : ℕ → Sight
+starter word = record { place = Starts; word = word }
+
+-- that of a worker, who saw this word last
+abbrev pub waiter : ℕ → Sight
+waiter word = record { place = Waits; word = word }
+
+-- before the seats are dealt
+abbrev pub starting : State ℕ Sight
+starting = record { words = 0 ∷ []; homes = []; views = alone ∷ [] }
+
+-- the word is what the starter told: nothing, 0, to begin, 1, or not to, 2; the worker has seen it, or has seen nothing
+abbrev pub standing : ℕ → Bool → State ℕ Sight
+standing word saw =
+    record { words = word ∷ []; homes = []; views = starter word ∷ waiter (if saw then word else 0) ∷ [] }
+
+-- the rule: it stands so
+abbrev pub Kept : State ℕ Sight → Type 0
+Kept s = (s ≡ starting) ⊎ ((word : ℕ) × (saw : Bool) × (word ≤ 2) × (s ≡ standing word saw))
+
+-- one that looks has seen the word that it found
+abbrev pub looked : Me ℕ Sight → ℕ → Me ℕ Sight → Type 0
+looked old found new = new ≡ (waiter found, old.1)
+
+-- one that tells a word has told it
+abbrev pub told : ℕ → Me ℕ Sight → ℕ → Me ℕ Sight → Type 0
+told word old found new = new ≡ (starter word, old.1)

@@ -1,0 +1,15 @@
+//! Workers that run on: each has its blocks and the ends of their lanes, and none is joined before the end of a run.
+#![tactic(auto)]
+
+mod gathering;
+mod lanes;
+mod resident;
+mod running;
+mod start;
+mod teams;
+mod turn;
+mod worker;
+
+pub use resident::Resident;
+pub use teams::team;
+pub use worker::Worker;

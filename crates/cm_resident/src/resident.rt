@@ -1,0 +1,219 @@
+//! The runner whose workers run on.
+
+ghost use Rattle.std.specs.Prelude.{◌≡◌, ◌≢◌, ◌↔◌, ℕ, ◌+◌, ◌-◌, ◌/◌, ◌^◌, ◌<◌, ◌≤◌, ◌++◌, [], None};
+ghost use Rattle.std.specs.Prelude.{cond, IfOk, IfSome, IsErrOf, IsFalse, IsOk, IsTrue, ltb, MatchResult};
+ghost use Rattle.std.specs.Prelude.{OnOk, OnErr};
+ghost use Rattle.std.specs.Thread.{IsSync};
+ghost use Rattle.cm_model.specs.Machine.{run_of};
+ghost use Rattle.cm_model.specs.Account.{account, newly_injected, SameLines};
+ghost use Rattle.cm_array.specs.Acts.{is_late, is_long};
+ghost use Rattle.cm_array.specs.Faults.{is_no_thread, one_more_lacked};
+ghost use Rattle.cm_workers.specs.Forks.{fork_fault, most_blocks, most_workers, of_want};
+
+use crate::gathering::{in_order, room_for};
+use crate::running::{line_up, work_all};
+use crate::teams::team;
+use cm_array::{Machine, RunFault, Runner, check_stretch};
+use cm_bits::NoMemory;
+use cm_model::Act;
+use cm_subcube::join;
+use cm_workers::{ForkFault, Gate, Passage, Want};
+use std::alloc::Global;
+use std::sync::Wait;
+use std::thread::Threads;
+
+/// The runner whose workers run on: it cuts a copy of a machine into blocks, which workers run, each in a thread of its
+/// own to the end of the list; in each round blocks hand one another parcels over lanes. Then it puts them together again.
+#[derive(Drop)]
+pub struct Resident<'a, R> {
+    rt: &'a R,
+    alloc: Global,
+    k: u8,
+    workers: u16,
+    passage: Passage,
+    threads_lacked: u64,
+    ghost some: { 0 < workers },
+}
+
+/// Into 2^`k` blocks a machine is cut, for so many workers.
+#[derive(Clone, Copy)]
+struct Share {
+    k: u8,
+    workers: u16,
+}
+
+impl<'a, R: Threads + Wait + Sync> Resident<'a, R> {
+    /// One that cuts machines of 2^`N` chips into 2^`k` blocks for so many workers, which go through the passage. It
+    /// runs smaller machines too, in as many blocks as they can be cut into, with no more workers than blocks.
+    pub fn new<const N: usize>(
+        rt: &'a R,
+        alloc: Global,
+        k: u8,
+        workers: u16,
+        passage: Passage,
+    ) -> Result<Self, ForkFault>
+        ensures ok { IsOk result ↔ (fork_fault N k workers ≡ None) }
+        ensures refused { IfSome (fork_fault N k workers) (λ fault. IsErrOf result fault) }
+        ensures blocks { IfOk result (λ runner. runner.k ≡ k) }
+        ensures workers { IfOk result (λ runner. runner.workers ≡ workers) }
+        ensures passage { IfOk result (λ runner. runner.passage ≡ passage) }
+        ensures lacked { IfOk result (λ runner. runner.threads_lacked ≡ 0) }
+    {
+        if usize::from(k) > N - N / 2 {
+            return Err(ForkFault::Split);
+        }
+        if workers == 0 || are_too_few(k, workers) {
+            return Err(ForkFault::Workers);
+        }
+        Ok(Resident {
+            rt,
+            alloc,
+            k,
+            workers,
+            passage,
+            threads_lacked: 0,
+        })
+    }
+
+    /// How it shares out a machine of so many dimensions.
+    fn share(&self, dims: u8) -> Share
+        requires dimension { dims ≤ 12 }
+        ensures blocks { result.k ≡ most_blocks dims self.now.k }
+        ensures workers { result.workers ≡ most_workers dims self.now.k self.now.workers }
+        ensures within { result.k ≤ dims - dims / 2 }
+        ensures some { 0 < result.workers }
+        ensures enough { result.workers ≤ 2 ^ result.k }
+        ensures few { result.workers ≤ 64 }
+    {
+        let k = self.k.min(dims - dims / 2);
+        Share {
+            k,
+            workers: self.workers.min(1 << k),
+        }
+    }
+}
+
+impl<'a, const N: usize, const CAP: usize, R: Threads + Wait + Sync> Runner<N, CAP>
+    for Resident<'a, R> {
+    ghost ready = { IsSync R.row };
+
+    ghost threads_lacked = { λ runner. runner.threads_lacked };
+
+    /// Takes memory for a copy of the machine, for the logs of all petit cycles in the list, for what its blocks exchange,
+    /// and for its threads, before the first of these is started. Of a list that is not empty each worker is admitted
+    /// before any is started, and none begins before all are. Where memory or a thread is wanting the machine stays as
+    /// it was.
+    fn go(&mut self, machine: &mut Machine<N, CAP>, acts: &[Act]) -> Result<(), RunFault>
+        requires runner { IsSync R.row }
+        ensures long { (result ≡ Err RunFault.Long) ↔ IsTrue (is_long acts.now) }
+        ensures clock { (result ≡ Err RunFault.Clock)
+            ↔ (IsFalse (is_long acts.now) × IsTrue (is_late machine.old.machine.clock acts.now)) }
+        ensures empty { acts.now ≡ [] → IsOk result }
+        ensures ok { OnOk result (machine.new.machine ≡ run_of N CAP machine.old.machine acts.now) }
+        ensures account { OnOk result (SameLines (account N machine.new.machine)
+            (account N machine.old.machine ++ newly_injected N machine.old.machine machine.new.machine)) }
+        ensures threads { MatchResult result
+            (λ _. self.new.threads_lacked ≡ self.old.threads_lacked)
+            (λ fault. self.new.threads_lacked
+            ≡ cond (is_no_thread fault) (one_more_lacked self.old.threads_lacked) self.old.threads_lacked) }
+        ensures admitted { IfOk result (λ _. acts.now ≢ [] → (gate : _) → self.old.passage ≡ Passage.Gated gate
+            → (w : ℕ) → w < most_workers N self.old.k self.old.workers → admits (gate.vtable, gate.value) w) }
+        ensures err { OnErr result (machine.new.machine ≡ machine.old.machine) }
+    {
+        check_stretch(acts, machine.clock())?;
+        if acts.is_empty() {
+            return Ok(());
+        }
+        let share = self.share(machine.dims());
+        let done = run(
+            self.rt,
+            self.alloc,
+            share.k,
+            share.workers,
+            &self.passage,
+            machine,
+            acts,
+        );
+        if let Err(Want::Thread) = done {
+            self.threads_lacked = self.threads_lacked.wrapping_add(1);
+        }
+        told(done)
+    }
+}
+
+/// Whether 2^`k` blocks are too few for so many workers.
+fn are_too_few(k: u8, workers: u16) -> bool
+    ensures value { result ≡ ltb (2 ^ k) workers }
+{
+    k < 16 && 1 << k < workers
+}
+
+/// What workers did or wanted, as a runner tells it.
+fn told(done: Result<(), Want>) -> Result<(), RunFault>
+    ensures value { MatchResult done (λ _. IsOk result) (λ want. IsErrOf result (of_want want)) }
+{
+    match done {
+        Ok(()) => Ok(()),
+        Err(Want::Memory) => Err(RunFault::Memory),
+        Err(Want::Thread) => Err(RunFault::NoThread),
+    }
+}
+
+/// A machine goes through a run by its blocks, or stays as it was.
+fn run<const N: usize, const CAP: usize, R: Threads + Wait + Sync>(
+    rt: &R,
+    alloc: Global,
+    k: u8,
+    workers: u16,
+    passage: &Passage,
+    machine: &mut Machine<N, CAP>,
+    acts: &[Act],
+) -> Result<(), Want>
+    requires within { k ≤ N - N / 2 }
+    requires some { 0 < workers }
+    requires enough { workers ≤ 2 ^ k }
+    requires few { workers ≤ 64 }
+    requires long { IsFalse (is_long acts.now) }
+    requires clock { IsFalse (is_late machine.old.machine.clock acts.now) }
+    ensures ok { OnOk result (machine.new.machine ≡ run_of N CAP machine.old.machine acts.now) }
+    ensures account { OnOk result (SameLines (account N machine.new.machine)
+        (account N machine.old.machine ++ newly_injected N machine.old.machine machine.new.machine)) }
+    ensures admitted { IfOk result (λ _. (gate : _) → passage.now ≡ Passage.Gated gate
+        → (w : ℕ) → w < workers → admits (gate.vtable, gate.value) w) }
+    ensures err { OnErr result (machine.new.machine ≡ machine.old.machine) }
+{
+    let _clock = machine.clock();
+    admit_all(passage, workers)?;
+    let team = team(alloc, machine, acts, k, workers)?;
+    let all = line_up(alloc, team)?;
+    let room = room_for(alloc, 1 << k)?;
+    let shares = work_all(rt, passage, all)?;
+    let blocks = in_order(shares, 1 << k, room);
+    join(blocks, machine);
+    Ok(())
+}
+
+/// Asks whether the workers may begin, the one with the lowest number first.
+fn admit_all(passage: &Passage, workers: u16) -> Result<(), Want>
+    ensures memory { ¬ IsErrOf result Want.Memory }
+    ensures admitted { IfOk result (λ _. (gate : _) → passage.now ≡ Passage.Gated gate
+        → (w : ℕ) → w < workers → admits (gate.vtable, gate.value) w) }
+{
+    match passage {
+        Passage::Open => Ok(()),
+        Passage::Gated(gate) => admit_each(&**gate, workers),
+    }
+}
+
+/// Asks a gate whether so many workers may begin; no further one once a worker was refused.
+fn admit_each(gate: &dyn Gate, workers: u16) -> Result<(), Want>
+    ensures memory { ¬ IsErrOf result Want.Memory }
+    ensures admitted { IfOk result (λ _. (w : ℕ) → w < workers → admits gate.now w) }
+{
+    for worker in 0..workers {
+        if !gate.admit(worker) {
+            return Err(Want::Thread);
+        }
+    }
+    Ok(())
+}

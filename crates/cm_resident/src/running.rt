@@ -1,0 +1,256 @@
+//! A team at work, each worker in a thread of its own.
+
+ghost use Rattle.std.specs.Prelude.{◌≡◌, ℕ, ◌<◌, ◌≤◌, IfOk, IfSome, IsErrOf, OnOk, [], get_or, length, Some};
+ghost use Rattle.std.specs.Prelude.{vec_capacity};
+ghost use Rattle.std.specs.Thread.{IsSync};
+ghost use Rattle.cm_resident.specs.Teams.{HasWorked, IsOfSome};
+ghost use Rattle.cm_resident.specs.Gathering.{AreEmpty, HaveRoom};
+
+use crate::start::{Starter, Waiter, start_word};
+use crate::worker::Worker;
+use cm_bits::NoMemory;
+use cm_subcube::Block;
+use cm_workers::{Passage, Want};
+use std::alloc::Global;
+use std::snapshot::Snapshot;
+use std::sync::Wait;
+use std::thread;
+use std::thread::{Promise, PromisedHandle, Scope, Threads};
+
+/// What a worker's thread promises: if the worker began, it has done its work.
+#[derive(Drop)]
+pub(crate) struct WillWork {
+    was: Snapshot<Worker>,
+}
+
+impl Promise<Option<Vec<Block>>> for WillWork {
+    ghost use Rattle.std.specs.Prelude.{IfSome};
+    ghost use Rattle.cm_resident.specs.Teams.{HasWorked};
+
+    ghost kept_by = { λ p r. IfSome r (λ blocks. HasWorked p.was.value blocks.items) };
+}
+
+/// A worker, and the word at which it waits to be let begin.
+#[derive(Drop)]
+pub(crate) struct Ready {
+    pub(crate) worker: Worker,
+    pub(crate) waiter: Waiter,
+}
+
+impl Ready {
+    /// Waits, and then works if it is let begin.
+    fn go<R: Wait>(self, rt: &R, passage: &Passage) -> Option<Vec<Block>>
+        requires team { IsOfSome self.worker }
+        ensures value { IfSome result (λ blocks. HasWorked self.worker blocks.items) }
+    {
+        let Ready { worker, waiter } = self;
+        if waiter.is_let_begin(rt) {
+            Some(worker.work(rt, passage))
+        } else {
+            None
+        }
+    }
+}
+
+/// All that a team needs before the first of its threads is started.
+#[derive(Drop)]
+pub(crate) struct Lineup {
+    pub(crate) readies: Vec<Ready>,
+    pub(crate) starters: Vec<Starter>,
+    pub(crate) handles: Vec<PromisedHandle<Option<Vec<Block>>, WillWork>>,
+    pub(crate) left: Vec<Option<Vec<Block>>>,
+    pub(crate) shares: Vec<Vec<Block>>,
+}
+
+/// Gives each worker of a team its start word, and makes room for what its thread leaves.
+pub(crate) fn line_up(alloc: Global, team: Vec<Worker>) -> Result<Lineup, NoMemory>
+    ensures count { IfOk result (λ all. length all.readies.items ≡ length team.items) }
+    ensures none { IfOk result (λ all. AreEmpty all.handles.items all.left.items all.shares.items) }
+    ensures room { IfOk result (λ all. HaveRoom (length team.items)
+        (vec_capacity all.handles) (vec_capacity all.left) (vec_capacity all.shares)) }
+    ensures value { IfOk result (λ all. (w : ℕ) (d : _) (e : _) → w < length team.items
+        → (get_or all.readies.items w d).worker ≡ get_or team.items w e) }
+{
+    let mut team = team;
+    let count = team.len();
+    let mut readies = Vec::with_capacity(alloc, count)?;
+    let mut starters = Vec::with_capacity(alloc, count)?;
+    for _w in 0..count {
+        let worker = team.remove(0);
+        let (starter, waiter) = start_word(alloc)?;
+        readies.push_reserved(Ready { worker, waiter });
+        starters.push_reserved(starter);
+    }
+    Ok(Lineup {
+        readies,
+        starters,
+        handles: Vec::with_capacity(alloc, count)?,
+        left: Vec::with_capacity(alloc, count)?,
+        shares: Vec::with_capacity(alloc, count)?,
+    })
+}
+
+/// Starts the thread of a worker.
+fn start<'s, E, R: Wait + Sync>(
+    scope: &Scope<'s, E>,
+    rt: &'s R,
+    passage: &'s Passage,
+    ready: Ready,
+) -> Result<PromisedHandle<Option<Vec<Block>>, WillWork>, Want>
+    requires team { IsOfSome ready.worker }
+    ensures memory { ¬ IsErrOf result Want.Memory }
+    ensures ok { IfOk result (λ handle. handle.promise.was.value ≡ ready.worker) }
+{
+    let was = Snapshot::of(&ready.worker);
+    let started = scope.spawn_with(
+        WillWork { was },
+        move || -> Option<Vec<Block>>
+            requires { IsOfSome ready.worker }
+            ensures { IfSome result (λ blocks. HasWorked ready.worker blocks.items) }
+        { ready.go(rt, passage) },
+    );
+    match started {
+        Ok(handle) => Ok(handle),
+        Err(_refused) => Err(Want::Thread),
+    }
+}
+
+/// Starts the threads of all, the worker with the lowest number first; no further one after a refusal.
+fn start_all<'s, E, R: Wait + Sync>(
+    scope: &Scope<'s, E>,
+    rt: &'s R,
+    passage: &'s Passage,
+    readies: Vec<Ready>,
+    handles: &mut Vec<PromisedHandle<Option<Vec<Block>>, WillWork>>,
+) -> Result<(), Want>
+    requires team { (w : ℕ) (d : _) → w < length readies.items → IsOfSome (get_or readies.items w d).worker }
+    requires none { handles.old.items ≡ [] }
+    requires room { length readies.items ≤ vec_capacity handles.old }
+    ensures memory { ¬ IsErrOf result Want.Memory }
+    ensures few { length handles.new.items ≤ length readies.items }
+    ensures count { OnOk result (length handles.new.items ≡ length readies.items) }
+    ensures value { (w : ℕ) (d : _) (e : _) → w < length handles.new.items
+        → (get_or handles.new.items w d).promise.was.value ≡ (get_or readies.items w e).worker }
+{
+    let mut readies = readies;
+    for _w in 0..readies.len() {
+        let ready = readies.remove(0);
+        handles.push_reserved(start(scope, rt, passage, ready)?);
+    }
+    Ok(())
+}
+
+/// Lets all workers begin, or cancels them.
+fn tell_all(starters: Vec<Starter>, are_started: bool) {
+    for starter in starters {
+        if are_started {
+            starter.release();
+        } else {
+            starter.cancel();
+        }
+    }
+}
+
+/// Waits for all threads, and keeps what each leaves.
+fn join_all<R: Threads>(
+    rt: &R,
+    handles: Vec<PromisedHandle<Option<Vec<Block>>, WillWork>>,
+    left: &mut Vec<Option<Vec<Block>>>,
+)
+    requires none { left.old.items ≡ [] }
+    requires room { length handles.items ≤ vec_capacity left.old }
+    ensures count { length left.new.items ≡ length handles.items }
+    ensures value { (w : ℕ) (d : _) (e : _) → w < length handles.items
+        → IfSome (get_or left.new.items w e)
+        (λ blocks. HasWorked (get_or handles.items w d).promise.was.value blocks.items) }
+{
+    let mut handles = handles;
+    for _w in 0..handles.len() {
+        let handle = handles.remove(0);
+        left.push_reserved(handle.join(rt));
+    }
+}
+
+/// What all workers left; fails where one has not begun.
+fn all_there<T: Drop>(left: Vec<Option<T>>, shares: Vec<T>) -> Result<Vec<T>, Want>
+    requires none { shares.items ≡ [] }
+    requires room { length left.items ≤ vec_capacity shares }
+    ensures memory { ¬ IsErrOf result Want.Memory }
+    ensures count { IfOk result (λ all. length all.items ≡ length left.items) }
+    ensures value { IfOk result (λ all. (w : ℕ) (d : _) (e : _) → w < length left.items
+        → get_or left.items w d ≡ Some (get_or all.items w e)) }
+{
+    let mut left = left;
+    let mut shares = shares;
+    for _w in 0..left.len() {
+        match left.remove(0) {
+            Some(share) => shares.push_reserved(share),
+            None => return Err(Want::Thread),
+        }
+    }
+    Ok(shares)
+}
+
+/// Starts all threads, lets their workers begin if all were started, and waits for them.
+fn start_and_join<'s, E, R: Threads + Wait + Sync>(
+    scope: &Scope<'s, E>,
+    rt: &'s R,
+    passage: &'s Passage,
+    all: Lineup,
+) -> Result<Vec<Vec<Block>>, Want>
+    requires team { (w : ℕ) (d : _) → w < length all.readies.items → IsOfSome (get_or all.readies.items w d).worker }
+    requires none { AreEmpty all.handles.items all.left.items all.shares.items }
+    requires room { HaveRoom (length all.readies.items)
+        (vec_capacity all.handles) (vec_capacity all.left) (vec_capacity all.shares) }
+    ensures memory { ¬ IsErrOf result Want.Memory }
+    ensures count { IfOk result (λ shares. length shares.items ≡ length all.readies.items) }
+    ensures value { IfOk result (λ shares. (w : ℕ) (d : _) (e : _) → w < length all.readies.items
+        → HasWorked (get_or all.readies.items w d).worker (get_or shares.items w e).items) }
+{
+    let Lineup {
+        readies,
+        starters,
+        mut handles,
+        mut left,
+        shares,
+    } = all;
+    let started = start_all(scope, rt, passage, readies, &mut handles);
+    tell_all(starters, started.is_ok());
+    join_all(rt, handles, &mut left);
+    started?;
+    let there = all_there(left, shares)?;
+    Ok(there)
+}
+
+/// A team works, each worker in a thread of its own; what each leaves, by its number. Fails where a thread was not
+/// started; then no worker has begun.
+pub(crate) fn work_all<R: Threads + Wait + Sync>(
+    rt: &R,
+    passage: &Passage,
+    all: Lineup,
+) -> Result<Vec<Vec<Block>>, Want>
+    requires team { (w : ℕ) (d : _) → w < length all.readies.items → IsOfSome (get_or all.readies.items w d).worker }
+    requires none { AreEmpty all.handles.items all.left.items all.shares.items }
+    requires room { HaveRoom (length all.readies.items)
+        (vec_capacity all.handles) (vec_capacity all.left) (vec_capacity all.shares) }
+    ensures memory { ¬ IsErrOf result Want.Memory }
+    ensures count { IfOk result (λ shares. length shares.items ≡ length all.readies.items) }
+    ensures value { IfOk result (λ shares. (w : ℕ) (d : _) (e : _) → w < length all.readies.items
+        → HasWorked (get_or all.readies.items w d).worker (get_or shares.items w e).items) }
+{
+    thread::scope(
+        thread::scope_env(),
+        rt,
+        |scope| -> Result<Vec<Vec<Block>>, Want>
+            requires { IsSync R.row
+                × ((w : ℕ) (d : _) → w < length all.readies.items → IsOfSome (get_or all.readies.items w d).worker)
+                × AreEmpty all.handles.items all.left.items all.shares.items
+                × HaveRoom (length all.readies.items)
+                (vec_capacity all.handles) (vec_capacity all.left) (vec_capacity all.shares) }
+            ensures { (¬ IsErrOf result Want.Memory)
+                × IfOk result (λ shares. length shares.items ≡ length all.readies.items)
+                × IfOk result (λ shares. (w : ℕ) (d : _) (e : _) → w < length all.readies.items
+                → HasWorked (get_or all.readies.items w d).worker (get_or shares.items w e).items) }
+        { start_and_join(scope, rt, passage, all) },
+    )
+}

@@ -1,0 +1,141 @@
+//! Start words: a worker waits at one until it is told to begin, or not to.
+ghost use Rattle.std.specs.Prelude.{◌≡◌, ◌≤◌, []};
+ghost use Rattle.std.specs.Arc.{arc_value};
+ghost use Rattle.cm_resident.specs.Starting.{alone, starter, waiter, looked, told};
+
+use atomic_table::{Play, Seat, Split, Table, TableRule};
+use cm_bits::NoMemory;
+use std::alloc::Global;
+use std::sync::{Arc, Wait};
+
+/// The word of who is to begin, and of who is not.
+const BEGIN: u64 = 1;
+
+const CANCEL: u64 = 2;
+
+/// Whose seat it is.
+pub enum Place {
+    /// That of both, before they are dealt.
+    Alone,
+    Starts,
+    Waits,
+}
+
+/// What a seat knows. No value of it is made.
+pub struct Sight {
+    pub place: Place,
+    /// The word that the starter told, or that the worker saw last.
+    pub word: u64,
+}
+
+/// The rule that every step keeps: the word is what the starter told, and a worker that saw another than 0 saw it.
+pub struct StartRule;
+
+impl TableRule<u8, Sight, u8> for StartRule {
+    ghost use Rattle.cm_resident.specs.Starting.{Kept, alone};
+
+    ghost holds = { λ _. Kept };
+
+    ghost first = { λ _. alone };
+}
+
+type StartTable = Table<u8, Sight, u8, StartRule, Global>;
+
+type StartSeat = Seat<u8, Sight>;
+
+/// The seat that stands alone becomes the starter's, and a new one is the worker's.
+pub struct Deal;
+
+impl Split<Sight> for Deal {
+    ghost left = { λ _. starter 0 };
+
+    ghost right = { λ _. waiter 0 };
+}
+
+/// The worker looks.
+pub struct Look;
+
+impl Play<u8, Sight> for Look {
+    ghost then = { λ _. looked };
+}
+
+/// The starter tells the worker to begin, or not to.
+pub struct Tell;
+
+impl Play<u8, Sight> for Tell {
+    ghost then = { λ step. told step.second };
+}
+
+/// Who tells a worker whether it may begin, and has not told it yet.
+#[derive(Drop)]
+pub(crate) struct Starter {
+    table: Arc<StartTable, Global>,
+    seat: StartSeat,
+    ghost seated: { seat.table_id ≡ (arc_value table).shared.table_id },
+    ghost one: { seat.table_id.words ≡ 1 },
+    ghost knows: { seat.me ≡ (starter 0, []) },
+}
+
+/// A worker that was not told yet.
+#[derive(Drop)]
+pub(crate) struct Waiter {
+    table: Arc<StartTable, Global>,
+    seat: StartSeat,
+    ghost seated: { seat.table_id ≡ (arc_value table).shared.table_id },
+    ghost one: { seat.table_id.words ≡ 1 },
+    ghost knows: { seat.me ≡ (waiter 0, []) },
+}
+
+/// The two ends of a start word.
+pub(crate) fn start_word(alloc: Global) -> Result<(Starter, Waiter), NoMemory> {
+    let (table, mut seat) = StartTable::of_words(alloc, &[0], &0)?;
+    let other = table.shared.split_seat::<Deal>(&mut seat);
+    let Ok(table) = Arc::new(alloc, table) else {
+        return Err(NoMemory);
+    };
+    let Ok(same) = Arc::try_clone(&table) else {
+        return Err(NoMemory);
+    };
+    Ok((
+        Starter { table, seat },
+        Waiter {
+            table: same,
+            seat: other,
+        },
+    ))
+}
+
+impl Starter {
+    /// Lets the worker begin.
+    pub(crate) fn release(self) {
+        self.tell(BEGIN);
+    }
+
+    /// Tells the worker that nobody begins.
+    pub(crate) fn cancel(self) {
+        self.tell(CANCEL);
+    }
+
+    fn tell(self, word: u64)
+        requires word { word ≤ 2 }
+    {
+        let Starter { table, mut seat } = self;
+        table.shared.compare_exchange::<Tell>(&mut seat, 0, 0, word);
+        table.shared.wake_one(0);
+    }
+}
+
+impl Waiter {
+    /// Waits until it is told, and answers whether it may begin.
+    pub(crate) fn is_let_begin<R: Wait>(self, rt: &R) -> bool {
+        let Waiter { table, mut seat } = self;
+        for _look in rt.forever() {
+            let found = table.shared.load::<Look>(&mut seat, 0);
+            if found != 0 {
+                return found == BEGIN;
+            }
+            table.shared.park(rt, 0, 0);
+        }
+        unreachable!()
+    }
+}

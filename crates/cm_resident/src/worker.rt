@@ -1,0 +1,143 @@
+//! Workers of a team.
+
+ghost use Rattle.std.specs.Prelude.{◌≡◌, ◌≢◌, ℕ, ◌+◌, ◌*◌, ◌<◌, ◌≤◌, ◌-◌, ◌^◌, IsTrue, Some, length, get_or, slice_get};
+ghost use Rattle.std.specs.List.{All};
+ghost use Rattle.cm_workers.specs.Gates.{ComesBy, told_number};
+ghost use Rattle.cm_resident.specs.Lanes.{Run, place_of, rounds_in};
+ghost use Rattle.cm_resident.specs.Standing.{IsWorkerBefore};
+ghost use Rattle.cm_resident.specs.Turns.{AreShown};
+ghost use Rattle.cm_resident.specs.Teams.{HasWorked, IsBeforeRound, IsOfSome};
+
+use crate::lanes::ends_each;
+use crate::turn::{begin_all, get_all, send_all};
+use cm_board::{FromEnd, ToEnd};
+use cm_model::Act;
+use cm_subcube::{Block, Kind, Parcel, Round};
+use cm_workers::{Gate, Passage};
+use std::sync::Wait;
+
+/// One of a team, each of whom has some blocks of a machine, and goes with them through the same acts.
+#[derive(Drop)]
+pub struct Worker {
+    /// Its number.
+    pub id: u16,
+    /// The machine was cut into 2^`k` blocks.
+    pub k: u8,
+    pub acts: Vec<Act>,
+    pub rounds: Vec<Round>,
+    /// Those of its own, the lowest number first.
+    pub blocks: Vec<Block>,
+    /// By block, the ends over which it sends: northward, southward, and over each of the last `k` dimensions.
+    pub sends: Vec<FromEnd<Parcel>>,
+    /// By block, the ends over which it gets, in the same order.
+    pub gets: Vec<ToEnd<Parcel>>,
+}
+
+impl Worker {
+    /// Goes through all acts with its blocks. It waits for those with whom they exchange.
+    pub fn work<R: Wait>(self, rt: &R, passage: &Passage) -> Vec<Block>
+        requires team { IsOfSome self }
+        ensures value { HasWorked self result.items }
+    {
+        let Worker {
+            id,
+            k,
+            acts,
+            rounds,
+            mut blocks,
+            mut sends,
+            mut gets,
+        } = self;
+        begin_all(&mut blocks, &acts);
+        for r in 0..rounds.len() {
+            exchange(
+                rt,
+                &acts,
+                &rounds[r],
+                r,
+                id,
+                k,
+                passage,
+                &mut blocks,
+                &mut sends,
+                &mut gets,
+            );
+        }
+        blocks
+    }
+}
+
+/// A round of a worker's blocks, and what they do from there to the next.
+fn exchange<R: Wait>(
+    rt: &R,
+    acts: &[Act],
+    round: &Round,
+    r: usize,
+    id: u16,
+    k: u8,
+    passage: &Passage,
+    blocks: &mut Vec<Block>,
+    sends: &mut Vec<FromEnd<Parcel>>,
+    gets: &mut Vec<ToEnd<Parcel>>,
+)
+    requires ready { IsBeforeRound acts.now k r id round.now blocks.old.items sends.old.items gets.old.items }
+    ensures count { length blocks.new.items ≡ length blocks.old.items }
+    ensures value { (run : Run) (count : ℕ) → acts.now ≡ run.acts → k ≡ run.k
+        → slice_get (rounds_in run) r ≡ Some round.now
+        → IsWorkerBefore run r count id blocks.old.items sends.old.items gets.old.items
+        → IsWorkerBefore run (r + 1) count id blocks.new.items sends.new.items gets.new.items }
+{
+    let each = ends_each(k);
+    let place = place_of(blocks[0].chips(), round.kind);
+    show(blocks, r, id, passage);
+    send_all(rt, round, blocks, sends, each, place);
+    get_all(rt, acts, round, blocks, gets, each, place);
+}
+
+/// The place of a kind of round among the ends of a block of so many chips: the first two are for the grid, and the
+/// third for the lowest dimension that leads out of the block.
+fn place_of(chips: usize, kind: Kind) -> usize
+    requires some { 0 < chips }
+    requires outer { (d : ℕ) → kind ≡ Kind.Dim d → chips ≤ 2 ^ d }
+    ensures value { (n k : ℕ) → chips ≡ 2 ^ (n - k) → result ≡ place_of n k kind }
+{
+    match kind {
+        Kind::North => 0,
+        Kind::South => 1,
+        Kind::Dim(dim) => usize::from(dim) - chips.ilog2() as usize + 2,
+    }
+}
+
+/// Shows the blocks, before they send in a round, to who looks.
+fn show(blocks: &mut Vec<Block>, number: usize, worker: u16, passage: &Passage)
+    requires own { ComesBy worker (told_number number) blocks.old.items }
+    ensures value { AreShown blocks.old.items blocks.new.items }
+{
+    if let Passage::Gated(gate) = passage {
+        gather_all(blocks);
+        come_by(&**gate, worker, as_told(number), blocks);
+    }
+}
+
+fn come_by(gate: &dyn Gate, worker: u16, told: u32, blocks: &[Block])
+    requires gathered { All (λ b. IsTrue b.kept.gathered) blocks.now }
+    requires own { ComesBy worker told blocks.now }
+{
+    gate.pass(worker, told, blocks);
+}
+
+/// The number of a round as a gate is told it: one that is too large as the largest.
+fn as_told(number: usize) -> u32
+    ensures value { result ≡ told_number number }
+{
+    number.min(u32::MAX as usize) as u32
+}
+
+fn gather_all(blocks: &mut Vec<Block>)
+    ensures shown { AreShown blocks.old.items blocks.new.items }
+    ensures gathered { All (λ b. IsTrue b.kept.gathered) blocks.new.items }
+{
+    for i in 0..blocks.len() {
+        blocks[i].gather();
+    }
+}
