@@ -172,7 +172,12 @@ still_comes w told blocks now shown_them was = record {
   share = λ q. subst (λ (m : ℕ). (q < m) ↔ (q * was.count + w < 2 ^ was.k)) (sym shown_them.len) (was.share q);
   each = λ q b l.
       let m : q < length blocks = omega (arith, l, shown_them.len) in
-      ap (λ (kept : KeptPart). kept.part) (shown_them.each q b m).kept ∙ was.each q b m;
+      let is = shown_them.each q b m in let it = was.each q b m in record {
+        blocks = is.blocks ∙ it.blocks;
+        dims = ap (λ (kept : KeptPart). kept.dims) is.kept ∙ it.dims;
+        room_is = ap (λ (kept : KeptPart). kept.room) is.kept ∙ it.room_is;
+        part = ap (λ (kept : KeptPart). kept.part) is.kept ∙ it.part;
+      };
 }
 
 pub all_done : (run : Run) (count w many : ℕ) (blocks : List KeptBlock) (sends gets : List (Course Parcel))
