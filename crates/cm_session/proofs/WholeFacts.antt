@@ -24,9 +24,43 @@ other_lines_poke_nothing :
     HaveNoPoke 0 1 (codes "step" ∷ codes "run" ∷ codes "break 0" ∷ codes "clear 0" ∷ codes "wire on" ∷ codes "wire off"
     ∷ codes "wire show" ∷ codes "field 0 0 0 8" ∷ codes "flag 0 0 9" ∷ codes "buf 0" ∷ codes "find 0 0 0"
     ∷ codes "events 0" ∷ codes "poke 0 0 0" ∷ codes "; poke 0 0 0 1" ∷ [] ∷ [])
-other_lines_poke_nothing =
-    (refl, (refl, (refl, (refl, (refl, (refl, (refl, (refl, (refl, (refl, (refl, (refl,
-    (refl, (refl, (refl, tt)))))))))))))))
+other_lines_poke_nothing = (
+  refl,
+  (
+    refl,
+    (
+      refl,
+      (
+        refl,
+        (
+          refl,
+          (
+            refl,
+            (
+              refl,
+              (
+                refl,
+                (
+                  refl,
+                  (
+                    refl,
+                    (
+                      refl,
+                      (
+                        refl,
+                        (refl, (refl, (refl, tt))),
+                      ),
+                    ),
+                  ),
+                ),
+              ),
+            ),
+          ),
+        ),
+      ),
+    ),
+  ),
+)
 
 a_poke_is_one : asks_poke (command_of 0 1 (words_of (codes "poke 0 0 0 1"))) ≡ true
 a_poke_is_one = refl
