@@ -1,3 +1,4 @@
 pub mod Delivering
 pub mod Taking
 pub mod Rooms
+pub mod Oldest

@@ -1,3 +1,4 @@
 pub mod Buffer
 pub mod Idle
 pub mod Logs
+pub mod Places
