@@ -44,6 +44,7 @@ impl Edge {
     /// The chip at its lower end.
     pub fn chip(self) -> u16
         ensures value { result ≡ self.chip }
+        ensures whole { IsWire self }
     {
         self.lower
     }

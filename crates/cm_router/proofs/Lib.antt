@@ -2,3 +2,4 @@ pub mod Delivering
 pub mod Taking
 pub mod Rooms
 pub mod Oldest
+pub mod Cutting

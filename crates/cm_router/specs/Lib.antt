@@ -2,3 +2,4 @@ pub mod Buffer
 pub mod Idle
 pub mod Logs
 pub mod Places
+pub mod Cuts
