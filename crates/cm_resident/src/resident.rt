@@ -13,14 +13,23 @@ ghost use Rattle.cm_workers.specs.Forks.{fork_fault, most_blocks, most_workers, 
 use crate::gathering::{in_order, room_for};
 use crate::running::{line_up, work_all};
 use crate::teams::team;
-use cm_array::{Machine, RunFault, Runner, check_stretch};
+use cm_array::{Machine, Plain, RunFault, Runner, check_stretch};
 use cm_bits::NoMemory;
 use cm_model::Act;
-use cm_subcube::join;
+use cm_subcube::{join, rounds};
 use cm_workers::{ForkFault, Gate, Passage, Want};
 use std::alloc::Global;
 use std::sync::Wait;
 use std::thread::Threads;
+
+/// So many acts go through 4,096 chips before blocks of these are cut, shared out and put together.
+const CUT: usize = 4096;
+
+/// And so many before they are through a round.
+const ROUND: usize = 16;
+
+/// As many go through in a petit cycle.
+const CYCLE: usize = 256;
 
 /// The runner whose workers run on: it cuts a copy of a machine into blocks, which workers run, each in a thread of its
 /// own to the end of the list; in each round blocks hand one another parcels over lanes. Then it puts them together again.
@@ -120,7 +129,7 @@ impl<'a, const N: usize, const CAP: usize, R: Threads + Wait + Sync> Runner<N, C
             → (w : ℕ) → w < most_workers N self.old.k self.old.workers → admits (gate.vtable, gate.value) w) }
         ensures err { OnErr result (machine.new.machine ≡ machine.old.machine) }
     {
-        check_stretch(acts, machine.clock())?;
+        let cycles = check_stretch(acts, machine.clock())?;
         if acts.is_empty() {
             return Ok(());
         }
@@ -133,6 +142,7 @@ impl<'a, const N: usize, const CAP: usize, R: Threads + Wait + Sync> Runner<N, C
             &self.passage,
             machine,
             acts,
+            cycles,
         );
         if let Err(Want::Thread) = done {
             self.threads_lacked = self.threads_lacked.wrapping_add(1);
@@ -159,8 +169,66 @@ fn told(done: Result<(), Want>) -> Result<(), RunFault>
     }
 }
 
-/// A machine goes through a run by its blocks, or stays as it was.
+/// A machine goes through a run, or stays as it was. The acts have so many petit cycles.
 fn run<const N: usize, const CAP: usize, R: Threads + Wait + Sync>(
+    rt: &R,
+    alloc: Global,
+    k: u8,
+    workers: u16,
+    passage: &Passage,
+    machine: &mut Machine<N, CAP>,
+    acts: &[Act],
+    cycles: usize,
+) -> Result<(), Want>
+    requires within { k ≤ N - N / 2 }
+    requires some { 0 < workers }
+    requires enough { workers ≤ 2 ^ k }
+    requires few { workers ≤ 64 }
+    requires long { IsFalse (is_long acts.now) }
+    requires clock { IsFalse (is_late machine.old.machine.clock acts.now) }
+    ensures ok { OnOk result (machine.new.machine ≡ run_of N CAP machine.old.machine acts.now) }
+    ensures account { OnOk result (SameLines (account N machine.new.machine)
+        (account N machine.old.machine ++ newly_injected N machine.old.machine machine.new.machine)) }
+    ensures admitted { IfOk result (λ _. (gate : _) → passage.now ≡ Passage.Gated gate
+        → (w : ℕ) → w < workers → admits (gate.vtable, gate.value) w) }
+    ensures err { OnErr result (machine.new.machine ≡ machine.old.machine) }
+{
+    admit_all(passage, workers)?;
+    let dims = machine.dims();
+    let rounds = rounds(alloc, dims, acts, k)?;
+    if is_soon_done(passage, dims, acts.len(), rounds.len(), cycles) {
+        return run_alone(machine, acts);
+    }
+    share_out(rt, alloc, k, workers, passage, machine, acts)
+}
+
+/// Whether nobody looks, and one thread runs a list before it was shared out and its blocks came through so many rounds.
+fn is_soon_done(passage: &Passage, dims: u8, acts: usize, rounds: usize, cycles: usize) -> bool
+    requires dimension { dims ≤ 12 }
+{
+    let alone = cycles.saturating_mul(CYCLE).saturating_add(acts) >> (12 - dims);
+    let shared = rounds.saturating_mul(ROUND).saturating_add(CUT);
+    matches!(passage, Passage::Open) && alone <= shared
+}
+
+/// A machine goes through a run in the thread of the caller.
+fn run_alone<const N: usize, const CAP: usize>(
+    machine: &mut Machine<N, CAP>,
+    acts: &[Act],
+) -> Result<(), Want>
+    ensures ok { OnOk result (machine.new.machine ≡ run_of N CAP machine.old.machine acts.now) }
+    ensures account { OnOk result (SameLines (account N machine.new.machine)
+        (account N machine.old.machine ++ newly_injected N machine.old.machine machine.new.machine)) }
+    ensures err { OnErr result (machine.new.machine ≡ machine.old.machine) }
+{
+    match Plain.go(machine, acts) {
+        Ok(()) => Ok(()),
+        Err(_fault) => Err(Want::Memory),
+    }
+}
+
+/// A machine goes through a run by its blocks, or stays as it was.
+fn share_out<const N: usize, const CAP: usize, R: Threads + Wait + Sync>(
     rt: &R,
     alloc: Global,
     k: u8,
@@ -178,12 +246,9 @@ fn run<const N: usize, const CAP: usize, R: Threads + Wait + Sync>(
     ensures ok { OnOk result (machine.new.machine ≡ run_of N CAP machine.old.machine acts.now) }
     ensures account { OnOk result (SameLines (account N machine.new.machine)
         (account N machine.old.machine ++ newly_injected N machine.old.machine machine.new.machine)) }
-    ensures admitted { IfOk result (λ _. (gate : _) → passage.now ≡ Passage.Gated gate
-        → (w : ℕ) → w < workers → admits (gate.vtable, gate.value) w) }
     ensures err { OnErr result (machine.new.machine ≡ machine.old.machine) }
 {
     let _clock = machine.clock();
-    admit_all(passage, workers)?;
     let team = team(alloc, machine, acts, k, workers)?;
     let all = line_up(alloc, team)?;
     let room = room_for(alloc, 1 << k)?;
