@@ -13,6 +13,7 @@ ghost use Rattle.cm_workers.specs.Forks.{fork_fault, most_blocks, most_workers, 
 use crate::gathering::{in_order, room_for};
 use crate::running::{line_up, work_all};
 use crate::teams::team;
+use crate::worth::is_soon_done;
 use cm_array::{Machine, Plain, RunFault, Runner, check_stretch};
 use cm_bits::NoMemory;
 use cm_model::Act;
@@ -21,15 +22,6 @@ use cm_workers::{ForkFault, Gate, Passage, Want};
 use std::alloc::Global;
 use std::sync::Wait;
 use std::thread::Threads;
-
-/// So many acts go through 4,096 chips before blocks of these are cut, shared out and put together.
-const CUT: usize = 4096;
-
-/// And so many before they are through a round.
-const ROUND: usize = 16;
-
-/// As many go through in a petit cycle.
-const CYCLE: usize = 256;
 
 /// The runner whose workers run on: it cuts a copy of a machine into blocks, which workers run, each in a thread of its
 /// own to the end of the list; in each round blocks hand one another parcels over lanes. Then it puts them together again.
@@ -194,21 +186,11 @@ fn run<const N: usize, const CAP: usize, R: Threads + Wait + Sync>(
     ensures err { OnErr result (machine.new.machine ≡ machine.old.machine) }
 {
     admit_all(passage, workers)?;
-    let dims = machine.dims();
-    let rounds = rounds(alloc, dims, acts, k)?;
-    if is_soon_done(passage, dims, acts.len(), rounds.len(), cycles) {
+    let rounds = rounds(alloc, machine.dims(), acts, k)?;
+    if is_soon_done(passage, machine, acts, rounds.len(), cycles) {
         return run_alone(machine, acts);
     }
     share_out(rt, alloc, k, workers, passage, machine, acts)
-}
-
-/// Whether nobody looks, and one thread runs a list before it was shared out and its blocks came through so many rounds.
-fn is_soon_done(passage: &Passage, dims: u8, acts: usize, rounds: usize, cycles: usize) -> bool
-    requires dimension { dims ≤ 12 }
-{
-    let alone = cycles.saturating_mul(CYCLE).saturating_add(acts) >> (12 - dims);
-    let shared = rounds.saturating_mul(ROUND).saturating_add(CUT);
-    matches!(passage, Passage::Open) && alone <= shared
 }
 
 /// A machine goes through a run in the thread of the caller.
