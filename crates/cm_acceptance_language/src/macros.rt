@@ -1,56 +1,21 @@
 //! Macros, run on the fast machine, beside plain whole numbers.
 
-ghost use Rattle.std.specs.Prelude.{◌<◌};
-
-use crate::draws::Draws;
-use cm_array::{Machine, MachineFault, Plain, Runner};
-use cm_bits::{Addr, Field, FlagNo, Proc};
+use cm_array::{Builder, Machine, Plain, Runner};
+use cm_bits::{Field, FlagNo, Proc};
+use cm_draws::{Draws, address, flag, processor, put_flags, put_planes};
 use cm_element::ChipView;
 use cm_language::{Context, Macro};
 use cm_macros::expand;
 use std::alloc::Global;
 use std::test::Fail;
 
-fn processor(number: u8) -> Proc {
-    Proc::new(number % 16).unwrap()
-}
-
-fn flag(number: u16) -> FlagNo {
-    FlagNo::new((number % 16) as u8).unwrap()
-}
-
-fn address(number: u16) -> Addr {
-    Addr::new(number % 4096).unwrap()
-}
-
 /// A machine of one chip whose memory bits and flags are drawn: the same for one seed.
-fn drawn_machine(alloc: Global, seed: u32) -> Result<Machine<0, 7>, MachineFault> {
-    let mut machine = Machine::<0, 7>::blank(alloc)?;
+fn drawn_machine(alloc: Global, seed: u32) -> Option<Machine<0, 7>> {
     let mut draws = Draws::new(seed);
-    for number in 0..16u8 {
-        for at in 0..4096u16 {
-            let bit = draws.below(2) == 1;
-            machine.poke(0, processor(number), address(at), bit);
-        }
-        for f in 0..16u16 {
-            let bit = draws.below(2) == 1;
-            // Flag 8 takes none.
-            machine.poke_flag(0, processor(number), flag(f), bit).ok();
-        }
-    }
-    Ok(machine)
-}
-
-/// The number in a field.
-fn value(chip: &ChipView<'_>, number: u8, field: Field) -> u64 {
-    let mut sum = 0u64;
-    for i in 0..field.len() {
-        let bit = chip.read(processor(number), address(field.at() + i));
-        if bit {
-            sum |= 1 << i;
-        }
-    }
-    sum
+    let mut builder = Builder::<0, 7>::start(alloc, 0).ok()?;
+    put_flags(&mut builder, &mut draws, 0, 65_535);
+    put_planes(&mut builder, &mut draws, 0, 0, 4096);
+    builder.done().ok()
 }
 
 /// A number cut to the bits of a field.
@@ -104,27 +69,27 @@ fn sum(d: Field, a: u64, b: u64) -> Outcome {
 }
 
 /// The outcome of a macro in whole numbers.
-fn wanted_outcome(wanted: &Macro, before: &ChipView<'_>, number: u8) -> Outcome {
+fn wanted_outcome(wanted: &Macro, before: &ChipView<'_>, p: Proc) -> Outcome {
     match *wanted {
-        Macro::Add(d, s) => sum(d, value(before, number, d), value(before, number, s)),
+        Macro::Add(d, s) => sum(d, before.field(p, d), before.field(p, s)),
         Macro::Sub(d, s) => {
-            let (a, b) = (value(before, number, d), value(before, number, s));
+            let (a, b) = (before.field(p, d), before.field(p, s));
             carried(Some((d, cut(d, a.wrapping_sub(b)))), a >= b)
         }
-        Macro::Less(x, y) => carried(None, value(before, number, x) < value(before, number, y)),
-        Macro::Equal(x, y) => carried(None, value(before, number, x) == value(before, number, y)),
-        Macro::Move(d, s) => stored(d, value(before, number, s)),
+        Macro::Less(x, y) => carried(None, before.field(p, x) < before.field(p, y)),
+        Macro::Equal(x, y) => carried(None, before.field(p, x) == before.field(p, y)),
+        Macro::Move(d, s) => stored(d, before.field(p, s)),
         Macro::Select(d, s, f) => {
-            if before.flag(processor(number), f) {
-                stored(d, value(before, number, s))
+            if before.flag(p, f) {
+                stored(d, before.field(p, s))
             } else {
                 nothing()
             }
         }
         Macro::Const(d, v) => stored(d, v),
-        Macro::Shift(d) => sum(d, value(before, number, d), value(before, number, d)),
+        Macro::Shift(d) => sum(d, before.field(p, d), before.field(p, d)),
         Macro::Mul(d, x, y) => {
-            let product = value(before, number, x).wrapping_mul(value(before, number, y));
+            let product = before.field(p, x).wrapping_mul(before.field(p, y));
             Outcome {
                 stored: Some((d, cut(d, product))),
                 carry: Some(false),
@@ -155,10 +120,10 @@ impl Outcome {
     }
 
     /// A flag, which was this before.
-    fn flag(&self, f: u16, before: bool) -> bool {
+    fn flag(&self, f: FlagNo, before: bool) -> bool {
         match self.named {
-            Some((named, bit)) if u16::from(named.get()) == f => bit,
-            _ => match f {
+            Some((named, bit)) if named == f => bit,
+            _ => match f.get() {
                 7 => self.carry.unwrap_or(before),
                 6 => self.factor.unwrap_or(before),
                 _ => before,
@@ -167,11 +132,11 @@ impl Outcome {
     }
 }
 
-fn is_selected(context: Context, chip: &ChipView<'_>, number: u8) -> bool {
+fn is_selected(context: Context, chip: &ChipView<'_>, p: Proc) -> bool {
     match context {
         Context::Always => true,
-        Context::On(f) => chip.flag(processor(number), f),
-        Context::Off(f) => !chip.flag(processor(number), f),
+        Context::On(f) => chip.flag(p, f),
+        Context::Off(f) => !chip.flag(p, f),
     }
 }
 
@@ -181,17 +146,39 @@ fn is_right_in(
     context: Context,
     before: &ChipView<'_>,
     after: &ChipView<'_>,
-    number: u8,
+    p: Proc,
 ) -> bool {
-    let outcome = if is_selected(context, before, number) {
-        wanted_outcome(wanted, before, number)
+    let outcome = if is_selected(context, before, p) {
+        wanted_outcome(wanted, before, p)
     } else {
         nothing()
     };
-    let p = processor(number);
-    (0..4096u16).all(|at| {
-        after.read(p, address(at)) == outcome.bit(at, before.read(p, address(at)))
-    }) && (0..16u16).all(|f| after.flag(p, flag(f)) == outcome.flag(f, before.flag(p, flag(f))))
+    has_right_bits(&outcome, before, after, p) && has_right_flags(&outcome, before, after, p)
+}
+
+fn has_right_bits(outcome: &Outcome, before: &ChipView<'_>, after: &ChipView<'_>, p: Proc) -> bool {
+    for number in 0..4096u16 {
+        let at = address(number);
+        if after.read(p, at) != outcome.bit(number, before.read(p, at)) {
+            return false;
+        }
+    }
+    true
+}
+
+fn has_right_flags(
+    outcome: &Outcome,
+    before: &ChipView<'_>,
+    after: &ChipView<'_>,
+    p: Proc,
+) -> bool {
+    for number in 0..16u8 {
+        let f = flag(number);
+        if after.flag(p, f) != outcome.flag(f, before.flag(p, f)) {
+            return false;
+        }
+    }
+    true
 }
 
 /// Three places for fields, one beside the other, somewhere in memory.
@@ -222,28 +209,27 @@ fn drawn_macro(draws: &mut Draws, kind: u32) -> Result<Macro, Fail> {
     let d = places.field(0)?;
     let s = places.field(draws.below(2))?;
     let (x, y) = (places.field(1)?, places.field(2)?);
-    let number = u64::from(draws.number()) << 32 | u64::from(draws.number());
+    let number = draws.bits(64);
     Ok(match kind % 12 {
         0 => Macro::Add(d, s),
         1 => Macro::Sub(d, s),
         2 => Macro::Less(d, s),
         3 => Macro::Equal(d, s),
         4 => Macro::Move(d, s),
-        5 => Macro::Select(d, s, flag(draws.below(16))),
+        5 => Macro::Select(d, s, draws.flag()),
         6 => Macro::Const(d, cut(d, number)),
         7 => Macro::Shift(d),
         8 => Macro::Mul(d, x, y),
         9 => Macro::Mul(d, y, y),
-        10 => Macro::Set(flag(12 + draws.below(4))),
-        _ => Macro::Clear(flag(12 + draws.below(4))),
+        10 => Macro::Set(flag(12 + draws.below(4) as u8)),
+        _ => Macro::Clear(flag(12 + draws.below(4) as u8)),
     })
 }
 
-/// Flags that no macro of the trials writes.
-static CONDITIONS: [u16; 10] = [0, 1, 2, 3, 4, 5, 8, 9, 10, 11];
-
+/// A context by a flag that no macro of the trials writes.
 fn drawn_context(draws: &mut Draws) -> Context {
-    let f = flag(CONDITIONS[usize::from(draws.below(10))]);
+    let number = draws.below(10) as u8;
+    let f = flag(if number < 6 { number } else { number + 2 });
     match draws.below(3) {
         0 => Context::Always,
         1 => Context::On(f),
@@ -269,7 +255,13 @@ fn run(alloc: Global, placed: &Placed, machine: &mut Machine<0, 7>) -> Result<()
 /// All memory bits and flags are as they should be.
 fn is_right(placed: &Placed, before: &Machine<0, 7>, after: &Machine<0, 7>) -> bool {
     let (before, after) = (before.chip(0), after.chip(0));
-    (0..16u8).all(|number| is_right_in(&placed.wanted, placed.context, &before, &after, number))
+    for number in 0..16u8 {
+        let p = processor(number);
+        if !is_right_in(&placed.wanted, placed.context, &before, &after, p) {
+            return false;
+        }
+    }
+    true
 }
 
 /// It does what it says in whole numbers on a machine like this one.
@@ -287,7 +279,7 @@ fn goes_right(alloc: Global, seed: u32) -> Result<bool, Fail> {
         Macro::Mul(_, _, _) => Context::Always,
         _ => drawn_context(&mut draws),
     };
-    let machine = drawn_machine(alloc, seed << 8)?;
+    let machine = drawn_machine(alloc, seed << 8).ok_or("no machine")?;
     goes_right_on(alloc, &Placed { wanted, context }, &machine)
 }
 

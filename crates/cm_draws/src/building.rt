@@ -112,3 +112,17 @@ pub fn poke_plane<const N: usize, const CAP: usize>(
         let _ = machine.poke_flag(chip, processor(p), number, plane >> p & 1 == 1);
     }
 }
+
+/// Drawn processors of each chip ask to send again, and all can receive.
+pub fn ask_again<const N: usize, const CAP: usize>(
+    machine: &mut Machine<N, CAP>,
+    draws: &mut Draws,
+    chips: u16,
+)
+    requires cube { chips ≡ 2 ^ N }
+{
+    for chip in 0..chips {
+        poke_plane(machine, chip, FlagNo::SEND, draws.plane());
+        poke_plane(machine, chip, FlagNo::RECV, 0);
+    }
+}

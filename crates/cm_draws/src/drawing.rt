@@ -2,9 +2,10 @@
 
 ghost use Rattle.std.specs.Prelude.{◌<◌};
 
-use crate::numbers::flag;
+use crate::numbers::{address, flag};
 use cm_bits::{Addr, Dir, FlagNo, Plane};
-use cm_model::Nano;
+use cm_model::{Act, Nano};
+use std::alloc::{AllocError, Global};
 
 /// Numbers that look random and are always the same.
 #[derive(Drop)]
@@ -47,6 +48,16 @@ impl Draws {
         self.below(limit) == 0
     }
 
+    /// A number of at most so many bits, all of them where there are more than 64.
+    pub fn bits(&mut self, len: u16) -> u64 {
+        let both = u64::from(self.number()) << 32 | u64::from(self.number());
+        if len < 64 {
+            both & ((1 << len) - 1)
+        } else {
+            both
+        }
+    }
+
     pub fn flag(&mut self) -> FlagNo {
         flag(self.below(16) as u8)
     }
@@ -74,6 +85,47 @@ impl Draws {
             mem_table: self.below(256) as u8,
             flag_table: self.below(256) as u8,
             dir: self.dir(),
+        }
+    }
+
+    /// So many acts: petit cycles, looks at the wire, and instructions on records and on the first bits; more than half of
+    /// these go over the grid.
+    pub fn acts(&mut self, alloc: Global, count: usize) -> Result<Vec<Act>, AllocError> {
+        let mut acts = Vec::new(alloc);
+        for _ in 0..count {
+            acts.push(self.act())?;
+        }
+        Ok(acts)
+    }
+
+    fn act(&mut self) -> Act {
+        match self.below(8) {
+            0 | 1 => Act::Cycle,
+            2 => Act::Sense,
+            _ => Act::Nano(self.recorded_nano()),
+        }
+    }
+
+    /// An instruction on records and on the first bits.
+    fn recorded_nano(&mut self) -> Nano {
+        let (a, b) = (self.address(), self.address());
+        let nano = self.nano(a, b);
+        if self.once_in(2) {
+            Nano {
+                write: FlagNo::NEWS,
+                ..nano
+            }
+        } else {
+            nano
+        }
+    }
+
+    /// An address of a record, or one of the first eight.
+    fn address(&mut self) -> Addr {
+        if self.once_in(2) {
+            address(self.below(8))
+        } else {
+            address(3968 + self.below(128))
         }
     }
 

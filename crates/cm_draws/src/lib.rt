@@ -3,12 +3,16 @@
 
 mod building;
 mod drawing;
+mod four_messages;
 mod looking;
 mod numbers;
+mod running;
 
-pub use building::{asking_machine, poke_plane, put_flags, put_messages, put_planes};
+pub use building::{ask_again, asking_machine, poke_plane, put_flags, put_messages, put_planes};
 pub use drawing::Draws;
+pub use four_messages::{four_messages_each, has_one_of_four};
 pub use looking::{
     are_same, has_full_buffer, have_same_bits, have_same_events, have_same_messages,
 };
 pub use numbers::{address, flag, processor};
+pub use running::run_beside_plain;
