@@ -11,13 +11,16 @@ use cm_workers::Passage;
 const CUT: usize = 4096;
 
 /// As many go through it in a petit cycle.
-const CYCLE: usize = 256;
+const CYCLE: usize = 512;
 
 /// So many go through 4,096 chips before a list's lanes are laid and its threads are started and joined.
 const START: usize = 512;
 
-/// And so many before they are through a round.
+/// So many before they are through a round.
 const ROUND: usize = 8;
+
+/// And one while so many events of its logs are copied.
+const EVENTS: usize = 32;
 
 /// Whether nobody looks, and one thread runs a list before it was shared out and its blocks came through so many rounds.
 /// It has so many petit cycles.
@@ -35,7 +38,11 @@ pub(crate) fn is_soon_done<const N: usize, const CAP: usize>(
         return true;
     }
     let alone = cycles.saturating_mul(CYCLE).saturating_add(acts.len());
-    let shared = rounds.saturating_mul(ROUND).saturating_add(START);
+    let copied = events_of(machine) / EVENTS;
+    let shared = rounds
+        .saturating_mul(ROUND)
+        .saturating_add(START)
+        .saturating_add(copied);
     alone.saturating_sub(CUT) >> (12 - machine.dims()) <= shared
 }
 
@@ -51,6 +58,15 @@ fn is_at_rest<const N: usize, const CAP: usize>(machine: &Machine<N, CAP>) -> bo
         }
     }
     true
+}
+
+/// How many events stand in all its logs.
+fn events_of<const N: usize, const CAP: usize>(machine: &Machine<N, CAP>) -> usize {
+    let mut events: usize = 0;
+    for chip in 0..power_of_two(machine.dims()) {
+        events = events.saturating_add(machine.log(chip).len());
+    }
+    events
 }
 
 fn power_of_two(exponent: u8) -> u16
