@@ -2,7 +2,7 @@
 
 use crate::words::HELP;
 use cm_bits::FieldFault;
-use cm_lab::{LabFault, MachineFault, NumbersFault};
+use cm_lab::{LabFault, NumbersFault};
 use std::alloc::Global;
 use std::io;
 use thiserror::Error;
@@ -21,13 +21,8 @@ pub enum Fault {
     /// A word that is to be a flag is none.
     #[error("cm1lab: {word} is no number of a flag, 0 to 15")]
     Flag { word: String },
-    /// A word that is to be a number of dimensions or of messages is none.
-    #[error("cm1lab: {word} is no number of dimensions or of messages")]
-    Size { word: String },
     #[error("cm1lab: {0}")]
     Field(FieldFault),
-    #[error("cm1lab: {0}")]
-    Machine(MachineFault),
     /// What is wrong with a file.
     #[error("cm1lab: {path}: {what}")]
     File { path: String, what: &'static str },
@@ -60,14 +55,6 @@ impl Fault {
         }
     }
 
-    /// A word that is no number of dimensions or of messages.
-    pub fn size(alloc: Global, word: &str) -> Fault {
-        match String::from_str(alloc, word) {
-            Ok(word) => Fault::Size { word },
-            Err(_) => Fault::Memory,
-        }
-    }
-
     /// What is wrong with a file.
     pub fn file(alloc: Global, path: &str, what: &'static str) -> Fault {
         match String::from_str(alloc, path) {
@@ -88,7 +75,7 @@ impl Fault {
     pub fn status(&self) -> u8 {
         match self {
             Fault::Help => 0,
-            Fault::Words | Fault::Number { .. } | Fault::Flag { .. } | Fault::Size { .. } => 2,
+            Fault::Words | Fault::Number { .. } | Fault::Flag { .. } => 2,
             Fault::Memory => 3,
             Fault::File { .. } | Fault::Input(_) | Fault::Output => 4,
             _ => 1,

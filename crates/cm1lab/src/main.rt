@@ -8,10 +8,10 @@ mod words;
 
 use crate::fault::Fault;
 use crate::files::{read_file, write_file};
-use crate::words::{Asked, read_words, size};
+use crate::words::{Asked, read_words};
 use cm_bits::{Std, write_all};
 use cm_cli::{TakeFault, take};
-use cm_lab::{LabFault, MachineFault, fresh, perform};
+use cm_lab::{LabFault, Task, perform};
 use std::alloc::Global;
 use std::io::Write;
 use std::process::ExitCode;
@@ -57,34 +57,7 @@ fn run<R: Input + Print + Env + Files + AllocGlobal>(rt: &R, alloc: Global) -> R
             return Err(Fault::Memory);
         }
     }
-    match words.as_slice() {
-        [_, "fresh", n, cap, out] => make(rt, alloc, n, cap, out),
-        words => work(rt, alloc, words),
-    }
-}
-
-/// Makes a blank machine, whose image goes into a file.
-fn make<R: Files + AllocGlobal>(
-    rt: &R,
-    alloc: Global,
-    n: &str,
-    cap: &str,
-    out: &str,
-) -> Result<(), Fault> {
-    match fresh(alloc, size(alloc, n)?, size(alloc, cap)?) {
-        Ok(image) => write_file(rt, out, &image),
-        Err(MachineFault::Memory) => Err(Fault::Memory),
-        Err(fault) => Err(Fault::Machine(fault)),
-    }
-}
-
-/// Does with the machine of an image what the words ask for.
-fn work<R: Input + Print + Files + AllocGlobal>(
-    rt: &R,
-    alloc: Global,
-    words: &[&str],
-) -> Result<(), Fault> {
-    let asked = read_words(alloc, words)?;
+    let asked = read_words(alloc, words.as_slice())?;
     let image = read_file(
         rt,
         alloc,

@@ -9,9 +9,6 @@ use std::alloc::Global;
 pub const HELP: &str = "\
 Data and pictures of all processors, out of the image of a machine and into it
 
-cm1lab fresh N CAP FILE
-    puts the image of a blank machine into FILE: 2^N chips, N from 0 to 12, whose routers
-    have room for CAP messages each, 1 to 15
 cm1lab get IMAGE ADDRESS LENGTH
     tells the number that each processor has in a memory field, a line for each chip
 cm1lab rows IMAGE ADDRESS LENGTH
@@ -30,7 +27,7 @@ cm1lab paint IMAGE PICTURE ADDRESS OUT
     begins at ADDRESS and has as many bits as a dot, and the image into the file OUT
 
 ADDRESS is that of the field's lowest bit, 0 to 4095, and LENGTH how many bits it has, 1 to 64.
-IMAGE is a file that cm1lab, cm1 fresh or cm1 run --out wrote.";
+IMAGE is a file that cm1 fresh, cm1 run --out or cm1lab wrote.";
 
 /// What the words ask for: of which image, with which file of a picture, and into which file, if the machine changes.
 #[derive(Clone, Copy)]
@@ -39,14 +36,6 @@ pub struct Asked<'a> {
     pub image: &'a str,
     pub picture: Option<&'a str>,
     pub out: Option<&'a str>,
-}
-
-/// A number of dimensions, or of messages.
-pub fn size(alloc: Global, word: &str) -> Result<u8, Fault> {
-    match word.parse::<u8>() {
-        Ok(number) => Ok(number),
-        Err(_) => Err(Fault::size(alloc, word)),
-    }
 }
 
 /// Reads the words, of which the first is the program's name.

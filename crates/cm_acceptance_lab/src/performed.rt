@@ -1,5 +1,6 @@
 //! What is done with images that are none, and which fault is told first.
 
+use crate::drawn::image;
 use cm_bits::Field;
 use cm_image::ImageFault;
 use cm_lab::{LabFault, NumbersFault, Order, Task, perform};
@@ -123,8 +124,21 @@ fn first_not_refused(alloc: Global) -> Option<usize> {
     None
 }
 
+/// What is told of a sound image whose routers have another room.
+fn of_another_room(alloc: Global) -> Option<LabFault> {
+    let image = image::<1, 2>(alloc, 2, 5)?;
+    let field = Field::new(0, 1).ok()?;
+    perform(alloc, Task::Get(Order::Rows, field), &image, &[]).err()
+}
+
 #[test]
 fn the_image_is_judged_before_the_numbers(rt: HostRuntime) -> Result<(), Fail> {
     assert_eq!(rt; first_not_refused(rt.alloc()), None);
+    Ok(())
+}
+
+#[test]
+fn machines_of_another_room_are_refused(rt: HostRuntime) -> Result<(), Fail> {
+    assert_eq!(rt; of_another_room(rt.alloc()), Some(LabFault::Room));
     Ok(())
 }

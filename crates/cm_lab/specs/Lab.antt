@@ -1,5 +1,5 @@
 -- What the laboratory does with an image: the text that it tells, or the image that it leaves. Ours.
-use Rattle.std.specs.Prelude.{◌≡◌, ℕ, Option, Some, None, Result, Ok, Err, List, if◌then◌else◌}
+use Rattle.std.specs.Prelude.{◌≡◌, ℕ, ◌==◌, ◌||◌, Bool, Option, Some, None, Result, Ok, Err, List, if◌then◌else◌}
 use Rattle.cm_bits.specs.declared.field.FieldFault.{FieldFault}
 use Rattle.cm_bits.specs.Field.{field_fault}
 use Rattle.cm_model.specs.Place.{rows, columns}
@@ -10,7 +10,7 @@ use Rattle.cm_figures.specs.declared.numbers.NumbersFault.{NumbersFault}
 use Rattle.cm_lab.specs.declared.lab.Task.{Task}
 use Rattle.cm_lab.specs.declared.lab.Task.TheVariants.{Get, Put, Show, Paint}
 use Rattle.cm_lab.specs.declared.lab.LabFault.{LabFault}
-use Rattle.cm_lab.specs.declared.lab.LabFault.TheVariants.{Image, Numbers, Wide, Picture, Greatest, Field}
+use Rattle.cm_lab.specs.declared.lab.LabFault.TheVariants.{Image, Room, Numbers, Wide, Picture, Greatest, Field}
 use Rattle.cm_lab.specs.declared.order.Order.TheVariants.{Rows as by_rows}
 use Rattle.cm_lab.specs.Data.{processors, width_in, numbers_of, machine_with_numbers}
 use Rattle.cm_lab.specs.Pictures.{is_narrow, picture_of, bits_of}
@@ -57,6 +57,10 @@ work_of n cap (Show shown form) given machine =
     if is_narrow shown then Ok (picture_text form (picture_of n cap shown machine)) else Err Wide
 work_of n cap (Paint at) given machine = of_picture n cap at machine (picture_in (columns n) (rows n) given)
 
+-- the rooms of the laboratory's machines
+abbrev pub is_own_room : ℕ → Bool
+is_own_room cap = cap == 1 || cap == 7
+
 -- what is made of the machine of an image, if it is one
 abbrev pub of_machine : (Machine → Result (List ℕ) LabFault) → Result Machine ImageFault → Result (List ℕ) LabFault
 of_machine made (Ok machine) = made machine
@@ -66,10 +70,11 @@ of_machine made (Err fault) = Err (Image fault)
 abbrev pub IsRefused : Result Machine ImageFault → LabFault → Type 0
 IsRefused read fault = (made : Machine → Result (List ℕ) LabFault) → of_machine made read ≡ Err fault
 
--- of an image of this shape
+-- of an image of this shape: another room is refused before all of it is read
 abbrev pub of_shape : Task → List ℕ → List ℕ → Result (ℕ × ℕ) ImageFault → Result (List ℕ) LabFault
 of_shape task given image (Ok shape) =
-    of_machine (work_of shape.0 shape.1 task given) (read_image shape.0 shape.1 image)
+    if is_own_room shape.1
+    then of_machine (work_of shape.0 shape.1 task given) (read_image shape.0 shape.1 image) else Err Room
 of_shape task given image (Err fault) = Err (Image fault)
 
 -- what a task makes of an image and of what is given; the image is judged first

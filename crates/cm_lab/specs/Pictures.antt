@@ -1,8 +1,9 @@
 -- Pictures of machines: a dot for each processor of the grid, or for each chip. Ours.
-use Rattle.std.specs.Prelude.{ℕ, suc, zero, ◌+◌, ◌-◌, ◌/◌, ◌^◌, ◌==◌, Bool, true, nat_lt, if◌then◌else◌}
+use Rattle.std.specs.Prelude.{◌≡◌, ℕ, suc, zero, ◌+◌, ◌-◌, ◌*◌, ◌/◌, ◌%◌, ◌^◌, ◌<◌, ◌==◌, Bool, true, nat_lt, if◌then◌else◌}
 use Rattle.std.specs.Prelude.{Option, Some, None, List, length}
 use Rattle.cm_bits.specs.Bit.{bit_number}
-use Rattle.cm_model.specs.Place.{chip_columns, rows, columns}
+use Rattle.cm_bits.specs.declared.place.Place.{Place}
+use Rattle.cm_model.specs.Place.{chip_columns, rows, columns, place_at}
 use Rattle.cm_model.specs.Processor.{flag}
 use Rattle.cm_model.specs.Each.{each_from}
 use Rattle.cm_model.specs.Array.{Chips, each_chip, list_at, processor_of}

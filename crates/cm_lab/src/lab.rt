@@ -7,7 +7,7 @@ ghost use Rattle.cm_figures.specs.PictureReading.{picture_in};
 ghost use Rattle.cm_lab.specs.Data.{processors};
 ghost use Rattle.cm_image_format.specs.Whole.{read_shape, read_image};
 ghost use Rattle.cm_lab.specs.declared.lab.Task.TheVariants as task;
-ghost use Rattle.cm_lab.specs.Lab.{work_of, done_with, IsRefused, IsNoPicture};
+ghost use Rattle.cm_lab.specs.Lab.{is_own_room, work_of, done_with, IsRefused, IsNoPicture};
 
 use crate::data::{get, put};
 use crate::order::{Order, columns, processors, rows};
@@ -41,6 +41,9 @@ pub enum LabFault {
     /// The image is none.
     #[error("{0}")]
     Image(ImageFault),
+    /// Its routers have another room than those of the laboratory's machines.
+    #[error("routers with room for another number of messages than 1 or 7")]
+    Room,
     /// What was given is not one number for each processor.
     #[error("{0}")]
     Numbers(NumbersFault),
@@ -72,20 +75,8 @@ pub fn perform(alloc: Global, task: Task, image: &[u8], given: &[u8]) -> Result<
     };
     match cap {
         1 => perform_sized::<1>(alloc, n, task, image, given),
-        2 => perform_sized::<2>(alloc, n, task, image, given),
-        3 => perform_sized::<3>(alloc, n, task, image, given),
-        4 => perform_sized::<4>(alloc, n, task, image, given),
-        5 => perform_sized::<5>(alloc, n, task, image, given),
-        6 => perform_sized::<6>(alloc, n, task, image, given),
         7 => perform_sized::<7>(alloc, n, task, image, given),
-        8 => perform_sized::<8>(alloc, n, task, image, given),
-        9 => perform_sized::<9>(alloc, n, task, image, given),
-        10 => perform_sized::<10>(alloc, n, task, image, given),
-        11 => perform_sized::<11>(alloc, n, task, image, given),
-        12 => perform_sized::<12>(alloc, n, task, image, given),
-        13 => perform_sized::<13>(alloc, n, task, image, given),
-        14 => perform_sized::<14>(alloc, n, task, image, given),
-        _ => perform_sized::<15>(alloc, n, task, image, given),
+        _ => Err(LabFault::Room),
     }
 }
 
@@ -99,6 +90,7 @@ fn perform_sized<const CAP: usize>(
 ) -> Result<Vec<u8>, LabFault>
     requires dimension { n ≤ 12 }
     requires shape { read_shape image.now ≡ Ok (n, CAP) }
+    requires own { is_own_room CAP ≡ true }
     ensures value { IfOk result (λ text. done_with task given.now image.now ≡ Ok text.items) }
     ensures refused { IfErr result (λ fault. fault ≢ LabFault.Memory → done_with task given.now image.now ≡ Err fault) }
 {
@@ -127,6 +119,7 @@ fn perform_on<const N: usize, const CAP: usize>(
     given: &[u8],
 ) -> Result<Vec<u8>, LabFault>
     requires shape { read_shape image.now ≡ Ok (N, CAP) }
+    requires own { is_own_room CAP ≡ true }
     ensures value { IfOk result (λ text. done_with task given.now image.now ≡ Ok text.items) }
     ensures refused { IfErr result (λ fault. fault ≢ LabFault.Memory → done_with task given.now image.now ≡ Err fault) }
 {

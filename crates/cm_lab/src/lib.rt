@@ -1,7 +1,6 @@
 //! The laboratory: data and pictures that go into machines and come out of them.
 #![tactic(auto)]
 
-mod blanks;
 mod data;
 mod data_laws;
 mod lab;
@@ -9,8 +8,6 @@ mod order;
 mod picture_laws;
 mod pictures;
 
-pub use blanks::fresh;
-pub use cm_array::MachineFault;
 pub use cm_figures::{
     Form, NumbersFault, Picture, PictureFault, read_numbers, read_picture, write_numbers,
     write_picture,
