@@ -2,6 +2,8 @@
 #![tactic(auto)]
 
 #[cfg(test)]
+mod performed;
+#[cfg(test)]
 mod runs;
 #[cfg(test)]
 mod shared;
