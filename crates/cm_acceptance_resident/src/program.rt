@@ -60,7 +60,9 @@ static SHARED: [Shared; 2] = [
 /// The image that one worker leaves.
 fn left_alone(alloc: Global, row: &Shared) -> Option<Vec<u8>> {
     let mut commands = Bytes::new(ASKS, 7);
-    let mut answers = Room::new(alloc, 100, 10).ok()?;
+    let Ok(mut answers) = Room::new(alloc, 100, 10) else {
+        return None;
+    };
     let image = fresh(alloc, row.n, 7).ok()?;
     let text = row.text.to_vec(alloc).ok()?;
     let (machine, program) = open_run(alloc, image, Ok(text), row.sharing).ok()?;
@@ -85,7 +87,9 @@ fn left_shared<R: Threads + Wait + Sync>(
     };
     let passage = Passage::Gated(Box::new(alloc, gate).ok()?);
     let mut commands = Bytes::new(ASKS, 7);
-    let mut answers = Room::new(alloc, 100, 10).ok()?;
+    let Ok(mut answers) = Room::new(alloc, 100, 10) else {
+        return None;
+    };
     let image = fresh(alloc, row.n, 7).ok()?;
     let text = row.text.to_vec(alloc).ok()?;
     let (machine, program) = open_run(alloc, image, Ok(text), row.sharing).ok()?;
