@@ -7,5 +7,6 @@ mod Opening
 mod Lifting
 mod Refusing
 mod Leading
+mod Weaving
 mod ToTheEnd
 mod Sessions

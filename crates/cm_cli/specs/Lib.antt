@@ -16,5 +16,7 @@ pub mod Takings
 pub mod Puttings
 pub mod Files
 pub mod Runs
+pub mod Weaving
+pub mod Weaves
 pub mod Lines
 pub mod Performed

@@ -8,6 +8,7 @@ use Rattle.cm_cli.specs.Report.{HasFront}
 use Rattle.cm_cli.specs.declared.program_fault.ProgramFault.{ProgramFault}
 use Rattle.cm_cli.specs.declared.program_fault.ProgramFault.TheVariants.{BadLine, Text, Image, Cap, Read, Write}
 use Rattle.cm_cli.specs.declared.program_fault.ProgramFault.TheVariants.{TooMuch, Memory, NoThread, Split, Workers}
+use Rattle.cm_cli.specs.declared.program_fault.ProgramFault.TheVariants.{Long, Clock, Unfinished}
 
 -- the most bytes of a program text
 abbrev pub PROGRAM_LIMIT : ℕ
@@ -34,6 +35,9 @@ HasNoListing text Cap = ⊥
 HasNoListing text NoThread = ⊥
 HasNoListing text Split = ⊥
 HasNoListing text Workers = ⊥
+HasNoListing text Long = ⊥
+HasNoListing text Clock = ⊥
+HasNoListing text Unfinished = ⊥
 HasNoListing text Read = ⊥
 HasNoListing text Write = ⊥
 HasNoListing text TooMuch = ⊥
@@ -77,6 +81,9 @@ EndsListing text held holds (Err Cap) = ⊥
 EndsListing text held holds (Err NoThread) = ⊥
 EndsListing text held holds (Err Split) = ⊥
 EndsListing text held holds (Err Workers) = ⊥
+EndsListing text held holds (Err Long) = ⊥
+EndsListing text held holds (Err Clock) = ⊥
+EndsListing text held holds (Err Unfinished) = ⊥
 
 -- it ended by a write
 abbrev pub is_write : Result (Unit {0}) ProgramFault → Bool
@@ -87,6 +94,9 @@ is_write (Err Cap) = false
 is_write (Err NoThread) = false
 is_write (Err Split) = false
 is_write (Err Workers) = false
+is_write (Err Long) = false
+is_write (Err Clock) = false
+is_write (Err Unfinished) = false
 is_write (Err (Text fault)) = false
 is_write (Err Read) = false
 is_write (Err Write) = true
@@ -102,6 +112,9 @@ has_read_all (Err Cap) = false
 has_read_all (Err NoThread) = false
 has_read_all (Err Split) = false
 has_read_all (Err Workers) = false
+has_read_all (Err Long) = false
+has_read_all (Err Clock) = false
+has_read_all (Err Unfinished) = false
 has_read_all (Err (Text fault)) = true
 has_read_all (Err Read) = false
 has_read_all (Err Write) = true

@@ -6,7 +6,7 @@ use Rattle.cm_image_format.specs.Whole.{read_shape, read_image, header_fault}
 use Rattle.cm_cli.specs.declared.program_fault.ProgramFault.{ProgramFault}
 use Rattle.cm_cli.specs.declared.program_fault.ProgramFault.TheVariants.{BadLine, Text, Image, Cap, Read}
 use Rattle.cm_cli.specs.declared.program_fault.ProgramFault.TheVariants.{Write, TooMuch, Memory, NoThread}
-use Rattle.cm_cli.specs.declared.program_fault.ProgramFault.TheVariants.{Split, Workers}
+use Rattle.cm_cli.specs.declared.program_fault.ProgramFault.TheVariants.{Split, Workers, Long, Clock, Unfinished}
 
 -- the rooms of the program's own machines
 abbrev pub is_own_room : ℕ → Bool
@@ -54,6 +54,9 @@ IsUnopened image Write = ⊥
 IsUnopened image NoThread = ⊥
 IsUnopened image Split = ⊥
 IsUnopened image Workers = ⊥
+IsUnopened image Long = ⊥
+IsUnopened image Clock = ⊥
+IsUnopened image Unfinished = ⊥
 
 -- the image is one of a machine of the program's own
 pub record IsOpened (image : List ℕ) : Type 0 where

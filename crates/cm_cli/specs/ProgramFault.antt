@@ -8,6 +8,10 @@ use Rattle.cm_image_format.specs.declared.fault.ImageFault.{ImageFault}
 use Rattle.cm_image_format.specs.declared.fault.ImageFault.TheVariants as image
 use Rattle.cm_session.specs.declared.fault.SessionFault.{SessionFault}
 use Rattle.cm_session.specs.declared.fault.SessionFault.TheVariants as session
+use Rattle.cm_weave.specs.declared.first.WorldFault.{WorldFault}
+use Rattle.cm_weave.specs.declared.first.WorldFault.TheVariants as world
+use Rattle.cm_steps.specs.declared.fault.WeaveFault.{WeaveFault}
+use Rattle.cm_steps.specs.declared.fault.WeaveFault.TheVariants as weave
 use Rattle.cm_cli.specs.declared.outside.PutFault.{PutFault}
 use Rattle.cm_cli.specs.declared.outside.PutFault.TheVariants as put
 use Rattle.cm_cli.specs.declared.fault.ChipFault.{ChipFault}
@@ -17,6 +21,7 @@ use Rattle.cm_cli.specs.declared.takes.TakeFault.TheVariants as take
 use Rattle.cm_cli.specs.declared.program_fault.ProgramFault.{ProgramFault}
 use Rattle.cm_cli.specs.declared.program_fault.ProgramFault.TheVariants.{BadLine, Text, Image, Cap, Read, Write}
 use Rattle.cm_cli.specs.declared.program_fault.ProgramFault.TheVariants.{TooMuch, Memory, NoThread, Split, Workers}
+use Rattle.cm_cli.specs.declared.program_fault.ProgramFault.TheVariants.{Long, Clock, Unfinished}
 
 -- the number of what is wrong with a line
 abbrev pub kind_number : AsmKind → ℕ
@@ -60,6 +65,9 @@ told_number Memory = 33
 told_number NoThread = 9
 told_number Split = 37
 told_number Workers = 36
+told_number Long = 6
+told_number Clock = 7
+told_number Unfinished = 35
 
 -- the line of the text, if the fault stands in one
 abbrev pub line_of : ProgramFault → Option ℕ
@@ -74,6 +82,9 @@ line_of Memory = None
 line_of NoThread = None
 line_of Split = None
 line_of Workers = None
+line_of Long = None
+line_of Clock = None
+line_of Unfinished = None
 
 -- a session's fault as one of the program
 abbrev pub of_chip : ChipFault → ProgramFault
@@ -119,3 +130,18 @@ of_image image.Count = Image image.Count
 of_image image.Value = Image image.Value
 of_image image.TagTwice = Image image.TagTwice
 of_image image.Extra = Image image.Extra
+
+-- why there is no world of a run, as a fault of the program
+abbrev pub of_world : WorldFault → ProgramFault
+of_world world.Long = Long
+of_world world.Clock = Clock
+of_world world.Split = Split
+of_world world.Memory = Memory
+
+-- why a world that is stepped is given up, as a fault of the program
+abbrev pub of_weave : WeaveFault → ProgramFault
+of_weave weave.Read = Read
+of_weave (weave.Write count) = Write
+of_weave weave.TooMuch = TooMuch
+of_weave weave.Memory = Memory
+of_weave weave.Unfinished = Unfinished

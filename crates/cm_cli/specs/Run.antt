@@ -12,7 +12,7 @@ use Rattle.cm_cli.specs.declared.takes.TakeFault.{TakeFault}
 use Rattle.cm_cli.specs.declared.program_fault.ProgramFault.{ProgramFault}
 use Rattle.cm_cli.specs.declared.program_fault.ProgramFault.TheVariants.{BadLine, Text, Image, Cap, Read}
 use Rattle.cm_cli.specs.declared.program_fault.ProgramFault.TheVariants.{Write, TooMuch, Memory, NoThread}
-use Rattle.cm_cli.specs.declared.program_fault.ProgramFault.TheVariants.{Split, Workers}
+use Rattle.cm_cli.specs.declared.program_fault.ProgramFault.TheVariants.{Split, Workers, Long, Clock, Unfinished}
 use Rattle.cm_cli.specs.declared.sharing.Sharing.{Sharing}
 use Rattle.cm_cli.specs.ProgramFault.{of_session, of_take}
 use Rattle.cm_cli.specs.Opened.{Start, opened, IsUnopened, IsOpened}
@@ -80,6 +80,9 @@ IsRefusedText (Ok text) Write = ⊥
 IsRefusedText (Ok text) NoThread = ⊥
 IsRefusedText (Ok text) Split = ⊥
 IsRefusedText (Ok text) Workers = ⊥
+IsRefusedText (Ok text) Long = ⊥
+IsRefusedText (Ok text) Clock = ⊥
+IsRefusedText (Ok text) Unfinished = ⊥
 IsRefusedText (Err own) fault = fault ≡ of_take own
 
 -- what a text may give is refused with this fault

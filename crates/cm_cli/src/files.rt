@@ -141,7 +141,7 @@ fn begin_files<H: Outside>(
 }
 
 /// Makes the file ready that is to be written, if one is named.
-fn make_ready<H: Outside>(
+pub(crate) fn make_ready<H: Outside>(
     alloc: Global,
     outside: &mut H,
     out: &Option<String>,

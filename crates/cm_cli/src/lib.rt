@@ -23,6 +23,7 @@ mod takes;
 mod takings;
 mod text;
 mod texts;
+mod weaves;
 
 pub use blanks::fresh;
 pub use cm_language::{AsmFault, AsmKind};
@@ -42,3 +43,4 @@ pub use session::chip_session;
 pub use sharing::Sharing;
 pub use takes::{TakeFault, take};
 pub use text::Text;
+pub use weaves::{WeaveLine, weave_opened};

@@ -11,6 +11,8 @@ use cm_debug::SessionFault;
 use cm_image_format::ImageFault;
 use cm_language::{AsmFault, AsmKind};
 use cm_line::LineFault;
+use cm_steps::WeaveFault;
+use cm_weave::WorldFault;
 
 /// A fault of the whole program, by the numbers of the one list of refusals.
 #[derive(Clone, Copy, Debug, PartialEq, Eq)]
@@ -29,6 +31,12 @@ pub enum ProgramFault {
     Split,
     /// There are no workers, or more than blocks.
     Workers,
+    /// A program is longer than one stretch.
+    Long,
+    /// The counter of petit cycles would pass its end.
+    Clock,
+    /// A block has steps left.
+    Unfinished,
 }
 
 impl ProgramFault {
@@ -50,6 +58,9 @@ impl ProgramFault {
             ProgramFault::NoThread => 9,
             ProgramFault::Split => 37,
             ProgramFault::Workers => 36,
+            ProgramFault::Long => 6,
+            ProgramFault::Clock => 7,
+            ProgramFault::Unfinished => 35,
         }
     }
 
@@ -189,6 +200,39 @@ impl From<LineFault> for ProgramFault {
         match fault {
             LineFault::BadLine => ProgramFault::BadLine,
             LineFault::Memory => ProgramFault::Memory,
+        }
+    }
+}
+
+impl From<WorldFault> for ProgramFault {
+    ghost use Rattle.std.specs.Prelude.{◌≡◌};
+    ghost use Rattle.cm_cli.specs.ProgramFault.{of_world};
+
+    ghost from_gives = { λ fault whole. whole ≡ of_world fault };
+
+    fn from(fault: WorldFault) -> ProgramFault {
+        match fault {
+            WorldFault::Long => ProgramFault::Long,
+            WorldFault::Clock => ProgramFault::Clock,
+            WorldFault::Split => ProgramFault::Split,
+            WorldFault::Memory => ProgramFault::Memory,
+        }
+    }
+}
+
+impl From<WeaveFault> for ProgramFault {
+    ghost use Rattle.std.specs.Prelude.{◌≡◌};
+    ghost use Rattle.cm_cli.specs.ProgramFault.{of_weave};
+
+    ghost from_gives = { λ fault whole. whole ≡ of_weave fault };
+
+    fn from(fault: WeaveFault) -> ProgramFault {
+        match fault {
+            WeaveFault::Read => ProgramFault::Read,
+            WeaveFault::Write(_) => ProgramFault::Write,
+            WeaveFault::TooMuch => ProgramFault::TooMuch,
+            WeaveFault::Memory => ProgramFault::Memory,
+            WeaveFault::Unfinished => ProgramFault::Unfinished,
         }
     }
 }

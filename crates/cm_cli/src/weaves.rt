@@ -1,0 +1,227 @@
+//! `cm1 weave`: the exchange of a machine's blocks, stepped by the lines of a file or by itself.
+
+ghost use Rattle.std.specs.Prelude.{◌≡◌, false, Ok, Some, IfOk, IfErr, IfSome, option_map, string_bytes};
+ghost use Rattle.std.specs.Option.{is_some};
+ghost use Rattle.cm_cli.specs.Sizes.{start_in, start_at};
+ghost use Rattle.cm_cli.specs.Deeds.{Did};
+ghost use Rattle.cm_cli.specs.Takings.{reads_by};
+ghost use Rattle.cm_cli.specs.Weaving.{IsWoven, KeepsLeft, outgoing};
+ghost use Rattle.cm_cli.specs.Weaves.{OpensSteps, RefusesSteps, WeavesAt, WeavesReady, WeavesWorld};
+
+use crate::files::make_ready;
+use crate::opened::{OfRoom, Opened};
+use crate::outside::Outside;
+use crate::program_fault::ProgramFault;
+use crate::puttings::close_files;
+use cm_array::Machine;
+use cm_asm::Program;
+use cm_bits::{Failed, Sink, Source};
+use cm_image::dump;
+use cm_steps::{weave_self, weave_session};
+use cm_weave::World;
+use std::alloc::Global;
+
+/// What is asked of an exchange: the file of its steps, if one is named, into 2^`split` blocks how the machine is cut, and
+/// the file, if one is named, into which the image goes of the machine that is left.
+#[derive(Debug, PartialEq, Eq, Drop)]
+pub struct WeaveLine {
+    pub steps: Option<String>,
+    pub split: u8,
+    pub out: Option<String>,
+}
+
+/// Steps the exchange of a machine's blocks by the lines of a file or by itself, over what lies outside: the machine is
+/// cut; then the file is made ready that is to be written, and the steps are opened. It waits for nobody.
+pub fn weave_opened<H: Outside, O: Sink>(
+    alloc: Global,
+    outside: &mut H,
+    line: &WeaveLine,
+    machine: Opened,
+    program: &Program,
+    answers: &mut O,
+) -> Result<(), ProgramFault>
+    requires writer { O.has_failed answers.old ≡ false }
+    ensures does { Did H.does outside.old outside.new (WeavesAt (reads_by H.File.left H.File.has_failed) line.now
+        (start_at machine) program.now.acts
+        (outgoing (O.contents answers.old) (O.contents answers.new) (O.has_failed answers.new)) result) }
+{
+    match machine {
+        Opened::Room1(machine) => weave_in_room(alloc, outside, line, machine, program, answers),
+        Opened::Room7(machine) => weave_in_room(alloc, outside, line, machine, program, answers),
+    }
+}
+
+/// The same, where routers have this room.
+fn weave_in_room<const CAP: usize, H: Outside, O: Sink>(
+    alloc: Global,
+    outside: &mut H,
+    line: &WeaveLine,
+    machine: OfRoom<CAP>,
+    program: &Program,
+    answers: &mut O,
+) -> Result<(), ProgramFault>
+    requires writer { O.has_failed answers.old ≡ false }
+    ensures does { Did H.does outside.old outside.new (WeavesAt (reads_by H.File.left H.File.has_failed) line.now
+        (start_in CAP machine.entry) program.now.acts
+        (outgoing (O.contents answers.old) (O.contents answers.new) (O.has_failed answers.new)) result) }
+{
+    match machine {
+        OfRoom::Dim0(machine) => weave_machine(alloc, outside, line, machine, program, answers),
+        OfRoom::Dim1(machine) => weave_machine(alloc, outside, line, machine, program, answers),
+        OfRoom::Dim2(machine) => weave_machine(alloc, outside, line, machine, program, answers),
+        OfRoom::Dim3(machine) => weave_machine(alloc, outside, line, machine, program, answers),
+        OfRoom::Dim4(machine) => weave_machine(alloc, outside, line, machine, program, answers),
+        OfRoom::Dim5(machine) => weave_machine(alloc, outside, line, machine, program, answers),
+        OfRoom::Dim6(machine) => weave_machine(alloc, outside, line, machine, program, answers),
+        OfRoom::Dim7(machine) => weave_machine(alloc, outside, line, machine, program, answers),
+        OfRoom::Dim8(machine) => weave_machine(alloc, outside, line, machine, program, answers),
+        OfRoom::Dim9(machine) => weave_machine(alloc, outside, line, machine, program, answers),
+        OfRoom::Dim10(machine) => weave_machine(alloc, outside, line, machine, program, answers),
+        OfRoom::Dim11(machine) => weave_machine(alloc, outside, line, machine, program, answers),
+        OfRoom::Dim12(machine) => weave_machine(alloc, outside, line, machine, program, answers),
+    }
+}
+
+/// The same, on a machine of these sizes.
+fn weave_machine<const N: usize, const CAP: usize, H: Outside, O: Sink>(
+    alloc: Global,
+    outside: &mut H,
+    line: &WeaveLine,
+    machine: Machine<N, CAP>,
+    program: &Program,
+    answers: &mut O,
+) -> Result<(), ProgramFault>
+    requires writer { O.has_failed answers.old ≡ false }
+    ensures does { Did H.does outside.old outside.new (WeavesAt (reads_by H.File.left H.File.has_failed) line.now
+        (record { n = N; cap = CAP; machine = machine.entry.machine }) program.now.acts
+        (outgoing (O.contents answers.old) (O.contents answers.new) (O.has_failed answers.new)) result) }
+{
+    match World::new(alloc, machine, program.acts(), line.split) {
+        Ok(world) => weave_world(alloc, outside, line, world, answers),
+        Err(refused) => Err(ProgramFault::from(refused.fault)),
+    }
+}
+
+/// The same, once there is a world.
+fn weave_world<const N: usize, const CAP: usize, H: Outside, O: Sink>(
+    alloc: Global,
+    outside: &mut H,
+    line: &WeaveLine,
+    world: World<N, CAP>,
+    answers: &mut O,
+) -> Result<(), ProgramFault>
+    requires writer { O.has_failed answers.old ≡ false }
+    ensures does { Did H.does outside.old outside.new (WeavesWorld (reads_by H.File.left H.File.has_failed) line.now
+        N CAP world.entry
+        (outgoing (O.contents answers.old) (O.contents answers.new) (O.has_failed answers.new)) result) }
+{
+    match make_ready(alloc, outside, &line.out) {
+        Ok(part) => weave_ready(alloc, outside, line, world, part, answers),
+        Err(fault) => Err(fault),
+    }
+}
+
+/// The same, once the file is ready that is to be written.
+fn weave_ready<const N: usize, const CAP: usize, H: Outside, O: Sink>(
+    alloc: Global,
+    outside: &mut H,
+    line: &WeaveLine,
+    world: World<N, CAP>,
+    part: Option<H::Part>,
+    answers: &mut O,
+) -> Result<(), ProgramFault>
+    requires writer { O.has_failed answers.old ≡ false }
+    ensures does { Did H.does outside.old outside.new (WeavesReady (reads_by H.File.left H.File.has_failed) line.now
+        N CAP world.entry part
+        (outgoing (O.contents answers.old) (O.contents answers.new) (O.has_failed answers.new)) result) }
+{
+    match open_steps(outside, &line.steps) {
+        Ok(steps) => {
+            let keeps = part.is_some();
+            let ran = weave_on(alloc, world, steps, answers, keeps);
+            close_files(outside, part, answers, ran)
+        }
+        Err(_) => close_files(outside, part, answers, Err(ProgramFault::Read)),
+    }
+}
+
+/// Opens the file of the steps, if one is named.
+fn open_steps<H: Outside>(
+    outside: &mut H,
+    steps: &Option<String>,
+) -> Result<Option<H::File>, Failed>
+    ensures working { IfOk result (λ file. IfSome file (λ one. H.File.has_failed one ≡ false)) }
+    ensures value { IfOk result (λ file. Did H.does outside.old outside.new
+        (OpensSteps (option_map string_bytes steps.now) file)) }
+    ensures refused { IfErr result (λ _. Did H.does outside.old outside.new
+        (RefusesSteps (option_map string_bytes steps.now))) }
+{
+    let Some(path) = steps else {
+        return Ok(None);
+    };
+    match outside.open(path.as_str()) {
+        Ok(file) => Ok(Some(file)),
+        Err(fault) => Err(fault),
+    }
+}
+
+/// Steps a world, by these steps or by itself, and gives the image of the machine that is left, if one is kept.
+fn weave_on<const N: usize, const CAP: usize, F: Source + Drop, O: Sink>(
+    alloc: Global,
+    world: World<N, CAP>,
+    steps: Option<F>,
+    answers: &mut O,
+    keeps: bool,
+) -> Result<Option<Vec<u8>>, ProgramFault>
+    requires reader { IfSome steps (λ one. F.has_failed one ≡ false) }
+    requires writer { O.has_failed answers.old ≡ false }
+    ensures woven { IsWoven (reads_by F.left F.has_failed) N CAP world.entry steps keeps
+        (outgoing (O.contents answers.old) (O.contents answers.new) (O.has_failed answers.new)) result }
+    ensures kept { IfOk result (λ kept. is_some kept ≡ keeps) }
+{
+    match steps {
+        Some(steps) => weave_by(alloc, world, steps, answers, keeps),
+        None => match weave_self(alloc, world, answers) {
+            Ok(machine) => keep(alloc, &machine, keeps),
+            Err(fault) => Err(ProgramFault::from(fault)),
+        },
+    }
+}
+
+/// Steps a world by these steps.
+fn weave_by<const N: usize, const CAP: usize, F: Source + Drop, O: Sink>(
+    alloc: Global,
+    world: World<N, CAP>,
+    mut steps: F,
+    answers: &mut O,
+    keeps: bool,
+) -> Result<Option<Vec<u8>>, ProgramFault>
+    requires reader { F.has_failed steps ≡ false }
+    requires writer { O.has_failed answers.old ≡ false }
+    ensures woven { IsWoven (reads_by F.left F.has_failed) N CAP world.entry (Some steps) keeps
+        (outgoing (O.contents answers.old) (O.contents answers.new) (O.has_failed answers.new)) result }
+    ensures kept { IfOk result (λ kept. is_some kept ≡ keeps) }
+{
+    match weave_session(alloc, world, &mut steps, answers) {
+        Ok(machine) => keep(alloc, &machine, keeps),
+        Err(fault) => Err(ProgramFault::from(fault)),
+    }
+}
+
+/// The image of a machine, if one is kept.
+fn keep<const N: usize, const CAP: usize>(
+    alloc: Global,
+    machine: &Machine<N, CAP>,
+    keeps: bool,
+) -> Result<Option<Vec<u8>>, ProgramFault>
+    ensures value { KeepsLeft N CAP machine.now.machine keeps (Ok tt) result }
+    ensures kept { IfOk result (λ kept. is_some kept ≡ keeps) }
+{
+    if !keeps {
+        return Ok(None);
+    }
+    match dump(alloc, machine) {
+        Ok(image) => Ok(Some(image)),
+        Err(_) => Err(ProgramFault::Memory),
+    }
+}
