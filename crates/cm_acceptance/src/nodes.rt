@@ -4,13 +4,13 @@ ghost use Rattle.std.specs.Prelude.{◌≡◌, ◌<◌, ◌≤◌};
 
 use crate::machines::{ACK, RECV, SEND};
 use crate::nodes::Turn::{
-    Arrives, Asks, Copies, Count, Delivers, Flag, Full, Injects, Leaves, Nobody, Payload, Poke,
-    Stands,
+    Arrives, Asks, Copies, Count, CutOff, Delivers, Flag, Full, Injects, Leaves, Nobody,
+    OldestLeaves, Payload, Poke, Stands,
 };
 use crate::scenario::{At, Letter, To};
 use cm_bits::{Field, FlagNo, Plane, Proc};
 use cm_element::Run;
-use cm_message::{Event, Message};
+use cm_message::{Event, Message, Rule};
 use cm_router::Node;
 use std::alloc::Global;
 use std::test::Fail;
@@ -41,6 +41,10 @@ enum Turn {
     Leaves(u8, Letter),
     /// Across a dimension goes nobody.
     Nobody(u8),
+    /// By the second rule, across a dimension goes this message, as it arrives there.
+    OldestLeaves(u8, Letter),
+    /// Across a dimension whose wire is cut goes nobody, by this rule.
+    CutOff(u8, Rule),
     /// In a petit cycle the node takes in these messages, and its log tells of them.
     Injects(u64, &'static [Letter]),
     /// It delivers these messages, and its log tells of them.
@@ -57,7 +61,7 @@ enum Turn {
     Payload(u8, u32),
 }
 
-static CASES: [Case; 5] = [
+static CASES: [Case; 8] = [
     Case {
         name: "a record is taken in, leaves as it arrives across, and is delivered",
         room: 1,
@@ -131,6 +135,54 @@ static CASES: [Case; 5] = [
             Leaves(0, Letter(At(1, 9), 0, To(0, 0), 7)),
             Count(1),
             Stands(0, Letter(At(1, 9), 1, To(6, 0), 7)),
+        ],
+    },
+    Case {
+        name: "by the second rule the oldest that has to cross leaves: by birth, then by origin",
+        room: 7,
+        dims: 12,
+        turns: &[
+            Arrives(Letter(At(2, 1), 6, To(8, 0), 1)),
+            Arrives(Letter(At(3, 0), 5, To(8, 0), 2)),
+            Arrives(Letter(At(2, 4), 5, To(8, 0), 3)),
+            Arrives(Letter(At(2, 3), 5, To(8, 0), 4)),
+            Arrives(Letter(At(1, 9), 4, To(1, 0), 5)),
+            OldestLeaves(3, Letter(At(2, 3), 5, To(0, 0), 4)),
+            OldestLeaves(3, Letter(At(2, 4), 5, To(0, 0), 3)),
+            Leaves(3, Letter(At(2, 1), 6, To(0, 0), 1)),
+            OldestLeaves(3, Letter(At(3, 0), 5, To(0, 0), 2)),
+            Nobody(3),
+            Count(1),
+        ],
+    },
+    Case {
+        name: "by the second rule a full node refers the youngest; of two of one tag the first goes first",
+        room: 3,
+        dims: 12,
+        turns: &[
+            Arrives(Letter(At(1, 9), 7, To(6, 0), 1)),
+            Arrives(Letter(At(1, 9), 7, To(6, 0), 2)),
+            Arrives(Letter(At(0, 3), 2, To(6, 0), 3)),
+            OldestLeaves(0, Letter(At(1, 9), 7, To(7, 0), 2)),
+            Arrives(Letter(At(1, 9), 7, To(6, 0), 4)),
+            OldestLeaves(1, Letter(At(0, 3), 2, To(4, 0), 3)),
+            OldestLeaves(1, Letter(At(1, 9), 7, To(4, 0), 1)),
+            Count(1),
+        ],
+    },
+    Case {
+        name: "nobody leaves over a cut wire, by either rule, though the node is full",
+        room: 1,
+        dims: 12,
+        turns: &[
+            Arrives(Letter(At(1, 9), 7, To(2, 0), 1)),
+            CutOff(1, Rule::First),
+            CutOff(1, Rule::Oldest),
+            CutOff(0, Rule::First),
+            CutOff(0, Rule::Oldest),
+            Full(true),
+            Stands(0, Letter(At(1, 9), 7, To(2, 0), 1)),
+            OldestLeaves(0, Letter(At(1, 9), 7, To(3, 0), 1)),
         ],
     },
     Case {
@@ -229,11 +281,16 @@ impl Stage {
             Turn::Asks(sender, to, payload) => Ok(self.asks(sender, to, payload)),
             Turn::Poke(number, plane) => Ok(self.pokes(number, plane)),
             Turn::Arrives(letter) => Ok(self.takes(letter)),
-            Turn::Leaves(dim, letter) => Ok(match self.leaving(dim) {
-                Some(message) => letter.is(&message),
-                None => false,
-            }),
-            Turn::Nobody(dim) => Ok(self.leaving(dim).is_none()),
+            Turn::Leaves(dim, letter) => Ok(is_letter(
+                self.leaving(dim, false, Rule::First),
+                letter,
+            )),
+            Turn::Nobody(dim) => Ok(self.leaving(dim, false, Rule::First).is_none()),
+            Turn::OldestLeaves(dim, letter) => Ok(is_letter(
+                self.leaving(dim, false, Rule::Oldest),
+                letter,
+            )),
+            Turn::CutOff(dim, rule) => Ok(self.leaving(dim, true, rule).is_none()),
             Turn::Injects(birth, letters) => self.injects(alloc, birth, letters),
             Turn::Delivers(letters) => self.delivers(alloc, letters),
             Turn::Copies => {
@@ -275,8 +332,12 @@ impl Stage {
         }
     }
 
-    fn leaving(&mut self, dim: u8) -> Option<Message> {
-        if dim < 12 { self.node.leave(dim) } else { None }
+    fn leaving(&mut self, dim: u8, cut: bool, rule: Rule) -> Option<Message> {
+        if dim < 12 {
+            self.node.leave(dim, cut, rule)
+        } else {
+            None
+        }
     }
 
     fn injects(&mut self, alloc: Global, birth: u64, letters: &[Letter]) -> Result<bool, Fail> {
@@ -323,6 +384,14 @@ impl Stage {
             },
             _ => false,
         }
+    }
+}
+
+/// Whether somebody leaves, and it is this message.
+fn is_letter(leaving: Option<Message>, letter: Letter) -> bool {
+    match leaving {
+        Some(message) => letter.is(&message),
+        None => false,
     }
 }
 

@@ -14,6 +14,7 @@ use cm_workers::{Gate, Passage};
 use std::alloc::Global;
 use std::sync::atomic::{AtomicU64, Ordering};
 use std::sync::{Arc, Wait};
+use std::test::Fail;
 use std::thread::Threads;
 
 /// How often a gate was asked, and how often it was passed.
@@ -32,9 +33,10 @@ impl Calls {
     }
 }
 
-/// A gate that does not admit worker 3 where it is asked for the fourth time.
+/// A gate that does not admit a worker at its first question.
 #[derive(Drop)]
 struct Reluctant {
+    refused: u16,
     calls: Arc<Calls, Global>,
 }
 
@@ -43,7 +45,7 @@ impl Gate for Reluctant {
 
     fn admit(&self, worker: u16) -> bool {
         let before = self.calls.asked.fetch_add(1, Ordering::SeqCst);
-        worker != 3 || before != 3
+        worker != self.refused || before != u64::from(self.refused)
     }
 
     fn pass(&self, _worker: u16, _round: u32, _blocks: &[Block])
@@ -109,11 +111,13 @@ fn gated<R: Threads + Wait + Sync>(
     rt: &R,
     alloc: Global,
     machine: &mut Machine<4, 7>,
+    refused: u16,
     calls: &Arc<Calls, Global>,
 ) -> Option<[Cycled; 2]>
     requires threads { IsSync R.row }
 {
     let gate = Reluctant {
+        refused,
         calls: Arc::try_clone(calls).ok()?,
     };
     let passage = Passage::Gated(Box::new(alloc, gate).ok()?);
@@ -122,21 +126,28 @@ fn gated<R: Threads + Wait + Sync>(
 }
 
 /// The same of a machine in which some processors ask to send.
-fn told<R: Threads + Wait + Sync>(rt: &R, alloc: Global) -> Option<[Cycled; 2]>
+fn told<R: Threads + Wait + Sync>(rt: &R, alloc: Global, refused: u16) -> Option<[Cycled; 2]>
     requires threads { IsSync R.row }
 {
     let calls = no_calls(alloc)?;
     let mut machine = asking(alloc)?;
-    gated(rt, alloc, &mut machine, &calls)
+    gated(rt, alloc, &mut machine, refused, &calls)
 }
+
+/// Which of four workers is not admitted, and how often the gate was asked then, and after a second cycle.
+static REFUSED: [(u16, u64, u64); 4] = [(0, 1, 5), (1, 2, 6), (2, 3, 7), (3, 4, 8)];
 
 #[test]
 fn a_worker_that_is_not_admitted_leaves_the_machine_as_it_was_and_may_be_admitted_later(
     rt: HostRuntime,
-) {
-    let wanted = [
-        ((Some(RunFault::NoThread), true), (4, 0)),
-        ((None, true), (8, 8)),
-    ];
-    assert_eq!(rt; told(&rt, rt.alloc()), Some(wanted));
+) -> Result<(), Fail> {
+    for row in &REFUSED {
+        let (refused, first, second) = *row;
+        let wanted = [
+            ((Some(RunFault::NoThread), true), (first, 0)),
+            ((None, true), (second, 8)),
+        ];
+        assert_eq!(rt; told(&rt, rt.alloc(), refused), Some(wanted), "worker {refused}");
+    }
+    Ok(())
 }

@@ -12,6 +12,8 @@ mod meeting;
 #[cfg(test)]
 mod messages;
 #[cfg(test)]
+mod program;
+#[cfg(test)]
 mod refused;
 #[cfg(test)]
 mod shares;

@@ -24,7 +24,7 @@ const TURNS: u32 = 100_000_000;
 
 /// What all workers noted.
 #[derive(Drop)]
-struct Notes {
+pub(crate) struct Notes {
     /// How often one came to a round.
     came: AtomicU64,
     /// How often another did not come in time.
@@ -51,7 +51,7 @@ impl Notes {
     }
 
     /// Calls of all, how often one was late, and how often another's blocks were shown.
-    fn told(&self) -> [u64; 3] {
+    pub(crate) fn told(&self) -> [u64; 3] {
         [
             self.came.load(Ordering::SeqCst),
             self.late.load(Ordering::SeqCst),
@@ -62,19 +62,33 @@ impl Notes {
 
 /// Who waits for whom.
 #[derive(Clone, Copy)]
-enum Waits {
+pub(crate) enum Waits {
     /// Each of so many workers, in each round, for all others.
     ForAll(u16),
     /// Worker 2 in round 0 until worker 0 is in round 1; these exchange nothing in round 0.
     ForOneAhead,
 }
 
-/// A gate of workers that wait so.
+/// So many blocks of so many chips.
+#[derive(Clone, Copy)]
+pub(crate) struct Cut {
+    pub(crate) blocks: u16,
+    pub(crate) chips: u16,
+}
+
+/// Four blocks of four chips.
+const FOUR: Cut = Cut {
+    blocks: 4,
+    chips: 4,
+};
+
+/// A gate of workers that wait so, where a machine is cut so.
 #[derive(Drop)]
-struct Meeting {
-    waits: Waits,
-    workers: u16,
-    notes: Arc<Notes, Global>,
+pub(crate) struct Meeting {
+    pub(crate) waits: Waits,
+    pub(crate) workers: u16,
+    pub(crate) cut: Cut,
+    pub(crate) notes: Arc<Notes, Global>,
 }
 
 impl Gate for Meeting {
@@ -88,7 +102,7 @@ impl Gate for Meeting {
         requires gathered { All (λ b. IsTrue b.kept.gathered) blocks.now }
         requires own { ComesBy worker round blocks.now }
     {
-        if !are_of(worker, self.workers, blocks) {
+        if !are_of(worker, self.workers, self.cut, blocks) {
             self.notes.wrong.fetch_add(1, Ordering::SeqCst);
         }
         self.notes.came.fetch_add(1, Ordering::SeqCst);
@@ -109,16 +123,16 @@ impl Gate for Meeting {
     }
 }
 
-/// Whether these are all the blocks that such a worker has of four blocks of four chips, the lowest first.
-fn are_of(worker: u16, workers: u16, blocks: &[Block]) -> bool {
+/// Whether these are all the blocks that such a worker has, the lowest first.
+fn are_of(worker: u16, workers: u16, cut: Cut, blocks: &[Block]) -> bool {
     let mut number = worker;
     for block in blocks {
-        if block.first() / 4 != number {
+        if block.first() != number.saturating_mul(cut.chips) {
             return false;
         }
         number = number.saturating_add(workers);
     }
-    number >= 4
+    number >= cut.blocks
 }
 
 /// Whether a machine that went through the program of messages is as one thread leaves it.
@@ -128,7 +142,7 @@ fn is_as_plain(alloc: Global, machine: &Machine<4, 7>, acts: &[Act]) -> Result<b
     Ok(has_one_of_four(machine) && agree(machine, &plain, 16))
 }
 
-fn no_notes(alloc: Global) -> Result<Arc<Notes, Global>, Fail> {
+pub(crate) fn no_notes(alloc: Global) -> Result<Arc<Notes, Global>, Fail> {
     let notes = Notes {
         came: AtomicU64::new(0),
         late: AtomicU64::new(0),
@@ -153,6 +167,7 @@ fn meet<R: Threads + Wait + Sync>(
     let gate = Meeting {
         waits,
         workers,
+        cut: FOUR,
         notes: Arc::try_clone(notes)?,
     };
     let passage = Passage::Gated(Box::new(alloc, gate)?);

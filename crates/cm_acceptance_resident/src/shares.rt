@@ -1,7 +1,9 @@
 //! Machines that are shared out among workers that run on, beside one thread.
 
-ghost use Rattle.std.specs.Prelude.{◌≡◌, ◌<◌, ◌^◌};
+ghost use Rattle.std.specs.Prelude.{◌≡◌, ◌<◌, ◌^◌, IsTrue};
+ghost use Rattle.std.specs.List.{All};
 ghost use Rattle.std.specs.Thread.{IsSync};
+ghost use Rattle.cm_workers.specs.Gates.{ComesBy};
 
 use crate::draws::Draws;
 use crate::machines::{RECV, SEND, address, agree, flag, poke_plane, processor};
@@ -9,7 +11,8 @@ use crate::messages::{has_one_of_four, program};
 use cm_array::{Machine, Plain, Runner};
 use cm_model::Act;
 use cm_resident::Resident;
-use cm_workers::Passage;
+use cm_subcube::Block;
+use cm_workers::{Gate, Passage};
 use std::alloc::Global;
 use std::sync::Wait;
 use std::test::Fail;
@@ -25,6 +28,24 @@ pub(crate) struct Share {
 /// How many lists of acts each random machine goes through.
 const LISTS: u8 = 2;
 
+/// A gate that admits all and looks at nothing. Where there is a gate, short lists are shared out too.
+#[derive(Drop)]
+struct Anyone;
+
+impl Gate for Anyone {
+    ghost admits = { λ gate worker. Unit {0} };
+
+    fn admit(&self, _worker: u16) -> bool {
+        true
+    }
+
+    fn pass(&self, _worker: u16, _round: u32, _blocks: &[Block])
+        requires gathered { All (λ b. IsTrue b.kept.gathered) _blocks.now }
+        requires own { ComesBy _worker _round _blocks.now }
+    {
+    }
+}
+
 /// A machine goes through the acts by workers.
 fn run<const N: usize, const CAP: usize, R: Threads + Wait + Sync>(
     rt: &R,
@@ -35,7 +56,8 @@ fn run<const N: usize, const CAP: usize, R: Threads + Wait + Sync>(
 ) -> Result<(), Fail>
     requires threads { IsSync R.row }
 {
-    let mut resident = Resident::new::<N>(rt, alloc, share.k, share.workers, Passage::Open)?;
+    let passage = Passage::Gated(Box::new(alloc, Anyone)?);
+    let mut resident = Resident::new::<N>(rt, alloc, share.k, share.workers, passage)?;
     resident.go(machine, acts)?;
     Ok(())
 }
@@ -116,7 +138,7 @@ fn goes<const N: usize, const CAP: usize, R: Threads + Wait + Sync>(
     Ok(true)
 }
 
-/// Whether random machines do by 2^`k` blocks: with 1, 2, 3 and as many workers as blocks, where there are so many.
+/// Whether random machines do by 2^`k` blocks, with one worker up to as many as blocks.
 fn go_by<const N: usize, const CAP: usize, R: Threads + Wait + Sync>(
     rt: &R,
     alloc: Global,
@@ -127,9 +149,8 @@ fn go_by<const N: usize, const CAP: usize, R: Threads + Wait + Sync>(
     requires k { k < 7 }
     requires threads { IsSync R.row }
 {
-    let blocks = 1 << k;
-    for workers in [1, 2, 3, blocks] {
-        if workers <= blocks && !goes::<N, CAP, R>(rt, alloc, chips, Share { k, workers })? {
+    for workers in 1..=1 << k {
+        if !goes::<N, CAP, R>(rt, alloc, chips, Share { k, workers })? {
             return Ok(false);
         }
     }
@@ -176,6 +197,19 @@ fn machines_of_32_and_64_chips_go_by_workers_as_on_one_thread(rt: HostRuntime) -
     let gone = [
         go::<5, 4, HostRuntime>(&rt, alloc, 32, 3)?,
         go::<6, 1, HostRuntime>(&rt, alloc, 64, 3)?,
+    ];
+    assert_eq!(rt; gone, [true; 2]);
+    Ok(())
+}
+
+#[test]
+fn machines_of_128_and_256_chips_go_by_workers_as_on_one_thread(
+    rt: HostRuntime,
+) -> Result<(), Fail> {
+    let alloc = rt.alloc();
+    let gone = [
+        go::<7, 7, HostRuntime>(&rt, alloc, 128, 4)?,
+        go::<8, 2, HostRuntime>(&rt, alloc, 256, 4)?,
     ];
     assert_eq!(rt; gone, [true; 2]);
     Ok(())

@@ -4,3 +4,4 @@ pub mod Ends
 pub mod Field
 pub mod Span
 pub mod Text
+pub mod Wire

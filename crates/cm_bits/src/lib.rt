@@ -3,6 +3,7 @@
 #![tactic(auto)]
 
 pub mod doubles;
+mod edge;
 mod ends;
 mod field;
 mod no_memory;
@@ -11,6 +12,7 @@ mod place;
 mod plane;
 mod text;
 
+pub use edge::Edge;
 pub use ends::{Failed, Sink, Source, Std, WriteFault, write_all};
 pub use field::{Field, FieldFault, Meets};
 pub use no_memory::NoMemory;

@@ -9,6 +9,7 @@ use Rattle.cm_model.specs.Each.{each_from}
 use Rattle.cm_model.specs.Array.{list_at}
 use Rattle.cm_model.specs.Machine.{Machine}
 use Rattle.cm_model.specs.Steps.{Cross}
+use Rattle.cm_model.specs.Wiring.{plain_way}
 use Rattle.cm_model.specs.Buffers.{outgoing, buffer_after_dimension, machine_after_dimension}
 use Rattle.cm_model.proofs.Each.{get_or-each_from}
 use Rattle.cm_blocks.specs.Parts.{Part, part, block, size, is_within, buffer_in}
@@ -58,7 +59,7 @@ high_across m b i d h l =
 mail_is : (n cap k b d : ℕ) (machine : Machine) (i : ℕ) → k ≤ n → b < 2 ^ k → d < n → i < size n k →
     mail_for cap d (due n cap (Cross d) (block n k (sender n k (Cross d) b) machine)) (block n k b machine)
     (b * size n k + i)
-    ≡ outgoing cap d (list_at machine.buffers (bit_xor (b * size n k + i) (2 ^ d)))
+    ≡ outgoing plain_way cap d (list_at machine.buffers (bit_xor (b * size n k + i) (2 ^ d)))
 unfolding part due
 mail_is n cap k b d machine i h l below inside =
     let m : ℕ = n - k in
@@ -67,7 +68,7 @@ mail_is n cap k b d machine i h l below inside =
     let sent : Part = block n k from machine in
     let other : ℕ = bit_xor (b * size n k + i) (2 ^ d) in
     ⊎_elim
-    (λ (e : is_within s other ≡ true). rw e (ap (outgoing cap d)
+    (λ (e : is_within s other ≡ true). rw e (ap (outgoing plain_way cap d)
     (read-buffer (b * size n k) (size n k) machine other (within-from s other e) (within-below s other e))))
     (λ (e : is_within s other ≡ false). rw e
     (⊎_elim
@@ -76,10 +77,10 @@ mail_is n cap k b d machine i h l below inside =
     (λ (high : m ≤ d).
     let there : other ≡ from * size n k + i = high_across m b i d high inside in
     let place : b * size n k + i - b * size n k ≡ i = omega arith in
-    ap (λ (z : ℕ). get_or (each_from (from * size n k) (size n k) (λ c. outgoing cap d (buffer_in sent c))) z None)
+    ap (λ (z : ℕ). get_or (each_from (from * size n k) (size n k) (λ c. outgoing plain_way cap d (buffer_in sent c))) z None)
     place
-    ∙ (get_or-each_from (from * size n k) (size n k) (λ c. outgoing cap d (buffer_in sent c)) i None inside
-    ∙ ap (outgoing cap d)
+    ∙ (get_or-each_from (from * size n k) (size n k) (λ c. outgoing plain_way cap d (buffer_in sent c)) i None inside
+    ∙ ap (outgoing plain_way cap d)
     (read-buffer (from * size n k) (size n k) machine (from * size n k + i) (omega arith) (omega arith)
     ∙ ap (list_at machine.buffers) (sym there))))
     (cases_lt d m)))
@@ -95,10 +96,10 @@ block-cross n cap k b d machine h l below =
     let s : Part = block n k b machine in
     let parcel : Parcel = due n cap (Cross d) (block n k (sender n k (Cross d) b) machine) in
     let buffers = cut-same [] first (size n k) (2 ^ n)
-    (λ c. buffer_after_dimension cap d (list_at machine.buffers c)
-    (outgoing cap d (list_at machine.buffers (bit_xor c (2 ^ d)))))
-    (λ c. buffer_after_dimension cap d (buffer_in s c) (mail_for cap d parcel s c)) (block-fits n k b h l)
-    (λ i inside. λ j. buffer_after_dimension cap d
+    (λ c. buffer_after_dimension plain_way cap d (list_at machine.buffers c)
+    (outgoing plain_way cap d (list_at machine.buffers (bit_xor c (2 ^ d)))))
+    (λ c. buffer_after_dimension plain_way cap d (buffer_in s c) (mail_for cap d parcel s c)) (block-fits n k b h l)
+    (λ i inside. λ j. buffer_after_dimension plain_way cap d
     (sym (read-buffer first (size n k) machine (first + i) (omega arith) (omega arith)) j)
     (sym (mail_is n cap k b d machine i h l below inside) j)) in
     λ j. record {

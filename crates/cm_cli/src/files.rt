@@ -16,6 +16,7 @@ use crate::sharing::Sharing;
 use crate::takings::{open_image_file, read_program_file};
 use cm_asm::Program;
 use cm_bits::{Sink, Source};
+use cm_workers::Passage;
 use std::alloc::Global;
 use std::sync::Wait;
 use std::thread::Threads;
@@ -98,6 +99,7 @@ pub fn run_files_shared<R: Threads + Wait + Sync, H: Outside, I: Source, O: Sink
         machine,
         &program,
         line.sharing,
+        Passage::Open,
         commands,
         answers,
         keeps,

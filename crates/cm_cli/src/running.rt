@@ -18,7 +18,8 @@ use cm_asm::{Program, assemble};
 use cm_bits::{Sink, Source};
 use cm_debug::session;
 use cm_image::dump;
-use cm_workers::{Forked, Passage};
+use cm_resident::Resident;
+use cm_workers::Passage;
 use std::alloc::Global;
 use std::sync::Wait;
 use std::thread::Threads;
@@ -51,7 +52,17 @@ pub fn run_session<R: Threads + Wait + Sync, T: Text + Drop, I: Source, O: Sink>
     if sharing.workers == 1 {
         return run_alone(alloc, machine, &program, commands, out, keeps);
     }
-    run_shared(rt, alloc, machine, &program, sharing, commands, out, keeps)
+    run_shared(
+        rt,
+        alloc,
+        machine,
+        &program,
+        sharing,
+        Passage::Open,
+        commands,
+        out,
+        keeps,
+    )
 }
 
 /// What a session begins with: the machine of the image and the program of the text, where that machine can be shared
@@ -181,13 +192,14 @@ fn run_plain<const N: usize, const CAP: usize, I: Source, O: Sink>(
     run_machine(alloc, machine, program, &mut Plain, commands, out, keeps)
 }
 
-/// A session on a machine by several workers, each in a thread of its own.
+/// A session on a machine by several workers, each in a thread of its own, who go through the passage.
 pub fn run_shared<R: Threads + Wait + Sync, I: Source, O: Sink>(
     rt: &R,
     alloc: Global,
     machine: Opened,
     program: &Program,
     sharing: Sharing,
+    passage: Passage,
     commands: &mut I,
     out: &mut O,
     keeps: bool,
@@ -205,10 +217,14 @@ pub fn run_shared<R: Threads + Wait + Sync, I: Source, O: Sink>(
 {
     match machine {
         Opened::Room1(machine) => {
-            shared_in_room(rt, alloc, machine, program, sharing, commands, out, keeps)
+            shared_in_room(
+                rt, alloc, machine, program, sharing, passage, commands, out, keeps,
+            )
         }
         Opened::Room7(machine) => {
-            shared_in_room(rt, alloc, machine, program, sharing, commands, out, keeps)
+            shared_in_room(
+                rt, alloc, machine, program, sharing, passage, commands, out, keeps,
+            )
         }
     }
 }
@@ -220,6 +236,7 @@ fn shared_in_room<const CAP: usize, R: Threads + Wait + Sync, I: Source, O: Sink
     machine: OfRoom<CAP>,
     program: &Program,
     sharing: Sharing,
+    passage: Passage,
     commands: &mut I,
     out: &mut O,
     keeps: bool,
@@ -238,54 +255,81 @@ fn shared_in_room<const CAP: usize, R: Threads + Wait + Sync, I: Source, O: Sink
 {
     match machine {
         OfRoom::Dim0(machine) => {
-            run_forked(rt, alloc, machine, program, sharing, commands, out, keeps)
+            run_by_workers(
+                rt, alloc, machine, program, sharing, passage, commands, out, keeps,
+            )
         }
         OfRoom::Dim1(machine) => {
-            run_forked(rt, alloc, machine, program, sharing, commands, out, keeps)
+            run_by_workers(
+                rt, alloc, machine, program, sharing, passage, commands, out, keeps,
+            )
         }
         OfRoom::Dim2(machine) => {
-            run_forked(rt, alloc, machine, program, sharing, commands, out, keeps)
+            run_by_workers(
+                rt, alloc, machine, program, sharing, passage, commands, out, keeps,
+            )
         }
         OfRoom::Dim3(machine) => {
-            run_forked(rt, alloc, machine, program, sharing, commands, out, keeps)
+            run_by_workers(
+                rt, alloc, machine, program, sharing, passage, commands, out, keeps,
+            )
         }
         OfRoom::Dim4(machine) => {
-            run_forked(rt, alloc, machine, program, sharing, commands, out, keeps)
+            run_by_workers(
+                rt, alloc, machine, program, sharing, passage, commands, out, keeps,
+            )
         }
         OfRoom::Dim5(machine) => {
-            run_forked(rt, alloc, machine, program, sharing, commands, out, keeps)
+            run_by_workers(
+                rt, alloc, machine, program, sharing, passage, commands, out, keeps,
+            )
         }
         OfRoom::Dim6(machine) => {
-            run_forked(rt, alloc, machine, program, sharing, commands, out, keeps)
+            run_by_workers(
+                rt, alloc, machine, program, sharing, passage, commands, out, keeps,
+            )
         }
         OfRoom::Dim7(machine) => {
-            run_forked(rt, alloc, machine, program, sharing, commands, out, keeps)
+            run_by_workers(
+                rt, alloc, machine, program, sharing, passage, commands, out, keeps,
+            )
         }
         OfRoom::Dim8(machine) => {
-            run_forked(rt, alloc, machine, program, sharing, commands, out, keeps)
+            run_by_workers(
+                rt, alloc, machine, program, sharing, passage, commands, out, keeps,
+            )
         }
         OfRoom::Dim9(machine) => {
-            run_forked(rt, alloc, machine, program, sharing, commands, out, keeps)
+            run_by_workers(
+                rt, alloc, machine, program, sharing, passage, commands, out, keeps,
+            )
         }
         OfRoom::Dim10(machine) => {
-            run_forked(rt, alloc, machine, program, sharing, commands, out, keeps)
+            run_by_workers(
+                rt, alloc, machine, program, sharing, passage, commands, out, keeps,
+            )
         }
         OfRoom::Dim11(machine) => {
-            run_forked(rt, alloc, machine, program, sharing, commands, out, keeps)
+            run_by_workers(
+                rt, alloc, machine, program, sharing, passage, commands, out, keeps,
+            )
         }
         OfRoom::Dim12(machine) => {
-            run_forked(rt, alloc, machine, program, sharing, commands, out, keeps)
+            run_by_workers(
+                rt, alloc, machine, program, sharing, passage, commands, out, keeps,
+            )
         }
     }
 }
 
 /// The same, on a machine of these sizes.
-fn run_forked<const N: usize, const CAP: usize, R: Threads + Wait + Sync, I: Source, O: Sink>(
+fn run_by_workers<const N: usize, const CAP: usize, R: Threads + Wait + Sync, I: Source, O: Sink>(
     rt: &R,
     alloc: Global,
     machine: Machine<N, CAP>,
     program: &Program,
     sharing: Sharing,
+    passage: Passage,
     commands: &mut I,
     out: &mut O,
     keeps: bool,
@@ -304,8 +348,10 @@ fn run_forked<const N: usize, const CAP: usize, R: Threads + Wait + Sync, I: Sou
     ensures write { (O.has_failed out.new ≡ true) ↔ IsErrOf result ProgramFault.Write }
 {
     let workers = u16::from(sharing.workers);
-    match Forked::new::<N>(rt, alloc, sharing.split, workers, Passage::Open) {
-        Ok(mut forked) => run_machine(alloc, machine, program, &mut forked, commands, out, keeps),
+    match Resident::new::<N>(rt, alloc, sharing.split, workers, passage) {
+        Ok(mut resident) => {
+            run_machine(alloc, machine, program, &mut resident, commands, out, keeps)
+        }
         Err(_) => unreachable!(),
     }
 }

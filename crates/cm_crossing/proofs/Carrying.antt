@@ -11,6 +11,7 @@ use Rattle.cm_model.specs.declared.message.Message.{Message}
 use Rattle.cm_model.specs.Array.{each_chip, list_at}
 use Rattle.cm_model.specs.Letters.{has_arrived}
 use Rattle.cm_model.specs.Router.{has_to_cross, message_across}
+use Rattle.cm_model.specs.Wiring.{plain_way}
 use Rattle.cm_model.specs.Buffers.{leaving_place, element_at, without, outgoing, buffer_after_dimension}
 use Rattle.cm_model.specs.Each.{each_from}
 use Rattle.cm_model.proofs.Each.{map-each_from, length-each_from}
@@ -23,12 +24,12 @@ use Rattle.cm_crossing.specs.Standing.{message_of, standing, all_standing, AreKe
 -- ---- the messages of a chip
 
 module _ (row : List Message) (cap d : ℕ) where
-  same_place : (ts : List Ticket) → leaving_place cap d (standing row ts) ≡ place_of_leaver (has_to_go d) cap ts
+  same_place : (ts : List Ticket) → leaving_place plain_way cap d (standing row ts) ≡ place_of_leaver (has_to_go d) cap ts
   unfolding leaving_place place_of_leaver
   same_place ts = rw (position-map (message_of row) (has_to_cross d) ts, length-map ts (message_of row))
 
   pub stayers-standing : (ts : List Ticket) → standing row (stayers_of (has_to_go d) cap ts)
-      ≡ without (standing row ts) (leaving_place cap d (standing row ts))
+      ≡ without (standing row ts) (leaving_place plain_way cap d (standing row ts))
   stayers-standing ts = rw (same_place ts) (map-without (message_of row) ts _)
 
   across-standing : (o : Option Ticket) → option_map (message_across d) (option_map (message_of row) o)
@@ -37,7 +38,7 @@ module _ (row : List Message) (cap d : ℕ) where
   across-standing (Some t) = refl
 
   pub going-standing : (ts : List Ticket)
-      → option_map (message_of row) (ticket_going cap d ts) ≡ outgoing cap d (standing row ts)
+      → option_map (message_of row) (ticket_going cap d ts) ≡ outgoing plain_way cap d (standing row ts)
   going-standing ts = rw (same_place ts, element_at-map (message_of row) ts, across-standing)
 
   listed-standing : (o : Option Ticket)
@@ -47,7 +48,7 @@ module _ (row : List Message) (cap d : ℕ) where
 
   -- where this other chip stands across the dimension
   pub exchanged-standing : (here there : List Ticket) → standing row (exchanged cap d here there)
-      ≡ buffer_after_dimension cap d (standing row here) (outgoing cap d (standing row there))
+      ≡ buffer_after_dimension plain_way cap d (standing row here) (outgoing plain_way cap d (standing row there))
   unfolding buffer_after_dimension
   exchanged-standing here there =
       rw (map-append, stayers-standing here, listed-standing (ticket_going cap d there), going-standing there)
@@ -62,8 +63,8 @@ standing_at row (ts ∷ queues) (suc c) = standing_at row queues c
 
 pub crossed_standing : (n cap d : ℕ) (row : List Message) (old : List (List Ticket))
     → all_standing row (each_chip n (λ c. exchanged cap d (list_at old c) (list_at old (bit_xor c (2 ^ d)))))
-    ≡ each_chip n (λ c. buffer_after_dimension cap d (list_at (all_standing row old) c)
-    (outgoing cap d (list_at (all_standing row old) (bit_xor c (2 ^ d)))))
+    ≡ each_chip n (λ c. buffer_after_dimension plain_way cap d (list_at (all_standing row old) c)
+    (outgoing plain_way cap d (list_at (all_standing row old) (bit_xor c (2 ^ d)))))
 crossed_standing n cap d row old = simp (map-each_from, exchanged-standing, standing_at)
 
 -- what is the same for each element, made by two functions one after the other, is the same for all

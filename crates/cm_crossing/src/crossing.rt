@@ -10,6 +10,7 @@ ghost use Rattle.cm_model.specs.Letters.{has_arrived, chip_after_injection, chip
 ghost use Rattle.cm_model.specs.Each.{each_from};
 ghost use Rattle.cm_model.specs.Array.{each_chip, chip_at, list_at};
 ghost use Rattle.cm_model.specs.Keeping.{AreSizes};
+ghost use Rattle.cm_model.specs.Wiring.{plain_way};
 ghost use Rattle.cm_model.specs.Buffers.{leaving_place, without, outgoing, buffer_after_dimension};
 ghost use Rattle.cm_model.specs.OneChip.{taken_here, sent_here, delivered_here, kept_here};
 ghost use Rattle.cm_router.specs.Logs.{log_room};
@@ -283,8 +284,8 @@ impl Crossing {
         requires dim { dim < sizes.span }
         requires count { length self.old.buffers ≡ 2 ^ sizes.span }
         requires within { All (λ ms. length ms ≤ sizes.room) self.old.buffers }
-        ensures value { self.new.buffers ≡ each_chip sizes.span (λ c. buffer_after_dimension sizes.room dim
-            (list_at self.old.buffers c) (outgoing sizes.room dim (list_at self.old.buffers (bit_xor c (2 ^ dim))))) }
+        ensures value { self.new.buffers ≡ each_chip sizes.span (λ c. buffer_after_dimension plain_way sizes.room dim
+            (list_at self.old.buffers c) (outgoing plain_way sizes.room dim (list_at self.old.buffers (bit_xor c (2 ^ dim))))) }
         ensures count { length self.new.buffers ≡ 2 ^ sizes.span }
         ensures within { All (λ ms. length ms ≤ sizes.room) self.new.buffers }
     {
@@ -300,8 +301,8 @@ impl Crossing {
         requires count { length leavers.old ≡ length self.old.buffers }
         requires within { All (λ ms. length ms ≤ sizes.room) self.old.buffers }
         ensures value { self.new.buffers
-            ≡ map (λ ms. without ms (leaving_place sizes.room dim ms)) self.old.buffers }
-        ensures going { leavers.new ≡ map (λ ms. outgoing sizes.room dim ms) self.old.buffers }
+            ≡ map (λ ms. without ms (leaving_place plain_way sizes.room dim ms)) self.old.buffers }
+        ensures going { leavers.new ≡ map (λ ms. outgoing plain_way sizes.room dim ms) self.old.buffers }
         ensures space { All (λ ms. length ms < sizes.room) self.new.buffers }
     {
         let gone = self.leavers.as_mut_slice();

@@ -4,7 +4,7 @@
 mod form;
 mod laws;
 
-pub use cm_model::{Event, Message, Tag};
+pub use cm_model::{Event, Message, Rule, Tag};
 pub use form::{
     birth_in, bytes, of_bytes, origin_chip_in, origin_proc_in, payload_in, proc_in, rel_in,
 };

@@ -12,6 +12,7 @@ use Rattle.cm_model.specs.declared.message.Message.{Message}
 use Rattle.cm_model.specs.declared.message.Event.{Event}
 use Rattle.cm_model.specs.declared.message.Event.TheVariants.{Injected, Delivered}
 use Rattle.cm_model.specs.Array.{Chips, each_chip, chip_at, list_at}
+use Rattle.cm_model.specs.Wiring.{Routing}
 use Rattle.cm_model.specs.Router.{Standing, is_at, standing_at, leaves, record_across, after_dimension}
 use Rattle.cm_model.specs.Order.{in_order, queue, messages_of}
 use Rattle.cm_model.specs.Letters.{message_sent, messages_sent, has_arrived, can_receive}
@@ -213,13 +214,13 @@ triple_of-step leaves d cycle r =
     ⊎_elim (λ (e : leaves r ≡ true). rw e (triple_of-across d cycle r)) (λ (e : leaves r ≡ false). rw e refl)
     (cases_Bool (leaves r))
 
-pub standing_count-after_dimension : (p : Triple → Bool) (cap d cycle : ℕ) (set : List Standing)
-    → standing_count p (after_dimension cap d cycle set) ≡ standing_count p set
+pub standing_count-after_dimension : (p : Triple → Bool) (routing : Routing) (cap d cycle : ℕ) (set : List Standing)
+    → standing_count p (after_dimension routing cap d cycle set) ≡ standing_count p set
 unfolding after_dimension
-standing_count-after_dimension p cap d cycle set =
-    sum_by-map (λ r. one p (triple_of r)) (step_of_record (leaves cap d set) d cycle) set
-    ∙ sum_by-same (λ r. one p (triple_of (step_of_record (leaves cap d set) d cycle r))) (λ r. one p (triple_of r))
-    set (λ r. ap (one p) (triple_of-step (leaves cap d set) d cycle r))
+standing_count-after_dimension p routing cap d cycle set =
+    sum_by-map (λ r. one p (triple_of r)) (step_of_record (leaves routing cap d set) d cycle) set
+    ∙ sum_by-same (λ r. one p (triple_of (step_of_record (leaves routing cap d set) d cycle r))) (λ r. one p (triple_of r))
+    set (λ r. ap (one p) (triple_of-step (leaves routing cap d set) d cycle r))
 
 -- ---- delivery
 

@@ -4,6 +4,7 @@ use Rattle.std.proofs.Common.{◌∙◌, ap, ⊎_elim}
 use Rattle.std.proofs.lemmas.Bool.{cases_Bool}
 use Rattle.std.specs.Prelude.{bit_xor, if◌then◌else◌}
 use Rattle.std.specs.List.{filter}
+use Rattle.cm_model.specs.Wiring.{Routing}
 use Rattle.cm_model.specs.Router.{Since, Standing, is_at, is_before, standing_at, target}
 use Rattle.cm_model.specs.Router.{leaves, record_across, after_dimension}
 use Rattle.cm_model.specs.Order.{put, in_order, queue}
@@ -118,7 +119,7 @@ targets-step leaves d cycle [] = refl
 targets-step leaves d cycle (r ∷ set) = λ i. target-step leaves d cycle r i ∷ targets-step leaves d cycle set i
 
 -- a dimension step keeps the target of each record
-pub target-after_dimension : (cap d cycle : ℕ) (set : List Standing)
-    → map target (after_dimension cap d cycle set) ≡ map target set
+pub target-after_dimension : (routing : Routing) (cap d cycle : ℕ) (set : List Standing)
+    → map target (after_dimension routing cap d cycle set) ≡ map target set
 unfolding after_dimension
-target-after_dimension cap d cycle set = targets-step (leaves cap d set) d cycle set
+target-after_dimension routing cap d cycle set = targets-step (leaves routing cap d set) d cycle set

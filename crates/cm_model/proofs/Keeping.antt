@@ -15,6 +15,7 @@ use Rattle.cm_model.specs.Array.{each_chip, chip_at, incoming, after_nano, list_
 use Rattle.cm_model.specs.Letters.{chip_after_injection, chip_after_delivery, can_receive}
 use Rattle.cm_model.specs.Steps.{Step, Instruct, Look, Inject, Cross, Deliver, IsStep, steps_of}
 use Rattle.cm_model.specs.Machine.{Machine, run_of}
+use Rattle.cm_model.specs.Wiring.{plain_way}
 use Rattle.cm_model.specs.Buffers.{taken_in, sent_in, machine_after_injection, outgoing, buffer_after_dimension}
 use Rattle.cm_model.specs.Buffers.{machine_after_dimension, delivered_in, machine_after_delivery, after_step}
 use Rattle.cm_model.specs.OneChip.{kept}
@@ -93,8 +94,8 @@ sound-dimension : (n cap d : ℕ) (machine : Machine) → d < n → IsSound n ca
 unfolding machine_after_dimension
 sound-dimension n cap d machine below h =
     let buffers : ℕ → List Message =
-    λ c. buffer_after_dimension cap d (list_at machine.buffers c)
-    (outgoing cap d (list_at machine.buffers (bit_xor c (2 ^ d)))) in
+    λ c. buffer_after_dimension plain_way cap d (list_at machine.buffers c)
+    (outgoing plain_way cap d (list_at machine.buffers (bit_xor c (2 ^ d)))) in
     record {
       chip_count = h.chip_count;
       buffer_count = length-each_from 0 (2 ^ n) buffers;
@@ -102,7 +103,7 @@ sound-dimension n cap d machine below h =
       whole = h.whole;
       room = HasRoom-after_dimension n cap d machine below h.room;
       messages = made_messages n buffers
-          (λ c l. AllMessages-after_dimension n cap d (list_at machine.buffers c)
+          (λ c l. AllMessages-after_dimension plain_way plain_way n cap d (list_at machine.buffers c)
           (list_at machine.buffers (bit_xor c (2 ^ d))) below
           (h.messages c l) (h.messages (bit_xor c (2 ^ d)) (across_below n d c below l)));
       events = h.events;

@@ -10,12 +10,19 @@ use Rattle.std.specs.Prelude.{bit_xor}
 use Rattle.std.specs.List.{filter, find, position, position_or_len, slice_get, remove}
 use Rattle.std.specs.Option.{option_or, option_map, option_to_list}
 use Rattle.cm_model.specs.Router.{Since, Standing, is_at, is_before, same_since, standing_at, has_to_cross, crossing}
-use Rattle.cm_model.specs.Router.{earliest, referred, leaver, is_since, leaves}
+use Rattle.cm_model.specs.declared.rule.Rule.{Rule}
+use Rattle.cm_model.specs.declared.rule.Rule.TheVariants.{First, Oldest}
+use Rattle.cm_model.specs.Wiring.{Routing, Way, way_of}
+use Rattle.cm_model.specs.Router.{foremost, hindmost, referred, chosen, leaver, is_since, leaves}
 use Rattle.cm_model.specs.Router.{message_across, record_across, after_dimension}
 use Rattle.cm_model.specs.Order.{in_order, queue, messages_of, buffer}
-use Rattle.cm_model.specs.Buffers.{leaving_place, referred_place, element_at, without, outgoing, buffer_after_dimension}
+use Rattle.cm_model.specs.Buffers.{oldest_place, youngest_place, last_place, referred_place, chosen_place}
+use Rattle.cm_model.specs.Buffers.{leaving_place, element_at, without, outgoing, buffer_after_dimension}
 use Rattle.cm_model.proofs.Order.{AllAfter, AllBefore, IsRising, first_of_list, last_of_list, earliest_is, latest_is}
 use Rattle.cm_model.proofs.Order.{filter-in_order, length-in_order, same_itself, same_not_before, same_not_after}
+use Rattle.cm_model.proofs.Order.{IsSorted, IsSorted-in_order}
+use Rattle.cm_model.proofs.Preferring.{foremost-in_order, hindmost-in_order}
+use Rattle.cm_model.proofs.Places.{IsPlaceOf, foremost_at, hindmost_at, oldest_place-within}
 use Rattle.cm_model.proofs.Crossing.{comers, time_across, queue-crossed}
 
 -- ---- places in any list
@@ -90,19 +97,31 @@ element_at-or xs p o =
     (λ e w. ap (λ z. option_or z (element_at xs o)) w)
     (element_at-position p xs)
 
-element_at-referred : (cap c : ℕ) (set : List Standing)
-    → referred cap (standing_at c set) ≡ element_at (queue c set) (referred_place cap (buffer c set))
+length-buffer : (c : ℕ) (set : List Standing) → length (buffer c set) ≡ length (standing_at c set)
 unfolding queue
-element_at-referred cap c set =
-    let long : length (buffer c set) ≡ length (in_order (standing_at c set)) =
-    length-map (in_order (standing_at c set)) (λ r. r.message) in
-    let same : length (in_order (standing_at c set)) ≡ length (standing_at c set) =
-    length-in_order (standing_at c set) in
-    rw (long, same)
+length-buffer c set = length-map (in_order (standing_at c set)) (λ r. r.message) ∙ length-in_order (standing_at c set)
+
+sorted_queue : (c : ℕ) (set : List Standing) → IsSorted (queue c set)
+unfolding queue
+sorted_queue c set = IsSorted-in_order (standing_at c set)
+
+last_in_queue : (rule : Rule) (c : ℕ) (set : List Standing)
+    → hindmost rule (standing_at c set) ≡ element_at (queue c set) (last_place rule (buffer c set))
+unfolding queue
+last_in_queue First c set =
+    latest_is (standing_at c set)
+    ∙ (last_is (in_order (standing_at c set))
+    ∙ ap (λ k. slice_get (in_order (standing_at c set)) (k - 1))
+    (sym (length-map (in_order (standing_at c set)) (λ r. r.message))))
+last_in_queue Oldest c set = sym (hindmost-in_order Oldest (standing_at c set))
+    ∙ hindmost_at (in_order (standing_at c set)) (sorted_queue c set)
+
+element_at-referred : (rule : Rule) (cap c : ℕ) (set : List Standing)
+    → referred rule cap (standing_at c set) ≡ element_at (queue c set) (referred_place rule cap (buffer c set))
+element_at-referred rule cap c set =
+    rw (length-buffer c set)
     (⊎_elim
-    (λ (e : eqb (length (standing_at c set)) cap ≡ true).
-    rw e (latest_is (standing_at c set)
-    ∙ (last_is (in_order (standing_at c set)) ∙ ap (λ k. slice_get (in_order (standing_at c set)) (k - 1)) same)))
+    (λ (e : eqb (length (standing_at c set)) cap ≡ true). rw e (last_in_queue rule c set))
     (λ (e : eqb (length (standing_at c set)) cap ≡ false). rw e refl)
     (cases_Bool (eqb (length (standing_at c set)) cap)))
 
@@ -112,21 +131,49 @@ pub filter-queue : (p : Standing → Bool) (c : ℕ) (set : List Standing)
 unfolding queue
 filter-queue p c set = filter-in_order p (standing_at c set)
 
--- the leaver, told by since, is the record at the leaving place of the buffer
-pub leaver_is : (cap d c : ℕ) (set : List Standing)
-    → leaver cap d c set ≡ element_at (queue c set) (leaving_place cap d (buffer c set))
-unfolding leaver leaving_place
-leaver_is cap d c set =
+-- a place that is one, or another
+element_at-either : {X : Type 0} (xs : List X) (o p : Option ℕ) → IsPlaceOf xs o
+    → element_at xs (option_or o p) ≡ option_or (element_at xs o) (element_at xs p)
+element_at-either xs None p h = refl
+element_at-either xs (Some i) p h = sym (or_some (slice_get xs i) (element_at xs p) (λ none. some_within xs i h none))
+
+IsPlaceOf-messages : (xs : List Standing) (o : Option ℕ) → IsPlaceOf (messages_of xs) o → IsPlaceOf xs o
+IsPlaceOf-messages xs None h = tt
+IsPlaceOf-messages xs (Some i) h = subst (λ (k : ℕ). i < k) (length-map xs (λ r. r.message)) h
+
+-- whom a chip chooses is the record at the chosen place of the buffer
+chosen_is : (rule : Rule) (cap d c : ℕ) (set : List Standing)
+    → chosen rule cap d (standing_at c set) ≡ element_at (queue c set) (chosen_place rule cap d (buffer c set))
+chosen_is First cap d c set =
     let p : Standing → Bool = λ r. has_to_cross d r.message in
-    let first : earliest (crossing d (standing_at c set)) ≡ find p (queue c set) =
+    let first : foremost First (crossing d (standing_at c set)) ≡ find p (queue c set) =
     earliest_is (crossing d (standing_at c set))
     ∙ (ap first_of_list (sym (filter-queue p c set)) ∙ first_is_find p (queue c set)) in
     let place : position (has_to_cross d) (buffer c set) ≡ position p (queue c set) =
     position-map (λ r. r.message) (has_to_cross d) (queue c set) in
-    ap (λ z. option_or z (referred cap (standing_at c set))) first
-    ∙ (ap (λ z. option_or (find p (queue c set)) z) (element_at-referred cap c set)
-    ∙ (sym (element_at-or (queue c set) p (referred_place cap (buffer c set)))
-    ∙ ap (λ z. element_at (queue c set) (option_or z (referred_place cap (buffer c set)))) (sym place)))
+    ap (λ z. option_or z (referred First cap (standing_at c set))) first
+    ∙ (ap (λ z. option_or (find p (queue c set)) z) (element_at-referred First cap c set)
+    ∙ (sym (element_at-or (queue c set) p (referred_place First cap (buffer c set)))
+    ∙ ap (λ z. element_at (queue c set) (option_or z (referred_place First cap (buffer c set)))) (sym place)))
+chosen_is Oldest cap d c set =
+    let p : Standing → Bool = λ r. has_to_cross d r.message in
+    let first : foremost Oldest (crossing d (standing_at c set))
+    ≡ element_at (queue c set) (oldest_place d (buffer c set)) =
+    sym (foremost-in_order Oldest (crossing d (standing_at c set)))
+    ∙ (ap (foremost Oldest) (sym (filter-queue p c set)) ∙ foremost_at d (queue c set) (sorted_queue c set)) in
+    ap (λ z. option_or z (referred Oldest cap (standing_at c set))) first
+    ∙ (ap (λ z. option_or (element_at (queue c set) (oldest_place d (buffer c set))) z)
+    (element_at-referred Oldest cap c set)
+    ∙ sym (element_at-either (queue c set) (oldest_place d (buffer c set)) (referred_place Oldest cap (buffer c set))
+    (IsPlaceOf-messages (queue c set) (oldest_place d (buffer c set)) (oldest_place-within d (buffer c set)))))
+
+-- the leaver, told by since, is the record at the leaving place of the buffer
+pub leaver_is : (way : Way) (cap d c : ℕ) (set : List Standing)
+    → leaver way cap d c set ≡ element_at (queue c set) (leaving_place way cap d (buffer c set))
+unfolding leaver leaving_place
+leaver_is way cap d c set =
+    ⊎_elim (λ (e : way.cut ≡ true). rw e refl) (λ (e : way.cut ≡ false). rw e (chosen_is way.rule cap d c set))
+    (cases_Bool way.cut)
 
 -- ---- at a chip, who leaves is told by the chip's own leaver
 
@@ -151,9 +198,9 @@ filter-queue_same p q c set same = filter-queue p c set
 abbrev pub has_since_of : Option Standing → Standing → Bool
 has_since_of o r = is_since r.since o
 
-leaves_here : (cap d c : ℕ) (set : List Standing) (r : Standing) → r.chip ≡ c
-    → leaves cap d set r ≡ has_since_of (leaver cap d c set) r
-leaves_here cap d c set r e = ap (λ k. is_since r.since (leaver cap d k set)) e
+leaves_here : (routing : Routing) (cap d c : ℕ) (set : List Standing) (r : Standing) → r.chip ≡ c
+    → leaves routing cap d set r ≡ has_since_of (leaver (way_of routing c d) cap d c set) r
+leaves_here routing cap d c set r e = ap (λ k. is_since r.since (leaver (way_of routing k d) cap d k set)) e
 
 -- ---- in a rising list one record has a since
 
@@ -236,40 +283,46 @@ list_in_order : (o : Option Standing) (ys : List Standing) → in_order ys ≡ o
 list_in_order None ys e = none_in_order ys e
 list_in_order (Some x) ys e = one_in_order x ys e
 
+-- the place of who leaves a chip of the set
+abbrev pub place_left : Routing → ℕ → ℕ → List Standing → ℕ → Option ℕ
+place_left routing cap d set c = leaving_place (way_of routing c d) cap d (buffer c set)
+
 -- who comes from a chip is its leaver
-pub comers_from : (cap d cycle c : ℕ) (set : List Standing) → IsRising (queue c set) →
-    comers (leaves cap d set) d cycle (standing_at c set) ≡ map (record_across d cycle)
-    (option_to_list (element_at (queue c set) (leaving_place cap d (buffer c set))))
-comers_from cap d cycle c set h =
+pub comers_from : (routing : Routing) (cap d cycle c : ℕ) (set : List Standing) → IsRising (queue c set) →
+    comers (leaves routing cap d set) d cycle (standing_at c set) ≡ map (record_across d cycle)
+    (option_to_list (element_at (queue c set) (place_left routing cap d set c)))
+comers_from routing cap d cycle c set h =
+    let l : Option Standing = leaver (way_of routing c d) cap d c set in
     ap (map (record_across d cycle))
-    (filter-standing_at (leaves cap d set) (has_since_of (leaver cap d c set)) c set (leaves_here cap d c set)
-    ∙ (list_in_order (leaver cap d c set) (filter (has_since_of (leaver cap d c set)) (standing_at c set))
-    (sym (filter-queue (has_since_of (leaver cap d c set)) c set)
-    ∙ leavers_of (queue c set) (leaving_place cap d (buffer c set)) (leaver cap d c set) h (leaver_is cap d c set))
-    ∙ ap option_to_list (leaver_is cap d c set)))
+    (filter-standing_at (leaves routing cap d set) (has_since_of l) c set (leaves_here routing cap d c set)
+    ∙ (list_in_order l (filter (has_since_of l) (standing_at c set))
+    (sym (filter-queue (has_since_of l) c set)
+    ∙ leavers_of (queue c set) (place_left routing cap d set c) l h (leaver_is (way_of routing c d) cap d c set))
+    ∙ ap option_to_list (leaver_is (way_of routing c d) cap d c set)))
 
 -- who stays at a chip
-stayers_at : (cap d c : ℕ) (set : List Standing) → IsRising (queue c set) →
-    filter (λ r. not (leaves cap d set r)) (queue c set) ≡ without (queue c set) (leaving_place cap d (buffer c set))
-stayers_at cap d c set h =
-    filter-queue_same (λ r. not (leaves cap d set r)) (stays_from (leaver cap d c set)) c set
-    (λ r e. ap not (leaves_here cap d c set r e))
-    ∙ stayers_of (queue c set) (leaving_place cap d (buffer c set)) (leaver cap d c set) h (leaver_is cap d c set)
+stayers_at : (routing : Routing) (cap d c : ℕ) (set : List Standing) → IsRising (queue c set) →
+    filter (λ r. not (leaves routing cap d set r)) (queue c set) ≡ without (queue c set) (place_left routing cap d set c)
+stayers_at routing cap d c set h =
+    let l : Option Standing = leaver (way_of routing c d) cap d c set in
+    filter-queue_same (λ r. not (leaves routing cap d set r)) (stays_from l) c set
+    (λ r e. ap not (leaves_here routing cap d c set r e))
+    ∙ stayers_of (queue c set) (place_left routing cap d set c) l h (leaver_is (way_of routing c d) cap d c set)
 
 -- the queue after a dimension step: who leaves is gone, and who comes stands last
-pub queue-after_dimension : (cap d cycle c : ℕ) (set : List Standing) → AllBefore (time_across d cycle) set
-    → IsRising (queue c set) → IsRising (queue (bit_xor c (2 ^ d)) set) →
-    queue c (after_dimension cap d cycle set)
-    ≡ without (queue c set) (leaving_place cap d (buffer c set))
+pub queue-after_dimension : (routing : Routing) (cap d cycle c : ℕ) (set : List Standing)
+    → AllBefore (time_across d cycle) set → IsRising (queue c set) → IsRising (queue (bit_xor c (2 ^ d)) set) →
+    queue c (after_dimension routing cap d cycle set)
+    ≡ without (queue c set) (place_left routing cap d set c)
     ++ map (record_across d cycle)
-    (option_to_list (element_at (queue (bit_xor c (2 ^ d)) set)
-    (leaving_place cap d (buffer (bit_xor c (2 ^ d)) set))))
+    (option_to_list (element_at (queue (bit_xor c (2 ^ d)) set) (place_left routing cap d set (bit_xor c (2 ^ d)))))
 unfolding after_dimension
-queue-after_dimension cap d cycle c set b h k =
-    queue-crossed (leaves cap d set) d cycle c set b
-    ∙ (ap (λ z. z ++ comers (leaves cap d set) d cycle (standing_at (bit_xor c (2 ^ d)) set)) (stayers_at cap d c set h)
-    ∙ ap (λ z. without (queue c set) (leaving_place cap d (buffer c set)) ++ z)
-    (comers_from cap d cycle (bit_xor c (2 ^ d)) set k))
+queue-after_dimension routing cap d cycle c set b h k =
+    queue-crossed (leaves routing cap d set) d cycle c set b
+    ∙ (ap (λ z. z ++ comers (leaves routing cap d set) d cycle (standing_at (bit_xor c (2 ^ d)) set))
+    (stayers_at routing cap d c set h)
+    ∙ ap (λ z. without (queue c set) (place_left routing cap d set c) ++ z)
+    (comers_from routing cap d cycle (bit_xor c (2 ^ d)) set k))
 
 message_of_comer : (d cycle : ℕ) (o : Option Standing)
     → messages_of (map (record_across d cycle) (option_to_list o)) ≡ option_to_list
@@ -278,16 +331,17 @@ message_of_comer d cycle None = refl
 message_of_comer d cycle (Some r) = refl
 
 -- the same, told by the buffers alone
-pub buffer-after_dimension : (cap d cycle c : ℕ) (set : List Standing) → AllBefore (time_across d cycle) set
-    → IsRising (queue c set) → IsRising (queue (bit_xor c (2 ^ d)) set) →
-    buffer c (after_dimension cap d cycle set) ≡ buffer_after_dimension cap d (buffer c set)
-    (outgoing cap d (buffer (bit_xor c (2 ^ d)) set))
+pub buffer-after_dimension : (routing : Routing) (cap d cycle c : ℕ) (set : List Standing)
+    → AllBefore (time_across d cycle) set → IsRising (queue c set) → IsRising (queue (bit_xor c (2 ^ d)) set) →
+    buffer c (after_dimension routing cap d cycle set)
+    ≡ buffer_after_dimension (way_of routing c d) cap d (buffer c set)
+    (outgoing (way_of routing (bit_xor c (2 ^ d)) d) cap d (buffer (bit_xor c (2 ^ d)) set))
 unfolding buffer_after_dimension
-buffer-after_dimension cap d cycle c set b h k =
+buffer-after_dimension routing cap d cycle c set b h k =
     let across : ℕ = bit_xor c (2 ^ d) in
-    let place : Option ℕ = leaving_place cap d (buffer c set) in
-    let there : Option ℕ = leaving_place cap d (buffer across set) in
-    ap messages_of (queue-after_dimension cap d cycle c set b h k)
+    let place : Option ℕ = place_left routing cap d set c in
+    let there : Option ℕ = place_left routing cap d set across in
+    ap messages_of (queue-after_dimension routing cap d cycle c set b h k)
     ∙ (map-append (λ r. r.message) (without (queue c set) place)
     (map (record_across d cycle) (option_to_list (element_at (queue across set) there)))
     ∙ (ap (λ z. z ++ messages_of (map (record_across d cycle) (option_to_list (element_at (queue across set) there))))

@@ -1,7 +1,10 @@
 pub mod Bits
 pub mod Each
 pub mod Order
+pub mod Preferring
+pub mod Places
 pub mod Flips
+pub mod Wires
 pub mod Crossing
 pub mod Leaving
 pub mod Readiness

@@ -17,6 +17,7 @@ use Rattle.cm_model.specs.Processor.{Processor, value, field_value}
 use Rattle.cm_model.specs.Chip.{processor_at}
 use Rattle.cm_model.specs.Router.{message_across}
 use Rattle.cm_model.specs.Letters.{message_sent, messages_sent, has_arrived, is_among}
+use Rattle.cm_model.specs.Wiring.{Way}
 use Rattle.cm_model.specs.Buffers.{leaving_place, element_at, without, outgoing, buffer_after_dimension}
 use Rattle.cm_model.specs.OneChip.{is_accepted}
 use Rattle.cm_model.specs.OneChip.{arrived_for, delivered, kept}
@@ -110,14 +111,14 @@ All-element_at : (n : ℕ) (ms : List Message) (o : Option ℕ) → All (IsMessa
 All-element_at n ms None h = All-nil (IsMessage n)
 All-element_at n ms (Some i) h = All-element n ms i h
 
-pub AllMessages-after_dimension : (n cap d : ℕ) (here there : List Message) → d < n → All (IsMessage n) here
-    → All (IsMessage n) there → All (IsMessage n) (buffer_after_dimension cap d here (outgoing cap d there))
+pub AllMessages-after_dimension : (way over : Way) (n cap d : ℕ) (here there : List Message) → d < n → All (IsMessage n) here
+    → All (IsMessage n) there → All (IsMessage n) (buffer_after_dimension way cap d here (outgoing over cap d there))
 unfolding buffer_after_dimension
-AllMessages-after_dimension n cap d here there below h k =
-    All-append (IsMessage n) (without here (leaving_place cap d here)) (option_to_list (outgoing cap d there))
-    (All-without n here (leaving_place cap d here) h)
-    (All-across n d (element_at there (leaving_place cap d there)) below
-    (All-element_at n there (leaving_place cap d there) k))
+AllMessages-after_dimension way over n cap d here there below h k =
+    All-append (IsMessage n) (without here (leaving_place way cap d here)) (option_to_list (outgoing over cap d there))
+    (All-without n here (leaving_place way cap d here) h)
+    (All-across n d (element_at there (leaving_place over cap d there)) below
+    (All-element_at n there (leaving_place over cap d there) k))
 
 -- ---- delivery
 

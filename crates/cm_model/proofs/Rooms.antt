@@ -14,14 +14,21 @@ use Rattle.cm_model.specs.Router.{has_to_cross, message_across}
 use Rattle.cm_model.specs.Letters.{senders, senders_taken, message_sent, can_receive}
 use Rattle.cm_model.specs.Steps.{Step, Instruct, Look, Inject, Cross, Deliver, IsStep}
 use Rattle.cm_model.specs.Machine.{Machine}
-use Rattle.cm_model.specs.Buffers.{taken_in, sent_in, machine_after_injection, leaving_place, referred_place}
-use Rattle.cm_model.specs.Buffers.{element_at, without, outgoing, buffer_after_dimension, machine_after_dimension}
+use Rattle.cm_model.specs.declared.rule.Rule.{Rule}
+use Rattle.cm_model.specs.declared.rule.Rule.TheVariants.{First, Oldest}
+use Rattle.cm_model.specs.Wiring.{Routing, plain_routing, Way, way_of}
+use Rattle.cm_model.specs.Buffers.{taken_in, sent_in, machine_after_injection, first_place, last_place, referred_place}
+use Rattle.cm_model.specs.Buffers.{chosen_place, leaving_place, element_at, without, outgoing}
+use Rattle.cm_model.specs.Buffers.{buffer_after_dimension, sent_across, buffers_after_dimension}
+use Rattle.cm_model.specs.Buffers.{machine_after_dimension}
 use Rattle.cm_model.specs.Buffers.{machine_after_delivery, after_step}
 use Rattle.cm_model.specs.OneChip.{is_accepted, arrived_for, kept}
 use Rattle.cm_model.specs.Keeping.{HasRoom}
 use Rattle.cm_model.proofs.Each.{get_or-each_below}
 use Rattle.cm_model.proofs.Flips.{across_below}
 use Rattle.cm_model.proofs.Leaving.{remove_past}
+use Rattle.cm_model.proofs.Wires.{way_of-across}
+use Rattle.cm_model.proofs.Places.{IsPlaceOf, oldest_place-within, youngest_place-some}
 
 -- ---- one buffer
 
@@ -39,58 +46,98 @@ length-option : {X : Type 0} (o : Option X) → length (option_to_list o) ≤ 1
 length-option None = omega arith
 length-option (Some x) = omega arith
 
--- at a full chip somebody leaves
-full_loses_one : (cap d : ℕ) (here : List Message) → length here ≡ cap → 0 < cap
-    → length (without here (leaving_place cap d here)) < cap
-unfolding leaving_place
-full_loses_one cap d here full room =
+-- the list without the one at a place of it
+without_one : (here : List Message) (i : ℕ) → i < length here → length (without here (Some i)) < length here
+without_one here i l = omega (arith, length-remove here i l)
+
+-- who goes last of a list that is not empty
+last_is_gone : (rule : Rule) (here : List Message) → 0 < length here
+    → length (without here (last_place rule here)) < length here
+last_is_gone First here some = without_one here (length here - 1) (omega arith)
+last_is_gone Oldest [] some = absurd (omega arith)
+last_is_gone Oldest (m ∷ ms) some =
+    let youngest = youngest_place-some m ms in
+    subst (λ (o : Option ℕ). length (without (m ∷ ms) o) < length (m ∷ ms)) (sym youngest.2)
+    (without_one (m ∷ ms) youngest.0 youngest.1)
+
+first_is_gone : (here : List Message) (o p : Option ℕ) → IsPlaceOf here o
+    → length (without here p) < length here → length (without here (option_or o p)) < length here
+first_is_gone here None p h l = l
+first_is_gone here (Some i) p h l = without_one here i h
+
+first_place-within : (rule : Rule) (d : ℕ) (here : List Message) → IsPlaceOf here (first_place rule d here)
+first_place-within First d here =
     cond_both (ltb (position_or_len (has_to_cross d) here) (length here))
-    (Some (position_or_len (has_to_cross d) here)) None
-    (λ o. length (without here (option_or o (referred_place cap here))) < cap)
-    (λ e. let l : position_or_len (has_to_cross d) here < length here =
-    ltb-true (position_or_len (has_to_cross d) here) (length here) e in
-    omega (arith, length-remove here (position_or_len (has_to_cross d) here) l))
-    (λ e. cond_both (eqb (length here) cap) (Some (length here - 1)) None (λ o. length (without here o) < cap)
-    (λ t. let l : length here - 1 < length here = omega arith in omega (arith, length-remove here (length here - 1) l))
-    (λ t. absurd (eqb-false (length here) cap t full)))
+    (Some (position_or_len (has_to_cross d) here)) None (λ o. IsPlaceOf here o)
+    (λ e. ltb-true (position_or_len (has_to_cross d) here) (length here) e) (λ e. tt)
+first_place-within Oldest d here = oldest_place-within d here
 
--- who has been left by all who leave has room for one who comes
-pub leaving_makes_room : (cap d : ℕ) (here : List Message) → length here ≤ cap → 0 < cap
-    → length (without here (leaving_place cap d here)) < cap
-leaving_makes_room cap d here within some =
-    let fewer : length (without here (leaving_place cap d here)) ≤ length here =
-    length-without here (leaving_place cap d here) in
+-- at a full chip somebody is chosen
+full_loses_one : (rule : Rule) (cap d : ℕ) (here : List Message) → length here ≡ cap → 0 < cap
+    → length (without here (chosen_place rule cap d here)) < cap
+full_loses_one rule cap d here full room =
+    let last : length (without here (referred_place rule cap here)) < length here =
+    cond_both (eqb (length here) cap) (last_place rule here) None (λ o. length (without here o) < length here)
+    (λ t. last_is_gone rule here (omega arith)) (λ t. absurd (eqb-false (length here) cap t full)) in
+    let gone : length (without here (chosen_place rule cap d here)) < length here =
+    first_is_gone here (first_place rule d here) (referred_place rule cap here) (first_place-within rule d here) last in
+    omega arith
+
+-- who has been left by whom it chooses has room for one who comes
+pub choosing_makes_room : (rule : Rule) (cap d : ℕ) (here : List Message) → length here ≤ cap → 0 < cap
+    → length (without here (chosen_place rule cap d here)) < cap
+choosing_makes_room rule cap d here within some =
+    let fewer : length (without here (chosen_place rule cap d here)) ≤ length here =
+    length-without here (chosen_place rule cap d here) in
     ⊎_elim (λ (l : length here < cap). omega arith)
-    (λ (l : cap ≤ length here). full_loses_one cap d here (omega arith) some) (cases_lt (length here) cap)
+    (λ (l : cap ≤ length here). full_loses_one rule cap d here (omega arith) some) (cases_lt (length here) cap)
 
-none_leaves_none : (cap d : ℕ) (there : List Message) → length there ≡ 0 → outgoing cap d there ≡ None
-none_leaves_none cap d there e = let empty : there ≡ [] = nil_from_length there e in
-    rw empty (from_nobody (leaving_place cap d []))
+-- who has been left by all who leave has room for one who comes, where the wire is not cut
+pub leaving_makes_room : (way : Way) (cap d : ℕ) (here : List Message) → way.cut ≡ false → length here ≤ cap → 0 < cap
+    → length (without here (leaving_place way cap d here)) < cap
+unfolding leaving_place
+leaving_makes_room way cap d here joined within some =
+    rw joined (choosing_makes_room way.rule cap d here within some)
+
+none_leaves_none : (rule : Rule) (cap d : ℕ) (there : List Message) → length there ≡ 0
+    → element_at there (chosen_place rule cap d there) ≡ None
+none_leaves_none rule cap d there e = let empty : there ≡ [] = nil_from_length there e in
+    rw empty (from_nobody (chosen_place rule cap d []))
   where
-    from_nobody : (o : Option ℕ) → option_map (message_across d) (element_at [] o) ≡ None
+    from_nobody : (o : Option ℕ) → element_at {X = Message} [] o ≡ None
     from_nobody None = refl
     from_nobody (Some i) = refl
 
-length-after_dimension : (cap d : ℕ) (here there : List Message) → length here ≤ cap → length there ≤ cap
-    → length (buffer_after_dimension cap d here (outgoing cap d there)) ≤ cap
-unfolding buffer_after_dimension
-length-after_dimension cap d here there h k =
-    let long : length (without here (leaving_place cap d here) ++ option_to_list (outgoing cap d there))
-    ≡ length (without here (leaving_place cap d here)) + length (option_to_list (outgoing cap d there)) =
-    length-append (without here (leaving_place cap d here)) (option_to_list (outgoing cap d there)) in
-    let most : length (option_to_list (outgoing cap d there)) ≤ 1 = length-option (outgoing cap d there) in
-    let fewer : length (without here (leaving_place cap d here)) ≤ length here =
-    length-without here (leaving_place cap d here) in
+-- a buffer that all who leave have left, and who comes from across
+length-exchanged : (rule : Rule) (cap d : ℕ) (here there : List Message) → length here ≤ cap → length there ≤ cap
+    → length (without here (chosen_place rule cap d here)
+    ++ option_to_list (option_map (message_across d) (element_at there (chosen_place rule cap d there)))) ≤ cap
+length-exchanged rule cap d here there h k =
+    let comes : Option Message = option_map (message_across d) (element_at there (chosen_place rule cap d there)) in
+    let long : length (without here (chosen_place rule cap d here) ++ option_to_list comes)
+    ≡ length (without here (chosen_place rule cap d here)) + length (option_to_list comes) =
+    length-append (without here (chosen_place rule cap d here)) (option_to_list comes) in
+    let most : length (option_to_list comes) ≤ 1 = length-option comes in
     ⊎_elim
-    (λ (l : length here < cap). omega arith)
-    (λ (l : cap ≤ length here).
+    (λ (room : 0 < cap). let less : length (without here (chosen_place rule cap d here)) < cap =
+    choosing_makes_room rule cap d here h room in omega arith)
+    (λ (none : cap ≤ 0).
+    let fewer : length (without here (chosen_place rule cap d here)) ≤ length here =
+    length-without here (chosen_place rule cap d here) in
+    let nobody : length (option_to_list comes) ≡ 0 =
+    ap (λ o. length (option_to_list (option_map (message_across d) o)))
+    (none_leaves_none rule cap d there (omega arith)) in omega arith)
+    (cases_lt 0 cap)
+
+-- the two ends of a wire send in one way
+length-after_dimension : (way : Way) (cap d : ℕ) (here there : List Message) → length here ≤ cap → length there ≤ cap
+    → length (buffer_after_dimension way cap d here (outgoing way cap d there)) ≤ cap
+unfolding buffer_after_dimension leaving_place
+length-after_dimension way cap d here there h k =
     ⊎_elim
-    (λ (room : 0 < cap). let less : length (without here (leaving_place cap d here)) < cap =
-    full_loses_one cap d here (omega arith) room in omega arith)
-    (λ (none : cap ≤ 0). let nobody : length (option_to_list (outgoing cap d there)) ≡ 0 =
-    ap (λ o. length (option_to_list o)) (none_leaves_none cap d there (omega arith)) in omega arith)
-    (cases_lt 0 cap))
-    (cases_lt (length here) cap)
+    (λ (e : way.cut ≡ true). rw e (omega (arith, h, length-append here [])))
+    (λ (e : way.cut ≡ false). rw e (length-exchanged way.rule cap d here there h k))
+    (cases_Bool way.cut)
 
 length-kept : (receives : ℕ → Bool) (before : List ℕ) (ms : List Message) → length (kept receives before ms) ≤ length ms
 length-kept receives before [] = omega arith
@@ -116,16 +163,25 @@ HasRoom-after_injection n cap machine h c l =
       length-map (taken_in cap machine c) (message_sent n machine.clock c (chip_at machine.chips c)),
     ))
 
+pub crossings_keep_room : (routing : Routing) (n cap d : ℕ) (buffers : List (List Message)) → d < n
+    → ((c : ℕ) → c < 2 ^ n → length (list_at buffers c) ≤ cap) → (c : ℕ) → c < 2 ^ n →
+    length (list_at (buffers_after_dimension routing n cap d buffers) c) ≤ cap
+crossings_keep_room routing n cap d buffers below h c l =
+    let across : ℕ = bit_xor c (2 ^ d) in
+    subst (λ (xs : List Message). length xs ≤ cap)
+    (sym (get_or-each_below (2 ^ n)
+    (λ b. buffer_after_dimension (way_of routing b d) cap d (list_at buffers b)
+    (sent_across routing cap d buffers (bit_xor b (2 ^ d)))) c [] l))
+    (subst (λ (way : Way). length (buffer_after_dimension (way_of routing c d) cap d (list_at buffers c)
+    (outgoing way cap d (list_at buffers across))) ≤ cap)
+    (sym (way_of-across routing c d))
+    (length-after_dimension (way_of routing c d) cap d (list_at buffers c) (list_at buffers across) (h c l)
+    (h across (across_below n d c below l))))
+
 pub HasRoom-after_dimension : (n cap d : ℕ) (machine : Machine) → d < n → HasRoom n cap machine
     → HasRoom n cap (machine_after_dimension n cap d machine)
 unfolding machine_after_dimension
-HasRoom-after_dimension n cap d machine below h c l =
-    subst (λ (xs : List Message). length xs ≤ cap)
-    (sym (get_or-each_below (2 ^ n)
-    (λ b. buffer_after_dimension cap d (list_at machine.buffers b)
-    (outgoing cap d (list_at machine.buffers (bit_xor b (2 ^ d))))) c [] l))
-    (length-after_dimension cap d (list_at machine.buffers c) (list_at machine.buffers (bit_xor c (2 ^ d)))
-    (h c l) (h (bit_xor c (2 ^ d)) (across_below n d c below l)))
+HasRoom-after_dimension n cap d machine below h = crossings_keep_room plain_routing n cap d machine.buffers below h
 
 pub HasRoom-after_delivery : (n cap : ℕ) (machine : Machine) → HasRoom n cap machine
     → HasRoom n cap (machine_after_delivery n machine)

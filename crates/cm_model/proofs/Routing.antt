@@ -6,12 +6,13 @@ use Rattle.std.proofs.lemmas.Bool.Decides.{nat_tests}
 use Rattle.std.specs.Prelude.{bit_xor, ◌==◌}
 use Rattle.std.specs.List.{filter}
 use Rattle.std.specs.Option.{option_to_list}
+use Rattle.cm_model.specs.Wiring.{Routing}
 use Rattle.cm_model.specs.Router.{Since, Standing, is_before, standing_at, leaves, record_across, after_dimension}
 use Rattle.cm_model.specs.Order.{queue, buffer}
-use Rattle.cm_model.specs.Buffers.{leaving_place, element_at}
+use Rattle.cm_model.specs.Buffers.{element_at}
 use Rattle.cm_model.proofs.Order.{AllBefore, IsRising, before_transitive}
 use Rattle.cm_model.proofs.Crossing.{step_of_record, queue-crossed, AllBefore-filter, AllBefore-in_order}
-use Rattle.cm_model.proofs.Leaving.{comers_from}
+use Rattle.cm_model.proofs.Leaving.{place_left, comers_from}
 use Rattle.cm_model.proofs.Readiness.{IsReady, IsRising-filter, IsRising-append, IsRising-comers, Precedes-comers}
 
 -- the time before which all stand when dimension d is due
@@ -32,30 +33,30 @@ AllBefore-crossed leaves d cycle (r ∷ set) h =
     ))
     (cases_Bool (leaves r))
 
-IsRising-crossed : (cap d cycle c : ℕ) (set : List Standing) → IsReady (due_time d cycle) set
-    → IsRising (queue c (after_dimension cap d cycle set))
+IsRising-crossed : (routing : Routing) (cap d cycle c : ℕ) (set : List Standing) → IsReady (due_time d cycle) set
+    → IsRising (queue c (after_dimension routing cap d cycle set))
 unfolding after_dimension queue
-IsRising-crossed cap d cycle c set h =
+IsRising-crossed routing cap d cycle c set h =
     let across : ℕ = bit_xor c (2 ^ d) in
-    let o : Option Standing = element_at (queue across set) (leaving_place cap d (buffer across set)) in
+    let o : Option Standing = element_at (queue across set) (place_left routing cap d set across) in
     subst (λ (xs : List Standing). IsRising xs)
-    (sym (queue-crossed (leaves cap d set) d cycle c set h.before
-    ∙ ap (λ z. filter (λ r. not (leaves cap d set r)) (queue c set) ++ z)
-    (comers_from cap d cycle across set (h.rising across))))
-    (IsRising-append (filter (λ r. not (leaves cap d set r)) (queue c set))
+    (sym (queue-crossed (leaves routing cap d set) d cycle c set h.before
+    ∙ ap (λ z. filter (λ r. not (leaves routing cap d set r)) (queue c set) ++ z)
+    (comers_from routing cap d cycle across set (h.rising across))))
+    (IsRising-append (filter (λ r. not (leaves routing cap d set r)) (queue c set))
     (map (record_across d cycle) (option_to_list o))
-    (IsRising-filter (λ r. not (leaves cap d set r)) (queue c set) (h.rising c))
+    (IsRising-filter (λ r. not (leaves routing cap d set r)) (queue c set) (h.rising c))
     (IsRising-comers d cycle o)
-    (Precedes-comers d cycle o (filter (λ r. not (leaves cap d set r)) (queue c set))
-    (AllBefore-filter (λ r. not (leaves cap d set r)) (due_time d cycle) (queue c set)
+    (Precedes-comers d cycle o (filter (λ r. not (leaves routing cap d set r)) (queue c set))
+    (AllBefore-filter (λ r. not (leaves routing cap d set r)) (due_time d cycle) (queue c set)
     (AllBefore-in_order (due_time d cycle) (standing_at c set)
     (AllBefore-filter (λ r. r.chip == c) (due_time d cycle) set h.before)))))
 
 -- the next dimension finds the set ready
-pub IsReady-after_dimension : (cap d cycle : ℕ) (set : List Standing) → IsReady (due_time d cycle) set
-    → IsReady (due_time (d + 1) cycle) (after_dimension cap d cycle set)
+pub IsReady-after_dimension : (routing : Routing) (cap d cycle : ℕ) (set : List Standing) → IsReady (due_time d cycle) set
+    → IsReady (due_time (d + 1) cycle) (after_dimension routing cap d cycle set)
 unfolding after_dimension
-IsReady-after_dimension cap d cycle set h = record {
-  before = AllBefore-crossed (leaves cap d set) d cycle set h.before;
-  rising = λ c. IsRising-crossed cap d cycle c set h;
+IsReady-after_dimension routing cap d cycle set h = record {
+  before = AllBefore-crossed (leaves routing cap d set) d cycle set h.before;
+  rising = λ c. IsRising-crossed routing cap d cycle c set h;
 }

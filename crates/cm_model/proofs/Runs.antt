@@ -10,6 +10,7 @@ use Rattle.cm_model.specs.declared.act.Act.{Act}
 use Rattle.cm_model.specs.declared.act.Act.TheVariants as act
 use Rattle.cm_model.specs.declared.message.Event.TheVariants.{Injected, Delivered}
 use Rattle.cm_model.specs.Array.{chip_at, list_at}
+use Rattle.cm_model.specs.Wiring.{plain_routing, plain_way}
 use Rattle.cm_model.specs.Router.{Since, Standing, standing_at, after_dimension}
 use Rattle.cm_model.specs.Order.{queue, buffer}
 use Rattle.cm_model.specs.Letters.{senders_taken, messages_sent, chip_after_injection, chip_after_delivery, can_receive}
@@ -76,14 +77,17 @@ closed-after_dimension : (n cap d : ℕ) (state : State) → d < n → IsReady (
     → closed n (state_after n cap state (Cross d)) ≡ machine_after_dimension n cap d (closed n state)
 unfolding closed machine_after_dimension
 closed-after_dimension n cap d state below h =
-    let buffers = same_each_below [] (2 ^ n) (λ c. buffer c (after_dimension cap d state.cycle state.standing))
-    (λ c. buffer_after_dimension cap d (list_at (closed n state).buffers c)
-    (outgoing cap d (list_at (closed n state).buffers (bit_xor c (2 ^ d)))))
-    (λ c l. buffer-after_dimension cap d state.cycle c state.standing h.before (h.rising c)
+    let buffers = same_each_below [] (2 ^ n)
+    (λ c. buffer c (after_dimension plain_routing cap d state.cycle state.standing))
+    (λ c. buffer_after_dimension plain_way cap d (list_at (closed n state).buffers c)
+    (outgoing plain_way cap d (list_at (closed n state).buffers (bit_xor c (2 ^ d)))))
+    (λ c l. buffer-after_dimension plain_routing cap d state.cycle c state.standing h.before (h.rising c)
     (h.rising (bit_xor c (2 ^ d)))
-    ∙ (ap (λ z. buffer_after_dimension cap d z (outgoing cap d (buffer (bit_xor c (2 ^ d)) state.standing)))
+    ∙ (ap (λ z. buffer_after_dimension plain_way cap d z
+    (outgoing plain_way cap d (buffer (bit_xor c (2 ^ d)) state.standing)))
     (sym (list_at-closed n state c l))
-    ∙ ap (λ z. buffer_after_dimension cap d (list_at (closed n state).buffers c) (outgoing cap d z))
+    ∙ ap (λ z. buffer_after_dimension plain_way cap d (list_at (closed n state).buffers c)
+    (outgoing plain_way cap d z))
     (sym (list_at-closed n state (bit_xor c (2 ^ d)) (across_below n d c below l))))) in
     λ i. record { chips = state.chips; buffers = buffers i; logs = state.logs; clock = state.clock }
 
@@ -140,7 +144,7 @@ pub record IsDue (n d : ℕ) (state : State) (machine : Machine) : Type 0 where
 pub one_crossing : (n cap d : ℕ) (state : State) (machine : Machine) → d < n → IsDue n d state machine
     → IsDue n (d + 1) (state_after n cap state (Cross d)) (after_step n cap machine (Cross d))
 one_crossing n cap d state machine below h = record {
-  ready = IsReady-after_dimension cap d state.cycle state.standing h.ready;
+  ready = IsReady-after_dimension plain_routing cap d state.cycle state.standing h.ready;
   same = closed-after_dimension n cap d state below h.ready ∙ ap (machine_after_dimension n cap d) h.same;
 }
 

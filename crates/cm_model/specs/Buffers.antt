@@ -1,13 +1,16 @@
 -- The same steps told by the buffers alone, chip by chip: this is what a router's code keeps. Ours.
-use Rattle.std.specs.Prelude.{ℕ, ◌+◌, ◌-◌, ◌^◌, ◌==◌, ◌&&◌, Bool, not, List, [], ◌∷◌, ◌++◌, Option, Some, None, length}
-use Rattle.std.specs.Prelude.{map, slice_get, bit_xor, if◌then◌else◌}
+use Rattle.std.specs.Prelude.{ℕ, suc, ◌+◌, ◌-◌, ◌^◌, ◌==◌, ◌&&◌, Bool, true, false, not, List, [], ◌∷◌, ◌++◌}
+use Rattle.std.specs.Prelude.{Option, Some, None, length, map, slice_get, bit_xor, if◌then◌else◌}
 use Rattle.std.specs.List.{position, remove}
 use Rattle.std.specs.Option.{option_or, option_map, option_to_list}
 use Rattle.cm_model.specs.declared.act.Act.{Act}
 use Rattle.cm_model.specs.declared.message.Message.{Message}
 use Rattle.cm_model.specs.declared.message.Event.TheVariants.{Injected, Delivered}
 use Rattle.cm_model.specs.Array.{each_chip, chip_at, after_nano, list_at}
-use Rattle.cm_model.specs.Router.{has_to_cross, message_across}
+use Rattle.cm_model.specs.declared.rule.Rule.{Rule}
+use Rattle.cm_model.specs.declared.rule.Rule.TheVariants.{First, Oldest}
+use Rattle.cm_model.specs.Wiring.{Routing, plain_routing, Way, way_of}
+use Rattle.cm_model.specs.Router.{is_older, has_to_cross, message_across}
 use Rattle.cm_model.specs.Letters.{has_arrived, chip_after_injection, chip_after_delivery}
 use Rattle.cm_model.specs.OneChip.{taken_here, sent_here, delivered_here, kept_here}
 use Rattle.cm_model.specs.Steps.{Step, Instruct, Look, Inject, Cross, Deliver, steps_of}
@@ -33,14 +36,6 @@ machine_after_injection n cap machine = record machine {
 
 -- ---- a dimension
 
--- the place of who is referred: at a full buffer the last, else nobody
-abbrev pub referred_place : ℕ → List Message → Option ℕ
-referred_place cap here = if length here == cap then Some (length here - 1) else None
-
--- the place of who leaves a buffer in dimension d: the first that has to cross it, else who is referred
-unfoldable pub leaving_place : ℕ → ℕ → List Message → Option ℕ
-leaving_place cap d here = option_or (position (has_to_cross d) here) (referred_place cap here)
-
 -- the element at a place, if a place is given
 abbrev pub element_at : {X : Type 0} → List X → Option ℕ → Option X
 element_at xs None = None
@@ -51,20 +46,78 @@ abbrev pub without : {X : Type 0} → List X → Option ℕ → List X
 without xs None = xs
 without xs (Some i) = remove xs i
 
+-- the place one further behind, if a place is given
+abbrev pub one_behind : Option ℕ → Option ℕ
+one_behind None = None
+one_behind (Some i) = Some (suc i)
+
+-- perhaps a message, and it is older than this one
+abbrev pub is_older_one : Option Message → Message → Bool
+is_older_one None m = false
+is_older_one (Some q) m = is_older q.tag m.tag
+
+-- the place of the oldest message that has to cross dimension d; of two of one tag, of the first
+abbrev pub oldest_place : ℕ → List Message → Option ℕ
+oldest_place d [] = None
+oldest_place d (m ∷ ms) =
+    if has_to_cross d m && not (is_older_one (element_at ms (oldest_place d ms)) m) then Some 0
+    else one_behind (oldest_place d ms)
+
+-- nobody, or a message that is older than this one
+abbrev pub is_older_or_none : Option Message → Message → Bool
+is_older_or_none None m = true
+is_older_or_none (Some q) m = is_older q.tag m.tag
+
+-- the place of the youngest message; of two of one tag, of the last
+abbrev pub youngest_place : List Message → Option ℕ
+youngest_place [] = None
+youngest_place (m ∷ ms) =
+    if is_older_or_none (element_at ms (youngest_place ms)) m then Some 0 else one_behind (youngest_place ms)
+
+-- the place of who goes first of those that have to cross dimension d
+abbrev pub first_place : Rule → ℕ → List Message → Option ℕ
+first_place First d here = position (has_to_cross d) here
+first_place Oldest d here = oldest_place d here
+
+-- the place of who goes last
+abbrev pub last_place : Rule → List Message → Option ℕ
+last_place First here = Some (length here - 1)
+last_place Oldest here = youngest_place here
+
+-- the place of who is referred: at a full buffer of who goes last, else nobody
+abbrev pub referred_place : Rule → ℕ → List Message → Option ℕ
+referred_place rule cap here = if length here == cap then last_place rule here else None
+
+-- the place of whom a router chooses in dimension d: of those that have to cross it who goes first, else who is referred
+abbrev pub chosen_place : Rule → ℕ → ℕ → List Message → Option ℕ
+chosen_place rule cap d here = option_or (first_place rule d here) (referred_place rule cap here)
+
+-- the place of who leaves a buffer in dimension d: over a wire that is cut nobody, else whom the router chooses
+unfoldable pub leaving_place : Way → ℕ → ℕ → List Message → Option ℕ
+leaving_place way cap d here = if way.cut then None else chosen_place way.rule cap d here
+
 -- what a buffer sends across dimension d
-abbrev pub outgoing : ℕ → ℕ → List Message → Option Message
-outgoing cap d here = option_map (message_across d) (element_at here (leaving_place cap d here))
+abbrev pub outgoing : Way → ℕ → ℕ → List Message → Option Message
+outgoing way cap d here = option_map (message_across d) (element_at here (leaving_place way cap d here))
 
 -- a buffer after the dimension step: who leaves is gone, and what comes stands last
-unfoldable pub buffer_after_dimension : ℕ → ℕ → List Message → Option Message → List Message
-buffer_after_dimension cap d here coming = without here (leaving_place cap d here) ++ option_to_list coming
+unfoldable pub buffer_after_dimension : Way → ℕ → ℕ → List Message → Option Message → List Message
+buffer_after_dimension way cap d here coming = without here (leaving_place way cap d here) ++ option_to_list coming
 
--- all chips at once, from the old buffers
+-- of the buffers of all chips, what chip c sends across dimension d
+abbrev pub sent_across : Routing → ℕ → ℕ → List (List Message) → ℕ → Option Message
+sent_across routing cap d buffers c = outgoing (way_of routing c d) cap d (list_at buffers c)
+
+-- all buffers at once, from the old ones
+abbrev pub buffers_after_dimension : Routing → ℕ → ℕ → ℕ → List (List Message) → List (List Message)
+buffers_after_dimension routing n cap d buffers = each_chip n
+    (λ c. buffer_after_dimension (way_of routing c d) cap d (list_at buffers c)
+    (sent_across routing cap d buffers (bit_xor c (2 ^ d))))
+
+-- all chips of a machine at once, whose routing is plain
 unfoldable pub machine_after_dimension : ℕ → ℕ → ℕ → Machine → Machine
 machine_after_dimension n cap d machine = record machine {
-  buffers = each_chip n
-      (λ c. buffer_after_dimension cap d (list_at machine.buffers c)
-      (outgoing cap d (list_at machine.buffers (bit_xor c (2 ^ d)))));
+  buffers = buffers_after_dimension plain_routing n cap d machine.buffers;
 }
 
 -- ---- delivery

@@ -6,6 +6,7 @@ use Rattle.cm_model.specs.declared.message.Message.{Message}
 use Rattle.cm_model.specs.declared.message.Event.{Event}
 use Rattle.cm_model.specs.declared.message.Event.TheVariants.{Injected, Delivered}
 use Rattle.cm_model.specs.Array.{Chips, each_chip, list_at, chip_at, after_nano}
+use Rattle.cm_model.specs.Wiring.{plain_routing}
 use Rattle.cm_model.specs.Router.{Standing, is_at, is_before, standing_at, after_dimension}
 use Rattle.cm_model.specs.Order.{in_order, messages_of}
 use Rattle.cm_model.specs.Letters.{senders_taken, message_sent, messages_sent, chip_after_injection, can_receive}
@@ -86,7 +87,8 @@ abbrev pub state_after : ℕ → ℕ → State → Step → State
 state_after n cap state (Instruct nano) = record state { chips = after_nano n nano state.chips }
 state_after n cap state Look = state
 state_after n cap state Inject = after_injection n cap state
-state_after n cap state (Cross d) = record state { standing = after_dimension cap d state.cycle state.standing }
+state_after n cap state (Cross d) =
+    record state { standing = after_dimension plain_routing cap d state.cycle state.standing }
 state_after n cap state Deliver = after_delivery n state
 
 -- the state after a list of steps

@@ -5,6 +5,7 @@ pub mod Instruction
 pub mod Chip
 pub mod Whole
 pub mod Array
+pub mod Wiring
 pub mod Router
 pub mod Order
 pub mod Letters

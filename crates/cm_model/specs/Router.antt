@@ -1,11 +1,15 @@
 -- Standing messages, and how they cross the cube in a dimension step: Hillis 1985; which message goes first is ours.
-use Rattle.std.specs.Prelude.{ℕ, ◌+◌, ◌^◌, ◌==◌, ◌&&◌, ◌||◌, Bool, false, List, [], ◌∷◌, Option, Some, None, length}
-use Rattle.std.specs.Prelude.{map, nat_lt, bit_xor, if◌then◌else◌}
+use Rattle.std.specs.Prelude.{ℕ, ◌+◌, ◌^◌, ◌==◌, ◌&&◌, ◌||◌, Bool, false, not, List, [], ◌∷◌, Option, Some, None}
+use Rattle.std.specs.Prelude.{length, map, nat_lt, bit_xor, if◌then◌else◌}
 use Rattle.std.specs.List.{filter}
 use Rattle.std.specs.Option.{option_or}
 use Rattle.cm_bits.specs.Bit.{bit}
 use Rattle.cm_bits.specs.declared.place.Place.{Place}
 use Rattle.cm_model.specs.declared.message.Message.{Message}
+use Rattle.cm_model.specs.declared.message.Tag.{Tag}
+use Rattle.cm_model.specs.declared.rule.Rule.{Rule}
+use Rattle.cm_model.specs.declared.rule.Rule.TheVariants.{First, Oldest}
+use Rattle.cm_model.specs.Wiring.{Routing, Way, way_of}
 
 -- when a message came to its chip: the petit cycle, and the turn within it
 pub record Since : Type 0 where
@@ -42,25 +46,42 @@ is_at c r = r.chip == c
 abbrev pub standing_at : ℕ → List Standing → List Standing
 standing_at c set = filter (is_at c) set
 
--- of a record and perhaps another, the one with the lesser since
-abbrev pub earlier : Standing → Option Standing → Standing
-earlier r None = r
-earlier r (Some q) = if is_before q.since r.since then q else r
+-- a tag is older than another: its birth is lower, or of one birth its chip, or of one chip its processor
+abbrev pub is_older : Tag → Tag → Bool
+is_older s t =
+    nat_lt s.birth t.birth
+    || (s.birth == t.birth && (nat_lt s.chip t.chip || (s.chip == t.chip && nat_lt s.proc t.proc)))
 
--- of a set, the record with the least since
-abbrev pub earliest : List Standing → Option Standing
-earliest [] = None
-earliest (r ∷ rs) = Some (earlier r (earliest rs))
+-- by a rule, a message goes before another wherever the two stand
+abbrev pub is_preferred : Rule → Message → Message → Bool
+is_preferred First m q = false
+is_preferred Oldest m q = is_older m.tag q.tag
 
--- of a record and perhaps another, the one with the greater since
-abbrev pub later : Standing → Option Standing → Standing
-later r None = r
-later r (Some q) = if is_before q.since r.since then r else q
+-- by a rule, a record goes before another: its message is preferred, or neither is and it came first
+abbrev pub goes_before : Rule → Standing → Standing → Bool
+goes_before rule r q =
+    is_preferred rule r.message q.message
+    || (not (is_preferred rule q.message r.message) && is_before r.since q.since)
 
--- of a set, the record with the greatest since
-abbrev pub latest : List Standing → Option Standing
-latest [] = None
-latest (r ∷ rs) = Some (later r (latest rs))
+-- of a record and perhaps another, the one that goes first
+abbrev pub ahead : Rule → Standing → Option Standing → Standing
+ahead rule r None = r
+ahead rule r (Some q) = if goes_before rule q r then q else r
+
+-- of a set, the record that goes first
+abbrev pub foremost : Rule → List Standing → Option Standing
+foremost rule [] = None
+foremost rule (r ∷ rs) = Some (ahead rule r (foremost rule rs))
+
+-- of a record and perhaps another, the one that goes last
+abbrev pub behind : Rule → Standing → Option Standing → Standing
+behind rule r None = r
+behind rule r (Some q) = if goes_before rule q r then r else q
+
+-- of a set, the record that goes last
+abbrev pub hindmost : Rule → List Standing → Option Standing
+hindmost rule [] = None
+hindmost rule (r ∷ rs) = Some (behind rule r (hindmost rule rs))
 
 -- the message has to cross this dimension
 abbrev pub has_to_cross : ℕ → Message → Bool
@@ -71,13 +92,18 @@ abbrev pub crossing : ℕ → List Standing → List Standing
 crossing d set = filter (λ r. has_to_cross d r.message) set
 
 -- who is referred at a chip where these stand, in routers with room for cap messages:
--- at a full chip the latest, else nobody
-abbrev pub referred : ℕ → List Standing → Option Standing
-referred cap here = if length here == cap then latest here else None
+-- at a full chip who goes last, else nobody
+abbrev pub referred : Rule → ℕ → List Standing → Option Standing
+referred rule cap here = if length here == cap then hindmost rule here else None
 
--- who leaves a chip in dimension d: of those there that have to cross it the earliest, else who is referred
-unfoldable pub leaver : ℕ → ℕ → ℕ → List Standing → Option Standing
-leaver cap d c set = option_or (earliest (crossing d (standing_at c set))) (referred cap (standing_at c set))
+-- whom a chip chooses in dimension d where these stand: of those that have to cross it who goes first, else who is
+-- referred
+abbrev pub chosen : Rule → ℕ → ℕ → List Standing → Option Standing
+chosen rule cap d here = option_or (foremost rule (crossing d here)) (referred rule cap here)
+
+-- who leaves chip c in dimension d: nobody over a wire that is cut, else whom it chooses
+unfoldable pub leaver : Way → ℕ → ℕ → ℕ → List Standing → Option Standing
+leaver way cap d c set = if way.cut then None else chosen way.rule cap d (standing_at c set)
 
 -- a record, if there is one, has this since
 abbrev pub is_since : Since → Option Standing → Bool
@@ -85,8 +111,8 @@ is_since s None = false
 is_since s (Some r) = same_since r.since s
 
 -- the record is the leaver of its chip, where no other has its since
-abbrev pub leaves : ℕ → ℕ → List Standing → Standing → Bool
-leaves cap d set r = is_since r.since (leaver cap d r.chip set)
+abbrev pub leaves : Routing → ℕ → ℕ → List Standing → Standing → Bool
+leaves routing cap d set r = is_since r.since (leaver (way_of routing r.chip d) cap d r.chip set)
 
 -- a message that crosses dimension d: its bit flips
 abbrev pub message_across : ℕ → Message → Message
@@ -101,5 +127,6 @@ record_across d cycle r = record {
 }
 
 -- the set after the dimension step: each leaver crosses, the others stay
-unfoldable pub after_dimension : ℕ → ℕ → ℕ → List Standing → List Standing
-after_dimension cap d cycle set = map (λ r. if leaves cap d set r then record_across d cycle r else r) set
+unfoldable pub after_dimension : Routing → ℕ → ℕ → ℕ → List Standing → List Standing
+after_dimension routing cap d cycle set =
+    map (λ r. if leaves routing cap d set r then record_across d cycle r else r) set

@@ -7,6 +7,7 @@ ghost use Rattle.cm_model.specs.Laws.{MachinesAreKept, RunsKeepMachines};
 ghost use Rattle.cm_model.specs.StepLaws.{SendersAreAcknowledged, DeliveriesAreApart, NobodyIsPassedOver};
 ghost use Rattle.cm_model.specs.StepLaws.{PayloadsAreReceived};
 ghost use Rattle.cm_model.specs.StepLaws.{LeaversHaveTheirSince, LeaversAreUnique, LeaversStandAtTheirPlace};
+ghost use Rattle.cm_model.specs.StepLaws.{NobodyCrossesACutWire, CrossingsKeepRoom};
 ghost use Rattle.cm_model.specs.StepLaws.{TargetsAreKept, RoomIsKept, InstructionsKeepTheAccount};
 
 /// A step on the grid and one back end where they began.
@@ -29,7 +30,7 @@ pub fn steps_are_told_by_buffers()
     ensures { StepsAreToldByBuffers }
 {}
 
-/// Who leaves a chip has the least since of those that have to cross, or else, at a full chip, the greatest.
+/// By either rule who leaves a chip goes before all others that have to cross, or else, at a full chip, behind all.
 pub fn leavers_have_their_since()
     ensures { LeaversHaveTheirSince }
 {}
@@ -39,7 +40,7 @@ pub fn leavers_are_unique()
     ensures { LeaversAreUnique }
 {}
 
-/// Who leaves a chip is the first message of its buffer that has to cross, or else, if it is full, the last.
+/// By either rule the buffer alone tells at which place who leaves a chip stands.
 pub fn leavers_stand_at_their_place()
     ensures { LeaversStandAtTheirPlace }
 {}
@@ -47,6 +48,16 @@ pub fn leavers_stand_at_their_place()
 /// A dimension step keeps every target.
 pub fn targets_are_kept()
     ensures { TargetsAreKept }
+{}
+
+/// Nobody crosses a wire that is cut, in either direction.
+pub fn nobody_crosses_a_cut_wire()
+    ensures { NobodyCrossesACutWire }
+{}
+
+/// In no dimension does a buffer overflow, whichever wires are cut and by either rule.
+pub fn crossings_keep_room()
+    ensures { CrossingsKeepRoom }
 {}
 
 /// No buffer overflows.

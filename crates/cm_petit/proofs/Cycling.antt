@@ -6,6 +6,7 @@ use Rattle.std.proofs.lemmas.Bool.Decides.{nat_tests}
 use Rattle.cm_model.specs.declared.act.Act.TheVariants as act
 use Rattle.cm_model.specs.declared.message.Message.{Message}
 use Rattle.cm_model.specs.Array.{each_chip, list_at}
+use Rattle.cm_model.specs.Wiring.{plain_way}
 use Rattle.cm_model.specs.Buffers.{leaving_place, outgoing, buffer_after_dimension, after_act}
 use Rattle.cm_model.specs.Buffers.{machine_after_injection, machine_after_dimension, machine_after_delivery}
 use Rattle.cm_model.specs.Machine.{Machine}
@@ -41,8 +42,8 @@ under_way n room m d = after_crossings n room (machine_after_injection n room m)
 
 pub crossed_more : (n room : ℕ) (m : Machine) (d : ℕ) {now : Machine} {next : List (List Message)}
     → now ≡ under_way n room m d
-    → next ≡ each_chip n (λ c. buffer_after_dimension room d (list_at now.buffers c)
-    (outgoing room d (list_at now.buffers (bit_xor c (2 ^ d)))))
+    → next ≡ each_chip n (λ c. buffer_after_dimension plain_way room d (list_at now.buffers c)
+    (outgoing plain_way room d (list_at now.buffers (bit_xor c (2 ^ d)))))
     → record now { buffers = next } ≡ under_way n room m (d + 1)
 unfolding machine_after_dimension
 crossed_more n room m d {now} was is =
@@ -55,7 +56,7 @@ cycle_is n room m was is = is ∙ ap (machine_after_delivery n) was ∙ sym (aft
 
 -- ---- where no message stands
 
-stays_empty : (room d : ℕ) → 0 < room → buffer_after_dimension room d [] (outgoing room d []) ≡ []
+stays_empty : (room d : ℕ) → 0 < room → buffer_after_dimension plain_way room d [] (outgoing plain_way room d []) ≡ []
 unfolding buffer_after_dimension leaving_place
 stays_empty room d some = grind (arith, nat_tests)
 

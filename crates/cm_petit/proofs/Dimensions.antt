@@ -9,6 +9,7 @@ use Rattle.std.proofs.lemmas.Nat.{xor_block, xor_lt, pow_below, pow_pos, xor_com
 use Rattle.std.specs.List.{All}
 use Rattle.cm_model.specs.Each.{each_from}
 use Rattle.cm_model.specs.Array.{each_chip, list_at}
+use Rattle.cm_model.specs.Wiring.{plain_way}
 use Rattle.cm_model.specs.Buffers.{outgoing, buffer_after_dimension}
 use Rattle.cm_model.proofs.Each.{length-each_from, get_or-each_below, is_each}
 use Rattle.cm_model.proofs.Flips.{xor_twice, across_below}
@@ -45,12 +46,12 @@ stays_in span first i d even below inside =
 
 -- so within the run
 pub each_crossed : (room d span : ℕ) (s : Part) → d < span → s.first % 2 ^ span ≡ 0 → s.count ≡ 2 ^ span
-    → each_chip span (λ c. buffer_after_dimension room d (list_at s.buffers c)
-    (outgoing room d (list_at s.buffers (bit_xor c (2 ^ d)))))
-    ≡ each_from s.first s.count (λ c. buffer_after_dimension room d (buffer_in s c) (mail_for room d Blank s c))
+    → each_chip span (λ c. buffer_after_dimension plain_way room d (list_at s.buffers c)
+    (outgoing plain_way room d (list_at s.buffers (bit_xor c (2 ^ d)))))
+    ≡ each_from s.first s.count (λ c. buffer_after_dimension plain_way room d (buffer_in s c) (mail_for room d Blank s c))
 each_crossed room d span s below even many =
     rw (← many) (each_shifted [] s.first s.count _
-    (λ c i. buffer_after_dimension room d (list_at s.buffers i) (mail_for room d Blank s c))
+    (λ c i. buffer_after_dimension plain_way room d (list_at s.buffers i) (mail_for room d Blank s c))
     (λ i inside.
     let here : i < 2 ^ span = omega (arith, many) in
     let low : bit_xor i (2 ^ d) < 2 ^ span = xor_lt span i (2 ^ d) here (pow_below d span below) in
@@ -75,8 +76,8 @@ pub record AreCrossed (d : ℕ) (before now : List Buffer) (count : ℕ) : Type 
 -- all pairs
 pub crossed_all : (n room d : ℕ) (before now : List Buffer) → d < n → length before ≡ 2 ^ n → length now ≡ 2 ^ n
     → All (λ node. node.room ≡ room) before → AreCrossed d before now (2 ^ n)
-    → (buffers_of now ≡ each_chip n (λ c. buffer_after_dimension room d (list_at (buffers_of before) c)
-    (outgoing room d (list_at (buffers_of before) (bit_xor c (2 ^ d)))))) × All (λ node. node.room ≡ room) now
+    → (buffers_of now ≡ each_chip n (λ c. buffer_after_dimension plain_way room d (list_at (buffers_of before) c)
+    (outgoing plain_way room d (list_at (buffers_of before) (bit_xor c (2 ^ d)))))) × All (λ node. node.room ≡ room) now
 crossed_all n room d before now below long long_now rooms is =
     let read : (nodes : List Buffer) (b : ℕ) → b < length nodes
     → list_at (buffers_of nodes) b ≡ (node_at nodes b).messages =

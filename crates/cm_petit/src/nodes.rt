@@ -6,6 +6,7 @@ ghost use Rattle.std.specs.List.{All};
 ghost use Rattle.cm_model.specs.declared.act.Act.TheVariants as act;
 ghost use Rattle.cm_model.specs.Array.{each_chip, list_at};
 ghost use Rattle.cm_model.specs.Steps.{Inject, Deliver};
+ghost use Rattle.cm_model.specs.Wiring.{plain_way};
 ghost use Rattle.cm_model.specs.Buffers.{outgoing, buffer_after_dimension, after_act};
 ghost use Rattle.cm_model.specs.Keeping.{AreSizes};
 ghost use Rattle.cm_blocks.specs.Parcels.{Blank};
@@ -17,7 +18,7 @@ ghost use Rattle.cm_petit.specs.Nodes.{AreNodes, node_at, exchanged};
 
 use cm_crossing::Sizes;
 use cm_element::Run;
-use cm_message::{Event, Message};
+use cm_message::{Event, Message, Rule};
 use cm_router::Node;
 
 /// One petit cycle where each chip's messages stand in a node of its own: what `cycle` does where they stand in a
@@ -74,9 +75,9 @@ fn cross_nodes(sizes: Sizes, nodes: &mut [Node], dim: u8)
     requires dim { dim < sizes.dims }
     requires count { length nodes.old ≡ 2 ^ sizes.dims }
     requires rooms { All (λ node. node.room ≡ sizes.room) nodes.old }
-    ensures value { buffers_of nodes.new ≡ each_chip sizes.dims (λ c. buffer_after_dimension sizes.room dim
+    ensures value { buffers_of nodes.new ≡ each_chip sizes.dims (λ c. buffer_after_dimension plain_way sizes.room dim
         (list_at (buffers_of nodes.old) c)
-        (outgoing sizes.room dim (list_at (buffers_of nodes.old) (bit_xor c (2 ^ dim))))) }
+        (outgoing plain_way sizes.room dim (list_at (buffers_of nodes.old) (bit_xor c (2 ^ dim))))) }
     ensures count { length nodes.new ≡ 2 ^ sizes.dims }
     ensures rooms { All (λ node. node.room ≡ sizes.room) nodes.new }
 {
@@ -108,8 +109,8 @@ fn exchange(nodes: &mut [Node], here: usize, there: usize, dim: u8)
     ensures there { node_at nodes.new there ≡ exchanged dim (node_at nodes.old there) (node_at nodes.old here) }
     ensures others { (c : ℕ) → c ≢ here → c ≢ there → node_at nodes.new c ≡ node_at nodes.old c }
 {
-    let going = nodes[here].leave(dim);
-    let coming = nodes[there].leave(dim);
+    let going = nodes[here].leave(dim, false, Rule::First);
+    let coming = nodes[there].leave(dim, false, Rule::First);
     welcome(&mut nodes[here], coming);
     welcome(&mut nodes[there], going);
 }

@@ -5,6 +5,8 @@ ghost use Rattle.std.specs.List.{position};
 ghost use Rattle.std.specs.Option.{option_to_list};
 ghost use Rattle.cm_model.specs.Router.{has_to_cross, message_across};
 ghost use Rattle.cm_model.specs.Letters.{can_receive, is_among};
+ghost use Rattle.cm_model.specs.Wiring.{plain_way};
+ghost use Rattle.cm_model.specs.declared.rule.Rule.TheVariants.{First};
 ghost use Rattle.cm_model.specs.Buffers.{referred_place, leaving_place, outgoing, buffer_after_dimension, without};
 ghost use Rattle.cm_model.specs.OneChip.{arrived_for, is_accepted, delivered, kept};
 ghost use Rattle.cm_model.specs.declared.message.Event.TheVariants.{Injected, Delivered};
@@ -88,7 +90,7 @@ impl PlainBuffer {
     /// What the buffer sends across a dimension, with room for so many messages.
     pub(crate) fn outgoing(&self, room: usize, dim: usize) -> Option<Message>
         requires dim { dim < 16 }
-        ensures value { result ≡ outgoing room dim self.now }
+        ensures value { result ≡ outgoing plain_way room dim self.now }
     {
         let leaving = leaving_place(&self.messages, room, dim)?;
         let message = self.messages.get(leaving)?;
@@ -104,7 +106,7 @@ impl PlainBuffer {
         coming: Option<Message>,
     ) -> Result<PlainBuffer, NoMemory>
         requires dim { dim < 16 }
-        ensures value { IfOk result (λ after. after ≡ buffer_after_dimension room dim self.now coming) }
+        ensures value { IfOk result (λ after. after ≡ buffer_after_dimension plain_way room dim self.now coming) }
     {
         let mut messages = self.messages.to_vec(alloc)?;
         leave(&mut messages, room, dim);
@@ -199,7 +201,7 @@ impl PlainLog {
 /// Who leaves a buffer in a dimension goes.
 fn leave(messages: &mut Vec<Message>, room: usize, dim: usize)
     requires dim { dim < 16 }
-    ensures value { messages.new.items ≡ without messages.old.items (leaving_place room dim messages.old.items) }
+    ensures value { messages.new.items ≡ without messages.old.items (leaving_place plain_way room dim messages.old.items) }
 {
     if let Some(leaving) = leaving_place(messages, room, dim) {
         if leaving < messages.len() {
@@ -244,7 +246,7 @@ fn arrive(procs: &mut Vec<Proc>, message: &Message) -> Result<(), NoMemory>
 #[tactic(auto, unfolding(cm_model::specs::Buffers::leaving_place))]
 fn leaving_place(here: &[Message], room: usize, dim: usize) -> Option<usize>
     requires dim { dim < 16 }
-    ensures value { result ≡ leaving_place room dim here.now }
+    ensures value { result ≡ leaving_place plain_way room dim here.now }
 {
     match crossing_place(here, dim) {
         Some(place) => Some(place),
@@ -253,7 +255,7 @@ fn leaving_place(here: &[Message], room: usize, dim: usize) -> Option<usize>
 }
 
 fn referred_place(here: &[Message], room: usize) -> Option<usize>
-    ensures value { result ≡ referred_place room here.now }
+    ensures value { result ≡ referred_place First room here.now }
 {
     if here.len() == room {
         Some(here.len().saturating_sub(1))

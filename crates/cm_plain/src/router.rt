@@ -12,6 +12,7 @@ ghost use Rattle.cm_model.specs.Chip.{each_processor, processor_at, with_memory_
 ghost use Rattle.cm_model.specs.Array.{each_chip, chip_at, after_nano, list_at};
 ghost use Rattle.cm_model.specs.Letters.{can_receive, chip_after_injection, chip_after_delivery};
 ghost use Rattle.cm_model.specs.Machine.{Machine, blank_machine, run_of};
+ghost use Rattle.cm_model.specs.Wiring.{plain_way};
 ghost use Rattle.cm_model.specs.Buffers.{taken_in, sent_in, machine_after_injection, outgoing, buffer_after_dimension};
 ghost use Rattle.cm_model.specs.Buffers.{machine_after_dimension, delivered_in, machine_after_delivery};
 ghost use Rattle.cm_model.specs.OneChip.{kept};
@@ -341,8 +342,8 @@ impl<const N: usize, const CAP: usize> PlainRouter<N, CAP> {
         dim: usize,
     ) -> Result<Vec<PlainBuffer>, NoMemory>
         requires dim { dim < N }
-        ensures value { IfOk result (λ buffers. buffers.items ≡ each_chip N (λ c. buffer_after_dimension CAP dim
-            (list_at self.now.buffers c) (outgoing CAP dim (list_at self.now.buffers (bit_xor c (2 ^ dim)))))) }
+        ensures value { IfOk result (λ buffers. buffers.items ≡ each_chip N (λ c. buffer_after_dimension plain_way CAP dim
+            (list_at self.now.buffers c) (outgoing plain_way CAP dim (list_at self.now.buffers (bit_xor c (2 ^ dim)))))) }
     {
         let _ = &self.logs;
         let mut buffers = Vec::new(alloc);
@@ -462,7 +463,7 @@ impl<const N: usize, const CAP: usize> PlainRouter<N, CAP> {
         requires dimension { N ≤ 12 }
         requires chip { chip < 2 ^ N }
         requires dim { dim < N }
-        ensures value { result ≡ outgoing CAP dim (list_at self.now.buffers (bit_xor chip (2 ^ dim))) }
+        ensures value { result ≡ outgoing plain_way CAP dim (list_at self.now.buffers (bit_xor chip (2 ^ dim))) }
     {
         let other = Self::across(chip, dim);
         self.buffer_of(other).outgoing(CAP, dim)

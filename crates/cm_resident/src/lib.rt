@@ -9,6 +9,7 @@ mod start;
 mod teams;
 mod turn;
 mod worker;
+mod worth;
 
 pub use resident::Resident;
 pub use teams::team;

@@ -13,10 +13,11 @@ ghost use Rattle.cm_workers.specs.Forks.{fork_fault, most_blocks, most_workers, 
 use crate::gathering::{in_order, room_for};
 use crate::running::{line_up, work_all};
 use crate::teams::team;
-use cm_array::{Machine, RunFault, Runner, check_stretch};
+use crate::worth::is_soon_done;
+use cm_array::{Machine, Plain, RunFault, Runner, check_stretch};
 use cm_bits::NoMemory;
 use cm_model::Act;
-use cm_subcube::join;
+use cm_subcube::{join, rounds};
 use cm_workers::{ForkFault, Gate, Passage, Want};
 use std::alloc::Global;
 use std::sync::Wait;
@@ -120,7 +121,7 @@ impl<'a, const N: usize, const CAP: usize, R: Threads + Wait + Sync> Runner<N, C
             → (w : ℕ) → w < most_workers N self.old.k self.old.workers → admits (gate.vtable, gate.value) w) }
         ensures err { OnErr result (machine.new.machine ≡ machine.old.machine) }
     {
-        check_stretch(acts, machine.clock())?;
+        let cycles = check_stretch(acts, machine.clock())?;
         if acts.is_empty() {
             return Ok(());
         }
@@ -133,6 +134,7 @@ impl<'a, const N: usize, const CAP: usize, R: Threads + Wait + Sync> Runner<N, C
             &self.passage,
             machine,
             acts,
+            cycles,
         );
         if let Err(Want::Thread) = done {
             self.threads_lacked = self.threads_lacked.wrapping_add(1);
@@ -159,8 +161,56 @@ fn told(done: Result<(), Want>) -> Result<(), RunFault>
     }
 }
 
-/// A machine goes through a run by its blocks, or stays as it was.
+/// A machine goes through a run, or stays as it was. The acts have so many petit cycles.
 fn run<const N: usize, const CAP: usize, R: Threads + Wait + Sync>(
+    rt: &R,
+    alloc: Global,
+    k: u8,
+    workers: u16,
+    passage: &Passage,
+    machine: &mut Machine<N, CAP>,
+    acts: &[Act],
+    cycles: usize,
+) -> Result<(), Want>
+    requires within { k ≤ N - N / 2 }
+    requires some { 0 < workers }
+    requires enough { workers ≤ 2 ^ k }
+    requires few { workers ≤ 64 }
+    requires long { IsFalse (is_long acts.now) }
+    requires clock { IsFalse (is_late machine.old.machine.clock acts.now) }
+    ensures ok { OnOk result (machine.new.machine ≡ run_of N CAP machine.old.machine acts.now) }
+    ensures account { OnOk result (SameLines (account N machine.new.machine)
+        (account N machine.old.machine ++ newly_injected N machine.old.machine machine.new.machine)) }
+    ensures admitted { IfOk result (λ _. (gate : _) → passage.now ≡ Passage.Gated gate
+        → (w : ℕ) → w < workers → admits (gate.vtable, gate.value) w) }
+    ensures err { OnErr result (machine.new.machine ≡ machine.old.machine) }
+{
+    admit_all(passage, workers)?;
+    let rounds = rounds(alloc, machine.dims(), acts, k)?;
+    if is_soon_done(passage, machine, acts, rounds.len(), cycles) {
+        return run_alone(machine, acts);
+    }
+    share_out(rt, alloc, k, workers, passage, machine, acts)
+}
+
+/// A machine goes through a run in the thread of the caller.
+fn run_alone<const N: usize, const CAP: usize>(
+    machine: &mut Machine<N, CAP>,
+    acts: &[Act],
+) -> Result<(), Want>
+    ensures ok { OnOk result (machine.new.machine ≡ run_of N CAP machine.old.machine acts.now) }
+    ensures account { OnOk result (SameLines (account N machine.new.machine)
+        (account N machine.old.machine ++ newly_injected N machine.old.machine machine.new.machine)) }
+    ensures err { OnErr result (machine.new.machine ≡ machine.old.machine) }
+{
+    match Plain.go(machine, acts) {
+        Ok(()) => Ok(()),
+        Err(_fault) => Err(Want::Memory),
+    }
+}
+
+/// A machine goes through a run by its blocks, or stays as it was.
+fn share_out<const N: usize, const CAP: usize, R: Threads + Wait + Sync>(
     rt: &R,
     alloc: Global,
     k: u8,
@@ -178,12 +228,9 @@ fn run<const N: usize, const CAP: usize, R: Threads + Wait + Sync>(
     ensures ok { OnOk result (machine.new.machine ≡ run_of N CAP machine.old.machine acts.now) }
     ensures account { OnOk result (SameLines (account N machine.new.machine)
         (account N machine.old.machine ++ newly_injected N machine.old.machine machine.new.machine)) }
-    ensures admitted { IfOk result (λ _. (gate : _) → passage.now ≡ Passage.Gated gate
-        → (w : ℕ) → w < workers → admits (gate.vtable, gate.value) w) }
     ensures err { OnErr result (machine.new.machine ≡ machine.old.machine) }
 {
     let _clock = machine.clock();
-    admit_all(passage, workers)?;
     let team = team(alloc, machine, acts, k, workers)?;
     let all = line_up(alloc, team)?;
     let room = room_for(alloc, 1 << k)?;

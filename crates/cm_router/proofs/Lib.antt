@@ -1,3 +1,5 @@
 pub mod Delivering
 pub mod Taking
 pub mod Rooms
+pub mod Oldest
+pub mod Cutting

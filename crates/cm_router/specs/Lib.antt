@@ -1,3 +1,5 @@
 pub mod Buffer
 pub mod Idle
 pub mod Logs
+pub mod Places
+pub mod Cuts

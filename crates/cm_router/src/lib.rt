@@ -1,11 +1,13 @@
 //! One chip's node of the router.
 #![tactic(auto)]
 
+mod cuts;
 mod delivery;
 mod letters;
 mod node;
 
-pub use cm_message::{Event, Message, Tag};
+pub use cm_message::{Event, Message, Rule, Tag};
+pub use cuts::Cuts;
 pub use delivery::{begin, hand_over, pass_over, who_has_not_arrived_is_kept};
 pub use letters::{acknowledge, asking, chip_asks, is_idle, may_ask, message_sent, take_none};
 pub use node::Node;

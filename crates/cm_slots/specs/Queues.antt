@@ -4,6 +4,7 @@ use Rattle.std.specs.List.{position}
 use Rattle.std.specs.Option.{option_or, option_to_list}
 use Rattle.cm_model.specs.declared.message.Message.{Message}
 use Rattle.cm_model.specs.Router.{has_to_cross}
+use Rattle.cm_model.specs.Wiring.{plain_way}
 use Rattle.cm_model.specs.Buffers.{leaving_place, element_at, without}
 
 -- the place of the last, where there are as many as there is room for, else none
@@ -29,4 +30,4 @@ after_exchange has_to_go room xs coming = stayers_of has_to_go room xs ++ option
 -- of a queue of messages that leaves which leaves a buffer
 abbrev pub LeaversAreThoseOfBuffers : Type 0
 LeaversAreThoseOfBuffers =
-    (cap d : ℕ) (ms : List Message) → place_of_leaver (has_to_cross d) cap ms ≡ leaving_place cap d ms
+    (cap d : ℕ) (ms : List Message) → place_of_leaver (has_to_cross d) cap ms ≡ leaving_place plain_way cap d ms

@@ -1,6 +1,7 @@
 use Rattle.std.proofs.Common.{rules, ◌≡◌, ◌++◌, List, ap, ◌∙◌}
 use Rattle.std.specs.Option.{option_to_list}
 use Rattle.cm_model.specs.declared.message.Message.{Message}
+use Rattle.cm_model.specs.Wiring.{plain_way}
 use Rattle.cm_model.specs.Buffers.{leaving_place, without, buffer_after_dimension}
 use Rattle.cm_plain.proofs.buffer.PlainBuffer.after_dimension.Goals as goal
 
@@ -12,5 +13,5 @@ returns c =
     record {
       value = c.in_ok-come.ensures.ok
           ∙ ap (λ (ms : List Message). ms ++ option_to_list c.args.coming) (c.leave.ensures.value
-          ∙ ap (λ (ms : List Message). without ms (leaving_place c.args.room c.args.dim ms)) copy_is);
+          ∙ ap (λ (ms : List Message). without ms (leaving_place plain_way c.args.room c.args.dim ms)) copy_is);
     }

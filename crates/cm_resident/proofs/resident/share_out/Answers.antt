@@ -7,7 +7,7 @@ use Rattle.cm_resident.specs.Lanes.{Run}
 use Rattle.cm_resident.specs.Teams.{IsOfSome}
 use Rattle.cm_resident.proofs.Ending.{shares_left, after_all, parts_after, whole_after}
 use Rattle.cm_resident.proofs.Ending.{joined_after, account_after}
-use Rattle.cm_resident.proofs.resident.run.Goals as goal
+use Rattle.cm_resident.proofs.resident.share_out.Goals as goal
 
 pub work_all-requires-clause-team : goal.work_all-requires-clause-team
 work_all-requires-clause-team g c =

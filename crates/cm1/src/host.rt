@@ -1,0 +1,65 @@
+//! What lies outside of the program, by its runtime: the words of the command line, files, and the way on which
+//! standard output goes out.
+
+use crate::parts::{Part, make_ready};
+use cm_bits::{Failed, Sink, Std};
+use cm_cli::{LineFault, Outside, PutFault};
+use std::alloc::Global;
+use std::io::{ErrorKind, Write};
+use std::rt::{Env, Files};
+use std::{env, fs, io};
+
+/// What lies outside, as the runtime has it.
+#[derive(Drop)]
+pub struct Host<'a, R> {
+    rt: &'a R,
+}
+
+impl<'a, R> Host<'a, R> {
+    pub fn new(rt: &'a R) -> Host<'a, R> {
+        Host { rt }
+    }
+}
+
+impl<'a, R: Env + Files + Print + AllocGlobal> Outside for Host<'a, R> {
+    type File = Std<R::File>;
+
+    type Part = Part<R::File>;
+
+    // No contract tells what a runtime does: each call is trusted to do what it is named for.
+    ghost does = { λ before deed after. Unit {0} };
+
+    fn words(&mut self, alloc: Global) -> Result<Vec<String>, LineFault> {
+        match env::args(self.rt) {
+            Ok(words) => Ok(words.collect(alloc)?),
+            Err(error) if error.kind() == ErrorKind::OutOfMemory => Err(LineFault::Memory),
+            Err(_) => Err(LineFault::BadLine),
+        }
+    }
+
+    fn open(&mut self, path: &str) -> Result<Self::File, Failed> {
+        match fs::open(self.rt, path) {
+            Ok(file) => Ok(Std::new(file)),
+            Err(_) => Err(Failed),
+        }
+    }
+
+    fn ready(&mut self, alloc: Global, path: &str) -> Result<Self::Part, PutFault> {
+        make_ready(self.rt, alloc, path)
+    }
+
+    fn flush<O: Sink>(&mut self, _out: &O) -> Result<(), Failed> {
+        match io::writer(self.rt).flush() {
+            Ok(()) => Ok(()),
+            Err(_) => Err(Failed),
+        }
+    }
+
+    fn fill(&mut self, part: Self::Part, bytes: &[u8]) -> Result<(), PutFault> {
+        part.fill(self.rt, bytes)
+    }
+
+    fn let_go(&mut self, part: Self::Part) {
+        part.let_go(self.rt);
+    }
+}

@@ -1,0 +1,160 @@
+//! Files that are put where the user wants them: each is made ready, and then filled or let go.
+
+use cm_bits::{Std, write_all};
+use cm_cli::PutFault;
+use std::alloc::Global;
+use std::fs::{File, OpenFile, Permissions};
+use std::io::ErrorKind;
+use std::rt::Files;
+use std::{fs, io};
+
+/// How many names are tried for a file beside another.
+const MOST_NAMES: u32 = 100;
+
+/// A file that was made ready.
+#[derive(Drop)]
+pub enum Part<F> {
+    Beside(NewFile<F>),
+    /// What is no plain file is written where it stands.
+    InPlace { path: String },
+}
+
+/// A new file beside the one whose place it is to take, under a name that no other had.
+#[derive(Drop)]
+pub struct NewFile<F> {
+    name: String,
+    path: String,
+    file: F,
+}
+
+/// Makes a file ready that is to stand where the path says. In place of a plain file, which a link may lead to, it is to
+/// come whole or not at all, with that file's permissions; a file that nobody may write stays, and so does a folder.
+/// What is no plain file, as a terminal, is to be written where it stands: it is not opened before, since that may
+/// empty it, or wait for somebody who reads.
+pub fn make_ready<R: Files + AllocGlobal>(
+    rt: &R,
+    alloc: Global,
+    path: &str,
+) -> Result<Part<R::File>, PutFault> {
+    if path.is_empty() {
+        return Err(PutFault::Write);
+    }
+    let Ok(found) = fs::metadata(rt, path) else {
+        return match fs::symlink_metadata(rt, path) {
+            Ok(_) => in_place(alloc, path),
+            Err(_) => beside(rt, alloc, path, None),
+        };
+    };
+    if found.is_dir() {
+        return Err(PutFault::Write);
+    }
+    if !found.is_file() {
+        return in_place(alloc, path);
+    }
+    let permissions = found.permissions();
+    if permissions.readonly() {
+        return Err(PutFault::Write);
+    }
+    match fs::canonicalize(rt, path) {
+        Ok(path) => beside(rt, alloc, path.as_str(), Some(permissions)),
+        Err(_) => Err(PutFault::Write),
+    }
+}
+
+/// What stands at the path, to be written there.
+fn in_place<F>(alloc: Global, path: &str) -> Result<Part<F>, PutFault> {
+    Ok(Part::InPlace {
+        path: text(alloc, path)?,
+    })
+}
+
+/// A new file beside that of this path, with these permissions, if any are told.
+fn beside<R: Files>(
+    rt: &R,
+    alloc: Global,
+    path: &str,
+    permissions: Option<Permissions>,
+) -> Result<Part<R::File>, PutFault> {
+    let new = create_beside(rt, alloc, path)?;
+    if let Some(permissions) = permissions {
+        if new.file.set_permissions(permissions).is_err() {
+            new.remove(rt);
+            return Err(PutFault::Write);
+        }
+    }
+    Ok(Part::Beside(new))
+}
+
+/// A new file beside that of this path, named as it with `.part` behind, or with `.part1`, `.part2` and so on.
+fn create_beside<R: Files>(
+    rt: &R,
+    alloc: Global,
+    path: &str,
+) -> Result<NewFile<R::File>, PutFault> {
+    let path = text(alloc, path)?;
+    for count in 0..MOST_NAMES {
+        let name = match count {
+            0 => format!(in alloc; "{path}.part"),
+            _ => format!(in alloc; "{path}.part{count}"),
+        };
+        let Ok(name) = name else {
+            return Err(PutFault::Memory);
+        };
+        match File::create_new(rt, name.as_str()) {
+            Ok(file) => return Ok(NewFile { name, path, file }),
+            Err(error) if error.kind() == ErrorKind::AlreadyExists => {}
+            Err(_) => break,
+        }
+    }
+    Err(PutFault::Write)
+}
+
+fn text(alloc: Global, path: &str) -> Result<String, PutFault> {
+    match String::from_str(alloc, path) {
+        Ok(text) => Ok(text),
+        Err(_) => Err(PutFault::Memory),
+    }
+}
+
+impl<F: io::Write + Drop> Part<F> {
+    /// Puts these bytes where the file was wanted.
+    pub fn fill<R: Files>(self, rt: &R, bytes: &[u8]) -> Result<(), PutFault> {
+        match self {
+            Part::Beside(new) => new.fill(rt, bytes),
+            Part::InPlace { path } => match fs::create(rt, path.as_str()) {
+                Ok(mut file) => write_bytes(&mut file, bytes),
+                Err(_) => Err(PutFault::Write),
+            },
+        }
+    }
+
+    /// Takes a new file away; what stands where it was wanted is as it was.
+    pub fn let_go<R: Files>(self, rt: &R) {
+        if let Part::Beside(new) = self {
+            new.remove(rt);
+        }
+    }
+}
+
+impl<F: io::Write + Drop> NewFile<F> {
+    /// Gives it its bytes and then its place, or takes it away.
+    fn fill<R: Files>(mut self, rt: &R, bytes: &[u8]) -> Result<(), PutFault> {
+        let written = write_bytes(&mut self.file, bytes);
+        if written.is_ok() && fs::rename(rt, self.name.as_str(), self.path.as_str()).is_ok() {
+            return Ok(());
+        }
+        self.remove(rt);
+        Err(PutFault::Write)
+    }
+
+    fn remove<R: Files>(self, rt: &R) {
+        let _ = fs::remove_file(rt, self.name.as_str());
+    }
+}
+
+fn write_bytes<W: io::Write>(writer: &mut W, bytes: &[u8]) -> Result<(), PutFault> {
+    match write_all(&mut Std::new(writer), bytes) {
+        Ok(()) => Ok(()),
+        Err(_) => Err(PutFault::Write),
+    }
+}

@@ -1,0 +1,126 @@
+//! The program's own sharing: all workers that it is told to have meet in each round.
+
+ghost use Rattle.std.specs.Thread.{IsSync};
+
+use crate::meeting::{Cut, Meeting, Notes, Waits, no_notes};
+use cm_bits::doubles::{Bytes, Room};
+use cm_cli::{Sharing, fresh, open_run, run_alone, run_shared};
+use cm_workers::Passage;
+use std::alloc::Global;
+use std::sync::{Arc, Wait};
+use std::test::Fail;
+use std::thread::Threads;
+
+/// All processors send to the chip across all of four dimensions, and across all of twelve.
+const OVER_FOUR: &[u8] = b"field rel 3968 16\nconst rel 15\nset 12\ncycle\n";
+
+const OVER_TWELVE: &[u8] = b"field rel 3968 16\nconst rel 4095\nset 12\ncycle\n";
+
+const ASKS: &[u8] = b"run\n";
+
+/// A session on a machine of 2^n chips that is shared out.
+struct Shared {
+    n: u8,
+    text: &'static [u8],
+    sharing: Sharing,
+    cut: Cut,
+    /// How often its workers come to a round.
+    came: u64,
+}
+
+static SHARED: [Shared; 2] = [
+    Shared {
+        n: 4,
+        text: OVER_FOUR,
+        sharing: Sharing {
+            split: 2,
+            workers: 4,
+        },
+        cut: Cut {
+            blocks: 4,
+            chips: 4,
+        },
+        came: 8,
+    },
+    Shared {
+        n: 12,
+        text: OVER_TWELVE,
+        sharing: Sharing {
+            split: 6,
+            workers: 64,
+        },
+        cut: Cut {
+            blocks: 64,
+            chips: 64,
+        },
+        came: 384,
+    },
+];
+
+/// The image that one worker leaves.
+fn left_alone(alloc: Global, row: &Shared) -> Option<Vec<u8>> {
+    let mut commands = Bytes::new(ASKS, 7);
+    let mut answers = Room::new(alloc, 100, 10).ok()?;
+    let image = fresh(alloc, row.n, 7).ok()?;
+    let text = row.text.to_vec(alloc).ok()?;
+    let (machine, program) = open_run(alloc, image, Ok(text), row.sharing).ok()?;
+    run_alone(alloc, machine, &program, &mut commands, &mut answers, true).ok()?
+}
+
+/// The image that several leave, who wait for one another.
+fn left_shared<R: Threads + Wait + Sync>(
+    rt: &R,
+    alloc: Global,
+    row: &Shared,
+    notes: &Arc<Notes, Global>,
+) -> Option<Vec<u8>>
+    requires threads { IsSync R.row }
+{
+    let workers = u16::from(row.sharing.workers);
+    let gate = Meeting {
+        waits: Waits::ForAll(workers),
+        workers,
+        cut: row.cut,
+        notes: Arc::try_clone(notes).ok()?,
+    };
+    let passage = Passage::Gated(Box::new(alloc, gate).ok()?);
+    let mut commands = Bytes::new(ASKS, 7);
+    let mut answers = Room::new(alloc, 100, 10).ok()?;
+    let image = fresh(alloc, row.n, 7).ok()?;
+    let text = row.text.to_vec(alloc).ok()?;
+    let (machine, program) = open_run(alloc, image, Ok(text), row.sharing).ok()?;
+    run_shared(
+        rt,
+        alloc,
+        machine,
+        &program,
+        row.sharing,
+        passage,
+        &mut commands,
+        &mut answers,
+        true,
+    )
+    .ok()?
+}
+
+/// What all noted, and whether the machine is as one worker leaves it.
+fn told<R: Threads + Wait + Sync>(
+    rt: &R,
+    alloc: Global,
+    row: &Shared,
+) -> Result<([u64; 3], bool), Fail>
+    requires threads { IsSync R.row }
+{
+    let notes = no_notes(alloc)?;
+    let shared = left_shared(rt, alloc, row, &notes);
+    let alone = left_alone(alloc, row);
+    Ok((notes.told(), shared.is_some() && shared == alone))
+}
+
+#[test]
+fn all_workers_of_the_program_meet_in_each_round(rt: HostRuntime) -> Result<(), Fail> {
+    for row in &SHARED {
+        assert_eq!(rt; told(&rt, rt.alloc(), row)?, ([row.came, 0, 0], true));
+    }
+    Ok(())
+}
