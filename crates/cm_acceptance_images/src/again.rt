@@ -4,9 +4,9 @@ ghost use Rattle.std.specs.Prelude.{◌≡◌, ◌<◌, ◌^◌, IfOk, IsOkUnles
 ghost use Rattle.cm_image_format.specs.Laws.{without_logs};
 
 use crate::drawn::asking;
-use crate::draws::Draws;
 use cm_array::{Machine, Plain, Runner};
 use cm_bits::{Addr, Dir, FlagNo};
+use cm_draws::{Draws, have_same_bits, have_same_messages};
 use cm_image::{ImageFault, dump, load};
 use cm_model::{Act, Nano};
 use std::alloc::Global;
@@ -50,38 +50,6 @@ fn acts(alloc: Global) -> Option<Vec<Act>> {
         Act::Cycle,
     ];
     Vec::from_slice(alloc, acts.as_slice()).ok()
-}
-
-/// Whether two machines of so many chips are the same, but for their events.
-fn are_same<const N: usize, const CAP: usize>(
-    left: &Machine<N, CAP>,
-    right: &Machine<N, CAP>,
-    chips: u16,
-) -> bool
-    requires cube { chips ≡ 2 ^ N }
-{
-    for c in 0..chips {
-        for number in 0..16u8 {
-            let Some(number) = FlagNo::new(number) else {
-                return false;
-            };
-            if left.chip(c).flag_plane(number) != right.chip(c).flag_plane(number) {
-                return false;
-            }
-        }
-        for at in 0..4096u16 {
-            let Some(at) = Addr::new(at) else {
-                return false;
-            };
-            if left.chip(c).plane(at) != right.chip(c).plane(at) {
-                return false;
-            }
-        }
-        if left.buffer(c) != right.buffer(c) {
-            return false;
-        }
-    }
-    left.clock() == right.clock()
 }
 
 /// Whether so many chips have messages, and whether they have events.
@@ -149,10 +117,12 @@ impl<const N: usize, const CAP: usize> Both<N, CAP> {
             && messages_and_events(&self.again, chips) == (true, false)
     }
 
+    /// But for their events.
     fn are_same(&self, chips: u16) -> bool
         requires cube { chips ≡ 2 ^ N }
     {
-        are_same(&self.machine, &self.again, chips)
+        have_same_bits(&self.machine, &self.again, chips)
+            && have_same_messages(&self.machine, &self.again, chips)
     }
 
     fn have_same_bytes(&self, alloc: Global) -> bool {

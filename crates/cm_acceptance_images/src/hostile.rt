@@ -3,10 +3,9 @@
 ghost use Rattle.std.specs.Prelude.{◌≡◌, ◌≤◌, ◌^◌};
 
 use crate::drawn::few;
-use crate::draws::Draws;
-use crate::parts::goes_so;
 use crate::reader::Reader;
 use crate::texts::{ONE_CHIP, changed};
+use cm_draws::Draws;
 use cm_image::{ImageFault, dump, load};
 use std::alloc::Global;
 use std::test::Fail;
@@ -21,6 +20,18 @@ static TWO_CHIPS: [u8; 122] = [
 
 /// One message, of bytes that are all 0.
 static ONE_MESSAGE: [u8; 19] = [1, 0, 0, 0, 0, 0, 0, 0, 0, 0, 0, 0, 0, 0, 0, 0, 0, 0, 0];
+
+/// Whether bytes are refused with this fault, or, where it is none, are read and written back.
+fn goes_so<const N: usize, const CAP: usize>(
+    alloc: Global,
+    bytes: &[u8],
+    fault: Option<ImageFault>,
+) -> Result<bool, Fail> {
+    match load::<N, CAP>(alloc, bytes) {
+        Ok(machine) => Ok(fault.is_none() && dump(alloc, &machine)?.as_slice() == bytes),
+        Err(found) => Ok(fault == Some(found)),
+    }
+}
 
 /// How many bytes of the two chips are not refused as Short when they stand alone.
 fn first_not_short(alloc: Global) -> Result<usize, Fail> {
@@ -142,16 +153,5 @@ fn drawn_images_and_a_thousand_damages_go_as_by_a_plain_reader(
         all_go_so::<5, 1>(alloc, 32, 20)?,
     ];
     assert_eq!(rt; sizes, [50, 20, 20]);
-    Ok(())
-}
-
-#[test]
-fn a_large_dimension_wants_more_bytes(rt: HostRuntime) -> Result<(), Fail> {
-    let bytes = changed(rt.alloc(), &ONE_CHIP, 5, 1, &[12])?;
-    assert_eq!(rt; cm_image::shape(&bytes), Ok((12, 7)));
-    assert_eq!(rt;
-        load::<12, 7>(rt.alloc(), &bytes).err(),
-        Some(ImageFault::Short)
-    );
     Ok(())
 }

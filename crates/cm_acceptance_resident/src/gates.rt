@@ -147,7 +147,11 @@ fn a_worker_that_is_not_admitted_leaves_the_machine_as_it_was_and_may_be_admitte
             ((Some(RunFault::NoThread), true), (first, 0)),
             ((None, true), (second, 8)),
         ];
-        assert_eq!(rt; told(&rt, rt.alloc(), refused), Some(wanted), "worker {refused}");
+        assert_eq!(rt;
+            told(&rt, rt.alloc(), refused),
+            Some(wanted),
+            "worker {refused}"
+        );
     }
     Ok(())
 }

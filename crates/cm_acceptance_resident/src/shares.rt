@@ -42,8 +42,7 @@ impl Gate for Anyone {
     fn pass(&self, _worker: u16, _round: u32, _blocks: &[Block])
         requires gathered { All (λ b. IsTrue b.kept.gathered) _blocks.now }
         requires own { ComesBy _worker _round _blocks.now }
-    {
-    }
+    {}
 }
 
 /// A machine goes through the acts by workers.

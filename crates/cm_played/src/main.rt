@@ -1,6 +1,7 @@
 //! Plays the scenes of a text on standard input, and tells what came of each.
 #![tactic(auto)]
 
+mod images;
 mod playing;
 mod refusing;
 mod scene;

@@ -3,6 +3,7 @@
 ghost use Rattle.std.specs.Prelude.{◌≡◌, false};
 ghost use Rattle.cm_bits.specs.Doubles.{room_has_failed};
 
+use crate::images::{tell_image, tell_loaded};
 use crate::refusing::Refusing;
 use crate::scene::Scene;
 use cm_array::{Builder, Machine};
@@ -10,6 +11,7 @@ use cm_asm::{Program, assemble};
 use cm_bits::doubles::{Bytes, Room};
 use cm_bits::read_number;
 use cm_debug::{SessionFault, read_command, session};
+use cm_image::load;
 use std::alloc::{AllocError, Global};
 
 /// Tells a line.
@@ -57,22 +59,48 @@ fn number(word: Option<&[u8]>) -> usize {
     }
 }
 
+/// What is done with a machine of a scene's size.
+#[derive(Clone, Copy)]
+pub(crate) enum Turn {
+    /// It answers the scene's commands.
+    Session,
+    /// It is read from the scene's image.
+    Image,
+}
+
 /// Plays a scene on a machine of its size.
-pub(crate) fn play(alloc: Global, scene: &Scene, told: &mut Vec<u8>) -> Result<(), AllocError> {
+pub(crate) fn play(
+    alloc: Global,
+    turn: Turn,
+    scene: &Scene,
+    told: &mut Vec<u8>,
+) -> Result<(), AllocError> {
     match (scene.dimensions, scene.room) {
-        (0, 7) => play_on::<0, 7>(alloc, scene, told),
-        (1, 1) => play_on::<1, 1>(alloc, scene, told),
-        (2, 1) => play_on::<2, 1>(alloc, scene, told),
-        (2, 2) => play_on::<2, 2>(alloc, scene, told),
-        (2, 7) => play_on::<2, 7>(alloc, scene, told),
-        (4, 1) => play_on::<4, 1>(alloc, scene, told),
-        (4, 7) => play_on::<4, 7>(alloc, scene, told),
-        (12, 7) => play_on::<12, 7>(alloc, scene, told),
+        (0, 7) => play_on::<0, 7>(alloc, turn, scene, told),
+        (1, 1) => play_on::<1, 1>(alloc, turn, scene, told),
+        (2, 1) => play_on::<2, 1>(alloc, turn, scene, told),
+        (2, 2) => play_on::<2, 2>(alloc, turn, scene, told),
+        (2, 7) => play_on::<2, 7>(alloc, turn, scene, told),
+        (4, 1) => play_on::<4, 1>(alloc, turn, scene, told),
+        (4, 7) => play_on::<4, 7>(alloc, turn, scene, told),
+        (12, 7) => play_on::<12, 7>(alloc, turn, scene, told),
         _ => tell(told, b"no such machine"),
     }
 }
 
 fn play_on<const N: usize, const CAP: usize>(
+    alloc: Global,
+    turn: Turn,
+    scene: &Scene,
+    told: &mut Vec<u8>,
+) -> Result<(), AllocError> {
+    match turn {
+        Turn::Session => play_session::<N, CAP>(alloc, scene, told),
+        Turn::Image => tell_loaded::<N, CAP>(alloc, scene.image.as_slice(), told),
+    }
+}
+
+fn play_session<const N: usize, const CAP: usize>(
     alloc: Global,
     scene: &Scene,
     told: &mut Vec<u8>,
@@ -80,8 +108,8 @@ fn play_on<const N: usize, const CAP: usize>(
     let Ok(program) = assemble(alloc, scene.program.as_slice()) else {
         return tell(told, b"the program is refused");
     };
-    match blank_trial(alloc, scene.clock) {
-        Some(mut trial) => answer::<N, CAP>(alloc, &mut trial, &program, scene, told),
+    match first_trial(alloc, scene) {
+        Some(mut trial) => go_through::<N, CAP>(alloc, &mut trial, &program, scene, told),
         None => tell(told, b"no machine"),
     }
 }
@@ -92,6 +120,18 @@ struct Trial<const N: usize, const CAP: usize> {
     machine: Machine<N, CAP>,
 }
 
+/// The machine of the scene's image, or where it has none a blank one.
+fn first_trial<const N: usize, const CAP: usize>(
+    alloc: Global,
+    scene: &Scene,
+) -> Option<Trial<N, CAP>> {
+    if scene.image.is_empty() {
+        return blank_trial(alloc, scene.clock);
+    }
+    let machine = load::<N, CAP>(alloc, scene.image.as_slice()).ok()?;
+    Some(Trial { machine })
+}
+
 /// A blank machine after so many petit cycles.
 fn blank_trial<const N: usize, const CAP: usize>(
     alloc: Global,
@@ -100,6 +140,21 @@ fn blank_trial<const N: usize, const CAP: usize>(
     let builder = Builder::<N, CAP>::start(alloc, clock.min(u64::MAX >> 1)).ok()?;
     let machine = builder.done().ok()?;
     Some(Trial { machine })
+}
+
+/// Tells what comes of the scene's commands, and the image that is left if it is asked for.
+fn go_through<const N: usize, const CAP: usize>(
+    alloc: Global,
+    trial: &mut Trial<N, CAP>,
+    program: &Program,
+    scene: &Scene,
+    told: &mut Vec<u8>,
+) -> Result<(), AllocError> {
+    answer(alloc, trial, program, scene, told)?;
+    if scene.tells_image {
+        return tell_image(alloc, &trial.machine, told);
+    }
+    Ok(())
 }
 
 /// Tells the answers to the scene's commands, and how the session ended.

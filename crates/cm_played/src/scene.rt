@@ -1,12 +1,13 @@
 //! Scenes as a text tells them, line by line.
 
-use crate::playing::{count, listing, play, read_alone, tell};
+use crate::images::{add_bytes, tell_blank, tell_shape};
+use crate::playing::{Turn, count, listing, play, read_alone, tell};
 use crate::refusing::Lack;
 use crate::whole::{What, tell_each, tell_end, tell_line};
 use cm_bits::{Lines, Words, read_number};
 use std::alloc::{AllocError, Global};
 
-/// A machine, a program, commands, and where reading, writing and the runner fail.
+/// A machine or its image, a program, commands, and where reading, writing and the runner fail.
 #[derive(Drop)]
 pub(crate) struct Scene {
     /// The cube's dimensions, and how many messages a router holds.
@@ -14,9 +15,13 @@ pub(crate) struct Scene {
     pub(crate) room: u64,
     /// The petit cycles that the machine has run.
     pub(crate) clock: u64,
+    /// The bytes that the machine is read from; none where it is blank.
+    pub(crate) image: Vec<u8>,
+    /// The image that a session leaves is told.
+    pub(crate) tells_image: bool,
     pub(crate) program: Vec<u8>,
     pub(crate) commands: Vec<u8>,
-    /// How often the next line of the program or of commands stands there.
+    /// How often the next line of the image, the program or of commands stands there.
     times: u64,
     /// How many bytes are read at once, after how many reading fails, and for how many that are written there is room.
     pub(crate) piece: u64,
@@ -36,6 +41,8 @@ impl Scene {
             dimensions: 0,
             room: 7,
             clock: 0,
+            image: Vec::new(alloc),
+            tells_image: false,
             program: Vec::new(alloc),
             commands: Vec::new(alloc),
             times: 1,
@@ -48,11 +55,12 @@ impl Scene {
         }
     }
 
-    /// Takes a line of the program or of commands.
-    fn take(&mut self, mark: u8, line: &[u8]) -> Result<(), AllocError> {
+    /// Takes a line of the image, the program or of commands.
+    fn take(&mut self, alloc: Global, mark: u8, line: &[u8]) -> Result<(), AllocError> {
         let times = self.times;
         self.times = 1;
         match mark {
+            b':' => add_bytes(alloc, &mut self.image, line, times),
             b'<' => add(&mut self.program, line, b"\n", times),
             b'-' => add(&mut self.program, line, b"", times),
             b'>' => add(&mut self.commands, line, b"\n", times),
@@ -78,6 +86,8 @@ impl Scene {
             self.room = number;
         } else if name == b"clock".as_slice() {
             self.clock = number;
+        } else if name == b"image".as_slice() {
+            self.tells_image = number > 0;
         } else if name == b"piece".as_slice() {
             self.piece = number;
         } else if name == b"read".as_slice() {
@@ -115,12 +125,15 @@ pub(crate) fn perform(alloc: Global, lines: Lines, told: &mut Vec<u8>) -> Result
 
 /// Does what a line says, by its first character:
 /// `#` a title, which is told again: a scene begins;
-/// `=` words of the scene (`dimensions`, `room`, `clock`, `piece`, `read`, `written`, `nothing`, `memory`, `thread`),
-/// each with its number;
+/// `=` words of the scene (`dimensions`, `room`, `clock`, `image`, `piece`, `read`, `written`, `nothing`, `memory`,
+/// `thread`), each with its number;
+/// `:` bytes of an image, each as two digits;
 /// `<` a line of the program, `-` one without its end;
 /// `>` a line of commands, `+` one without its end;
-/// `*` how often the next of these four stands there;
+/// `*` how often the next of these five stands there;
 /// `!` the commands are answered;
+/// `&` what the image is the image of is told, and its fault, or the bytes of its machine;
+/// `/` dimensions and room of a blank machine, whose bytes are told;
 /// `@` the number of the program's acts, or its first fault, is told, and `%` its listing;
 /// `?` dimensions of a cube, acts of a program, and a line of commands, which is read alone;
 /// `~` the program goes from bytes to bytes: `chip`, `list`, or a refusal's number is told, with its line;
@@ -145,16 +158,23 @@ fn obey(
             scene.times = read_number(rest).unwrap_or(1);
             Ok(())
         }
-        [b'!', ..] => play(alloc, scene, told),
+        [b'!', ..] => play(alloc, Turn::Session, scene, told),
+        [b'&', ..] => judge(alloc, scene, told),
+        [b'/', rest @ ..] => tell_blank(alloc, rest, told),
         [b'@', ..] => count(alloc, scene, told),
         [b'%', ..] => listing(alloc, scene, told),
         [b'?', rest @ ..] => read_alone(alloc, rest, told),
         [b'~', rest @ ..] => whole(alloc, scene, rest, told),
         [b'^', rest @ ..] => each(alloc, scene, rest, told),
         [b'$', rest @ ..] => tell_line(alloc, rest, told),
-        [mark, rest @ ..] => scene.take(*mark, rest),
+        [mark, rest @ ..] => scene.take(alloc, *mark, rest),
         [] => Ok(()),
     }
+}
+
+fn judge(alloc: Global, scene: &Scene, told: &mut Vec<u8>) -> Result<(), AllocError> {
+    tell_shape(alloc, scene.image.as_slice(), told)?;
+    play(alloc, Turn::Image, scene, told)
 }
 
 fn whole(alloc: Global, scene: &Scene, line: &[u8], told: &mut Vec<u8>) -> Result<(), AllocError> {

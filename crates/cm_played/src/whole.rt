@@ -155,7 +155,12 @@ pub(crate) fn tell_end(
     }
 }
 
-fn tell_fault(alloc: Global, fault: ProgramFault, told: &mut Vec<u8>) -> Result<(), AllocError> {
+/// Tells a fault as the program does, and its status.
+pub(crate) fn tell_fault(
+    alloc: Global,
+    fault: ProgramFault,
+    told: &mut Vec<u8>,
+) -> Result<(), AllocError> {
     let mut sink = Room::new(alloc, 100, 100)?;
     let end = report(fault.number(), fault.line(), &mut sink);
     told.extend_from_slice(sink.taken())?;
