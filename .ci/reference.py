@@ -1,4 +1,5 @@
-"""The machine, its texts and its sessions once more, plainly, by docs/MACHINE.md, FORMATS.md and DEBUGGER.md alone.
+"""The machine, its texts, its sessions and its exchange once more, plainly, by docs/MACHINE.md, FORMATS.md, DEBUGGER.md
+and WEAVE.md alone.
 
 Nothing here is taken from the library, and it may be slow. A plane is a whole number whose bit 16 * chip + processor is the
 bit of that processor. `.ci/drawn` holds `cm1` beside it.
@@ -7,10 +8,10 @@ import re
 
 ZERO, GLOBAL, NEWS, DAISY, SEND, ACK, RECV = 8, 9, 10, 11, 12, 13, 14
 LAST_CLOCK = 2**63 - 1
-NAMES = {1: "Width", 2: "Range", 3: "ZeroFlag", 5: "Cap", 7: "Clock", 10: "Overlap", 11: "Lengths", 12: "Scratch",
+NAMES = {1: "Width", 2: "Range", 3: "ZeroFlag", 5: "Cap", 6: "Long", 7: "Clock", 10: "Overlap", 11: "Lengths", 12: "Scratch",
          13: "Context", 15: "Word", 16: "Operands", 17: "Number", 18: "Name", 19: "Twice", 20: "TooLong", 21: "Short",
          22: "Magic", 23: "Version", 24: "Shape", 25: "Order", 26: "Count", 27: "Value", 28: "TagTwice", 29: "Extra",
-         30: "Read", 31: "Write", 32: "TooMuch", 36: "Workers", 37: "Split"}
+         30: "Read", 31: "Write", 32: "TooMuch", 35: "Unfinished", 36: "Workers", 37: "Split"}
 
 
 class Fault(Exception):
@@ -489,3 +490,90 @@ def chip_text(text):
     out = ["flag %d %04x\n" % (flag, plane) for flag, plane in enumerate(machine.flags)]
     out += ["plane %d %04x\n" % (address, plane) for address, plane in sorted(machine.memory.items()) if plane]
     return "".join(out).encode()
+
+
+# ---- the exchange ---------------------------------------------------------------------------------------------------
+
+STAGES = "grip", "file", "draw", "clear"
+LANE = "empty", "held", "full", "drawn"
+
+
+class World:
+    """In which round each block stands and how many steps of it were taken, and what each lane is; no parcels."""
+
+    def __init__(self, dims, acts, k):
+        self.dims, self.k, self.lanes = dims, k, {}
+        self.kinds = [kind for act in acts for kind in self.rounds(act)] if k else []
+        self.stands = [[0, 0] for _ in range(2**k)]
+
+    def rounds(self, act):
+        if act == "cycle":
+            return list(range(self.dims - self.k, self.dims))
+        return [act[8]] if act != "sense" and act[3] == NEWS and act[8] in "ns" else []
+
+    def giver(self, kind, block):
+        if kind in ("n", "s"):
+            return (block + (1 if kind == "n" else -1)) % 2**self.k
+        return block ^ 1 << kind - self.dims + self.k
+
+    def play(self, word, block, tries=False):
+        """Takes a step, if it can be taken; whether it can."""
+        stage = STAGES.index(word)
+        at, taken = self.stands[block]
+        if at == len(self.kinds) or taken != stage:
+            return False
+        lane = self.kinds[at], block if stage < 2 else self.giver(self.kinds[at], block)
+        if self.lanes.get(lane, "empty") != LANE[stage]:
+            return False
+        if not tries:
+            self.lanes[lane] = LANE[(stage + 1) % 4]
+            self.stands[block] = [at, stage + 1] if stage < 3 else [at + 1, 0]
+        return True
+
+    def possible(self):
+        return [(word, block) for block in range(2**self.k) for word in STAGES if self.play(word, block, True)]
+
+    def is_finished(self):
+        return all(at == len(self.kinds) for at, _ in self.stands)
+
+    def answer(self, line):
+        first, *rest = words(line)
+        if first.decode("latin") not in STAGES:
+            return "? 15\n"
+        if len(rest) != 1:
+            return "? 16\n"
+        block = number(rest[0])
+        if block is None:
+            return "? 17\n"
+        if block >= 2**self.k:
+            return "? 2\n"
+        return "ok\n" if self.play(first.decode(), block) else "? 34\n"
+
+
+def begun(machine, acts, k):
+    """The world of a run, or its fault."""
+    cycles = acts.count("cycle")
+    if len(acts) > 4096 or cycles > 64:
+        raise Fault(6)
+    if machine.clock + cycles > LAST_CLOCK:
+        raise Fault(7)
+    if k > machine.dims - machine.dims // 2:
+        raise Fault(37)
+    return World(machine.dims, acts, k)
+
+
+def woven(world, steps):
+    """What is told of a text of steps, and 32 or 35; of a world by itself, where there is no text."""
+    if steps is None:
+        told = []
+        while world.possible():
+            told.append("%s %d\n" % world.possible()[0])
+            world.play(*world.possible()[0])
+        return "".join(told + ["steps %d\nfinished\n" % len(told)]).encode(), None
+    limit = 16_777_216
+    within = steps if len(steps) <= limit else steps[:limit][:steps[:limit].rfind(b"\n") + 1]
+    told = "".join(world.answer(line) for line in lines(within) if words(line))
+    if len(steps) > limit:
+        return told.encode(), 32
+    end = world.is_finished()
+    return (told + ("finished\n" if end else "unfinished\n")).encode(), None if end else 35
