@@ -1,10 +1,12 @@
 -- Workers from round to round of a run.
 use Rattle.std.proofs.Common.{◌≡◌, ℕ, zero, suc, ◌+◌, ◌-◌, ◌*◌, ◌<◌, ◌≤◌, ◌^◌, ◌↔◌, List, [], ◌∷◌, Some, None, length, get_or}
-use Rattle.std.proofs.Common.{refl, ap, sym, subst, ◌∙◌, arith}
+use Rattle.std.proofs.Common.{⊎_elim, refl, ap, sym, subst, ◌∙◌, arith}
 use Rattle.std.specs.Prelude.{slice_get}
 use Rattle.std.proofs.Math.Pow.{pow_mono}
+use Rattle.std.proofs.lemmas.Bool.{cases_lt}
 use Rattle.std.proofs.lemmas.List.{length-map}
 use Rattle.cm_model.specs.declared.act.Act.{Act}
+use Rattle.cm_model.specs.Machine.{Machine}
 use Rattle.cm_blocks.specs.Parts.{Part}
 use Rattle.cm_blocks.specs.Parcels.{Parcel}
 use Rattle.cm_blocks.specs.Rounds.{rounds}
@@ -19,8 +21,8 @@ use Rattle.cm_board.specs.Courses.{Course}
 use Rattle.cm_resident.specs.Lanes.{Run, before, rounds_in, place_of, ends_each, course, own, givers}
 use Rattle.cm_resident.specs.Standing.{number, AreEndsBefore, IsWorkerBefore, IsUnused}
 use Rattle.cm_resident.specs.Turns.{CanGoOn, HasGoneOn, CanSend, HasSent, CanGet, HasGot, AreReady, AreUsed, AreShown}
-use Rattle.cm_workers.specs.Gates.{ComesBy, told_number}
-use Rattle.cm_resident.specs.Teams.{AreDone}
+use Rattle.cm_workers.specs.Gates.{AreBeforeRound, ComesBy, told_number}
+use Rattle.cm_resident.specs.Teams.{AreDone, HasSeenOf}
 use Rattle.cm_resident.proofs.Ends.{place_in, some_blocks, ends_are, ends_next}
 use Rattle.cm_resident.proofs.Going.{count_of_block, can_begin, begun, shown, can_send, StandsSent, sent, can_get, got, exchange_of}
 
@@ -134,6 +136,34 @@ there_below [] i x is = absurd (let wrong : None ≡ Some x = is in cc)
 there_below (y ∷ ys) zero x is = omega arith
 there_below (y ∷ ys) (suc i) x is = let f = there_below ys i x is in omega (arith, f)
 
+-- a worker's blocks before a round, as who looks sees them
+stand_before : (run : Run) (r count w : ℕ) (blocks : List KeptBlock) (sends gets : List (Course Parcel))
+    → IsWorkerBefore run r count w blocks sends gets
+    → AreBeforeRound run.n run.k run.room run.machine run.acts r count w blocks
+stand_before run r count w blocks sends gets is = record {
+  one_of = is.one_of;
+  share = is.share;
+  each = λ q b l.
+      let x = is.each q b l in record { blocks = x.blocks; dims = x.dims; room_is = x.room_is; part = x.part };
+}
+
+-- so they stand when they can be read
+still_before : (n k room : ℕ) (machine : Machine) (acts : List Act) (r count w : ℕ) (blocks now : List KeptBlock)
+    → AreShown blocks now → AreBeforeRound n k room machine acts r count w blocks
+    → AreBeforeRound n k room machine acts r count w now
+still_before n k room machine acts r count w blocks now shown_them was = record {
+  one_of = was.one_of;
+  share = λ q. subst (λ (m : ℕ). (q < m) ↔ (q * count + w < 2 ^ k)) (sym shown_them.len) (was.share q);
+  each = λ q b l.
+      let m : q < length blocks = omega (arith, l, shown_them.len) in
+      let is = shown_them.each q b m in let it = was.each q b m in record {
+        blocks = is.blocks ∙ it.blocks;
+        dims = ap (λ (kept : KeptPart). kept.dims) is.kept ∙ it.dims;
+        room_is = ap (λ (kept : KeptPart). kept.room) is.kept ∙ it.room_is;
+        part = ap (λ (kept : KeptPart). kept.part) is.kept ∙ it.part;
+      };
+}
+
 -- a worker comes by a gate
 pub comes_by : (run : Run) (r count w : ℕ) (round : Round) (blocks : List KeptBlock) (sends gets : List (Course Parcel))
     → slice_get (rounds_in run) r ≡ Some round → IsWorkerBefore run r count w blocks sends gets
@@ -149,10 +179,7 @@ comes_by run r count w round blocks sends gets at is = record {
   there = subst (λ (m : ℕ). r < m) (length-map (rounds run.n run.k run.acts) round_of)
       (there_below (rounds_in run) r round at);
   told_is = refl;
-  one_of = is.one_of;
-  share = is.share;
-  each = λ q b l.
-      let x = is.each q b l in record { blocks = x.blocks; dims = x.dims; room_is = x.room_is; part = x.part };
+  at = stand_before run r count w blocks sends gets is;
 }
 
 -- so it does with blocks that can be read
@@ -168,17 +195,30 @@ still_comes w told blocks now shown_them was = record {
   number = was.number;
   there = was.there;
   told_is = was.told_is;
-  one_of = was.one_of;
-  share = λ q. subst (λ (m : ℕ). (q < m) ↔ (q * was.count + w < 2 ^ was.k)) (sym shown_them.len) (was.share q);
-  each = λ q b l.
-      let m : q < length blocks = omega (arith, l, shown_them.len) in
-      let is = shown_them.each q b m in let it = was.each q b m in record {
-        blocks = is.blocks ∙ it.blocks;
-        dims = ap (λ (kept : KeptPart). kept.dims) is.kept ∙ it.dims;
-        room_is = ap (λ (kept : KeptPart). kept.room) is.kept ∙ it.room_is;
-        part = ap (λ (kept : KeptPart). kept.part) is.kept ∙ it.part;
-      };
+  at = still_before was.n was.k was.room was.machine was.acts was.number was.count w blocks now shown_them was.at;
 }
+
+-- who was shown its blocks saw the worker before the round
+pub has_seen : (saw : ℕ → ℕ → List KeptBlock → Type 0) (run : Run) (r count w : ℕ) (blocks now : List KeptBlock)
+    (sends gets : List (Course Parcel)) → IsWorkerBefore run r count w blocks sends gets → AreShown blocks now
+    → saw w (told_number r) now → HasSeenOf saw run count w r
+has_seen saw run r count w blocks now sends gets is shown_them seen = record {
+  blocks = now;
+  at = still_before run.n run.k run.room run.machine run.acts r count w blocks now shown_them
+      (stand_before run r count w blocks sends gets is);
+  seen = seen;
+}
+
+-- one round more
+pub seen_until : (saw : ℕ → ℕ → List KeptBlock → Type 0) (run : Run) (r count w : ℕ)
+    → ((s : ℕ) → s < r → HasSeenOf saw run count w s) → HasSeenOf saw run count w r
+    → (s : ℕ) → s < r + 1 → HasSeenOf saw run count w s
+seen_until saw run r count w were is s l =
+    ⊎_elim
+    (λ (below : s < r). were s below)
+    (λ (there : r ≤ s). subst (λ (t : ℕ). HasSeenOf saw run count w t)
+    (let same : r ≡ s = omega (arith, there, l) in same) is)
+    (cases_lt s r)
 
 pub all_done : (run : Run) (count w many : ℕ) (blocks : List KeptBlock) (sends gets : List (Course Parcel))
     → length blocks ≡ many → IsWorkerBefore run (length (rounds_in run)) count w blocks sends gets

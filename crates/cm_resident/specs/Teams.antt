@@ -6,6 +6,7 @@ use Rattle.cm_blocks.specs.Parcels.{Parcel}
 use Rattle.cm_subcube.specs.declared.round.Round.{Round}
 use Rattle.cm_subcube.specs.Blocks.{KeptBlock}
 use Rattle.cm_board.specs.Courses.{Course}
+use Rattle.cm_workers.specs.Gates.{HasSeen}
 use Rattle.cm_resident.specs.declared.worker.Worker.{Worker}
 use Rattle.cm_resident.specs.Lanes.{Run, before, rounds_in, ends_each, course, own, givers}
 use Rattle.cm_resident.specs.Standing.{number, IsCut, AreEndsBefore, IsWorkerBefore, IsUnused}
@@ -67,3 +68,13 @@ pub record HasDealt (run : Run) (count w : ℕ) (blocks : List KeptBlock) (sends
 abbrev pub HasWorked : Worker → List KeptBlock → Type 0
 HasWorked worker blocks =
     (run : Run) (count : ℕ) → IsOfTeam run count worker → AreDone run count worker.id (length worker.blocks.items) blocks
+
+-- who looks saw worker w of so many before round r of a run
+abbrev pub HasSeenOf : (ℕ → ℕ → List KeptBlock → Type 0) → Run → ℕ → ℕ → ℕ → Type 0
+HasSeenOf saw run count w r = HasSeen saw run.n run.k run.room run.machine run.acts r count w
+
+-- who looks saw a worker before each round, of whatever team it was
+abbrev pub HasPassed : (ℕ → ℕ → List KeptBlock → Type 0) → Worker → Type 0
+HasPassed saw worker =
+    (run : Run) (count : ℕ) → IsOfTeam run count worker
+    → (r : ℕ) → r < length (rounds_in run) → HasSeenOf saw run count worker.id r

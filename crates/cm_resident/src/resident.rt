@@ -120,6 +120,9 @@ impl<'a, const N: usize, const CAP: usize, R: Threads + Wait + Sync> Runner<N, C
         ensures admitted { IfOk result (λ _. acts.now ≢ [] → (gate : _) → self.old.passage ≡ Passage.Gated gate
             → (w : ℕ) → w < most_workers N self.old.k self.old.workers → admits (gate.vtable, gate.value) w) }
         ensures err { OnErr result (machine.new.machine ≡ machine.old.machine) }
+        ensures blocks { self.new.k ≡ self.old.k }
+        ensures workers { self.new.workers ≡ self.old.workers }
+        ensures passage { self.new.passage ≡ self.old.passage }
     {
         let cycles = check_stretch(acts, machine.clock())?;
         if acts.is_empty() {

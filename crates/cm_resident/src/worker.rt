@@ -6,7 +6,7 @@ ghost use Rattle.cm_workers.specs.Gates.{ComesBy, told_number};
 ghost use Rattle.cm_resident.specs.Lanes.{Run, place_of, rounds_in};
 ghost use Rattle.cm_resident.specs.Standing.{IsWorkerBefore};
 ghost use Rattle.cm_resident.specs.Turns.{AreShown};
-ghost use Rattle.cm_resident.specs.Teams.{HasWorked, IsBeforeRound, IsOfSome};
+ghost use Rattle.cm_resident.specs.Teams.{HasPassed, HasSeenOf, HasWorked, IsBeforeRound, IsOfSome};
 
 use crate::lanes::ends_each;
 use crate::turn::{begin_all, get_all, send_all};
@@ -38,6 +38,8 @@ impl Worker {
     pub fn work<R: Wait>(self, rt: &R, passage: &Passage) -> Vec<Block>
         requires team { IsOfSome self }
         ensures value { HasWorked self result.items }
+        ensures passed { (gate : _) → passage.now ≡ Passage.Gated gate
+            → HasPassed (λ v told bs. saw (gate.vtable, gate.value) v told bs) self }
     {
         let Worker {
             id,
@@ -86,6 +88,9 @@ fn exchange<R: Wait>(
         → slice_get (rounds_in run) r ≡ Some round.now
         → IsWorkerBefore run r count id blocks.old.items sends.old.items gets.old.items
         → IsWorkerBefore run (r + 1) count id blocks.new.items sends.new.items gets.new.items }
+    ensures passed { (gate : _) → passage.now ≡ Passage.Gated gate → (run : Run) (count : ℕ)
+        → IsWorkerBefore run r count id blocks.old.items sends.old.items gets.old.items
+        → HasSeenOf (λ v told bs. saw (gate.vtable, gate.value) v told bs) run count id r }
 {
     let each = ends_each(k);
     let place = place_of(blocks[0].chips(), round.kind);
@@ -112,6 +117,8 @@ fn place_of(chips: usize, kind: Kind) -> usize
 fn show(blocks: &mut Vec<Block>, number: usize, worker: u16, passage: &Passage)
     requires own { ComesBy worker (told_number number) blocks.old.items }
     ensures value { AreShown blocks.old.items blocks.new.items }
+    ensures seen { (gate : _) → passage.now ≡ Passage.Gated gate
+        → saw (gate.vtable, gate.value) worker (told_number number) blocks.new.items }
 {
     if let Passage::Gated(gate) = passage {
         gather_all(blocks);
@@ -122,6 +129,7 @@ fn show(blocks: &mut Vec<Block>, number: usize, worker: u16, passage: &Passage)
 fn come_by(gate: &dyn Gate, worker: u16, told: u32, blocks: &[Block])
     requires gathered { All (λ b. IsTrue b.kept.gathered) blocks.now }
     requires own { ComesBy worker told blocks.now }
+    ensures seen { saw gate.now worker told blocks.now }
 {
     gate.pass(worker, told, blocks);
 }

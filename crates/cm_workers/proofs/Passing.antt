@@ -7,6 +7,7 @@ use Rattle.std.proofs.lemmas.Bool.{cases_lt}
 use Rattle.std.proofs.lemmas.List.{length-map}
 use Rattle.std.proofs.lemmas.Option.{slice_get_past}
 use Rattle.cm_model.specs.declared.act.Act.{Act}
+use Rattle.cm_model.specs.Machine.{Machine}
 use Rattle.cm_blocks.specs.Parts.{block}
 use Rattle.cm_blocks.specs.Rounds.{rounds, before_round}
 use Rattle.cm_array.specs.Cuts.{KeptPart}
@@ -19,7 +20,8 @@ use Rattle.cm_workers.specs.Dealing.{hand, AreDealt}
 use Rattle.cm_workers.specs.Each.{AreEach}
 use Rattle.cm_workers.specs.Turns.{round_before, gone_on, HasGoneOn, AreShown}
 use Rattle.cm_workers.specs.Runs.{StandsAt, HaveBegun}
-use Rattle.cm_workers.specs.Gates.{told_number, IsBeforeRound, ComesBy, IsWorkersTurn}
+use Rattle.cm_workers.specs.Gates.{told_number, IsBeforeRound, AreBeforeRound, ComesBy, StandsAsWorker, IsWorkersTurn}
+use Rattle.cm_workers.specs.Gates.{ShowsIn}
 use Rattle.cm_workers.specs.Shifts.{AreWorkersTurns}
 use Rattle.cm_workers.proofs.Standing.{gone_to}
 
@@ -30,58 +32,81 @@ there_below xs i x is = ⊎_elim
     (λ (l : length xs ≤ i). absurd (let wrong : None ≡ Some x = sym (slice_get_past xs i l) ∙ is in cc))
     (cases_lt i (length xs))
 
-module _ (acts : List Act) (before : Option Round) (t w : ℕ) (blocks bs : List KeptBlock) (posts ps : List Post)
+module _ (n k room : ℕ) (machine : Machine) (acts : List Act) (t count w : ℕ) (before : Option Round)
+    (blocks bs : List KeptBlock) (posts ps : List Post) (within : k ≤ n - n / 2)
+    (below : t ≤ length (rounds_of n k acts)) (before_is : before ≡ round_before (rounds_of n k acts) t)
+    (at : StandsAsWorker n k room machine acts t count w blocks posts)
     (gone : AreEach (HasGoneOn acts before) blocks posts bs ps) where
   -- each block's part is as it is before the round
-  part_comes : (next : Option Round) (turn : IsWorkersTurn acts before next t w blocks posts) (q : ℕ) (b : KeptBlock)
-      → q < length blocks
-      → (get_or bs q b).kept.part
-      ≡ block turn.n turn.k (q * turn.count + w) (before_round turn.n turn.room turn.k turn.machine acts t)
-  part_comes next turn q b l =
-      let n = turn.n in let k = turn.k in let room = turn.room in
+  part_comes : (q : ℕ) (b : KeptBlock) → q < length blocks
+      → (get_or bs q b).kept.part ≡ block n k (q * count + w) (before_round n room k machine acts t)
+  part_comes q b l =
       let p : Post = blank_post n k in
       let kept : KeptBlock = get_or blocks q b in let post : Post = get_or posts q p in
-      let stood = turn.at.each q b p l in
+      let stood = at.each q b p l in
       (gone.each q b p l).part
       ∙ ap (λ (d : ℕ). gone_on d kept.k kept.kept.room acts before post kept.kept.part) stood.dims
       ∙ ap (λ (j : ℕ). gone_on n j kept.kept.room acts before post kept.kept.part) stood.blocks
       ∙ ap (λ (r : ℕ). gone_on n k r acts before post kept.kept.part) stood.room_is
-      ∙ ap (λ (one : Option Round). gone_on n k room acts one post kept.kept.part) turn.before_is
-      ∙ gone_to n k room turn.machine acts turn.within t (q * turn.count + w) kept post turn.below
-      ((turn.at.share q).0 l) stood
+      ∙ ap (λ (one : Option Round). gone_on n k room acts one post kept.kept.part) before_is
+      ∙ gone_to n k room machine acts within t (q * count + w) kept post below ((at.share q).0 l) stood
 
   -- and so is each block
-  one_comes : (next : Option Round) (turn : IsWorkersTurn acts before next t w blocks posts) (q : ℕ) (b : KeptBlock)
-      → q < length blocks
-      → IsBeforeRound turn.n turn.k turn.room turn.machine acts t (q * turn.count + w) (get_or bs q b)
-  one_comes next turn q b l =
-      let p : Post = blank_post turn.n turn.k in
-      let stood = turn.at.each q b p l in let same = (gone.each q b p l).same in record {
+  one_comes : (q : ℕ) (b : KeptBlock) → q < length blocks
+      → IsBeforeRound n k room machine acts t (q * count + w) (get_or bs q b)
+  one_comes q b l =
+      let p : Post = blank_post n k in
+      let stood = at.each q b p l in let same = (gone.each q b p l).same in record {
         blocks = same.blocks ∙ stood.blocks;
         dims = same.dims ∙ stood.dims;
         room_is = same.room ∙ stood.room_is;
-        part = part_comes next turn q b l;
+        part = part_comes q b l;
       }
 
-  -- a worker whose blocks have gone on comes by, if a round is ahead
-  pub comes_by : (next : Option Round) → IsWorkersTurn acts before next t w blocks posts
-      → IfSome next (λ _. ComesBy w (told_number t) bs)
-  comes_by None turn = tt
-  comes_by (Some round) turn = record {
-    n = turn.n;
-    k = turn.k;
-    room = turn.room;
-    machine = turn.machine;
-    acts = acts;
-    count = turn.count;
-    number = t;
-    there = subst (λ (m : ℕ). t < m) (length-map (rounds turn.n turn.k acts) round_of)
-        (there_below (rounds_of turn.n turn.k acts) t round (sym turn.next_is));
-    told_is = refl;
-    one_of = turn.at.one_of;
-    share = λ q. subst (λ (m : ℕ). (q < m) ↔ (q * turn.count + w < 2 ^ turn.k)) (sym gone.first_len) (turn.at.share q);
-    each = λ q b l. one_comes (Some round) turn q b (omega (arith, l, gone.first_len));
+  -- a worker's blocks that have gone on are as they are before the round
+  pub come_to : AreBeforeRound n k room machine acts t count w bs
+  come_to = record {
+    one_of = at.one_of;
+    share = λ q. subst (λ (m : ℕ). (q < m) ↔ (q * count + w < 2 ^ k)) (sym gone.first_len) (at.share q);
+    each = λ q b l. one_comes q b (omega (arith, l, gone.first_len));
   }
+
+-- and so they are when they can be read
+pub still_before : (n k room : ℕ) (machine : Machine) (acts : List Act) (t count w : ℕ) (bs now : List KeptBlock)
+    → AreShown bs now → AreBeforeRound n k room machine acts t count w bs
+    → AreBeforeRound n k room machine acts t count w now
+still_before n k room machine acts t count w bs now shown was = record {
+  one_of = was.one_of;
+  share = λ q. subst (λ (m : ℕ). (q < m) ↔ (q * count + w < 2 ^ k)) (sym shown.len) (was.share q);
+  each = λ q b l.
+      let m : q < length bs = omega (arith, l, shown.len) in
+      let is = shown.each q b m in let it = was.each q b m in record {
+        blocks = is.blocks ∙ it.blocks;
+        dims = ap (λ (kept : KeptPart). kept.dims) is.kept ∙ it.dims;
+        room_is = ap (λ (kept : KeptPart). kept.room) is.kept ∙ it.room_is;
+        part = ap (λ (kept : KeptPart). kept.part) is.kept ∙ it.part;
+      };
+}
+
+-- a worker whose blocks have gone on comes by, if a round is ahead
+pub comes_by : (acts : List Act) (before : Option Round) (t w : ℕ) (blocks bs : List KeptBlock) (posts ps : List Post)
+    → AreEach (HasGoneOn acts before) blocks posts bs ps → (next : Option Round)
+    → IsWorkersTurn acts before next t w blocks posts → IfSome next (λ _. ComesBy w (told_number t) bs)
+comes_by acts before t w blocks bs posts ps gone None turn = tt
+comes_by acts before t w blocks bs posts ps gone (Some round) turn = record {
+  n = turn.n;
+  k = turn.k;
+  room = turn.room;
+  machine = turn.machine;
+  acts = acts;
+  count = turn.count;
+  number = t;
+  there = subst (λ (m : ℕ). t < m) (length-map (rounds turn.n turn.k acts) round_of)
+      (there_below (rounds_of turn.n turn.k acts) t round (sym turn.next_is));
+  told_is = refl;
+  at = come_to turn.n turn.k turn.room turn.machine acts t turn.count w before blocks bs posts ps turn.within turn.below
+      turn.before_is turn.at gone;
+}
 
 -- so it does with blocks that can be read
 pub still_comes : (w told : ℕ) (bs now : List KeptBlock) → AreShown bs now → ComesBy w told bs → ComesBy w told now
@@ -95,16 +120,7 @@ still_comes w told bs now shown was = record {
   number = was.number;
   there = was.there;
   told_is = was.told_is;
-  one_of = was.one_of;
-  share = λ q. subst (λ (m : ℕ). (q < m) ↔ (q * was.count + w < 2 ^ was.k)) (sym shown.len) (was.share q);
-  each = λ q b l.
-      let m : q < length bs = omega (arith, l, shown.len) in
-      let is = shown.each q b m in let it = was.each q b m in record {
-        blocks = is.blocks ∙ it.blocks;
-        dims = ap (λ (kept : KeptPart). kept.dims) is.kept ∙ it.dims;
-        room_is = ap (λ (kept : KeptPart). kept.room) is.kept ∙ it.room_is;
-        part = ap (λ (kept : KeptPart). kept.part) is.kept ∙ it.part;
-      };
+  at = still_before was.n was.k was.room was.machine was.acts was.number was.count w bs now shown was.at;
 }
 
 -- so it does before a round that is there, of which it is told by its number
@@ -158,3 +174,25 @@ hands_turns n k t count acts rounds_now blocks posts hb hp within is below begun
             (begun.at.each (q * count + w) b p (omega (arith, at, many))));
       };
     }
+
+-- ---- who looks
+
+-- what a worker's blocks became was shown, if a round is ahead
+pub shows_in : (saw : ℕ → ℕ → List KeptBlock → Type 0) (acts : List Act) (before next : Option Round) (t w : ℕ)
+    (blocks gone shown : List KeptBlock) (posts blanks : List Post) → AreEach (HasGoneOn acts before) blocks posts gone blanks
+    → AreShown gone shown → IfSome next (λ _. saw w (told_number t) shown)
+    → ShowsIn saw acts before next t w blocks posts
+shows_in saw acts before None t w blocks gone shown posts blanks went same seen = tt
+shows_in saw acts before (Some round) t w blocks gone shown posts blanks went same seen =
+    record { gone = gone; blanks = blanks; went = went; shown = shown; same = same; seen = seen }
+
+-- so it is told by the turn's number
+pub shows_as_numbered : (saw : ℕ → ℕ → List KeptBlock → Type 0) (acts : List Act) (before before_it next next_it : Option Round)
+    (t w : ℕ) (blocks bs : List KeptBlock) (posts ps : List Post)
+    → before ≡ before_it → next ≡ next_it → bs ≡ blocks → ps ≡ posts
+    → ShowsIn saw acts before next t w bs ps → ShowsIn saw acts before_it next_it t w blocks posts
+shows_as_numbered saw acts before before_it next next_it t w blocks bs posts ps b n bs_is ps_is shows =
+    subst (λ (one : Option Round). ShowsIn saw acts one next_it t w blocks posts) b
+    (subst (λ (one : Option Round). ShowsIn saw acts before one t w blocks posts) n
+    (subst (λ (xs : List KeptBlock). ShowsIn saw acts before next t w xs posts) bs_is
+    (subst (λ (xs : List Post). ShowsIn saw acts before next t w bs xs) ps_is shows)))

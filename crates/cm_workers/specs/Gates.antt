@@ -1,5 +1,6 @@
 -- What a gate sees of the workers of a run: their own blocks, before they send. Ours.
-use Rattle.std.specs.Prelude.{◌≡◌, ◌↔◌, ℕ, ◌+◌, ◌-◌, ◌*◌, ◌/◌, ◌<◌, ◌≤◌, ◌^◌, min, List, Option, length, get_or, slice_get}
+use Rattle.std.specs.Prelude.{◌≡◌, ◌↔◌, ℕ, ◌+◌, ◌-◌, ◌*◌, ◌/◌, ◌<◌, ◌≤◌, ◌^◌, min, List, Option, IfSome, length, get_or}
+use Rattle.std.specs.Prelude.{slice_get}
 use Rattle.cm_model.specs.declared.act.Act.{Act}
 use Rattle.cm_model.specs.Machine.{Machine}
 use Rattle.cm_blocks.specs.Parts.{block}
@@ -8,8 +9,9 @@ use Rattle.cm_subcube.specs.declared.round.Round.{Round}
 use Rattle.cm_subcube.specs.Blocks.{KeptBlock}
 use Rattle.cm_subcube.specs.Rounds.{rounds_of}
 use Rattle.cm_workers.specs.declared.post.Post.{Post}
+use Rattle.cm_workers.specs.Each.{AreEach}
 use Rattle.cm_workers.specs.Runs.{StandsAt}
-use Rattle.cm_workers.specs.Turns.{round_before}
+use Rattle.cm_workers.specs.Turns.{round_before, HasGoneOn, AreShown}
 
 -- a worker of so many has that one of 2 ^ k blocks whose number is its own, and then every so many on
 abbrev pub IsShareOf : ℕ → ℕ → ℕ → List KeptBlock → Type 0
@@ -27,7 +29,15 @@ pub record IsBeforeRound (n k room : ℕ) (machine : Machine) (acts : List Act) 
   pub room_is : kept.kept.room ≡ room
   pub part : kept.kept.part ≡ block n k b (before_round n room k machine acts number)
 
--- a worker comes by before it sends in a round of a run, whose number is told: each of its blocks is as it is then
+-- the blocks of worker w of so many, each as it is before a round of a run
+pub record AreBeforeRound (n k room : ℕ) (machine : Machine) (acts : List Act) (number count w : ℕ)
+    (blocks : List KeptBlock) : Type 0 where
+  pub one_of : w < count
+  pub share : IsShareOf k count w blocks
+  pub each : (q : ℕ) (b : KeptBlock) → q < length blocks
+      → IsBeforeRound n k room machine acts number (q * count + w) (get_or blocks q b)
+
+-- a worker comes by before it sends in a round of some run, whose number is told
 pub record ComesBy (w told : ℕ) (blocks : List KeptBlock) : Type 0 where
   pub n : ℕ
   pub k : ℕ
@@ -38,10 +48,29 @@ pub record ComesBy (w told : ℕ) (blocks : List KeptBlock) : Type 0 where
   pub number : ℕ
   pub there : number < length (rounds n k acts)
   pub told_is : told ≡ told_number number
-  pub one_of : w < count
-  pub share : IsShareOf k count w blocks
-  pub each : (q : ℕ) (b : KeptBlock) → q < length blocks
-      → IsBeforeRound n k room machine acts number (q * count + w) (get_or blocks q b)
+  pub at : AreBeforeRound n k room machine acts number count w blocks
+
+-- who looks saw worker w of so many come by before a round of this run
+pub record HasSeen (saw : ℕ → ℕ → List KeptBlock → Type 0) (n k room : ℕ) (machine : Machine) (acts : List Act)
+    (number count w : ℕ) : Type 0 where
+  pub blocks : List KeptBlock
+  pub at : AreBeforeRound n k room machine acts number count w blocks
+  pub seen : saw w (told_number number) blocks
+
+-- who looks saw a worker's blocks in a turn of a run when they had gone on
+pub record HasShown (saw : ℕ → ℕ → List KeptBlock → Type 0) (acts : List Act) (before : Option Round) (t w : ℕ)
+    (blocks : List KeptBlock) (posts : List Post) : Type 0 where
+  pub gone : List KeptBlock
+  pub blanks : List Post
+  pub went : AreEach (HasGoneOn acts before) blocks posts gone blanks
+  pub shown : List KeptBlock
+  pub same : AreShown gone shown
+  pub seen : saw w (told_number t) shown
+
+-- so it is of a turn that ends at a round
+abbrev pub ShowsIn : (ℕ → ℕ → List KeptBlock → Type 0) → List Act → Option Round → Option Round → ℕ → ℕ
+    → List KeptBlock → List Post → Type 0
+ShowsIn saw acts before next t w blocks posts = IfSome next (λ _. HasShown saw acts before t w blocks posts)
 
 -- one of so many workers, with its blocks and their posts, when turn t of a run begins
 pub record StandsAsWorker (n k room : ℕ) (machine : Machine) (acts : List Act) (t count w : ℕ) (blocks : List KeptBlock)

@@ -1,7 +1,8 @@
 //! Gates: who looks at workers while they run.
 
-ghost use Rattle.std.specs.Prelude.{ℕ, IsTrue};
+ghost use Rattle.std.specs.Prelude.{ℕ, IsTrue, List};
 ghost use Rattle.std.specs.List.{All};
+ghost use Rattle.cm_subcube.specs.Blocks.{KeptBlock};
 ghost use Rattle.cm_workers.specs.Gates.{ComesBy};
 
 use cm_subcube::Block;
@@ -10,6 +11,9 @@ use cm_subcube::Block;
 pub trait Gate: Sync + Send + Drop {
     /// What a worker of a number that it lets begin has of it.
     ghost admits: { Self → ℕ → Type 0 };
+
+    // What it has of a worker of a number that came by, of a round as it was told, and of the worker's blocks.
+    ghost saw: { Self → ℕ → ℕ → List KeptBlock → Type 0 } = { λ _ _ _ _. Unit {0} };
 
     /// Whether a worker may begin. It is asked once for each list of acts, the worker with the lowest number first,
     /// before memory is asked for; no further one once a worker was refused. It is not asked for a list that is empty
@@ -21,7 +25,8 @@ pub trait Gate: Sync + Send + Drop {
     /// of the lowest number first.
     fn pass(&self, worker: u16, round: u32, blocks: &[Block])
         requires gathered { All (λ b. IsTrue b.kept.gathered) blocks.now }
-        requires own { ComesBy worker round blocks.now };
+        requires own { ComesBy worker round blocks.now }
+        ensures seen { saw self.now worker round blocks.now };
 }
 
 /// Whether somebody looks.

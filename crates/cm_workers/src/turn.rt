@@ -10,7 +10,7 @@ ghost use Rattle.cm_workers.specs.Posts.{lane_in, blank_post};
 ghost use Rattle.cm_workers.specs.Each.{AreEach};
 ghost use Rattle.cm_workers.specs.Turns.{round_before, CanGo, CanAllGo, CanSend, CanAllSend, HasCome, HasGoneOn};
 ghost use Rattle.cm_workers.specs.Turns.{HasSent, HasGone, AreShown};
-ghost use Rattle.cm_workers.specs.Gates.{told_number, ComesBy, IsWorkersTurn};
+ghost use Rattle.cm_workers.specs.Gates.{told_number, ComesBy, IsWorkersTurn, ShowsIn};
 
 use crate::gate::{Gate, Passage};
 use crate::post::Post;
@@ -52,6 +52,9 @@ impl Crew {
             number worker self.blocks.items self.posts.items }
         ensures value { AreEach (HasGone acts.now (round_before rounds.now number) (slice_get rounds.now number))
             self.blocks.items self.posts.items result.blocks.items result.posts.items }
+        ensures passed { (gate : _) → passage.now ≡ Passage.Gated gate
+            → ShowsIn (λ v told bs. saw gate v told bs) acts.now (round_before rounds.now number)
+            (slice_get rounds.now number) number worker self.blocks.items self.posts.items }
     {
         let Crew {
             mut blocks,
@@ -98,6 +101,9 @@ fn have_turn(
         turn.now.number worker blocks.old posts.old }
     ensures value { AreEach (HasGone turn.now.acts.now (option_copied turn.now.before) (option_copied turn.now.next))
         blocks.old posts.old blocks.new posts.new }
+    ensures passed { (gate : _) → passage.now ≡ Passage.Gated gate
+        → ShowsIn (λ v told bs. saw gate v told bs) turn.now.acts.now (option_copied turn.now.before)
+        (option_copied turn.now.next) turn.now.number worker blocks.old posts.old }
 {
     go_on_all(blocks, posts, turn);
     show(blocks, turn, worker, passage);
@@ -150,6 +156,8 @@ fn show(blocks: &mut [Block], turn: &Turn<'_>, worker: u16, passage: &Passage)
     requires own { IfSome (option_copied turn.now.next)
         (λ _. ComesBy worker (told_number turn.now.number) blocks.old) }
     ensures value { AreShown blocks.old blocks.new }
+    ensures seen { (gate : _) → passage.now ≡ Passage.Gated gate
+        → IfSome (option_copied turn.now.next) (λ _. saw gate worker (told_number turn.now.number) blocks.new) }
 {
     let Some(_round) = turn.next else {
         return;
@@ -164,6 +172,7 @@ fn show(blocks: &mut [Block], turn: &Turn<'_>, worker: u16, passage: &Passage)
 fn come_by(gate: &dyn Gate, worker: u16, told: u32, blocks: &[Block])
     requires gathered { All (λ b. IsTrue b.kept.gathered) blocks.now }
     requires own { ComesBy worker told blocks.now }
+    ensures seen { saw gate.now worker told blocks.now }
 {
     gate.pass(worker, told, blocks);
 }

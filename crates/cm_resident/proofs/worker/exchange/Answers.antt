@@ -1,7 +1,7 @@
 use Rattle.std.proofs.Common.{◌≡◌, ◌-◌, ◌^◌, ◌∙◌, ap, subst, sym, arith}
 use Rattle.std.proofs.lemmas.Nat.{pow_pos}
 use Rattle.cm_workers.specs.Gates.{ComesBy}
-use Rattle.cm_resident.proofs.Working.{chips_are, leads_out, they_fit, comes_by, send_ready, get_ready, over_fit}
+use Rattle.cm_resident.proofs.Working.{chips_are, leads_out, they_fit, comes_by, send_ready, get_ready, over_fit, has_seen}
 use Rattle.cm_resident.proofs.worker.exchange.Goals as goal
 
 pub place_of-place-requires-clause-some : goal.place_of-place-requires-clause-some
@@ -64,3 +64,7 @@ returns-clause-value g c run count acts_are k_is at is =
     (they_fit run c.args.round.now c.args.k c.ends_each-each.result c.place_of-place.result k_is
     c.ends_each-each.ensures.value (c.place_of-place.ensures.value run.n run.k chips))
     _ _ _ _ is c.show.ensures.value c.args.acts.now acts_are _ _ c.send_all.ensures.value _ _ c.get_all.ensures.value
+
+pub returns-clause-passed : goal.returns-clause-passed
+returns-clause-passed g c gate through run count is =
+    has_seen _ run c.args.r count c.args.id _ _ _ _ is c.show.ensures.value (c.show.ensures.seen gate through)

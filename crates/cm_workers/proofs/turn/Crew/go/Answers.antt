@@ -4,7 +4,7 @@ use Rattle.std.specs.Option.{option_copied}
 use Rattle.cm_workers.specs.Turns.{round_before}
 use Rattle.cm_workers.proofs.PlaceByPlace.{written_back}
 use Rattle.cm_workers.proofs.Turning.{as_numbered, ready_as_numbered}
-use Rattle.cm_workers.proofs.Passing.{own_as_numbered}
+use Rattle.cm_workers.proofs.Passing.{own_as_numbered, shows_as_numbered}
 use Rattle.cm_workers.proofs.turn.Crew.go.Goals as goal
 
 pub have_turn-requires : goal.have_turn-requires
@@ -39,4 +39,10 @@ returns g c = record {
       (written_back c.args.self.posts.len c.have_turn.new.posts c.args.self.posts.items
       (c.have_turn.ensures.value.second_len ∙ ap length c.deref_mut-2.ensures.value ∙ sym c.args.self.posts.ok.0))
       c.have_turn.ensures.value;
+  passed = λ gate is.
+      shows_as_numbered _ c.args.acts.now (option_copied c.before-2.result) (round_before c.args.rounds.now c.args.number)
+      (option_copied c.next.result) (slice_get c.args.rounds.now c.args.number) c.args.number c.args.worker
+      c.args.self.blocks.items c.deref_mut.result.now c.args.self.posts.items c.deref_mut-2.result.now
+      c.before-2.ensures.value c.next.ensures.value c.deref_mut.ensures.value c.deref_mut-2.ensures.value
+      (c.have_turn.ensures.passed gate is);
 }
