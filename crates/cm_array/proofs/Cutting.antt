@@ -8,7 +8,7 @@ use Rattle.cm_model.specs.declared.message.Message.{Message}
 use Rattle.cm_model.specs.declared.message.Event.{Event}
 use Rattle.cm_blocks.specs.Parts.{cut, part}
 use Rattle.cm_blocks.proofs.Cutting.{length-cut, read-cut_at}
-use Rattle.cm_router.specs.Logs.{Log, log_rooms_of}
+use Rattle.cm_router.specs.Logs.{Log}
 use Rattle.cm_petit.specs.Routers.{events_of, part_of}
 use Rattle.cm_array.specs.declared.parts.Parts.{Parts}
 use Rattle.cm_array.specs.Parts.{machine_of, AreParts}

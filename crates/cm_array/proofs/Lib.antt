@@ -13,3 +13,4 @@ mod Laying
 mod Cutting
 mod Putting
 mod Halving
+pub mod Behind

@@ -7,3 +7,4 @@ pub mod Pokes
 pub mod Building
 pub mod Tags
 pub mod PokeLaws
+pub mod Behind

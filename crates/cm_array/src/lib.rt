@@ -2,8 +2,10 @@
 #![tactic(auto)]
 
 mod builder;
+mod earlier;
 mod finding;
 mod instructions;
+mod log_laws;
 mod machine;
 mod part;
 mod parts;
@@ -15,6 +17,8 @@ mod stepping;
 mod tags;
 
 pub use builder::{BuildFault, Builder};
+pub use earlier::Earlier;
+pub use log_laws::{few_events_are_told, logs_are_never_read};
 pub use machine::{Machine, MachineFault};
 pub use part::Part;
 pub use poke_laws::{flag_pokes_keep_machines, pokes_keep_machines};

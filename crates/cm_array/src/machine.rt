@@ -13,10 +13,12 @@ ghost use Rattle.cm_blocks.specs.Parts.{part};
 ghost use Rattle.cm_array.specs.Acts.{cycles_in};
 ghost use Rattle.cm_router.specs.Logs.{HaveLogRoom};
 ghost use Rattle.cm_array.specs.Cuts.{joined, AreWhole};
+ghost use Rattle.cm_array.specs.Behind.{unlogged, behind, TakeIn};
 ghost use Rattle.cm_array.specs.Faults.{size_fault};
 ghost use Rattle.cm_array.specs.Parts.{kept_of, AreParts, LacksLogRoom};
 ghost use Rattle.cm_array.specs.Pokes.{machine_with_memory_bit, machine_with_flag};
 
+use crate::earlier::{Earlier, put_behind};
 use crate::finding::{delivered_to, router_of};
 use crate::part::Part;
 use crate::parts::{Parts, blank_logs, blank_planes, copied_logs, pass_time, reserve, run};
@@ -28,6 +30,7 @@ use cm_message::{Event, Message, Tag};
 use cm_model::{Act, Found};
 use std::alloc::Global;
 use std::marker::Model;
+use std::mem;
 use thiserror::Error;
 
 const MOST_DIMENSIONS: usize = 12;
@@ -184,6 +187,33 @@ impl<const N: usize, const CAP: usize> Machine<N, CAP> {
         ensures value { self.new.machine ≡ joined (map (λ piece. (P.held piece).part) pieces.items) }
     {
         put(&mut self.parts, pieces);
+    }
+
+    /// Sets its logs aside, each with room for so many petit cycles, and stands there without events.
+    pub fn set_logs_aside(&mut self, alloc: Global, cycles: usize) -> Result<Earlier, NoMemory>
+        ensures ok { OnOk result (self.new.machine ≡ unlogged N self.old.machine) }
+        ensures logs { IfOk result (λ earlier. earlier.logs ≡ self.old.machine.logs) }
+        ensures log_room { IfOk result (λ earlier. HaveLogRoom (cycles * (4 + CAP)) earlier.log_rooms) }
+        ensures err { OnErr result (self.new.machine ≡ self.old.machine) }
+    {
+        let parts = &mut self.parts;
+        let none = blank_logs(alloc, parts.run.chips())?;
+        reserve(&mut parts.logs, cycles.saturating_mul(MOST_INJECTED + CAP))?;
+        Ok(Earlier {
+            logs: mem::replace(&mut parts.logs, none),
+        })
+    }
+
+    /// Puts logs that were set aside back before its own, whose events stand behind them. No memory is taken.
+    pub fn put_logs_back(&mut self, earlier: Earlier)
+        requires whole { IsMachine N CAP (behind N earlier.logs self.old.machine) }
+        requires count { length earlier.logs ≡ 2 ^ N }
+        requires room { TakeIn earlier.log_rooms self.old.machine.logs }
+        ensures value { self.new.machine ≡ behind N earlier.logs self.old.machine }
+    {
+        let mut logs = earlier.logs;
+        put_behind(&mut logs, &self.parts.logs);
+        self.parts.logs = logs;
     }
 
     /// The chip of that number, to be read.

@@ -1,5 +1,4 @@
-use Rattle.std.proofs.Common.{◌≡◌, ◌≤◌, ◌+◌, ◌^◌, length, ap, sym, subst, arith}
-use Rattle.cm_model.specs.Each.{each_from}
+use Rattle.std.proofs.Common.{◌≡◌, length, arith}
 use Rattle.cm_model.specs.Array.{Chips}
 use Rattle.cm_model.proofs.Each.{length-each_from}
 use Rattle.cm_element.specs.Runs.{chip_beside, chips_beside}

@@ -1,0 +1,51 @@
+//! Logs that are set aside while a machine goes on.
+
+ghost use Rattle.std.specs.Prelude.{◌≡◌, ◌≤◌, ◌++◌, length};
+ghost use Rattle.cm_model.specs.Each.{each_from};
+ghost use Rattle.cm_model.specs.Array.{list_at};
+ghost use Rattle.cm_router.specs.Logs.{log_room, log_rooms_of};
+ghost use Rattle.cm_petit.specs.Routers.{events_of};
+ghost use Rattle.cm_array.specs.Behind.{TakeIn};
+
+use cm_message::Event;
+use std::marker::Model;
+
+/// The logs of a machine that goes on without them: what it tells meanwhile comes to stand behind their events.
+///
+/// Contracts see the logs by chip, and how many events more each takes before it has to grow.
+#[derive(Debug, Drop)]
+pub struct Earlier {
+    pub(crate) logs: Vec<Vec<Event>>,
+}
+
+impl Model for Earlier {
+    ghost use Rattle.cm_router.specs.Logs.{log_rooms_of};
+    ghost use Rattle.cm_petit.specs.Routers.{events_of};
+    ghost use Rattle.cm_array.specs.Behind.{Aside};
+
+    ghost Value = { Aside };
+
+    ghost view = { λ earlier. record {
+      logs = events_of earlier.logs.items;
+      log_rooms = log_rooms_of earlier.logs.items;
+    } };
+}
+
+/// Puts events behind those of logs, chip by chip. No memory is taken.
+pub(crate) fn put_behind(logs: &mut [Vec<Event>], more: &[Vec<Event>])
+    requires count { length more.now ≡ length logs.old }
+    requires room { TakeIn (log_rooms_of logs.old) (events_of more.now) }
+    ensures value { events_of logs.new ≡ each_from 0 (length logs.old)
+        (λ c. list_at (events_of logs.old) c ++ list_at (events_of more.now) c) }
+{
+    for c in 0..logs.len() {
+        append(&mut logs[c], &more[c]);
+    }
+}
+
+fn append(log: &mut Vec<Event>, more: &[Event])
+    requires room { length more.now ≤ log_room log.old }
+    ensures items { log.new.items ≡ log.old.items ++ more.now }
+{
+    log.extend_from_slice(more).unwrap();
+}

@@ -1,0 +1,13 @@
+//! Laws of logs: what each function is named for holds, of every machine.
+
+ghost use Rattle.cm_array.specs.Behind.{LogsAreNeverRead, FewEventsAreTold};
+
+/// A machine does the same without its events: what a run tells stands behind them.
+pub fn logs_are_never_read()
+    ensures { LogsAreNeverRead }
+{}
+
+/// A run tells at most four events of a chip, and one for each message that its router has room for, in each petit cycle.
+pub fn few_events_are_told()
+    ensures { FewEventsAreTold }
+{}
