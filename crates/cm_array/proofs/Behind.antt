@@ -150,6 +150,7 @@ IsMachine-unlogged n cap machine is = record {
   births = BornBefore-buffers n (unlogged n machine) refl (λ c l. born_at n machine c is.births l);
   tags = tags_once n machine is.tags;
   injected = none_injected n (unlogged n machine) refl;
+  routing = is.routing;
 }
 
 -- ---- few events are told

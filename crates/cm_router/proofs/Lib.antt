@@ -3,3 +3,4 @@ pub mod Taking
 pub mod Rooms
 pub mod Oldest
 pub mod Cutting
+pub mod Numbering

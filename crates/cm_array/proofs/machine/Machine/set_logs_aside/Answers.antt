@@ -1,6 +1,7 @@
 use Rattle.std.proofs.Common.{List, [], ap, ◌∙◌, refl}
 use Rattle.cm_model.specs.declared.message.Event.{Event}
 use Rattle.cm_model.specs.Each.{each_from}
+use Rattle.cm_model.specs.Wiring.{plain_routing}
 use Rattle.cm_petit.specs.Routers.{events_of}
 use Rattle.cm_array.specs.Behind.{unlogged}
 use Rattle.cm_array.specs.Parts.{machine_of}
@@ -15,5 +16,11 @@ invariant_of-self-2 g c =
     ∙ ap (λ k. each_from {X = List Event} 0 k (λ b. [])) (c.chips.ensures.value ∙ c.self.invariant.machine.chip_count) in
     AreParts-put g.row.N g.row.CAP parts _ (unlogged g.row.N (machine_of parts)) c.self.invariant
     (IsMachine-unlogged g.row.N g.row.CAP (machine_of parts) c.self.invariant.machine)
-    (λ i. record { chips = parts.run; buffers = parts.crossing.buffers; logs = logs i; clock = parts.clock })
+    (λ i. record {
+      chips = parts.run;
+      buffers = parts.crossing.buffers;
+      logs = logs i;
+      clock = parts.clock;
+      routing = plain_routing;
+    })
     c.self.invariant.gathered refl refl c.self.invariant.clock
