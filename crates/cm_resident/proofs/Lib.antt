@@ -11,3 +11,4 @@ mod Rows
 mod Powers
 mod Ending
 mod Fronts
+mod LogsAside

@@ -6,7 +6,7 @@ ghost use Rattle.std.specs.Prelude.{OnOk, OnErr};
 ghost use Rattle.std.specs.Thread.{IsSync};
 ghost use Rattle.cm_model.specs.Machine.{run_of};
 ghost use Rattle.cm_model.specs.Account.{account, newly_injected, SameLines};
-ghost use Rattle.cm_array.specs.Acts.{is_late, is_long};
+ghost use Rattle.cm_array.specs.Acts.{cycles_in, is_late, is_long};
 ghost use Rattle.cm_array.specs.Faults.{is_no_thread, one_more_lacked};
 ghost use Rattle.cm_workers.specs.Forks.{fork_fault, most_blocks, most_workers, of_want};
 
@@ -181,6 +181,7 @@ fn run<const N: usize, const CAP: usize, R: Threads + Wait + Sync>(
     requires few { workers ≤ 64 }
     requires long { IsFalse (is_long acts.now) }
     requires clock { IsFalse (is_late machine.old.machine.clock acts.now) }
+    requires cycles { cycles ≡ cycles_in acts.now }
     ensures ok { OnOk result (machine.new.machine ≡ run_of N CAP machine.old.machine acts.now) }
     ensures account { OnOk result (SameLines (account N machine.new.machine)
         (account N machine.old.machine ++ newly_injected N machine.old.machine machine.new.machine)) }
@@ -193,7 +194,12 @@ fn run<const N: usize, const CAP: usize, R: Threads + Wait + Sync>(
     if is_soon_done(passage, machine, acts, rounds.len(), cycles) {
         return run_alone(machine, acts);
     }
-    share_out(rt, alloc, k, workers, passage, machine, acts)
+    match passage {
+        Passage::Gated(_) => share_out(rt, alloc, k, workers, passage, machine, acts),
+        Passage::Open => {
+            share_out_without_logs(rt, alloc, k, workers, passage, machine, acts, cycles)
+        }
+    }
 }
 
 /// A machine goes through a run in the thread of the caller.
@@ -241,6 +247,37 @@ fn share_out<const N: usize, const CAP: usize, R: Threads + Wait + Sync>(
     let blocks = in_order(shares, 1 << k, room);
     join(blocks, machine);
     Ok(())
+}
+
+/// The same where nobody looks at the blocks: the logs of the machine are set aside and not copied, and what its blocks tell
+/// comes to stand behind them. The acts have so many petit cycles.
+fn share_out_without_logs<const N: usize, const CAP: usize, R: Threads + Wait + Sync>(
+    rt: &R,
+    alloc: Global,
+    k: u8,
+    workers: u16,
+    passage: &Passage,
+    machine: &mut Machine<N, CAP>,
+    acts: &[Act],
+    cycles: usize,
+) -> Result<(), Want>
+    requires within { k ≤ N - N / 2 }
+    requires some { 0 < workers }
+    requires enough { workers ≤ 2 ^ k }
+    requires few { workers ≤ 64 }
+    requires long { IsFalse (is_long acts.now) }
+    requires clock { IsFalse (is_late machine.old.machine.clock acts.now) }
+    requires cycles { cycles ≡ cycles_in acts.now }
+    ensures ok { OnOk result (machine.new.machine ≡ run_of N CAP machine.old.machine acts.now) }
+    ensures account { OnOk result (SameLines (account N machine.new.machine)
+        (account N machine.old.machine ++ newly_injected N machine.old.machine machine.new.machine)) }
+    ensures err { OnErr result (machine.new.machine ≡ machine.old.machine) }
+{
+    let _clock = machine.clock();
+    let earlier = machine.set_logs_aside(alloc, cycles)?;
+    let done = share_out(rt, alloc, k, workers, passage, machine, acts);
+    machine.put_logs_back(earlier);
+    done
 }
 
 /// Asks whether the workers may begin, the one with the lowest number first.

@@ -19,9 +19,6 @@ const START: usize = 512;
 /// So many before they are through a round.
 const ROUND: usize = 8;
 
-/// And one while so many events of its logs are copied.
-const EVENTS: usize = 32;
-
 /// Whether nobody looks, and one thread runs a list before it was shared out and its blocks came through so many rounds.
 /// It has so many petit cycles.
 pub(crate) fn is_soon_done<const N: usize, const CAP: usize>(
@@ -38,11 +35,7 @@ pub(crate) fn is_soon_done<const N: usize, const CAP: usize>(
         return true;
     }
     let alone = cycles.saturating_mul(CYCLE).saturating_add(acts.len());
-    let copied = events_of(machine) / EVENTS;
-    let shared = rounds
-        .saturating_mul(ROUND)
-        .saturating_add(START)
-        .saturating_add(copied);
+    let shared = rounds.saturating_mul(ROUND).saturating_add(START);
     alone.saturating_sub(CUT) >> (12 - machine.dims()) <= shared
 }
 
@@ -58,15 +51,6 @@ fn is_at_rest<const N: usize, const CAP: usize>(machine: &Machine<N, CAP>) -> bo
         }
     }
     true
-}
-
-/// How many events stand in all its logs.
-fn events_of<const N: usize, const CAP: usize>(machine: &Machine<N, CAP>) -> usize {
-    let mut events: usize = 0;
-    for chip in 0..power_of_two(machine.dims()) {
-        events = events.saturating_add(machine.log(chip).len());
-    }
-    events
 }
 
 fn power_of_two(exponent: u8) -> u16

@@ -1,9 +1,9 @@
-use Rattle.std.proofs.Common.{rules, ◌≡◌, ◌+◌, ◌*◌, ◌<◌, ℕ, List, [], ◌∷◌, ◌++◌, Option, Some, None, get_or, subst, ap, sym, ◌∙◌, arith}
+use Rattle.std.proofs.Common.{◌≡◌, ◌+◌, ◌*◌, ◌<◌, ℕ, List, [], ◌∷◌, ◌++◌, None, get_or, subst, ap, sym, ◌∙◌, arith}
 use Rattle.cm_blocks.specs.Parcels.{Parcel}
 use Rattle.cm_board.specs.Courses.{Course}
 use Rattle.cm_workers.specs.Posts.{giver}
 use Rattle.cm_resident.specs.Lanes.{Run, ends_each, course, own, givers, kind_at}
-use Rattle.cm_resident.specs.Teams.{AreLanes, AreDealt}
+use Rattle.cm_resident.specs.Teams.{AreDealt}
 use Rattle.cm_resident.proofs.Dealing.{lanes_kept, at_place, dealt_more}
 use Rattle.cm_resident.proofs.lanes.deal_block.Goals as goal
 

@@ -1,6 +1,5 @@
-use Rattle.std.proofs.Common.{◌≡◌, ◌+◌, ◌/◌, ◌%◌, ℕ, None, length, get_or, ap, sym, ◌∙◌, arith}
+use Rattle.std.proofs.Common.{◌+◌, ◌/◌, ◌%◌, ℕ, None, length, get_or, ap, sym, ◌∙◌}
 use Rattle.cm_resident.specs.Lanes.{Run, ends_each, course}
-use Rattle.cm_resident.specs.Teams.{AreLanes}
 use Rattle.cm_resident.proofs.Dealing.{there_more, length_one}
 use Rattle.cm_resident.proofs.lanes.open_all.Goals as goal
 

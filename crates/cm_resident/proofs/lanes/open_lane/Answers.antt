@@ -1,4 +1,4 @@
-use Rattle.std.proofs.Common.{arith, ◌≡◌, ℕ}
+use Rattle.std.proofs.Common.{arith}
 use Rattle.cm_resident.specs.Lanes.{is_over, sent_in, rounds_in, Run}
 use Rattle.cm_resident.proofs.Picking.{picks_short}
 use Rattle.cm_resident.proofs.lanes.open_lane.Goals as goal

@@ -1,6 +1,5 @@
 use Rattle.std.proofs.Common.{rules, ◌≡◌, ◌<◌, ◌∙◌, ◌*◌, ◌%◌, ◌^◌, ℕ, length, get_or, refl, subst, sym, arith, lit<}
 use Rattle.std.proofs.lemmas.Nat.{one_shl}
-use Rattle.cm_workers.specs.Runs.{AreAfter}
 use Rattle.cm_resident.specs.declared.worker.Worker.{Worker}
 use Rattle.cm_resident.specs.declared.running.Ready.{Ready}
 use Rattle.cm_resident.specs.Lanes.{Run}

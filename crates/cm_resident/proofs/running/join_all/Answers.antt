@@ -1,4 +1,4 @@
-use Rattle.std.proofs.Common.{rules, ◌≡◌, subst}
+use Rattle.std.proofs.Common.{rules, subst}
 use Rattle.std.specs.Prelude.{IfSome}
 use Rattle.cm_resident.specs.Teams.{HasWorked}
 use Rattle.cm_resident.proofs.Fronts.{first_taken, rest_left, one_beside}

@@ -1,5 +1,4 @@
 use Rattle.std.proofs.Common.{rules, ◌≡◌, ap, subst, sym, ◌∙◌}
-use Rattle.cm_resident.specs.declared.worker.Worker.{Worker}
 use Rattle.cm_resident.specs.declared.running.Ready.{Ready}
 use Rattle.cm_resident.specs.Teams.{IsOfSome}
 use Rattle.cm_resident.proofs.Fronts.{first_taken, rest_left, one_beside}

@@ -1,9 +1,8 @@
-use Rattle.std.proofs.Common.{◌≡◌, ℕ, List, Some, map, subst, ap, sym, ◌∙◌}
+use Rattle.std.proofs.Common.{List, Some, map, subst, ap, sym, ◌∙◌}
 use Rattle.std.proofs.lemmas.List.{map-id}
 use Rattle.std.proofs.lemmas.Iterator.Adapters.{YieldsList-from_vec}
 use Rattle.std.proofs.lemmas.Iterator.Consumers.{YieldsList-end}
 use Rattle.cm_subcube.specs.Blocks.{KeptBlock}
-use Rattle.cm_resident.specs.Lanes.{Run}
 use Rattle.cm_resident.specs.Teams.{AreCut}
 use Rattle.cm_resident.proofs.Sharing.{just_cut}
 use Rattle.cm_resident.proofs.teams.cut_up.Goals as goal

@@ -1,9 +1,8 @@
-use Rattle.std.proofs.Common.{rules, ◌≡◌, ◌≢◌, ◌+◌, ◌-◌, ◌/◌, ◌<◌, ◌≤◌, ◌^◌, ℕ, List, [], ◌∷◌, ◌++◌, length, subst, ap, sym, ◌∙◌, arith}
+use Rattle.std.proofs.Common.{rules, ◌-◌, ◌/◌, ◌<◌, ◌≤◌, ◌^◌, ℕ, List, [], ◌∷◌, ◌++◌, length, subst, ap, sym, ◌∙◌}
 use Rattle.cm_subcube.specs.Blocks.{KeptBlock}
-use Rattle.cm_resident.specs.Lanes.{Run, ends_each, own, givers}
+use Rattle.cm_resident.specs.Lanes.{ends_each, own, givers}
 use Rattle.cm_resident.specs.Teams.{AreDealt, HasDealt}
 use Rattle.cm_resident.proofs.Dealing.{length_one}
-use Rattle.cm_resident.specs.Standing.{IsUnused}
 use Rattle.cm_resident.proofs.Sharing.{all_dealt, cut_kept, dealt_next, next_number}
 use Rattle.cm_resident.proofs.teams.deal_worker.Goals as goal
 

@@ -1,6 +1,5 @@
-use Rattle.std.proofs.Common.{◌≡◌, ◌-◌, ◌^◌, ◌∙◌, ap, subst, sym, arith}
+use Rattle.std.proofs.Common.{◌≡◌, ◌-◌, ◌^◌, ◌∙◌, arith}
 use Rattle.std.proofs.lemmas.Nat.{pow_pos}
-use Rattle.cm_workers.specs.Gates.{ComesBy}
 use Rattle.cm_resident.proofs.Working.{chips_are, leads_out, they_fit, comes_by, send_ready, get_ready, over_fit, has_seen}
 use Rattle.cm_resident.proofs.worker.exchange.Goals as goal
 

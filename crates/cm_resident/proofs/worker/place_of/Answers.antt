@@ -1,4 +1,4 @@
-use Rattle.std.proofs.Common.{◌≡◌, ◌+◌, ◌-◌, ◌^◌, ◌<◌, ◌≤◌, ◌*◌, suc, sym, ap, ◌∙◌, arith}
+use Rattle.std.proofs.Common.{◌≡◌, ◌+◌, ◌-◌, suc, sym, ap, ◌∙◌, arith}
 use Rattle.cm_resident.specs.Lanes.{place_of}
 use Rattle.cm_resident.proofs.Powers.{log_of_power, log_below}
 use Rattle.cm_resident.proofs.worker.place_of.Goals as goal
