@@ -1,0 +1,4 @@
+pub mod Agreeing
+pub mod Going
+pub mod Sending
+pub mod Sums

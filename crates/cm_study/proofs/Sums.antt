@@ -1,0 +1,69 @@
+-- Sums over numbers from 0 on, and lists that such numbers make, one number more.
+use Rattle.std.proofs.Common.{◌≡◌, ℕ, ◌+◌, ◌*◌, ◌^◌, List, [], ◌∷◌, ◌++◌, map, flat_map, sum, refl, sym, ap, ◌∙◌, arith, append-nil, append_assoc, map-id}
+use Rattle.std.specs.List.{range_with_len}
+use Rattle.std.proofs.lemmas.List.FromFn.{map-range_with_len_more}
+use Rattle.std.proofs.lemmas.List.Sums.{sum_by_push}
+use Rattle.std.proofs.lemmas.Grind.{flat_map-append}
+use Rattle.cm_model.specs.Each.{each_from}
+use Rattle.cm_study.specs.declared.counts.Counts.{Counts}
+use Rattle.cm_model.specs.Machine.{Machine}
+use Rattle.cm_study.specs.Adding.{added, AreWithin}
+use Rattle.cm_study.specs.Traces.{Traces}
+use Rattle.cm_study.specs.Counts.{taken_at, delivered_at, referred_at, standing_at, full_at, asking_at, counts_at, counts_to}
+
+-- one more
+pub each_from-more : {X : Type 0} (f : ℕ → X) (count : ℕ)
+    → each_from 0 (count + 1) f ≡ each_from 0 count f ++ f count ∷ []
+unfolding each_from
+each_from-more f count = map-range_with_len_more f 0 count count (omega arith)
+
+-- one more is added
+pub sum-each_from-more : (f : ℕ → ℕ) (count : ℕ) → sum (each_from 0 (count + 1) f) ≡ sum (each_from 0 count f) + f count
+sum-each_from-more f count = ap sum (each_from-more f count) ∙ sum_by_push (λ x. x) (each_from 0 count f) (f count)
+
+-- one number more
+pub range-more : (count : ℕ) → range_with_len 0 (count + 1) ≡ range_with_len 0 count ++ count ∷ []
+range-more count =
+    sym (map-id (range_with_len 0 (count + 1))) ∙ map-range_with_len_more (λ k. k) 0 count count (omega arith)
+    ∙ ap (λ ks. ks ++ count ∷ []) (map-id (range_with_len 0 count))
+
+-- what one number more gives comes behind
+pub flat_map-more : {X : Type 0} (f : ℕ → List X) (count : ℕ)
+    → flat_map f (range_with_len 0 (count + 1)) ≡ flat_map f (range_with_len 0 count) ++ f count
+flat_map-more f count =
+    ap (flat_map f) (range-more count) ∙ flat_map-append f (range_with_len 0 count) (count ∷ [])
+    ∙ ap (λ xs. flat_map f (range_with_len 0 count) ++ xs) (append-nil (f count))
+
+-- and so it is of a text to which it is added
+pub text-more : (f : ℕ → List ℕ) (start before after : List ℕ) (count : ℕ)
+    → before ≡ start ++ flat_map f (range_with_len 0 count) → after ≡ before ++ f count
+    → after ≡ start ++ flat_map f (range_with_len 0 (count + 1))
+text-more f start before after count so_far more =
+    more ∙ ap (λ xs. xs ++ f count) so_far ∙ append_assoc start (flat_map f (range_with_len 0 count)) (f count)
+    ∙ ap (λ xs. start ++ xs) (sym (flat_map-more f count))
+
+-- the numbers of one chip more
+pub counts_to-more : (count cap : ℕ) (before : List ℕ) (traces : Traces) (machine : Machine)
+    → counts_to (count + 1) cap before traces machine
+    ≡ added (counts_to count cap before traces machine) (counts_at cap before traces machine count)
+unfolding counts_to
+counts_to-more count cap before traces machine = λ i. record {
+  taken = sum-each_from-more (taken_at before machine) count i;
+  delivered = sum-each_from-more (delivered_at before machine) count i;
+  referred = sum-each_from-more (referred_at traces machine) count i;
+  standing = sum-each_from-more (standing_at machine) count i;
+  full = sum-each_from-more (full_at cap machine) count i;
+  asking = sum-each_from-more (asking_at machine) count i;
+}
+
+-- bounds of sums
+pub added-within : (count : ℕ) (these more all : Counts) → AreWithin (count * 2 ^ 72) these → AreWithin (2 ^ 72) more
+    → all ≡ added these more → AreWithin ((count + 1) * 2 ^ 72) all
+added-within count these more all low high is = record {
+  taken = omega (arith, low.taken, high.taken, ap (λ (k : Counts). k.taken) is);
+  delivered = omega (arith, low.delivered, high.delivered, ap (λ (k : Counts). k.delivered) is);
+  referred = omega (arith, low.referred, high.referred, ap (λ (k : Counts). k.referred) is);
+  standing = omega (arith, low.standing, high.standing, ap (λ (k : Counts). k.standing) is);
+  full = omega (arith, low.full, high.full, ap (λ (k : Counts). k.full) is);
+  asking = omega (arith, low.asking, high.asking, ap (λ (k : Counts). k.asking) is);
+}

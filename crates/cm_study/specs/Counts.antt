@@ -1,0 +1,84 @@
+-- What a petit cycle does to the messages of a machine, in numbers: sums over all chips. Ours.
+use Rattle.std.specs.Prelude.{ℕ, ◌^◌, Bool, true, false, List, drop, length, cond, nat_le, slice_index_or, sum, sum_by}
+use Rattle.std.specs.List.{count_by}
+use Rattle.cm_bits.specs.Bit.{bit_number}
+use Rattle.cm_model.specs.declared.message.Event.{Event}
+use Rattle.cm_model.specs.declared.message.Event.TheVariants.{Injected, Delivered}
+use Rattle.cm_model.specs.Each.{each_from}
+use Rattle.cm_model.specs.Processor.{SEND, flag}
+use Rattle.cm_model.specs.Chip.{processor_at}
+use Rattle.cm_model.specs.Array.{each_chip, chip_at, list_at}
+use Rattle.cm_model.specs.Machine.{Machine}
+use Rattle.cm_study.specs.declared.counts.Counts.{Counts}
+use Rattle.cm_study.specs.Traces.{Traces, trace_of, referrals}
+
+-- by chip, how many events its log has
+abbrev pub log_lengths : ℕ → Machine → List ℕ
+log_lengths n machine = each_chip n (λ c. length (list_at machine.logs c))
+
+-- the events of a chip behind those that were there before: by chip so many
+abbrev pub events_behind : List ℕ → Machine → ℕ → List Event
+events_behind before machine c = drop (slice_index_or before c 0) (list_at machine.logs c)
+
+abbrev pub is_injection : Event → Bool
+is_injection (Injected m) = true
+is_injection (Delivered m c) = false
+
+abbrev pub is_delivery : Event → Bool
+is_delivery (Injected m) = false
+is_delivery (Delivered m c) = true
+
+-- ---- of one chip
+
+-- messages that it took in
+abbrev pub taken_at : List ℕ → Machine → ℕ → ℕ
+taken_at before machine c = count_by is_injection (events_behind before machine c)
+
+-- messages that it delivered
+abbrev pub delivered_at : List ℕ → Machine → ℕ → ℕ
+delivered_at before machine c = count_by is_delivery (events_behind before machine c)
+
+-- how often messages that stand there were referred since
+abbrev pub referred_at : Traces → Machine → ℕ → ℕ
+referred_at traces machine c = sum_by (λ m. referrals (trace_of traces c m) m) (list_at machine.buffers c)
+
+-- messages that stand there
+abbrev pub standing_at : Machine → ℕ → ℕ
+standing_at machine c = length (list_at machine.buffers c)
+
+-- 1 if it has no room for another, with room for cap
+abbrev pub full_at : ℕ → Machine → ℕ → ℕ
+full_at cap machine c = cond (nat_le cap (length (list_at machine.buffers c))) 1 0
+
+-- its processors that ask to send
+abbrev pub asking_at : Machine → ℕ → ℕ
+asking_at machine c =
+    sum (each_from 0 16 (λ p. bit_number (flag (processor_at (chip_at machine.chips c) p) SEND)))
+
+-- all of them
+abbrev pub counts_at : ℕ → List ℕ → Traces → Machine → ℕ → Counts
+counts_at cap before traces machine c = record {
+  taken = taken_at before machine c;
+  delivered = delivered_at before machine c;
+  referred = referred_at traces machine c;
+  standing = standing_at machine c;
+  full = full_at cap machine c;
+  asking = asking_at machine c;
+}
+
+-- ---- of many
+
+-- of so many chips, from chip 0 on, after a petit cycle, where this was before
+unfoldable pub counts_to : ℕ → ℕ → List ℕ → Traces → Machine → Counts
+counts_to count cap before traces machine = record {
+  taken = sum (each_from 0 count (taken_at before machine));
+  delivered = sum (each_from 0 count (delivered_at before machine));
+  referred = sum (each_from 0 count (referred_at traces machine));
+  standing = sum (each_from 0 count (standing_at machine));
+  full = sum (each_from 0 count (full_at cap machine));
+  asking = sum (each_from 0 count (asking_at machine));
+}
+
+-- of all chips of a cube of n dimensions whose routers have room for cap messages each
+abbrev pub counts_of : ℕ → ℕ → List ℕ → Traces → Machine → Counts
+counts_of n cap before traces machine = counts_to (2 ^ n) cap before traces machine

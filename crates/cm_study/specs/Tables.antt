@@ -1,0 +1,85 @@
+-- The tables of a study, as texts: numbers in columns, with a comma between them. Ours.
+use Rattle.std.specs.Prelude.{ℕ, ◌^◌, List, [], ◌∷◌, ◌++◌, codes, decimal}
+use Rattle.std.specs.List.{flat_map, range_with_len}
+use Rattle.cm_model.specs.declared.message.Event.{Event}
+use Rattle.cm_model.specs.declared.message.Event.TheVariants.{Injected, Delivered}
+use Rattle.cm_model.specs.declared.message.Message.{Message}
+use Rattle.cm_model.specs.Array.{list_at}
+use Rattle.cm_model.specs.Machine.{Machine}
+use Rattle.cm_model.specs.Router.{target_from}
+use Rattle.cm_study.specs.declared.counts.Counts.{Counts}
+use Rattle.cm_study.specs.declared.trace.Trace.{Trace}
+use Rattle.cm_study.specs.Counts.{events_behind}
+use Rattle.cm_study.specs.Traces.{Traces, trace_of, followed}
+
+-- a number and the comma behind it
+abbrev pub column : ℕ → List ℕ
+column x = decimal x ++ 44 ∷ []
+
+-- the last number of a line, and its end
+abbrev pub last_column : ℕ → List ℕ
+last_column x = decimal x ++ 10 ∷ []
+
+-- three numbers, each with a comma behind it
+abbrev pub columns : ℕ → ℕ → ℕ → List ℕ
+columns x y z = column x ++ column y ++ column z
+
+-- ---- petit cycles
+
+abbrev pub cycles_header : List ℕ
+cycles_header = codes "cycle,taken,delivered,referred,standing,full,asking\n"
+
+-- the line of a petit cycle
+unfoldable pub cycle_line : ℕ → Counts → List ℕ
+cycle_line clock counts =
+    columns clock counts.taken counts.delivered ++ columns counts.referred counts.standing counts.full
+    ++ last_column counts.asking
+
+-- ---- messages
+
+abbrev pub messages_header : List ℕ
+messages_header = codes "chip,processor,taken,to chip,to processor,delivered,crossed,referred\n"
+
+-- who sent a message and when, each with a comma behind it
+abbrev pub tag_columns : Trace → List ℕ
+tag_columns trace = columns trace.tag.chip trace.tag.proc trace.tag.birth
+
+-- how many dimensions it crossed and how often it was referred
+abbrev pub way_columns : Trace → List ℕ
+way_columns trace = column trace.crossed ++ last_column trace.referred
+
+-- the line of a message that was delivered, to a processor of chip c in a petit cycle
+unfoldable pub delivered_line : ℕ → ℕ → Message → Trace → List ℕ
+delivered_line clock c m trace = tag_columns trace ++ columns c m.proc clock ++ way_columns trace
+
+-- where one that stands at chip c is bound for, and nothing of a delivery
+abbrev pub bound_columns : ℕ → Message → List ℕ
+bound_columns c m = column (target_from c m).chip ++ column m.proc ++ 44 ∷ []
+
+-- its line
+unfoldable pub standing_line : ℕ → Message → Trace → List ℕ
+standing_line c m trace = tag_columns trace ++ bound_columns c m ++ way_columns trace
+
+-- what an event of chip c tells of a delivery
+abbrev pub event_text : ℕ → Traces → ℕ → Event → List ℕ
+event_text clock traces c (Injected m) = []
+event_text clock traces c (Delivered m d) = delivered_line clock c m (followed (trace_of traces c m) m)
+
+-- the lines of the messages that a chip delivered
+abbrev pub delivered_text_at : ℕ → List ℕ → Traces → Machine → ℕ → List ℕ
+delivered_text_at clock before traces machine c =
+    flat_map (event_text clock traces c) (events_behind before machine c)
+
+-- of those that all chips delivered
+unfoldable pub delivered_text : ℕ → ℕ → List ℕ → Traces → Machine → List ℕ
+delivered_text n clock before traces machine =
+    flat_map (delivered_text_at clock before traces machine) (range_with_len 0 (2 ^ n))
+
+-- the lines of the messages that stand at a chip
+abbrev pub standing_text_at : Traces → Machine → ℕ → List ℕ
+standing_text_at traces machine c =
+    flat_map (λ m. standing_line c m (trace_of traces c m)) (list_at machine.buffers c)
+
+-- of those that stand in all routers
+unfoldable pub standing_text : ℕ → Traces → Machine → List ℕ
+standing_text n traces machine = flat_map (standing_text_at traces machine) (range_with_len 0 (2 ^ n))

@@ -1,0 +1,153 @@
+//! How a machine's numbers are counted, chip by chip.
+
+ghost use Rattle.std.specs.Prelude.{◌≡◌, ◌^◌, ◌<◌, ◌≤◌, IfOk, drop, slice_index_or, sum, sum_by};
+ghost use Rattle.std.specs.List.{count_by};
+ghost use Rattle.cm_bits.specs.Bit.{bit_number};
+ghost use Rattle.cm_model.specs.Each.{each_from};
+ghost use Rattle.cm_model.specs.Processor.{SEND, flag};
+ghost use Rattle.cm_model.specs.Chip.{processor_at};
+ghost use Rattle.cm_model.specs.Array.{each_chip};
+ghost use Rattle.cm_study.specs.Adding.{AreWithin};
+ghost use Rattle.cm_study.specs.Counts.{log_lengths, is_injection, is_delivery, counts_at, counts_of};
+ghost use Rattle.cm_study.specs.Traces.{trace_of, referrals};
+
+use crate::counts::Counts;
+use crate::ways::Ways;
+use cm_array::Machine;
+use cm_bits::{FlagNo, NoMemory, Proc};
+use cm_element::ChipView;
+use cm_model::{Event, Message};
+use std::alloc::Global;
+
+const PROCESSORS: u8 = 16;
+
+/// How many chips a cube has.
+pub(crate) fn chip_count<const N: usize>() -> u16
+    requires dimension { N ≤ 12 }
+    ensures value { result ≡ 2 ^ N }
+    ensures within { result ≤ 4096 }
+{
+    1 << N
+}
+
+/// By chip, how many events its log has.
+pub(crate) fn log_lengths<const N: usize, const CAP: usize>(
+    alloc: Global,
+    machine: &Machine<N, CAP>,
+) -> Result<Vec<usize>, NoMemory>
+    ensures value { IfOk result (λ lengths. lengths.items ≡ log_lengths N machine.now.machine) }
+{
+    let _dims = machine.dims();
+    let chips = chip_count::<N>();
+    let mut lengths = Vec::with_capacity(alloc, usize::from(chips))?;
+    for chip in 0..chips {
+        let Ok(()) = lengths.push(machine.log(chip).len()) else {
+            return Err(NoMemory);
+        };
+    }
+    Ok(lengths)
+}
+
+/// The numbers of a machine after a petit cycle, where its logs had so many events and this was known before.
+pub(crate) fn counts<const N: usize, const CAP: usize>(
+    before: &[usize],
+    ways: &Ways,
+    machine: &Machine<N, CAP>,
+) -> Counts
+    ensures value { result ≡ counts_of N CAP before.now ways.now machine.now.machine }
+{
+    let _dims = machine.dims();
+    let mut counts = Counts::NONE;
+    for chip in 0..chip_count::<N>() {
+        counts = counts.plus(counts_at(before, ways, machine, chip));
+    }
+    counts
+}
+
+/// The numbers of one chip.
+fn counts_at<const N: usize, const CAP: usize>(
+    before: &[usize],
+    ways: &Ways,
+    machine: &Machine<N, CAP>,
+    chip: u16,
+) -> Counts
+    requires chip { chip < 2 ^ N }
+    ensures value { result ≡ counts_at CAP before.now ways.now machine.now.machine chip }
+    ensures within { AreWithin (2 ^ 72) result }
+{
+    let events = events_behind(before, machine.log(chip), chip);
+    let messages = machine.buffer(chip);
+    Counts {
+        taken: injections(events) as u128,
+        delivered: deliveries(events) as u128,
+        referred: referred(ways, chip, messages),
+        standing: messages.len() as u128,
+        full: if messages.len() >= CAP { 1 } else { 0 },
+        asking: asking(&machine.chip(chip)),
+    }
+}
+
+/// The events of a chip behind those that were there before.
+pub(crate) fn events_behind<'a>(before: &[usize], log: &'a [Event], chip: u16) -> &'a [Event]
+    ensures value { result.now ≡ drop (slice_index_or before.now chip 0) log.now }
+{
+    let from = before.get(usize::from(chip)).copied().unwrap_or(0);
+    if from < log.len() { &log[from..] } else { &[] }
+}
+
+fn injections(events: &[Event]) -> usize
+    ensures value { result ≡ count_by is_injection events.now }
+{
+    events.iter().filter(|event| is_injection(event)).count()
+}
+
+fn is_injection(event: &Event) -> bool
+    ensures value { result ≡ is_injection event.now }
+{
+    matches!(event, Event::Injected(_))
+}
+
+fn deliveries(events: &[Event]) -> usize
+    ensures value { result ≡ count_by is_delivery events.now }
+{
+    events.iter().filter(|event| is_delivery(event)).count()
+}
+
+fn is_delivery(event: &Event) -> bool
+    ensures value { result ≡ is_delivery event.now }
+{
+    matches!(event, Event::Delivered { .. })
+}
+
+/// How often the messages that stand at a chip were referred since.
+fn referred(ways: &Ways, chip: u16, messages: &[Message]) -> u128
+    ensures value { result ≡ sum_by (λ m. referrals (trace_of ways.now chip m) m) messages.now }
+    ensures within { result ≤ 2 ^ 72 }
+{
+    let mut total = 0;
+    for message in messages {
+        total += u128::from(ways.of(chip, message).referrals(message));
+    }
+    total
+}
+
+/// How many processors of a chip ask to send.
+fn asking(chip: &ChipView<'_>) -> u128
+    ensures value { result
+        ≡ sum (each_from 0 16 (λ p. bit_number (flag (processor_at chip.now p) SEND))) }
+    ensures within { result ≤ 16 }
+{
+    let mut total = 0;
+    for p in 0..PROCESSORS {
+        let proc = Proc::new(p).unwrap();
+        total += bit_number(chip.flag(proc, FlagNo::SEND));
+    }
+    total
+}
+
+fn bit_number(bit: bool) -> u128
+    ensures value { result ≡ bit_number bit }
+    ensures within { result ≤ 1 }
+{
+    if bit { 1 } else { 0 }
+}

@@ -1,0 +1,16 @@
+//! Studies of the router: what each petit cycle of a program does, and the way of each message.
+#![tactic(auto)]
+
+mod counting;
+mod counts;
+mod known;
+mod studies;
+mod study_laws;
+mod tables;
+mod trace;
+mod ways;
+
+pub use counts::Counts;
+pub use studies::{StudyFault, Table, study};
+pub use study_laws::counts_agree_with_the_account;
+pub use trace::Trace;
