@@ -2,8 +2,9 @@
 
 ghost use Rattle.std.specs.Prelude.{◌≡◌, ◌<◌, ◌^◌};
 
-use crate::machines::{SEND, address, agree, flag, processor};
 use cm_array::{Machine, Plain, Runner};
+use cm_bits::FlagNo;
+use cm_draws::{address, are_same, processor};
 use cm_model::Act;
 use cm_subcube::{SplitFault, copy_by_blocks};
 use std::alloc::Global;
@@ -21,7 +22,7 @@ fn busy<const N: usize, const CAP: usize>(alloc: Global, chips: u16) -> Option<M
                 machine.poke(c, proc, address(3968 + u16::from(i)), bit);
             }
             machine.poke(c, proc, address(3984), p & 1 == 0);
-            let _ = machine.poke_flag(c, proc, flag(SEND), true);
+            let _ = machine.poke_flag(c, proc, FlagNo::SEND, true);
         }
     }
     Plain.go(&mut machine, &[Act::Cycle, Act::Cycle]).ok()?;
@@ -48,7 +49,7 @@ fn comes_back<const N: usize, const CAP: usize>(alloc: Global, chips: u16, k: u8
     let mut other = busy::<N, CAP>(alloc, chips)?;
     Plain.go(&mut other, &[Act::Cycle]).ok()?;
     copy_by_blocks(alloc, &machine, k, &mut other).ok()?;
-    Some(has_events(&machine, chips) && agree(&machine, &other, chips))
+    Some(has_events(&machine, chips) && are_same(&machine, &other, chips))
 }
 
 #[test]

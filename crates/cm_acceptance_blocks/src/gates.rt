@@ -5,8 +5,9 @@ ghost use Rattle.std.specs.List.{All};
 ghost use Rattle.std.specs.Thread.{IsSync};
 ghost use Rattle.cm_workers.specs.Gates.{ComesBy};
 
-use crate::machines::{agree, flag, poke_plane};
-use cm_array::{Machine, Plain, RunFault, Runner};
+use cm_array::{Machine, RunFault, Runner};
+use cm_bits::FlagNo;
+use cm_draws::{poke_plane, run_beside_plain};
 use cm_model::Act;
 use cm_subcube::Block;
 use cm_workers::{Forked, Gate, Passage};
@@ -56,8 +57,8 @@ impl Gate for Reluctant {
 /// A machine of sixteen chips in which some processors ask to send.
 fn asking(alloc: Global) -> Option<Machine<4, 7>> {
     let mut machine = Machine::<4, 7>::blank(alloc).ok()?;
-    poke_plane(&mut machine, 0, flag(12), 0x00ff);
-    poke_plane(&mut machine, 9, flag(12), 0xf0f0);
+    poke_plane(&mut machine, 0, FlagNo::SEND, 0x00ff);
+    poke_plane(&mut machine, 9, FlagNo::SEND, 0xf0f0);
     Some(machine)
 }
 
@@ -69,23 +70,8 @@ fn no_calls(alloc: Global) -> Option<Arc<Calls, Global>> {
     Arc::new(alloc, calls).ok()
 }
 
-/// How a runner ends a petit cycle, and whether the machine is then as one thread leaves it, or else as it was.
-fn cycle<X: Runner<4, 7>>(
-    runner: &mut X,
-    alloc: Global,
-    machine: &mut Machine<4, 7>,
-) -> Option<(Option<RunFault>, bool)>
-    requires runner { X.ready }
-{
-    let mut wanted = machine.copy(alloc).ok()?;
-    let refused = runner.go(machine, &[Act::Cycle]).err();
-    if refused.is_none() {
-        Plain.go(&mut wanted, &[Act::Cycle]).ok()?;
-    }
-    Some((refused, agree(machine, &wanted, 16)))
-}
-
-/// The same, and how often the gate was asked and passed so far.
+/// How a runner ends a petit cycle, whether the machine is then as one thread leaves it, or else as it was; and how often
+/// the gate was asked and passed so far.
 type Cycled = ((Option<RunFault>, bool), (u64, u64));
 
 /// What two petit cycles tell, one after the other.
@@ -97,9 +83,9 @@ fn cycles<X: Runner<4, 7>>(
 ) -> Option<[Cycled; 2]>
     requires runner { X.ready }
 {
-    let first = cycle(runner, alloc, machine)?;
+    let first = run_beside_plain(runner, alloc, machine, &[Act::Cycle], 16)?;
     let between = calls.told();
-    let second = cycle(runner, alloc, machine)?;
+    let second = run_beside_plain(runner, alloc, machine, &[Act::Cycle], 16)?;
     Some([(first, between), (second, calls.told())])
 }
 

@@ -4,19 +4,11 @@
 #[cfg(test)]
 mod copies;
 #[cfg(test)]
-mod drawn;
-#[cfg(test)]
-mod draws;
-#[cfg(test)]
 mod gates;
 #[cfg(test)]
-mod going;
-#[cfg(test)]
-mod machines;
+mod growths;
 #[cfg(test)]
 mod meeting;
-#[cfg(test)]
-mod messages;
 #[cfg(test)]
 mod refused;
 #[cfg(test)]

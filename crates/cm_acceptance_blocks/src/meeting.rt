@@ -5,15 +5,13 @@ ghost use Rattle.std.specs.List.{All};
 ghost use Rattle.std.specs.Thread.{IsSync};
 ghost use Rattle.cm_workers.specs.Gates.{ComesBy};
 
-use crate::going::{buffers_at_rounds, end_of};
-use crate::machines::agree;
-use crate::messages::{has_one_of_four, program};
-use cm_array::{Machine, Plain, Runner};
+use cm_array::Machine;
+use cm_draws::{four_messages_each, has_one_of_four, one_of_four, run_beside_plain};
 use cm_message::Message;
 use cm_model::Act;
 use cm_subcube::Block;
 use cm_workers::{Forked, Gate, Passage};
-use std::alloc::Global;
+use std::alloc::{AllocError, Global};
 use std::hint::spin_loop;
 use std::sync::atomic::{AtomicU64, Ordering};
 use std::sync::{Arc, Wait};
@@ -64,23 +62,102 @@ impl Notes {
     }
 }
 
-/// A gate of so many workers that meet in each round. By round and chip it has the messages that should stand there.
+/// A message of the program, as it stands at some chip: which processor sent it, and over which dimensions it has come. All
+/// chips do the same, so each has as many, alike but for where they come from.
+#[derive(Clone, Copy)]
+struct Letter {
+    sender: u8,
+    crossed: u16,
+}
+
+impl Letter {
+    /// As it stands at a chip; all go over four dimensions.
+    fn at(self, chip: u16) -> Message {
+        one_of_four(15 ^ self.crossed, chip ^ self.crossed, self.sender % 16)
+    }
+}
+
+/// Those that stand at a chip after a dimension: the first that has still to cross it goes, and the one that comes stands
+/// last.
+fn after_dimension(alloc: Global, letters: &[Letter], dim: u8) -> Result<Vec<Letter>, AllocError> {
+    let mut stand = Vec::new(alloc);
+    let mut gone = None;
+    for letter in letters {
+        let bit = 1u16 << dim.min(3);
+        if gone.is_none() && letter.crossed & bit == 0 {
+            gone = Some(Letter {
+                crossed: letter.crossed | bit,
+                ..*letter
+            });
+        } else {
+            stand.push(*letter)?;
+        }
+    }
+    if let Some(letter) = gone {
+        stand.push(letter)?;
+    }
+    Ok(stand)
+}
+
+/// Without the first that has arrived.
+fn after_delivery(alloc: Global, letters: &[Letter]) -> Result<Vec<Letter>, AllocError> {
+    let mut stand = Vec::new(alloc);
+    let mut is_delivered = false;
+    for letter in letters {
+        if is_delivered || letter.crossed != 15 {
+            stand.push(*letter)?;
+        } else {
+            is_delivered = true;
+        }
+    }
+    Ok(stand)
+}
+
+/// Those that stand at a chip before each of 128 rounds, two in each petit cycle: before dimensions 2 and 3. A processor
+/// takes in one, and no other then.
+fn letters_at_rounds(alloc: Global) -> Result<Vec<Vec<Letter>>, AllocError> {
+    let mut rounds = Vec::new(alloc);
+    let mut letters = Vec::new(alloc);
+    for sender in 0..4 {
+        letters.push(Letter { sender, crossed: 0 })?;
+    }
+    for _cycle in 0..64 {
+        for dim in 0..4 {
+            if dim >= 2 {
+                rounds.push(letters.as_slice().to_vec(alloc)?)?;
+            }
+            letters = after_dimension(alloc, &letters, dim)?;
+        }
+        if letters.len() == 4 {
+            letters = after_delivery(alloc, &letters)?;
+        }
+    }
+    Ok(rounds)
+}
+
+/// A gate of so many workers that meet in each round. By round it has what should stand at a chip.
 #[derive(Drop)]
 struct Meeting {
     workers: u16,
     notes: Arc<Notes, Global>,
-    lists: Vec<Vec<Vec<Message>>>,
+    letters: Vec<Vec<Letter>>,
 }
 
 impl Meeting {
     /// Whether these messages stand at a chip before a round.
     fn has(&self, round: u32, chip: u16, messages: &[Message]) -> bool {
-        let at_round = self.lists.get(round as usize);
-        let at_chip = at_round.and_then(|chips| chips.get(usize::from(chip)));
-        match at_chip {
-            Some(wanted) => wanted.as_slice() == messages,
-            None => false,
+        let Some(letters) = self.letters.get(round as usize) else {
+            return false;
+        };
+        if letters.len() != messages.len() {
+            return false;
         }
+        for (letter, message) in letters.iter().zip(messages) {
+            if letter.at(chip) != *message {
+                return false;
+            }
+        }
+        true
     }
 }
 
@@ -100,7 +177,7 @@ impl Gate for Meeting {
             self.notes.wrong.fetch_add(1, Ordering::SeqCst);
         }
         for block in blocks {
-            for chip in block.first()..end_of(block) {
+            for chip in block.first()..block.first().saturating_add(4) {
                 self.notes.shown.fetch_add(1, Ordering::SeqCst);
                 if !self.has(round, chip, block.buffer(chip)) {
                     self.notes.wrong.fetch_add(1, Ordering::SeqCst);
@@ -122,13 +199,6 @@ fn are_of(worker: u16, workers: u16, blocks: &[Block]) -> bool {
     number >= 4
 }
 
-/// Whether a machine that went through the program of messages is as one thread leaves it.
-fn is_as_plain(alloc: Global, machine: &Machine<4, 7>, acts: &[Act]) -> Result<bool, Fail> {
-    let mut plain = Machine::<4, 7>::blank(alloc)?;
-    Plain.go(&mut plain, acts)?;
-    Ok(has_one_of_four(machine) && agree(machine, &plain, 16))
-}
-
 fn no_notes(alloc: Global) -> Result<Arc<Notes, Global>, Fail> {
     let notes = Notes {
         came: AtomicU64::new(0),
@@ -139,37 +209,36 @@ fn no_notes(alloc: Global) -> Result<Arc<Notes, Global>, Fail> {
     Ok(Arc::new(alloc, notes)?)
 }
 
-/// A machine goes through the acts by so many workers that meet.
+/// Whether so many workers that meet go through the program of messages as one thread, and the messages are where they
+/// should be then.
 fn meet<R: Threads + Wait>(
     rt: &R,
     alloc: Global,
     workers: u16,
-    machine: &mut Machine<4, 7>,
     acts: &[Act],
     notes: &Arc<Notes, Global>,
-) -> Result<(), Fail>
+) -> Result<bool, Fail>
     requires threads { IsSync R.row }
 {
     let gate = Meeting {
         workers,
         notes: Arc::try_clone(notes)?,
-        lists: buffers_at_rounds(alloc, machine, acts, 2)?,
+        letters: letters_at_rounds(alloc)?,
     };
     let passage = Passage::Gated(Box::new(alloc, gate)?);
     let mut forked = Forked::new::<4>(rt, alloc, 2, workers, passage)?;
-    forked.go(machine, acts)?;
-    Ok(())
+    let mut machine = Machine::<4, 7>::blank(alloc)?;
+    let ran = run_beside_plain(&mut forked, alloc, &mut machine, acts, 16);
+    Ok(ran == Some((None, true)) && has_one_of_four(&machine))
 }
 
 /// What all noted, and whether the machine is as one thread leaves it.
 fn told<R: Threads + Wait>(rt: &R, alloc: Global, workers: u16) -> Result<([u64; 4], bool), Fail>
     requires threads { IsSync R.row }
 {
-    let acts = program(alloc)?;
+    let acts = four_messages_each(alloc)?;
     let notes = no_notes(alloc)?;
-    let mut machine = Machine::<4, 7>::blank(alloc)?;
-    meet(rt, alloc, workers, &mut machine, &acts, &notes)?;
-    let is_plain = is_as_plain(alloc, &machine, &acts)?;
+    let is_plain = meet(rt, alloc, workers, &acts, &notes)?;
     Ok((notes.told(), is_plain))
 }
 

@@ -1,9 +1,9 @@
 //! Rows of processors that go from one block to the next.
 
-use crate::going::go_by_blocks;
-use crate::machines::{NEWS, flag, poke_plane, sent_on};
 use cm_array::Machine;
-use cm_bits::{Dir, Plane};
+use cm_bits::{Dir, FlagNo, Plane};
+use cm_draws::{address, flag, poke_plane};
+use cm_model::{Act, Nano};
 use std::alloc::Global;
 use std::test::Fail;
 
@@ -22,24 +22,17 @@ pub(crate) fn two_chips(alloc: Global, planes: [Plane; 2]) -> Result<Machine<1, 
     Ok(machine)
 }
 
-/// What is left where two chips, a block each, send flag 0.
-fn left(alloc: Global, dir: Dir, planes: [Plane; 2]) -> Result<[Plane; 2], Fail> {
-    let mut machine = two_chips(alloc, planes)?;
-    go_by_blocks(alloc, &mut machine, &[sent_on(flag(0), dir)], 1)?;
-    let news = flag(NEWS);
-    Ok([
-        machine.chip(0).flag_plane(news),
-        machine.chip(1).flag_plane(news),
-    ])
-}
-
-#[test]
-fn two_chips_of_a_block_each_send_their_last_and_first_rows_to_each_other(
-    rt: HostRuntime,
-) -> Result<(), Fail> {
-    for row in &ROWS {
-        let (dir, planes, wanted) = *row;
-        assert_eq!(rt; left(rt.alloc(), dir, planes)?, wanted);
-    }
-    Ok(())
+/// Every processor sends a flag of its own to its neighbour, which has it in flag NEWS then.
+pub(crate) fn sent_on(read: FlagNo, dir: Dir) -> Act {
+    Act::Nano(Nano {
+        a: address(0),
+        b: address(0),
+        read,
+        write: FlagNo::NEWS,
+        cond: FlagNo::ZERO,
+        sense: false,
+        mem_table: 0xf0,
+        flag_table: 0xaa,
+        dir,
+    })
 }

@@ -3,13 +3,12 @@
 ghost use Rattle.std.specs.Prelude.{◌≡◌, ◌<◌, ◌^◌};
 ghost use Rattle.std.specs.Thread.{IsSync};
 
-use crate::drawn::{ask_again, drawn};
-use crate::draws::Draws;
-use crate::machines::{NEWS, agree, flag, sent_on};
-use crate::messages::{has_one_of_four, program};
-use crate::rows::{ROWS, two_chips};
-use cm_array::{Machine, Plain, Runner};
-use cm_bits::{Dir, Plane};
+use crate::rows::{ROWS, sent_on, two_chips};
+use cm_array::{Machine, Runner};
+use cm_bits::{Dir, FlagNo, Plane};
+use cm_draws::{
+    Draws, ask_again, asking_machine, flag, four_messages_each, has_one_of_four, run_beside_plain,
+};
 use cm_model::Act;
 use cm_workers::{Forked, Passage};
 use std::alloc::Global;
@@ -27,21 +26,6 @@ pub(crate) struct Share {
 /// How many lists of acts each random machine goes through.
 const LISTS: u8 = 2;
 
-/// A machine goes through the acts by workers.
-fn run<const N: usize, const CAP: usize, R: Threads + Wait>(
-    rt: &R,
-    alloc: Global,
-    machine: &mut Machine<N, CAP>,
-    acts: &[Act],
-    share: Share,
-) -> Result<(), Fail>
-    requires threads { IsSync R.row }
-{
-    let mut forked = Forked::new::<N>(rt, alloc, share.k, share.workers, Passage::Open)?;
-    forked.go(machine, acts)?;
-    Ok(())
-}
-
 /// Whether a machine goes through the acts by workers as it does on one thread.
 fn runs_as_plain<const N: usize, const CAP: usize, R: Threads + Wait>(
     rt: &R,
@@ -50,45 +34,44 @@ fn runs_as_plain<const N: usize, const CAP: usize, R: Threads + Wait>(
     acts: &[Act],
     share: Share,
     chips: u16,
-) -> Result<bool, Fail>
+) -> Option<bool>
     requires chips { chips ≡ 2 ^ N }
     requires threads { IsSync R.row }
 {
-    let mut plain = machine.copy(alloc)?;
-    Plain.go(&mut plain, acts)?;
-    run(rt, alloc, machine, acts, share)?;
-    Ok(agree(machine, &plain, chips))
+    let mut forked = Forked::new::<N>(rt, alloc, share.k, share.workers, Passage::Open).ok()?;
+    let ran = run_beside_plain(&mut forked, alloc, machine, acts, chips)?;
+    Some(ran == (None, true))
 }
 
-/// Whether a random machine goes as on one thread, where it is shared out so.
+/// Whether a drawn machine goes as on one thread, where it is shared out so.
 fn goes<const N: usize, const CAP: usize, R: Threads + Wait>(
     rt: &R,
     alloc: Global,
     chips: u16,
     share: Share,
-) -> Result<bool, Fail>
+) -> Option<bool>
     requires chips { chips ≡ 2 ^ N }
     requires threads { IsSync R.row }
 {
     let mut draws = Draws::new(u32::from(share.workers));
-    let mut machine = drawn::<N, CAP>(alloc, &mut draws, chips)?;
+    let mut machine = asking_machine::<N, CAP>(alloc, &mut draws, chips)?;
     for _list in 0..LISTS {
-        let acts = draws.acts(alloc, 16)?;
+        let acts = draws.acts(alloc, 16).ok()?;
         if !runs_as_plain(rt, alloc, &mut machine, &acts, share, chips)? {
-            return Ok(false);
+            return Some(false);
         }
         ask_again(&mut machine, &mut draws, chips);
     }
-    Ok(true)
+    Some(true)
 }
 
-/// Whether random machines do by 2^`k` blocks: with 1, 2, 3 and as many workers as blocks, where there are so many.
+/// Whether drawn machines do by 2^`k` blocks: with 1, 2, 3 and as many workers as blocks, where there are so many.
 fn go_by<const N: usize, const CAP: usize, R: Threads + Wait>(
     rt: &R,
     alloc: Global,
     chips: u16,
     k: u8,
-) -> Result<bool, Fail>
+) -> Option<bool>
     requires chips { chips ≡ 2 ^ N }
     requires k { k < 7 }
     requires threads { IsSync R.row }
@@ -96,10 +79,10 @@ fn go_by<const N: usize, const CAP: usize, R: Threads + Wait>(
     let blocks = 1 << k;
     for workers in [1, 2, 3, blocks] {
         if workers <= blocks && !goes::<N, CAP, R>(rt, alloc, chips, Share { k, workers })? {
-            return Ok(false);
+            return Some(false);
         }
     }
-    Ok(true)
+    Some(true)
 }
 
 /// Whether they do for each number of blocks up to 2^`most`.
@@ -108,45 +91,41 @@ fn go<const N: usize, const CAP: usize, R: Threads + Wait>(
     alloc: Global,
     chips: u16,
     most: u8,
-) -> Result<bool, Fail>
+) -> Option<bool>
     requires chips { chips ≡ 2 ^ N }
     requires most { most < 7 }
     requires threads { IsSync R.row }
 {
     for k in 0..=most {
         if !go_by::<N, CAP, R>(rt, alloc, chips, k)? {
-            return Ok(false);
+            return Some(false);
         }
     }
-    Ok(true)
+    Some(true)
 }
 
 #[test]
-fn machines_of_two_to_sixteen_chips_go_by_workers_as_on_one_thread(
-    rt: HostRuntime,
-) -> Result<(), Fail> {
+fn machines_of_two_to_sixteen_chips_go_by_workers_as_on_one_thread(rt: HostRuntime) {
     let alloc = rt.alloc();
     let gone = [
-        go::<1, 1, HostRuntime>(&rt, alloc, 2, 1)?,
-        go::<2, 7, HostRuntime>(&rt, alloc, 4, 1)?,
-        go::<3, 2, HostRuntime>(&rt, alloc, 8, 2)?,
-        go::<4, 1, HostRuntime>(&rt, alloc, 16, 2)?,
+        go::<1, 1, HostRuntime>(&rt, alloc, 2, 1),
+        go::<2, 7, HostRuntime>(&rt, alloc, 4, 1),
+        go::<3, 2, HostRuntime>(&rt, alloc, 8, 2),
+        go::<4, 1, HostRuntime>(&rt, alloc, 16, 2),
     ];
-    assert_eq!(rt; gone, [true; 4]);
-    Ok(())
+    assert_eq!(rt; gone, [Some(true); 4]);
 }
 
 #[test]
-fn machines_of_32_to_256_chips_go_by_workers_as_on_one_thread(rt: HostRuntime) -> Result<(), Fail> {
+fn machines_of_32_to_256_chips_go_by_workers_as_on_one_thread(rt: HostRuntime) {
     let alloc = rt.alloc();
     let gone = [
-        go::<5, 4, HostRuntime>(&rt, alloc, 32, 3)?,
-        go::<6, 1, HostRuntime>(&rt, alloc, 64, 3)?,
-        go::<7, 2, HostRuntime>(&rt, alloc, 128, 4)?,
-        go::<8, 7, HostRuntime>(&rt, alloc, 256, 4)?,
+        go::<5, 4, HostRuntime>(&rt, alloc, 32, 3),
+        go::<6, 1, HostRuntime>(&rt, alloc, 64, 3),
+        go::<7, 2, HostRuntime>(&rt, alloc, 128, 4),
+        go::<8, 7, HostRuntime>(&rt, alloc, 256, 4),
     ];
-    assert_eq!(rt; gone, [true; 4]);
-    Ok(())
+    assert_eq!(rt; gone, [Some(true); 4]);
 }
 
 static SHARES: [Share; 5] = [
@@ -159,13 +138,13 @@ static SHARES: [Share; 5] = [
 
 /// Whether so many workers go through the program of messages as one thread, and the messages are where they should be
 /// then.
-fn sent<R: Threads + Wait>(rt: &R, alloc: Global, share: Share) -> Result<(bool, bool), Fail>
+fn sent<R: Threads + Wait>(rt: &R, alloc: Global, share: Share) -> Option<(bool, bool)>
     requires threads { IsSync R.row }
 {
-    let acts = program(alloc)?;
-    let mut machine = Machine::<4, 7>::blank(alloc)?;
+    let acts = four_messages_each(alloc).ok()?;
+    let mut machine = Machine::<4, 7>::blank(alloc).ok()?;
     let alike = runs_as_plain(rt, alloc, &mut machine, &acts, share, 16)?;
-    Ok((alike, has_one_of_four(&machine)))
+    Some((alike, has_one_of_four(&machine)))
 }
 
 #[test]
@@ -173,7 +152,7 @@ fn workers_send_four_messages_of_each_of_sixteen_chips_across_the_cube(
     rt: HostRuntime,
 ) -> Result<(), Fail> {
     for share in &SHARES {
-        assert_eq!(rt; sent(&rt, rt.alloc(), *share)?, (true, true), "{share:?}");
+        assert_eq!(rt; sent(&rt, rt.alloc(), *share), Some((true, true)), "{share:?}");
     }
     Ok(())
 }
@@ -189,12 +168,11 @@ fn passed<R: Threads + Wait>(
     requires threads { IsSync R.row }
 {
     let mut machine = two_chips(alloc, planes)?;
-    let share = Share { k: 1, workers };
-    run(rt, alloc, &mut machine, &[sent_on(flag(0), dir)], share)?;
-    let news = flag(NEWS);
+    let mut forked = Forked::new::<1>(rt, alloc, 1, workers, Passage::Open)?;
+    forked.go(&mut machine, &[sent_on(flag(0), dir)])?;
     Ok([
-        machine.chip(0).flag_plane(news),
-        machine.chip(1).flag_plane(news),
+        machine.chip(0).flag_plane(FlagNo::NEWS),
+        machine.chip(1).flag_plane(FlagNo::NEWS),
     ])
 }
 

@@ -2,15 +2,11 @@
 #![tactic(auto)]
 
 #[cfg(test)]
-mod draws;
-#[cfg(test)]
 mod gates;
 #[cfg(test)]
-mod machines;
+mod growths;
 #[cfg(test)]
 mod meeting;
-#[cfg(test)]
-mod messages;
 #[cfg(test)]
 mod program;
 #[cfg(test)]

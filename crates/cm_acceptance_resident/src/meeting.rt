@@ -5,9 +5,8 @@ ghost use Rattle.std.specs.List.{All};
 ghost use Rattle.std.specs.Thread.{IsSync};
 ghost use Rattle.cm_workers.specs.Gates.{ComesBy};
 
-use crate::machines::agree;
-use crate::messages::{has_one_of_four, program};
-use cm_array::{Machine, Plain, Runner};
+use cm_array::{Machine, Runner};
+use cm_draws::{four_messages_each, has_one_of_four, run_beside_plain};
 use cm_model::Act;
 use cm_resident::Resident;
 use cm_subcube::Block;
@@ -135,13 +134,6 @@ fn are_of(worker: u16, workers: u16, cut: Cut, blocks: &[Block]) -> bool {
     number >= cut.blocks
 }
 
-/// Whether a machine that went through the program of messages is as one thread leaves it.
-fn is_as_plain(alloc: Global, machine: &Machine<4, 7>, acts: &[Act]) -> Result<bool, Fail> {
-    let mut plain = Machine::<4, 7>::blank(alloc)?;
-    Plain.go(&mut plain, acts)?;
-    Ok(has_one_of_four(machine) && agree(machine, &plain, 16))
-}
-
 pub(crate) fn no_notes(alloc: Global) -> Result<Arc<Notes, Global>, Fail> {
     let notes = Notes {
         came: AtomicU64::new(0),
@@ -152,16 +144,16 @@ pub(crate) fn no_notes(alloc: Global) -> Result<Arc<Notes, Global>, Fail> {
     Ok(Arc::new(alloc, notes)?)
 }
 
-/// A machine goes through the acts by so many workers that wait so.
+/// Whether so many workers that wait so go through the program of messages as one thread, and the messages are where they
+/// should be then.
 fn meet<R: Threads + Wait + Sync>(
     rt: &R,
     alloc: Global,
     waits: Waits,
     workers: u16,
-    machine: &mut Machine<4, 7>,
     acts: &[Act],
     notes: &Arc<Notes, Global>,
-) -> Result<(), Fail>
+) -> Result<bool, Fail>
     requires threads { IsSync R.row }
 {
     let gate = Meeting {
@@ -172,8 +164,9 @@ fn meet<R: Threads + Wait + Sync>(
     };
     let passage = Passage::Gated(Box::new(alloc, gate)?);
     let mut resident = Resident::new::<4>(rt, alloc, 2, workers, passage)?;
-    resident.go(machine, acts)?;
-    Ok(())
+    let mut machine = Machine::<4, 7>::blank(alloc)?;
+    let ran = run_beside_plain(&mut resident, alloc, &mut machine, acts, 16);
+    Ok(ran == Some((None, true)) && has_one_of_four(&machine))
 }
 
 /// What all noted, and whether the machine is as one thread leaves it.
@@ -185,11 +178,9 @@ fn told<R: Threads + Wait + Sync>(
 ) -> Result<([u64; 3], bool), Fail>
     requires threads { IsSync R.row }
 {
-    let acts = program(alloc)?;
+    let acts = four_messages_each(alloc)?;
     let notes = no_notes(alloc)?;
-    let mut machine = Machine::<4, 7>::blank(alloc)?;
-    meet(rt, alloc, waits, workers, &mut machine, &acts, &notes)?;
-    let is_plain = is_as_plain(alloc, &machine, &acts)?;
+    let is_plain = meet(rt, alloc, waits, workers, &acts, &notes)?;
     Ok((notes.told(), is_plain))
 }
 

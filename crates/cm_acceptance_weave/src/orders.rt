@@ -1,9 +1,10 @@
 //! Orders of steps, each of which ends in the machine of one thread.
 
-use crate::machines::{Draws, agree, drawn, sent_on};
+use crate::machines::sent_on;
 use crate::trial::Trial;
 use cm_array::{Machine, Plain, Runner};
 use cm_bits::Dir;
+use cm_draws::{Draws, are_same, asking_machine};
 use cm_exchange::Step;
 use cm_model::Act;
 use cm_subcube::rounds;
@@ -40,7 +41,9 @@ impl Stages {
 /// Which blocks, one after another, take a step: by place from the lowest bit on, the block of that number.
 fn takes(alloc: Global, machine: Machine<1, 2>, order: u16) -> Result<Option<Machine<1, 2>>, Fail> {
     let acts = [Act::Cycle];
-    let mut world = Trial::new(alloc, machine, &acts, 1)?;
+    let Some(mut world) = Trial::new(alloc, machine, &acts, 1) else {
+        return Err(Fail::new("there is no world"));
+    };
     let mut stages = Stages { of: [0; 4] };
     for place in 0u16..8 {
         if !stages.goes_on(&mut world, order >> place & 1) {
@@ -53,7 +56,9 @@ fn takes(alloc: Global, machine: Machine<1, 2>, order: u16) -> Result<Option<Mac
 /// Of all orders of eight steps of two blocks, how many can be taken, and of how many of these the machine is that of
 /// one thread.
 fn counted(alloc: Global) -> Result<(u16, u16), Fail> {
-    let machine = drawn::<1, 2>(alloc, 7, 2)?;
+    let Some(machine) = asking_machine::<1, 2>(alloc, &mut Draws::new(7), 2) else {
+        return Err(Fail::new("no machine was drawn"));
+    };
     let mut plain = machine.copy(alloc)?;
     Plain.go(&mut plain, &[Act::Cycle])?;
     let mut taken = 0u16;
@@ -61,7 +66,7 @@ fn counted(alloc: Global) -> Result<(u16, u16), Fail> {
     for order in 0u16..256 {
         if let Some(after) = takes(alloc, machine.copy(alloc)?, order)? {
             taken = taken.wrapping_add(1);
-            if agree(&after, &plain, 2) {
+            if are_same(&after, &plain, 2) {
                 alike = alike.wrapping_add(1);
             }
         }
@@ -98,7 +103,9 @@ fn ends_as(
     steps: usize,
     draws: &mut Draws,
 ) -> Result<bool, Fail> {
-    let mut world = Trial::new(alloc, machine, &acts(), 2)?;
+    let Some(mut world) = Trial::new(alloc, machine, &acts(), 2) else {
+        return Err(Fail::new("there is no world"));
+    };
     let mut stages = Stages { of: [0; 4] };
     let mut left = steps;
     for _draw in 0..MOST_DRAWS {
@@ -113,14 +120,16 @@ fn ends_as(
         }
     }
     match world.finish() {
-        Some(after) => Ok(agree(&after, wanted, 16)),
+        Some(after) => Ok(are_same(&after, wanted, 16)),
         None => Ok(false),
     }
 }
 
 /// How many of so many drawn orders do.
 fn alike(alloc: Global, count: u16) -> Result<u16, Fail> {
-    let machine = drawn::<4, 1>(alloc, 3, 16)?;
+    let Some(machine) = asking_machine::<4, 1>(alloc, &mut Draws::new(3), 16) else {
+        return Err(Fail::new("no machine was drawn"));
+    };
     let mut plain = machine.copy(alloc)?;
     Plain.go(&mut plain, &acts())?;
     let steps = rounds(alloc, 4, &acts(), 2)?.len().saturating_mul(16);

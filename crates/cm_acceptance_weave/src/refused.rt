@@ -1,7 +1,7 @@
 //! Of which machines and acts no world is made.
 
-use crate::machines::agree;
 use cm_array::{Builder, Machine};
+use cm_draws::are_same;
 use cm_model::Act;
 use cm_weave::{World, WorldFault};
 use std::alloc::Global;
@@ -34,7 +34,7 @@ fn fault_of(
     let acts = vec![in alloc; Act::Cycle; cycles]?;
     match World::new(alloc, machine, &acts, k) {
         Ok(_) => Ok((None, true)),
-        Err(refused) => Ok((Some(refused.fault), agree(&refused.machine, &same, 16))),
+        Err(refused) => Ok((Some(refused.fault), are_same(&refused.machine, &same, 16))),
     }
 }
 

@@ -37,7 +37,10 @@ static EIGHT: [Step; 8] = [
 
 fn two_chips(alloc: Global, acts: &[Act]) -> Result<Trial<1, 1>, Fail> {
     let machine = Machine::<1, 1>::blank(alloc)?;
-    Trial::new(alloc, machine, acts, 1)
+    match Trial::new(alloc, machine, acts, 1) {
+        Some(world) => Ok(world),
+        None => Err(Fail::new("there is no world")),
+    }
 }
 
 /// How many of the steps are answered as they should be, until one is not; and whether the world is finished then.

@@ -5,7 +5,6 @@ use cm_exchange::Step;
 use cm_model::Act;
 use cm_weave::World;
 use std::alloc::Global;
-use std::test::Fail;
 
 #[derive(Drop)]
 pub(crate) struct Trial<const N: usize, const CAP: usize> {
@@ -18,11 +17,9 @@ impl<const N: usize, const CAP: usize> Trial<N, CAP> {
         machine: Machine<N, CAP>,
         acts: &[Act],
         k: u8,
-    ) -> Result<Trial<N, CAP>, Fail> {
-        match World::new(alloc, machine, acts, k) {
-            Ok(world) => Ok(Trial { world }),
-            Err(_) => Err(Fail::new("there is no world")),
-        }
+    ) -> Option<Trial<N, CAP>> {
+        let world = World::new(alloc, machine, acts, k).ok()?;
+        Some(Trial { world })
     }
 
     pub(crate) fn k(&self) -> u8 {

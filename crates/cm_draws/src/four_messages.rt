@@ -63,8 +63,8 @@ pub fn four_messages_each(alloc: Global) -> Result<Vec<Act>, AllocError> {
     Ok(acts)
 }
 
-/// A message to processor 5 that was sent at the beginning.
-fn message(rel: u16, chip: u16, sender: u8) -> Message
+/// A message of theirs: how far it has to go, and which chip and processor sent it.
+pub fn one_of_four(rel: u16, chip: u16, sender: u8) -> Message
     requires sender { sender < 16 }
 {
     Message {
@@ -87,14 +87,14 @@ fn tag(chip: u16, sender: u8) -> Tag
 
 /// Whether after them chip 15 has sent four, got one and has three more for its processor 5.
 pub fn has_one_of_four(machine: &Machine<4, 7>) -> bool {
-    let waiting = [message(0, 0, 3), message(0, 0, 0), message(0, 0, 1)];
+    let waiting = [one_of_four(0, 0, 3), one_of_four(0, 0, 0), one_of_four(0, 0, 1)];
     let events = [
-        Event::Injected(message(15, 15, 0)),
-        Event::Injected(message(15, 15, 1)),
-        Event::Injected(message(15, 15, 2)),
-        Event::Injected(message(15, 15, 3)),
+        Event::Injected(one_of_four(15, 15, 0)),
+        Event::Injected(one_of_four(15, 15, 1)),
+        Event::Injected(one_of_four(15, 15, 2)),
+        Event::Injected(one_of_four(15, 15, 3)),
         Event::Delivered {
-            message: message(0, 0, 2),
+            message: one_of_four(0, 0, 2),
             chip: 15,
         },
     ];

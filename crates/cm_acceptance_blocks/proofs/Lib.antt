@@ -1,3 +1,0 @@
-mod Places
-mod Turns
-mod Ends
