@@ -6,6 +6,7 @@ use Rattle.std.proofs.lemmas.List.Elements.{All-from_get_or}
 use Rattle.std.specs.List.{All, slice_range}
 use Rattle.cm_model.specs.declared.message.Message.{Message}
 use Rattle.cm_model.specs.declared.message.Event.{Event}
+use Rattle.cm_model.specs.Wiring.{plain_routing}
 use Rattle.cm_blocks.specs.Parts.{cut, part}
 use Rattle.cm_blocks.proofs.Cutting.{length-cut, read-cut_at}
 use Rattle.cm_router.specs.Logs.{Log, log_rooms_of}
@@ -90,4 +91,5 @@ module _ (n cap first count : ℕ) (old new : Parts) (were : AreParts n cap old)
     buffers = are.buffers i;
     logs = are.logs i;
     clock = are.clock i;
+    routing = plain_routing;
   }

@@ -13,6 +13,7 @@ use Rattle.cm_model.specs.declared.act.Nano.{Nano}
 use Rattle.cm_model.specs.declared.message.Message.{Message}
 use Rattle.cm_model.specs.Processor.{Processor}
 use Rattle.cm_model.specs.Whole.{IsChip}
+use Rattle.cm_model.specs.Wiring.{plain_routing}
 use Rattle.cm_model.specs.Array.{Chips, chip_at, after_nano}
 use Rattle.cm_model.specs.Each.{each_from}
 use Rattle.cm_model.specs.Chip.{blank_chip, with_flag}
@@ -47,6 +48,7 @@ IsMachine-with_chips n cap machine chips long whole h = record {
   room = h.room;
   messages = h.messages;
   events = h.events;
+  routing = h.routing;
   births = h.births;
   tags = h.tags;
   injected = h.injected;
@@ -68,7 +70,13 @@ AreUnderWay-parts n cap parts h = record {
 pub machine_of-gathered : (parts : Parts) (crossing : UnderWay) → crossing.buffers ≡ parts.crossing.buffers
     → machine_of (record parts { crossing = crossing }) ≡ machine_of parts
 machine_of-gathered parts crossing same =
-    λ i. record { chips = parts.run; buffers = same i; logs = events_of parts.logs.items; clock = parts.clock }
+    λ i. record {
+      chips = parts.run;
+      buffers = same i;
+      logs = events_of parts.logs.items;
+      clock = parts.clock;
+      routing = plain_routing;
+    }
 
 pub AreParts-gathered : (n cap : ℕ) (parts : Parts) (crossing : UnderWay) → crossing.buffers ≡ parts.crossing.buffers
     → IsTrue crossing.gathered
@@ -107,7 +115,13 @@ pub AreUnderWay-instructed : (n cap : ℕ) (nano : Nano) (before after : Parts) 
     → length after.incoming.items ≡ 2 ^ n → after.crossing ≡ before.crossing → AreUnderWay n cap after
 AreUnderWay-instructed n cap nano before after h chips logs clock sent incoming crossing =
     AreUnderWay-after_act n cap (act.Nano nano) before after h
-    (λ i. record { chips = chips i; buffers = (crossing i).buffers; logs = events_of (logs i).items; clock = clock i })
+    (λ i. record {
+      chips = chips i;
+      buffers = (crossing i).buffers;
+      logs = events_of (logs i).items;
+      clock = clock i;
+      routing = plain_routing;
+    })
     (sent ∙ sym h.sent_count) (incoming ∙ sym h.incoming_count) (omega (arith, clock, h.clock))
 
 -- where the counter alone is another after acts, they are the parts of a machine still
@@ -197,7 +211,13 @@ machine_of-blank n count parts all chips buffers logs =
     ∙ ap (λ (k : ℕ). each_from 0 k (λ c. [])) all in
     let all_logs : events_of parts.logs.items ≡ each_from 0 (2 ^ n) (λ c. []) = logs
     ∙ ap (λ (k : ℕ). each_from 0 k (λ c. [])) all in
-    λ i. record { chips = all_chips i; buffers = all_buffers i; logs = all_logs i; clock = parts.clock }
+    λ i. record {
+      chips = all_chips i;
+      buffers = all_buffers i;
+      logs = all_logs i;
+      clock = parts.clock;
+      routing = plain_routing;
+    }
 
 -- they are the parts of a machine
 pub AreParts-blank : (n cap count : ℕ) (parts : Parts) → n ≤ 12 → 1 ≤ cap → cap ≤ 15 → count ≡ 2 ^ n
@@ -270,6 +290,7 @@ AreParts-copied n cap count parts copy h counted chips crossing logs clock sent 
             buffers = (sym crossing i).buffers;
             logs = sym logs i;
             clock = sym clock i;
+            routing = plain_routing;
           })
           h.machine;
     }

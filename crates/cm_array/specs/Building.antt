@@ -2,6 +2,7 @@
 use Rattle.std.specs.Prelude.{◌≡◌, ℕ, ◌<◌, ◌≤◌, ◌^◌, length}
 use Rattle.std.specs.List.{All}
 use Rattle.cm_model.specs.Whole.{IsChip}
+use Rattle.cm_model.specs.Wiring.{IsRouting}
 use Rattle.cm_model.specs.Array.{chip_at, list_at}
 use Rattle.cm_model.specs.Machine.{Machine}
 use Rattle.cm_model.specs.Keeping.{HasRoom, HasMessages}
@@ -18,6 +19,7 @@ pub record IsUnfinished (n cap : ℕ) (machine : Machine) : Type 0 where
   pub messages : HasMessages n machine
   pub born : (c : ℕ) → c < 2 ^ n → All (λ m. m.tag.birth < machine.clock) (list_at machine.buffers c)
   pub unlogged : IsUnlogged n machine
+  pub routing : IsRouting n machine.routing
 
 -- the parts of such a machine, with sizes and working room as every machine has them
 pub record AreUnfinished (n cap : ℕ) (parts : Parts) : Type 0 where

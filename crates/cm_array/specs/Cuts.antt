@@ -2,6 +2,7 @@
 use Rattle.std.specs.Prelude.{◌≡◌, ℕ, ◌+◌, ◌<◌, ◌≤◌, ◌^◌, Bool, List, [], ◌∷◌, length, slice_index}
 use Rattle.std.specs.List.{All, flat_map}
 use Rattle.cm_model.specs.Array.{list_at}
+use Rattle.cm_model.specs.Wiring.{Routing, plain_routing}
 use Rattle.cm_model.specs.Machine.{Machine}
 use Rattle.cm_model.specs.Keeping.{AreSizes, IsMachine}
 use Rattle.cm_blocks.specs.Parts.{Part}
@@ -48,6 +49,11 @@ abbrev pub first_clock : List Part → ℕ
 first_clock [] = 0
 first_clock (s ∷ rest) = s.clock
 
+-- and how it routes
+abbrev pub first_routing : List Part → Routing
+first_routing [] = plain_routing
+first_routing (s ∷ rest) = s.routing
+
 -- the machine that they are, in their order
 abbrev pub joined : List Part → Machine
 joined parts = record {
@@ -55,6 +61,7 @@ joined parts = record {
   buffers = flat_map (λ s. s.buffers) parts;
   logs = flat_map (λ s. s.logs) parts;
   clock = first_clock parts;
+  routing = first_routing parts;
 }
 
 -- one counter stands in all of them

@@ -5,6 +5,7 @@ ghost use Rattle.std.specs.Prelude.{IsOkUnless, IsTrue, OnOk, OnErr, None, false
 ghost use Rattle.cm_model.specs.Processor.{ZERO, memory_bit};
 ghost use Rattle.cm_model.specs.Chip.{IsPlane, processor_at};
 ghost use Rattle.cm_model.specs.Array.{chip_at, wire, list_at};
+ghost use Rattle.cm_model.specs.Wiring.{plain_routing};
 ghost use Rattle.cm_model.specs.Machine.{blank_machine, run_of};
 ghost use Rattle.cm_model.specs.Found.{found_in, IsWhereabouts};
 ghost use Rattle.cm_model.specs.Keeping.{IsMachine, AreSizes};
@@ -265,6 +266,7 @@ impl<const N: usize, const CAP: usize> Machine<N, CAP> {
         ensures within { result < 2 ^ 63 }
         ensures sizes { AreSizes N CAP }
         ensures whole { IsMachine N CAP self.now.machine }
+        ensures plain { self.now.machine.routing ≡ plain_routing }
     {
         self.parts.clock
     }

@@ -1,6 +1,7 @@
 //! Parts that are put together: they become a machine in their order.
 
 ghost use Rattle.std.specs.Prelude.{◌≡◌, ℕ, ◌+◌, ◌<◌, ◌≤◌, ◌^◌, [], IsTrue, length, map};
+ghost use Rattle.cm_model.specs.Wiring.{plain_routing};
 ghost use Rattle.cm_model.specs.Array.{list_at};
 ghost use Rattle.cm_petit.specs.Routers.{events_of};
 ghost use Rattle.cm_array.specs.Parts.{machine_of};
@@ -68,6 +69,7 @@ fn put_one(parts: &mut Parts, at: usize, piece: Part) -> usize
     ensures logs { IsLaid at piece.part.logs (events_of parts.old.logs.items) (events_of parts.new.logs.items) }
     ensures clock { parts.new.clock ≡ piece.part.clock }
     ensures within { parts.new.clock < 2 ^ 63 }
+    ensures routing { piece.part.routing ≡ plain_routing }
     ensures sent { length parts.new.sent.items ≡ length parts.old.sent.items }
     ensures incoming { length parts.new.incoming.items ≡ length parts.old.incoming.items }
 {

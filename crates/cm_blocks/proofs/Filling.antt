@@ -10,7 +10,7 @@ use Rattle.std.specs.Option.{option_to_list}
 use Rattle.cm_model.specs.declared.message.Message.{Message}
 use Rattle.cm_model.specs.Machine.{Machine}
 use Rattle.cm_model.specs.Steps.{Step, Instruct, Look, Inject, Cross, Deliver, IsStep}
-use Rattle.cm_model.specs.Wiring.{plain_way}
+use Rattle.cm_model.specs.Wiring.{is_cut, way_of}
 use Rattle.cm_model.specs.Buffers.{leaving_place, without, buffer_after_dimension}
 use Rattle.cm_model.proofs.Each.{get_or-each_from, same_each}
 use Rattle.cm_model.specs.Keeping.{HasRoom}
@@ -68,7 +68,8 @@ unfolding part less absorbed part_after buffer_after_dimension
 dimension n cap k b d machine parcel high =
     let s : Part = block n k b machine in
     let first : ℕ = b * size n k in
-    let stays : ℕ → List Message = λ c. without (buffer_in s c) (leaving_place plain_way cap d (buffer_in s c)) in
+    let stays : ℕ → List Message = λ c. without (buffer_in s c)
+    (leaving_place (way_of machine.routing c d) cap d (buffer_in s c)) in
     let buffers = same_each [] first (size n k)
     (λ c. buffer_in (less cap (Cross d) s) c ++ option_to_list (mail_in parcel (c - first)))
     (λ c. stays c ++ option_to_list (mail_for cap d parcel s c))
@@ -96,18 +97,20 @@ leaving_then_taking_in n cap k b machine Deliver h l s round = absurd (let wrong
 
 -- a chip whose leaver is gone has room
 pub leaving_makes_room : (n cap k b d c : ℕ) (machine : Machine) → k ≤ n → b < 2 ^ k → 0 < cap → HasRoom n cap machine
-    → b * size n k ≤ c → c < b * size n k + size n k →
+    → b * size n k ≤ c → c < b * size n k + size n k → is_cut machine.routing c d ≡ false →
     length (buffer_in (less cap (Cross d) (block n k b machine)) c) < cap
 unfolding part less
-leaving_makes_room n cap k b d c machine h l some room from below =
+leaving_makes_room n cap k b d c machine h l some room from below joined =
     let s : Part = block n k b machine in
     let first : ℕ = b * size n k in
     let fits : first + size n k ≤ 2 ^ n = block-fits n k b h l in
-    let stays : ℕ → List Message = λ e. without (buffer_in s e) (leaving_place plain_way cap d (buffer_in s e)) in
+    let stays : ℕ → List Message = λ e. without (buffer_in s e)
+    (leaving_place (way_of machine.routing e d) cap d (buffer_in s e)) in
     let number : first + (c - first) ≡ c = omega arith in
     let here : buffer_in s c ≡ list_at machine.buffers c = read-buffer first (size n k) machine c from below in
     let kept : buffer_in (less cap (Cross d) s) c ≡ stays c =
     get_or-each_from first (size n k) stays (c - first) [] (omega arith) ∙ ap stays number in
     let within : length (buffer_in s c) ≤ cap =
     subst (λ (ms : List Message). length ms ≤ cap) (sym here) (room c (omega arith)) in
-    subst (λ (ms : List Message). length ms < cap) (sym kept) (makes_room plain_way cap d (buffer_in s c) refl within some)
+    subst (λ (ms : List Message). length ms < cap) (sym kept)
+    (makes_room (way_of machine.routing c d) cap d (buffer_in s c) joined within some)

@@ -64,6 +64,7 @@ part-injection n cap first count machine parcel h =
       buffers = buffers j;
       logs = logs j;
       clock = machine.clock;
+      routing = machine.routing;
     }
 
 pub part-delivery : (n cap first count : ℕ) (machine : Machine) (parcel : Parcel) → first + count ≤ 2 ^ n
@@ -98,4 +99,5 @@ part-delivery n cap first count machine parcel h =
       buffers = buffers j;
       logs = logs j;
       clock = machine.clock + 1;
+      routing = machine.routing;
     }

@@ -9,8 +9,8 @@ use Rattle.cm_model.specs.Each.{each_from}
 use Rattle.cm_model.specs.Array.{list_at}
 use Rattle.cm_model.specs.Machine.{Machine}
 use Rattle.cm_model.specs.Steps.{Cross}
-use Rattle.cm_model.specs.Wiring.{plain_way}
-use Rattle.cm_model.specs.Buffers.{outgoing, buffer_after_dimension, machine_after_dimension}
+use Rattle.cm_model.specs.Wiring.{way_of}
+use Rattle.cm_model.specs.Buffers.{outgoing, sent_across, buffer_after_dimension, machine_after_dimension}
 use Rattle.cm_model.proofs.Each.{get_or-each_from}
 use Rattle.cm_blocks.specs.Parts.{Part, part, block, size, is_within, buffer_in}
 use Rattle.cm_blocks.specs.Parcels.{Parcel, due, sender}
@@ -59,7 +59,7 @@ high_across m b i d h l =
 mail_is : (n cap k b d : ℕ) (machine : Machine) (i : ℕ) → k ≤ n → b < 2 ^ k → d < n → i < size n k →
     mail_for cap d (due n cap (Cross d) (block n k (sender n k (Cross d) b) machine)) (block n k b machine)
     (b * size n k + i)
-    ≡ outgoing plain_way cap d (list_at machine.buffers (bit_xor (b * size n k + i) (2 ^ d)))
+    ≡ sent_across machine.routing cap d machine.buffers (bit_xor (b * size n k + i) (2 ^ d))
 unfolding part due
 mail_is n cap k b d machine i h l below inside =
     let m : ℕ = n - k in
@@ -68,7 +68,7 @@ mail_is n cap k b d machine i h l below inside =
     let sent : Part = block n k from machine in
     let other : ℕ = bit_xor (b * size n k + i) (2 ^ d) in
     ⊎_elim
-    (λ (e : is_within s other ≡ true). rw e (ap (outgoing plain_way cap d)
+    (λ (e : is_within s other ≡ true). rw e (ap (outgoing (way_of machine.routing other d) cap d)
     (read-buffer (b * size n k) (size n k) machine other (within-from s other e) (within-below s other e))))
     (λ (e : is_within s other ≡ false). rw e
     (⊎_elim
@@ -77,12 +77,14 @@ mail_is n cap k b d machine i h l below inside =
     (λ (high : m ≤ d).
     let there : other ≡ from * size n k + i = high_across m b i d high inside in
     let place : b * size n k + i - b * size n k ≡ i = omega arith in
-    ap (λ (z : ℕ). get_or (each_from (from * size n k) (size n k) (λ c. outgoing plain_way cap d (buffer_in sent c))) z None)
+    ap (λ (z : ℕ). get_or (each_from (from * size n k) (size n k)
+    (λ c. outgoing (way_of machine.routing c d) cap d (buffer_in sent c))) z None)
     place
-    ∙ (get_or-each_from (from * size n k) (size n k) (λ c. outgoing plain_way cap d (buffer_in sent c)) i None inside
-    ∙ ap (outgoing plain_way cap d)
-    (read-buffer (from * size n k) (size n k) machine (from * size n k + i) (omega arith) (omega arith)
-    ∙ ap (list_at machine.buffers) (sym there))))
+    ∙ (get_or-each_from (from * size n k) (size n k)
+    (λ c. outgoing (way_of machine.routing c d) cap d (buffer_in sent c)) i None inside
+    ∙ (ap (outgoing (way_of machine.routing (from * size n k + i) d) cap d)
+    (read-buffer (from * size n k) (size n k) machine (from * size n k + i) (omega arith) (omega arith))
+    ∙ ap (sent_across machine.routing cap d machine.buffers) (sym there))))
     (cases_lt d m)))
     (cases_Bool (is_within s other))
 
@@ -96,10 +98,11 @@ block-cross n cap k b d machine h l below =
     let s : Part = block n k b machine in
     let parcel : Parcel = due n cap (Cross d) (block n k (sender n k (Cross d) b) machine) in
     let buffers = cut-same [] first (size n k) (2 ^ n)
-    (λ c. buffer_after_dimension plain_way cap d (list_at machine.buffers c)
-    (outgoing plain_way cap d (list_at machine.buffers (bit_xor c (2 ^ d)))))
-    (λ c. buffer_after_dimension plain_way cap d (buffer_in s c) (mail_for cap d parcel s c)) (block-fits n k b h l)
-    (λ i inside. λ j. buffer_after_dimension plain_way cap d
+    (λ c. buffer_after_dimension (way_of machine.routing c d) cap d (list_at machine.buffers c)
+    (sent_across machine.routing cap d machine.buffers (bit_xor c (2 ^ d))))
+    (λ c. buffer_after_dimension (way_of machine.routing c d) cap d (buffer_in s c) (mail_for cap d parcel s c))
+    (block-fits n k b h l)
+    (λ i inside. λ j. buffer_after_dimension (way_of machine.routing (first + i) d) cap d
     (sym (read-buffer first (size n k) machine (first + i) (omega arith) (omega arith)) j)
     (sym (mail_is n cap k b d machine i h l below inside) j)) in
     λ j. record {
@@ -109,4 +112,5 @@ block-cross n cap k b d machine h l below =
       buffers = buffers j;
       logs = s.logs;
       clock = machine.clock;
+      routing = machine.routing;
     }

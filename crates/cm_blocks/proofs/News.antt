@@ -238,4 +238,5 @@ block-instruct n cap k b nano machine h l =
       buffers = s.buffers;
       logs = s.logs;
       clock = machine.clock;
+      routing = machine.routing;
     }

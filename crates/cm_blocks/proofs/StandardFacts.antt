@@ -1,6 +1,7 @@
 -- Worked values of the definitions, which the checker computes: rounds, senders, edges.
 use Rattle.std.proofs.Common.{◌≡◌, true, false, [], ◌∷◌, length, replicate, refl}
 use Rattle.cm_bits.specs.declared.plane.Dir.TheVariants.{North, South}
+use Rattle.cm_model.specs.Wiring.{plain_routing}
 use Rattle.cm_model.specs.declared.act.Nano.{Nano}
 use Rattle.cm_model.specs.declared.act.Act.TheVariants as act
 use Rattle.cm_model.specs.Steps.{Instruct, Inject, Cross, Deliver, steps_in}
@@ -70,7 +71,7 @@ from_above = refl
 
 -- block 1 of the four has the second row of chips: rows 4 to 7 of the grid
 abbrev second : Part
-second = record { first = 4; count = 4; chips = []; buffers = []; logs = []; clock = 0 }
+second = record { first = 4; count = 4; chips = []; buffers = []; logs = []; clock = 0; routing = plain_routing }
 
 its_first_row : edge_row 4 North second ≡ 4
 its_first_row = refl

@@ -13,7 +13,7 @@ use Rattle.cm_model.specs.Processor.{NEWS}
 use Rattle.cm_model.specs.Chip.{chip_after}
 use Rattle.cm_model.specs.Steps.{Step, Instruct, Look, Inject, Cross, Deliver, IsStep}
 use Rattle.cm_model.specs.Machine.{Machine}
-use Rattle.cm_model.specs.Wiring.{plain_way}
+use Rattle.cm_model.specs.Wiring.{way_of}
 use Rattle.cm_model.specs.Buffers.{buffer_after_dimension, after_step}
 use Rattle.cm_model.proofs.Each.{same_each}
 use Rattle.cm_model.proofs.Incoming.{same_chip}
@@ -118,8 +118,8 @@ unfolding part part_after
 any-dimension n cap k b d machine parcel other low =
     let s : Part = block n k b machine in
     let buffers = same_each [] (b * size n k) (size n k)
-    (λ c. buffer_after_dimension plain_way cap d (buffer_in s c) (mail_for cap d parcel s c))
-    (λ c. buffer_after_dimension plain_way cap d (buffer_in s c) (mail_for cap d other s c))
+    (λ c. buffer_after_dimension (way_of machine.routing c d) cap d (buffer_in s c) (mail_for cap d parcel s c))
+    (λ c. buffer_after_dimension (way_of machine.routing c d) cap d (buffer_in s c) (mail_for cap d other s c))
     (λ i inside. let within : is_within s (bit_xor (b * size n k + i) (2 ^ d)) ≡ true =
     stays_within n k b d machine i low inside in
     rw within refl) in

@@ -6,6 +6,7 @@ use Rattle.cm_model.specs.Steps.{Step, Cross, IsStep, Phase}
 use Rattle.cm_model.specs.Machine.{Machine, run_of}
 use Rattle.cm_model.specs.Buffers.{after_step}
 use Rattle.cm_model.specs.Keeping.{HasRoom}
+use Rattle.cm_model.specs.Wiring.{is_cut}
 use Rattle.cm_blocks.specs.Rounds.{is_round, rounds, steps_between, steps_until, before_round}
 use Rattle.cm_blocks.specs.Parts.{block, size, buffer_in}
 use Rattle.cm_blocks.specs.Parcels.{Blank, due, sender}
@@ -61,8 +62,8 @@ LeavingThenTakingIn = (n cap k b : ℕ) (machine : Machine) (step : Step) → k 
     absorbed n cap step (due n cap step (block n k (sender n k step b) machine)) (less cap step (block n k b machine))
     ≡ part_after n cap step (due n cap step (block n k (sender n k step b) machine)) (block n k b machine)
 
--- once who leaves is gone, each chip has room for one message that comes
+-- once who leaves is gone, each chip has room for one message that comes, unless its wire is cut and none does
 abbrev pub LeavingMakesRoom : Type 0
 LeavingMakesRoom = (n cap k b d c : ℕ) (machine : Machine) → k ≤ n → b < 2 ^ k → 0 < cap → HasRoom n cap machine
-    → b * size n k ≤ c → c < b * size n k + size n k →
+    → b * size n k ≤ c → c < b * size n k + size n k → is_cut machine.routing c d ≡ false →
     length (buffer_in (less cap (Cross d) (block n k b machine)) c) < cap

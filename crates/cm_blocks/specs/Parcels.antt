@@ -7,7 +7,7 @@ use Rattle.cm_model.specs.declared.message.Message.{Message}
 use Rattle.cm_model.specs.Each.{each_from}
 use Rattle.cm_model.specs.Place.{chip_columns, columns, place_at}
 use Rattle.cm_model.specs.Array.{output}
-use Rattle.cm_model.specs.Wiring.{plain_way}
+use Rattle.cm_model.specs.Wiring.{way_of}
 use Rattle.cm_model.specs.Buffers.{outgoing}
 use Rattle.cm_model.specs.Steps.{Step, Instruct, Look, Inject, Cross, Deliver}
 use Rattle.cm_blocks.specs.Parts.{Part, chip_in, buffer_in}
@@ -42,7 +42,7 @@ due n cap (Instruct nano) s =
     Edge (each_from 0 (columns n) (λ column. output nano (chip_in s) (place_at n (edge_row n nano.dir s) column)))
 due n cap Look s = Blank
 due n cap Inject s = Blank
-due n cap (Cross d) s = Mail (each_from s.first s.count (λ c. outgoing plain_way cap d (buffer_in s c)))
+due n cap (Cross d) s = Mail (each_from s.first s.count (λ c. outgoing (way_of s.routing c d) cap d (buffer_in s c)))
 due n cap Deliver s = Blank
 
 -- the block of 2 ^ k from which block b gets its parcel: over NEWS northward the one below it,

@@ -4,13 +4,14 @@ use Rattle.cm_model.specs.declared.message.Message.{Message}
 use Rattle.cm_model.specs.declared.message.Event.{Event}
 use Rattle.cm_model.specs.Processor.{Processor}
 use Rattle.cm_model.specs.Array.{Chips}
+use Rattle.cm_model.specs.Wiring.{Routing}
 use Rattle.cm_model.specs.Machine.{Machine}
 
 -- so many elements of a list, from a place on
 unfoldable pub cut : {X : Type 0} → ℕ → ℕ → List X → List X
 cut first count xs = take count (drop first xs)
 
--- some chips of a machine, with their buffers and logs, and its counter
+-- some chips of a machine, with their buffers and logs, its counter and how it routes
 pub record Part : Type 0 where
   -- the number of the first chip, and how many there are
   pub first : ℕ
@@ -20,6 +21,8 @@ pub record Part : Type 0 where
   pub buffers : List (List Message)
   pub logs : List (List Event)
   pub clock : ℕ
+  -- the machine's own, its wires by numbers of the whole cube
+  pub routing : Routing
 
 -- so many chips of a machine, from one on
 unfoldable pub part : ℕ → ℕ → Machine → Part
@@ -30,6 +33,7 @@ part first count machine = record {
   buffers = cut first count machine.buffers;
   logs = cut first count machine.logs;
   clock = machine.clock;
+  routing = machine.routing;
 }
 
 -- how many chips each of 2 ^ k blocks of a cube of n dimensions has

@@ -12,7 +12,7 @@ use Rattle.cm_model.specs.Processor.{NEWS}
 use Rattle.cm_model.specs.Chip.{chip_after}
 use Rattle.cm_model.specs.Array.{output, chain_output}
 use Rattle.cm_model.specs.Letters.{chip_after_injection, chip_after_delivery}
-use Rattle.cm_model.specs.Wiring.{plain_way}
+use Rattle.cm_model.specs.Wiring.{way_of}
 use Rattle.cm_model.specs.Buffers.{leaving_place, without, outgoing, buffer_after_dimension}
 use Rattle.cm_model.specs.OneChip.{taken_here, sent_here, delivered_here, kept_here}
 use Rattle.cm_model.specs.Steps.{Step, Instruct, Look, Inject, Cross, Deliver}
@@ -34,7 +34,8 @@ incoming_in n nano parcel s c p =
 -- the message that comes over a dimension to a chip: from within, or the parcel's at the chip's place
 abbrev pub mail_for : ℕ → ℕ → Parcel → Part → ℕ → Option Message
 mail_for cap d parcel s c =
-    if is_within s (bit_xor c (2 ^ d)) then outgoing plain_way cap d (buffer_in s (bit_xor c (2 ^ d)))
+    if is_within s (bit_xor c (2 ^ d)) then outgoing (way_of s.routing (bit_xor c (2 ^ d)) d) cap d
+    (buffer_in s (bit_xor c (2 ^ d)))
     else mail_in parcel (c - s.first)
 
 -- the processors whose messages are taken at a chip, and the messages
@@ -59,7 +60,8 @@ part_after n cap Inject parcel s = record s {
   logs = each_from s.first s.count (λ c. log_in s c ++ map Injected (sent_of n cap s c));
 }
 part_after n cap (Cross d) parcel s = record s {
-  buffers = each_from s.first s.count (λ c. buffer_after_dimension plain_way cap d (buffer_in s c) (mail_for cap d parcel s c));
+  buffers = each_from s.first s.count
+      (λ c. buffer_after_dimension (way_of s.routing c d) cap d (buffer_in s c) (mail_for cap d parcel s c));
 }
 part_after n cap Deliver parcel s = record s {
   chips = each_from s.first s.count (λ c. chip_after_delivery (delivered_of s c) (chip_in s c));
@@ -81,7 +83,8 @@ less cap (Instruct nano) s = s
 less cap Look s = s
 less cap Inject s = s
 less cap (Cross d) s = record s {
-  buffers = each_from s.first s.count (λ c. without (buffer_in s c) (leaving_place plain_way cap d (buffer_in s c)));
+  buffers = each_from s.first s.count
+      (λ c. without (buffer_in s c) (leaving_place (way_of s.routing c d) cap d (buffer_in s c)));
 }
 less cap Deliver s = s
 

@@ -11,6 +11,7 @@ use Rattle.cm_model.specs.declared.message.Event.{Event}
 use Rattle.cm_model.specs.Processor.{Processor, blank_processor}
 use Rattle.cm_model.specs.Chip.{each_processor, processor_at, no_processor, blank_chip}
 use Rattle.cm_model.specs.Array.{chip_at, list_at, each_chip}
+use Rattle.cm_model.specs.Wiring.{plain_routing}
 use Rattle.cm_model.specs.Machine.{Machine, blank_machine}
 use Rattle.cm_model.proofs.Each.{length-each_from, get_or-each_below, same_each_below, is_each}
 use Rattle.cm_model.proofs.Bits.{bit-zero}
@@ -329,6 +330,7 @@ machine_built n image long =
             map (λ (x : ChipImage). x.messages) image.chips;
         logs = no_logs n image.chips long i;
         clock = image.clock;
+        routing = plain_routing;
       },
       (nothing_before (length image.chips) ∙ long) i,
     ))

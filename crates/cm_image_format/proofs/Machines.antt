@@ -12,6 +12,7 @@ use Rattle.cm_model.specs.Each.{each_from}
 use Rattle.cm_model.specs.Processor.{Processor}
 use Rattle.cm_model.specs.Whole.{IsChip}
 use Rattle.cm_model.specs.Array.{each_chip, chip_at, list_at}
+use Rattle.cm_model.specs.Wiring.{IsWireOf}
 use Rattle.cm_model.specs.Machine.{Machine}
 use Rattle.cm_model.specs.Keeping.{IsMessage, IsEventOf}
 use Rattle.cm_model.specs.Unlogged.{IsUnlogged, has_tag_twice}
@@ -57,7 +58,7 @@ machine_from-image_of n cap machine is =
     (λ c h. sym (buffer_again machine c))) in
     let logs : map (λ (chip : ChipImage). []) (each_chip n (chip_image machine)) ≡ machine.logs =
     map-each_from (λ (chip : ChipImage). []) 0 (2 ^ n) (chip_image machine) ∙ sym is.unlogged in
-    λ i. record { chips = chips i; buffers = buffers i; logs = logs i; clock = machine.clock }
+    λ i. record { chips = chips i; buffers = buffers i; logs = logs i; clock = machine.clock; routing = sym is.plain i }
 
 -- ---- an image is had again of its machine
 
@@ -151,6 +152,7 @@ stored_at n cap image c is h =
 
 pub IsStored-machine_from : (n cap : ℕ) (image : Image) → IsImage n cap image
     → has_tag_twice (messages_in image.chips) ≡ false → IsStored n cap (machine_from image)
+unfolding machine_from
 IsStored-machine_from n cap image is apart =
     let m : Machine = machine_from image in
     let long = counts n cap image is in
@@ -165,6 +167,7 @@ IsStored-machine_from n cap image is apart =
       some_room = is.some_room;
       most_room = is.most_room;
       clock = omega arith;
+      plain = refl;
       unlogged = none;
       whole = record {
         chip_count = long.0;
@@ -180,6 +183,7 @@ IsStored-machine_from n cap image is apart =
             (each_is n cap image c is h).messages.0.1) in
             subst (λ (ms : List Message). length ms ≤ cap) (sym (buffer_made image c (omega (arith, is.count)))) here;
         messages = λ c h. λ k d l. (stored_at n cap image c is h k d l).message;
+        routing = record { within = All-nil (IsWireOf n); rising = tt };
         events = λ c h. subst (λ (log : List Event). All (IsEventOf n c) log)
             (sym (ap (λ (logs : List (List Event)). list_at logs c) none
             ∙ get_or-each_below (2 ^ n) (λ b. []) c [] h)) (All-nil (IsEventOf n c));

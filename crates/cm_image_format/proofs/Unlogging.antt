@@ -94,6 +94,7 @@ IsStored-without_logs n cap machine is =
       some_room = is.some_room;
       most_room = is.most_room;
       clock = is.clock;
+      plain = is.plain;
       unlogged = none;
       whole = record {
         chip_count = is.whole.chip_count;
@@ -102,6 +103,7 @@ IsStored-without_logs n cap machine is =
         whole = is.whole.whole;
         room = is.whole.room;
         messages = is.whole.messages;
+        routing = is.whole.routing;
         events = λ c h. subst (λ (log : List Event). All (IsEventOf n c) log)
             (sym (get_or-each_below (2 ^ n) (λ b. []) c [] h)) (All-nil (IsEventOf n c));
         births = BornBefore-buffers n bare none (λ c h. born_at n machine c is.whole.births h);

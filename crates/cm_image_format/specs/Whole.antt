@@ -8,6 +8,7 @@ use Rattle.cm_model.specs.Each.{each_from}
 use Rattle.cm_model.specs.Processor.{Processor, memory_bit, flag}
 use Rattle.cm_model.specs.Chip.{each_processor, processor_at, plane_number}
 use Rattle.cm_model.specs.Array.{each_chip, chip_at, list_at}
+use Rattle.cm_model.specs.Wiring.{plain_routing}
 use Rattle.cm_model.specs.Machine.{Machine}
 pub use Rattle.cm_model.specs.Unlogged.{has_tag_twice}
 use Rattle.cm_message.specs.Bytes.{number}
@@ -77,13 +78,14 @@ image_text n cap image = shape_text n cap ++ (number w64 image.clock ++ flat_map
 abbrev pub text_of : ℕ → ℕ → Machine → List ℕ
 text_of n cap machine = image_text n cap (image_of n machine)
 
--- the machine of an image, with no event
+-- the machine of an image, with no event, its routing plain
 unfoldable pub machine_from : Image → Machine
 machine_from image = record {
   chips = map chip_from image.chips;
   buffers = map (λ chip. chip.messages) image.chips;
   logs = map (λ chip. []) image.chips;
   clock = image.clock;
+  routing = plain_routing;
 }
 
 -- all messages of an image

@@ -60,7 +60,7 @@ one_place n i chips home =
 -- the machine with other chips
 abbrev pub with_chips : Machine → Chips → Machine
 with_chips machine chips =
-    record { chips = chips; buffers = machine.buffers; logs = machine.logs; clock = machine.clock }
+    record machine { chips = chips }
 
 lifted_from : (n cap : ℕ) (i : Nano) (is : List Nano) (machine : Machine) → AllHome (i ∷ is)
     → after_acts n cap machine (map act.Nano (i ∷ is)) ≡ with_chips machine (each_place n (run (i ∷ is)) machine.chips)

@@ -13,7 +13,6 @@ use Rattle.cm_model.specs.declared.message.Message.{Message}
 use Rattle.cm_model.specs.declared.message.Event.{Event}
 use Rattle.cm_model.specs.declared.message.Event.TheVariants.{Injected, Delivered}
 use Rattle.cm_model.specs.Array.{chip_at, list_at}
-use Rattle.cm_model.specs.Wiring.{plain_routing}
 use Rattle.cm_model.specs.Router.{Standing, leaves, after_dimension}
 use Rattle.cm_model.specs.Letters.{messages_sent}
 use Rattle.cm_model.specs.Steps.{Step, Instruct, Look, Inject, Cross, Deliver, IsStep, steps_of, all_steps}
@@ -142,8 +141,8 @@ after_dimension_follows : (n cap d : ℕ) (state : State) → d < n → AllInCub
     → Follows n state (state_after n cap state (Cross d))
 unfolding amount after_dimension
 after_dimension_follows n cap d state below h = record {
-  cube = AllInCube-crossed n d state.cycle (leaves plain_routing cap d state.standing) state.standing below h;
-  balance = λ p. omega (arith, standing_count-after_dimension p plain_routing cap d state.cycle state.standing);
+  cube = AllInCube-crossed n d state.cycle (leaves state.routing cap d state.standing) state.standing below h;
+  balance = λ p. omega (arith, standing_count-after_dimension p state.routing cap d state.cycle state.standing);
   grows = λ c l. same_log (list_at state.logs c);
 }
 

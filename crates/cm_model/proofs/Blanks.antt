@@ -8,6 +8,7 @@ use Rattle.cm_model.specs.declared.message.Event.{Event}
 use Rattle.cm_model.specs.Processor.{Processor, blank_processor}
 use Rattle.cm_model.specs.Chip.{no_processor, blank_chip}
 use Rattle.cm_model.specs.Whole.{IsProcessor, IsChip}
+use Rattle.cm_model.specs.Wiring.{IsWireOf}
 use Rattle.cm_model.specs.Array.{list_at}
 use Rattle.cm_model.specs.Machine.{blank_machine}
 use Rattle.cm_model.specs.Account.{Triple, injected_triple, account_at, account, all_injected}
@@ -68,6 +69,7 @@ IsMachine-blank_at n cap clock = record {
   room = λ c l. subst (λ (ms : List Message). length ms ≤ cap) (sym (no_buffer n c l)) (omega arith);
   messages = λ c l. subst (λ (ms : List Message). All (IsMessage n) ms) (sym (no_buffer n c l)) (All-nil (IsMessage n));
   events = λ c l. subst (λ (es : List Event). All (IsEventOf n c) es) (sym (no_log n c l)) (All-nil (IsEventOf n c));
+  routing = record { within = All-nil (IsWireOf n); rising = tt };
   births = subst (λ (lines : List Triple). All (λ triple. triple.tag.birth < clock) lines) (sym (no_account n))
       (All-nil (λ (triple : Triple). triple.tag.birth < clock));
   tags = λ tag. subst (λ (lines : List Triple). count_by (λ triple. same_tag triple.tag tag) lines ≤ 1)

@@ -81,3 +81,28 @@ clock-after_act n cap machine act.Cycle =
     ∙ (clock-machine_after_delivery n (after_crossings n cap (machine_after_injection n cap machine) n)
     ∙ ap (λ (k : ℕ). k + 1) (clock_in_cycle n cap machine n)) in
     omega arith
+
+-- no step of a petit cycle changes how the machine routes
+routing-after_injection : (n cap : ℕ) (machine : Machine)
+    → (machine_after_injection n cap machine).routing ≡ machine.routing
+unfolding machine_after_injection
+routing-after_injection n cap machine = refl
+
+routing-after_dimension : (n cap d : ℕ) (machine : Machine)
+    → (machine_after_dimension n cap d machine).routing ≡ machine.routing
+unfolding machine_after_dimension
+routing-after_dimension n cap d machine = refl
+
+routing-after_crossings : (n cap : ℕ) (machine : Machine) (ds : List ℕ)
+    → (after_steps n cap machine (map Cross ds)).routing ≡ machine.routing
+routing-after_crossings n cap machine [] = refl
+routing-after_crossings n cap machine (d ∷ ds) =
+    routing-after_crossings n cap (machine_after_dimension n cap d machine) ds
+    ∙ routing-after_dimension n cap d machine
+
+-- how a machine routes, in the midst of a petit cycle
+pub routing_in_cycle : (n cap : ℕ) (machine : Machine) (d : ℕ)
+    → (after_crossings n cap (machine_after_injection n cap machine) d).routing ≡ machine.routing
+routing_in_cycle n cap machine d =
+    routing-after_crossings n cap (machine_after_injection n cap machine) (range_with_len 0 d)
+    ∙ routing-after_injection n cap machine

@@ -15,8 +15,8 @@ use Rattle.cm_model.specs.Array.{each_chip, chip_at, incoming, after_nano, list_
 use Rattle.cm_model.specs.Letters.{chip_after_injection, chip_after_delivery, can_receive}
 use Rattle.cm_model.specs.Steps.{Step, Instruct, Look, Inject, Cross, Deliver, IsStep, steps_of}
 use Rattle.cm_model.specs.Machine.{Machine, run_of}
-use Rattle.cm_model.specs.Wiring.{plain_way}
-use Rattle.cm_model.specs.Buffers.{taken_in, sent_in, machine_after_injection, outgoing, buffer_after_dimension}
+use Rattle.cm_model.specs.Wiring.{way_of}
+use Rattle.cm_model.specs.Buffers.{taken_in, sent_in, machine_after_injection, sent_across, buffer_after_dimension}
 use Rattle.cm_model.specs.Buffers.{machine_after_dimension, delivered_in, machine_after_delivery, after_step}
 use Rattle.cm_model.specs.OneChip.{kept}
 use Rattle.cm_model.specs.Buffers.{after_steps, after_act, after_acts}
@@ -62,6 +62,7 @@ sound-nano n cap machine nano h =
       room = h.room;
       messages = h.messages;
       events = h.events;
+      routing = h.routing;
     }
 
 sound-injection : (n cap : ℕ) (machine : Machine) → IsSound n cap machine
@@ -82,6 +83,7 @@ sound-injection n cap machine h =
           (λ c l. All-append (IsMessage n) (list_at machine.buffers c) (sent_in n cap machine c) (h.messages c l)
           (AllMessages-sent n machine.clock c (chip_at machine.chips c) (taken_in cap machine c) l
           (AllBelow-taken cap (length (list_at machine.buffers c)) (chip_at machine.chips c))));
+      routing = h.routing;
       events = made_events n logs
           (λ c l. All-append (IsEventOf n c) (list_at machine.logs c) (map Injected (sent_in n cap machine c))
           (h.events c l)
@@ -94,8 +96,8 @@ sound-dimension : (n cap d : ℕ) (machine : Machine) → d < n → IsSound n ca
 unfolding machine_after_dimension
 sound-dimension n cap d machine below h =
     let buffers : ℕ → List Message =
-    λ c. buffer_after_dimension plain_way cap d (list_at machine.buffers c)
-    (outgoing plain_way cap d (list_at machine.buffers (bit_xor c (2 ^ d)))) in
+    λ c. buffer_after_dimension (way_of machine.routing c d) cap d (list_at machine.buffers c)
+    (sent_across machine.routing cap d machine.buffers (bit_xor c (2 ^ d))) in
     record {
       chip_count = h.chip_count;
       buffer_count = length-each_from 0 (2 ^ n) buffers;
@@ -103,10 +105,12 @@ sound-dimension n cap d machine below h =
       whole = h.whole;
       room = HasRoom-after_dimension n cap d machine below h.room;
       messages = made_messages n buffers
-          (λ c l. AllMessages-after_dimension plain_way plain_way n cap d (list_at machine.buffers c)
+          (λ c l. AllMessages-after_dimension (way_of machine.routing c d) (way_of machine.routing (bit_xor c (2 ^ d)) d) n cap d
+          (list_at machine.buffers c)
           (list_at machine.buffers (bit_xor c (2 ^ d))) below
           (h.messages c l) (h.messages (bit_xor c (2 ^ d)) (across_below n d c below l)));
       events = h.events;
+      routing = h.routing;
     }
 
 sound-delivery : (n cap : ℕ) (machine : Machine) → IsSound n cap machine
@@ -127,6 +131,7 @@ sound-delivery n cap machine h =
       messages = made_messages n buffers
           (λ c l. AllMessages-kept n (can_receive (chip_at machine.chips c)) [] (list_at machine.buffers c)
           (h.messages c l));
+      routing = h.routing;
       events = made_events n logs
           (λ c l. All-append (IsEventOf n c) (list_at machine.logs c)
           (map (λ m. Delivered m c) (delivered_in machine c)) (h.events c l)
@@ -158,6 +163,7 @@ sound-machine n cap machine h = record {
   room = h.room;
   messages = h.messages;
   events = h.events;
+  routing = h.routing;
 }
 
 -- an act keeps a machine what it is
@@ -175,6 +181,7 @@ IsMachine-after_act n cap machine a h =
       room = sound.room;
       messages = sound.messages;
       events = sound.events;
+      routing = sound.routing;
       births = subst (λ (m : Machine). BornBefore n m) same (births_stay_before n cap machine (a ∷ []) h.tags h.births);
       tags = subst (λ (m : Machine). HasTagsOnce n m) same (tags_stay_once n cap machine (a ∷ []) h.tags h.births);
       injected = subst (λ (m : Machine). HasLines (all_injected n m) (account n m)) same

@@ -27,6 +27,7 @@ pub mod Tags
 pub mod Wholes
 pub mod Messages
 pub mod Keeping
+pub mod Kept
 pub mod Choosing
 pub mod Parts
 pub mod Receiving

@@ -84,7 +84,13 @@ closed-opened n machine long =
     let same : machine.buffers ≡ each_chip n (λ c. buffer c (opened n machine).standing) =
     is_each [] (2 ^ n) (λ c. buffer c (opened n machine).standing) machine.buffers long
     (λ c l. sym (buffer-opened n machine c l)) in
-    λ i. record { chips = machine.chips; buffers = sym same i; logs = machine.logs; clock = machine.clock }
+    λ i. record {
+      chips = machine.chips;
+      buffers = sym same i;
+      logs = machine.logs;
+      clock = machine.clock;
+      routing = machine.routing;
+    }
 
 -- the buffer of a chip, of the machine of a state
 pub list_at-closed : (n : ℕ) (state : State) (c : ℕ) → c < 2 ^ n

@@ -16,7 +16,7 @@ use Rattle.cm_model.specs.Steps.{Step, Instruct, Look, Inject, Cross, Deliver, I
 use Rattle.cm_model.specs.Machine.{Machine}
 use Rattle.cm_model.specs.declared.rule.Rule.{Rule}
 use Rattle.cm_model.specs.declared.rule.Rule.TheVariants.{First, Oldest}
-use Rattle.cm_model.specs.Wiring.{Routing, plain_routing, Way, way_of}
+use Rattle.cm_model.specs.Wiring.{Routing, Way, way_of}
 use Rattle.cm_model.specs.Buffers.{taken_in, sent_in, machine_after_injection, first_place, last_place, referred_place}
 use Rattle.cm_model.specs.Buffers.{chosen_place, leaving_place, element_at, without, outgoing}
 use Rattle.cm_model.specs.Buffers.{buffer_after_dimension, sent_across, buffers_after_dimension}
@@ -181,7 +181,7 @@ crossings_keep_room routing n cap d buffers below h c l =
 pub HasRoom-after_dimension : (n cap d : ℕ) (machine : Machine) → d < n → HasRoom n cap machine
     → HasRoom n cap (machine_after_dimension n cap d machine)
 unfolding machine_after_dimension
-HasRoom-after_dimension n cap d machine below h = crossings_keep_room plain_routing n cap d machine.buffers below h
+HasRoom-after_dimension n cap d machine below h = crossings_keep_room machine.routing n cap d machine.buffers below h
 
 pub HasRoom-after_delivery : (n cap : ℕ) (machine : Machine) → HasRoom n cap machine
     → HasRoom n cap (machine_after_delivery n machine)

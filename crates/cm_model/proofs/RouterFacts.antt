@@ -11,6 +11,7 @@ use Rattle.cm_model.specs.Each.{each_from}
 use Rattle.cm_model.specs.Processor.{Processor, SEND, ACK, RECV, flag, field_value}
 use Rattle.cm_model.specs.Chip.{each_processor, processor_at}
 use Rattle.cm_model.specs.Array.{chip_at}
+use Rattle.cm_model.specs.Wiring.{plain_routing}
 use Rattle.cm_model.specs.Router.{leaver, after_dimension}
 use Rattle.cm_model.specs.Order.{queue}
 use Rattle.cm_model.specs.Letters.{senders, chip_after_injection, with_field, chip_after_delivery}
@@ -63,6 +64,7 @@ full_nodes = record {
   buffers = (message_to 0 0 1 (tag_of 0 0 0) ∷ []) ∷ ((message_to 0 0 2 (tag_of 1 0 0) ∷ []) ∷ []);
   logs = [] ∷ ([] ∷ []);
   clock = 1;
+  routing = plain_routing;
 }
 
 full_nodes_refer : (run_of 1 1 full_nodes (cycles 1)).buffers ≡ (message_to 1 0 2 (tag_of 1 0 0) ∷ [])
@@ -90,6 +92,7 @@ two_at_home = record {
   buffers = (message_to 0 0 1 (tag_of 0 0 0) ∷ (message_to 0 0 2 (tag_of 0 1 0) ∷ [])) ∷ ([] ∷ []);
   logs = [] ∷ ([] ∷ []);
   clock = 1;
+  routing = plain_routing;
 }
 
 last_is_referred : (run_of 1 2 two_at_home (cycles 1)).buffers ≡ [] ∷ ((message_to 1 0 2 (tag_of 0 1 0) ∷ []) ∷ [])
@@ -105,6 +108,7 @@ three_to_cross = record {
       ∷ (message_to 1 0 2 (tag_of 0 1 0) ∷ (message_to 1 0 3 (tag_of 0 2 0) ∷ []))) ∷ ([] ∷ []);
   logs = [] ∷ ([] ∷ []);
   clock = 1;
+  routing = plain_routing;
 }
 
 first_crosses : (run_of 1 4 three_to_cross (cycles 1)).buffers ≡ (message_to 1 0 3 (tag_of 0 2 0) ∷ []) ∷ ([] ∷ [])
@@ -120,6 +124,7 @@ two_for_two = record {
   buffers = (message_to 0 5 1 (tag_of 0 7 0) ∷ (message_to 0 3 2 (tag_of 0 2 0) ∷ [])) ∷ ([] ∷ []);
   logs = [] ∷ ([] ∷ []);
   clock = 1;
+  routing = plain_routing;
 }
 
 both_are_told_in_order : (run_of 1 4 two_for_two (cycles 1)).logs ≡ (Delivered (message_to 0 5 1 (tag_of 0 7 0)) 0
@@ -136,6 +141,7 @@ two_to_cross = record {
       ∷ (message_to 1 6 2 (tag_of 0 1 0) ∷ (message_to 0 6 3 (tag_of 0 2 0) ∷ []))) ∷ ([] ∷ []);
   logs = [] ∷ ([] ∷ []);
   clock = 1;
+  routing = plain_routing;
 }
 
 one_behind_is_delivered : (run_of 1 4 two_to_cross (cycles 1)).buffers ≡ (message_to 1 6 2 (tag_of 0 1 0) ∷ [])
@@ -152,6 +158,7 @@ one_sender count rel = record {
   buffers = [] ∷ ([] ∷ ([] ∷ ([] ∷ [])));
   logs = [] ∷ ([] ∷ ([] ∷ ([] ∷ [])));
   clock = 0;
+  routing = plain_routing;
 }
 
 one_wanders : (run_of 2 1 (one_sender 1 2) (cycles 1)).buffers
@@ -195,6 +202,7 @@ letter_box = record {
   logs =
       [] ∷ ([] ∷ []);
   clock = 0;
+  routing = plain_routing;
 }
 
 letter_is_logged : (run_of 1 1 letter_box (cycles 1)).logs
@@ -222,7 +230,13 @@ sender_is_told = refl
 -- ---- six senders on one chip: four are taken, one is delivered, two wait
 
 abbrev many_senders : ℕ → Machine
-many_senders count = record { chips = sending_chip count 0 9 ∷ []; buffers = [] ∷ []; logs = [] ∷ []; clock = 0 }
+many_senders count = record {
+  chips = sending_chip count 0 9 ∷ [];
+  buffers = [] ∷ [];
+  logs = [] ∷ [];
+  clock = 0;
+  routing = plain_routing;
+}
 
 -- the numbers of the processors of a machine of one chip with this flag
 abbrev with_flag : ℕ → Machine → List Bool

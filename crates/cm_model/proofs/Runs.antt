@@ -10,7 +10,7 @@ use Rattle.cm_model.specs.declared.act.Act.{Act}
 use Rattle.cm_model.specs.declared.act.Act.TheVariants as act
 use Rattle.cm_model.specs.declared.message.Event.TheVariants.{Injected, Delivered}
 use Rattle.cm_model.specs.Array.{chip_at, list_at}
-use Rattle.cm_model.specs.Wiring.{plain_routing, plain_way}
+use Rattle.cm_model.specs.Wiring.{Way, way_of}
 use Rattle.cm_model.specs.Router.{Since, Standing, standing_at, after_dimension}
 use Rattle.cm_model.specs.Order.{queue, buffer}
 use Rattle.cm_model.specs.Letters.{senders_taken, messages_sent, chip_after_injection, chip_after_delivery, can_receive}
@@ -69,7 +69,7 @@ closed-after_injection n cap state h =
     (messages_sent n state.clock c (chip_at state.chips c) (taken_at cap state c)))
     (λ c. list_at state.logs c ++ map Injected (sent_in n cap (closed n state) c))
     (λ c l. ap (λ z. list_at state.logs c ++ map Injected z) (sym (sent_in-closed n cap state c l))) in
-    λ i. record { chips = chips i; buffers = buffers i; logs = logs i; clock = state.clock }
+    λ i. record { chips = chips i; buffers = buffers i; logs = logs i; clock = state.clock; routing = state.routing }
 
 -- ---- a dimension
 
@@ -77,19 +77,20 @@ closed-after_dimension : (n cap d : ℕ) (state : State) → d < n → IsReady (
     → closed n (state_after n cap state (Cross d)) ≡ machine_after_dimension n cap d (closed n state)
 unfolding closed machine_after_dimension
 closed-after_dimension n cap d state below h =
+    let way : ℕ → Way = λ c. way_of state.routing c d in
     let buffers = same_each_below [] (2 ^ n)
-    (λ c. buffer c (after_dimension plain_routing cap d state.cycle state.standing))
-    (λ c. buffer_after_dimension plain_way cap d (list_at (closed n state).buffers c)
-    (outgoing plain_way cap d (list_at (closed n state).buffers (bit_xor c (2 ^ d)))))
-    (λ c l. buffer-after_dimension plain_routing cap d state.cycle c state.standing h.before (h.rising c)
+    (λ c. buffer c (after_dimension state.routing cap d state.cycle state.standing))
+    (λ c. buffer_after_dimension (way c) cap d (list_at (closed n state).buffers c)
+    (outgoing (way (bit_xor c (2 ^ d))) cap d (list_at (closed n state).buffers (bit_xor c (2 ^ d)))))
+    (λ c l. buffer-after_dimension state.routing cap d state.cycle c state.standing h.before (h.rising c)
     (h.rising (bit_xor c (2 ^ d)))
-    ∙ (ap (λ z. buffer_after_dimension plain_way cap d z
-    (outgoing plain_way cap d (buffer (bit_xor c (2 ^ d)) state.standing)))
+    ∙ (ap (λ z. buffer_after_dimension (way c) cap d z
+    (outgoing (way (bit_xor c (2 ^ d))) cap d (buffer (bit_xor c (2 ^ d)) state.standing)))
     (sym (list_at-closed n state c l))
-    ∙ ap (λ z. buffer_after_dimension plain_way cap d (list_at (closed n state).buffers c)
-    (outgoing plain_way cap d z))
+    ∙ ap (λ z. buffer_after_dimension (way c) cap d (list_at (closed n state).buffers c)
+    (outgoing (way (bit_xor c (2 ^ d))) cap d z))
     (sym (list_at-closed n state (bit_xor c (2 ^ d)) (across_below n d c below l))))) in
-    λ i. record { chips = state.chips; buffers = buffers i; logs = state.logs; clock = state.clock }
+    λ i. record { chips = state.chips; buffers = buffers i; logs = state.logs; clock = state.clock; routing = state.routing }
 
 -- ---- delivery
 
@@ -118,7 +119,7 @@ closed-after_delivery n top state h =
     (λ c. list_at state.logs c ++ map (λ m. Delivered m c) (delivered_at state.chips state.standing c))
     (λ c. list_at state.logs c ++ map (λ m. Delivered m c) (delivered_in (closed n state) c))
     (λ c l. ap (λ ms. list_at state.logs c ++ map (λ m. Delivered m c) ms) (out c l)) in
-    λ i. record { chips = chips i; buffers = buffers i; logs = logs i; clock = state.clock + 1 }
+    λ i. record { chips = chips i; buffers = buffers i; logs = logs i; clock = state.clock + 1; routing = state.routing }
 
 -- ---- lists of steps
 
@@ -144,7 +145,7 @@ pub record IsDue (n d : ℕ) (state : State) (machine : Machine) : Type 0 where
 pub one_crossing : (n cap d : ℕ) (state : State) (machine : Machine) → d < n → IsDue n d state machine
     → IsDue n (d + 1) (state_after n cap state (Cross d)) (after_step n cap machine (Cross d))
 one_crossing n cap d state machine below h = record {
-  ready = IsReady-after_dimension plain_routing cap d state.cycle state.standing h.ready;
+  ready = IsReady-after_dimension state.routing cap d state.cycle state.standing h.ready;
   same = closed-after_dimension n cap d state below h.ready ∙ ap (machine_after_dimension n cap d) h.same;
 }
 

@@ -13,7 +13,6 @@ use Rattle.cm_model.specs.declared.act.Act.TheVariants as act
 use Rattle.cm_model.specs.declared.act.Nano.{Nano}
 use Rattle.cm_model.specs.declared.message.Tag.{Tag}
 use Rattle.cm_model.specs.Array.{chip_at, list_at}
-use Rattle.cm_model.specs.Wiring.{plain_routing}
 use Rattle.cm_model.specs.Router.{standing_at}
 use Rattle.cm_model.specs.Letters.{message_sent}
 use Rattle.cm_model.specs.Steps.{Instruct, Inject, Cross, Deliver, steps_of, all_steps}
@@ -38,7 +37,8 @@ unfolding amount
 amount-crossings p n cap a zero state = refl
 amount-crossings p n cap a (suc k) state =
     amount-crossings p n cap (a + 1) k (state_after n cap state (Cross a))
-    ∙ ap (λ z. z + delivered_count p n state.logs) (standing_count-after_dimension p plain_routing cap a state.cycle state.standing)
+    ∙ ap (λ z. z + delivered_count p n state.logs)
+    (standing_count-after_dimension p state.routing cap a state.cycle state.standing)
 
 clock-crossings : (n cap a k : ℕ) (state : State) → (state_after_all n cap state (crossings a k)).clock ≡ state.clock
 clock-crossings n cap a zero state = refl

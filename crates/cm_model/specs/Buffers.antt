@@ -9,7 +9,7 @@ use Rattle.cm_model.specs.declared.message.Event.TheVariants.{Injected, Delivere
 use Rattle.cm_model.specs.Array.{each_chip, chip_at, after_nano, list_at}
 use Rattle.cm_model.specs.declared.rule.Rule.{Rule}
 use Rattle.cm_model.specs.declared.rule.Rule.TheVariants.{First, Oldest}
-use Rattle.cm_model.specs.Wiring.{Routing, plain_routing, Way, way_of}
+use Rattle.cm_model.specs.Wiring.{Routing, Way, way_of}
 use Rattle.cm_model.specs.Router.{is_older, has_to_cross, message_across}
 use Rattle.cm_model.specs.Letters.{has_arrived, chip_after_injection, chip_after_delivery}
 use Rattle.cm_model.specs.OneChip.{taken_here, sent_here, delivered_here, kept_here}
@@ -114,10 +114,10 @@ buffers_after_dimension routing n cap d buffers = each_chip n
     (λ c. buffer_after_dimension (way_of routing c d) cap d (list_at buffers c)
     (sent_across routing cap d buffers (bit_xor c (2 ^ d))))
 
--- all chips of a machine at once, whose routing is plain
+-- all chips of a machine at once
 unfoldable pub machine_after_dimension : ℕ → ℕ → ℕ → Machine → Machine
 machine_after_dimension n cap d machine = record machine {
-  buffers = buffers_after_dimension plain_routing n cap d machine.buffers;
+  buffers = buffers_after_dimension machine.routing n cap d machine.buffers;
 }
 
 -- ---- delivery
@@ -133,6 +133,7 @@ machine_after_delivery n machine = record {
   buffers = each_chip n (λ c. kept_here (list_at machine.buffers c) (chip_at machine.chips c));
   logs = each_chip n (λ c. list_at machine.logs c ++ map (λ m. Delivered m c) (delivered_in machine c));
   clock = machine.clock + 1;
+  routing = machine.routing;
 }
 
 -- ---- all steps

@@ -6,7 +6,7 @@ use Rattle.cm_model.specs.declared.message.Message.{Message}
 use Rattle.cm_model.specs.declared.message.Event.{Event}
 use Rattle.cm_model.specs.declared.message.Event.TheVariants.{Injected, Delivered}
 use Rattle.cm_model.specs.Array.{Chips, each_chip, list_at, chip_at, after_nano}
-use Rattle.cm_model.specs.Wiring.{plain_routing}
+use Rattle.cm_model.specs.Wiring.{Routing}
 use Rattle.cm_model.specs.Router.{Standing, is_at, is_before, standing_at, after_dimension}
 use Rattle.cm_model.specs.Order.{in_order, messages_of}
 use Rattle.cm_model.specs.Letters.{senders_taken, message_sent, messages_sent, chip_after_injection, can_receive}
@@ -25,6 +25,8 @@ pub record State : Type 0 where
   pub clock : ℕ
   -- the petit cycle since it was handed over, from 1 on
   pub cycle : ℕ
+  -- how its messages go
+  pub routing : Routing
 
 -- ---- injection
 
@@ -78,6 +80,7 @@ after_delivery n state = record {
       ++ map (λ m. Delivered m c) (delivered_at state.chips state.standing c));
   clock = state.clock + 1;
   cycle = state.cycle + 1;
+  routing = state.routing;
 }
 
 -- ---- all steps
@@ -88,7 +91,7 @@ state_after n cap state (Instruct nano) = record state { chips = after_nano n na
 state_after n cap state Look = state
 state_after n cap state Inject = after_injection n cap state
 state_after n cap state (Cross d) =
-    record state { standing = after_dimension plain_routing cap d state.cycle state.standing }
+    record state { standing = after_dimension state.routing cap d state.cycle state.standing }
 state_after n cap state Deliver = after_delivery n state
 
 -- the state after a list of steps

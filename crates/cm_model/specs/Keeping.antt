@@ -6,6 +6,7 @@ use Rattle.cm_model.specs.declared.message.Tag.{Tag}
 use Rattle.cm_model.specs.declared.message.Event.{Event}
 use Rattle.cm_model.specs.declared.message.Event.TheVariants.{Injected, Delivered}
 use Rattle.cm_model.specs.Whole.{IsChip}
+use Rattle.cm_model.specs.Wiring.{IsRouting}
 use Rattle.cm_model.specs.Array.{chip_at, list_at}
 use Rattle.cm_model.specs.Machine.{Machine}
 use Rattle.cm_model.specs.Account.{account, all_injected, HasLines}
@@ -66,7 +67,8 @@ pub record HasGoodTags (n : ℕ) (machine : Machine) : Type 0 where
   pub once : HasTagsOnce n machine
   pub born : BornBefore n machine
 
--- what holds at every step of a run, in the midst of a petit cycle too: counts, whole chips, room, messages, events
+-- what holds at every step of a run, in the midst of a petit cycle too: counts, whole chips, room, messages, events,
+-- routing
 pub record IsSound (n cap : ℕ) (machine : Machine) : Type 0 where
   pub chip_count : length machine.chips ≡ 2 ^ n
   pub buffer_count : length machine.buffers ≡ 2 ^ n
@@ -75,6 +77,7 @@ pub record IsSound (n cap : ℕ) (machine : Machine) : Type 0 where
   pub room : HasRoom n cap machine
   pub messages : HasMessages n machine
   pub events : HasEvents n machine
+  pub routing : IsRouting n machine.routing
 
 -- of a cube of n dimensions whose routers have room for cap messages each
 pub record IsMachine (n cap : ℕ) (machine : Machine) : Type 0 where
@@ -85,6 +88,7 @@ pub record IsMachine (n cap : ℕ) (machine : Machine) : Type 0 where
   pub room : HasRoom n cap machine
   pub messages : HasMessages n machine
   pub events : HasEvents n machine
+  pub routing : IsRouting n machine.routing
   pub births : BornBefore n machine
   pub tags : HasTagsOnce n machine
   -- so that each message whose injection a log tells of stands in the account, and once

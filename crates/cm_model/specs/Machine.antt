@@ -6,6 +6,7 @@ use Rattle.cm_model.specs.declared.message.Message.{Message}
 use Rattle.cm_model.specs.declared.message.Event.{Event}
 use Rattle.cm_model.specs.Chip.{blank_chip}
 use Rattle.cm_model.specs.Array.{Chips, each_chip, list_at}
+use Rattle.cm_model.specs.Wiring.{Routing, plain_routing}
 use Rattle.cm_model.specs.Router.{Standing}
 use Rattle.cm_model.specs.Order.{buffer}
 use Rattle.cm_model.specs.Steps.{all_steps}
@@ -21,14 +22,17 @@ pub record Machine : Type 0 where
   pub logs : List (List Event)
   -- petit cycles so far
   pub clock : ℕ
+  -- how its messages go: no act changes it
+  pub routing : Routing
 
--- the machine of a cube of n dimensions, all bits and flags 0
+-- the machine of a cube of n dimensions, all bits and flags 0, no wire cut
 unfoldable pub blank_machine : ℕ → Machine
 blank_machine n = record {
   chips = each_chip n (λ c. blank_chip);
   buffers = each_chip n (λ c. []);
   logs = each_chip n (λ c. []);
   clock = 0;
+  routing = plain_routing;
 }
 
 -- the records of a chip that is handed over, from this place in its buffer on: since is the place
@@ -45,6 +49,7 @@ opened n machine = record {
   logs = machine.logs;
   clock = machine.clock;
   cycle = 1;
+  routing = machine.routing;
 }
 
 -- the machine of a state: a chip's buffer is its messages in order of since
@@ -54,6 +59,7 @@ closed n state = record {
   buffers = each_chip n (λ c. buffer c state.standing);
   logs = state.logs;
   clock = state.clock;
+  routing = state.routing;
 }
 
 -- the machine after so many steps of a run

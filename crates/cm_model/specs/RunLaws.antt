@@ -38,6 +38,11 @@ abbrev pub StepsKeepSoundness : Type 0
 StepsKeepSoundness = (n cap : ℕ) (machine : Machine) (step : Step) → IsStep n step → IsSound n cap machine
     → IsSound n cap (after_step n cap machine step)
 
+-- no act changes how a machine routes: neither which wires are cut nor the rule
+abbrev pub RoutingIsKept : Type 0
+RoutingIsKept = (n cap : ℕ) (machine : Machine) (acts : List Act) →
+    (run_of n cap machine acts).routing ≡ machine.routing
+
 -- a message that stood at a chip before delivery was received there, as it was
 pub record IsReceived (before after : Machine) (c : ℕ) (m : Message) : Type 0 where
   pub stood : Contains (list_at before.buffers c) m

@@ -28,7 +28,7 @@ pub record Routing : Type 0 where
   pub cuts : List Wire
   pub rule : Rule
 
--- no wire is cut, and who came first goes first: so does every machine route as yet
+-- no wire is cut, and who came first goes first: so the engine routes as yet
 abbrev pub plain_routing : Routing
 plain_routing = record { cuts = []; rule = First }
 

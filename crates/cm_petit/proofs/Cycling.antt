@@ -6,12 +6,12 @@ use Rattle.std.proofs.lemmas.Bool.Decides.{nat_tests}
 use Rattle.cm_model.specs.declared.act.Act.TheVariants as act
 use Rattle.cm_model.specs.declared.message.Message.{Message}
 use Rattle.cm_model.specs.Array.{each_chip, list_at}
-use Rattle.cm_model.specs.Wiring.{plain_way}
-use Rattle.cm_model.specs.Buffers.{leaving_place, outgoing, buffer_after_dimension, after_act}
+use Rattle.cm_model.specs.Wiring.{Routing, plain_routing, plain_way}
+use Rattle.cm_model.specs.Buffers.{leaving_place, outgoing, buffer_after_dimension, buffers_after_dimension, after_act}
 use Rattle.cm_model.specs.Buffers.{machine_after_injection, machine_after_dimension, machine_after_delivery}
 use Rattle.cm_model.specs.Machine.{Machine}
 use Rattle.cm_model.specs.Steps.{Inject, Deliver}
-use Rattle.cm_model.proofs.Cycles.{after_crossings, after_crossings-more, after_cycle-is}
+use Rattle.cm_model.proofs.Cycles.{after_crossings, after_crossings-more, routing_in_cycle, after_cycle-is}
 use Rattle.cm_model.proofs.Each.{is_each}
 use Rattle.cm_model.proofs.Flips.{across_below}
 use Rattle.cm_blocks.specs.Parcels.{Blank}
@@ -20,7 +20,7 @@ use Rattle.cm_blocks.specs.Steps.{part_after}
 
 -- the machine that a part from chip 0 on is
 abbrev pub whole : Part → Machine
-whole s = record { chips = s.chips; buffers = s.buffers; logs = s.logs; clock = s.clock }
+whole s = record { chips = s.chips; buffers = s.buffers; logs = s.logs; clock = s.clock; routing = s.routing }
 
 from_0 : (c : ℕ) → c - 0 ≡ c
 from_0 c = omega arith
@@ -41,13 +41,17 @@ abbrev pub under_way : ℕ → ℕ → Machine → ℕ → Machine
 under_way n room m d = after_crossings n room (machine_after_injection n room m) d
 
 pub crossed_more : (n room : ℕ) (m : Machine) (d : ℕ) {now : Machine} {next : List (List Message)}
-    → now ≡ under_way n room m d
+    → now ≡ under_way n room m d → m.routing ≡ plain_routing
     → next ≡ each_chip n (λ c. buffer_after_dimension plain_way room d (list_at now.buffers c)
     (outgoing plain_way room d (list_at now.buffers (bit_xor c (2 ^ d)))))
     → record now { buffers = next } ≡ under_way n room m (d + 1)
 unfolding machine_after_dimension
-crossed_more n room m d {now} was is =
-    (λ k. record now { buffers = is k }) ∙ ap (machine_after_dimension n room d) was
+crossed_more n room m d {now} {next} was plain is =
+    let routing : now.routing ≡ plain_routing =
+    ap (λ (s : Machine). s.routing) was ∙ (routing_in_cycle n room m d ∙ plain) in
+    let same : next ≡ buffers_after_dimension now.routing n room d now.buffers =
+    is ∙ ap (λ (r : Routing). buffers_after_dimension r n room d now.buffers) (sym routing) in
+    (λ k. record now { buffers = same k }) ∙ ap (machine_after_dimension n room d) was
     ∙ sym (after_crossings-more n room (machine_after_injection n room m) d)
 
 pub cycle_is : (n room : ℕ) (m : Machine) {now after : Machine} → now ≡ under_way n room m n
@@ -62,11 +66,12 @@ stays_empty room d some = grind (arith, nat_tests)
 
 -- nothing crosses
 pub nothing_crosses : (n room : ℕ) (m now : Machine) → 0 < room → length now.buffers ≡ 2 ^ n
-    → ((c : ℕ) → c < 2 ^ n → list_at now.buffers c ≡ []) → now ≡ machine_after_injection n room m → (d : ℕ) → d ≤ n
+    → ((c : ℕ) → c < 2 ^ n → list_at now.buffers c ≡ []) → now ≡ machine_after_injection n room m
+    → m.routing ≡ plain_routing → (d : ℕ) → d ≤ n
     → now ≡ under_way n room m d
-nothing_crosses n room m now some long empty begun zero few = begun
-nothing_crosses n room m now some long empty begun (suc d) few =
+nothing_crosses n room m now some long empty begun plain zero few = begun
+nothing_crosses n room m now some long empty begun plain (suc d) few =
     subst (λ (k : ℕ). now ≡ under_way n room m k) (add-one d)
-    (crossed_more n room m d (nothing_crosses n room m now some long empty begun d (omega arith))
+    (crossed_more n room m d (nothing_crosses n room m now some long empty begun plain d (omega arith)) plain
     (is_each [] (2 ^ n) _ now.buffers long (λ c l.
     rw (empty c l, empty (bit_xor c (2 ^ d)) (across_below n d c (omega arith) l)) (sym (stays_empty room d some)))))

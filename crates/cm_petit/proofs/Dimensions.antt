@@ -9,7 +9,7 @@ use Rattle.std.proofs.lemmas.Nat.{xor_block, xor_lt, pow_below, pow_pos, xor_com
 use Rattle.std.specs.List.{All}
 use Rattle.cm_model.specs.Each.{each_from}
 use Rattle.cm_model.specs.Array.{each_chip, list_at}
-use Rattle.cm_model.specs.Wiring.{plain_way}
+use Rattle.cm_model.specs.Wiring.{plain_routing, plain_way}
 use Rattle.cm_model.specs.Buffers.{outgoing, buffer_after_dimension}
 use Rattle.cm_model.proofs.Each.{length-each_from, get_or-each_below, is_each}
 use Rattle.cm_model.proofs.Flips.{xor_twice, across_below}
@@ -45,11 +45,12 @@ stays_in span first i d even below inside =
     rw (flip, xor_zero_r q, begins) at (xor_block span q 0 i (2 ^ d) inside (pow_below d span below))
 
 -- so within the run
-pub each_crossed : (room d span : ℕ) (s : Part) → d < span → s.first % 2 ^ span ≡ 0 → s.count ≡ 2 ^ span
+pub each_crossed : (room d span : ℕ) (s : Part) → s.routing ≡ plain_routing → d < span
+    → s.first % 2 ^ span ≡ 0 → s.count ≡ 2 ^ span
     → each_chip span (λ c. buffer_after_dimension plain_way room d (list_at s.buffers c)
     (outgoing plain_way room d (list_at s.buffers (bit_xor c (2 ^ d)))))
     ≡ each_from s.first s.count (λ c. buffer_after_dimension plain_way room d (buffer_in s c) (mail_for room d Blank s c))
-each_crossed room d span s below even many =
+each_crossed room d span s plain below even many =
     rw (← many) (each_shifted [] s.first s.count _
     (λ c i. buffer_after_dimension plain_way room d (list_at s.buffers i) (mail_for room d Blank s c))
     (λ i inside.
@@ -57,7 +58,7 @@ each_crossed room d span s below even many =
     let low : bit_xor i (2 ^ d) < 2 ^ span = xor_lt span i (2 ^ d) here (pow_below d span below) in
     let there : s.first + bit_xor i (2 ^ d) - s.first ≡ bit_xor i (2 ^ d) = omega arith in
     let is_in : is_within s (s.first + bit_xor i (2 ^ d)) ≡ true = grind (arith, nat_tests) in
-    rw (stays_in span s.first i d even below here, is_in, there) refl))
+    rw (stays_in span s.first i d even below here, is_in, there, plain) refl))
 
 -- ---- nodes
 

@@ -11,6 +11,7 @@ use Rattle.cm_model.specs.declared.message.Event.TheVariants.{Injected, Delivere
 use Rattle.cm_model.specs.Processor.{Processor}
 use Rattle.cm_model.specs.Each.{each_from}
 use Rattle.cm_model.specs.Array.{Chips, chip_at, list_at}
+use Rattle.cm_model.specs.Wiring.{plain_routing}
 use Rattle.cm_model.specs.Letters.{chip_after_injection, chip_after_delivery, can_receive, has_arrived}
 use Rattle.cm_model.specs.OneChip.{taken_here, sent_here, delivered, kept, delivered_here, kept_here}
 use Rattle.cm_model.proofs.Each.{length-each_from, get_or-each_from}
@@ -138,6 +139,7 @@ pub made_all : {f : ℕ → Cell → Cell} {most first count place : ℕ} {befor
       buffers = each_from first count (λ c. (f c (cell_at before (c - first))).messages);
       logs = each_from first count (λ c. (f c (cell_at before (c - first))).events);
       clock = clock;
+      routing = plain_routing;
     }
 made_all {f} {most} {first} {count} {place} {before} {now} clock is all =
     let made : ℕ → ℕ → Cell = λ c i. f c (cell_at before i) in

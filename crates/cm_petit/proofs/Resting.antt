@@ -47,5 +47,5 @@ module _ (n room : ℕ) (chips : Chips) (buffers : List (List Message)) (logs : 
       cycle_is n room (machine_of chips buffers logs clock)
       (nothing_crosses n room (machine_of chips buffers logs clock) (machine_of chips buffers logs clock) some
       are.buffer_count (λ k l. empty k [] (omega (arith, l, are.buffer_count)))
-      (injected_whole n room part refl refl (nothing_injected clock idle)) n (omega arith))
+      (injected_whole n room part refl refl (nothing_injected clock idle)) refl n (omega arith))
       (delivered_whole n room part refl refl (nothing_delivered clock same))

@@ -1,16 +1,14 @@
 //! The buffers and logs of the plain router: who leaves a buffer, who is delivered, what a log takes.
 
 ghost use Rattle.std.specs.Prelude.{◌≡◌, ℕ, ◌++◌, ◌<◌, List, [], Option, ◌∷◌, map, IfOk, OnOk};
-ghost use Rattle.std.specs.List.{position};
 ghost use Rattle.std.specs.Option.{option_to_list};
-ghost use Rattle.cm_model.specs.Router.{has_to_cross, message_across};
+ghost use Rattle.cm_model.specs.Router.{message_across};
 ghost use Rattle.cm_model.specs.Letters.{can_receive, is_among};
-ghost use Rattle.cm_model.specs.Wiring.{plain_way};
-ghost use Rattle.cm_model.specs.declared.rule.Rule.TheVariants.{First};
-ghost use Rattle.cm_model.specs.Buffers.{referred_place, leaving_place, outgoing, buffer_after_dimension, without};
+ghost use Rattle.cm_model.specs.Buffers.{leaving_place, outgoing, buffer_after_dimension, without};
 ghost use Rattle.cm_model.specs.OneChip.{arrived_for, is_accepted, delivered, kept};
 ghost use Rattle.cm_model.specs.declared.message.Event.TheVariants.{Injected, Delivered};
 
+use crate::leaving::{Way, leaving_place};
 use crate::letters::is_among;
 use crate::machine::PlainChip;
 use cm_bits::{FlagNo, NoMemory, Proc};
@@ -88,11 +86,11 @@ impl PlainBuffer {
     }
 
     /// What the buffer sends across a dimension, with room for so many messages.
-    pub(crate) fn outgoing(&self, room: usize, dim: usize) -> Option<Message>
+    pub(crate) fn outgoing(&self, way: Way, room: usize, dim: usize) -> Option<Message>
         requires dim { dim < 16 }
-        ensures value { result ≡ outgoing plain_way room dim self.now }
+        ensures value { result ≡ outgoing (record { cut = way.cut; rule = way.rule }) room dim self.now }
     {
-        let leaving = leaving_place(&self.messages, room, dim)?;
+        let leaving = leaving_place(&self.messages, way, room, dim)?;
         let message = self.messages.get(leaving)?;
         Some(message_across(message, dim))
     }
@@ -101,15 +99,17 @@ impl PlainBuffer {
     pub(crate) fn after_dimension(
         &self,
         alloc: Global,
+        way: Way,
         room: usize,
         dim: usize,
         coming: Option<Message>,
     ) -> Result<PlainBuffer, NoMemory>
         requires dim { dim < 16 }
-        ensures value { IfOk result (λ after. after ≡ buffer_after_dimension plain_way room dim self.now coming) }
+        ensures value { IfOk result (λ after. after
+            ≡ buffer_after_dimension (record { cut = way.cut; rule = way.rule }) room dim self.now coming) }
     {
         let mut messages = self.messages.to_vec(alloc)?;
-        leave(&mut messages, room, dim);
+        leave(&mut messages, way, room, dim);
         come(&mut messages, coming)?;
         Ok(PlainBuffer { messages })
     }
@@ -199,11 +199,12 @@ impl PlainLog {
 }
 
 /// Who leaves a buffer in a dimension goes.
-fn leave(messages: &mut Vec<Message>, room: usize, dim: usize)
+fn leave(messages: &mut Vec<Message>, way: Way, room: usize, dim: usize)
     requires dim { dim < 16 }
-    ensures value { messages.new.items ≡ without messages.old.items (leaving_place plain_way room dim messages.old.items) }
+    ensures value { messages.new.items ≡ without messages.old.items
+        (leaving_place (record { cut = way.cut; rule = way.rule }) room dim messages.old.items) }
 {
-    if let Some(leaving) = leaving_place(messages, room, dim) {
+    if let Some(leaving) = leaving_place(messages, way, room, dim) {
         if leaving < messages.len() {
             messages.remove(leaving);
         }
@@ -239,44 +240,6 @@ fn arrive(procs: &mut Vec<Proc>, message: &Message) -> Result<(), NoMemory>
         };
     }
     Ok(())
-}
-
-/// The place of who leaves a buffer in a dimension: the first that has to cross it, or else, if
-/// there is no room left, the last.
-#[tactic(auto, unfolding(cm_model::specs::Buffers::leaving_place))]
-fn leaving_place(here: &[Message], room: usize, dim: usize) -> Option<usize>
-    requires dim { dim < 16 }
-    ensures value { result ≡ leaving_place plain_way room dim here.now }
-{
-    match crossing_place(here, dim) {
-        Some(place) => Some(place),
-        None => referred_place(here, room),
-    }
-}
-
-fn referred_place(here: &[Message], room: usize) -> Option<usize>
-    ensures value { result ≡ referred_place First room here.now }
-{
-    if here.len() == room {
-        Some(here.len().saturating_sub(1))
-    } else {
-        None
-    }
-}
-
-/// The place of the first that has to cross a dimension.
-fn crossing_place(here: &[Message], dim: usize) -> Option<usize>
-    requires dim { dim < 16 }
-    ensures value { result ≡ position (has_to_cross dim) here.now }
-{
-    here.iter().position(|message| has_to_cross(message, dim))
-}
-
-fn has_to_cross(message: &Message, dim: usize) -> bool
-    requires dim { dim < 16 }
-    ensures value { result ≡ has_to_cross dim message.now }
-{
-    message.rel >> dim & 1 == 1
 }
 
 /// The message as it comes to the other chip of a dimension.

@@ -3,6 +3,7 @@
 #![tactic(auto)]
 
 mod buffer;
+mod leaving;
 mod letters;
 mod machine;
 mod router;

@@ -12,16 +12,17 @@ ghost use Rattle.cm_model.specs.Chip.{each_processor, processor_at, with_memory_
 ghost use Rattle.cm_model.specs.Array.{each_chip, chip_at, after_nano, list_at};
 ghost use Rattle.cm_model.specs.Letters.{can_receive, chip_after_injection, chip_after_delivery};
 ghost use Rattle.cm_model.specs.Machine.{Machine, blank_machine, run_of};
-ghost use Rattle.cm_model.specs.Wiring.{plain_way};
-ghost use Rattle.cm_model.specs.Buffers.{taken_in, sent_in, machine_after_injection, outgoing, buffer_after_dimension};
+ghost use Rattle.cm_model.specs.Wiring.{plain_routing, way_of};
+ghost use Rattle.cm_model.specs.Buffers.{taken_in, sent_in, machine_after_injection, sent_across, buffers_after_dimension};
 ghost use Rattle.cm_model.specs.Buffers.{machine_after_dimension, delivered_in, machine_after_delivery};
 ghost use Rattle.cm_model.specs.OneChip.{kept};
 ghost use Rattle.cm_model.specs.Buffers.{after_act};
 
 use crate::buffer::{PlainBuffer, PlainLog, Sorted};
+use crate::leaving::{Way, is_cut};
 use crate::machine::{PlainChip, PlainMachine};
-use cm_bits::{Addr, FlagNo, NoMemory, Proc};
-use cm_model::{Act, Event, Message, Nano};
+use cm_bits::{Addr, Edge, FlagNo, NoMemory, Proc};
+use cm_model::{Act, Event, Message, Nano, Rule};
 use std::alloc::Global;
 use std::marker::Model;
 
@@ -35,6 +36,8 @@ pub struct PlainRouter<const N: usize, const CAP: usize> {
     buffers: Vec<PlainBuffer>,
     logs: Vec<PlainLog>,
     clock: u64,
+    cuts: Vec<Edge>,
+    rule: Rule,
 }
 
 impl<const N: usize, const CAP: usize> Model for PlainRouter<N, CAP> {
@@ -45,6 +48,7 @@ impl<const N: usize, const CAP: usize> Model for PlainRouter<N, CAP> {
       buffers = router.buffers.items;
       logs = router.logs.items;
       clock = router.clock;
+      routing = record { cuts = router.cuts.items; rule = router.rule };
     } };
 
     ghost invariant = { λ router.
@@ -63,6 +67,7 @@ impl<const N: usize, const CAP: usize> PlainRouter<N, CAP> {
           buffers = each_chip N (λ c. []);
           logs = each_chip N (λ c. []);
           clock = 0;
+          routing = plain_routing;
         }) }
         ensures blank { addresses ≡ 4096 → IfOk result (λ router. router ≡ blank_machine N) }
     {
@@ -74,6 +79,8 @@ impl<const N: usize, const CAP: usize> PlainRouter<N, CAP> {
             buffers,
             logs,
             clock: 0,
+            cuts: Vec::new(alloc),
+            rule: Rule::First,
         })
     }
 
@@ -112,6 +119,14 @@ impl<const N: usize, const CAP: usize> PlainRouter<N, CAP> {
         ensures value { result ≡ self.now.clock }
     {
         self.clock
+    }
+
+    /// Routes so from now on: these wires are cut, and the routers choose by this rule.
+    pub fn route_by(&mut self, cuts: Vec<Edge>, rule: Rule)
+        ensures value { self.new ≡ record self.old { routing = record { cuts = cuts.items; rule = rule } } }
+    {
+        self.cuts = cuts;
+        self.rule = rule;
     }
 
     /// Puts a bit into the memory of one processor: beyond its last address it is dropped.
@@ -157,11 +172,14 @@ impl<const N: usize, const CAP: usize> PlainRouter<N, CAP> {
         let chips = self.chips.copy(alloc)?;
         let buffers = self.copied_buffers(alloc)?;
         let logs = self.copied_logs(alloc)?;
+        let cuts = self.cuts.to_vec(alloc)?;
         Ok(PlainRouter {
             chips,
             buffers,
             logs,
             clock: self.clock,
+            cuts,
+            rule: self.rule,
         })
     }
 
@@ -342,16 +360,17 @@ impl<const N: usize, const CAP: usize> PlainRouter<N, CAP> {
         dim: usize,
     ) -> Result<Vec<PlainBuffer>, NoMemory>
         requires dim { dim < N }
-        ensures value { IfOk result (λ buffers. buffers.items ≡ each_chip N (λ c. buffer_after_dimension plain_way CAP dim
-            (list_at self.now.buffers c) (outgoing plain_way CAP dim (list_at self.now.buffers (bit_xor c (2 ^ dim)))))) }
+        ensures value { IfOk result (λ buffers.
+            buffers.items ≡ buffers_after_dimension self.now.routing N CAP dim self.now.buffers) }
     {
         let _ = &self.logs;
         let mut buffers = Vec::new(alloc);
         for chip in 0..PlainMachine::<N>::chip_count() {
+            let way = self.way(chip, dim);
             let coming = self.coming(chip, dim);
             let after = self
                 .buffer_of(chip)
-                .after_dimension(alloc, CAP, dim, coming)?;
+                .after_dimension(alloc, way, CAP, dim, coming)?;
             let Ok(()) = buffers.push(after) else {
                 return Err(NoMemory);
             };
@@ -463,10 +482,23 @@ impl<const N: usize, const CAP: usize> PlainRouter<N, CAP> {
         requires dimension { N ≤ 12 }
         requires chip { chip < 2 ^ N }
         requires dim { dim < N }
-        ensures value { result ≡ outgoing plain_way CAP dim (list_at self.now.buffers (bit_xor chip (2 ^ dim))) }
+        ensures value { result ≡ sent_across self.now.routing CAP dim self.now.buffers (bit_xor chip (2 ^ dim)) }
     {
         let other = Self::across(chip, dim);
-        self.buffer_of(other).outgoing(CAP, dim)
+        let way = self.way(other, dim);
+        self.buffer_of(other).outgoing(way, CAP, dim)
+    }
+
+    /// What a chip sees of the routing in a dimension.
+    fn way(&self, chip: u16, dim: usize) -> Way
+        requires dimension { N ≤ 12 }
+        requires dim { dim < N }
+        ensures value { record { cut = result.cut; rule = result.rule } ≡ way_of self.now.routing chip dim }
+    {
+        Way {
+            cut: is_cut(&self.cuts, chip, dim),
+            rule: self.rule,
+        }
     }
 
     /// The other chip of a dimension.

@@ -4,6 +4,7 @@ use Rattle.std.specs.List.{range_with_len}
 use Rattle.std.proofs.lemmas.Nat.{pow_pos}
 use Rattle.std.proofs.lemmas.List.Elements.{All-from_get_or}
 use Rattle.std.proofs.lemmas.List.Folds.{flat_map-map}
+use Rattle.cm_model.specs.Wiring.{Routing}
 use Rattle.cm_model.specs.Machine.{Machine}
 use Rattle.cm_model.specs.Keeping.{IsMachine}
 use Rattle.cm_model.specs.Each.{each_from}
@@ -11,7 +12,7 @@ use Rattle.cm_model.proofs.Each.{length-each_from, get_or-each_below}
 use Rattle.cm_blocks.specs.Parts.{Part, part, block}
 use Rattle.cm_blocks.specs.Laws.{AreJoined}
 use Rattle.cm_blocks.proofs.Joining.{blocks_are_the_whole}
-use Rattle.cm_array.specs.Cuts.{first_clock, joined, AreWhole}
+use Rattle.cm_array.specs.Cuts.{first_clock, first_routing, joined, AreWhole}
 use Rattle.cm_subcube.specs.Laws.{all_blocks}
 
 pub clock-block : (n k b : ℕ) (machine : Machine) → (block n k b machine).clock ≡ machine.clock
@@ -24,6 +25,17 @@ unfolding each_from
 first_clock-made f zero clock some each = absurd (omega (arith, some))
 first_clock-made f (suc count) clock some each = each 0
 
+routing-block : (n k b : ℕ) (machine : Machine) → (block n k b machine).routing ≡ machine.routing
+unfolding part
+routing-block n k b machine = refl
+
+first_routing-made : (f : ℕ → Part) (count : ℕ) (routing : Routing) → 0 < count
+    → ((b : ℕ) → (f b).routing ≡ routing)
+    → first_routing (each_from 0 count f) ≡ routing
+unfolding each_from
+first_routing-made f zero routing some each = absurd (omega (arith, some))
+first_routing-made f (suc count) routing some each = each 0
+
 module _ (n cap k : ℕ) (machine : Machine) (within : k ≤ n) (is : IsMachine n cap machine) where
   are : AreJoined n k machine
   are = blocks_are_the_whole n k machine within is.chip_count is.buffer_count is.log_count
@@ -31,6 +43,11 @@ module _ (n cap k : ℕ) (machine : Machine) (within : k ≤ n) (is : IsMachine 
   first_clock-blocks : first_clock (all_blocks n k machine) ≡ machine.clock
   first_clock-blocks =
       first_clock-made (λ b. block n k b machine) (2 ^ k) machine.clock (pow_pos k) (λ b. clock-block n k b machine)
+
+  first_routing-blocks : first_routing (all_blocks n k machine) ≡ machine.routing
+  first_routing-blocks =
+      first_routing-made (λ b. block n k b machine) (2 ^ k) machine.routing (pow_pos k)
+      (λ b. routing-block n k b machine)
 
   pub joined-blocks : joined (all_blocks n k machine) ≡ machine
   unfolding each_from
@@ -40,6 +57,7 @@ module _ (n cap k : ℕ) (machine : Machine) (within : k ≤ n) (is : IsMachine 
         ∙ are.buffers) i;
     logs = (flat_map-map (λ (s : Part). s.logs) (λ b. block n k b machine) (range_with_len 0 (2 ^ k)) ∙ are.logs) i;
     clock = first_clock-blocks i;
+    routing = first_routing-blocks i;
   }
 
   pub AreWhole-blocks : AreWhole n cap (all_blocks n k machine)

@@ -4,12 +4,13 @@ use Rattle.std.proofs.lemmas.Iterator.Adapters.{YieldsList-from_vec}
 use Rattle.std.proofs.lemmas.Iterator.Consumers.{YieldsList-turn, YieldsList-end}
 use Rattle.cm_model.specs.declared.message.Message.{Message}
 use Rattle.cm_model.specs.declared.message.Event.{Event}
+use Rattle.cm_model.specs.Wiring.{plain_routing}
 use Rattle.cm_model.proofs.Each.{length-each_from}
 use Rattle.cm_blocks.specs.Parts.{Part}
 use Rattle.cm_router.specs.Logs.{Log}
 use Rattle.cm_petit.specs.Routers.{events_of}
 use Rattle.cm_array.proofs.Laying.{none_stand}
-use Rattle.cm_array.proofs.Putting.{none_put, next_fits, next_put, next_held, all_put, some_put}
+use Rattle.cm_array.proofs.Putting.{none_put, next_fits, next_put, next_held, next_routing, all_put, some_put}
 use Rattle.cm_array.proofs.put.put.Goals as goal
 
 pub loop-piece-init : goal.loop-piece-init
@@ -29,6 +30,7 @@ loop-piece-init g c =
       sent_count = refl;
       incoming_count = refl;
       clock = λ l. absurd (omega (arith, l));
+      routing = λ l. absurd (omega (arith, l));
       within = λ l. absurd (omega (arith, l));
     }
 
@@ -88,6 +90,7 @@ loop-piece-preserved g c =
       sent_count = put.sent ∙ were.sent_count;
       incoming_count = put.incoming ∙ were.incoming_count;
       clock = λ l. put.clock ∙ ap (λ (x : Part). x.clock) next.1 ∙ c.requires.clocks j s next.0;
+      routing = λ l. next_routing parts j s plain_routing next.0 next.1 put.routing were.routing;
       within = λ l. put.within;
     }
 
@@ -118,6 +121,7 @@ returns g c =
         logs = all_put (λ (x : Part). x.logs) parts j at (events_of now.logs.items) all
             (length-map now.logs.items events ∙ were.log_count ∙ c.requires.many.logs) were.logs i;
         clock = were.clock some i;
+        routing = sym (were.routing some) i;
       };
       gathered = c.gather.ensures.gathered;
       sent = were.sent_count;

@@ -42,3 +42,6 @@ returns-clause-logs c =
     is first in
     subst (λ (logs : List Log). IsLaid c.args.at c.args.piece.part.logs (events_of old) (events_of logs))
     (sym lent) next
+
+pub returns-clause-routing : goal.returns-clause-routing
+returns-clause-routing c = ap (λ (k : KeptPart). k.part.routing) (sym c.into_parts-from.ensures.value)

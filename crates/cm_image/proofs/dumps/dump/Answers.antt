@@ -42,6 +42,7 @@ returns g c =
             some_room = sizes.some_room;
             most_room = sizes.most_room;
             clock = omega (arith, c.clock-cycles.ensures.value, c.clock-cycles.ensures.within);
+            plain = c.clock-cycles.ensures.plain;
             whole = c.clock-cycles.ensures.whole;
           });
     }

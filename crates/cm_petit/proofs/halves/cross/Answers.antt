@@ -8,4 +8,4 @@ pub returns-clause-value : goal.returns-clause-value
 unfolding part_after
 returns-clause-value c = λ first clock chips logs even.
     let part = part_of first (2 ^ c.args.sizes.span) chips c.args.crossing.now.buffers logs clock in
-    rw (c.cross.ensures.value, each_crossed c.args.sizes.room _ _ part c.requires.dim even refl) refl
+    rw (c.cross.ensures.value, each_crossed c.args.sizes.room _ _ part refl c.requires.dim even refl) refl

@@ -10,7 +10,7 @@ loop-dim-init c = record {
 
 pub loop-dim-preserved : goal.loop-dim-preserved
 loop-dim-preserved c = record {
-  crossed = crossed_more c.args.sizes.dims c.args.sizes.room _ c.loop-dim.dim c.loop-dim.invariant.crossed
+  crossed = crossed_more c.args.sizes.dims c.args.sizes.room _ c.loop-dim.dim c.loop-dim.invariant.crossed refl
       c.cross_nodes.ensures.value;
   nodes = grind arith;
 }

@@ -16,7 +16,7 @@ loop-dim-init c = record {
 
 pub loop-dim-preserved : goal.loop-dim-preserved
 loop-dim-preserved c = record {
-  crossed = crossed_more c.args.sizes.dims c.args.sizes.room _ c.loop-dim.dim c.loop-dim.invariant.crossed
+  crossed = crossed_more c.args.sizes.dims c.args.sizes.room _ c.loop-dim.dim c.loop-dim.invariant.crossed refl
       (rw c.requires.all at c.cross.ensures.value);
   count = rw c.requires.all at c.cross.ensures.count;
   within = c.cross.ensures.within;
@@ -32,7 +32,7 @@ returns-then-is_empty-clause-value c =
     let whole = part_of 0 (2 ^ n) c.inject.new.run c.inject.new.crossing.buffers c.inject.new.logs c.args.clock.now in
     cycle_is n c.args.sizes.room _
     (nothing_crosses n c.args.sizes.room _ _ c.requires.sizes.some_room are.buffer_count empty
-    (injected_whole _ _ _ refl refl (rw c.requires.all at c.inject.ensures.value)) n (omega arith))
+    (injected_whole _ _ _ refl refl (rw c.requires.all at c.inject.ensures.value)) refl n (omega arith))
     (delivered_whole n c.args.sizes.room whole refl refl
     (made_all {f = delivering} {most = 0} {count = 2 ^ n} _
     (made_past (2 ^ n) (made_none are.chip_count are.buffer_count are.log_count) (omega arith)

@@ -2,6 +2,8 @@ use Rattle.std.proofs.Common.{◌≡◌, ℕ, ◌^◌, ◌∙◌, [], false, rep
 use Rattle.cm_model.specs.Processor.{blank_processor}
 use Rattle.cm_model.specs.Chip.{each_processor, blank_chip}
 use Rattle.cm_model.specs.Array.{each_chip}
+use Rattle.cm_model.specs.declared.rule.Rule.TheVariants.{First}
+use Rattle.cm_model.specs.Wiring.{plain_routing}
 use Rattle.cm_model.specs.Machine.{Machine, blank_machine}
 use Rattle.cm_model.proofs.Each.{length-each_from}
 use Rattle.cm_plain.proofs.router.PlainRouter.blank.Goals as goal
@@ -14,6 +16,7 @@ bare n addresses = record {
   buffers = each_chip n (λ c. []);
   logs = each_chip n (λ c. []);
   clock = 0;
+  routing = plain_routing;
 }
 
 -- with 4,096 of them it is the blank machine
@@ -35,4 +38,5 @@ returns-clause-blank g c = λ full.
       buffers = c.in_ok-buffers.ensures.value i;
       logs = c.in_ok-logs.ensures.value i;
       clock = 0;
+      routing = record { cuts = c.new.ensures.items i; rule = First };
     }) ∙ bare-whole g.row.N c.args.addresses full

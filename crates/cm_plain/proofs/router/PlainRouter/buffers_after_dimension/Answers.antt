@@ -1,8 +1,8 @@
 use Rattle.std.proofs.Common.{rules, ◌≡◌, ℕ, ◌^◌, bit_xor, sym, ap, ◌∙◌, arith}
 use Rattle.cm_model.specs.Each.{each_from}
 use Rattle.cm_model.specs.Array.{list_at}
-use Rattle.cm_model.specs.Wiring.{plain_way}
-use Rattle.cm_model.specs.Buffers.{outgoing, buffer_after_dimension}
+use Rattle.cm_model.specs.Wiring.{way_of}
+use Rattle.cm_model.specs.Buffers.{sent_across, buffer_after_dimension}
 use Rattle.cm_plain.proofs.Made.{each_from-zero, pushed}
 use Rattle.cm_plain.proofs.router.PlainRouter.buffers_after_dimension.Goals as goal
 
@@ -20,6 +20,8 @@ returns g c =
     record {
       value = c.loop-chip.invariant
           ∙ ap (λ (n : ℕ). each_from 0 n
-          (λ k. buffer_after_dimension plain_way g.row.CAP c.args.dim (list_at c.args.self.now.buffers k)
-          (outgoing plain_way g.row.CAP c.args.dim (list_at c.args.self.now.buffers (bit_xor k (2 ^ c.args.dim)))))) all;
+          (λ k. buffer_after_dimension (way_of c.args.self.now.routing k c.args.dim) g.row.CAP c.args.dim
+          (list_at c.args.self.now.buffers k)
+          (sent_across c.args.self.now.routing g.row.CAP c.args.dim c.args.self.now.buffers
+          (bit_xor k (2 ^ c.args.dim))))) all;
     }

@@ -18,5 +18,6 @@ returns g c = record {
     buffers = c.in_ok-buffers.ensures.value i;
     logs = c.in_ok-logs.ensures.value i;
     clock = (c.self.view_is i).clock;
+    routing = (c.self.view_is i).routing;
   };
 }
