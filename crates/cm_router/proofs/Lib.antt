@@ -3,4 +3,3 @@ pub mod Taking
 pub mod Rooms
 pub mod Oldest
 pub mod Cutting
-pub mod Numbering

@@ -3,13 +3,11 @@
 
 mod cuts;
 mod delivery;
-mod laws;
 mod letters;
 mod node;
 
 pub use cm_message::{Event, Message, Rule, Tag};
 pub use cuts::Cuts;
 pub use delivery::{begin, hand_over, pass_over, who_has_not_arrived_is_kept};
-pub use laws::{blank_rows_are_plain, rows_tell_routing};
 pub use letters::{acknowledge, asking, chip_asks, is_idle, may_ask, message_sent, take_none};
 pub use node::Node;
