@@ -1,5 +1,5 @@
 -- What `cm1 run` does with an image, a program and commands: one session on the machine of the image. Ours.
-use Rattle.std.specs.Prelude.{◌≡◌, ℕ, ◌⊎◌, Bool, true, false, Option, Some, None, Result, Ok, Err, Vec, List}
+use Rattle.std.specs.Prelude.{◌≡◌, ℕ, ◌⊎◌, Bool, true, false, Option, Some, None, Result, Ok, Err, Vec, List, []}
 use Rattle.std.specs.declared.alloc.Global.{Global}
 use Rattle.std.specs.Io.KnownBytes.{Keeps}
 use Rattle.cm_model.specs.declared.act.Act.{Act}
@@ -43,6 +43,13 @@ pub record HasRun (start : Start) (acts : List Act) (lines : List ℕ) (rest hel
   pub ends : Ends start.n start.cap acts lines rest start.machine held after holds (Ok tt)
   pub kept : IsKept start.n start.cap after keeps image
 
+-- all lines of some text were answered, and this image is kept of the machine that they left: this can be said of
+-- commands that do not tell their bytes
+pub record HasRunForSome (start : Start) (acts : List Act) (held holds : Option (List ℕ)) (keeps : Bool)
+    (image : Option (Vec ℕ Global)) : Type 0 where
+  pub lines : List ℕ
+  pub run : HasRun start acts lines (Some []) held holds keeps image
+
 -- a session that ended so ends the program with this fault: its own, or want of memory for an image that is to be kept
 abbrev pub IsToldAs : Bool → Result (Unit {0}) SessionFault → ProgramFault → Type 0
 IsToldAs true (Ok done) fault = fault ≡ Memory
@@ -66,6 +73,16 @@ pub record IsRun (image : List ℕ) (gives : Result (Vec ℕ Global) TakeFault �
   pub is : GivesProgram gives program
   pub shared : sharing_fault start.n sharing ≡ None
   pub run : HasRun start program.acts lines rest held holds keeps kept
+
+-- an image, a program and some commands were run to the end
+pub record IsRunForSome (image : List ℕ) (gives : Result (Vec ℕ Global) TakeFault → Type 0) (sharing : Sharing)
+    (held holds : Option (List ℕ)) (keeps : Bool) (kept : Option (Vec ℕ Global)) : Type 0 where
+  pub start : Start
+  pub begins : opened image ≡ Ok start
+  pub program : ProgramText
+  pub is : GivesProgram gives program
+  pub shared : sharing_fault start.n sharing ≡ None
+  pub run : HasRunForSome start program.acts held holds keeps kept
 
 -- the text is refused with this fault: it was not read to its end, or is no program, or memory ran out
 abbrev pub IsRefusedText : Result (Vec ℕ Global) TakeFault → ProgramFault → Type 0

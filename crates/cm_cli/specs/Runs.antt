@@ -1,15 +1,15 @@
 -- What `cm1 run` does from its first file to its last. Ours.
-use Rattle.std.specs.Prelude.{◌≡◌, ◌⊎◌, ◌↔◌, Bool, true, false, Option, Some, None, IfSome, IsErrOf, Result, Ok, Err}
-use Rattle.std.specs.Prelude.{Vec, ℕ, List, ◌++◌}
+use Rattle.std.specs.Prelude.{◌≡◌, ◌⊎◌, ◌↔◌, Bool, true, false, Option, Some, None, IfOk, IfSome, IsErrOf, Result, Ok}
+use Rattle.std.specs.Prelude.{Err, Vec, ℕ, List, ◌++◌}
 use Rattle.std.specs.Option.{is_some}
 use Rattle.std.specs.declared.alloc.Global.{Global}
 use Rattle.cm_model.specs.declared.act.Act.{Act}
 use Rattle.cm_language.specs.Program.{ProgramText}
 use Rattle.cm_cli.specs.declared.files.RunLine.{RunLine}
 use Rattle.cm_cli.specs.declared.program_fault.ProgramFault.{ProgramFault}
-use Rattle.cm_cli.specs.declared.program_fault.ProgramFault.TheVariants.{Read, Write}
+use Rattle.cm_cli.specs.declared.program_fault.ProgramFault.TheVariants.{Read, Write, NoThread}
 use Rattle.cm_cli.specs.Opened.{Start}
-use Rattle.cm_cli.specs.Run.{HasRun, HasBrokenOff}
+use Rattle.cm_cli.specs.Run.{HasRun, HasRunForSome, HasBrokenOff}
 use Rattle.cm_cli.specs.Deeds.{Deed}
 use Rattle.cm_cli.specs.Takings.{Reads}
 use Rattle.cm_cli.specs.Puttings.{Closes}
@@ -34,6 +34,7 @@ EndsSession start acts streams keeps (Err fault) =
 pub record IsSession (start : Start) (acts : List Act) (streams : Streams) (keeps : Bool)
     (ran : Result (Option (Vec ℕ Global)) ProgramFault) : Type 0 where
   pub ends : EndsSession start acts streams keeps ran
+  pub heard : IfOk ran (HasRunForSome start acts streams.held streams.holds keeps)
   pub read : (streams.read_failed ≡ true) ↔ IsErrOf ran Read
   pub write : (streams.write_failed ≡ true) ↔ IsErrOf ran Write
 
@@ -45,7 +46,8 @@ pub record BeginsNot {F P : Type 0} (reads : Reads F) (line : RunLine) (streams 
   pub refused : RefusesFiles reads line fault deeds
   pub untouched : IsUntouched streams
 
--- a session begins, and ends; then standard output goes out, and the file is written
+-- a session begins, and ends, which wants no thread where there is one worker; then standard output goes out, and the
+-- file is written
 pub record RunsFiles {F P : Type 0} (reads : Reads F) (line : RunLine) (streams : Streams)
     (result : Result (Unit {0}) ProgramFault) (deeds : List (Deed F P)) : Type 0 where
   pub first : List (Deed F P)
@@ -57,6 +59,7 @@ pub record RunsFiles {F P : Type 0} (reads : Reads F) (line : RunLine) (streams 
   pub begins : BeginsFiles reads line start program part first
   pub ran : Result (Option (Vec ℕ Global)) ProgramFault
   pub session : IsSession start program.acts streams (is_some part) ran
+  pub threads : line.sharing.workers ≡ 1 → ¬ IsErrOf ran NoThread
   pub closes : Closes part streams.holds ran result second
 
 -- what `cm1 run` does

@@ -1,6 +1,6 @@
 //! `cm1 run`: a session over files.
 
-ghost use Rattle.std.specs.Prelude.{◌≡◌, false, true, IfOk, IfErr, IsErrOf, option_map, string_bytes};
+ghost use Rattle.std.specs.Prelude.{◌≡◌, ◌≢◌, false, true, IfOk, IfErr, IsErrOf, option_map, string_bytes};
 ghost use Rattle.cm_cli.specs.Sizes.{start_at};
 ghost use Rattle.cm_cli.specs.Deeds.{Did};
 ghost use Rattle.cm_cli.specs.Takings.{reads_by};
@@ -77,6 +77,7 @@ pub fn run_files_shared<R: Threads + Wait + Sync, H: Outside, I: Source, O: Sink
     commands: &mut I,
     answers: &mut O,
 ) -> Result<(), ProgramFault>
+    requires several { line.now.sharing.workers ≢ 1 }
     requires reader { I.has_failed commands.old ≡ false }
     requires writer { O.has_failed answers.old ≡ false }
     ensures does { Did H.does outside.old outside.new (DoesRun (reads_by H.File.left H.File.has_failed) line.now

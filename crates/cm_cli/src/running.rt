@@ -6,7 +6,7 @@ ghost use Rattle.cm_array.specs.Faults.{one_more_lacked};
 ghost use Rattle.cm_cli.specs.Sizes.{start_in, start_at};
 ghost use Rattle.cm_cli.specs.Sharing.{sharing_fault};
 ghost use Rattle.cm_cli.specs.Run.{Begins, IsBegun, IsNotBegun, HasRun, HasBrokenOff, EndsRun, GivesProgram};
-ghost use Rattle.cm_cli.specs.Run.{GivesRefused};
+ghost use Rattle.cm_cli.specs.Run.{GivesRefused, HasRunForSome, IsRunForSome};
 
 use crate::opened::{OfRoom, Opened, open_image};
 use crate::program_fault::ProgramFault;
@@ -42,6 +42,8 @@ pub fn run_session<R: Threads + Wait + Sync, T: Text + Drop, I: Source, O: Sink>
     ensures begins { Begins image.items (T.gives text) sharing result }
     ensures ends { IfSome (I.left commands.old) (λ lines. EndsRun image.items (T.gives text) sharing lines
         (I.left commands.new) (O.contents out.old) (O.contents out.new) keeps result) }
+    ensures heard { IfOk result (IsRunForSome image.items (T.gives text) sharing
+        (O.contents out.old) (O.contents out.new) keeps) }
     ensures read { I.has_failed commands.new ≡ true → IsErrOf result ProgramFault.Read }
     ensures unread { IsErrOf result ProgramFault.Read
         → (I.has_failed commands.new ≡ true) ⊎ T.gives text (Err TakeFault.Read) }
@@ -119,6 +121,8 @@ pub fn run_alone<I: Source, O: Sink>(
     ensures fault { IfErr result (λ fault. IfSome (I.left commands.old) (λ lines. HasBrokenOff (start_at machine)
         program.now.acts lines (I.left commands.new) (O.contents out.old) (O.contents out.new) keeps fault)) }
     ensures kept { IfOk result (λ kept. is_some kept ≡ keeps) }
+    ensures heard { IfOk result (HasRunForSome (start_at machine) program.now.acts
+        (O.contents out.old) (O.contents out.new) keeps) }
     ensures read { (I.has_failed commands.new ≡ true) ↔ IsErrOf result ProgramFault.Read }
     ensures write { (O.has_failed out.new ≡ true) ↔ IsErrOf result ProgramFault.Write }
     ensures threads { ¬ IsErrOf result ProgramFault.NoThread }
@@ -146,6 +150,8 @@ fn alone_in_room<const CAP: usize, I: Source, O: Sink>(
         (start_in CAP machine.entry) program.now.acts lines (I.left commands.new) (O.contents out.old)
         (O.contents out.new) keeps fault)) }
     ensures kept { IfOk result (λ kept. is_some kept ≡ keeps) }
+    ensures heard { IfOk result (HasRunForSome (start_in CAP machine.entry) program.now.acts
+        (O.contents out.old) (O.contents out.new) keeps) }
     ensures read { (I.has_failed commands.new ≡ true) ↔ IsErrOf result ProgramFault.Read }
     ensures write { (O.has_failed out.new ≡ true) ↔ IsErrOf result ProgramFault.Write }
     ensures threads { ¬ IsErrOf result ProgramFault.NoThread }
@@ -185,6 +191,8 @@ fn run_plain<const N: usize, const CAP: usize, I: Source, O: Sink>(
         (record { n = N; cap = CAP; machine = machine.entry.machine }) program.now.acts lines
         (I.left commands.new) (O.contents out.old) (O.contents out.new) keeps fault)) }
     ensures kept { IfOk result (λ kept. is_some kept ≡ keeps) }
+    ensures heard { IfOk result (HasRunForSome (record { n = N; cap = CAP; machine = machine.entry.machine }) program.now.acts
+        (O.contents out.old) (O.contents out.new) keeps) }
     ensures read { (I.has_failed commands.new ≡ true) ↔ IsErrOf result ProgramFault.Read }
     ensures write { (O.has_failed out.new ≡ true) ↔ IsErrOf result ProgramFault.Write }
     ensures threads { ¬ IsErrOf result ProgramFault.NoThread }
@@ -212,6 +220,8 @@ pub fn run_shared<R: Threads + Wait + Sync, I: Source, O: Sink>(
     ensures fault { IfErr result (λ fault. IfSome (I.left commands.old) (λ lines. HasBrokenOff (start_at machine)
         program.now.acts lines (I.left commands.new) (O.contents out.old) (O.contents out.new) keeps fault)) }
     ensures kept { IfOk result (λ kept. is_some kept ≡ keeps) }
+    ensures heard { IfOk result (HasRunForSome (start_at machine) program.now.acts
+        (O.contents out.old) (O.contents out.new) keeps) }
     ensures read { (I.has_failed commands.new ≡ true) ↔ IsErrOf result ProgramFault.Read }
     ensures write { (O.has_failed out.new ≡ true) ↔ IsErrOf result ProgramFault.Write }
 {
@@ -250,6 +260,8 @@ fn shared_in_room<const CAP: usize, R: Threads + Wait + Sync, I: Source, O: Sink
         (start_in CAP machine.entry) program.now.acts lines (I.left commands.new) (O.contents out.old)
         (O.contents out.new) keeps fault)) }
     ensures kept { IfOk result (λ kept. is_some kept ≡ keeps) }
+    ensures heard { IfOk result (HasRunForSome (start_in CAP machine.entry) program.now.acts
+        (O.contents out.old) (O.contents out.new) keeps) }
     ensures read { (I.has_failed commands.new ≡ true) ↔ IsErrOf result ProgramFault.Read }
     ensures write { (O.has_failed out.new ≡ true) ↔ IsErrOf result ProgramFault.Write }
 {
@@ -344,6 +356,8 @@ fn run_by_workers<const N: usize, const CAP: usize, R: Threads + Wait + Sync, I:
         (record { n = N; cap = CAP; machine = machine.entry.machine }) program.now.acts lines
         (I.left commands.new) (O.contents out.old) (O.contents out.new) keeps fault)) }
     ensures kept { IfOk result (λ kept. is_some kept ≡ keeps) }
+    ensures heard { IfOk result (HasRunForSome (record { n = N; cap = CAP; machine = machine.entry.machine }) program.now.acts
+        (O.contents out.old) (O.contents out.new) keeps) }
     ensures read { (I.has_failed commands.new ≡ true) ↔ IsErrOf result ProgramFault.Read }
     ensures write { (O.has_failed out.new ≡ true) ↔ IsErrOf result ProgramFault.Write }
 {
@@ -376,6 +390,8 @@ fn run_machine<const N: usize, const CAP: usize, X: Runner<N, CAP>, I: Source, O
         (record { n = N; cap = CAP; machine = machine.entry.machine }) program.now.acts lines
         (I.left commands.new) (O.contents out.old) (O.contents out.new) keeps fault)) }
     ensures kept { IfOk result (λ kept. is_some kept ≡ keeps) }
+    ensures heard { IfOk result (HasRunForSome (record { n = N; cap = CAP; machine = machine.entry.machine }) program.now.acts
+        (O.contents out.old) (O.contents out.new) keeps) }
     ensures read { (I.has_failed commands.new ≡ true) ↔ IsErrOf result ProgramFault.Read }
     ensures write { (O.has_failed out.new ≡ true) ↔ IsErrOf result ProgramFault.Write }
     ensures threads { IsErrOf result ProgramFault.NoThread

@@ -32,9 +32,11 @@ returns g c = record {
           (g.O.Sink.contents c.args.answers.now) (g.O.Sink.contents c.run_alone-ran.new.out)
           (g.I.Source.has_failed c.run_alone-ran.new.commands) (g.O.Sink.has_failed c.run_alone-ran.new.out))
           c.is_some-keeps.result c.run_alone-ran.result c.run_alone-ran.ensures.run c.run_alone-ran.ensures.fault);
+      heard = rw c.is_some-keeps.ensures at c.run_alone-ran.ensures.heard;
       read = c.run_alone-ran.ensures.read;
       write = c.run_alone-ran.ensures.write;
     };
+    threads = λ _. c.run_alone-ran.ensures.threads;
     closes = closes;
   }));
 }

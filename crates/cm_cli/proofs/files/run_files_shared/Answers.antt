@@ -32,9 +32,11 @@ returns g c = record {
           (g.O.Sink.contents c.args.answers.now) (g.O.Sink.contents c.run_shared-ran.new.out)
           (g.I.Source.has_failed c.run_shared-ran.new.commands) (g.O.Sink.has_failed c.run_shared-ran.new.out))
           c.is_some-keeps.result c.run_shared-ran.result c.run_shared-ran.ensures.run c.run_shared-ran.ensures.fault);
+      heard = rw c.is_some-keeps.ensures at c.run_shared-ran.ensures.heard;
       read = c.run_shared-ran.ensures.read;
       write = c.run_shared-ran.ensures.write;
     };
+    threads = λ one. absurd (c.requires.several one);
     closes = closes;
   }));
 }
