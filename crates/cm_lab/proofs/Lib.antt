@@ -1,8 +1,9 @@
 pub mod Bits
-pub mod DotPlaces
-pub mod Orders
-pub mod ReadingBack
-pub mod Filling
-pub mod Fields
-pub mod Putting
 pub mod Doing
+pub mod DotPlaces
+pub mod Fields
+pub mod Filling
+pub mod Orders
+pub mod Putting
+pub mod ReadingBack
+pub mod Studying

@@ -3,14 +3,21 @@ use Rattle.std.specs.Prelude.{◌≡◌, ℕ, ◌==◌, ◌||◌, Bool, Option, 
 use Rattle.cm_bits.specs.declared.field.FieldFault.{FieldFault}
 use Rattle.cm_bits.specs.Field.{field_fault}
 use Rattle.cm_model.specs.Place.{rows, columns}
+use Rattle.cm_model.specs.declared.act.Act.{Act}
 use Rattle.cm_model.specs.Machine.{Machine}
+use Rattle.cm_language.specs.declared.fault.AsmFault.{AsmFault}
+use Rattle.cm_language.specs.Program.{ProgramText, program_of}
+use Rattle.cm_study.specs.declared.studies.StudyFault.{StudyFault}
+use Rattle.cm_study.specs.declared.studies.StudyFault.TheVariants as study
+use Rattle.cm_study.specs.Study.{table_of}
 use Rattle.cm_image_format.specs.declared.fault.ImageFault.{ImageFault}
 use Rattle.cm_image_format.specs.Whole.{read_shape, read_image, text_of}
 use Rattle.cm_figures.specs.declared.numbers.NumbersFault.{NumbersFault}
 use Rattle.cm_lab.specs.declared.lab.Task.{Task}
-use Rattle.cm_lab.specs.declared.lab.Task.TheVariants.{Get, Put, Show, Paint}
+use Rattle.cm_lab.specs.declared.lab.Task.TheVariants.{Get, Put, Show, Paint, Study}
 use Rattle.cm_lab.specs.declared.lab.LabFault.{LabFault}
 use Rattle.cm_lab.specs.declared.lab.LabFault.TheVariants.{Image, Room, Numbers, Wide, Picture, Greatest, Field}
+use Rattle.cm_lab.specs.declared.lab.LabFault.TheVariants.{Program, Clock, Memory}
 use Rattle.cm_lab.specs.declared.order.Order.TheVariants.{Rows as by_rows}
 use Rattle.cm_lab.specs.Data.{processors, width_in, numbers_of, machine_with_numbers}
 use Rattle.cm_lab.specs.Pictures.{is_narrow, picture_of, bits_of}
@@ -45,6 +52,17 @@ of_picture n cap at machine (Err fault) = Err (Picture fault)
 abbrev pub IsNoPicture : Result Dots PictureFault → LabFault → Type 0
 IsNoPicture read fault = (n cap at : ℕ) (machine : Machine) → of_picture n cap at machine read ≡ Err fault
 
+-- the table of a study, if there is one
+abbrev pub of_table : Result (List ℕ) StudyFault → Result (List ℕ) LabFault
+of_table (Ok text) = Ok text
+of_table (Err study.Clock) = Err Clock
+of_table (Err study.Memory) = Err Memory
+
+-- what is made of a program, if it is one
+abbrev pub of_program : (List Act → Result (List ℕ) LabFault) → Result ProgramText AsmFault → Result (List ℕ) LabFault
+of_program made (Ok program) = made program.acts
+of_program made (Err fault) = Err (Program fault)
+
 -- what a task makes of a machine on a cube of n dimensions whose routers have room for cap messages each,
 -- and of what is given
 abbrev pub work_of : ℕ → ℕ → Task → List ℕ → Machine → Result (List ℕ) LabFault
@@ -56,6 +74,8 @@ work_of n cap (Put order field) given machine =
 work_of n cap (Show shown form) given machine =
     if is_narrow shown then Ok (picture_text form (picture_of n cap shown machine)) else Err Wide
 work_of n cap (Paint at) given machine = of_picture n cap at machine (picture_in (columns n) (rows n) given)
+work_of n cap (Study table) given machine =
+    of_program (λ acts. of_table (table_of n cap table machine acts)) (program_of given)
 
 -- the rooms of the laboratory's machines
 abbrev pub is_own_room : ℕ → Bool

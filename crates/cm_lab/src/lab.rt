@@ -13,12 +13,15 @@ use crate::data::{get, put};
 use crate::order::{Order, columns, processors, rows};
 use crate::pictures::{ShowFault, Shown, bits_of, show};
 use cm_array::Machine;
+use cm_asm::assemble;
 use cm_bits::{Field, FieldFault};
 use cm_figures::{
     Form, NumbersFault, Picture, PictureFault, read_numbers, read_picture, write_numbers,
     write_picture,
 };
 use cm_image::{ImageFault, dump, load, shape};
+use cm_language::{AsmFault, AsmKind};
+use cm_study::{StudyFault, Table, study};
 use std::alloc::Global;
 use thiserror::Error;
 
@@ -33,6 +36,8 @@ pub enum Task {
     Show(Shown, Form),
     /// The dots of the picture that is given are put into a field of all processors, which begins at this address.
     Paint(u16),
+    /// The program that is given is run, and a table of it is told.
+    Study(Table),
 }
 
 /// Why nothing was done.
@@ -59,6 +64,12 @@ pub enum LabFault {
     /// There is no such field.
     #[error("{0}")]
     Field(FieldFault),
+    /// What was given is no program.
+    #[error("{0}")]
+    Program(AsmFault),
+    /// The counter of petit cycles would pass its end.
+    #[error("more than 2^63 - 1 petit cycles in all")]
+    Clock,
     #[error("out of memory")]
     Memory,
 }
@@ -146,6 +157,7 @@ fn work<const N: usize, const CAP: usize>(
         Task::Put(order, field) => filled(alloc, machine, order, field, given),
         Task::Show(shown, form) => pictured(alloc, machine, shown, form),
         Task::Paint(at) => painted(alloc, machine, at, given),
+        Task::Study(table) => studied(alloc, machine, table, given),
     }
 }
 
@@ -296,5 +308,39 @@ fn read_grid<const N: usize>(alloc: Global, given: &[u8]) -> Result<Picture, Lab
         Ok(picture) => Ok(picture),
         Err(PictureFault::Memory) => Err(LabFault::Memory),
         Err(fault) => Err(LabFault::Picture(fault)),
+    }
+}
+
+/// The table of a program that a machine runs.
+fn studied<const N: usize, const CAP: usize>(
+    alloc: Global,
+    machine: &mut Machine<N, CAP>,
+    table: Table,
+    given: &[u8],
+) -> Result<Vec<u8>, LabFault>
+    ensures value { IfOk result
+        (λ text. work_of N CAP (task.Study table) given.now machine.old.machine ≡ Ok text.items) }
+    ensures refused { IfErr result (λ fault. fault ≢ LabFault.Memory
+        → work_of N CAP (task.Study table) given.now machine.old.machine ≡ Err fault) }
+{
+    let program = match assemble(alloc, given) {
+        Ok(program) => program,
+        Err(fault) => return Err(of_program(fault)),
+    };
+    match study(alloc, machine, program.acts(), table) {
+        Ok(text) => Ok(text),
+        Err(StudyFault::Clock) => Err(LabFault::Clock),
+        Err(StudyFault::Memory) => Err(LabFault::Memory),
+    }
+}
+
+/// Why a text is no program: want of memory is the same everywhere.
+fn of_program(fault: AsmFault) -> LabFault
+    ensures memory { fault.kind ≡ AsmKind.Memory → result ≡ LabFault.Memory }
+    ensures other { fault.kind ≢ AsmKind.Memory → result ≡ LabFault.Program fault }
+{
+    match fault.kind {
+        AsmKind::Memory => LabFault::Memory,
+        _ => LabFault::Program(fault),
     }
 }

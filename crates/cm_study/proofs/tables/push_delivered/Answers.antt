@@ -13,8 +13,8 @@ loop-chip-preserved g c =
     (list_at c.args.machine.now.machine.logs c.loop-chip.chip) =
     c.events_behind-events.ensures.value
     ∙ ap (drop (slice_index_or c.args.before.now c.loop-chip.chip 0)) c.log.ensures.value in
-    text-more (delivered_text_at c.args.clock c.args.before.now c.args.ways.now c.args.machine.now.machine) c.args.text.now.items c.loop-chip.text.items
-    c.push_events.new.text.items c.loop-chip.chip c.loop-chip.invariant
+    text-more (delivered_text_at c.args.clock c.args.before.now c.args.ways.now c.args.machine.now.machine)
+    c.args.text.now.items c.loop-chip.text.items c.push_events.new.text.items c.loop-chip.chip c.loop-chip.invariant
     (c.in_ok-push_events.ensures.ok
     ∙ ap (λ events. c.loop-chip.text.items ++ flat_map (event_text c.args.clock c.args.ways.now c.loop-chip.chip) events)
     events)
@@ -26,5 +26,7 @@ returns g c =
     omega (arith, c.loop-chip-test.false, c.loop-chip.auto.chip-end, c.chip_count-chip-end.ensures.value) in
     record {
       ok = c.loop-chip.invariant
-          ∙ ap (λ (k : ℕ). c.args.text.now.items ++ flat_map (delivered_text_at c.args.clock c.args.before.now c.args.ways.now c.args.machine.now.machine) (range_with_len 0 k)) all;
+          ∙ ap (λ (k : ℕ). c.args.text.now.items
+          ++ flat_map (delivered_text_at c.args.clock c.args.before.now c.args.ways.now c.args.machine.now.machine)
+          (range_with_len 0 k)) all;
     }

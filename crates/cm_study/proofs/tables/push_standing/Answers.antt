@@ -21,5 +21,6 @@ returns g c =
     omega (arith, c.loop-chip-test.false, c.loop-chip.auto.chip-end, c.chip_count-chip-end.ensures.value) in
     record {
       ok = c.loop-chip.invariant
-          ∙ ap (λ (k : ℕ). c.args.text.now.items ++ flat_map (standing_text_at c.args.ways.now c.args.machine.now.machine) (range_with_len 0 k)) all;
+          ∙ ap (λ (k : ℕ). c.args.text.now.items
+          ++ flat_map (standing_text_at c.args.ways.now c.args.machine.now.machine) (range_with_len 0 k)) all;
     }
