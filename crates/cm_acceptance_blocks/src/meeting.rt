@@ -1,6 +1,6 @@
 //! Workers that wait for each other in each round, and show their blocks as they are then.
 
-ghost use Rattle.std.specs.Prelude.{IsTrue, ◌<◌};
+ghost use Rattle.std.specs.Prelude.{IsTrue, ◌+◌, ◌<◌, ◌≤◌};
 ghost use Rattle.std.specs.List.{All};
 ghost use Rattle.std.specs.Thread.{IsSync};
 ghost use Rattle.cm_workers.specs.Gates.{ComesBy};
@@ -177,7 +177,7 @@ impl Gate for Meeting {
             self.notes.wrong.fetch_add(1, Ordering::SeqCst);
         }
         for block in blocks {
-            for chip in block.first()..block.first().saturating_add(4) {
+            for chip in block.first()..end_of(block) {
                 self.notes.shown.fetch_add(1, Ordering::SeqCst);
                 if !self.has(round, chip, block.buffer(chip)) {
                     self.notes.wrong.fetch_add(1, Ordering::SeqCst);
@@ -185,6 +185,14 @@ impl Gate for Meeting {
             }
         }
     }
+}
+
+/// The number behind that of a block's last chip.
+fn end_of(block: &Block) -> u16
+    ensures within { result ≤ block.now.kept.part.first + block.now.kept.part.count }
+{
+    let end = usize::from(block.first()) + block.chips().min(4096);
+    u16::try_from(end).unwrap_or(0)
 }
 
 /// Whether these are all the blocks that such a worker has of four blocks of four chips, the lowest first.
