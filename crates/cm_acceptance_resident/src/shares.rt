@@ -179,7 +179,11 @@ fn workers_send_four_messages_of_each_of_sixteen_chips_across_the_cube(
     rt: HostRuntime,
 ) -> Result<(), Fail> {
     for share in &SHARES {
-        assert_eq!(rt; sent(&rt, rt.alloc(), *share), Some((true, true)), "{share:?}");
+        assert_eq!(rt;
+            sent(&rt, rt.alloc(), *share),
+            Some((true, true)),
+            "{share:?}"
+        );
     }
     Ok(())
 }

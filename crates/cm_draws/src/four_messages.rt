@@ -87,7 +87,11 @@ fn tag(chip: u16, sender: u8) -> Tag
 
 /// Whether after them chip 15 has sent four, got one and has three more for its processor 5.
 pub fn has_one_of_four(machine: &Machine<4, 7>) -> bool {
-    let waiting = [one_of_four(0, 0, 3), one_of_four(0, 0, 0), one_of_four(0, 0, 1)];
+    let waiting = [
+        one_of_four(0, 0, 3),
+        one_of_four(0, 0, 0),
+        one_of_four(0, 0, 1),
+    ];
     let events = [
         Event::Injected(one_of_four(15, 15, 0)),
         Event::Injected(one_of_four(15, 15, 1)),
