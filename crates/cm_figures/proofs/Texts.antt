@@ -17,7 +17,8 @@ is_within number len = ⊎_elim
     (λ (h : number < 2 ^ len). ap (λ (n : ℕ). n == 0) (div-eq_of_lt h) ∙ sym (lt-ltb number (2 ^ len) h))
     (λ (h : 2 ^ len ≤ number). let some : 0 < 2 ^ len = pow_pos len in
     let more : number < number / 2 ^ len * 2 ^ len + 2 ^ len = lt-div-mul-add some in
-    ne_eqb (number / 2 ^ len) 0 (λ e. absurd (let none : number / 2 ^ len * 2 ^ len ≡ 0 = ap (λ (n : ℕ). n * 2 ^ len) e ∙ zero-mul (2 ^ len) in
+    ne_eqb (number / 2 ^ len) 0 (λ e. absurd (
+    let none : number / 2 ^ len * 2 ^ len ≡ 0 = ap (λ (n : ℕ). n * 2 ^ len) e ∙ zero-mul (2 ^ len) in
     omega (arith, none, more, h)))
     ∙ sym (le-ltb number (2 ^ len) h))
     (cases_lt number (2 ^ len))

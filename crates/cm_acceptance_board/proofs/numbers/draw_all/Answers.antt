@@ -19,5 +19,6 @@ loop-i-preserved g c =
     ∙ rising_at 1 c.args.count c.loop-i._i 0 c.loop-i-test.true in
     record {
       end = c.clear-end.ensures.end ∙ ap one_more (c.draw-emptying.ensures.end ∙ was.end);
-      seen = c.push_reserved.ensures.items ∙ (λ k. (c.in_ok-reserve.ensures.items ∙ was.seen) k ++ got k ∷ []) ∙ sym (rising_more 1 c.loop-i._i);
+      seen = c.push_reserved.ensures.items ∙ (λ k. (c.in_ok-reserve.ensures.items ∙ was.seen) k ++ got k ∷ [])
+          ∙ sym (rising_more 1 c.loop-i._i);
     }

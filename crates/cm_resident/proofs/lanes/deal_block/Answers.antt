@@ -22,7 +22,8 @@ loop-place-preserved c =
           c.take_at-in-loop-place.ensures.rest;
       sends = λ run n k are. subst (λ (xs : List (Course Parcel)).
           AreDealt run own c.args.block (c.loop-place.place + 1) c.args.sends.now.items xs)
-          (sym (c.push_reserved.ensures.items ∙ ap (λ (xs : List (Course Parcel)). xs ++ c.in_ok-from.from ∷ []) c.in_ok-reserve.ensures.items))
+          (sym (c.push_reserved.ensures.items
+          ∙ ap (λ (xs : List (Course Parcel)). xs ++ c.in_ok-from.from ∷ []) c.in_ok-reserve.ensures.items))
           (dealt_more run own c.args.block c.loop-place.place c.args.sends.now.items c.loop-place.sends.items
           c.in_ok-from.from (c.loop-place.invariant.sends run n k are)
           (at_place run c.loop-place.ends.froms.items c.args.block c.loop-place.place c.in_ok-from.from
@@ -31,7 +32,8 @@ loop-place-preserved c =
           (sym (each run k)) ∙ c.in_ok-from.ensures.ok)));
       gets = λ run n k are. subst (λ (xs : List (Course Parcel)).
           AreDealt run givers c.args.block (c.loop-place.place + 1) c.args.gets.now.items xs)
-          (sym (c.push_reserved-in-loop-place.ensures.items ∙ ap (λ (xs : List (Course Parcel)). xs ++ c.in_ok-to.to ∷ []) c.in_ok-reserve-2.ensures.items))
+          (sym (c.push_reserved-in-loop-place.ensures.items
+          ∙ ap (λ (xs : List (Course Parcel)). xs ++ c.in_ok-to.to ∷ []) c.in_ok-reserve-2.ensures.items))
           (dealt_more run givers c.args.block c.loop-place.place c.args.gets.now.items c.loop-place.gets.items
           c.in_ok-to.to (c.loop-place.invariant.gets run n k are)
           (at_place run c.loop-place.ends.tos.items c.giver_of-giver.result c.loop-place.place c.in_ok-to.to

@@ -48,7 +48,8 @@ returns-clause-value g c =
     c.chips.ensures.value
     ∙ (λ i. machine_with_chips c.args.builder.now (c.args.end - run.count)
     (chips_beside (c.deref.ensures.value i) (c.deref-2.ensures.value i) run.count))
-    ∙ (λ i. machine_with_chips c.args.builder.now (c.args.end - sym (count_is c.self.inside.memory.items c.self.inside.flags.items c.self.inside.count
+    ∙ (λ i. machine_with_chips c.args.builder.now
+    (c.args.end - sym (count_is c.self.inside.memory.items c.self.inside.flags.items c.self.inside.count
     c.args.self.now c.self.view_is) i)
     (c.self.view_is i))
 
