@@ -55,6 +55,7 @@ class Machine:
     def __init__(self, dims, room):
         self.dims, self.room, self.clock = dims, room, 0
         self.chips = 2**dims
+        self.cuts, self.rule = set(), 0                              # cut wires, each by its lower chip and its dimension
         self.memory, self.flags = {}, [0] * 16                       # planes; a plane of memory that is 0 is not kept
         self.buffers = [[] for _ in range(self.chips)]               # of each chip: (since, message), the least since first
         self.logs = [[] for _ in range(self.chips)]                  # of each chip: (word, message)
@@ -116,6 +117,15 @@ class Machine:
         if write != ZERO:
             self.flags[write] = self.flags[write] & ~holds | stored & holds
 
+    def is_cut(self, chip, dim):
+        return (min(chip, chip ^ 1 << dim), dim) in self.cuts
+
+    def turn(self, it):
+        """Whose is less goes first, by the machine's rule."""
+        since, message = it
+        chip, proc, birth = message.tag
+        return (birth, chip, proc, since) if self.rule else since
+
     def cycle(self):
         self.cycles += 1
         taken = 0
@@ -133,8 +143,8 @@ class Machine:
             leavers = []
             for chip, here in enumerate(self.buffers):
                 crossing = [it for it in here if it[1].rel >> dim & 1]
-                if crossing or len(here) == self.room:
-                    leavers.append((chip, crossing[0] if crossing else here[-1]))
+                if (crossing or len(here) == self.room) and not self.is_cut(chip, dim):
+                    leavers.append((chip, min(crossing, key=self.turn) if crossing else max(here, key=self.turn)))
             for chip, it in leavers:
                 self.buffers[chip].remove(it)
             for chip, (_, message) in leavers:
@@ -173,7 +183,11 @@ class Machine:
 # ---- images ---------------------------------------------------------------------------------------------------------
 
 def image_text(machine):
-    out = [b"CM1I", bytes([1, machine.dims, machine.room, 0]), machine.clock.to_bytes(8, "big")]
+    version = 2 if machine.cuts or machine.rule else 1
+    out = [b"CM1I", bytes([version, machine.dims, machine.room, machine.rule]), machine.clock.to_bytes(8, "big")]
+    if version == 2:
+        out.append(len(machine.cuts).to_bytes(2, "big"))
+        out += [chip.to_bytes(2, "big") + bytes([dim]) for chip, dim in sorted(machine.cuts)]
     for chip in range(machine.chips):
         part = lambda plane: (plane >> 16 * chip & 0xFFFF).to_bytes(2, "big")
         out += [part(plane) for plane in machine.flags]
@@ -204,20 +218,36 @@ class Bytes:
 
 
 def shape(text):
-    """Dimension and room, by the first five parts."""
+    """Dimension and room, version and rule, by the first five parts."""
     head = Bytes(text)
     head.take(4, 22, lambda it: it == 0x434D3149)
-    head.take(1, 23, lambda it: it == 1)
+    version = head.take(1, 23, lambda it: it in (1, 2))
     dims = head.take(1, 24, lambda it: it <= 12)
     room = head.take(1, 24, lambda it: 1 <= it <= 15)
-    head.take(1, 24, lambda it: it == 0)
-    return head, dims, room
+    rule = head.take(1, 24, lambda it: it < version)
+    return head, dims, room, version, rule
+
+
+def read_cuts(head, machine):
+    """The cut wires of version 2, each behind the one before."""
+    most = machine.dims * machine.chips // 2
+    before = -1, 0
+    for _ in range(head.take(2, 26, lambda it: it <= most and (it or machine.rule))):
+        chip = head.take(2, 27, lambda it: it < machine.chips)
+        dim = head.take(1, 27, lambda it: it < machine.dims and not chip >> it & 1)
+        if (chip, dim) <= before:
+            raise Fault(25)
+        before = chip, dim
+        machine.cuts.add(before)
 
 
 def read_image(text):
-    head, dims, room = shape(text)
-    machine, tags = Machine(dims, room), set()
+    head, dims, room, version, rule = shape(text)
+    machine = Machine(dims, room)
+    machine.rule = rule
     machine.clock = head.take(8, 27, lambda it: it < 2**63)
+    if version == 2:
+        read_cuts(head, machine)
     for chip in range(machine.chips):
         for flag in range(16):
             machine.flags[flag] |= head.take(2, 27, lambda it: flag != ZERO or it == 0) << 16 * chip
@@ -387,7 +417,7 @@ def have_effect_at(machine, place, first, given):
 # ---- sessions -------------------------------------------------------------------------------------------------------
 
 COMMANDS = {b"step": "", b"run": "", b"break": "i", b"clear": "i", b"wire": "w", b"field": "cpal", b"flag": "cpf",
-            b"poke": "cpab", b"pokeflag": "cpfb", b"buf": "c", b"find": "cpn", b"events": "c"}
+            b"poke": "cpab", b"pokeflag": "cpfb", b"buf": "c", b"find": "cpn", b"events": "c", b"rule": ""}
 
 
 class Session:
@@ -467,6 +497,8 @@ class Session:
             return "ok\n"
         if first == b"find":
             return machine.find(tuple(given)) + "\n"
+        if first == b"rule":
+            return "rule %d\n" % machine.rule
         if first == b"buf":
             here = machine.buffers[given[0]]
             return "buf %d\n" % len(here) + "".join(message.told("msg") for _, message in here)

@@ -2,6 +2,7 @@
 
 use crate::words::HELP;
 use cm_bits::FieldFault;
+use cm_front::{FrontFault, ImageFault, SessionFault};
 use cm_lab::{LabFault, NumbersFault};
 use std::alloc::Global;
 use std::io;
@@ -28,6 +29,8 @@ pub enum Fault {
     File { path: String, what: &'static str },
     #[error("cm1lab: {path}: {fault}")]
     Image { path: String, fault: LabFault },
+    #[error("cm1lab: {path}: {fault}")]
+    Machine { path: String, fault: ImageFault },
     #[error("cm1lab: standard input: {0}")]
     Numbers(NumbersFault),
     #[error("cm1lab: standard input {0}")]
@@ -68,6 +71,24 @@ impl Fault {
         match String::from_str(alloc, path) {
             Ok(path) => Fault::Image { path, fault },
             Err(_) => Fault::Memory,
+        }
+    }
+
+    /// Why a front end did not begin, or ended.
+    pub fn front(alloc: Global, path: &str, fault: FrontFault) -> Fault {
+        match fault {
+            FrontFault::Image(fault) => match String::from_str(alloc, path) {
+                Ok(path) => Fault::Machine { path, fault },
+                Err(_) => Fault::Memory,
+            },
+            FrontFault::Room => Fault::image(alloc, path, LabFault::Room),
+            FrontFault::Ended(SessionFault::Read) => Fault::Input("cannot be read"),
+            FrontFault::Ended(SessionFault::TooMuch) => Fault::Input(
+                "has more than 16777216 bytes",
+            ),
+            FrontFault::Ended(SessionFault::Write(_)) => Fault::Output,
+            FrontFault::Ended(SessionFault::Memory | SessionFault::NoThread) | FrontFault::Memory =>
+                Fault::Memory,
         }
     }
 

@@ -1,5 +1,5 @@
-//! The laboratory: data and pictures of all processors, out of a machine's image and into it. This is its words, its files, its
-//! standard input and output; what it does is in cm_lab.
+//! The laboratory: data and pictures of all processors, out of a machine's image and into it, studies of its router, and
+//! a front end. This is its words, its files, its standard input and output; what it does is in cm_lab and cm_front.
 #![tactic(auto)]
 
 mod fault;
@@ -8,9 +8,10 @@ mod words;
 
 use crate::fault::Fault;
 use crate::files::{read_file, write_file};
-use crate::words::{Asked, read_words};
+use crate::words::{Asked, Given, Wanted, read_words};
 use cm_bits::{Std, write_all};
 use cm_cli::{TakeFault, take};
+use cm_front::front_image;
 use cm_lab::{LabFault, Task, perform};
 use std::alloc::Global;
 use std::io::Write;
@@ -26,6 +27,9 @@ const NUMBERS_LIMIT: u64 = 16777216;
 
 /// Most bytes of a picture.
 const PICTURE_LIMIT: u64 = 16777216;
+
+/// Most bytes of a program's text.
+const PROGRAM_LIMIT: u64 = 16777216;
 
 fn main(rt: HostRuntime) -> ExitCode {
     match run(&rt, rt.alloc()) {
@@ -57,24 +61,67 @@ fn run<R: Input + Print + Env + Files + AllocGlobal>(rt: &R, alloc: Global) -> R
             return Err(Fault::Memory);
         }
     }
-    let asked = read_words(alloc, words.as_slice())?;
-    let image = read_file(
-        rt,
-        alloc,
-        asked.image,
-        IMAGE_LIMIT,
-        "has too many bytes for an image",
-    )?;
-    match asked.out {
-        None => show(rt, alloc, &asked, image.as_slice()),
-        Some(out) => fill(rt, alloc, &asked, image.as_slice(), out),
+    match read_words(alloc, words.as_slice())? {
+        Wanted::Task(asked) => work(rt, alloc, &asked),
+        Wanted::Front { image, out } => converse(rt, alloc, image, out),
     }
 }
 
-/// What the image's machine has goes to standard output.
-fn show<R: Print>(rt: &R, alloc: Global, asked: &Asked<'_>, image: &[u8]) -> Result<(), Fault> {
-    let text = performed(alloc, asked, image, &[])?;
-    if write_all(&mut Std::new(io::writer(rt)), &text).is_err() {
+/// Does a task.
+fn work<R: Input + Print + Files + AllocGlobal>(
+    rt: &R,
+    alloc: Global,
+    asked: &Asked<'_>,
+) -> Result<(), Fault> {
+    let image = read_image(rt, alloc, asked.image)?;
+    let given = read_given(rt, alloc, asked.given)?;
+    let made = performed(alloc, asked, image.as_slice(), given.as_slice())?;
+    match asked.out {
+        None => show(rt, made.as_slice()),
+        Some(out) => write_file(rt, out, made.as_slice()),
+    }
+}
+
+/// The bytes of an image.
+fn read_image<R: Files>(rt: &R, alloc: Global, path: &str) -> Result<Vec<u8>, Fault> {
+    read_file(
+        rt,
+        alloc,
+        path,
+        IMAGE_LIMIT,
+        "has too many bytes for an image",
+    )
+}
+
+/// A front end: lines of standard input, answers on standard output.
+fn converse<R: Input + Print + Files + AllocGlobal>(
+    rt: &R,
+    alloc: Global,
+    path: &str,
+    out: Option<&str>,
+) -> Result<(), Fault> {
+    let image = read_image(rt, alloc, path)?;
+    let left = match front_image(
+        alloc,
+        image.as_slice(),
+        &mut Std::new(rt.reader()),
+        &mut Std::new(io::writer(rt)),
+    ) {
+        Ok(left) => left,
+        Err(fault) => return Err(Fault::front(alloc, path, fault)),
+    };
+    if io::writer(rt).flush().is_err() {
+        return Err(Fault::Output);
+    }
+    match out {
+        None => Ok(()),
+        Some(out) => write_file(rt, out, left.as_slice()),
+    }
+}
+
+/// What comes out goes to standard output.
+fn show<R: Print>(rt: &R, text: &[u8]) -> Result<(), Fault> {
+    if write_all(&mut Std::new(io::writer(rt)), text).is_err() {
         return Err(Fault::Output);
     }
     match io::writer(rt).flush() {
@@ -83,26 +130,26 @@ fn show<R: Print>(rt: &R, alloc: Global, asked: &Asked<'_>, image: &[u8]) -> Res
     }
 }
 
-/// What is given goes into the machine, whose image goes into a file.
-fn fill<R: Input + Files + AllocGlobal>(
-    rt: &R,
-    alloc: Global,
-    asked: &Asked<'_>,
-    image: &[u8],
-    out: &str,
-) -> Result<(), Fault> {
-    let given = match asked.picture {
-        Some(path) => read_file(
+/// What is given beside the image.
+fn read_given<R: Input + Files>(rt: &R, alloc: Global, given: Given<'_>) -> Result<Vec<u8>, Fault> {
+    match given {
+        Given::Nothing => Ok(Vec::new(alloc)),
+        Given::Numbers => read_input(rt, alloc),
+        Given::Picture(path) => read_file(
             rt,
             alloc,
             path,
             PICTURE_LIMIT,
             "has too many bytes for a picture",
-        )?,
-        None => read_input(rt, alloc)?,
-    };
-    let left = performed(alloc, asked, image, given.as_slice())?;
-    write_file(rt, out, left.as_slice())
+        ),
+        Given::Program(path) => read_file(
+            rt,
+            alloc,
+            path,
+            PROGRAM_LIMIT,
+            "has too many bytes for a program",
+        ),
+    }
 }
 
 /// What stands on standard input.
@@ -132,10 +179,10 @@ fn performed(
 
 /// The file of which a fault is told.
 fn told_of<'a>(asked: &Asked<'a>, fault: LabFault) -> &'a str {
-    match fault {
-        LabFault::Picture(_) | LabFault::Greatest(_) | LabFault::Field(_) => {
-            asked.picture.unwrap_or(asked.image)
-        }
+    match (fault, asked.given) {
+        (LabFault::Picture(_) | LabFault::Greatest(_) | LabFault::Field(_), Given::Picture(path)) =>
+            path,
+        (LabFault::Program(_) | LabFault::Clock, Given::Program(path)) => path,
         _ => asked.image,
     }
 }

@@ -2,7 +2,7 @@
 
 use crate::fault::Fault;
 use cm_bits::{Field, FlagNo};
-use cm_lab::{Form, Order, Shown, Task};
+use cm_lab::{Form, Order, Shown, Table, Task};
 use std::alloc::Global;
 
 /// What help tells.
@@ -25,21 +25,74 @@ cm1lab picture [--plain] IMAGE buffers
 cm1lab paint IMAGE PICTURE ADDRESS OUT
     puts the dots of the file PICTURE, a PBM or a PGM, into a field of each processor that
     begins at ADDRESS and has as many bits as a dot, and the image into the file OUT
+cm1lab study IMAGE PROGRAM
+    runs the program and tells a table, a line for each petit cycle: messages that were
+    taken in, delivered, referred, that stand in routers then, full routers, and
+    processors that still ask to send
+cm1lab study --messages IMAGE PROGRAM
+    tells a line for each message: who sent it and in which petit cycle, where it is
+    bound for, when it was delivered, how many dimensions it crossed, how often it was
+    referred
+cm1lab front IMAGE [--out FILE]
+    takes the place of the front end: each line of standard input is one of a program, whose
+    acts are run at once and which is answered ok, sense by the wire as it is, or a question
+    as to cm1 run; at the end the image of the machine goes into FILE
 
 ADDRESS is that of the field's lowest bit, 0 to 4095, and LENGTH how many bits it has, 1 to 64.
-IMAGE is a file that cm1 fresh, cm1 run --out or cm1lab wrote.";
+IMAGE is a file that cm1 fresh, cm1 run --out or cm1lab wrote, PROGRAM a text as for cm1 run.";
 
-/// What the words ask for: of which image, with which file of a picture, and into which file, if the machine changes.
+/// Where that is what a task is given beside the image.
+#[derive(Clone, Copy)]
+pub enum Given<'a> {
+    Nothing,
+    /// Numbers on standard input.
+    Numbers,
+    /// The file of a picture.
+    Picture(&'a str),
+    /// That of a program.
+    Program(&'a str),
+}
+
+/// What the words ask for.
+#[derive(Clone, Copy)]
+pub enum Wanted<'a> {
+    /// A task of cm_lab.
+    Task(Asked<'a>),
+    /// A front end over the machine of an image, and the file into which the image goes that it leaves.
+    Front {
+        image: &'a str,
+        out: Option<&'a str>,
+    },
+}
+
+/// A task: of which image, with what is given beside it, and into which file, if the machine changes.
 #[derive(Clone, Copy)]
 pub struct Asked<'a> {
     pub task: Task,
     pub image: &'a str,
-    pub picture: Option<&'a str>,
+    pub given: Given<'a>,
     pub out: Option<&'a str>,
 }
 
 /// Reads the words, of which the first is the program's name.
-pub fn read_words<'a>(alloc: Global, words: &[&'a str]) -> Result<Asked<'a>, Fault> {
+pub fn read_words<'a>(alloc: Global, words: &[&'a str]) -> Result<Wanted<'a>, Fault> {
+    match words {
+        [_, "front", image] => Ok(Wanted::Front { image, out: None }),
+        [_, "front", image, "--out", out] | [_, "front", "--out", out, image] => {
+            Ok(Wanted::Front {
+                image,
+                out: Some(out),
+            })
+        }
+        _ => {
+            let asked = read_task(alloc, words)?;
+            Ok(Wanted::Task(asked))
+        }
+    }
+}
+
+/// The words of a task.
+fn read_task<'a>(alloc: Global, words: &[&'a str]) -> Result<Asked<'a>, Fault> {
     match words {
         [_, "get", image, at, len] => shown(alloc, Order::Chips, image, at, len),
         [_, "rows", image, at, len] => shown(alloc, Order::Rows, image, at, len),
@@ -50,6 +103,8 @@ pub fn read_words<'a>(alloc: Global, words: &[&'a str]) -> Result<Asked<'a>, Fau
         [_, "picture", "--plain", rest @ ..] => pictured(alloc, Form::Plain, rest),
         [_, "picture", rest @ ..] => pictured(alloc, Form::Raw, rest),
         [_, "paint", image, picture, at, out] => painted(alloc, image, picture, at, out),
+        [_, "study", "--messages", image, program] => Ok(studied(Table::Messages, image, program)),
+        [_, "study", image, program] => Ok(studied(Table::Cycles, image, program)),
         [_, "--help"] | [_, "-h"] | [_, "help"] => Err(Fault::Help),
         _ => Err(Fault::Words),
     }
@@ -65,7 +120,7 @@ fn shown<'a>(
     Ok(Asked {
         task: Task::Get(order, field(alloc, at, len)?),
         image,
-        picture: None,
+        given: Given::Nothing,
         out: None,
     })
 }
@@ -81,7 +136,7 @@ fn filled<'a>(
     Ok(Asked {
         task: Task::Put(order, field(alloc, at, len)?),
         image,
-        picture: None,
+        given: Given::Numbers,
         out: Some(out),
     })
 }
@@ -97,7 +152,7 @@ fn pictured<'a>(alloc: Global, form: Form, words: &[&'a str]) -> Result<Asked<'a
     Ok(Asked {
         task: Task::Show(shown, form),
         image,
-        picture: None,
+        given: Given::Nothing,
         out: None,
     })
 }
@@ -112,9 +167,18 @@ fn painted<'a>(
     Ok(Asked {
         task: Task::Paint(number(alloc, at)?),
         image,
-        picture: Some(picture),
+        given: Given::Picture(picture),
         out: Some(out),
     })
+}
+
+fn studied<'a>(table: Table, image: &'a str, program: &'a str) -> Asked<'a> {
+    Asked {
+        task: Task::Study(table),
+        image,
+        given: Given::Program(program),
+        out: None,
+    }
 }
 
 fn flag(alloc: Global, word: &str) -> Result<FlagNo, Fault> {

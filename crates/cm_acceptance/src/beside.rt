@@ -1,18 +1,82 @@
-//! Random machines beside the plain program of the router: petit cycles, with instructions between
-//! them, leave the same bits, flags, buffers and logs, and every message is found where it is.
+//! Random machines beside the plain program of the router, with whole and with cut wires, by either rule: petit cycles, with
+//! instructions between them, leave the same bits, flags, buffers and logs, and every message is found where it is.
 
 ghost use Rattle.std.specs.Prelude.{◌≡◌, ◌<◌, ◌≤◌, ◌^◌};
 
 use crate::accounts::are_found;
 use crate::both::Both;
 use crate::machines::{RECV, SEND, everywhere, message, tag};
-use cm_bits::Addr;
+use cm_bits::{Addr, Edge};
 use cm_draws::{Draws, address, flag, has_full_buffer, processor};
 use cm_message::{Message, Tag};
-use cm_model::Act;
+use cm_model::{Act, Rule};
 use std::alloc::{AllocError, Global};
 
 const ROUNDS: u16 = 30;
+
+/// Which wires are cut.
+enum Cut {
+    Nothing,
+    /// Of so many one, drawn.
+    OneOf(u16),
+    Everything,
+}
+
+/// By which rule messages leave, and over which wires.
+struct Way {
+    rule: Rule,
+    cut: Cut,
+}
+
+static WAYS: [Way; 5] = [
+    Way {
+        rule: Rule::First,
+        cut: Cut::OneOf(3),
+    },
+    Way {
+        rule: Rule::Oldest,
+        cut: Cut::Nothing,
+    },
+    Way {
+        rule: Rule::Oldest,
+        cut: Cut::OneOf(4),
+    },
+    Way {
+        rule: Rule::First,
+        cut: Cut::Everything,
+    },
+    Way {
+        rule: Rule::Oldest,
+        cut: Cut::OneOf(2),
+    },
+];
+
+impl Cut {
+    /// Whether the next wire is cut.
+    fn is_next(&self, draws: &mut Draws) -> bool {
+        match self {
+            Cut::Nothing => false,
+            Cut::OneOf(count) => *count > 0 && draws.below(*count) == 0,
+            Cut::Everything => true,
+        }
+    }
+}
+
+/// The wires of so many chips that are cut.
+fn drawn_cuts(alloc: Global, draws: &mut Draws, chips: u16, cut: &Cut) -> Option<Vec<Edge>> {
+    let mut cuts = Vec::new(alloc);
+    for chip in 0..chips {
+        for dim in 0..12u8 {
+            match Edge::new(chip, dim) {
+                Some(edge) if chip | 1 << dim < chips && cut.is_next(draws) => {
+                    cuts.push(edge).ok()?;
+                }
+                _ => {}
+            }
+        }
+    }
+    Some(cuts)
+}
 
 // ---- what is put into both
 
@@ -120,22 +184,40 @@ fn stays_plain<const N: usize, const CAP: usize>(alloc: Global, chips: u16) -> O
     requires some { 0 < chips }
 {
     let mut both = Both::<N, CAP>::blank(alloc)?;
-    stay_plain_in_rounds(alloc, &mut both, chips)
+    stay_plain_in_rounds(alloc, &mut both, chips, ROUNDS)
 }
 
+/// The same, where they are routed so, through fewer rounds, whether or not a buffer was full.
+fn stays_plain_routed<const N: usize, const CAP: usize>(
+    alloc: Global,
+    chips: u16,
+    way: &Way,
+    rounds: u16,
+) -> Option<bool>
+    requires dimension { N ≤ 12 }
+    requires chips { chips ≡ 2 ^ N }
+    requires some { 0 < chips }
+{
+    let cuts = drawn_cuts(alloc, &mut Draws::new(1), chips, &way.cut)?;
+    let mut both = Both::<N, CAP>::routed(alloc, cuts, way.rule)?;
+    stay_plain_in_rounds(alloc, &mut both, chips, rounds).map(|_| true)
+}
+
+/// Whether a buffer was full. None where they did not stay the same.
 fn stay_plain_in_rounds<const N: usize, const CAP: usize>(
     alloc: Global,
     both: &mut Both<N, CAP>,
     chips: u16,
+    rounds: u16,
 ) -> Option<bool>
     requires chips { chips ≡ 2 ^ N }
     requires some { 0 < chips }
 {
     let mut draws = Draws::new(0);
     let mut was_full = false;
-    for _round in 0..ROUNDS {
+    for _round in 0..rounds {
         if !stay_plain_in_round(alloc, both, &mut draws, chips)? {
-            return Some(false);
+            return None;
         }
         was_full |= has_full_buffer(&both.machine, chips);
     }
@@ -168,6 +250,51 @@ fn stay_plain<const N: usize>(alloc: Global, chips: u16) -> [Option<bool>; 4]
         stays_plain::<N, 7>(alloc, chips),
         stays_plain::<N, 15>(alloc, chips),
     ]
+}
+
+/// Whether they do in every way, from this one on a way for each room.
+fn stay_plain_in_ways<const N: usize>(
+    alloc: Global,
+    chips: u16,
+    from: usize,
+    rounds: u16,
+) -> [Option<bool>; 4]
+    requires dimension { N ≤ 12 }
+    requires chips { chips ≡ 2 ^ N }
+    requires some { 0 < chips }
+    requires from { from < 5 }
+{
+    [
+        stays_plain_routed::<N, 1>(alloc, chips, &WAYS[from], rounds),
+        stays_plain_routed::<N, 2>(alloc, chips, &WAYS[(from + 1) % 5], rounds),
+        stays_plain_routed::<N, 7>(alloc, chips, &WAYS[(from + 2) % 5], rounds),
+        stays_plain_routed::<N, 15>(alloc, chips, &WAYS[(from + 3) % 5], rounds),
+    ]
+}
+
+#[test]
+fn chips_with_cut_wires_go_by_either_rule_as_the_plain_router_does(rt: HostRuntime) {
+    let alloc = rt.alloc();
+    let gone = [
+        stay_plain_in_ways::<0>(alloc, 1, 0, 8),
+        stay_plain_in_ways::<1>(alloc, 2, 1, 16),
+        stay_plain_in_ways::<2>(alloc, 4, 2, 16),
+        stay_plain_in_ways::<3>(alloc, 8, 3, 12),
+        stay_plain_in_ways::<4>(alloc, 16, 4, 8),
+        stay_plain_in_ways::<5>(alloc, 32, 0, 3),
+    ];
+    assert_eq!(rt; gone, [[Some(true); 4]; 6]);
+}
+
+#[test]
+fn many_chips_with_cut_wires_go_by_either_rule_as_the_plain_router_does(rt: HostRuntime) {
+    let alloc = rt.alloc();
+    let gone = [
+        stays_plain_routed::<8, 1>(alloc, 256, &WAYS[0], 2),
+        stays_plain_routed::<8, 2>(alloc, 256, &WAYS[2], 2),
+        stays_plain_routed::<8, 7>(alloc, 256, &WAYS[4], 2),
+    ];
+    assert_eq!(rt; gone, [Some(true); 3]);
 }
 
 #[test]

@@ -4,12 +4,12 @@
 ghost use Rattle.std.specs.Prelude.{◌≡◌, ◌+◌, ◌<◌, ◌≤◌, ◌^◌};
 
 use crate::machines::{SEND, ask};
-use cm_array::{Machine, Plain, Runner};
-use cm_bits::{FlagNo, Plane, Proc};
+use cm_array::{Builder, Machine, Plain, Runner};
+use cm_bits::{Edge, FlagNo, Plane, Proc};
 use cm_draws::{address, flag, processor};
 use cm_element::ZeroFlag;
 use cm_message::Message;
-use cm_model::Act;
+use cm_model::{Act, Rule};
 use cm_plain::PlainRouter;
 use std::alloc::Global;
 
@@ -29,6 +29,16 @@ impl<const N: usize, const CAP: usize> Both<N, CAP> {
     {
         let machine = Machine::blank(alloc).ok()?;
         let plain = PlainRouter::blank(alloc, ADDRESSES).ok()?;
+        Some(Both { machine, plain })
+    }
+
+    /// Blank ones, of which these wires are cut and whose routers choose by this rule.
+    pub(crate) fn routed(alloc: Global, cuts: Vec<Edge>, rule: Rule) -> Option<Self>
+        requires dimension { N ≤ 12 }
+    {
+        let machine = routed_machine(alloc, &cuts, rule)?;
+        let mut plain = PlainRouter::blank(alloc, ADDRESSES).ok()?;
+        plain.route_by(cuts, rule);
         Some(Both { machine, plain })
     }
 
@@ -121,6 +131,25 @@ impl<const N: usize, const CAP: usize> Both<N, CAP> {
         }
         true
     }
+}
+
+/// A blank machine, of which these wires are cut and whose routers choose by this rule.
+fn routed_machine<const N: usize, const CAP: usize>(
+    alloc: Global,
+    cuts: &[Edge],
+    rule: Rule,
+) -> Option<Machine<N, CAP>>
+    requires dimension { N ≤ 12 }
+{
+    let mut builder = Builder::start(alloc, 0).ok()?;
+    for edge in cuts {
+        if usize::from(edge.chip()) >= 1 << N || usize::from(edge.dim()) >= N {
+            return None;
+        }
+        builder.cut(*edge);
+    }
+    builder.rule(rule);
+    builder.done().ok()
 }
 
 /// Makes the processor from which a message comes ask that it be sent.

@@ -123,6 +123,12 @@ impl<const N: usize, const CAP: usize> Both<N, CAP> {
     {
         have_same_bits(&self.machine, &self.again, chips)
             && have_same_messages(&self.machine, &self.again, chips)
+            && self.route_alike()
+    }
+
+    fn route_alike(&self) -> bool {
+        let (one, other) = (self.machine.routing(), self.again.routing());
+        one.rule == other.rule && one.cuts.edges() == other.cuts.edges()
     }
 
     fn have_same_bytes(&self, alloc: Global) -> bool {

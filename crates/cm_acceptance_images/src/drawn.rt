@@ -3,8 +3,9 @@
 ghost use Rattle.std.specs.Prelude.{◌≡◌, ◌<◌, ◌^◌};
 
 use cm_array::{Builder, Machine};
-use cm_bits::{Addr, FlagNo};
+use cm_bits::{Addr, Edge, FlagNo};
 use cm_draws::{Draws, put_flags, put_messages, put_planes};
+use cm_message::Rule;
 use std::alloc::Global;
 
 /// A machine of so many chips with few planes and flags, and messages at each chip.
@@ -18,7 +19,20 @@ pub(crate) fn few<const N: usize, const CAP: usize>(
     begun(alloc, draws, chips)?.done().ok()
 }
 
-/// The same where on each chip processors ask to send messages.
+/// The same where some wires are cut, one over dimension 0, and the rule is drawn.
+pub(crate) fn routed<const N: usize, const CAP: usize>(
+    alloc: Global,
+    draws: &mut Draws,
+    chips: u16,
+) -> Option<Machine<N, CAP>>
+    requires cube { chips ≡ 2 ^ N }
+{
+    let mut builder = begun::<N, CAP>(alloc, draws, chips)?;
+    put_routing(&mut builder, draws, chips);
+    builder.done().ok()
+}
+
+/// The same where on each chip processors ask to send messages too.
 pub(crate) fn asking<const N: usize, const CAP: usize>(
     alloc: Global,
     draws: &mut Draws,
@@ -31,6 +45,7 @@ pub(crate) fn asking<const N: usize, const CAP: usize>(
         put_planes(&mut builder, draws, chip, 3968, 4020);
         builder.flag_plane(chip, FlagNo::SEND, 0x7ffe | draws.plane());
     }
+    put_routing(&mut builder, draws, chips);
     builder.done().ok()
 }
 
@@ -50,6 +65,40 @@ fn begun<const N: usize, const CAP: usize>(
         put_messages(&mut builder, draws, chip, chips, 9);
     }
     Some(builder)
+}
+
+/// A drawn rule, and up to nine wires that are cut, in no order.
+fn put_routing<const N: usize, const CAP: usize>(
+    builder: &mut Builder<N, CAP>,
+    draws: &mut Draws,
+    chips: u16,
+)
+    requires cube { chips ≡ 2 ^ N }
+{
+    if draws.below(2) == 1 {
+        builder.rule(Rule::Oldest);
+    }
+    for _ in 0..draws.below(9) {
+        put_cut(builder, draws.below(4096), draws.below(12) as u8, chips);
+    }
+    put_cut(builder, 0, 0, chips);
+}
+
+/// Cuts a wire, if there is one whose lower end this chip is.
+fn put_cut<const N: usize, const CAP: usize>(
+    builder: &mut Builder<N, CAP>,
+    chip: u16,
+    dimension: u8,
+    chips: u16,
+)
+    requires cube { chips ≡ 2 ^ N }
+{
+    if let Some(edge) = Edge::new(chip, dimension)
+        && chip < chips
+        && usize::from(dimension) < N
+    {
+        builder.cut(edge);
+    }
 }
 
 /// Up to five planes anywhere, some of them 0.

@@ -2,7 +2,7 @@
 
 ghost use Rattle.std.specs.Prelude.{◌≡◌, ◌≤◌, ◌^◌};
 
-use crate::drawn::few;
+use crate::drawn::{few, routed};
 use crate::reader::Reader;
 use crate::texts::{ONE_CHIP, changed};
 use cm_draws::Draws;
@@ -16,6 +16,16 @@ static TWO_CHIPS: [u8; 122] = [
     0, 0, 0, 0, 0, 0, 0, 0, 0, 0, 0, 0, 0, 0, 0, 0, 0, 0, 0, 0, 0, 0, 1, 0, 0, 0, 0, 0, 0, 0, 0, 0,
     0, 0, 0, 0, 0, 0, 0, 0, 0, 0, 0, 0, 0, 0, 0, 0, 0, 0, 0, 0, 0, 0, 0, 0, 0, 0, 0, 0, 0, 0, 0, 0,
     0, 0, 0, 0, 0, 0, 0, 0, 0, 0, 0, 1, 0, 0, 0, 0, 0, 0, 0, 0, 0, 0, 0, 0, 0, 0, 0, 0, 0, 0,
+];
+
+/// Four chips, room for one message, counter 1; three wires are cut, the oldest goes first, and a message at chip 0.
+static FOUR_CHIPS: [u8; 185] = [
+    0x43, 0x4d, 0x31, 0x49, 2, 2, 1, 1, 0, 0, 0, 0, 0, 0, 0, 1, 0, 3, 0, 0, 0, 0, 1, 1, 0, 2, 0, 0,
+    0, 0, 0, 0, 0, 0, 0, 0, 0, 0, 0, 0, 0, 0, 0, 0, 0, 0, 0, 0, 0, 0, 0, 0, 0, 0, 0, 0, 0, 0, 0, 0,
+    0, 1, 0, 2, 5, 1, 2, 3, 4, 0, 3, 15, 0, 0, 0, 0, 0, 0, 0, 0, 0, 0, 0, 0, 0, 0, 0, 0, 0, 0, 0,
+    0, 0, 0, 0, 0, 0, 0, 0, 0, 0, 0, 0, 0, 0, 0, 0, 0, 0, 0, 0, 0, 0, 0, 0, 0, 0, 0, 0, 0, 0, 0, 0,
+    0, 0, 0, 0, 0, 0, 0, 0, 0, 0, 0, 0, 0, 0, 0, 0, 0, 0, 0, 0, 0, 0, 0, 0, 0, 0, 0, 0, 0, 0, 0, 0,
+    0, 0, 0, 0, 0, 0, 0, 0, 0, 0, 0, 0, 0, 0, 0, 0, 0, 0, 0, 0, 0, 0, 0, 0, 0, 0, 0, 0, 0, 0,
 ];
 
 /// One message, of bytes that are all 0.
@@ -33,15 +43,18 @@ fn goes_so<const N: usize, const CAP: usize>(
     }
 }
 
-/// How many bytes of the two chips are not refused as Short when they stand alone.
-fn first_not_short(alloc: Global) -> Result<usize, Fail> {
-    for len in 0..TWO_CHIPS.len() {
-        let bytes = TWO_CHIPS.get(..len).unwrap_or(&[]);
-        if !goes_so::<1, 1>(alloc, bytes, Some(ImageFault::Short))? {
+/// How many bytes of an image are not refused as Short when they stand alone.
+fn first_not_short<const N: usize, const CAP: usize>(
+    alloc: Global,
+    whole: &[u8],
+) -> Result<usize, Fail> {
+    for len in 0..whole.len() {
+        let bytes = whole.get(..len).unwrap_or(&[]);
+        if !goes_so::<N, CAP>(alloc, bytes, Some(ImageFault::Short))? {
             return Ok(len);
         }
     }
-    Ok(TWO_CHIPS.len())
+    Ok(whole.len())
 }
 
 /// What a plain reader refuses bytes with.
@@ -50,13 +63,19 @@ fn fault_of(alloc: Global, n: u8, cap: u8, bytes: &[u8]) -> Option<ImageFault> {
     reader.read(n, cap, bytes).err()
 }
 
-/// The first place at which another byte is taken in another way than by a plain reader.
-fn first_not_so(alloc: Global) -> Result<Option<(usize, u8)>, Fail> {
-    let whole = changed(alloc, &ONE_CHIP, 50, 1, &ONE_MESSAGE)?;
+/// The first place of an image at which another byte is taken in another way than by a plain reader.
+fn first_not_so<const N: usize, const CAP: usize>(
+    alloc: Global,
+    whole: &[u8],
+) -> Result<Option<(usize, u8)>, Fail>
+    requires dimension { N ≤ 12 }
+    requires room { CAP ≤ 15 }
+{
     for at in 0..whole.len() {
         for byte in 0..=255u8 {
-            let bytes = changed(alloc, &whole, at, 1, &[byte])?;
-            if !goes_so::<0, 7>(alloc, &bytes, fault_of(alloc, 0, 7, &bytes))? {
+            let bytes = changed(alloc, whole, at, 1, &[byte])?;
+            let fault = fault_of(alloc, N as u8, CAP as u8, &bytes);
+            if !goes_so::<N, CAP>(alloc, &bytes, fault)? {
                 return Ok(Some((at, byte)));
             }
         }
@@ -78,16 +97,22 @@ fn damaged(alloc: Global, draws: &mut Draws, bytes: &[u8]) -> Result<Vec<u8>, Fa
     })
 }
 
-/// The image of so many chips with drawn planes, flags and messages.
+/// The image of so many chips with drawn planes, flags and messages, in this version.
 fn drawn<const N: usize, const CAP: usize>(
     alloc: Global,
     draws: &mut Draws,
     chips: u16,
+    version: u8,
 ) -> Option<Vec<u8>>
     requires cube { chips ≡ 2 ^ N }
 {
-    let machine = few::<N, CAP>(alloc, draws, chips)?;
-    dump(alloc, &machine).ok()
+    let machine = match version {
+        1 => few::<N, CAP>(alloc, draws, chips)?,
+        _ => routed::<N, CAP>(alloc, draws, chips)?,
+    };
+    let bytes = dump(alloc, &machine).ok()?;
+    let is_so = bytes.get(4).copied() == Some(version);
+    if is_so { Some(bytes) } else { None }
 }
 
 /// Whether an image and twenty damages of it go as by a plain reader.
@@ -112,6 +137,7 @@ fn go_so<const N: usize, const CAP: usize>(
 fn all_go_so<const N: usize, const CAP: usize>(
     alloc: Global,
     chips: u16,
+    version: u8,
     images: u32,
 ) -> Result<u32, Fail>
     requires cube { chips ≡ 2 ^ N }
@@ -120,7 +146,7 @@ fn all_go_so<const N: usize, const CAP: usize>(
 {
     let mut draws = Draws::new(7);
     for i in 0..images {
-        let whole = drawn::<N, CAP>(alloc, &mut draws, chips).ok_or("no image")?;
+        let whole = drawn::<N, CAP>(alloc, &mut draws, chips, version).ok_or("no image")?;
         if !go_so::<N, CAP>(alloc, &mut draws, &whole)? {
             return Ok(i);
         }
@@ -130,15 +156,32 @@ fn all_go_so<const N: usize, const CAP: usize>(
 
 #[test]
 fn bytes_that_are_cut_are_short(rt: HostRuntime) -> Result<(), Fail> {
-    assert_eq!(rt; first_not_short(rt.alloc())?, 122);
-    let whole = goes_so::<1, 1>(rt.alloc(), &TWO_CHIPS, Some(ImageFault::TagTwice))?;
-    assert!(rt; whole);
+    let lengths = [
+        first_not_short::<1, 1>(rt.alloc(), &TWO_CHIPS)?,
+        first_not_short::<2, 1>(rt.alloc(), &FOUR_CHIPS)?,
+    ];
+    assert_eq!(rt; lengths, [122, 185]);
+    let whole = [
+        goes_so::<1, 1>(rt.alloc(), &TWO_CHIPS, Some(ImageFault::TagTwice))?,
+        goes_so::<2, 1>(rt.alloc(), &FOUR_CHIPS, None)?,
+    ];
+    assert_eq!(rt; whole, [true; 2]);
     Ok(())
 }
 
 #[test]
 fn each_other_byte_is_refused_or_another_machine(rt: HostRuntime) -> Result<(), Fail> {
-    assert_eq!(rt; first_not_so(rt.alloc())?, None);
+    let alloc = rt.alloc();
+    let one_chip = changed(alloc, &ONE_CHIP, 50, 1, &ONE_MESSAGE)?;
+    assert_eq!(rt; first_not_so::<0, 7>(alloc, &one_chip)?, None);
+    Ok(())
+}
+
+#[test]
+fn each_other_byte_of_an_image_with_cut_wires_is_refused_or_another_machine(
+    rt: HostRuntime,
+) -> Result<(), Fail> {
+    assert_eq!(rt; first_not_so::<2, 1>(rt.alloc(), &FOUR_CHIPS)?, None);
     Ok(())
 }
 
@@ -148,10 +191,24 @@ fn drawn_images_and_a_thousand_damages_go_as_by_a_plain_reader(
 ) -> Result<(), Fail> {
     let alloc = rt.alloc();
     let sizes = [
-        all_go_so::<2, 3>(alloc, 4, 50)?,
-        all_go_so::<3, 7>(alloc, 8, 20)?,
-        all_go_so::<5, 1>(alloc, 32, 20)?,
+        all_go_so::<2, 3>(alloc, 4, 1, 50)?,
+        all_go_so::<3, 7>(alloc, 8, 1, 20)?,
+        all_go_so::<5, 1>(alloc, 32, 1, 20)?,
     ];
     assert_eq!(rt; sizes, [50, 20, 20]);
+    Ok(())
+}
+
+#[test]
+fn drawn_images_with_cut_wires_and_a_thousand_damages_go_as_by_a_plain_reader(
+    rt: HostRuntime,
+) -> Result<(), Fail> {
+    let alloc = rt.alloc();
+    let sizes = [
+        all_go_so::<1, 2>(alloc, 2, 2, 20)?,
+        all_go_so::<2, 3>(alloc, 4, 2, 30)?,
+        all_go_so::<3, 7>(alloc, 8, 2, 20)?,
+    ];
+    assert_eq!(rt; sizes, [20, 30, 20]);
     Ok(())
 }

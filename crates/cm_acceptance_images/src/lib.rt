@@ -14,4 +14,6 @@ mod messages;
 #[cfg(test)]
 mod reader;
 #[cfg(test)]
+mod routes;
+#[cfg(test)]
 mod texts;

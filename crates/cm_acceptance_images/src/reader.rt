@@ -21,13 +21,18 @@ impl Reader {
     /// Reads a whole image of this dimension and room.
     pub(crate) fn read(&mut self, n: u8, cap: u8, bytes: &[u8]) -> Result<(), ImageFault> {
         must(self.number(bytes, 4)? == 0x434d_3149, ImageFault::Magic)?;
-        must(self.number(bytes, 1)? == 1, ImageFault::Version)?;
+        let version = self.number(bytes, 1)?;
+        must(version == 1 || version == 2, ImageFault::Version)?;
         must(self.number(bytes, 1)? == u64::from(n), ImageFault::Shape)?;
         must(self.number(bytes, 1)? == u64::from(cap), ImageFault::Shape)?;
-        must(self.number(bytes, 1)? == 0, ImageFault::Shape)?;
+        let rule = self.number(bytes, 1)?;
+        must(rule == 0 || version == 2 && rule == 1, ImageFault::Shape)?;
         let clock = self.number(bytes, 8)?;
         must(clock < 0x8000_0000_0000_0000, ImageFault::Value)?;
-        let chips = 1u64.checked_shl(u32::from(n)).unwrap_or(0);
+        let chips = power(u64::from(n));
+        if version == 2 {
+            self.cuts(bytes, u64::from(n), chips, rule)?;
+        }
         for _ in 0..chips {
             self.flags(bytes)?;
             self.memory(bytes)?;
@@ -35,6 +40,25 @@ impl Reader {
         }
         must(!self.has_tag_twice(), ImageFault::TagTwice)?;
         must(self.at == bytes.len(), ImageFault::Extra)
+    }
+
+    fn cuts(&mut self, bytes: &[u8], n: u64, chips: u64, rule: u64) -> Result<(), ImageFault> {
+        let count = self.number(bytes, 2)?;
+        must(count <= n.saturating_mul(chips) / 2, ImageFault::Count)?;
+        must(count != 0 || rule != 0, ImageFault::Count)?;
+        let mut before = None;
+        for _ in 0..count {
+            let chip = self.below(bytes, 2, chips)?;
+            let dimension = self.below(bytes, 1, n)?;
+            must(chip & power(dimension) == 0, ImageFault::Value)?;
+            let rises = match before {
+                None => true,
+                Some((c, d)) => chip > c || chip == c && dimension > d,
+            };
+            must(rises, ImageFault::Order)?;
+            before = Some((chip, dimension));
+        }
+        Ok(())
     }
 
     fn flags(&mut self, bytes: &[u8]) -> Result<(), ImageFault> {
@@ -115,6 +139,14 @@ impl Reader {
             }
         }
         false
+    }
+}
+
+/// 2 to this power, if it is below 64.
+fn power(exponent: u64) -> u64 {
+    match u32::try_from(exponent) {
+        Ok(shift) => 1u64.checked_shl(shift).unwrap_or(0),
+        Err(_) => 0,
     }
 }
 

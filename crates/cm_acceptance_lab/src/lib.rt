@@ -10,6 +10,8 @@ mod draws;
 #[cfg(test)]
 mod ends;
 #[cfg(test)]
+mod fronts;
+#[cfg(test)]
 mod grid;
 #[cfg(test)]
 mod growths;
@@ -19,5 +21,7 @@ mod performed;
 mod pictures;
 #[cfg(test)]
 mod shown;
+#[cfg(test)]
+mod studies;
 #[cfg(test)]
 mod texts;

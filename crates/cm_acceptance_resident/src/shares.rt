@@ -7,9 +7,10 @@ ghost use Rattle.cm_workers.specs.Gates.{ComesBy};
 
 use cm_array::Machine;
 use cm_draws::{
-    Draws, ask_again, asking_machine, four_messages_each, has_one_of_four, run_beside_plain,
+    Draws, ask_again, asking_machine, cut_in_two_places, four_messages_each, has_one_of_four,
+    run_beside_plain,
 };
-use cm_model::Act;
+use cm_model::{Act, Rule};
 use cm_resident::Resident;
 use cm_subcube::Block;
 use cm_workers::{Gate, Passage};
@@ -184,6 +185,32 @@ fn workers_send_four_messages_of_each_of_sixteen_chips_across_the_cube(
             Some((true, true)),
             "{share:?}"
         );
+    }
+    Ok(())
+}
+
+/// Whether so many workers go through it as one thread where two wires are cut, and messages leave by this rule.
+fn sent_round<R: Threads + Wait + Sync>(
+    rt: &R,
+    alloc: Global,
+    share: Share,
+    rule: Rule,
+) -> Option<bool>
+    requires threads { IsSync R.row }
+{
+    let acts = four_messages_each(alloc).ok()?;
+    let mut machine = cut_in_two_places(alloc, rule)?;
+    runs_as_plain(rt, alloc, &mut machine, &acts, share, 16)
+}
+
+#[test]
+fn workers_send_them_round_cut_wires_by_either_rule(rt: HostRuntime) -> Result<(), Fail> {
+    for share in &SHARES {
+        let alike = [
+            sent_round(&rt, rt.alloc(), *share, Rule::First),
+            sent_round(&rt, rt.alloc(), *share, Rule::Oldest),
+        ];
+        assert_eq!(rt; alike, [Some(true); 2], "{share:?}");
     }
     Ok(())
 }

@@ -4,18 +4,59 @@
 ghost use Rattle.std.specs.Prelude.{◌+◌, ◌^◌, ◌≤◌, IsTrue};
 ghost use Rattle.cm_model.specs.Keeping.{AreSizes};
 
+use crate::routes::{Routes, is_of_cube, routed};
 use cm_array::step;
 use cm_bits::{Addr, Dir, Field, FlagNo, Proc};
 use cm_crossing::{Crossing, Sizes};
 use cm_element::Run;
 use cm_message::{Event, Message, Tag};
 use cm_model::Nano;
-use cm_petit::{are_routers, cross, cycle, deliver, has_log_room, inject, leave, take_in};
+use cm_petit::{
+    are_routers, cross, cycle, deliver, has_log_room, has_space, inject, leave, take_in,
+};
+use cm_router::{Routing, Rule};
 use std::alloc::Global;
 use std::test::Fail;
 
-// Room of a router, and where the drawing starts.
-static CASES: [(u8, u64); 4] = [(1, 21), (2, 22), (7, 23), (15, 24)];
+// Room of a router, how messages go, and where the drawing starts.
+static CASES: [(u8, Routes, u64); 8] = [
+    (1, Routes::PLAIN, 21),
+    (2, Routes::PLAIN, 22),
+    (7, Routes::PLAIN, 23),
+    (15, Routes::PLAIN, 24),
+    (
+        1,
+        Routes {
+            rule: Rule::First,
+            share: 3,
+        },
+        25,
+    ),
+    (
+        2,
+        Routes {
+            rule: Rule::Oldest,
+            share: 0,
+        },
+        26,
+    ),
+    (
+        1,
+        Routes {
+            rule: Rule::Oldest,
+            share: 4,
+        },
+        27,
+    ),
+    (
+        7,
+        Routes {
+            rule: Rule::Oldest,
+            share: 1,
+        },
+        28,
+    ),
+];
 
 const CYCLES: u64 = 6;
 
@@ -41,6 +82,7 @@ pub(crate) fn next(seed: u64) -> u64 {
 pub(crate) struct Band {
     sizes: Sizes,
     first: u16,
+    routing: Routing,
     pub(crate) run: Run,
     crossing: Crossing,
     pub(crate) logs: Vec<Vec<Event>>,
@@ -87,7 +129,12 @@ pub(crate) fn ask(run: &mut Run, chip: u16, seed: u64, most: u64) {
 }
 
 impl Band {
-    pub(crate) fn blank(alloc: Global, sizes: Sizes, first: u16) -> Result<Band, Fail> {
+    pub(crate) fn blank(
+        alloc: Global,
+        sizes: Sizes,
+        first: u16,
+        routes: Routes,
+    ) -> Result<Band, Fail> {
         let chips: u16 = 1 << (sizes.span & 7);
         let mut logs = Vec::new(alloc);
         for _chip in 0..chips {
@@ -96,6 +143,7 @@ impl Band {
         Ok(Band {
             sizes,
             first,
+            routing: routed(alloc, sizes.dims, routes)?,
             run: Run::blank(alloc, chips)?,
             crossing: Crossing::new(alloc, usize::from(chips))?,
             logs,
@@ -108,6 +156,7 @@ impl Band {
         let sizes = self.sizes;
         if !are_sizes(sizes, 0)
             || sizes.span != sizes.dims
+            || !is_of_cube(&self.routing, sizes)
             || self.clock >= 1 << 62
             || !are_routers(sizes, &self.run, &self.crossing, &self.logs)
             || !has_log_room(&self.logs, 4 + usize::from(sizes.room))
@@ -116,6 +165,7 @@ impl Band {
         }
         cycle(
             sizes,
+            &self.routing,
             &mut self.run,
             &mut self.crossing,
             &mut self.logs,
@@ -171,7 +221,13 @@ impl Band {
     // The dimensions that the chips span.
     fn cross_own(&mut self) -> bool {
         for dim in 0..self.sizes.span {
-            if !cross_one(self.sizes, &mut self.crossing, dim) {
+            if !cross_one(
+                self.sizes,
+                &self.routing,
+                self.first,
+                &mut self.crossing,
+                dim,
+            ) {
                 return false;
             }
         }
@@ -179,43 +235,72 @@ impl Band {
     }
 }
 
-fn cross_one(sizes: Sizes, crossing: &mut Crossing, dim: u8) -> bool {
-    if !are_sizes(sizes, 0)
+fn cross_one(
+    sizes: Sizes,
+    routing: &Routing,
+    first: u16,
+    crossing: &mut Crossing,
+    dim: u8,
+) -> bool {
+    if !are_sizes(sizes, first)
+        || !is_of_cube(routing, sizes)
+        || first % (1 << sizes.span) != 0
         || dim >= sizes.span
         || crossing.chips() != 1 << sizes.span
         || !crossing.is_within(sizes.room)
     {
         return false;
     }
-    cross(sizes, crossing, dim);
+    cross(sizes, routing, first, crossing, dim);
     true
 }
 
-// A dimension in which each of two runs sends to the other.
-fn exchange(
-    sizes: Sizes,
-    low: &mut Crossing,
-    high: &mut Crossing,
-    up: &mut [Option<Message>],
-    down: &mut [Option<Message>],
-    dim: u8,
-) -> bool {
-    if !are_sizes(sizes, 0)
+// What leaves a run of chips in a dimension that leads out of it.
+fn send(band: &mut Band, dim: u8, leavers: &mut [Option<Message>]) -> bool {
+    let sizes = band.sizes;
+    if !are_sizes(sizes, band.first)
+        || !is_of_cube(&band.routing, sizes)
         || dim >= sizes.dims
-        || up.len() != 1 << sizes.span
-        || down.len() != 1 << sizes.span
-        || low.chips() != 1 << sizes.span
-        || high.chips() != 1 << sizes.span
-        || !low.is_within(sizes.room)
-        || !high.is_within(sizes.room)
+        || leavers.len() != 1 << sizes.span
+        || band.crossing.chips() != 1 << sizes.span
+        || !band.crossing.is_within(sizes.room)
     {
         return false;
     }
-    leave(sizes, low, dim, up);
-    leave(sizes, high, dim, down);
-    take_in(sizes, low, down);
-    take_in(sizes, high, up);
-    up.iter().all(|leaver| leaver.is_none()) && down.iter().all(|leaver| leaver.is_none())
+    leave(
+        sizes,
+        &band.routing,
+        band.first,
+        &mut band.crossing,
+        dim,
+        leavers,
+    );
+    true
+}
+
+// What comes to a run of chips. Nothing is written down then.
+fn receive(band: &mut Band, leavers: &mut [Option<Message>]) -> bool {
+    let sizes = band.sizes;
+    if !are_sizes(sizes, band.first)
+        || leavers.len() != 1 << sizes.span
+        || band.crossing.chips() != 1 << sizes.span
+        || !band.crossing.is_within(sizes.room)
+        || !has_space(sizes, &band.crossing, leavers)
+    {
+        return false;
+    }
+    take_in(sizes, &mut band.crossing, leavers);
+    leavers.iter().all(|leaver| leaver.is_none())
+}
+
+// A dimension in which each of two runs sends to the other.
+fn exchange(low: &mut Band, high: &mut Band, dim: u8) -> bool {
+    let mut up = [None; 8];
+    let mut down = [None; 8];
+    send(low, dim, &mut up)
+        && send(high, dim, &mut down)
+        && receive(low, &mut down)
+        && receive(high, &mut up)
 }
 
 pub(crate) fn has_same_planes(left: &Run, here: u16, right: &Run, there: u16) -> bool {
@@ -260,19 +345,17 @@ fn is_part(band: &mut Band, whole: &mut Band) -> bool {
 }
 
 // Two runs of eight chips, which exchange in dimension 3, beside the machine of sixteen chips that they are.
-fn halves_go_alike(alloc: Global, case: (u8, u64)) -> Result<bool, Fail> {
-    let (room, seed) = case;
+fn halves_go_alike(alloc: Global, case: (u8, Routes, u64)) -> Result<bool, Fail> {
+    let (room, routes, seed) = case;
     let all = Sizes {
         dims: 4,
         span: 4,
         room,
     };
     let half = Sizes { span: 3, ..all };
-    let mut whole = Band::blank(alloc, all, 0)?;
-    let mut low = Band::blank(alloc, half, 0)?;
-    let mut high = Band::blank(alloc, half, 8)?;
-    let mut up = [None; 8];
-    let mut down = [None; 8];
+    let mut whole = Band::blank(alloc, all, 0, routes)?;
+    let mut low = Band::blank(alloc, half, 0, routes)?;
+    let mut high = Band::blank(alloc, half, 8, routes)?;
     let mut seed = seed;
     let mut alike = true;
     for _cycle in 0..CYCLES {
@@ -294,14 +377,7 @@ fn halves_go_alike(alloc: Global, case: (u8, u64)) -> Result<bool, Fail> {
             && high.inject()
             && low.cross_own()
             && high.cross_own()
-            && exchange(
-                half,
-                &mut low.crossing,
-                &mut high.crossing,
-                &mut up,
-                &mut down,
-                3,
-            )
+            && exchange(&mut low, &mut high, 3)
             && low.deliver()
             && high.deliver()
             && is_part(&mut low, &mut whole)
@@ -350,8 +426,8 @@ fn upper_half_goes_alone(alloc: Global, seed: u64) -> Result<bool, Fail> {
         room: 15,
     };
     let half = Sizes { span: 3, ..all };
-    let mut whole = Band::blank(alloc, all, 0)?;
-    let mut high = Band::blank(alloc, half, 8)?;
+    let mut whole = Band::blank(alloc, all, 0, Routes::PLAIN)?;
+    let mut high = Band::blank(alloc, half, 8, Routes::PLAIN)?;
     let mut seed = seed;
     let mut alike = true;
     for _cycle in 0..CYCLES {
@@ -423,15 +499,15 @@ fn has_moved_events(left: &[Vec<Event>], right: &[Vec<Event>], chip: u16, first:
 }
 
 // A run that begins at chip 5 has the planes of one that begins at chip 0, and other tags.
-fn begins_anywhere(alloc: Global, case: (u8, u64)) -> Result<bool, Fail> {
-    let (room, seed) = case;
+fn begins_anywhere(alloc: Global, case: (u8, Routes, u64)) -> Result<bool, Fail> {
+    let (room, routes, seed) = case;
     let sizes = Sizes {
         dims: 4,
         span: 1,
         room,
     };
-    let mut here = Band::blank(alloc, sizes, 5)?;
-    let mut there = Band::blank(alloc, sizes, 0)?;
+    let mut here = Band::blank(alloc, sizes, 5, routes)?;
+    let mut there = Band::blank(alloc, sizes, 0, routes)?;
     let mut seed = seed;
     let mut alike = true;
     for _cycle in 0..CYCLES {

@@ -16,6 +16,8 @@ mod plain;
 #[cfg(test)]
 mod queues;
 #[cfg(test)]
+mod routes;
+#[cfg(test)]
 mod runs;
 #[cfg(test)]
 mod wide;

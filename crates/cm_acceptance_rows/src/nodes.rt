@@ -1,16 +1,59 @@
 //! Petit cycles on nodes, one for each chip, beside petit cycles on a machine's messages.
 
 use crate::bands::{Band, LOG_ROOM, are_sizes, ask, has_same_planes, next};
+use crate::routes::{Routes, is_of_cube, routed};
 use cm_crossing::Sizes;
 use cm_element::Run;
 use cm_message::Event;
 use cm_petit::{are_nodes, cycle_of_nodes, has_log_room};
-use cm_router::Node;
+use cm_router::{Node, Routing, Rule};
 use std::alloc::Global;
 use std::test::Fail;
 
-// Dimensions, room of a router, and where the drawing starts.
-static CASES: [(u8, u8, u64); 5] = [(0, 7, 41), (1, 1, 42), (3, 2, 43), (4, 1, 44), (4, 15, 45)];
+// Dimensions, room of a router, how messages go, and where the drawing starts.
+static CASES: [(u8, u8, Routes, u64); 9] = [
+    (0, 7, Routes::PLAIN, 41),
+    (1, 1, Routes::PLAIN, 42),
+    (3, 2, Routes::PLAIN, 43),
+    (4, 1, Routes::PLAIN, 44),
+    (4, 15, Routes::PLAIN, 45),
+    (
+        1,
+        1,
+        Routes {
+            rule: Rule::First,
+            share: 1,
+        },
+        46,
+    ),
+    (
+        3,
+        2,
+        Routes {
+            rule: Rule::First,
+            share: 3,
+        },
+        47,
+    ),
+    (
+        4,
+        1,
+        Routes {
+            rule: Rule::Oldest,
+            share: 0,
+        },
+        48,
+    ),
+    (
+        4,
+        2,
+        Routes {
+            rule: Rule::Oldest,
+            share: 3,
+        },
+        49,
+    ),
+];
 
 const CYCLES: u64 = 6;
 
@@ -18,6 +61,7 @@ const CYCLES: u64 = 6;
 #[derive(Drop)]
 struct Noded {
     sizes: Sizes,
+    routing: Routing,
     run: Run,
     nodes: Vec<Node>,
     logs: Vec<Vec<Event>>,
@@ -25,7 +69,7 @@ struct Noded {
 }
 
 impl Noded {
-    fn blank(alloc: Global, sizes: Sizes) -> Result<Noded, Fail> {
+    fn blank(alloc: Global, sizes: Sizes, routes: Routes) -> Result<Noded, Fail> {
         let chips: u16 = 1 << (sizes.dims & 7);
         let mut nodes = Vec::new(alloc);
         let mut logs = Vec::new(alloc);
@@ -35,6 +79,7 @@ impl Noded {
         }
         Ok(Noded {
             sizes,
+            routing: routed(alloc, sizes.dims, routes)?,
             run: Run::blank(alloc, chips)?,
             nodes,
             logs,
@@ -45,6 +90,7 @@ impl Noded {
     fn cycle(&mut self) -> bool {
         let sizes = self.sizes;
         if !are_sizes(sizes, 0)
+            || !is_of_cube(&self.routing, sizes)
             || !are_nodes(sizes, &self.run, &self.nodes, &self.logs)
             || !has_log_room(&self.logs, 4 + usize::from(sizes.room))
         {
@@ -52,6 +98,7 @@ impl Noded {
         }
         cycle_of_nodes(
             sizes,
+            &self.routing,
             &mut self.run,
             &mut self.nodes,
             &mut self.logs,
@@ -74,15 +121,15 @@ impl Noded {
 }
 
 // The same asks on both sides, and a petit cycle after each.
-fn go_alike(alloc: Global, case: (u8, u8, u64)) -> Result<bool, Fail> {
-    let (dims, room, seed) = case;
+fn go_alike(alloc: Global, case: (u8, u8, Routes, u64)) -> Result<bool, Fail> {
+    let (dims, room, routes, seed) = case;
     let sizes = Sizes {
         dims,
         span: dims,
         room,
     };
-    let mut whole = Band::blank(alloc, sizes, 0)?;
-    let mut noded = Noded::blank(alloc, sizes)?;
+    let mut whole = Band::blank(alloc, sizes, 0, routes)?;
+    let mut noded = Noded::blank(alloc, sizes, routes)?;
     let mut seed = seed;
     let mut alike = true;
     for _cycle in 0..CYCLES {

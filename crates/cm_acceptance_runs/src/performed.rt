@@ -33,6 +33,14 @@ const UNREAD: Ends = Ends {
     goes_out: true,
 };
 
+/// The same, and standard output takes what comes.
+const UNASKED: Ends = Ends {
+    input: 0,
+    output: 1000,
+    errors: 100,
+    goes_out: true,
+};
+
 /// A later read of standard input fails.
 const BROKEN: Ends = Ends {
     input: 4,
@@ -83,6 +91,11 @@ const TWO: &[u8] = b"CM1I\x01\x01\x07\0\0\0\0\0\0\0\0\0\
     \0\0\0\0\0\0\0\0\0\0\0\0\0\0\0\0\0\0\0\0\0\0\0\0\0\0\0\0\0\0\0\0\0\0\0\
     \0\0\0\0\0\0\0\0\0\0\0\0\0\0\0\0\0\0\0\0\0\0\0\0\0\0\0\0\0\0\0\0\0\0\0";
 
+/// Two of them, after as many petit cycles as there may be.
+const LAST: &[u8] = b"CM1I\x01\x01\x07\0\x7f\xff\xff\xff\xff\xff\xff\xff\
+    \0\0\0\0\0\0\0\0\0\0\0\0\0\0\0\0\0\0\0\0\0\0\0\0\0\0\0\0\0\0\0\0\0\0\0\
+    \0\0\0\0\0\0\0\0\0\0\0\0\0\0\0\0\0\0\0\0\0\0\0\0\0\0\0\0\0\0\0\0\0\0\0";
+
 /// One whose routers have room for two, which the program has no machines of.
 const OTHER: &[u8] = b"CM1I\x01\0\x02\0";
 
@@ -93,12 +106,35 @@ fn file(path: &str) -> Option<(&'static [u8], usize)> {
         "two" => Some((TWO, 1000)),
         "other" => Some((OTHER, 1000)),
         "cut" => Some((b"CM1I\x01\0\x07\0\0\0\0\0", 1000)),
+        "last" => Some((LAST, 1000)),
+        "empty" => Some((b"", 1000)),
         "sets" => Some((b"set 9\n", 1000)),
+        "cycle" => Some((b"cycle\n", 1000)),
+        "cycles" => Some((CYCLES, 1000)),
+        "twelve" => Some((TWELVE, 1000)),
+        "nine" => Some((NINE, 1000)),
+        "breaks" => Some((TWELVE, 20)),
+        "bad" => Some((b"grip 0\ngrip 2\ngrip x\n\ngrip\njump 0\n", 1000)),
         "wrong" => Some((b"set 9\njump\n", 1000)),
         "folder" => Some((b"", 0)),
         _ => None,
     }
 }
+
+/// More petit cycles than one stretch has.
+const CYCLES: &[u8] = b"\
+    cycle\ncycle\ncycle\ncycle\ncycle\ncycle\ncycle\ncycle\ncycle\ncycle\ncycle\ncycle\ncycle\n\
+    cycle\ncycle\ncycle\ncycle\ncycle\ncycle\ncycle\ncycle\ncycle\ncycle\ncycle\ncycle\ncycle\n\
+    cycle\ncycle\ncycle\ncycle\ncycle\ncycle\ncycle\ncycle\ncycle\ncycle\ncycle\ncycle\ncycle\n\
+    cycle\ncycle\ncycle\ncycle\ncycle\ncycle\ncycle\ncycle\ncycle\ncycle\ncycle\ncycle\ncycle\n\
+    cycle\ncycle\ncycle\ncycle\ncycle\ncycle\ncycle\ncycle\ncycle\ncycle\ncycle\ncycle\ncycle\n";
+
+/// Steps of two chips, a block each, in a petit cycle.
+const TWELVE: &[u8] = b"draw 0\ngrip 0\ngrip 0\nfile 0\ndraw 0\ngrip 1\nfile 1\ndraw 0\nclear 0\n\
+    draw 1\nclear 1\nclear 1\n";
+
+/// Those but for the last three.
+const NINE: &[u8] = b"draw 0\ngrip 0\ngrip 0\nfile 0\ndraw 0\ngrip 1\nfile 1\ndraw 0\nclear 0\n";
 
 /// Words that are no text, and words for which there is no memory.
 const NO_TEXT: &str = "no text";
@@ -115,6 +151,9 @@ const FLAGS: &str = "\
     flag 12 0000\nflag 13 0000\nflag 14 0000\nflag 15 0000\n\
     plane 5 ffff\n";
 
+/// What the steps of the file `twelve` come to.
+const WOVEN: &str = "? 34\nok\n? 34\nok\n? 34\nok\nok\nok\nok\nok\nok\n? 34\nfinished\n";
+
 /// Of the file `sets`.
 const LISTING: &str = "nano 0 0 8 9 8 0 0xf0 0xff n ; 0\n";
 
@@ -122,7 +161,7 @@ const ASKS: &[u8] = b"run\nflag 0 0 9\n";
 
 const ANSWERS: &str = "end\nflag 1\n";
 
-static TABLES: [Table; 17] = [
+static TABLES: [Table; 27] = [
     // words that are none
     Table {
         input: b"",
@@ -223,7 +262,8 @@ static TABLES: [Table; 17] = [
             "run one sets --out left => words, open one, open sets, ready left, flush, fill left 51: 0 ",
             "run one sets --out one => words, open one, open sets, ready one, flush, fill one 51: 0 ",
             "run two sets --split 1 => words, open two, open sets, flush: 0 ",
-            "run two sets --split 1 --workers 2 --out left => words, open two, open sets, ready left, flush, fill left 86: 0 ",
+            "run two sets --split 1 --workers 2 --out left => \
+             words, open two, open sets, ready left, flush, fill left 86: 0 ",
             "run one sets --out full => words, open one, open sets, ready full, flush, fill full 51: 4 cm1: 31 Write",
         ],
     },
@@ -257,7 +297,8 @@ static TABLES: [Table; 17] = [
         rows: &[
             "run one sets => words, open one, open sets: 4 cm1: 30 Read",
             "run one sets --out left => words, open one, open sets, ready left, let go left: 4 cm1: 30 Read",
-            "run two sets --split 1 --workers 2 --out left => words, open two, open sets, ready left, let go left: 4 cm1: 30 Read",
+            "run two sets --split 1 --workers 2 --out left => \
+             words, open two, open sets, ready left, let go left: 4 cm1: 30 Read",
         ],
     },
     Table {
@@ -275,6 +316,125 @@ static TABLES: [Table; 17] = [
         rows: &[
             "run one sets => words, open one, open sets, flush: 4 cm1: 31 Write",
             "run one sets --out left => words, open one, open sets, ready left, flush, let go left: 4 cm1: 31 Write",
+        ],
+    },
+    // an exchange by the steps of a file: what it answers goes out before a file is filled
+    Table {
+        input: b"",
+        ends: UNASKED,
+        output: WOVEN,
+        rows: &[
+            "weave two cycle twelve --split 1 => words, open two, open cycle, open twelve, flush: 0 ",
+            "weave two cycle twelve --split 1 --out left => \
+             words, open two, open cycle, ready left, open twelve, flush, fill left 86: 0 ",
+            "weave --out=two --split=1 two cycle twelve => \
+             words, open two, open cycle, ready two, open twelve, flush, fill two 86: 0 ",
+            "weave two cycle twelve --split 1 --out full => \
+             words, open two, open cycle, ready full, open twelve, flush, fill full 86: 4 cm1: 31 Write",
+        ],
+    },
+    // one without rounds: no step can be taken
+    Table {
+        input: b"",
+        ends: UNASKED,
+        output: "finished\n",
+        rows: &[
+            "weave two sets empty --split 1 => words, open two, open sets, open empty, flush: 0 ",
+            "weave one empty empty => words, open one, open empty, open empty, flush: 0 ",
+        ],
+    },
+    Table {
+        input: b"",
+        ends: UNASKED,
+        output: "? 34\n? 2\n? 17\n? 16\n? 15\nfinished\n",
+        rows: &[
+            "weave two sets bad --split 1 --out left => \
+             words, open two, open sets, ready left, open bad, flush, fill left 86: 0 ",
+        ],
+    },
+    // one by itself
+    Table {
+        input: b"",
+        ends: UNASKED,
+        output: "grip 0\nfile 0\ngrip 1\nfile 1\ndraw 0\nclear 0\ndraw 1\nclear 1\nsteps 8\nfinished\n",
+        rows: &[
+            "weave two cycle --split 1 => words, open two, open cycle, flush: 0 ",
+            "weave two cycle --split 1 --out left => words, open two, open cycle, ready left, flush, fill left 86: 0 ",
+        ],
+    },
+    Table {
+        input: b"",
+        ends: UNASKED,
+        output: "steps 0\nfinished\n",
+        rows: &[
+            "weave one empty => words, open one, open empty, flush: 0 ",
+            "weave one cycle --out left => words, open one, open cycle, ready left, flush, fill left 51: 0 ",
+        ],
+    },
+    // one that is refused, the first of its faults told: nothing is answered, and nothing else is touched
+    Table {
+        input: b"",
+        ends: UNREAD,
+        output: "",
+        rows: &[
+            "weave two => words: 2 cm1: bad command line",
+            "weave two cycle twelve more => words: 2 cm1: bad command line",
+            "weave two cycle --workers 1 => words: 2 cm1: bad command line",
+            "weave two cycle --split 7 => words: 2 cm1: bad command line",
+            "weave none wrong none --split 6 --out locked => words, open none: 4 cm1: 30 Read",
+            "weave cut wrong none --split 6 --out locked => words, open cut: 1 cm1: 21 Short",
+            "weave other wrong none --split 6 --out locked => words, open other: 1 cm1: 5 Cap",
+            "weave two none none --split 6 --out locked => words, open two, open none: 4 cm1: 30 Read",
+            "weave two wrong none --split 6 --out locked => words, open two, open wrong: 1 cm1: line 2: 15 Word",
+            "weave last cycles none --split 6 --out locked => words, open last, open cycles: 1 cm1: 6 Long",
+            "weave last cycle none --split 6 --out locked => words, open last, open cycle: 1 cm1: 7 Clock",
+            "weave two cycle none --split 2 --out locked => words, open two, open cycle: 1 cm1: 37 Split",
+            "weave two cycle none --split 1 --out locked => words, open two, open cycle, ready locked: 4 cm1: 31 Write",
+            "weave two cycle none --split 1 --out much => words, open two, open cycle, ready much: 3 cm1: 33 Memory",
+            "weave two cycle none --split 1 => words, open two, open cycle, open none: 4 cm1: 30 Read",
+            "weave two cycle none --split 1 --out left => \
+             words, open two, open cycle, ready left, open none, let go left: 4 cm1: 30 Read",
+            "weave two cycle folder --split 1 --out left => \
+             words, open two, open cycle, ready left, open folder, let go left: 4 cm1: 30 Read",
+        ],
+    },
+    // one that breaks off: its file is taken away
+    Table {
+        input: b"",
+        ends: UNASKED,
+        output: "? 34\nok\n? 34\nok\n? 34\nok\nok\nok\nok\nunfinished\n",
+        rows: &[
+            "weave two cycle nine --split 1 => words, open two, open cycle, open nine: 1 cm1: 35 Unfinished",
+            "weave two cycle nine --split 1 --out left => \
+             words, open two, open cycle, ready left, open nine, let go left: 1 cm1: 35 Unfinished",
+        ],
+    },
+    Table {
+        input: b"",
+        ends: UNASKED,
+        output: "? 34\nok\n",
+        rows: &[
+            "weave two cycle breaks --split 1 --out left => \
+             words, open two, open cycle, ready left, open breaks, let go left: 4 cm1: 30 Read",
+        ],
+    },
+    Table {
+        input: b"",
+        ends: NARROW,
+        output: "grip 0",
+        rows: &[
+            "weave two cycle --split 1 --out left => \
+             words, open two, open cycle, ready left, let go left: 4 cm1: 31 Write",
+        ],
+    },
+    Table {
+        input: b"",
+        ends: HELD_UP,
+        output: WOVEN,
+        rows: &[
+            "weave two cycle twelve --split 1 => words, open two, open cycle, open twelve, flush: 4 cm1: 31 Write",
+            "weave two cycle twelve --split 1 --out left => \
+             words, open two, open cycle, ready left, open twelve, flush, let go left: 4 cm1: 31 Write",
         ],
     },
     // a fault that cannot be told

@@ -47,7 +47,7 @@ static RUNS: [Row; 19] = [
     (Given::Nothing, SUM, ASKS, 100, 100, b"", 21),
     (Given::Longer, SUM, ASKS, 100, 100, b"", 29),
     (Given::With(0, 0), SUM, ASKS, 100, 100, b"", 22),
-    (Given::With(4, 2), SUM, ASKS, 100, 100, b"", 23),
+    (Given::With(4, 3), SUM, ASKS, 100, 100, b"", 23),
     (Given::With(5, 13), SUM, ASKS, 100, 100, b"", 24),
     // a room that the program has no machines of; before the rest of the image is looked at
     (Given::With(6, 2), SUM, ASKS, 100, 100, b"", 5),

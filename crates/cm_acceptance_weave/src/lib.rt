@@ -2,6 +2,8 @@
 #![tactic(auto)]
 
 #[cfg(test)]
+mod beside;
+#[cfg(test)]
 mod drawn;
 #[cfg(test)]
 mod growths;
@@ -10,8 +12,12 @@ mod machines;
 #[cfg(test)]
 mod orders;
 #[cfg(test)]
+mod plain;
+#[cfg(test)]
 mod refused;
 #[cfg(test)]
 mod rows;
+#[cfg(test)]
+mod texts;
 #[cfg(test)]
 mod trial;

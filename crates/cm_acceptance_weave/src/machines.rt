@@ -18,3 +18,16 @@ pub(crate) fn sent_on(dir: Dir) -> Act {
         dir,
     })
 }
+
+/// What goes over each kind of round, over some more than once, and acts between that are no round.
+pub(crate) fn round_trip() -> [Act; 7] {
+    [
+        sent_on(Dir::North),
+        Act::Cycle,
+        sent_on(Dir::South),
+        sent_on(Dir::East),
+        Act::Cycle,
+        sent_on(Dir::North),
+        Act::Sense,
+    ]
+}

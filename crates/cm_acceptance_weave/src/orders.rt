@@ -1,9 +1,8 @@
 //! Orders of steps, each of which ends in the machine of one thread.
 
-use crate::machines::sent_on;
+use crate::machines::round_trip;
 use crate::trial::Trial;
 use cm_array::{Machine, Plain, Runner};
-use cm_bits::Dir;
 use cm_draws::{Draws, are_same, asking_machine};
 use cm_exchange::Step;
 use cm_model::Act;
@@ -74,28 +73,16 @@ fn counted(alloc: Global) -> Result<(u16, u16), Fail> {
     Ok((taken, alike))
 }
 
-/// Of the 70 orders in which each of two blocks has four steps, in 17 block 0 would draw before block 1 has filed, and in
-/// 17 block 1 before block 0 has.
+/// Of the 70 orders in which each of two blocks has four steps, in 17 block 0 would draw before block 1 has filed, and
+/// in 17 block 1 before block 0 has.
 #[test]
 fn all_36_orders_of_two_blocks_in_a_petit_cycle_end_alike(rt: HostRuntime) -> Result<(), Fail> {
     assert_eq!(rt; counted(rt.alloc())?, (36, 36));
     Ok(())
 }
 
-fn acts() -> [Act; 7] {
-    [
-        sent_on(Dir::North),
-        Act::Cycle,
-        sent_on(Dir::South),
-        sent_on(Dir::East),
-        Act::Cycle,
-        sent_on(Dir::North),
-        Act::Sense,
-    ]
-}
-
-/// Whether a drawn order of as many steps as there are leads to a finished world, whose machine this is; and none before
-/// that is finished.
+/// Whether a drawn order of as many steps as there are leads to a finished world, whose machine this is; and none
+/// before that is finished.
 fn ends_as(
     alloc: Global,
     machine: Machine<4, 1>,
@@ -103,7 +90,7 @@ fn ends_as(
     steps: usize,
     draws: &mut Draws,
 ) -> Result<bool, Fail> {
-    let Some(mut world) = Trial::new(alloc, machine, &acts(), 2) else {
+    let Some(mut world) = Trial::new(alloc, machine, &round_trip(), 2) else {
         return Err(Fail::new("there is no world"));
     };
     let mut stages = Stages { of: [0; 4] };
@@ -131,8 +118,8 @@ fn alike(alloc: Global, count: u16) -> Result<u16, Fail> {
         return Err(Fail::new("no machine was drawn"));
     };
     let mut plain = machine.copy(alloc)?;
-    Plain.go(&mut plain, &acts())?;
-    let steps = rounds(alloc, 4, &acts(), 2)?.len().saturating_mul(16);
+    Plain.go(&mut plain, &round_trip())?;
+    let steps = rounds(alloc, 4, &round_trip(), 2)?.len().saturating_mul(16);
     let mut draws = Draws::new(5);
     let mut same = 0u16;
     for _order in 0..count {

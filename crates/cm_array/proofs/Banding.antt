@@ -18,6 +18,7 @@ use Rattle.cm_model.specs.Place.{chip_columns, source, opposite, column_of, plac
 use Rattle.cm_model.specs.Chip.{IsPlane, chip_after, processor_at}
 use Rattle.cm_model.specs.Instruction.{flag_output}
 use Rattle.cm_model.specs.Array.{Chips, chip_at, output}
+use Rattle.cm_model.specs.Wiring.{Routing, plain_routing}
 use Rattle.cm_model.specs.Steps.{Instruct}
 use Rattle.cm_model.proofs.Each.{length-each_from, get_or-each_from, get_or-each_below, same_each_below}
 use Rattle.cm_model.proofs.Incoming.{same_chip}
@@ -31,6 +32,7 @@ use Rattle.cm_blocks.proofs.Cutting.{within-from, within-below}
 use Rattle.cm_news.specs.Bands.{AreRows, bits_of, bit_for}
 use Rattle.cm_news.specs.Moves.{at_edge}
 use Rattle.cm_router.specs.Logs.{Log}
+use Rattle.cm_router.specs.Routes.{routing_of}
 use Rattle.cm_petit.specs.Routers.{part_of}
 use Rattle.cm_array.specs.declared.parts.Parts.{Parts}
 use Rattle.cm_array.specs.Cuts.{KeptPart, kept_part, IsKeptPart}
@@ -46,16 +48,16 @@ each-from_other d first count f g same =
     get_or-each_below count f i d below ∙ same i below ∙ sym (get_or-each_from first count g i d below))
 
 -- a band after an instruction, where each chip takes in one bit or another for each processor
-stepped : (n cap first clock : ℕ) (nano : Nano) (parcel : Parcel) (old new : Chips) (buffers : List (List Message))
-    (logs : List Log) (coming : ℕ → ℕ → Bool)
+stepped : (routing : Routing) (n cap first clock : ℕ) (nano : Nano) (parcel : Parcel) (old new : Chips)
+    (buffers : List (List Message)) (logs : List Log) (coming : ℕ → ℕ → Bool)
     → new ≡ each_from 0 (length old) (λ i. chip_after nano (coming i) (chip_at old i))
     → ((i p : ℕ) → i < length old → p < 16
-    → coming i p ≡ incoming_in n nano parcel (part_of first (length old) old buffers logs clock) (first + i) p)
-    → part_of first (length old) new buffers logs clock
-    ≡ part_after n cap (Instruct nano) parcel (part_of first (length old) old buffers logs clock)
+    → coming i p ≡ incoming_in n nano parcel (part_of routing first (length old) old buffers logs clock) (first + i) p)
+    → part_of routing first (length old) new buffers logs clock
+    ≡ part_after n cap (Instruct nano) parcel (part_of routing first (length old) old buffers logs clock)
 unfolding part_after
-stepped n cap first clock nano parcel old new buffers logs coming is same =
-    let s : Part = part_of first (length old) old buffers logs clock in
+stepped routing n cap first clock nano parcel old new buffers logs coming is same =
+    let s : Part = part_of routing first (length old) old buffers logs clock in
     let own : (i : ℕ) → chip_at old i ≡ chip_in s (first + i) =
     λ i. ap (chip_at old) (let e : i ≡ first + i - first = omega arith in e) in
     let chips : new ≡ each_from first (length old) (λ c.
@@ -65,7 +67,7 @@ stepped n cap first clock nano parcel old new buffers logs coming is same =
     (λ i l. same_chip nano (coming i) (incoming_in n nano parcel s (first + i)) (chip_at old i)
     (λ p h takes. same i p l h)
     ∙ ap (chip_after nano (incoming_in n nano parcel s (first + i))) (own i)) in
-    λ t. part_of first (length old) (chips t) buffers logs clock
+    λ t. part_of routing first (length old) (chips t) buffers logs clock
 
 -- over NEWS: the bit that comes in at a place of the band
 over_news : (n first : ℕ) (nano : Nano) (s : Part) (sent edge : List ℕ) (c p : ℕ) → s.first ≡ first
@@ -105,9 +107,9 @@ pub stepped_over_grid : (n : ℕ) (nano : Nano) (old new : Chips) (sent planes e
     → IsPlane (get_or planes i 0) (λ p. bit_for n nano.dir first sent edge (record { chip = first + i; proc = p })))
     → new ≡ each_from 0 (length old) (λ c. chip_after nano (bit (get_or planes c 0)) (chip_at old c))
     → IsStepped n nano edge old new
-stepped_over_grid n nano old new sent planes edge news long are came is cap first clock buffers logs rows fit =
-    let s : Part = part_of first (length old) old buffers logs clock in
-    stepped n cap first clock nano (Edge (bits_of edge)) old new buffers logs (λ i. bit (get_or planes i 0)) is
+stepped_over_grid n nano old new sent planes edge news long are came is routing cap first clock buffers logs rows fit =
+    let s : Part = part_of routing first (length old) old buffers logs clock in
+    stepped routing n cap first clock nano (Edge (bits_of edge)) old new buffers logs (λ i. bit (get_or planes i 0)) is
     (λ i p l h. came first i rows (omega (arith, long, fit)) (omega (arith, long, l)) p h
     ∙ over_news n first nano s sent edge (first + i) p refl long (omega (arith, fit, l)) h
     (λ k q below small. are.each k below q small)
@@ -117,9 +119,10 @@ stepped_over_grid n nano old new sent planes edge news long are came is cap firs
 pub stepped_apart : (n : ℕ) (nano : Nano) (old new : Chips) (edge : List ℕ) → nano.write ≢ 10
     → new ≡ each_from 0 (length old) (λ c. chip_after nano (along_chain nano (chip_at old c)) (chip_at old c))
     → IsStepped n nano edge old new
-stepped_apart n nano old new edge apart is cap first clock buffers logs rows fit =
-    let s : Part = part_of first (length old) old buffers logs clock in
-    stepped n cap first clock nano (Edge (bits_of edge)) old new buffers logs (λ i. along_chain nano (chip_at old i)) is
+stepped_apart n nano old new edge apart is routing cap first clock buffers logs rows fit =
+    let s : Part = part_of routing first (length old) old buffers logs clock in
+    stepped routing n cap first clock nano (Edge (bits_of edge)) old new buffers logs
+    (λ i. along_chain nano (chip_at old i)) is
     (λ i p l h. ap (λ (k : ℕ). along_chain nano (chip_at old k) p) (let e : i ≡ first + i - first = omega arith in e)
     ∙ along_chain_in n nano (Edge (bits_of edge)) s (first + i) p apart)
 
@@ -130,8 +133,8 @@ pub chips_stay : (n : ℕ) (nano : Nano) (edge : List ℕ) (old new : Chips) (fi
     → AreRows n first → first + length old ≤ 2 ^ n → length new ≡ length old
 unfolding part_after
 chips_stay n nano edge old new first is rows fit =
-    let s : Part = part_of first (length old) old [] [] 0 in
-    ap (λ (after : Part). length after.chips) (is 0 first 0 [] [] rows fit)
+    let s : Part = part_of plain_routing first (length old) old [] [] 0 in
+    ap (λ (after : Part). length after.chips) (is plain_routing 0 first 0 [] [] rows fit)
     ∙ length-each_from first (length old)
     (λ c. chip_after nano (incoming_in n nano (Edge (bits_of edge)) s c) (chip_in s c))
 
@@ -153,8 +156,10 @@ module _ (dims room first : ℕ) (parts : Parts) (old : KeptPart) (nano : Nano) 
       (λ t. record {
         dims = dims;
         room = room;
-        part = (ap (λ (n : ℕ). part_of first n run parts.crossing.buffers parts.logs.items parts.clock) as_many
-            ∙ is room first parts.clock parts.crossing.buffers parts.logs.items here.first was.there) t;
+        part = (ap (λ (n : ℕ). part_of (routing_of parts.routing) first n run parts.crossing.buffers parts.logs.items
+            parts.clock) as_many
+            ∙ is (routing_of parts.routing) room first parts.clock parts.crossing.buffers parts.logs.items here.first
+            was.there) t;
         log_rooms = before.log_rooms;
         gathered = before.gathered;
       })
@@ -172,6 +177,7 @@ module _ (dims room first : ℕ) (parts : Parts) (old : KeptPart) (nano : Nano) 
         incoming_count = incoming_count ∙ sym many;
         within = was.within;
         clock = was.clock;
+        cube = was.cube;
       }
 
 -- ---- where nothing comes in from outside

@@ -12,7 +12,6 @@ use Rattle.cm_model.specs.declared.message.Event.{Event}
 use Rattle.cm_model.specs.Processor.{Processor}
 use Rattle.cm_model.specs.Whole.{IsChip}
 use Rattle.cm_model.specs.Array.{Chips, chip_at, list_at}
-use Rattle.cm_model.specs.Wiring.{plain_routing}
 use Rattle.cm_model.specs.Machine.{Machine, blank_machine}
 use Rattle.cm_model.specs.Keeping.{IsMachine, IsMessage, IsEventOf}
 use Rattle.cm_model.specs.Unlogged.{IsUnlogged, standing_messages, has_tag_twice}
@@ -20,6 +19,7 @@ use Rattle.cm_model.proofs.Each.{length-each_from, get_or-each_below}
 use Rattle.cm_model.proofs.Unlogged.{standing-all, none_injected, HasTagsOnce-standing, BornBefore-buffers}
 use Rattle.cm_model.proofs.Blanks.{IsMachine-blank_at}
 use Rattle.cm_element.specs.Near.{with_near}
+use Rattle.cm_router.specs.Routes.{routing_of}
 use Rattle.cm_crossing.specs.Standing.{UnderWay}
 use Rattle.cm_array.specs.declared.parts.Parts.{Parts}
 use Rattle.cm_array.specs.Parts.{machine_of, AreParts}
@@ -62,6 +62,7 @@ AreUnfinished-blank n cap clock parts h is = record {
   sent_count = h.sent_count;
   incoming_count = h.incoming_count;
   clock = h.clock;
+  cube = h.cube;
   machine = subst (λ (m : Machine). IsUnfinished n cap m) (sym is) (IsUnfinished-blank n cap clock);
 }
 
@@ -77,6 +78,7 @@ AreUnfinished-with_chip n cap parts run i chip whole is h = record {
   sent_count = h.sent_count;
   incoming_count = h.incoming_count;
   clock = h.clock;
+  cube = h.cube;
   machine = record {
     chip_count = ap length is ∙ length-set parts.run i chip ∙ h.machine.chip_count;
     buffer_count = h.machine.buffer_count;
@@ -117,6 +119,7 @@ AreUnfinished-with_chips n cap parts run from first inside whole is h =
       sent_count = h.sent_count;
       incoming_count = h.incoming_count;
       clock = h.clock;
+      cube = h.cube;
       machine = record {
         chip_count = ap length is ∙ long ∙ h.machine.chip_count;
         buffer_count = h.machine.buffer_count;
@@ -185,7 +188,7 @@ machine_of-with_message parts i crossing m is =
       buffers = is j;
       logs = (machine_of parts).logs;
       clock = parts.clock;
-      routing = plain_routing;
+      routing = routing_of parts.routing;
     }
 
 pub AreUnfinished-with_message : (n cap : ℕ) (parts : Parts) (i : ℕ) (crossing : UnderWay) (m : Message)
@@ -201,6 +204,7 @@ AreUnfinished-with_message n cap parts i crossing m h below is room message born
   sent_count = h.sent_count;
   incoming_count = h.incoming_count;
   clock = h.clock;
+  cube = h.cube;
   machine = subst (λ (machine : Machine). IsUnfinished n cap machine)
       (sym (machine_of-with_message parts i crossing m is))
       (IsUnfinished-with_message n cap (machine_of parts) i m h.machine below room message born);
@@ -241,6 +245,7 @@ AreParts-finished n cap parts crossing h same gathered apart = record {
   sent_count = h.sent_count;
   incoming_count = h.incoming_count;
   clock = h.clock;
+  cube = h.cube;
   gathered = gathered;
   machine = subst (λ (m : Machine). IsMachine n cap m) (sym (machine_of-gathered parts crossing same))
       (IsMachine-finished n cap (machine_of parts) h.machine apart);

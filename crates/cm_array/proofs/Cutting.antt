@@ -6,9 +6,10 @@ use Rattle.std.proofs.lemmas.List.Elements.{All-from_get_or}
 use Rattle.std.specs.List.{All, slice_range}
 use Rattle.cm_model.specs.declared.message.Message.{Message}
 use Rattle.cm_model.specs.declared.message.Event.{Event}
-use Rattle.cm_model.specs.Wiring.{plain_routing}
 use Rattle.cm_blocks.specs.Parts.{cut, part}
 use Rattle.cm_blocks.proofs.Cutting.{length-cut, read-cut_at}
+use Rattle.cm_router.specs.declared.routing.Routing.{Routing}
+use Rattle.cm_router.specs.Routes.{routing_of}
 use Rattle.cm_router.specs.Logs.{Log}
 use Rattle.cm_petit.specs.Routers.{events_of, part_of}
 use Rattle.cm_array.specs.declared.parts.Parts.{Parts}
@@ -43,6 +44,7 @@ pub record AreCut (first count : ℕ) (old new : Parts) : Type 0 where
   pub sent : length new.sent.items ≡ count
   pub incoming : length new.incoming.items ≡ count
   pub clock : new.clock ≡ old.clock
+  pub routing : new.routing ≡ old.routing
 
 module _ (n cap first count : ℕ) (old new : Parts) (were : AreParts n cap old) (there : first + count ≤ 2 ^ n)
     (are : AreCut first count old new) where
@@ -79,10 +81,11 @@ module _ (n cap first count : ℕ) (old new : Parts) (were : AreParts n cap old)
     incoming_count = are.incoming ∙ sym length-run_cut;
     within = within_cut;
     clock = omega (arith, are.clock, were.clock);
+    cube = ap (λ (r : Routing). r.cuts.dims) are.routing ∙ were.cube;
   }
 
-  pub part_of-cut : part_of first (length new.run) new.run new.crossing.buffers new.logs.items new.clock
-      ≡ part first count (machine_of old)
+  pub part_of-cut : part_of (routing_of new.routing) first (length new.run) new.run new.crossing.buffers
+      new.logs.items new.clock ≡ part first count (machine_of old)
   unfolding part
   part_of-cut = λ i. record {
     first = first;
@@ -91,5 +94,5 @@ module _ (n cap first count : ℕ) (old new : Parts) (were : AreParts n cap old)
     buffers = are.buffers i;
     logs = are.logs i;
     clock = are.clock i;
-    routing = plain_routing;
+    routing = routing_of (are.routing i);
   }

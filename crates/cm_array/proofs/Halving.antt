@@ -8,6 +8,7 @@ use Rattle.cm_model.specs.declared.message.Message.{Message}
 use Rattle.cm_blocks.specs.Parts.{Part}
 use Rattle.cm_blocks.specs.Parcels.{Parcel}
 use Rattle.cm_crossing.specs.Standing.{UnderWay}
+use Rattle.cm_router.specs.Routes.{routing_of}
 use Rattle.cm_petit.specs.Routers.{part_of}
 use Rattle.cm_array.specs.declared.parts.Parts.{Parts}
 use Rattle.cm_array.specs.Cuts.{KeptPart, kept_part, IsKeptPart}
@@ -20,23 +21,23 @@ module _ (dims room first span : ℕ) (parts : Parts) (old : KeptPart) (view : k
 
   -- what a step makes of the part is what it makes of the part that is kept
   pub kept_stepped : (crossing : UnderWay) (step : KeptPart → Part → Part)
-      → part_of first (2 ^ span) parts.run crossing.buffers parts.logs.items parts.clock
+      → part_of (routing_of parts.routing) first (2 ^ span) parts.run crossing.buffers parts.logs.items parts.clock
       ≡ step (kept_part dims room first parts)
-      (part_of first (2 ^ span) parts.run parts.crossing.buffers parts.logs.items parts.clock)
+      (part_of (routing_of parts.routing) first (2 ^ span) parts.run parts.crossing.buffers parts.logs.items parts.clock)
       → kept_part dims room first (record parts { crossing = crossing })
       ≡ record old { part = step old old.part; gathered = crossing.gathered }
   kept_stepped crossing step is =
       let here = kept_part dims room first parts in
+      let made : ℕ → List (List Message) → Part =
+      λ n buffers. part_of (routing_of parts.routing) first n parts.run buffers parts.logs.items parts.clock in
       let long = chips_in_band in
       subst (λ (k : KeptPart). kept_part dims room first (record parts { crossing = crossing })
       ≡ record k { part = step k k.part; gathered = crossing.gathered }) view
       (λ i. record {
         dims = dims;
         room = room;
-        part = (ap (λ (n : ℕ). part_of first n parts.run crossing.buffers parts.logs.items parts.clock) long
-            ∙ is
-            ∙ ap (λ (n : ℕ). step here
-            (part_of first n parts.run parts.crossing.buffers parts.logs.items parts.clock)) (sym long)) i;
+        part = (ap (λ (n : ℕ). made n crossing.buffers) long ∙ is
+            ∙ ap (λ (n : ℕ). step here (made n parts.crossing.buffers)) (sym long)) i;
         log_rooms = here.log_rooms;
         gathered = crossing.gathered;
       })
@@ -44,12 +45,13 @@ module _ (dims room first span : ℕ) (parts : Parts) (old : KeptPart) (view : k
   -- and what it gives of one what it gives of the other
   pub kept_gave : (sent : Parcel) (give : KeptPart → Part → Parcel)
       → sent ≡ give (kept_part dims room first parts)
-      (part_of first (2 ^ span) parts.run parts.crossing.buffers parts.logs.items parts.clock)
+      (part_of (routing_of parts.routing) first (2 ^ span) parts.run parts.crossing.buffers parts.logs.items parts.clock)
       → sent ≡ give old old.part
   kept_gave sent give is =
       let here = kept_part dims room first parts in
-      is ∙ ap (λ (n : ℕ). give here (part_of first n parts.run parts.crossing.buffers parts.logs.items parts.clock))
-      (sym chips_in_band)
+      let made : ℕ → Part =
+      λ n. part_of (routing_of parts.routing) first n parts.run parts.crossing.buffers parts.logs.items parts.clock in
+      is ∙ ap (λ (n : ℕ). give here (made n)) (sym chips_in_band)
       ∙ ap (λ (k : KeptPart). give k k.part) view
 
 -- with other buffers, as many and within the same room, it is a part still
@@ -65,11 +67,8 @@ IsKeptPart-crossed n cap first parts crossing was long within = record {
   incoming_count = was.incoming_count;
   within = within;
   clock = was.clock;
+  cube = was.cube;
 }
-
-pub within_where_space : (cap : ℕ) (buffers : List (List Message)) → All (λ ms. length ms < cap) buffers
-    → All (λ ms. length ms ≤ cap) buffers
-within_where_space cap buffers space = λ k d l. omega (arith, space k d l)
 
 -- chips within a cube span no more dimensions than it has
 pub span_within : (n first span count : ℕ) → first + count ≤ 2 ^ n → count ≡ 2 ^ span → span ≤ n

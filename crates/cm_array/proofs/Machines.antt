@@ -25,6 +25,8 @@ use Rattle.cm_model.proofs.Blanks.{IsMachine-blank_at}
 use Rattle.cm_model.proofs.Keeping.{IsMachine-after_act, IsMachine-run_of}
 use Rattle.cm_model.proofs.Runs.{run_of-nil, run_of-cons}
 use Rattle.cm_crossing.specs.Standing.{UnderWay}
+use Rattle.cm_router.specs.declared.routing.Routing.{Routing}
+use Rattle.cm_router.specs.Routes.{routing_of}
 use Rattle.cm_router.specs.Logs.{Log}
 use Rattle.cm_petit.specs.Routers.{events_of, AreRouters}
 use Rattle.cm_array.specs.declared.parts.Parts.{Parts}
@@ -63,6 +65,7 @@ AreUnderWay-parts n cap parts h = record {
   sent_count = h.sent_count;
   incoming_count = h.incoming_count;
   clock = h.clock;
+  cube = h.cube;
   machine = h.machine;
 }
 
@@ -75,7 +78,7 @@ machine_of-gathered parts crossing same =
       buffers = same i;
       logs = events_of parts.logs.items;
       clock = parts.clock;
-      routing = plain_routing;
+      routing = routing_of parts.routing;
     }
 
 pub AreParts-gathered : (n cap : ℕ) (parts : Parts) (crossing : UnderWay) → crossing.buffers ≡ parts.crossing.buffers
@@ -88,6 +91,7 @@ AreParts-gathered n cap parts crossing same gathered h = record {
   sent_count = h.sent_count;
   incoming_count = h.incoming_count;
   clock = h.clock;
+  cube = h.cube;
   gathered = gathered;
   machine = subst (λ (m : Machine). IsMachine n cap m) (sym (machine_of-gathered parts crossing same)) h.machine;
 }
@@ -96,14 +100,15 @@ AreParts-gathered n cap parts crossing same gathered h = record {
 pub AreUnderWay-after_act : (n cap : ℕ) (a : Act) (before after : Parts) → AreUnderWay n cap before
     → machine_of after ≡ after_act n cap (machine_of before) a
     → length after.sent.items ≡ length before.sent.items → length after.incoming.items ≡ length before.incoming.items
-    → after.clock < 2 ^ 63 → AreUnderWay n cap after
-AreUnderWay-after_act n cap a before after h is same_sent same_incoming clock = record {
+    → after.routing ≡ before.routing → after.clock < 2 ^ 63 → AreUnderWay n cap after
+AreUnderWay-after_act n cap a before after h is same_sent same_incoming routing clock = record {
   dimension = h.dimension;
   some_room = h.some_room;
   most_room = h.most_room;
   sent_count = same_sent ∙ h.sent_count;
   incoming_count = same_incoming ∙ h.incoming_count;
   clock = clock;
+  cube = ap (λ (r : Routing). r.cuts.dims) routing ∙ h.cube;
   machine = subst (λ (m : Machine). IsMachine n cap m) (sym is)
       (IsMachine-after_act n cap (machine_of before) a h.machine);
 }
@@ -112,17 +117,18 @@ AreUnderWay-after_act n cap a before after h is same_sent same_incoming clock = 
 pub AreUnderWay-instructed : (n cap : ℕ) (nano : Nano) (before after : Parts) → AreUnderWay n cap before
     → after.run ≡ after_nano n nano before.run
     → after.logs ≡ before.logs → after.clock ≡ before.clock → length after.sent.items ≡ 2 ^ n
-    → length after.incoming.items ≡ 2 ^ n → after.crossing ≡ before.crossing → AreUnderWay n cap after
-AreUnderWay-instructed n cap nano before after h chips logs clock sent incoming crossing =
+    → length after.incoming.items ≡ 2 ^ n → after.crossing ≡ before.crossing → after.routing ≡ before.routing
+    → AreUnderWay n cap after
+AreUnderWay-instructed n cap nano before after h chips logs clock sent incoming crossing routing =
     AreUnderWay-after_act n cap (act.Nano nano) before after h
     (λ i. record {
       chips = chips i;
       buffers = (crossing i).buffers;
       logs = events_of (logs i).items;
       clock = clock i;
-      routing = plain_routing;
+      routing = routing_of (routing i);
     })
-    (sent ∙ sym h.sent_count) (incoming ∙ sym h.incoming_count) (omega (arith, clock, h.clock))
+    (sent ∙ sym h.sent_count) (incoming ∙ sym h.incoming_count) routing (omega (arith, clock, h.clock))
 
 -- where the counter alone is another after acts, they are the parts of a machine still
 pub AreParts-counted : (n cap : ℕ) (acts : List Act) (parts : Parts) (clock : ℕ) → AreParts n cap parts
@@ -135,6 +141,7 @@ AreParts-counted n cap acts parts clock h is few = record {
   sent_count = h.sent_count;
   incoming_count = h.incoming_count;
   clock = few;
+  cube = h.cube;
   gathered = h.gathered;
   machine = subst (λ (m : Machine). IsMachine n cap m) (sym is)
       (IsMachine-run_of n cap (machine_of parts) acts h.machine);
@@ -202,9 +209,9 @@ AreOf-parts n cap parts machine buffers logs h view same_buffers same_logs = rec
 -- blank parts are the blank machine, at whatever count of petit cycles
 pub machine_of-blank : (n count : ℕ) (parts : Parts) → count ≡ 2 ^ n → parts.run ≡ each_from 0 count (λ c. blank_chip)
     → parts.crossing.buffers ≡ each_from 0 count (λ c. []) → events_of parts.logs.items ≡ each_from 0 count (λ c. [])
-    → machine_of parts ≡ record (blank_machine n) { clock = parts.clock }
+    → routing_of parts.routing ≡ plain_routing → machine_of parts ≡ record (blank_machine n) { clock = parts.clock }
 unfolding blank_machine
-machine_of-blank n count parts all chips buffers logs =
+machine_of-blank n count parts all chips buffers logs plain =
     let all_chips : parts.run ≡ each_from 0 (2 ^ n) (λ c. blank_chip) = chips
     ∙ ap (λ (k : ℕ). each_from 0 k (λ c. blank_chip)) all in
     let all_buffers : parts.crossing.buffers ≡ each_from 0 (2 ^ n) (λ c. []) = buffers
@@ -216,7 +223,7 @@ machine_of-blank n count parts all chips buffers logs =
       buffers = all_buffers i;
       logs = all_logs i;
       clock = parts.clock;
-      routing = plain_routing;
+      routing = plain i;
     }
 
 -- they are the parts of a machine
@@ -224,17 +231,18 @@ pub AreParts-blank : (n cap count : ℕ) (parts : Parts) → n ≤ 12 → 1 ≤ 
     → parts.run ≡ each_from 0 count (λ c. blank_chip)
     → parts.crossing.buffers ≡ each_from 0 count (λ c. []) → events_of parts.logs.items ≡ each_from 0 count (λ c. [])
     → length parts.sent.items ≡ count → length parts.incoming.items ≡ count → IsTrue parts.crossing.gathered
-    → parts.clock < 2 ^ 63 → AreParts n cap parts
-AreParts-blank n cap count parts few some most all chips buffers logs same_sent same_incoming gathered clock = record {
+    → parts.clock < 2 ^ 63 → parts.routing.cuts.dims ≡ n → routing_of parts.routing ≡ plain_routing → AreParts n cap parts
+AreParts-blank n cap count parts few some most all chips buffers logs same_sent same_incoming gathered clock cube plain = record {
   dimension = few;
   some_room = some;
   most_room = most;
   sent_count = same_sent ∙ all;
   incoming_count = same_incoming ∙ all;
   clock = clock;
+  cube = cube;
   gathered = gathered;
-  machine = subst (λ (m : Machine). IsMachine n cap m) (sym (machine_of-blank n count parts all chips buffers logs))
-      (IsMachine-blank_at n cap parts.clock);
+  machine = subst (λ (m : Machine). IsMachine n cap m)
+      (sym (machine_of-blank n count parts all chips buffers logs plain)) (IsMachine-blank_at n cap parts.clock);
 }
 
 -- the blank machine counts from 0
@@ -252,6 +260,7 @@ AreParts-with_chip n cap parts run i chip whole is h = record {
   sent_count = h.sent_count;
   incoming_count = h.incoming_count;
   clock = h.clock;
+  cube = h.cube;
   gathered = h.gathered;
   machine = subst (λ (chips : Chips). IsMachine n cap (record (machine_of parts) { chips = chips })) (sym is)
       (IsMachine-with_chip n cap (machine_of parts) i chip whole h.machine);
@@ -272,9 +281,9 @@ AreParts-poked_flag (Err y) n cap parts run i p number b below refused ok err h 
 -- a copy of the parts of a machine, with working room of its own, are the parts of a machine
 pub AreParts-copied : (n cap count : ℕ) (parts copy : Parts) → AreParts n cap parts → count ≡ length parts.run
     → copy.run ≡ parts.run → copy.crossing ≡ parts.crossing → events_of copy.logs.items ≡ events_of parts.logs.items
-    → copy.clock ≡ parts.clock
-    → length copy.sent.items ≡ count → length copy.incoming.items ≡ count → AreParts n cap copy
-AreParts-copied n cap count parts copy h counted chips crossing logs clock sent incoming =
+    → copy.clock ≡ parts.clock → length copy.sent.items ≡ count → length copy.incoming.items ≡ count
+    → copy.routing ≡ parts.routing → AreParts n cap copy
+AreParts-copied n cap count parts copy h counted chips crossing logs clock sent incoming routing =
     let all : count ≡ 2 ^ n = counted ∙ h.machine.chip_count in
     record {
       dimension = h.dimension;
@@ -283,6 +292,7 @@ AreParts-copied n cap count parts copy h counted chips crossing logs clock sent 
       sent_count = sent ∙ all;
       incoming_count = incoming ∙ all;
       clock = omega (arith, clock, h.clock);
+      cube = ap (λ (r : Routing). r.cuts.dims) routing ∙ h.cube;
       gathered = subst (λ (u : UnderWay). IsTrue u.gathered) (sym crossing) h.gathered;
       machine = subst (λ (m : Machine). IsMachine n cap m)
           (λ i. record {
@@ -290,7 +300,7 @@ AreParts-copied n cap count parts copy h counted chips crossing logs clock sent 
             buffers = (sym crossing i).buffers;
             logs = sym logs i;
             clock = sym clock i;
-            routing = plain_routing;
+            routing = routing_of (sym routing i);
           })
           h.machine;
     }

@@ -1,5 +1,5 @@
 -- Parts that are put together, one after another.
-use Rattle.std.proofs.Common.{◌≡◌, ℕ, zero, suc, ◌+◌, ◌-◌, ◌<◌, ◌≤◌, ◌^◌, List, [], ◌∷◌, ◌++◌, length, get_or, take, map}
+use Rattle.std.proofs.Common.{◌≡◌, ℕ, ◌+◌, ◌-◌, ◌<◌, ◌≤◌, ◌^◌, List, [], ◌∷◌, ◌++◌, length, get_or, take, map}
 use Rattle.std.proofs.Common.{refl, sym, ap}
 use Rattle.std.proofs.Common.{◌∙◌, subst, arith, ⊎_elim, ext_get_or}
 use Rattle.std.proofs.lemmas.Bool.{cases_lt}
@@ -10,13 +10,12 @@ use Rattle.std.proofs.lemmas.Grind.{flat_map-append}
 use Rattle.std.specs.List.{flat_map}
 use Rattle.cm_model.specs.Array.{list_at}
 use Rattle.std.specs.Prelude.{IsTrue}
-use Rattle.cm_model.specs.Wiring.{Routing}
 use Rattle.cm_model.specs.Machine.{Machine}
 use Rattle.cm_model.specs.Keeping.{IsMachine}
 use Rattle.cm_blocks.specs.Parts.{Part}
 use Rattle.cm_array.specs.declared.parts.Parts.{Parts}
 use Rattle.cm_array.specs.Parts.{machine_of, AreParts}
-use Rattle.cm_array.specs.Cuts.{KeptPart, first_routing, IsLaid, AreAsMany}
+use Rattle.cm_array.specs.Cuts.{KeptPart, IsLaid, AreAsMany}
 use Rattle.cm_array.proofs.Machines.{few_chips, length-logs, AreUnderWay-parts}
 use Rattle.std.proofs.lemmas.Nat.{pow_pos}
 
@@ -92,13 +91,6 @@ pub some_put : {A X : Type 0} (lists_of : A → List (List X)) (pieces : List A)
 some_put lists_of [] j at now all long some = absurd (omega (arith, long, some))
 some_put lists_of (s ∷ rest) j at now all long some = omega (arith, all)
 
--- how the first of them routes is how all do that were put so far
-pub next_routing : (parts : List Part) (j : ℕ) (s : Part) (plain : Routing) → j < length parts → s ≡ get_or parts j s
-    → s.routing ≡ plain → (0 < j → first_routing parts ≡ plain) → first_routing parts ≡ plain
-next_routing [] j s plain l is own were = absurd (omega (arith, l))
-next_routing (first ∷ rest) zero s plain l is own were = ap (λ (x : Part). x.routing) (sym is) ∙ own
-next_routing (first ∷ rest) (suc j) s plain l is own were = were (omega arith)
-
 -- ---- into a machine
 
 -- a whole machine has as many of all as another
@@ -120,14 +112,15 @@ most_chips n cap parts h = omega (arith, h.machine.chip_count, few_chips n h.dim
 pub AreParts-put : (n cap : ℕ) (old new : Parts) (machine : Machine) → AreParts n cap old → IsMachine n cap machine
     → machine_of new ≡ machine → IsTrue new.crossing.gathered
     → length new.sent.items ≡ length old.sent.items → length new.incoming.items ≡ length old.incoming.items
-    → new.clock < 2 ^ 63 → AreParts n cap new
-AreParts-put n cap old new machine were is same gathered sent incoming clock = record {
+    → new.clock < 2 ^ 63 → new.routing.cuts.dims ≡ n → AreParts n cap new
+AreParts-put n cap old new machine were is same gathered sent incoming clock cube = record {
   dimension = were.dimension;
   some_room = were.some_room;
   most_room = were.most_room;
   sent_count = sent ∙ were.sent_count;
   incoming_count = incoming ∙ were.incoming_count;
   clock = clock;
+  cube = cube;
   gathered = gathered;
   machine = subst (λ (m : Machine). IsMachine n cap m) (sym same) is;
 }

@@ -7,6 +7,7 @@ use Rattle.cm_model.specs.declared.act.Nano.{Nano}
 use Rattle.cm_model.specs.declared.message.Message.{Message}
 use Rattle.cm_model.specs.Processor.{NEWS}
 use Rattle.cm_model.specs.Array.{Chips}
+use Rattle.cm_model.specs.Wiring.{Routing}
 use Rattle.cm_model.specs.Steps.{Instruct}
 use Rattle.cm_blocks.specs.Parts.{Part}
 use Rattle.cm_blocks.specs.Parcels.{Edge}
@@ -32,11 +33,12 @@ IsAlone n s nano = nano.write ≡ NEWS → IsTrue (is_vertical nano.dir) → s.c
 
 -- the chips of a band after an instruction, wherever it begins, when these bits come in over its edge
 abbrev pub IsStepped : ℕ → Nano → List ℕ → Chips → Chips → Type 0
-IsStepped n nano edge old new = (cap first clock : ℕ) (buffers : List (List Message)) (logs : List Log)
+IsStepped n nano edge old new =
+    (routing : Routing) (cap first clock : ℕ) (buffers : List (List Message)) (logs : List Log)
     → AreRows n first
     → first + length old ≤ 2 ^ n
-    → part_of first (length old) new buffers logs clock
-    ≡ part_after n cap (Instruct nano) (Edge (bits_of edge)) (part_of first (length old) old buffers logs clock)
+    → part_of routing first (length old) new buffers logs clock
+    ≡ part_after n cap (Instruct nano) (Edge (bits_of edge)) (part_of routing first (length old) old buffers logs clock)
 
 -- of the planes of a band's chips, where the row of chips at an edge begins
 abbrev pub edge_from : Dir → ℕ → ℕ → ℕ

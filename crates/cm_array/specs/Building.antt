@@ -29,4 +29,5 @@ pub record AreUnfinished (n cap : ℕ) (parts : Parts) : Type 0 where
   pub sent_count : length parts.sent.items ≡ 2 ^ n
   pub incoming_count : length parts.incoming.items ≡ 2 ^ n
   pub clock : parts.clock < 2 ^ 63
+  pub cube : parts.routing.cuts.dims ≡ n
   pub machine : IsUnfinished n cap (machine_of parts)

@@ -9,6 +9,7 @@ use Rattle.cm_blocks.specs.Parts.{Part}
 use Rattle.cm_petit.specs.Routers.{part_of}
 use Rattle.cm_array.specs.declared.parts.Parts.{Parts}
 use Rattle.cm_router.specs.Logs.{log_rooms_of}
+use Rattle.cm_router.specs.Routes.{routing_of}
 
 -- what contracts see of a part
 pub record KeptPart : Type 0 where
@@ -26,7 +27,8 @@ abbrev pub kept_part : ℕ → ℕ → ℕ → Parts → KeptPart
 kept_part dims room first parts = record {
   dims = dims;
   room = room;
-  part = part_of first (length parts.run) parts.run parts.crossing.buffers parts.logs.items parts.clock;
+  part = part_of (routing_of parts.routing) first (length parts.run) parts.run parts.crossing.buffers parts.logs.items
+      parts.clock;
   log_rooms = log_rooms_of parts.logs.items;
   gathered = parts.crossing.gathered;
 }
@@ -41,6 +43,7 @@ pub record IsKeptPart (n cap first : ℕ) (parts : Parts) : Type 0 where
   pub incoming_count : length parts.incoming.items ≡ length parts.run
   pub within : All (λ ms. length ms ≤ cap) parts.crossing.buffers
   pub clock : parts.clock < 2 ^ 63
+  pub cube : parts.routing.cuts.dims ≡ n
 
 -- ---- parts one after another
 
@@ -68,10 +71,15 @@ joined parts = record {
 abbrev pub AreOfOneClock : List Part → Type 0
 AreOfOneClock parts = All (λ s. s.clock ≡ first_clock parts) parts
 
+-- and all route alike
+abbrev pub AreOfOneRouting : List Part → Type 0
+AreOfOneRouting parts = All (λ s. s.routing ≡ first_routing parts) parts
+
 -- they are a whole machine
 pub record AreWhole (n cap : ℕ) (parts : List Part) : Type 0 where
   pub machine : IsMachine n cap (joined parts)
   pub clock : AreOfOneClock parts
+  pub routing : AreOfOneRouting parts
 
 -- what is kept has as many chips, buffers and logs as a machine
 pub record AreAsMany (parts : Parts) (machine : Machine) : Type 0 where

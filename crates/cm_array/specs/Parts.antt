@@ -2,13 +2,15 @@
 use Rattle.std.specs.Prelude.{◌≡◌, ℕ, ◌<◌, ◌≤◌, ◌^◌, IsTrue, List, length, slice_index}
 use Rattle.cm_model.specs.Machine.{Machine}
 use Rattle.cm_model.specs.Keeping.{IsMachine}
+use Rattle.cm_router.specs.Routes.{routing_of}
 use Rattle.cm_router.specs.Logs.{log_rooms_of}
 use Rattle.cm_petit.specs.Routers.{machine_of as machine_from}
 use Rattle.cm_array.specs.declared.parts.Parts.{Parts}
 
 -- the machine that the parts are
 abbrev pub machine_of : Parts → Machine
-machine_of parts = machine_from parts.run parts.crossing.buffers parts.logs.items parts.clock
+machine_of parts =
+    machine_from (routing_of parts.routing) parts.run parts.crossing.buffers parts.logs.items parts.clock
 
 -- a machine, and by chip how many events more its log takes before it has to grow
 pub record Kept : Type 0 where
@@ -34,6 +36,7 @@ pub record AreUnderWay (n cap : ℕ) (parts : Parts) : Type 0 where
   pub sent_count : length parts.sent.items ≡ 2 ^ n
   pub incoming_count : length parts.incoming.items ≡ 2 ^ n
   pub clock : parts.clock < 2 ^ 63
+  pub cube : parts.routing.cuts.dims ≡ n
   pub machine : IsMachine n cap (machine_of parts)
 
 -- the same between two lists of acts, when they are gathered, so that they can be read
@@ -44,5 +47,6 @@ pub record AreParts (n cap : ℕ) (parts : Parts) : Type 0 where
   pub sent_count : length parts.sent.items ≡ 2 ^ n
   pub incoming_count : length parts.incoming.items ≡ 2 ^ n
   pub clock : parts.clock < 2 ^ 63
+  pub cube : parts.routing.cuts.dims ≡ n
   pub gathered : IsTrue parts.crossing.gathered
   pub machine : IsMachine n cap (machine_of parts)

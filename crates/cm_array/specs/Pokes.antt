@@ -1,12 +1,15 @@
--- A machine with one bit or one plane changed, or with one message more: ours.
+-- A machine with one bit or one plane changed, with one message more, or that routes otherwise: ours.
 use Rattle.std.specs.Prelude.{ℕ, Bool, [], ◌∷◌, ◌++◌, slice_set}
 use Rattle.cm_bits.specs.Bit.{bit}
 use Rattle.cm_model.specs.declared.message.Message.{Message}
 use Rattle.cm_model.specs.Chip.{with_memory_bit, with_flag}
 use Rattle.cm_model.specs.Array.{Chips, chip_at, list_at}
 use Rattle.cm_model.specs.Machine.{Machine}
+use Rattle.cm_bits.specs.Wire.{Wire}
+use Rattle.cm_model.specs.declared.rule.Rule.{Rule}
 use Rattle.cm_element.specs.Near.{with_near}
 use Rattle.cm_element.specs.Wide.{with_memory_plane, with_flag_plane}
+use Rattle.cm_router.specs.Cuts.{with_wire}
 
 -- the machine with another bit at an address of a processor of a chip
 abbrev pub machine_with_memory_bit : Machine → ℕ → ℕ → ℕ → Bool → Machine
@@ -38,3 +41,12 @@ machine_with_chips machine first chips = record machine { chips = with_near mach
 abbrev pub machine_with_message : Machine → ℕ → Message → Machine
 machine_with_message machine c m =
     record machine { buffers = slice_set machine.buffers c (list_at machine.buffers c ++ m ∷ []) }
+
+-- the machine with this wire cut too
+abbrev pub machine_with_cut : Machine → Wire → Machine
+machine_with_cut machine w =
+    record machine { routing = record machine.routing { cuts = with_wire w machine.routing.cuts } }
+
+-- the machine whose routers choose by this rule
+abbrev pub machine_with_rule : Machine → Rule → Machine
+machine_with_rule machine rule = record machine { routing = record machine.routing { rule = rule } }

@@ -9,15 +9,16 @@ ghost use Rattle.cm_model.specs.Keeping.{IsMessage, AreSizes};
 ghost use Rattle.cm_element.specs.Runs.{chips_beside};
 ghost use Rattle.cm_array.specs.Faults.{size_fault, build_fault};
 ghost use Rattle.cm_array.specs.Pokes.{machine_with_plane, machine_with_flag_plane, machine_with_chips};
-ghost use Rattle.cm_array.specs.Pokes.{machine_with_message};
+ghost use Rattle.cm_array.specs.Pokes.{machine_with_message, machine_with_cut, machine_with_rule};
 
 use crate::machine::{Machine, MachineFault};
 use crate::parts::Parts;
 use crate::tags::has_tag_twice;
-use cm_bits::{Addr, FlagNo, NoMemory, Plane};
+use cm_bits::{Addr, Edge, FlagNo, NoMemory, Plane};
 use cm_crossing::Crossing;
 use cm_element::NearRun;
 use cm_message::{Event, Message};
+use cm_router::{Routing, Rule};
 use std::alloc::Global;
 use std::marker::Model;
 use thiserror::Error;
@@ -54,6 +55,7 @@ pub struct Builder<const N: usize, const CAP: usize> {
     sent: Vec<Plane>,
     incoming: Vec<Plane>,
     crossing: Crossing,
+    routing: Routing,
 }
 
 impl<const N: usize, const CAP: usize> Model for Builder<N, CAP> {
@@ -70,6 +72,7 @@ impl<const N: usize, const CAP: usize> Model for Builder<N, CAP> {
       sent = builder.sent;
       incoming = builder.incoming;
       crossing = builder.crossing;
+      routing = builder.routing;
     }) };
 
     ghost invariant = { λ builder. AreUnfinished N CAP (record {
@@ -79,11 +82,12 @@ impl<const N: usize, const CAP: usize> Model for Builder<N, CAP> {
       sent = builder.sent;
       incoming = builder.incoming;
       crossing = builder.crossing;
+      routing = builder.routing;
     }) };
 }
 
 impl<const N: usize, const CAP: usize> Builder<N, CAP> {
-    /// Begins with all bits and flags 0 and no message, at this count of petit cycles.
+    /// Begins with all bits and flags 0, no message and no wire cut, at this count of petit cycles.
     pub fn start(alloc: Global, clock: u64) -> Result<Self, MachineFault>
         requires clock { clock < 2 ^ 63 }
         ensures value { IfOk result (λ built. built ≡ record (blank_machine N) { clock = clock }) }
@@ -101,6 +105,7 @@ impl<const N: usize, const CAP: usize> Builder<N, CAP> {
             sent: parts.sent,
             incoming: parts.incoming,
             crossing: parts.crossing,
+            routing: parts.routing,
         })
     }
 
@@ -118,6 +123,23 @@ impl<const N: usize, const CAP: usize> Builder<N, CAP> {
         ensures value { IsTrue result ↔ (CAP ≤ length (list_at self.now.buffers chip)) }
     {
         self.crossing.len(usize::from(chip)) >= CAP
+    }
+
+    /// Cuts a wire: nobody crosses it then, in either direction.
+    pub fn cut(&mut self, edge: Edge)
+        requires chip { edge.chip < 2 ^ N }
+        requires dim { edge.dim < N }
+        ensures value { self.new ≡ machine_with_cut self.old edge }
+    {
+        self.routing.cuts.add(edge);
+        let _dims = self.routing.cuts.dims();
+    }
+
+    /// Has the routers choose by a rule.
+    pub fn rule(&mut self, rule: Rule)
+        ensures value { self.new ≡ machine_with_rule self.old rule }
+    {
+        self.routing.rule = rule;
     }
 
     /// Puts a plane at an address of a chip: bit p is that of processor p.
@@ -175,6 +197,7 @@ impl<const N: usize, const CAP: usize> Builder<N, CAP> {
             sent: self.sent,
             incoming: self.incoming,
             crossing: self.crossing,
+            routing: self.routing,
         };
         parts.crossing.gather();
         let alloc = *parts.logs.allocator();

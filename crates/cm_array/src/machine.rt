@@ -5,7 +5,7 @@ ghost use Rattle.std.specs.Prelude.{IsOkUnless, IsTrue, OnOk, OnErr, None, false
 ghost use Rattle.cm_model.specs.Processor.{ZERO, memory_bit};
 ghost use Rattle.cm_model.specs.Chip.{IsPlane, processor_at};
 ghost use Rattle.cm_model.specs.Array.{chip_at, wire, list_at};
-ghost use Rattle.cm_model.specs.Wiring.{plain_routing};
+ghost use Rattle.cm_model.specs.Wiring.{is_cut};
 ghost use Rattle.cm_model.specs.Machine.{blank_machine, run_of};
 ghost use Rattle.cm_model.specs.Found.{found_in, IsWhereabouts};
 ghost use Rattle.cm_model.specs.Keeping.{IsMachine, AreSizes};
@@ -13,6 +13,7 @@ ghost use Rattle.cm_element.specs.Laid.{AreLaid};
 ghost use Rattle.cm_blocks.specs.Parts.{part};
 ghost use Rattle.cm_array.specs.Acts.{cycles_in};
 ghost use Rattle.cm_router.specs.Logs.{HaveLogRoom};
+ghost use Rattle.cm_router.specs.Routes.{routing_of};
 ghost use Rattle.cm_array.specs.Cuts.{joined, AreWhole};
 ghost use Rattle.cm_array.specs.Behind.{unlogged, behind, TakeIn};
 ghost use Rattle.cm_array.specs.Faults.{size_fault};
@@ -29,6 +30,7 @@ use cm_crossing::{Crossing, Sizes};
 use cm_element::{ChipView, Run, ZeroFlag};
 use cm_message::{Event, Message, Tag};
 use cm_model::{Act, Found};
+use cm_router::{Routing, Rule};
 use std::alloc::Global;
 use std::marker::Model;
 use std::mem;
@@ -112,6 +114,7 @@ impl<const N: usize, const CAP: usize> Machine<N, CAP> {
         let sent = blank_planes(alloc, count)?;
         let incoming = blank_planes(alloc, count)?;
         let crossing = Crossing::new(alloc, count)?;
+        let routing = Routing::plain(alloc, N as u8)?;
         Ok(Machine {
             parts: Parts {
                 run,
@@ -120,6 +123,7 @@ impl<const N: usize, const CAP: usize> Machine<N, CAP> {
                 sent,
                 incoming,
                 crossing,
+                routing,
             },
         })
     }
@@ -150,6 +154,7 @@ impl<const N: usize, const CAP: usize> Machine<N, CAP> {
         let sent = blank_planes(alloc, count)?;
         let incoming = blank_planes(alloc, count)?;
         let crossing = self.parts.crossing.copy(alloc)?;
+        let routing = self.parts.routing.copy()?;
         Ok(Machine {
             parts: Parts {
                 run,
@@ -158,6 +163,7 @@ impl<const N: usize, const CAP: usize> Machine<N, CAP> {
                 sent,
                 incoming,
                 crossing,
+                routing,
             },
         })
     }
@@ -296,9 +302,33 @@ impl<const N: usize, const CAP: usize> Machine<N, CAP> {
         ensures within { result < 2 ^ 63 }
         ensures sizes { AreSizes N CAP }
         ensures whole { IsMachine N CAP self.now.machine }
-        ensures plain { self.now.machine.routing ≡ plain_routing }
     {
         self.parts.clock
+    }
+
+    /// Whether a chip's wire over a dimension is cut: nobody crosses it then, in either direction.
+    pub fn cut(&self, chip: u16, dim: u8) -> bool
+        requires chip { chip < 2 ^ N }
+        requires dim { dim < N }
+        ensures value { result ≡ is_cut self.now.machine.routing chip dim }
+    {
+        self.parts.routing.cuts.has(chip, dim)
+    }
+
+    /// By which rule its routers choose who leaves.
+    pub fn rule(&self) -> Rule
+        ensures value { result ≡ self.now.machine.routing.rule }
+    {
+        self.parts.routing.rule
+    }
+
+    /// How its messages go: which wires are cut, and the rule.
+    pub fn routing(&self) -> &Routing
+        ensures value { routing_of result.now ≡ self.now.machine.routing }
+        ensures cube { result.now.cuts.dims ≡ N }
+        ensures whole { IsMachine N CAP self.now.machine }
+    {
+        &self.parts.routing
     }
 
     /// Where the message of a tag is: in a router, or else delivered, or else nowhere.

@@ -1,10 +1,11 @@
 //! Parts of a machine: some of its chips, one after another, with what stands at them.
 
 ghost use Rattle.std.specs.Prelude.{◌≡◌, ℕ, ◌+◌, ◌<◌, ◌≤◌, ◌^◌, ◌++◌, [], true, None, IfOk, IsTrue, length};
-ghost use Rattle.std.specs.Prelude.{slice_set};
+ghost use Rattle.std.specs.Prelude.{◌⊎◌, false, slice_index_or, slice_set};
 ghost use Rattle.std.specs.List.{All};
 ghost use Rattle.cm_model.specs.Array.{list_at};
 ghost use Rattle.cm_model.specs.Keeping.{AreSizes};
+ghost use Rattle.cm_model.specs.Wiring.{is_cut};
 ghost use Rattle.cm_model.specs.Steps.{Cross};
 ghost use Rattle.cm_blocks.specs.Parcels.{Mail, due};
 ghost use Rattle.cm_blocks.specs.Steps.{less, absorbed};
@@ -22,7 +23,7 @@ use cm_petit::{leave, take_in};
 use std::alloc::Global;
 use std::marker::Model;
 
-/// Some chips of a machine, one after another by number, with their buffers and logs, the counter, and
+/// Some chips of a machine, one after another by number, with their buffers and logs, the counter, how messages go, and
 /// the working room to go on by themselves.
 ///
 /// Contracts see of which cube they are, the part, how many events more each log takes before it has to
@@ -76,6 +77,7 @@ impl Part {
         let sent = blank_planes(alloc, chips)?;
         let incoming = blank_planes(alloc, chips)?;
         let crossing = copied_buffers(alloc, &parts.crossing, at, chips)?;
+        let routing = parts.routing.copy()?;
         Ok(Part {
             dims: sizes.dims,
             room: sizes.room,
@@ -87,6 +89,7 @@ impl Part {
                 sent,
                 incoming,
                 crossing,
+                routing,
             },
         })
     }
@@ -170,14 +173,23 @@ impl Part {
           gathered = self.new.gathered;
         } }
         ensures going { Mail leavers.new ≡ due self.old.dims self.old.room (Cross dim) self.old.part }
-        ensures space { All (λ ms. length ms < self.new.room) self.new.part.buffers }
+        ensures space { (c : ℕ) → c < 2 ^ span
+            → is_cut self.old.part.routing (self.old.part.first + c) dim ≡ false
+            → length (list_at self.new.part.buffers c) < self.new.room }
     {
         let sizes = Sizes {
             dims: self.dims,
             span,
             room: self.room,
         };
-        leave(sizes, &mut self.parts.crossing, dim, leavers);
+        leave(
+            sizes,
+            &self.parts.routing,
+            self.first,
+            &mut self.parts.crossing,
+            dim,
+            leavers,
+        );
     }
 
     /// The second half: each chip takes in what was written down for it, behind all that stand there. Nothing is
@@ -185,7 +197,8 @@ impl Part {
     pub fn take_in(&mut self, span: u8, leavers: &mut [Option<Message>])
         requires band { self.old.part.count ≡ 2 ^ span }
         requires lanes { length leavers.old ≡ 2 ^ span }
-        requires space { All (λ ms. length ms < self.old.room) self.old.part.buffers }
+        requires space { (c : ℕ) → c < 2 ^ span → (slice_index_or leavers.old c None ≡ None)
+            ⊎ (length (list_at self.old.part.buffers c) < self.old.room) }
         ensures value { (dim : ℕ) → self.new ≡ record self.old {
           part = absorbed self.old.dims self.old.room (Cross dim) (Mail leavers.old) self.old.part;
           gathered = self.new.gathered;

@@ -20,6 +20,7 @@ use cm_element::Run;
 use cm_message::Event;
 use cm_model::{Act, Nano};
 use cm_petit::{cycle, is_at_rest};
+use cm_router::Routing;
 use std::alloc::Global;
 
 /// What a machine keeps, and the working room of instructions and petit cycles, so that these take no
@@ -38,6 +39,8 @@ pub(crate) struct Parts {
     pub(crate) incoming: Vec<Plane>,
     /// By chip, the messages that stand in its router; between two lists of acts they are gathered.
     pub(crate) crossing: Crossing,
+    /// Which wires are cut, and by which rule routers choose: no act changes it.
+    pub(crate) routing: Routing,
 }
 
 /// Runs acts one after another, in a whole machine of these sizes, and gathers the messages then.
@@ -72,6 +75,7 @@ fn run_one(sizes: Sizes, parts: &mut Parts, act: &Act)
         Act::Sense => {}
         Act::Cycle => cycle(
             sizes,
+            &parts.routing,
             &mut parts.run,
             &mut parts.crossing,
             &mut parts.logs,
@@ -92,6 +96,7 @@ fn instruct(dims: u8, parts: &mut Parts, nano: &Nano)
     ensures sent_count { length parts.new.sent.items ≡ 2 ^ dims }
     ensures incoming_count { length parts.new.incoming.items ≡ 2 ^ dims }
     ensures crossing { parts.new.crossing ≡ parts.old.crossing }
+    ensures routing { parts.new.routing ≡ parts.old.routing }
 {
     step(
         dims,

@@ -1,15 +1,18 @@
 //! Parts that are put together: they become a machine in their order.
 
 ghost use Rattle.std.specs.Prelude.{◌≡◌, ℕ, ◌+◌, ◌<◌, ◌≤◌, ◌^◌, [], IsTrue, length, map};
-ghost use Rattle.cm_model.specs.Wiring.{plain_routing};
+ghost use Rattle.std.specs.List.{All};
+ghost use Rattle.cm_model.specs.Wiring.{IsWireOf};
 ghost use Rattle.cm_model.specs.Array.{list_at};
+ghost use Rattle.cm_router.specs.Routes.{routing_of};
 ghost use Rattle.cm_petit.specs.Routers.{events_of};
 ghost use Rattle.cm_array.specs.Parts.{machine_of};
-ghost use Rattle.cm_array.specs.Cuts.{joined, AreAsMany, AreOfOneClock, IsLaid};
+ghost use Rattle.cm_array.specs.Cuts.{joined, AreAsMany, AreOfOneClock, AreOfOneRouting, IsLaid};
 
 use crate::part::{Part, lay_buffers};
 use crate::parts::Parts;
 use cm_message::Event;
+use cm_router::Routing;
 use std::mem;
 
 /// What holds a part of a machine.
@@ -40,11 +43,15 @@ pub(crate) fn put<P: IntoPart + Drop>(parts: &mut Parts, pieces: Vec<P>)
     requires some { 0 < length parts.old.run }
     requires few { length parts.old.run ≤ 4096 }
     requires clocks { AreOfOneClock (map (λ piece. (P.held piece).part) pieces.items) }
+    requires routings { AreOfOneRouting (map (λ piece. (P.held piece).part) pieces.items) }
+    requires wires { All (IsWireOf parts.old.routing.cuts.dims)
+        (joined (map (λ piece. (P.held piece).part) pieces.items)).routing.cuts }
     ensures value { machine_of parts.new ≡ joined (map (λ piece. (P.held piece).part) pieces.items) }
     ensures gathered { IsTrue parts.new.crossing.gathered }
     ensures sent { length parts.new.sent.items ≡ length parts.old.sent.items }
     ensures incoming { length parts.new.incoming.items ≡ length parts.old.incoming.items }
     ensures clock { parts.new.clock < 2 ^ 63 }
+    ensures cube { parts.new.routing.cuts.dims ≡ parts.old.routing.cuts.dims }
 {
     parts.crossing.clear();
     let mut at = 0;
@@ -61,6 +68,7 @@ fn put_one(parts: &mut Parts, at: usize, piece: Part) -> usize
     requires logs { length parts.old.logs.items ≡ length parts.old.run }
     requires few { length parts.old.run ≤ 4096 }
     requires empty { (c : ℕ) → at ≤ c → list_at parts.old.crossing.buffers c ≡ [] }
+    requires wires { All (IsWireOf parts.old.routing.cuts.dims) piece.part.routing.cuts }
     ensures end { result ≡ at + length piece.part.chips }
     ensures buffer_count { length piece.part.buffers ≡ length piece.part.chips }
     ensures log_count { length piece.part.logs ≡ length piece.part.chips }
@@ -69,7 +77,8 @@ fn put_one(parts: &mut Parts, at: usize, piece: Part) -> usize
     ensures logs { IsLaid at piece.part.logs (events_of parts.old.logs.items) (events_of parts.new.logs.items) }
     ensures clock { parts.new.clock ≡ piece.part.clock }
     ensures within { parts.new.clock < 2 ^ 63 }
-    ensures routing { piece.part.routing ≡ plain_routing }
+    ensures routing { routing_of parts.new.routing ≡ piece.part.routing }
+    ensures cube { parts.new.routing.cuts.dims ≡ parts.old.routing.cuts.dims }
     ensures sent { length parts.new.sent.items ≡ length parts.old.sent.items }
     ensures incoming { length parts.new.incoming.items ≡ length parts.old.incoming.items }
 {
@@ -80,7 +89,18 @@ fn put_one(parts: &mut Parts, at: usize, piece: Part) -> usize
     lay_buffers(&mut parts.crossing, at, &from.crossing, 0, count);
     move_logs(&mut parts.logs, at, &mut from.logs);
     parts.clock = from.clock;
+    route_as(&mut parts.routing, &from.routing);
     at + count
+}
+
+/// Routes as another does, all of whose cut wires are of this cube.
+fn route_as(routing: &mut Routing, other: &Routing)
+    requires within { All (IsWireOf routing.old.cuts.dims) other.now.cuts.wires }
+    ensures value { routing_of routing.new ≡ routing_of other.now }
+    ensures cube { routing.new.cuts.dims ≡ routing.old.cuts.dims }
+{
+    routing.cuts.copy_from(&other.cuts);
+    routing.rule = other.rule;
 }
 
 /// Moves logs into the places from `at` on.

@@ -52,7 +52,13 @@ impl Part {
             span,
             room: self.room,
         };
-        cross(sizes, &mut self.parts.crossing, dim);
+        cross(
+            sizes,
+            &self.parts.routing,
+            self.first,
+            &mut self.parts.crossing,
+            dim,
+        );
     }
 
     /// Messages that have arrived go to their processors, and the counter is one more. It has 2^`span` chips.

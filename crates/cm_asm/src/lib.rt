@@ -14,3 +14,5 @@ pub use assembler::assemble;
 pub use cm_language::{AsmFault, AsmKind};
 pub use operands::read_nano;
 pub use program::Program;
+pub use reader::Reader;
+pub use statements::verb_of;

@@ -1,6 +1,6 @@
 //! What a text has said so far.
 
-ghost use Rattle.std.specs.Prelude.{◌≡◌, ◌∷◌, [], Ok, OnOk, Err, IfErr, ◌+◌, length, nat_lt, if◌then◌else◌};
+ghost use Rattle.std.specs.Prelude.{◌≡◌, ◌∷◌, [], Ok, OnOk, Err, OnErr, IfErr, ◌+◌, length, nat_lt, if◌then◌else◌};
 ghost use Rattle.cm_bits.specs.Text.{words_left, words_of};
 ghost use Rattle.cm_language.specs.Program.{Reading, nothing_read, after_words, after_statement, after_definition};
 ghost use Rattle.cm_language.specs.Program.{with_acts, with_macro, within_length, MOST_ACTS, IsLineFault};
@@ -50,11 +50,13 @@ impl Reader {
         }
     }
 
-    /// One line more. After a fault the reader is not used again.
+    /// One line more. After a fault of a line whose acts are too many, or want memory, nothing is said of the acts.
     #[tactic(auto, using(crate::proofs::Reading::told_as_it_is))]
     pub fn read_line(&mut self, alloc: Global, line: &[u8]) -> Result<(), AsmKind>
         ensures ok { OnOk result (after_words self.old (words_of line.now) ≡ Ok self.new) }
         ensures fault { IfErr result (IsLineFault self.old (after_words self.old (words_of line.now))) }
+        ensures fields { OnErr result (self.new.fields ≡ self.old.fields) }
+        ensures context { OnErr result (self.new.context ≡ self.old.context) }
     {
         if let Some(nano) = instruction_of(line) {
             return self.add_act(Act::Nano(nano));
@@ -80,6 +82,8 @@ impl Reader {
     fn define(&mut self, alloc: Global, mut words: Words) -> Result<(), AsmKind>
         ensures ok { OnOk result (after_definition self.old (words_left words.entry) ≡ Ok self.new) }
         ensures fault { IfErr result (IsLineFault self.old (after_definition self.old (words_left words.entry))) }
+        ensures fields { OnErr result (self.new.fields ≡ self.old.fields) }
+        ensures context { OnErr result (self.new.context ≡ self.old.context) }
     {
         let (Some(name), Some(at), Some(len)) = (words.next(), words.next(), words.next()) else {
             return Err(AsmKind::Operands);
@@ -115,6 +119,8 @@ impl Reader {
     fn add(&mut self, statement: Statement) -> Result<(), AsmKind>
         ensures ok { OnOk result (after_statement self.old statement ≡ Ok self.new) }
         ensures fault { IfErr result (IsLineFault self.old (after_statement self.old statement)) }
+        ensures fields { OnErr result (self.new.fields ≡ self.old.fields) }
+        ensures context { OnErr result (self.new.context ≡ self.old.context) }
     {
         match statement {
             Statement::Context(context) => {
@@ -132,6 +138,8 @@ impl Reader {
             (with_macro self.old wanted.now (first_fault wanted.now self.old.context) ≡ Ok self.new) }
         ensures fault { IfErr result (IsLineFault self.old
             (with_macro self.old wanted.now (first_fault wanted.now self.old.context))) }
+        ensures fields { OnErr result (self.new.fields ≡ self.old.fields) }
+        ensures context { OnErr result (self.new.context ≡ self.old.context) }
     {
         match expand(wanted, self.context, &mut self.acts) {
             Ok(()) => self.check_length(),
@@ -144,6 +152,8 @@ impl Reader {
     fn add_act(&mut self, act: Act) -> Result<(), AsmKind>
         ensures ok { OnOk result (with_acts self.old (act ∷ []) ≡ Ok self.new) }
         ensures fault { IfErr result (IsLineFault self.old (with_acts self.old (act ∷ []))) }
+        ensures fields { OnErr result (self.new.fields ≡ self.old.fields) }
+        ensures context { OnErr result (self.new.context ≡ self.old.context) }
     {
         match self.acts.push(act) {
             Ok(()) => self.check_length(),
@@ -171,6 +181,22 @@ impl Reader {
         } else {
             Ok(())
         }
+    }
+
+    /// The acts of the lines that were read, from the first that was not forgotten.
+    pub fn acts(&self) -> &[Act]
+        ensures value { result.now ≡ self.now.acts }
+    {
+        self.acts.as_slice()
+    }
+
+    /// Names and context stay, as if the lines before had added no acts.
+    pub fn forget_acts(&mut self)
+        ensures fields { self.new.fields ≡ self.old.fields }
+        ensures context { self.new.context ≡ self.old.context }
+        ensures acts { self.new.acts ≡ [] }
+    {
+        self.acts.clear();
     }
 
     pub fn into_program(self) -> Program

@@ -5,8 +5,8 @@ use Rattle.std.specs.Int.{Width, w8, w32, w64, byte_len}
 use Rattle.cm_model.specs.Machine.{Machine}
 use Rattle.cm_image_format.specs.declared.fault.ImageFault.{ImageFault}
 use Rattle.cm_image_format.specs.declared.fault.ImageFault.TheVariants as image
-use Rattle.cm_image_format.specs.Reading.{Read, ◌>>=◌, must, unless, number_at, part, ◌⨾◌, made, fault_in}
-use Rattle.cm_image_format.specs.Image.{is_dimension, is_room, shape_part, clock_part}
+use Rattle.cm_image_format.specs.Reading.{Read, ◌>>=◌, must, unless, number_at, part, followed, ◌⨾◌, made, fault_in}
+use Rattle.cm_image_format.specs.Header.{is_dimension, is_room, shape_part, clock_part}
 use Rattle.cm_image_format.specs.Whole.{read_shape, read_image, header_fault}
 use Rattle.cm_cli.specs.declared.program_fault.ProgramFault.TheVariants.{Image, Cap}
 use Rattle.cm_cli.specs.Opened.{is_own_room, start_of, sized, opened, IsUnopened}
@@ -78,12 +78,17 @@ part_never w fault test bytes other =
     both_never (number_at w bytes) (λ n. unless (must fault test n.0) (n.0, n.1)) (number_never w bytes)
     (λ n. check_never fault (test n.0) (n.0, n.1) other)
 
+followed_never : {A B : Type 0} (first : List ℕ → Read A) (second : A → List ℕ → Read B)
+    → ((bytes : List ℕ) → NeverMemory (first bytes)) → ((x : A) (bytes : List ℕ) → NeverMemory (second x bytes))
+    → (bytes : List ℕ) → NeverMemory (followed first second bytes)
+followed_never first second one two bytes =
+    both_never (first bytes) (λ a. second a.0 a.1 >>= (λ b. Ok ((a.0, b.0), b.1))) (one bytes)
+    (λ a. both_never (second a.0 a.1) (λ b. Ok ((a.0, b.0), b.1)) (two a.0 a.1) (λ b. none_never))
+
 next_never : {A B : Type 0} (first : List ℕ → Read A) (second : List ℕ → Read B)
     → ((bytes : List ℕ) → NeverMemory (first bytes)) → ((bytes : List ℕ) → NeverMemory (second bytes))
     → (bytes : List ℕ) → NeverMemory ((first ⨾ second) bytes)
-next_never first second one two bytes =
-    both_never (first bytes) (λ a. second a.1 >>= (λ b. Ok ((a.0, b.0), b.1))) (one bytes)
-    (λ a. both_never (second a.1) (λ b. Ok ((a.0, b.0), b.1)) (two a.1) (λ b. none_never))
+next_never first second one two = followed_never first (λ _. second) one (λ _. two)
 
 made_never : {A B : Type 0} (f : A → B) (read : List ℕ → Read A) → ((bytes : List ℕ) → NeverMemory (read bytes))
     → (bytes : List ℕ) → NeverMemory (made f read bytes)
@@ -96,8 +101,8 @@ shape_never dimension room =
     let version : image.Version ≢ image.Memory = λ e. cc in
     let other : image.Shape ≢ image.Memory = λ e. cc in
     made_never _ _ (next_never _ _ (λ b. part_never w32 image.Magic _ b magic)
-    (next_never _ _ (λ b. part_never w8 image.Version _ b version)
-    (next_never _ _ (λ b. part_never w8 image.Shape dimension b other)
+    (followed_never _ _ (λ b. part_never w8 image.Version _ b version)
+    (λ k. next_never _ _ (λ b. part_never w8 image.Shape dimension b other)
     (next_never _ _ (λ b. part_never w8 image.Shape room b other) (λ b. part_never w8 image.Shape _ b other)))))
 
 header_never : (n cap : ℕ) (bytes : List ℕ) → header_fault n cap bytes ≢ Some image.Memory
@@ -146,8 +151,8 @@ unopened A bytes n cap image.Extra shape own first h =
 shaped_never : (bytes : List ℕ) → read_shape bytes ≢ Err image.Memory
 unfolding read_shape
 shaped_never bytes h =
-    both_never (shape_part is_dimension is_room bytes) (λ shape. Ok shape.0) (shape_never is_dimension is_room bytes)
-    (λ shape. none_never) (ap fault_in h)
+    both_never (shape_part is_dimension is_room bytes) (λ shape. Ok (shape.0.dimension, shape.0.room))
+    (shape_never is_dimension is_room bytes) (λ shape. none_never) (ap fault_in h)
 
 pub unshaped : (bytes : List ℕ) (fault : ImageFault) → read_shape bytes ≡ Err fault → IsUnopened bytes (of_image fault)
 unshaped bytes image.Memory h = absurd (shaped_never bytes h)

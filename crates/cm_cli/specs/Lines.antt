@@ -1,16 +1,19 @@
 -- What the program does for a command line, what it tells on standard error, and the status that it ends with. Ours.
 use Rattle.std.specs.Prelude.{◌≡◌, ◌⊎◌, ◌↔◌, ℕ, Bool, true, false, Option, None, IfSome, IfOk, IsErrOf, IsOkUnless}
-use Rattle.std.specs.Prelude.{Result, Ok, Err, Vec, String, List, [], ◌∷◌, map, option_map, string_bytes}
+use Rattle.std.specs.Prelude.{Result, Ok, Err, Vec, String, List, [], ◌∷◌, ◌++◌, map, option_map, string_bytes}
 use Rattle.std.specs.declared.alloc.Global.{Global}
 use Rattle.std.specs.Io.KnownBytes.{Appends}
 use Rattle.cm_bits.specs.declared.ends.Failed.{Failed}
 use Rattle.cm_model.specs.Machine.{blank_machine}
 use Rattle.cm_image_format.specs.Whole.{text_of}
+use Rattle.cm_language.specs.Program.{ProgramText}
 use Rattle.cm_line.specs.declared.fault.LineFault.{LineFault}
 use Rattle.cm_line.specs.declared.fault.LineFault.TheVariants.{BadLine}
 use Rattle.cm_line.specs.declared.line.Line.{Line}
 use Rattle.cm_line.specs.declared.line.Line.TheVariants as line
 use Rattle.cm_line.specs.Lines.{AsksFor, IsBadLine}
+use Rattle.cm_cli.specs.declared.files.RunLine.{RunLine}
+use Rattle.cm_cli.specs.declared.weaves.WeaveLine.{WeaveLine}
 use Rattle.cm_cli.specs.declared.fault.ChipFault.{ChipFault}
 use Rattle.cm_cli.specs.declared.fault.ChipFault.TheVariants as chip
 use Rattle.cm_cli.specs.declared.program_fault.ProgramFault.{ProgramFault}
@@ -20,11 +23,14 @@ use Rattle.cm_cli.specs.Report.{HasFront, message_of, status_of}
 use Rattle.cm_cli.specs.Session.{Ends, is_write as is_chip_write}
 use Rattle.cm_cli.specs.Listed.{EndsListing, is_write}
 use Rattle.cm_cli.specs.Fresh.{fresh_fault}
+use Rattle.cm_cli.specs.Opened.{Start}
 use Rattle.cm_cli.specs.Deeds.{Deed, Asked, Opened}
 use Rattle.cm_cli.specs.Takings.{Reads}
 use Rattle.cm_cli.specs.Puttings.{Flushes, Puts}
-use Rattle.cm_cli.specs.Files.{Streams}
+use Rattle.cm_cli.specs.Files.{Streams, BeginsFiles, RefusesFiles}
 use Rattle.cm_cli.specs.Runs.{IsUnread, IsUntouched, DoesRun}
+use Rattle.cm_cli.specs.Weaving.{Outgoing, outgoing}
+use Rattle.cm_cli.specs.Weaves.{IsSilent, WeavesAt}
 
 -- how the program ends where a session of one chip ended so
 abbrev pub chip_end : Result (Unit {0}) ChipFault → Result (Unit {0}) ProgramFault
@@ -85,6 +91,41 @@ pub record DoesFresh {F P : Type 0} (n cap : ℕ) (path : List ℕ) (result : Re
   pub is : IsBlankImage n cap made
   pub then : PutsMade path made result deeds
 
+-- no exchange begins: the image or the text is refused
+pub record WeavesNothing {F P : Type 0} (reads : Reads F) (files : RunLine) (out : Outgoing)
+    (result : Result (Unit {0}) ProgramFault) (deeds : List (Deed F P)) : Type 0 where
+  pub fault : ProgramFault
+  pub told : result ≡ Err fault
+  pub refused : RefusesFiles reads files fault deeds
+  pub silent : IsSilent out
+
+-- image and text are taken as for a session, and the exchange is stepped
+pub record WeavesFiles {F P : Type 0} (reads : Reads F) (files : RunLine) (line : WeaveLine) (out : Outgoing)
+    (result : Result (Unit {0}) ProgramFault) (deeds : List (Deed F P)) : Type 0 where
+  pub first : List (Deed F P)
+  pub second : List (Deed F P)
+  pub did : deeds ≡ first ++ second
+  pub start : Start
+  pub program : ProgramText
+  pub part : Option P
+  pub begins : BeginsFiles reads files start program part first
+  pub then : WeavesAt reads line start program.acts out result second
+
+-- `weave`: these files are begun with as by `run`, and then the exchange of the machine's blocks is stepped
+abbrev pub DoesWeave : {F P : Type 0} → Reads F → RunLine → WeaveLine → Outgoing → Result (Unit {0}) ProgramFault
+    → List (Deed F P) → Type 0
+DoesWeave reads files line out result deeds =
+    WeavesNothing reads files out result deeds ⊎ WeavesFiles reads files line out result deeds
+
+-- an image and a text alone, for one worker on the whole machine
+abbrev pub files_alone : String Global → String Global → RunLine
+files_alone image program = record {
+  image = image;
+  program = program;
+  sharing = record { split = 0; workers = 1 };
+  out = None;
+}
+
 -- what the program does for a line
 abbrev pub DoesLine : {F P : Type 0} → Reads F → Line → Streams → Result (Unit {0}) ProgramFault → List (Deed F P)
     → Type 0
@@ -102,3 +143,7 @@ DoesLine reads (line.Run image program split workers out) streams result deeds =
       sharing = record { split = split; workers = workers };
       out = out;
     }) streams result deeds
+DoesLine reads (line.Weave image program steps split out) streams result deeds =
+    IsUnread streams
+    × DoesWeave reads (files_alone image program) (record { steps = steps; split = split; out = out })
+    (outgoing streams.held streams.holds streams.write_failed) result deeds

@@ -33,10 +33,10 @@ pub struct RunLine {
 
 /// What a session over files begins with: its machine, its program, and the file that was made ready, if one is named.
 #[derive(Drop)]
-struct Begun<P> {
-    machine: Opened,
-    program: Program,
-    part: Option<P>,
+pub(crate) struct Begun<P> {
+    pub(crate) machine: Opened,
+    pub(crate) program: Program,
+    pub(crate) part: Option<P>,
 }
 
 /// Runs a session over files by one worker, which waits for nobody.
@@ -110,7 +110,7 @@ pub fn run_files_shared<R: Threads + Wait + Sync, H: Outside, I: Source, O: Sink
 
 /// Takes the image, then the program, looks whether the machine can be shared out so, and makes the file ready that is
 /// to be written, in this order, until something is refused.
-fn begin_files<H: Outside>(
+pub(crate) fn begin_files<H: Outside>(
     alloc: Global,
     outside: &mut H,
     line: &RunLine,

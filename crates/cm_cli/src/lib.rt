@@ -31,7 +31,7 @@ pub use cm_line::{Line, LineFault, command};
 pub use fault::ChipFault;
 pub use files::{RunLine, run_files_alone, run_files_shared};
 pub use laws::{chip_faults_are_faults, chip_texts_are_programs};
-pub use lines::{chip_line, fresh_line, list_line};
+pub use lines::{chip_line, fresh_line, list_line, weave_line};
 pub use listed::list;
 pub use opened::{OfRoom, Opened, open_image};
 pub use outside::{Outside, PutFault};

@@ -1,17 +1,20 @@
-//! What is done for each line of a command: `chip`, `list`, `fresh`.
+//! What is done for each line of a command: `chip`, `list`, `fresh`, `weave`.
 
 ghost use Rattle.std.specs.Prelude.{◌≡◌, false};
 ghost use Rattle.cm_cli.specs.Deeds.{Did};
 ghost use Rattle.cm_cli.specs.Takings.{reads_by};
 ghost use Rattle.cm_cli.specs.Files.{streams};
-ghost use Rattle.cm_cli.specs.Lines.{DoesChip, DoesFresh, DoesList};
+ghost use Rattle.cm_cli.specs.Weaving.{outgoing};
+ghost use Rattle.cm_cli.specs.Lines.{DoesChip, DoesFresh, DoesList, DoesWeave};
 
 use crate::blanks::fresh;
+use crate::files::{Begun, RunLine, begin_files};
 use crate::listed::list;
 use crate::outside::Outside;
 use crate::program_fault::ProgramFault;
 use crate::puttings::{flush_out, put_file};
 use crate::session::chip_session;
+use crate::weaves::{WeaveLine, weave_opened};
 use cm_bits::{Sink, Source};
 use std::alloc::Global;
 
@@ -68,4 +71,29 @@ pub fn fresh_line<H: Outside>(
         Ok(image) => put_file(alloc, outside, path, image.as_slice()),
         Err(fault) => Err(fault),
     }
+}
+
+/// `weave`: these files are begun with as for a session, and then the exchange of the machine's blocks is stepped. It
+/// waits for nobody.
+pub fn weave_line<H: Outside, O: Sink>(
+    alloc: Global,
+    outside: &mut H,
+    files: &RunLine,
+    line: &WeaveLine,
+    answers: &mut O,
+) -> Result<(), ProgramFault>
+    requires writer { O.has_failed answers.old ≡ false }
+    ensures does { Did H.does outside.old outside.new (DoesWeave (reads_by H.File.left H.File.has_failed) files.now
+        line.now (outgoing (O.contents answers.old) (O.contents answers.new) (O.has_failed answers.new)) result) }
+{
+    let begun = match begin_files(alloc, outside, files) {
+        Ok(begun) => begun,
+        Err(fault) => return Err(fault),
+    };
+    let Begun {
+        machine,
+        program,
+        ..
+    } = begun;
+    weave_opened(alloc, outside, line, machine, &program, answers)
 }

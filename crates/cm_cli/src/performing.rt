@@ -9,11 +9,12 @@ ghost use Rattle.cm_cli.specs.Lines.{DoesLine};
 ghost use Rattle.cm_cli.specs.Performed.{AsksLine, AsksNoLine, DoesWords, Performs, Tells, words_in};
 
 use crate::files::{RunLine, run_files_alone, run_files_shared};
-use crate::lines::{chip_line, fresh_line, list_line};
+use crate::lines::{chip_line, fresh_line, list_line, weave_line};
 use crate::outside::Outside;
 use crate::program_fault::ProgramFault;
 use crate::reports::report;
 use crate::sharing::Sharing;
+use crate::weaves::WeaveLine;
 use cm_bits::{Sink, Source};
 use cm_line::{Line, LineFault, command};
 use std::alloc::Global;
@@ -101,6 +102,25 @@ fn do_line<R: Threads + Wait + Sync, H: Outside, I: Source, O: Sink>(
                 return run_files_alone(alloc, outside, &line, commands, answers);
             }
             run_files_shared(rt, alloc, outside, &line, commands, answers)
+        }
+        Line::Weave {
+            image,
+            program,
+            steps,
+            split,
+            out,
+        } => {
+            let files = RunLine {
+                image,
+                program,
+                sharing: Sharing {
+                    split: 0,
+                    workers: 1,
+                },
+                out: None,
+            };
+            let line = WeaveLine { steps, split, out };
+            weave_line(alloc, outside, &files, &line, answers)
         }
     }
 }

@@ -1,6 +1,6 @@
 -- What tickets do, the messages do that they stand for.
 use Rattle.std.proofs.Common.{◌≡◌, ◌↔◌, ℕ, zero, suc, ◌^◌, List, [], ◌∷◌, length, map, Option, Some, None}
-use Rattle.std.proofs.Common.{refl, get_or, ◌<◌, ◌≤◌, ◌++◌, arith}
+use Rattle.std.proofs.Common.{refl, ap, get_or, ◌<◌, ◌≤◌, ◌++◌, arith}
 use Rattle.std.specs.Prelude.{bit_xor}
 use Rattle.std.specs.List.{All, list_any, range_with_len}
 use Rattle.std.specs.Option.{option_map, option_to_list}
@@ -11,15 +11,16 @@ use Rattle.cm_model.specs.declared.message.Message.{Message}
 use Rattle.cm_model.specs.Array.{each_chip, list_at}
 use Rattle.cm_model.specs.Letters.{has_arrived}
 use Rattle.cm_model.specs.Router.{has_to_cross, message_across}
-use Rattle.cm_model.specs.Wiring.{plain_way}
+use Rattle.cm_model.specs.Wiring.{Way, plain_way}
 use Rattle.cm_model.specs.Buffers.{leaving_place, element_at, without, outgoing, buffer_after_dimension}
 use Rattle.cm_model.specs.Each.{each_from}
-use Rattle.cm_model.proofs.Each.{map-each_from, length-each_from}
+use Rattle.cm_model.proofs.Each.{map-each_from, length-each_from, is_each}
 use Rattle.cm_model.proofs.Leaving.{position-map, map-without, element_at-map}
 use Rattle.cm_slots.specs.declared.ticket.Ticket.{Ticket}
 use Rattle.cm_slots.specs.Queues.{place_of_leaver, stayers_of}
 use Rattle.cm_slots.specs.Tickets.{has_to_go, has_come, ticket_across, ticket_going, exchanged}
 use Rattle.cm_crossing.specs.Standing.{message_of, standing, all_standing, AreKept, IsKept, AreTogether}
+use Rattle.cm_crossing.specs.Routed.{place_leaving, ticket_leaving, tickets_staying, tickets_crossed}
 
 -- ---- the messages of a chip
 
@@ -28,18 +29,29 @@ module _ (row : List Message) (cap d : ℕ) where
   unfolding leaving_place place_of_leaver
   same_place ts = rw (position-map (message_of row) (has_to_cross d) ts, length-map ts (message_of row))
 
-  pub stayers-standing : (ts : List Ticket) → standing row (stayers_of (has_to_go d) cap ts)
-      ≡ without (standing row ts) (leaving_place plain_way cap d (standing row ts))
-  stayers-standing ts = rw (same_place ts) (map-without (message_of row) ts _)
+  -- the plain way is that of tickets
+  pub plain_staying : (ts : List Ticket) → tickets_staying row plain_way cap d ts ≡ stayers_of (has_to_go d) cap ts
+  plain_staying ts = ap (λ (o : Option ℕ). without ts o) (same_place ts)
+
+  pub plain_leaving : (ts : List Ticket) → ticket_leaving row plain_way cap d ts ≡ ticket_going cap d ts
+  plain_leaving ts = ap (λ (o : Option ℕ). option_map (ticket_across d) (element_at ts o)) (same_place ts)
+
+  pub plain_crossed : (here there : List Ticket)
+      → exchanged cap d here there ≡ tickets_crossed row plain_way cap d here there
+  plain_crossed here there = rw (plain_staying here, plain_leaving there) refl
+
+  pub staying-standing : (way : Way) (ts : List Ticket) → standing row (tickets_staying row way cap d ts)
+      ≡ without (standing row ts) (leaving_place way cap d (standing row ts))
+  staying-standing way ts = map-without (message_of row) ts (leaving_place way cap d (standing row ts))
 
   across-standing : (o : Option Ticket) → option_map (message_across d) (option_map (message_of row) o)
       ≡ option_map (message_of row) (option_map (ticket_across d) o)
   across-standing None = refl
   across-standing (Some t) = refl
 
-  pub going-standing : (ts : List Ticket)
-      → option_map (message_of row) (ticket_going cap d ts) ≡ outgoing plain_way cap d (standing row ts)
-  going-standing ts = rw (same_place ts, element_at-map (message_of row) ts, across-standing)
+  pub leaving-standing : (way : Way) (ts : List Ticket)
+      → option_map (message_of row) (ticket_leaving row way cap d ts) ≡ outgoing way cap d (standing row ts)
+  leaving-standing way ts = rw (element_at-map (message_of row) ts, across-standing) refl
 
   listed-standing : (o : Option Ticket)
       → standing row (option_to_list o) ≡ option_to_list (option_map (message_of row) o)
@@ -47,11 +59,16 @@ module _ (row : List Message) (cap d : ℕ) where
   listed-standing (Some t) = refl
 
   -- where this other chip stands across the dimension
-  pub exchanged-standing : (here there : List Ticket) → standing row (exchanged cap d here there)
-      ≡ buffer_after_dimension plain_way cap d (standing row here) (outgoing plain_way cap d (standing row there))
+  pub crossed-standing : (way : Way) (here there : List Ticket) → standing row (tickets_crossed row way cap d here there)
+      ≡ buffer_after_dimension way cap d (standing row here) (outgoing way cap d (standing row there))
   unfolding buffer_after_dimension
-  exchanged-standing here there =
-      rw (map-append, stayers-standing here, listed-standing (ticket_going cap d there), going-standing there)
+  crossed-standing way here there =
+      rw (
+        map-append,
+        staying-standing way here,
+        listed-standing (ticket_leaving row way cap d there),
+        leaving-standing way there,
+      )
 
 -- ---- those of all chips
 
@@ -61,17 +78,29 @@ standing_at row [] c = refl
 standing_at row (ts ∷ queues) zero = refl
 standing_at row (ts ∷ queues) (suc c) = standing_at row queues c
 
-pub crossed_standing : (n cap d : ℕ) (row : List Message) (old : List (List Ticket))
-    → all_standing row (each_chip n (λ c. exchanged cap d (list_at old c) (list_at old (bit_xor c (2 ^ d)))))
-    ≡ each_chip n (λ c. buffer_after_dimension plain_way cap d (list_at (all_standing row old) c)
-    (outgoing plain_way cap d (list_at (all_standing row old) (bit_xor c (2 ^ d)))))
-crossed_standing n cap d row old = simp (map-each_from, exchanged-standing, standing_at)
+pub crossed_standing : (n cap d : ℕ) (ways : ℕ → Way) (row : List Message) (old : List (List Ticket))
+    → all_standing row (each_chip n (λ c. tickets_crossed row (ways c) cap d (list_at old c)
+    (list_at old (bit_xor c (2 ^ d)))))
+    ≡ each_chip n (λ c. buffer_after_dimension (ways c) cap d (list_at (all_standing row old) c)
+    (outgoing (ways c) cap d (list_at (all_standing row old) (bit_xor c (2 ^ d)))))
+crossed_standing n cap d ways row old = simp (map-each_from, crossed-standing, standing_at)
 
--- what is the same for each element, made by two functions one after the other, is the same for all
-pub both_maps : {X Y Z W : Type 0} (f : Y → Z) (g : X → Y) (h : W → Z) (k : X → W) → ((x : X) → f (g x) ≡ h (k x))
-    → (xs : List X) → map f (map g xs) ≡ map h (map k xs)
-both_maps f g h k same [] = refl
-both_maps f g h k same (x ∷ xs) = rw (same x, both_maps f g h k same xs)
+pub left_standing : (count cap d : ℕ) (ways : ℕ → Way) (row : List Message) (old : List (List Ticket))
+    → all_standing row (each_from 0 count (λ c. tickets_staying row (ways c) cap d (list_at old c)))
+    ≡ each_from 0 count (λ c. without (list_at (all_standing row old) c)
+    (leaving_place (ways c) cap d (list_at (all_standing row old) c)))
+left_standing count cap d ways row old = simp (map-each_from, staying-standing, standing_at)
+
+pub gone_standing : (count cap d : ℕ) (ways : ℕ → Way) (row : List Message) (old : List (List Ticket))
+    → map (λ t. option_map (message_of row) t) (each_from 0 count (λ c. ticket_leaving row (ways c) cap d (list_at old c)))
+    ≡ each_from 0 count (λ c. outgoing (ways c) cap d (list_at (all_standing row old) c))
+gone_standing count cap d ways row old = simp (map-each_from, leaving-standing, standing_at)
+
+-- what is made of each element is made by its number
+pub mapped_each : {X Y : Type 0} (f : X → Y) (d : X) (e : Y) (xs : List X)
+    → map f xs ≡ each_from 0 (length xs) (λ c. f (get_or xs c d))
+mapped_each f d e xs = is_each e (length xs) (λ c. f (get_or xs c d)) (map f xs) (length-map xs f)
+    (λ i h. get_or-map f xs i d e h)
 
 -- what is true of each chip's messages where something is true of its tickets
 pub all_stand : (P : List Message → Type 0) (Q : List Ticket → Type 0) (row : List Message)
@@ -140,6 +169,10 @@ module _ (count : ℕ) where
   listed_kept None h = nobody_kept
   listed_kept (Some t) h = All-cons (λ (x : Ticket). x.number < count) t [] h nobody_kept
 
+pub kept_more : (few most : ℕ) (o : Option Ticket) → few ≤ most → IsKept few o → IsKept most o
+kept_more few most None h kept = tt
+kept_more few most (Some t) h kept = omega (arith, h, kept)
+
 -- what a function makes for each number
 pub All-each_from : {X : Type 0} (P : X → Type 0) (first count : ℕ) (f : ℕ → X) → ((c : ℕ) → P (f c))
     → All P (each_from first count f)
@@ -147,14 +180,31 @@ unfolding each_from
 All-each_from P first count f h =
     All-map P f (range_with_len first count) (λ k d l. h (get_or (range_with_len first count) k d))
 
-pub crossed_kept : (n cap d count : ℕ) (old : List (List Ticket)) → All (AreKept count) old
-    → All (AreKept count) (each_chip n (λ c. exchanged cap d (list_at old c) (list_at old (bit_xor c (2 ^ d)))))
-crossed_kept n cap d count old kept =
-    let at : (c : ℕ) → AreKept count (list_at old c) = λ c. all_at (AreKept count) (nobody_kept count) old c kept in
-    All-each_from (AreKept count) 0 (2 ^ n) (λ c. exchanged cap d (list_at old c) (list_at old (bit_xor c (2 ^ d))))
-    (λ c. All-append (λ (t : Ticket). t.number < count) (stayers_of (has_to_go d) cap (list_at old c)) _
-    (without_kept count (list_at old c) _ (at c))
-    (listed_kept count _ (leaver_kept count d (list_at old (bit_xor c (2 ^ d))) _ (at (bit_xor c (2 ^ d))))))
+module _ (cap d count : ℕ) (ways : ℕ → Way) (row : List Message) (old : List (List Ticket))
+    (kept : All (AreKept count) old) where
+  kept_at : (c : ℕ) → AreKept count (list_at old c)
+  kept_at c = all_at (AreKept count) (nobody_kept count) old c kept
+
+  pub left_kept : (chips : ℕ)
+      → All (AreKept count) (each_from 0 chips (λ c. tickets_staying row (ways c) cap d (list_at old c)))
+  left_kept chips = All-each_from (AreKept count) 0 chips (λ c. tickets_staying row (ways c) cap d (list_at old c))
+      (λ c. without_kept count (list_at old c) (place_leaving row (ways c) cap d (list_at old c)) (kept_at c))
+
+  pub gone_kept : (chips : ℕ)
+      → All (IsKept count) (each_from 0 chips (λ c. ticket_leaving row (ways c) cap d (list_at old c)))
+  gone_kept chips = All-each_from (IsKept count) 0 chips (λ c. ticket_leaving row (ways c) cap d (list_at old c))
+      (λ c. leaver_kept count d (list_at old c) (place_leaving row (ways c) cap d (list_at old c)) (kept_at c))
+
+  pub crossed_kept : (n : ℕ) → All (AreKept count) (each_chip n (λ c. tickets_crossed row (ways c) cap d (list_at old c)
+      (list_at old (bit_xor c (2 ^ d)))))
+  crossed_kept n = All-each_from (AreKept count) 0 (2 ^ n)
+      (λ c. tickets_crossed row (ways c) cap d (list_at old c) (list_at old (bit_xor c (2 ^ d))))
+      (λ c. let there : ℕ = bit_xor c (2 ^ d) in
+      All-append (λ (t : Ticket). t.number < count) (tickets_staying row (ways c) cap d (list_at old c))
+      (option_to_list (ticket_leaving row (ways c) cap d (list_at old there)))
+      (without_kept count (list_at old c) (place_leaving row (ways c) cap d (list_at old c)) (kept_at c))
+      (listed_kept count (ticket_leaving row (ways c) cap d (list_at old there))
+      (leaver_kept count d (list_at old there) (place_leaving row (ways c) cap d (list_at old there)) (kept_at there))))
 
 -- ---- nobody stands
 

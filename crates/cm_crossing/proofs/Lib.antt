@@ -1,2 +1,4 @@
 pub mod Carrying
 pub mod Keeping
+pub mod Leaving
+pub mod Places

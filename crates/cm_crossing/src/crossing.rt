@@ -1,6 +1,6 @@
 //! The messages of a run of chips.
 
-ghost use Rattle.std.specs.Prelude.{◌≡◌, ◌↔◌, ℕ, ◌+◌, ◌*◌, ◌^◌, ◌<◌, ◌≤◌, ◌++◌, [], ◌∷◌, IfOk, IsTrue};
+ghost use Rattle.std.specs.Prelude.{◌≡◌, ◌↔◌, ℕ, ◌+◌, ◌*◌, ◌%◌, ◌^◌, ◌<◌, ◌≤◌, ◌++◌, ◌⊎◌, [], ◌∷◌, IfOk, IsTrue};
 ghost use Rattle.std.specs.Prelude.{length, map, min, None, true, false};
 ghost use Rattle.std.specs.Prelude.{slice_set, slice_index_or, bit_xor, vec_len, vec_capacity};
 ghost use Rattle.std.specs.List.{All, list_any};
@@ -10,17 +10,19 @@ ghost use Rattle.cm_model.specs.Letters.{has_arrived, chip_after_injection, chip
 ghost use Rattle.cm_model.specs.Each.{each_from};
 ghost use Rattle.cm_model.specs.Array.{each_chip, chip_at, list_at};
 ghost use Rattle.cm_model.specs.Keeping.{AreSizes};
-ghost use Rattle.cm_model.specs.Wiring.{plain_way};
+ghost use Rattle.cm_model.specs.Wiring.{is_cut, way_of};
 ghost use Rattle.cm_model.specs.Buffers.{leaving_place, without, outgoing, buffer_after_dimension};
 ghost use Rattle.cm_model.specs.OneChip.{taken_here, sent_here, delivered_here, kept_here};
 ghost use Rattle.cm_router.specs.Logs.{log_room};
+ghost use Rattle.cm_router.specs.Routes.{routing_of};
 
+use crate::routed::{cross, leave};
 use crate::row::{give_out, lay_out, read_off, read_out, stand};
 use crate::sizes::Sizes;
 use cm_bits::NoMemory;
 use cm_element::Run;
 use cm_message::{Event, Message};
-use cm_router::{Node, chip_asks, take_none};
+use cm_router::{Node, Routing, chip_asks, take_none};
 use cm_slots::{Slots, Ticket};
 use std::alloc::Global;
 use std::marker::Model;
@@ -277,46 +279,67 @@ impl Crossing {
         self.stand(usize::from(chip), taken.messages());
     }
 
-    /// The messages cross a dimension that the chips span.
-    pub fn cross(&mut self, sizes: Sizes, dim: u8)
+    /// The messages cross a dimension that the chips span, as the machine routes. The first chip is chip `first` of it.
+    pub fn cross(&mut self, sizes: Sizes, routing: &Routing, first: u16, dim: u8)
         requires sizes { AreSizes sizes.dims sizes.room }
+        requires cube { routing.now.cuts.dims ≡ sizes.dims }
         requires span { sizes.span ≤ sizes.dims }
         requires dim { dim < sizes.span }
         requires count { length self.old.buffers ≡ 2 ^ sizes.span }
+        requires begins { first % 2 ^ sizes.span ≡ 0 }
+        requires band { first + 2 ^ sizes.span ≤ 2 ^ sizes.dims }
         requires within { All (λ ms. length ms ≤ sizes.room) self.old.buffers }
-        ensures value { self.new.buffers ≡ each_chip sizes.span (λ c. buffer_after_dimension plain_way sizes.room dim
-            (list_at self.old.buffers c) (outgoing plain_way sizes.room dim (list_at self.old.buffers (bit_xor c (2 ^ dim))))) }
+        ensures value { self.new.buffers ≡ each_chip sizes.span (λ c. buffer_after_dimension
+            (way_of (routing_of routing.now) (first + c) dim) sizes.room dim (list_at self.old.buffers c)
+            (outgoing (way_of (routing_of routing.now) (first + c) dim) sizes.room dim
+            (list_at self.old.buffers (bit_xor c (2 ^ dim))))) }
         ensures count { length self.new.buffers ≡ 2 ^ sizes.span }
         ensures within { All (λ ms. length ms ≤ sizes.room) self.new.buffers }
     {
-        self.slots.cross(sizes.span, sizes.room, dim);
+        let gone = self.leavers.as_mut_slice();
+        cross(&self.row, &mut self.slots, sizes, routing, first, dim, gone);
         self.gathered = false;
     }
 
     /// The first half of a dimension by itself: what leaves each chip is taken out, and written down as it
     /// arrives across.
-    pub fn leave(&mut self, sizes: Sizes, dim: u8, leavers: &mut [Option<Message>])
+    pub fn leave(
+        &mut self,
+        sizes: Sizes,
+        routing: &Routing,
+        first: u16,
+        dim: u8,
+        leavers: &mut [Option<Message>],
+    )
         requires sizes { AreSizes sizes.dims sizes.room }
+        requires cube { routing.now.cuts.dims ≡ sizes.dims }
         requires dim { dim < sizes.dims }
         requires count { length leavers.old ≡ length self.old.buffers }
+        requires band { first + length self.old.buffers ≤ 2 ^ sizes.dims }
         requires within { All (λ ms. length ms ≤ sizes.room) self.old.buffers }
-        ensures value { self.new.buffers
-            ≡ map (λ ms. without ms (leaving_place plain_way sizes.room dim ms)) self.old.buffers }
-        ensures going { leavers.new ≡ map (λ ms. outgoing plain_way sizes.room dim ms) self.old.buffers }
-        ensures space { All (λ ms. length ms < sizes.room) self.new.buffers }
+        ensures value { self.new.buffers ≡ each_from 0 (length self.old.buffers) (λ c. without
+            (list_at self.old.buffers c) (leaving_place (way_of (routing_of routing.now) (first + c) dim)
+            sizes.room dim (list_at self.old.buffers c))) }
+        ensures going { leavers.new ≡ each_from 0 (length self.old.buffers) (λ c. outgoing
+            (way_of (routing_of routing.now) (first + c) dim) sizes.room dim (list_at self.old.buffers c)) }
+        ensures within { All (λ ms. length ms ≤ sizes.room) self.new.buffers }
+        ensures space { (c : ℕ) → c < length self.old.buffers → is_cut (routing_of routing.now) (first + c) dim ≡ false
+            → length (list_at self.new.buffers c) < sizes.room }
     {
         let gone = self.leavers.as_mut_slice();
-        self.slots.leave(sizes.room, dim, gone);
+        leave(&self.row, &mut self.slots, sizes, routing, first, dim, gone);
         read_off(&self.row, gone, leavers);
         self.gathered = false;
     }
 
     /// The second half by itself: each chip takes in what was written down for it, behind all that stand
-    /// there. Nothing is written down then.
+    /// there. Nothing is written down then. Where something is, there is room for it.
     pub fn take_in(&mut self, sizes: Sizes, leavers: &mut [Option<Message>])
         requires sizes { AreSizes sizes.dims sizes.room }
         requires count { length leavers.old ≡ length self.old.buffers }
-        requires space { All (λ ms. length ms < sizes.room) self.old.buffers }
+        requires within { All (λ ms. length ms ≤ sizes.room) self.old.buffers }
+        requires space { (c : ℕ) → c < length self.old.buffers
+            → (slice_index_or leavers.old c None ≡ None) ⊎ (length (list_at self.old.buffers c) < sizes.room) }
         ensures value { self.new.buffers ≡ each_from 0 (length self.old.buffers)
             (λ c. list_at self.old.buffers c ++ option_to_list (slice_index_or leavers.old c None)) }
         ensures blank { All (λ leaver. leaver ≡ None) leavers.new }

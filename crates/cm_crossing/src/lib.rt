@@ -2,7 +2,9 @@
 //! place.
 #![tactic(auto)]
 
+mod choosing;
 mod crossing;
+mod routed;
 mod row;
 mod sizes;
 

@@ -200,7 +200,7 @@ fn is_delivered(
 }
 
 /// The message that a ticket stands for.
-fn message_of(row: &[Message], ticket: Ticket) -> Message
+pub(crate) fn message_of(row: &[Message], ticket: Ticket) -> Message
     requires kept { ticket.number < length row.now }
     ensures value { result ≡ message_of row.now ticket }
 {

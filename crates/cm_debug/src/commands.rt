@@ -108,6 +108,10 @@ pub fn obey<const N: usize, const CAP: usize, R: Runner<N, CAP>>(
             push_log(text, machine.log(chip))?;
             Ok(())
         }
+        Command::Rule => {
+            push_number(text, b"rule", u64::from(machine.rule().number()))?;
+            Ok(())
+        }
     }
 }
 

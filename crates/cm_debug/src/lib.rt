@@ -14,6 +14,11 @@ mod sessions;
 mod stretch;
 mod want;
 
+pub use answers::{push_bit, push_number, push_word};
 pub use cm_session::SessionFault;
+pub use desk::Desk;
+pub use gathering::{CutOff, Gathered};
+pub use lines::answer;
 pub use reader::read_command;
 pub use sessions::session;
+pub use want::Want;

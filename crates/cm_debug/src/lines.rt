@@ -147,7 +147,7 @@ fn tell_asked<const N: usize, const CAP: usize, R: Runner<N, CAP>, O: Sink>(
 
 /// Answers what was read of a line. After an `Err` the machine is as it was, or some of the acts that the line runs are
 /// run.
-fn answer<const N: usize, const CAP: usize, R: Runner<N, CAP>>(
+pub fn answer<const N: usize, const CAP: usize, R: Runner<N, CAP>>(
     machine: &mut Machine<N, CAP>,
     acts: &[Act],
     runner: &mut R,

@@ -69,6 +69,8 @@ fn read_named(
     } else if name == b"events".as_slice() {
         let chip = read_chip(words, dimensions)?;
         Ok(Command::Events(chip))
+    } else if name == b"rule".as_slice() {
+        alone(Command::Rule, words)
     } else {
         Err(Refusal::Word)
     }

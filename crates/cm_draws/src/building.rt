@@ -1,15 +1,17 @@
 //! Parts of machines, drawn.
 
-ghost use Rattle.std.specs.Prelude.{◌≡◌, ◌<◌, ◌^◌};
+ghost use Rattle.std.specs.Prelude.{◌≡◌, ◌<◌, ◌≤◌, ◌^◌};
 
 use crate::drawing::Draws;
 use crate::numbers::{flag, processor};
 use cm_array::{Builder, Machine};
-use cm_bits::{Addr, FlagNo, Plane};
+use cm_bits::{Addr, Edge, FlagNo, Plane};
 use cm_message::{Message, Tag};
+use cm_model::Rule;
 use std::alloc::Global;
 
-/// A machine at rest with bits and flags, in which half of the processors ask to send somewhere, and half can receive.
+/// A machine at rest with bits and flags, in which half of the processors ask to send somewhere, and half can receive;
+/// routed in a drawn way.
 pub fn asking_machine<const N: usize, const CAP: usize>(
     alloc: Global,
     draws: &mut Draws,
@@ -22,7 +24,44 @@ pub fn asking_machine<const N: usize, const CAP: usize>(
         put_flags(&mut builder, draws, chip, 65_535);
         put_planes(&mut builder, draws, chip, 3968, 3996);
     }
+    put_routing(&mut builder, draws, chips);
     builder.done().ok()
+}
+
+/// No wire is cut, or about a fifth of them; and messages leave by either rule.
+pub fn put_routing<const N: usize, const CAP: usize>(
+    builder: &mut Builder<N, CAP>,
+    draws: &mut Draws,
+    chips: u16,
+)
+    requires cube { chips ≡ 2 ^ N }
+    requires dimension { N ≤ 12 }
+{
+    if draws.below(2) == 0 {
+        builder.rule(Rule::Oldest);
+    }
+    if draws.below(2) == 0 {
+        for chip in 0..chips {
+            cut_some(builder, draws, chip);
+        }
+    }
+}
+
+/// Of the wires of a chip to higher ones about a fifth is cut.
+fn cut_some<const N: usize, const CAP: usize>(
+    builder: &mut Builder<N, CAP>,
+    draws: &mut Draws,
+    chip: u16,
+)
+    requires chip { chip < 2 ^ N }
+    requires dimension { N ≤ 12 }
+{
+    for dim in 0..N as u8 {
+        match Edge::new(chip, dim) {
+            Some(edge) if draws.below(5) == 0 => builder.cut(edge),
+            _ => {}
+        }
+    }
 }
 
 /// Each flag of a chip but ZERO gets a plane below a limit.

@@ -3,10 +3,10 @@
 ghost use Rattle.std.specs.Prelude.{◌<◌};
 
 use crate::numbers::{address, processor};
-use cm_array::Machine;
-use cm_bits::{Dir, FlagNo};
+use cm_array::{Builder, Machine};
+use cm_bits::{Dir, Edge, FlagNo};
 use cm_message::{Event, Message, Tag};
-use cm_model::{Act, Found, Nano};
+use cm_model::{Act, Found, Nano, Rule};
 use std::alloc::{AllocError, Global};
 
 /// What stands in memory from bit 3968 on for a message: to the chip whose number differs in all four bits,
@@ -83,6 +83,18 @@ fn tag(chip: u16, sender: u8) -> Tag
         proc: processor(sender),
         birth: 0,
     }
+}
+
+/// Sixteen blank chips, whose messages leave by this rule; the wires are cut from chip 0 to 1 and from chip 7 to 15.
+pub fn cut_in_two_places(alloc: Global, rule: Rule) -> Option<Machine<4, 7>> {
+    let mut builder = Builder::<4, 7>::start(alloc, 0).ok()?;
+    builder.rule(rule);
+    for (chip, dim) in [(0, 0), (7, 3)] {
+        if let Some(edge) = Edge::new(chip, dim) {
+            builder.cut(edge);
+        }
+    }
+    builder.done().ok()
 }
 
 /// Whether after them chip 15 has sent four, got one and has three more for its processor 5.

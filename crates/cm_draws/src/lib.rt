@@ -8,9 +8,11 @@ mod looking;
 mod numbers;
 mod running;
 
-pub use building::{ask_again, asking_machine, poke_plane, put_flags, put_messages, put_planes};
+pub use building::{
+    ask_again, asking_machine, poke_plane, put_flags, put_messages, put_planes, put_routing,
+};
 pub use drawing::Draws;
-pub use four_messages::{four_messages_each, has_one_of_four, one_of_four};
+pub use four_messages::{cut_in_two_places, four_messages_each, has_one_of_four, one_of_four};
 pub use looking::{
     are_same, has_full_buffer, have_same_bits, have_same_events, have_same_messages,
 };

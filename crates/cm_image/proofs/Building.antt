@@ -11,7 +11,7 @@ use Rattle.cm_model.specs.declared.message.Event.{Event}
 use Rattle.cm_model.specs.Processor.{Processor, blank_processor}
 use Rattle.cm_model.specs.Chip.{each_processor, processor_at, no_processor, blank_chip}
 use Rattle.cm_model.specs.Array.{chip_at, list_at, each_chip}
-use Rattle.cm_model.specs.Wiring.{plain_routing}
+use Rattle.cm_model.specs.Wiring.{Routing}
 use Rattle.cm_model.specs.Machine.{Machine, blank_machine}
 use Rattle.cm_model.proofs.Each.{length-each_from, get_or-each_below, same_each_below, is_each}
 use Rattle.cm_model.proofs.Bits.{bit-zero}
@@ -244,9 +244,9 @@ blank_from-next n c m image blank = record {
       ∙ blank.buffers d (omega arith) h;
 }
 
-pub blank_from-blank_at : (n clock : ℕ) → IsBlankFrom n 0 (blank_at n clock)
+pub blank_from-blank_at : (n clock : ℕ) (routing : Routing) → IsBlankFrom n 0 (blank_at n clock routing)
 unfolding blank_machine
-blank_from-blank_at n clock = record {
+blank_from-blank_at n clock routing = record {
   chip_count = length-each_from 0 (2 ^ n) (λ c. blank_chip);
   buffer_count = length-each_from 0 (2 ^ n) (λ c. []);
   chips = λ d l h. get_or-each_below (2 ^ n) (λ c. blank_chip) d [] h;
@@ -315,14 +315,14 @@ no_logs n images long =
 
 -- all chips of an image, one after another, are its machine
 pub machine_built : (n : ℕ) (image : Image) → length image.chips ≡ 2 ^ n
-    → fold put_chip (blank_at n image.clock, 0) image.chips ≡ (machine_from image, 2 ^ n)
+    → fold put_chip (blank_at n image.clock image.routing, 0) image.chips ≡ (machine_from image, 2 ^ n)
 unfolding blank_machine machine_from
 machine_built n image long =
-    let chips : 0 + length image.chips ≡ length (blank_at n image.clock).chips =
+    let chips : 0 + length image.chips ≡ length (blank_at n image.clock image.routing).chips =
     omega (arith, long, length-each_from 0 (2 ^ n) (λ c. blank_chip)) in
-    let buffers : 0 + length image.chips ≡ length (blank_at n image.clock).buffers =
+    let buffers : 0 + length image.chips ≡ length (blank_at n image.clock image.routing).buffers =
     omega (arith, long, length-each_from {X = List Message} 0 (2 ^ n) (λ c. [])) in
-    chips_all image.chips (blank_at n image.clock) 0 chips buffers
+    chips_all image.chips (blank_at n image.clock image.routing) 0 chips buffers
     ∙ (λ i. (
       record {
         chips = map chip_from image.chips;
@@ -330,7 +330,7 @@ machine_built n image long =
             map (λ (x : ChipImage). x.messages) image.chips;
         logs = no_logs n image.chips long i;
         clock = image.clock;
-        routing = plain_routing;
+        routing = image.routing;
       },
       (nothing_before (length image.chips) ∙ long) i,
     ))

@@ -14,7 +14,9 @@ use Rattle.cm_model.specs.Processor.{Processor}
 use Rattle.cm_model.specs.Array.{Chips, chip_at, list_at}
 use Rattle.cm_model.specs.Machine.{Machine}
 use Rattle.cm_message.specs.Bytes.{number, message_text}
-use Rattle.cm_image_format.specs.Image.{MAGIC, Listed, ChipImage, listed_text, chip_text, shape_text}
+use Rattle.cm_image_format.specs.Header.{MAGIC, Head, head_text}
+use Rattle.cm_image_format.specs.Cuts.{head_of, routing_text}
+use Rattle.cm_image_format.specs.Image.{Listed, ChipImage, listed_text, chip_text}
 use Rattle.cm_image_format.specs.Whole.{flag_plane_of, memory_plane_of, image_of_chip, image_text, text_of}
 use Rattle.cm_image.specs.Planes.{AreInUse, flags_text, planes_below, listed_below, listing_of, listing_at, chips_text}
 
@@ -39,18 +41,22 @@ grown text front part before after is more = more ∙ (ap (λ (xs : List ℕ). x
 
 -- ---- the header
 
+four : (a b c d : List ℕ) → ((a ++ b) ++ c) ++ d ≡ a ++ (b ++ (c ++ d))
+four a b c d = simp append_assoc
+
 in_a_row : (t a b c d e : List ℕ) → ((((t ++ a) ++ b) ++ c) ++ d) ++ e ≡ t ++ (a ++ (b ++ (c ++ (d ++ e))))
 in_a_row t a b c d e = simp append_assoc
 
-pub shape_written : (n cap : ℕ) (text a b c d e : List ℕ) → a ≡ text ++ number w32 MAGIC → b ≡ a ++ number w8 1
-    → c ≡ b ++ number w8 n → d ≡ c ++ number w8 cap → e ≡ d ++ number w8 0
-    → e ≡ text ++ shape_text n cap
-unfolding shape_text
-shape_written n cap text a b c d e first second third fourth fifth =
+pub head_written : (head : Head) (text a b c d e : List ℕ) → a ≡ text ++ number w32 MAGIC
+    → b ≡ a ++ number w8 head.version → c ≡ b ++ number w8 head.dimension → d ≡ c ++ number w8 head.room
+    → e ≡ d ++ number w8 head.rule → e ≡ text ++ head_text head
+unfolding head_text
+head_written head text a b c d e first second third fourth fifth =
     (λ i. fifth i) ∙ ((λ i. (fourth
-    ∙ (λ j. (third ∙ (λ k. (second ∙ (λ l. first l ++ number w8 1)) k ++ number w8 n)) j ++ number w8 cap)) i
-    ++ number w8 0)
-    ∙ in_a_row text (number w32 MAGIC) (number w8 1) (number w8 n) (number w8 cap) (number w8 0))
+    ∙ (λ j. (third ∙ (λ k. (second ∙ (λ l. first l ++ number w8 head.version)) k ++ number w8 head.dimension)) j
+    ++ number w8 head.room)) i ++ number w8 head.rule)
+    ∙ in_a_row text (number w32 MAGIC) (number w8 head.version) (number w8 head.dimension) (number w8 head.room)
+    (number w8 head.rule))
 
 -- ---- flags
 
@@ -236,12 +242,18 @@ tile_more machine text before after first n is more =
     grown text (chips_text machine 0 first) (chips_text machine first n) before after is more
     ∙ ap (λ (xs : List ℕ). text ++ xs) (sym (chips_joined machine first n))
 
--- header, counter and chips, one behind another
-pub all_written : (n cap clock : ℕ) (machine : Machine) (none first header text : List ℕ) → none ≡ []
-    → first ≡ none ++ shape_text n cap → header ≡ first ++ number w64 clock → clock ≡ machine.clock
-    → text ≡ header ++ chips_text machine 0 (2 ^ n) → text ≡ text_of n cap machine
+-- header, counter, cuts and chips, one behind another
+pub all_written : (n cap clock : ℕ) (machine : Machine) (none first header routed text : List ℕ) → none ≡ []
+    → first ≡ none ++ head_text (head_of n cap machine.routing) → header ≡ first ++ number w64 clock
+    → clock ≡ machine.clock → routed ≡ header ++ routing_text machine.routing
+    → text ≡ routed ++ chips_text machine 0 (2 ^ n) → text ≡ text_of n cap machine
 unfolding image_text
-all_written n cap clock machine none first header text empty shape time is all =
-    all ∙ (ap (λ (xs : List ℕ). xs ++ chips_text machine 0 (2 ^ n)) (time
-    ∙ (λ i. (shape ∙ ap (λ (xs : List ℕ). xs ++ shape_text n cap) empty) i ++ number w64 (is i)))
-    ∙ append_assoc (shape_text n cap) (number w64 machine.clock) (chips_text machine 0 (2 ^ n)))
+all_written n cap clock machine none first header routed text empty head time is cuts all =
+    let front : List ℕ = head_text (head_of n cap machine.routing) in
+    let counter : List ℕ = number w64 machine.clock in
+    let wires : List ℕ = routing_text machine.routing in
+    let chips : List ℕ = chips_text machine 0 (2 ^ n) in
+    let begins : header ≡ front ++ counter = time
+    ∙ (λ i. (head ∙ ap (λ (xs : List ℕ). xs ++ front) empty) i ++ number w64 (is i)) in
+    all ∙ (ap (λ (xs : List ℕ). xs ++ chips) (cuts ∙ ap (λ (xs : List ℕ). xs ++ wires) begins)
+    ∙ four front counter wires chips)

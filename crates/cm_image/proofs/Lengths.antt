@@ -1,16 +1,21 @@
 -- How many bytes a dump has: of each part, of a chip, of all.
-use Rattle.std.proofs.Common.{◌≡◌, ℕ, ◌+◌, ◌*◌, ◌^◌, List, [], ◌∷◌, ◌++◌, length, refl, sym, ap, ◌∙◌, arith}
+use Rattle.std.proofs.Common.{◌≡◌, ℕ, ◌+◌, ◌*◌, ◌/◌, ◌^◌, ◌<◌, ◌≤◌, List, [], ◌∷◌, ◌++◌, length, refl, sym, ap, ◌∙◌}
+use Rattle.std.proofs.Common.{arith, lit<}
 use Rattle.std.specs.Int.{w8, w16, w64}
 use Rattle.std.specs.List.{flat_map}
+use Rattle.std.proofs.Math.Nat.{pow-le-pow_right, mul-le-mul}
 use Rattle.std.proofs.lemmas.List.{length-append}
 use Rattle.std.proofs.lemmas.List.FromFn.{length-map-range_with_len}
+use Rattle.cm_bits.specs.Wire.{Wire}
 use Rattle.cm_model.specs.declared.message.Message.{Message}
 use Rattle.cm_model.specs.Each.{each_from}
 use Rattle.cm_model.specs.Processor.{Processor}
 use Rattle.cm_model.specs.Array.{chip_at, list_at}
 use Rattle.cm_model.specs.Machine.{Machine}
 use Rattle.cm_message.specs.Bytes.{number, message_text}
-use Rattle.cm_image_format.specs.Image.{Listed, listed_text, chip_text, shape_text}
+use Rattle.cm_image_format.specs.Header.{Head, head_text}
+use Rattle.cm_image_format.specs.Cuts.{cut_text, listed_cuts_text, head_of, routing_text}
+use Rattle.cm_image_format.specs.Image.{Listed, listed_text, chip_text}
 use Rattle.cm_image_format.specs.Whole.{flag_plane_of, image_of_chip, image_text, text_of}
 use Rattle.cm_image.specs.Planes.{flags_text, planes_below, listed_below, chips_text}
 use Rattle.cm_image.proofs.Dumping.{chip_text-parts, chips_none, chips_more}
@@ -34,9 +39,9 @@ message_eighteen : (m : Message) → length (message_text m) ≡ 18
 unfolding number
 message_eighteen m = refl
 
-shape_eight : (n cap : ℕ) → length (shape_text n cap) ≡ 8
-unfolding shape_text number
-shape_eight n cap = refl
+head_eight : (head : Head) → length (head_text head) ≡ 8
+unfolding head_text number
+head_eight head = refl
 
 clock_eight : (n : ℕ) → length (number w64 n) ≡ 8
 unfolding number
@@ -92,14 +97,40 @@ length-chips_more machine c =
     ∙ length-append (chips_text machine 0 c) last
 
 pub length-text_of : (n cap : ℕ) (machine : Machine)
-    → length (text_of n cap machine) ≡ 16 + length (chips_text machine 0 (2 ^ n))
+    → length (text_of n cap machine)
+    ≡ 16 + length (routing_text machine.routing) + length (chips_text machine 0 (2 ^ n))
 unfolding image_text
 length-text_of n cap machine =
+    let cuts : List ℕ = routing_text machine.routing in
     let chips : List ℕ = chips_text machine 0 (2 ^ n) in
+    let head : Head = head_of n cap machine.routing in
     omega (
       arith,
-      length-append (shape_text n cap) (number w64 machine.clock ++ chips),
-      length-append (number w64 machine.clock) chips,
-      shape_eight n cap,
+      length-append (head_text head) (number w64 machine.clock ++ (cuts ++ chips)),
+      length-append (number w64 machine.clock) (cuts ++ chips),
+      length-append cuts chips,
+      head_eight head,
       clock_eight machine.clock,
     )
+
+-- ---- the wires that are cut
+
+cut_three : (w : Wire) → length (cut_text w) ≡ 3
+unfolding number
+cut_three w = refl
+
+pub length-listed_cuts : (cuts : List Wire) → length (listed_cuts_text cuts) ≡ 2 + length cuts * 3
+length-listed_cuts cuts =
+    omega (
+      arith,
+      length-append (number w16 (length cuts)) (flat_map cut_text cuts),
+      two (length cuts),
+      length-flat_map_same cut_text 3 cuts cut_three,
+    )
+
+-- so few that a number of two bytes counts them
+pub few_cuts : (n k : ℕ) → n ≤ 12 → k ≤ n * 2 ^ n / 2 → k < 65536
+few_cuts n k h most =
+    let chips : 2 ^ n ≤ 2 ^ 12 = pow-le-pow_right (lit< tt) h in
+    let wires : n * 2 ^ n ≤ 12 * 2 ^ 12 = mul-le-mul h chips in
+    omega arith

@@ -1,5 +1,6 @@
 mod Filling
 mod Taking
+mod Cutting
 mod Nearing
 mod Waiting
 mod Building

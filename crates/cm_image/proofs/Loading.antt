@@ -1,22 +1,28 @@
 -- From the parts of an image to the whole, and from its machine to what is answered.
-use Rattle.std.proofs.Common.{◌≡◌, ℕ, zero, suc, ◌+◌, ◌-◌, ◌<◌, ◌≤◌, ◌^◌, Bool, true, false, List, [], ◌∷◌, ◌++◌}
-use Rattle.std.proofs.Common.{map, fold, set, Result, Ok, Err, IfOk, IfErr, length, refl, sym, ap, ◌∙◌, subst, arith, if◌then◌else◌}
+use Rattle.std.proofs.Common.{◌≡◌, ℕ, zero, suc, ◌+◌, ◌-◌, ◌<◌, ◌≤◌, ◌^◌, Bool, true, false, List, [], ◌∷◌, ◌++◌, map}
+use Rattle.std.proofs.Common.{fold, set, Result, Ok, Err, IfOk, IfErr, length, refl, sym, ap, ◌∙◌, subst, arith}
+use Rattle.std.proofs.Common.{if◌then◌else◌}
 use Rattle.std.specs.List.{flat_map}
 use Rattle.std.proofs.lemmas.List.{nil_from_length, length_push}
 use Rattle.cm_model.specs.declared.message.Message.{Message}
 use Rattle.cm_model.specs.Processor.{Processor}
 use Rattle.cm_model.specs.Array.{Chips, list_at}
+use Rattle.cm_model.specs.Wiring.{Routing, plain_routing}
 use Rattle.cm_model.specs.Machine.{Machine}
 use Rattle.cm_model.specs.Unlogged.{standing_messages, has_tag_twice}
 use Rattle.cm_image_format.specs.declared.fault.ImageFault.{ImageFault}
 use Rattle.cm_image_format.specs.declared.fault.ImageFault.TheVariants.{TagTwice, Extra}
 use Rattle.cm_image_format.specs.Reading.{◌>>=◌, Read, made, many}
-use Rattle.cm_image_format.specs.Image.{Listed, ChipImage, header_part, flags_part, memory_part, messages_part, chip_part}
+use Rattle.cm_image_format.specs.Header.{Head, header_part}
+use Rattle.cm_image_format.specs.Cuts.{routing_part}
+use Rattle.cm_image_format.specs.Image.{Listed, ChipImage, flags_part, memory_part, messages_part, chip_part}
 use Rattle.cm_element.specs.Near.{with_near}
 use Rattle.cm_element.specs.Planes.{chip_of}
-use Rattle.cm_image_format.specs.Whole.{planes_of, chip_from, Image, machine_from, messages_in, image_part, ended, read_image}
+use Rattle.cm_image_format.specs.Whole.{planes_of, chip_from, Image, machine_from, messages_in, image_part, ended}
+use Rattle.cm_image_format.specs.Whole.{read_image}
 use Rattle.cm_image.specs.Chips.{with_flags, with_listed, with_message, with_chip_image, IsBlankFrom, blank_at}
 use Rattle.cm_image.specs.Chips.{chips_part, machine_of_chips}
+use Rattle.cm_image.specs.Cuts.{with_routing}
 use Rattle.cm_image.specs.Tile.{with_waiting}
 use Rattle.cm_image.proofs.Filling.{fill, fill_on, fill_err, fill_done, fill_is, many_err}
 use Rattle.cm_image.proofs.Building.{chip_built, blank_from-next, put_chip, machine_built, messages_all}
@@ -189,18 +195,18 @@ chips_wrong n cap clock c first m bytes before fault h same is =
     (sym (from_nothing (2 ^ n)))
     ∙ (sym same ∙ fill_err same_number (λ i. chip_part n cap clock) put_chip (2 ^ n) c 0 (m, c) before fault h is))
 
-pub chips_read : (n cap clock c : ℕ) (m : Machine) (bytes rest : List ℕ) → 2 ^ n ≤ c
-    → chips_left n cap clock c m rest ≡ chips_left n cap clock 0 (blank_at n clock) bytes
-    → made (machine_of_chips clock) (chips_part n cap clock) bytes ≡ Ok (m, rest)
-chips_read n cap clock c m bytes rest h same =
+pub chips_read : (n cap clock c : ℕ) (routing : Routing) (m : Machine) (bytes rest : List ℕ) → 2 ^ n ≤ c
+    → chips_left n cap clock c m rest ≡ chips_left n cap clock 0 (blank_at n clock routing) bytes
+    → made (machine_of_chips clock routing) (chips_part n cap clock) bytes ≡ Ok (m, rest)
+chips_read n cap clock c routing m bytes rest h same =
     let one : ℕ → List ℕ → Read ChipImage = λ i. chip_part n cap clock in
-    let all : made (λ xs. fold put_chip (blank_at n clock, 0) xs) (chips_part n cap clock) bytes ≡ Ok ((m, c), rest) =
-    sym (fill_is same_number one put_chip (2 ^ n) 0 (blank_at n clock, 0) bytes)
-    ∙ (ap (λ (k : ℕ). fill same_number one put_chip k 0 (blank_at n clock, 0) bytes) (sym (from_nothing (2 ^ n)))
+    let all : made (λ xs. fold put_chip (blank_at n clock routing, 0) xs) (chips_part n cap clock) bytes ≡ Ok ((m, c), rest) =
+    sym (fill_is same_number one put_chip (2 ^ n) 0 (blank_at n clock routing, 0) bytes)
+    ∙ (ap (λ (k : ℕ). fill same_number one put_chip k 0 (blank_at n clock routing, 0) bytes) (sym (from_nothing (2 ^ n)))
     ∙ (sym same ∙ fill_done same_number one put_chip (2 ^ n) c 0 (m, c) rest h)) in
-    let images = made_of (λ xs. fold put_chip (blank_at n clock, 0) xs) (chips_part n cap clock) bytes rest (m, c)
+    let images = made_of (λ xs. fold put_chip (blank_at n clock routing, 0) xs) (chips_part n cap clock) bytes rest (m, c)
     all in
-    let built = sym (machine_built n (record { clock = clock; chips = images.0 })
+    let built = sym (machine_built n (record { clock = clock; routing = routing; chips = images.0 })
     (many_count same_number one (2 ^ n) 0 bytes rest images.0 images.1)) ∙ images.2 in
     rw images.1 (ap (λ (z : Machine). Ok (z, rest)) (ap (λ (p : Machine × ℕ). p.0) built))
 
@@ -211,11 +217,39 @@ pub header_wrong : (n cap : ℕ) (bytes : List ℕ) (fault : ImageFault) → hea
 unfolding read_image image_part
 header_wrong n cap bytes fault is = rw is refl
 
-pub chips_fault : (n cap clock : ℕ) (bytes after : List ℕ) (fault : ImageFault)
-    → header_part n cap bytes ≡ Ok (((n, cap), clock), after) → chips_part n cap clock after ≡ Err fault
+pub routing_wrong : (n cap : ℕ) (header : Head × ℕ) (bytes after : List ℕ) (fault : ImageFault)
+    → header_part n cap bytes ≡ Ok (header, after) → routing_part n header.0 after ≡ Err fault
     → read_image n cap bytes ≡ Err fault
 unfolding read_image image_part
-chips_fault n cap clock bytes after fault header is = rw (header, is) refl
+routing_wrong n cap header bytes after fault is wrong = rw (is, wrong) refl
+
+-- header and routing are read, and the machine that was begun routes so
+pub record IsBegun (n cap : ℕ) (header : Head × ℕ) (bytes after : List ℕ) (machine : Machine) : Type 0 where
+  pub front : List ℕ
+  pub header_is : header_part n cap bytes ≡ Ok (header, front)
+  pub routing_is : routing_part n header.0 front ≡ Ok (machine.routing, after)
+
+-- begun with the blank machine at the counter of the header
+pub begun : (n cap : ℕ) (header : Head × ℕ) (bytes front after : List ℕ) (first machine : Machine)
+    → header_part n cap bytes ≡ Ok (header, front) → first ≡ blank_at n header.1 plain_routing
+    → made (with_routing first) (routing_part n header.0) front ≡ Ok (machine, after)
+    → IsBegun n cap header bytes after machine × (machine ≡ blank_at n header.1 machine.routing)
+begun n cap header bytes front after first machine is blank routes =
+    let routing = made_of (with_routing first) (routing_part n header.0) front after machine routes in
+    let same : routing.0 ≡ machine.routing = ap (λ (m : Machine). m.routing) routing.2 in (
+      record {
+        front = front;
+        header_is = is;
+        routing_is = routing.1 ∙ ap (λ (r : Routing). Ok (r, after)) same;
+      },
+      sym routing.2 ∙ (λ i. with_routing (blank i) (same i)),
+    )
+
+pub chips_fault : (n cap : ℕ) (header : Head × ℕ) (bytes after : List ℕ) (machine : Machine) (fault : ImageFault)
+    → IsBegun n cap header bytes after machine → chips_part n cap header.1 after ≡ Err fault
+    → read_image n cap bytes ≡ Err fault
+unfolding read_image image_part
+chips_fault n cap header bytes after machine fault begun is = rw (begun.header_is, begun.routing_is, is) refl
 
 -- what comes after the last chip, in words of the machine
 abbrev told : Bool → Machine → List ℕ → Result Machine ImageFault
@@ -243,41 +277,42 @@ ended_is image (byte ∷ bytes) =
     (λ (b : Bool). (if b then Err TagTwice else Err Extra)
     ≡ told b (machine_from image) (byte ∷ bytes)) [ true ↦ refl | false ↦ refl ]
 
-image_told : (n cap clock : ℕ) (bytes after rest : List ℕ) (machine : Machine)
-    → header_part n cap bytes ≡ Ok (((n, cap), clock), after)
-    → made (machine_of_chips clock) (chips_part n cap clock) after ≡ Ok (machine, rest)
+image_told : (n cap : ℕ) (header : Head × ℕ) (bytes after rest : List ℕ) (first machine : Machine)
+    → IsBegun n cap header bytes after first
+    → made (machine_of_chips header.1 first.routing) (chips_part n cap header.1) after ≡ Ok (machine, rest)
     → read_image n cap bytes ≡ told (has_tag_twice (standing_messages machine)) machine rest
 unfolding read_image image_part
-image_told n cap clock bytes after rest machine header chips =
-    let images = made_of (machine_of_chips clock) (chips_part n cap clock) after rest machine chips in
-    let image : Image = record { clock = clock; chips = images.0 } in
+image_told n cap header bytes after rest first machine begun chips =
+    let images = made_of (machine_of_chips header.1 first.routing) (chips_part n cap header.1) after rest machine chips in
+    let image : Image = record { clock = header.1; routing = first.routing; chips = images.0 } in
     let twice : has_tag_twice (messages_in images.0) ≡ has_tag_twice (standing_messages machine) =
     ap has_tag_twice (sym (messages_of-machine_from image) ∙ ap standing_messages images.2) in
-    rw (header, images.1) (ended_is image rest ∙ (λ i. told (twice i) (images.2 i) rest))
+    rw (begun.header_is, begun.routing_is, images.1)
+    (ended_is image rest ∙ (λ i. told (twice i) (images.2 i) rest))
 
-pub loaded : (n cap clock : ℕ) (bytes after rest : List ℕ) (machine : Machine)
-    → header_part n cap bytes ≡ Ok (((n, cap), clock), after)
-    → made (machine_of_chips clock) (chips_part n cap clock) after ≡ Ok (machine, rest)
+pub loaded : (n cap : ℕ) (header : Head × ℕ) (bytes after rest : List ℕ) (first machine : Machine)
+    → IsBegun n cap header bytes after first
+    → made (machine_of_chips header.1 first.routing) (chips_part n cap header.1) after ≡ Ok (machine, rest)
     → has_tag_twice (standing_messages machine) ≡ false → length rest ≡ 0 → read_image n cap bytes ≡ Ok machine
-loaded n cap clock bytes after rest machine header chips once none =
-    image_told n cap clock bytes after rest machine header chips
+loaded n cap header bytes after rest first machine begun chips once none =
+    image_told n cap header bytes after rest first machine begun chips
     ∙ (λ i. told (once i) machine (nil_from_length rest none i))
 
-pub twice : (n cap clock : ℕ) (bytes after rest : List ℕ) (machine : Machine)
-    → header_part n cap bytes ≡ Ok (((n, cap), clock), after)
-    → made (machine_of_chips clock) (chips_part n cap clock) after ≡ Ok (machine, rest)
+pub twice : (n cap : ℕ) (header : Head × ℕ) (bytes after rest : List ℕ) (first machine : Machine)
+    → IsBegun n cap header bytes after first
+    → made (machine_of_chips header.1 first.routing) (chips_part n cap header.1) after ≡ Ok (machine, rest)
     → has_tag_twice (standing_messages machine) ≡ true → read_image n cap bytes ≡ Err TagTwice
-twice n cap clock bytes after rest machine header chips two =
-    image_told n cap clock bytes after rest machine header chips ∙ (λ i. told (two i) machine rest)
+twice n cap header bytes after rest first machine begun chips two =
+    image_told n cap header bytes after rest first machine begun chips ∙ (λ i. told (two i) machine rest)
 
 told_extra : (machine : Machine) (rest : List ℕ) → (length rest ≡ 0 → ⊥) → told false machine rest ≡ Err Extra
 told_extra machine [] some = absurd (some refl)
 told_extra machine (byte ∷ bytes) some = refl
 
-pub extra : (n cap clock : ℕ) (bytes after rest : List ℕ) (machine : Machine)
-    → header_part n cap bytes ≡ Ok (((n, cap), clock), after)
-    → made (machine_of_chips clock) (chips_part n cap clock) after ≡ Ok (machine, rest)
+pub extra : (n cap : ℕ) (header : Head × ℕ) (bytes after rest : List ℕ) (first machine : Machine)
+    → IsBegun n cap header bytes after first
+    → made (machine_of_chips header.1 first.routing) (chips_part n cap header.1) after ≡ Ok (machine, rest)
     → has_tag_twice (standing_messages machine) ≡ false → (length rest ≡ 0 → ⊥) → read_image n cap bytes ≡ Err Extra
-extra n cap clock bytes after rest machine header chips once some =
-    image_told n cap clock bytes after rest machine header chips
+extra n cap header bytes after rest first machine begun chips once some =
+    image_told n cap header bytes after rest first machine begun chips
     ∙ ((λ i. told (once i) machine rest) ∙ told_extra machine rest some)

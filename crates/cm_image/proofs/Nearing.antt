@@ -1,6 +1,6 @@
 -- Chips in a list that others take the places of, from a place on.
-use Rattle.std.proofs.Common.{◌≡◌, ℕ, suc, ◌+◌, ◌<◌, ◌++◌, List, [], ◌∷◌, sym, ap, ◌∙◌, arith, take, drop, length, get_or}
-use Rattle.std.proofs.Common.{set, append_assoc, length-append, length-drop, drop-cons}
+use Rattle.std.proofs.Common.{◌≡◌, ℕ, suc, ◌+◌, ◌<◌, ◌++◌, List, [], ◌∷◌, sym, ap, ◌∙◌, arith, take, drop, length}
+use Rattle.std.proofs.Common.{get_or, set, append_assoc, length-append, length-drop, drop-cons}
 use Rattle.std.proofs.lemmas.List.{length_push, length-take, length-take-le, set_at}
 use Rattle.cm_model.specs.Processor.{Processor}
 use Rattle.cm_model.specs.Array.{Chips}

@@ -3,6 +3,7 @@ use Rattle.std.specs.Prelude.{◌≡◌, ℕ, ◌≤◌, ◌<◌, ◌^◌, List,
 use Rattle.cm_model.specs.declared.message.Message.{Message}
 use Rattle.cm_model.specs.Chip.{blank_chip}
 use Rattle.cm_model.specs.Array.{chip_at, list_at}
+use Rattle.cm_model.specs.Wiring.{Routing}
 use Rattle.cm_model.specs.Machine.{Machine, blank_machine}
 use Rattle.cm_element.specs.Planes.{chip_of}
 use Rattle.cm_array.specs.Pokes.{machine_with_plane, machine_with_message}
@@ -40,14 +41,14 @@ pub record IsBlankFrom (n c : ℕ) (machine : Machine) : Type 0 where
   pub chips : (d : ℕ) → c ≤ d → d < 2 ^ n → chip_at machine.chips d ≡ blank_chip
   pub buffers : (d : ℕ) → c ≤ d → d < 2 ^ n → list_at machine.buffers d ≡ []
 
--- the blank machine at a count of petit cycles
-abbrev pub blank_at : ℕ → ℕ → Machine
-blank_at n clock = record (blank_machine n) { clock = clock }
+-- the blank machine at a count of petit cycles, which routes so
+abbrev pub blank_at : ℕ → ℕ → Routing → Machine
+blank_at n clock routing = record (blank_machine n) { clock = clock; routing = routing }
 
 -- all chips of an image, as they stand behind its header
 abbrev pub chips_part : ℕ → ℕ → ℕ → List ℕ → Read (List ChipImage)
 chips_part n cap clock = many (λ i chip. i) (λ i. chip_part n cap clock) (2 ^ n) 0
 
--- the machine of chips that were read
-abbrev pub machine_of_chips : ℕ → List ChipImage → Machine
-machine_of_chips clock chips = machine_from (record { clock = clock; chips = chips })
+-- the machine of chips that were read behind a counter and a routing
+abbrev pub machine_of_chips : ℕ → Routing → List ChipImage → Machine
+machine_of_chips clock routing chips = machine_from (record { clock = clock; routing = routing; chips = chips })

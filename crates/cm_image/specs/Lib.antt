@@ -1,3 +1,4 @@
 pub mod Planes
 pub mod Chips
 pub mod Tile
+pub mod Cuts

@@ -168,10 +168,10 @@ pub(crate) fn take_chips<'a, const N: usize, const CAP: usize>(
     bytes: &'a [u8],
 ) -> Result<&'a [u8], ImageFault>
     requires dimension { N ≤ 12 }
-    requires blank { builder.old ≡ blank_at N clock }
+    requires blank { builder.old ≡ blank_at N clock builder.old.routing }
     requires none { tile.old ≡ [] }
-    ensures ok { IfOk result (λ rest. made (machine_of_chips clock) (chips_part N CAP clock) bytes.now
-        ≡ Ok (builder.new, rest.now)) }
+    ensures ok { IfOk result (λ rest. made (machine_of_chips clock builder.old.routing) (chips_part N CAP clock)
+        bytes.now ≡ Ok (builder.new, rest.now)) }
     ensures refused { IfErr result (λ fault. chips_part N CAP clock bytes.now ≡ Err fault) }
 {
     let chips = chip_count::<N>();

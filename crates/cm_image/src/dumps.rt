@@ -1,13 +1,16 @@
 //! Writing the bytes of a machine.
 
-ghost use Rattle.std.specs.Prelude.{◌≡◌, ℕ, ◌==◌, ◌+◌, ◌++◌, ◌^◌, ◌<◌, ◌≤◌, List, length, IfOk, Ok, OnOk};
+ghost use Rattle.std.specs.Prelude.{◌≡◌, ℕ, ◌==◌, ◌+◌, ◌*◌, ◌++◌, ◌^◌, ◌<◌, ◌≤◌, List, length, IfOk, Ok, OnOk};
 ghost use Rattle.std.specs.Prelude.{if◌then◌else◌, slice_index};
 ghost use Rattle.std.specs.List.{flat_map};
 ghost use Rattle.std.specs.Int.{w8, w16, w32, w64};
 ghost use Rattle.cm_model.specs.Processor.{Processor};
 ghost use Rattle.cm_model.specs.Array.{chip_at};
+ghost use Rattle.cm_model.specs.Wiring.{rule_number};
 ghost use Rattle.cm_message.specs.Bytes.{number, message_text};
-ghost use Rattle.cm_image_format.specs.Image.{chip_text, shape_text};
+ghost use Rattle.cm_image_format.specs.Header.{head_text};
+ghost use Rattle.cm_image_format.specs.Cuts.{version_of};
+ghost use Rattle.cm_image_format.specs.Image.{chip_text};
 ghost use Rattle.cm_image_format.specs.Whole.{flag_plane_of, memory_plane_of, image_of_chip, image_of, text_of};
 ghost use Rattle.cm_image_format.specs.Whole.{read_image};
 ghost use Rattle.cm_image_format.specs.Laws.{without_logs};
@@ -15,18 +18,18 @@ ghost use Rattle.cm_image.specs.Planes.{AreCounted, AreInUse, chips_text, flags_
 ghost use Rattle.cm_image.specs.Planes.{listed_below, planes_below};
 
 use crate::counts::{addresses_in_use, listed_planes};
+use crate::cuts::{cuts_len, push_cuts, version_of};
 use crate::dense::{TILE_PLANES, push_dense_chips};
 use crate::numbers::chip_count;
 use cm_array::Machine;
-use cm_bits::{Addr, FlagNo, NoMemory, Plane};
+use cm_bits::{Addr, Edge, FlagNo, NoMemory, Plane};
 use cm_element::{ChipView, Run};
 use cm_image_format::texts_leave_out_logs;
-use cm_message::{Message, bytes};
+use cm_message::{Message, Rule, bytes};
+use cm_model::cuts_are_few;
 use std::alloc::Global;
 
 const MAGIC: u32 = 0x434d_3149;
-
-const VERSION: u8 = 1;
 
 const FLAGS: u8 = 16;
 
@@ -53,12 +56,17 @@ pub fn dump<const N: usize, const CAP: usize>(
     ensures read { IfOk result (λ text. read_image N CAP text.items ≡ Ok (without_logs N machine.now.machine)) }
 {
     let cycles = machine.clock();
+    let routing = machine.routing();
+    let cuts = routing.cuts.edges();
+    let version = version_of(routing.rule, cuts);
     texts_leave_out_logs();
+    cuts_are_few();
     let counts = listed_planes(alloc, machine)?;
     let addresses = addresses_in_use(alloc, machine)?;
-    let mut text = Vec::with_capacity(alloc, text_len(machine, &counts))?;
-    push_shape(&mut text, N, CAP)?;
+    let mut text = Vec::with_capacity(alloc, text_len(machine, version, cuts, &counts))?;
+    push_head(&mut text, version, N, CAP, routing.rule)?;
     push_u64(&mut text, cycles)?;
+    push_cuts(&mut text, version, cuts)?;
     push_all_chips(alloc, &mut text, machine, &counts, &addresses)?;
     Ok(text)
 }
@@ -87,13 +95,32 @@ fn push_all_chips<const N: usize, const CAP: usize>(
 }
 
 /// How many bytes the image has, so that its list need not grow.
-fn text_len<const N: usize, const CAP: usize>(machine: &Machine<N, CAP>, counts: &[u16]) -> usize
+fn text_len<const N: usize, const CAP: usize>(
+    machine: &Machine<N, CAP>,
+    version: u8,
+    cuts: &[Edge],
+    counts: &[u16],
+) -> usize
     requires dimension { N ≤ 12 }
     requires room { CAP ≤ 15 }
+    requires version { version ≡ version_of machine.now.machine.routing }
+    requires cuts { cuts.now ≡ machine.now.machine.routing.cuts }
+    requires few { length cuts.now < 65536 }
     requires counts { AreCounted (2 ^ N) machine.now.machine.chips 4096 counts.now }
     ensures value { result ≡ length (text_of N CAP machine.now.machine) }
 {
-    let mut len = HEADER_LEN;
+    HEADER_LEN + cuts_len(version, cuts) + chips_len(machine, counts)
+}
+
+/// How many bytes it has of the chips.
+fn chips_len<const N: usize, const CAP: usize>(machine: &Machine<N, CAP>, counts: &[u16]) -> usize
+    requires dimension { N ≤ 12 }
+    requires room { CAP ≤ 15 }
+    requires counts { AreCounted (2 ^ N) machine.now.machine.chips 4096 counts.now }
+    ensures value { result ≡ length (chips_text machine.now.machine 0 (2 ^ N)) }
+    ensures within { result ≤ 4096 * 300000 }
+{
+    let mut len = 0;
     let count = chip_count::<N>();
     for c in 0..count {
         len += chip_len(counts[usize::from(c)], machine.buffer(c));
@@ -201,17 +228,24 @@ fn push_u64(text: &mut Vec<u8>, n: u64) -> Result<(), NoMemory>
     push(text, &n.to_be_bytes())
 }
 
-/// Magic, version, dimension, room, reserve.
-fn push_shape(text: &mut Vec<u8>, n: usize, cap: usize) -> Result<(), NoMemory>
+/// Magic, version, dimension, room, rule.
+fn push_head(
+    text: &mut Vec<u8>,
+    version: u8,
+    n: usize,
+    cap: usize,
+    rule: Rule,
+) -> Result<(), NoMemory>
     requires dimension { n ≤ 12 }
     requires room { cap ≤ 15 }
-    ensures ok { OnOk result (text.new.items ≡ text.old.items ++ shape_text n cap) }
+    ensures ok { OnOk result (text.new.items ≡ text.old.items
+        ++ head_text (record { version = version; dimension = n; room = cap; rule = rule_number rule })) }
 {
     push_u32(text, MAGIC)?;
-    push_u8(text, VERSION)?;
+    push_u8(text, version)?;
     push_u8(text, n as u8)?;
     push_u8(text, cap as u8)?;
-    push_u8(text, 0)?;
+    push_u8(text, rule.number())?;
     Ok(())
 }
 

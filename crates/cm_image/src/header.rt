@@ -1,16 +1,28 @@
 //! The first parts of an image: its shape, and the counter.
 
-ghost use Rattle.std.specs.Prelude.{◌<◌, ◌≤◌, ◌^◌, IfOk, IsOk};
+ghost use Rattle.std.specs.Prelude.{◌≡◌, ◌<◌, ◌≤◌, ◌^◌, ◌==◌, true, IfOk, IsOk};
+ghost use Rattle.std.specs.Int.{w8, w32};
+ghost use Rattle.cm_model.specs.Wiring.{rule_number};
 ghost use Rattle.cm_model.specs.Keeping.{AreSizes};
-ghost use Rattle.cm_image_format.specs.Reading.{Gives};
-ghost use Rattle.cm_image_format.specs.Image.{header_part};
+ghost use Rattle.cm_image_format.specs.Reading.{Gives, must, part};
+ghost use Rattle.cm_image_format.specs.Header.{MAGIC, is_version, is_rule, header_part};
 ghost use Rattle.cm_image_format.specs.Whole.{read_shape};
+ghost use Rattle.cm_image.specs.Cuts.{header_of};
 
 use crate::numbers::{take_u8, take_u32, take_u64};
 use cm_image_format::ImageFault;
+use cm_message::Rule;
 
 /// The four bytes `CM1I`.
 const MAGIC: u32 = 0x434d_3149;
+
+/// What the header of an image tells beside its sizes.
+#[derive(Clone, Copy, Debug, PartialEq, Eq)]
+pub(crate) struct Header {
+    pub(crate) version: u8,
+    pub(crate) rule: Rule,
+    pub(crate) clock: u64,
+}
 
 /// The dimension of the machine whose image this is, and the room of its routers, as far as the first eight
 /// bytes tell.
@@ -21,14 +33,8 @@ pub fn shape(bytes: &[u8]) -> Result<(u8, u8), ImageFault>
     ensures some_room { IfOk result (λ shape. 1 ≤ shape.1) }
     ensures most_room { IfOk result (λ shape. shape.1 ≤ 15) }
 {
-    let (magic, rest) = take_u32(bytes)?;
-    if magic != MAGIC {
-        return Err(ImageFault::Magic);
-    }
-    let (version, rest) = take_u8(rest)?;
-    if version != 1 {
-        return Err(ImageFault::Version);
-    }
+    let (_, rest) = take_magic(bytes)?;
+    let (version, rest) = take_version(rest)?;
     let (dimension, rest) = take_u8(rest)?;
     if dimension > 12 {
         return Err(ImageFault::Shape);
@@ -37,28 +43,18 @@ pub fn shape(bytes: &[u8]) -> Result<(u8, u8), ImageFault>
     if room < 1 || room > 15 {
         return Err(ImageFault::Shape);
     }
-    let (reserve, _) = take_u8(rest)?;
-    if reserve != 0 {
-        return Err(ImageFault::Shape);
-    }
+    take_rule(version, rest)?;
     Ok((dimension, room))
 }
 
-/// The counter of an image of this dimension and room, and the bytes after its header.
-pub(crate) fn take_header(n: usize, cap: usize, bytes: &[u8]) -> Result<(u64, &[u8]), ImageFault>
-    ensures value { Gives (λ x. (((n, cap), x.0), x.1.now)) result
-        (header_part n cap bytes.now) }
+/// The header of an image of this dimension and room, and the bytes after it.
+pub(crate) fn take_header(n: usize, cap: usize, bytes: &[u8]) -> Result<(Header, &[u8]), ImageFault>
+    ensures value { Gives (λ x. (header_of n cap x.0, x.1.now)) result (header_part n cap bytes.now) }
     ensures sizes { IsOk result → AreSizes n cap }
-    ensures early { IfOk result (λ x. x.0 < 2 ^ 63) }
+    ensures early { IfOk result (λ x. x.0.clock < 2 ^ 63) }
 {
-    let (magic, rest) = take_u32(bytes)?;
-    if magic != MAGIC {
-        return Err(ImageFault::Magic);
-    }
-    let (version, rest) = take_u8(rest)?;
-    if version != 1 {
-        return Err(ImageFault::Version);
-    }
+    let (_, rest) = take_magic(bytes)?;
+    let (version, rest) = take_version(rest)?;
     let (dimension, rest) = take_u8(rest)?;
     if dimension > 12 || usize::from(dimension) != n {
         return Err(ImageFault::Shape);
@@ -67,13 +63,54 @@ pub(crate) fn take_header(n: usize, cap: usize, bytes: &[u8]) -> Result<(u64, &[
     if room < 1 || room > 15 || usize::from(room) != cap {
         return Err(ImageFault::Shape);
     }
-    let (reserve, rest) = take_u8(rest)?;
-    if reserve != 0 {
-        return Err(ImageFault::Shape);
-    }
+    let (rule, rest) = take_rule(version, rest)?;
     let (clock, rest) = take_u64(rest)?;
     if clock >= 1 << 63 {
         return Err(ImageFault::Value);
     }
-    Ok((clock, rest))
+    let header = Header {
+        version,
+        rule,
+        clock,
+    };
+    Ok((header, rest))
+}
+
+fn take_magic(bytes: &[u8]) -> Result<(u32, &[u8]), ImageFault>
+    ensures value { Gives (λ x. (x.0, x.1.now)) result (part w32 (must ImageFault.Magic (λ k. k == MAGIC)) bytes.now) }
+{
+    let (magic, rest) = take_u32(bytes)?;
+    if magic != MAGIC {
+        return Err(ImageFault::Magic);
+    }
+    Ok((magic, rest))
+}
+
+fn take_version(bytes: &[u8]) -> Result<(u8, &[u8]), ImageFault>
+    ensures value { Gives (λ x. (x.0, x.1.now)) result (part w8 (must ImageFault.Version is_version) bytes.now) }
+    ensures known { IfOk result (λ x. x.0 ≤ 2) }
+{
+    let (version, rest) = take_u8(bytes)?;
+    if version != 1 && version != 2 {
+        return Err(ImageFault::Version);
+    }
+    Ok((version, rest))
+}
+
+/// The rule of an image of this version.
+fn take_rule(version: u8, bytes: &[u8]) -> Result<(Rule, &[u8]), ImageFault>
+    requires known { version ≤ 2 }
+    ensures value { Gives (λ x. (rule_number x.0, x.1.now)) result
+        (part w8 (must ImageFault.Shape (is_rule version)) bytes.now) }
+{
+    let (number, rest) = take_u8(bytes)?;
+    if number >= version {
+        return Err(ImageFault::Shape);
+    }
+    let rule = if number == 0 {
+        Rule::First
+    } else {
+        Rule::Oldest
+    };
+    Ok((rule, rest))
 }

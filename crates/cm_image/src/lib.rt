@@ -3,6 +3,7 @@
 
 mod chips;
 mod counts;
+mod cuts;
 mod dense;
 mod dumps;
 mod header;

@@ -6,6 +6,7 @@ ghost use Rattle.cm_model.specs.Unlogged.{standing_messages, has_tag_twice};
 ghost use Rattle.cm_image_format.specs.Whole.{read_image, image_fault, header_fault};
 
 use crate::chips::take_chips;
+use crate::cuts::take_routing;
 use crate::header::take_header;
 use crate::tile::Tile;
 use cm_array::{BuildFault, Builder, Machine};
@@ -13,7 +14,7 @@ use cm_image_format::ImageFault;
 use std::alloc::Global;
 
 /// The machine whose image these bytes are, with no event, or the first fault of the bytes in reading order. A
-/// growth of memory may be refused before a fault of the chips is reached.
+/// growth of memory may be refused before a fault of the cut wires or the chips is reached.
 pub fn load<const N: usize, const CAP: usize>(
     alloc: Global,
     bytes: &[u8],
@@ -23,15 +24,16 @@ pub fn load<const N: usize, const CAP: usize>(
     ensures refused { IfErr result (λ fault. fault ≢ ImageFault.Memory → image_fault N CAP bytes.now ≡ Some fault) }
     ensures otherwise { image_fault N CAP bytes.now ≡ None → IsOkUnless result ImageFault.Memory }
 {
-    let (clock, rest) = take_header(N, CAP, bytes)?;
+    let (header, behind) = take_header(N, CAP, bytes)?;
     // The header has this machine's sizes, so that only memory can be wanting.
-    let Ok(mut builder) = Builder::start(alloc, clock) else {
+    let Ok(mut builder) = Builder::start(alloc, header.clock) else {
         return Err(ImageFault::Memory);
     };
     let Ok(mut tile) = Tile::new(alloc) else {
         return Err(ImageFault::Memory);
     };
-    let rest = take_chips(&mut builder, &mut tile, clock, rest)?;
+    let chips = take_routing(&mut builder, header, behind)?;
+    let rest = take_chips(&mut builder, &mut tile, header.clock, chips)?;
     let machine = finished(builder)?;
     if !rest.is_empty() {
         return Err(ImageFault::Extra);

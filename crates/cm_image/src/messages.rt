@@ -3,7 +3,8 @@
 ghost use Rattle.std.specs.Prelude.{◌≡◌, ◌≤◌, ◌<◌, ◌^◌, [], IfOk, IfErr, Ok, Err, fold, length};
 ghost use Rattle.cm_model.specs.Array.{list_at};
 ghost use Rattle.cm_image_format.specs.Reading.{Gives, made};
-ghost use Rattle.cm_image_format.specs.Image.{chip_number_part, processor_part, message_part, messages_part};
+ghost use Rattle.cm_image_format.specs.Cuts.{chip_number_part};
+ghost use Rattle.cm_image_format.specs.Image.{processor_part, message_part, messages_part};
 ghost use Rattle.cm_image.specs.Chips.{with_message};
 
 use crate::numbers::{take_u8, take_u16, take_u32, take_u64};
@@ -13,7 +14,11 @@ use cm_image_format::ImageFault;
 use cm_message::{Message, Tag};
 
 /// The number of one of so many chips.
-fn take_chip_number(n: usize, chips: u16, bytes: &[u8]) -> Result<(u16, &[u8]), ImageFault>
+pub(crate) fn take_chip_number(
+    n: usize,
+    chips: u16,
+    bytes: &[u8],
+) -> Result<(u16, &[u8]), ImageFault>
     requires cube { chips ≡ 2 ^ n }
     ensures value { Gives (λ x. (x.0, x.1.now)) result (chip_number_part n bytes.now) }
     ensures below { IfOk result (λ x. x.0 < chips) }

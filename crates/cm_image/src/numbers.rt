@@ -56,6 +56,7 @@ pub(crate) fn take_u64(bytes: &[u8]) -> Result<(u64, &[u8]), ImageFault>
 pub(crate) fn chip_count<const N: usize>() -> u16
     requires dimension { N ≤ 12 }
     ensures value { result ≡ 2 ^ N }
+    ensures few { result ≤ 4096 }
 {
     1 << N
 }

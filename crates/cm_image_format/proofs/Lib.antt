@@ -1,6 +1,8 @@
 mod Numbers
 mod Forms
 mod Parts
+mod Header
+mod Cuts
 mod Images
 mod Planes
 mod Chips

@@ -12,7 +12,6 @@ use Rattle.cm_model.specs.Each.{each_from}
 use Rattle.cm_model.specs.Processor.{Processor}
 use Rattle.cm_model.specs.Whole.{IsChip}
 use Rattle.cm_model.specs.Array.{each_chip, chip_at, list_at}
-use Rattle.cm_model.specs.Wiring.{IsWireOf}
 use Rattle.cm_model.specs.Machine.{Machine}
 use Rattle.cm_model.specs.Keeping.{IsMessage, IsEventOf}
 use Rattle.cm_model.specs.Unlogged.{IsUnlogged, has_tag_twice}
@@ -58,7 +57,7 @@ machine_from-image_of n cap machine is =
     (λ c h. sym (buffer_again machine c))) in
     let logs : map (λ (chip : ChipImage). []) (each_chip n (chip_image machine)) ≡ machine.logs =
     map-each_from (λ (chip : ChipImage). []) 0 (2 ^ n) (chip_image machine) ∙ sym is.unlogged in
-    λ i. record { chips = chips i; buffers = buffers i; logs = logs i; clock = machine.clock; routing = sym is.plain i }
+    λ i. record machine { chips = chips i; buffers = buffers i; logs = logs i }
 
 -- ---- an image is had again of its machine
 
@@ -79,6 +78,10 @@ clock_made : (image : Image) → (machine_from image).clock ≡ image.clock
 unfolding machine_from
 clock_made image = refl
 
+routing_made : (image : Image) → (machine_from image).routing ≡ image.routing
+unfolding machine_from
+routing_made image = refl
+
 each_is : (n cap : ℕ) (image : Image) (c : ℕ) → IsImage n cap image → c < 2 ^ n
     → IsChipImage n cap image.clock (get_or image.chips c no_image)
 each_is n cap image c is h =
@@ -92,7 +95,7 @@ image_of-machine_from n cap image is =
     (λ c h. sym ((λ i. image_of_chip (chip_made image c (omega (arith, is.count)) i)
     (buffer_made image c (omega (arith, is.count)) i))
     ∙ image_of_chip-chip_from n cap image.clock (get_or image.chips c no_image) (each_is n cap image c is h)))) in
-    λ i. record { clock = clock_made image i; chips = chips i }
+    λ i. record { clock = clock_made image i; routing = routing_made image i; chips = chips i }
 
 -- ---- a machine has an image
 
@@ -109,6 +112,7 @@ IsImage-image_of n cap machine is =
       some_room = is.some_room;
       most_room = is.most_room;
       clock = is.clock;
+      routing = whole.routing;
       count = length-each_from 0 (2 ^ n) (chip_image machine);
       each = AllFrom-All (IsChipImage n cap machine.clock) 0 chips
           (All-from_get_or (IsChipImage n cap machine.clock) chips no_image
@@ -167,7 +171,6 @@ IsStored-machine_from n cap image is apart =
       some_room = is.some_room;
       most_room = is.most_room;
       clock = omega arith;
-      plain = refl;
       unlogged = none;
       whole = record {
         chip_count = long.0;
@@ -183,7 +186,7 @@ IsStored-machine_from n cap image is apart =
             (each_is n cap image c is h).messages.0.1) in
             subst (λ (ms : List Message). length ms ≤ cap) (sym (buffer_made image c (omega (arith, is.count)))) here;
         messages = λ c h. λ k d l. (stored_at n cap image c is h k d l).message;
-        routing = record { within = All-nil (IsWireOf n); rising = tt };
+        routing = is.routing;
         events = λ c h. subst (λ (log : List Event). All (IsEventOf n c) log)
             (sym (ap (λ (logs : List (List Event)). list_at logs c) none
             ∙ get_or-each_below (2 ^ n) (λ b. []) c [] h)) (All-nil (IsEventOf n c));

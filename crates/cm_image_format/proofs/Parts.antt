@@ -11,8 +11,9 @@ use Rattle.cm_image_format.specs.declared.fault.ImageFault.{ImageFault}
 use Rattle.cm_image_format.specs.declared.fault.ImageFault.TheVariants.{Order, Count, Value}
 use Rattle.cm_image_format.specs.Reading.{Read, must, part, number_at, ◌⨾◌}
 use Rattle.cm_image_format.specs.Image.{Listed, ChipImage, flag_part, address_fault, listed_text, listed_part}
-use Rattle.cm_image_format.specs.Image.{memory_part, chip_number_part, processor_part, message_part, chip_text}
-use Rattle.cm_image_format.specs.Image.{flags_part, messages_part, chip_part}
+use Rattle.cm_image_format.specs.Image.{memory_part, processor_part, message_part, chip_text, flags_part, messages_part}
+use Rattle.cm_image_format.specs.Image.{chip_part}
+use Rattle.cm_image_format.specs.Cuts.{chip_number_part}
 use Rattle.cm_image_format.proofs.Numbers.{Reads, Fits8, Fits16, Fits32, Fits64, number_8, number_16, number_32}
 use Rattle.cm_image_format.proofs.Numbers.{number_64}
 use Rattle.cm_image_format.proofs.Forms.{must_pass, must_hold, AllFrom, Reads-part, Reads-followed, Reads-made}
@@ -153,15 +154,15 @@ pub record IsListed (least : ℕ) (x : Listed) : Type 0 where
   pub fits : x.plane < 2 ^ 16
   pub some : (x.plane == 0) ≡ false
 
-address_pass : (b c : Bool) → b ≡ false → c ≡ false
+pub value_pass : (b c : Bool) → b ≡ false → c ≡ false
     → ◌≡◌ {A = Option ImageFault} (if b then Some Value else if c then Some Order else None) None
-address_pass b c p q = rw (p, q) refl
+value_pass b c p q = rw (p, q) refl
 
-address_hold : (b c : Bool) → ◌≡◌ {A = Option ImageFault}
+pub value_hold : (b c : Bool) → ◌≡◌ {A = Option ImageFault}
     (if b then Some Value else if c then Some Order else None) None → (b ≡ false) × (c ≡ false)
-address_hold true c is = absurd (cc)
-address_hold false true is = absurd (cc)
-address_hold false false is = (refl, refl)
+value_hold true c is = absurd (cc)
+value_hold false true is = absurd (cc)
+value_hold false false is = (refl, refl)
 
 abbrev GoodListing : ℕ → ℕ × ℕ → Type 0
 GoodListing least p =
@@ -170,13 +171,13 @@ GoodListing least p =
 to_listing : (least : ℕ) (x : Listed) → IsListed least x → GoodListing least (x.at, x.plane)
 to_listing least x good =
     let at : Fits16 x.at = omega (arith, good.below) in
-    let address : address_fault least x.at ≡ None = address_pass (nat_lt 4095 x.at) (nat_lt x.at least)
+    let address : address_fault least x.at ≡ None = value_pass (nat_lt 4095 x.at) (nat_lt x.at least)
     (le-ltb 4095 x.at (omega (arith, good.below))) (le-ltb x.at least good.above) in
     ((at, address), (good.fits, must_pass Order (not (x.plane == 0)) (not_from_false (x.plane == 0) good.some)))
 
 from_listing : (least : ℕ) (p : ℕ × ℕ) → GoodListing least p → IsListed least (record { at = p.0; plane = p.1 })
 from_listing least p good =
-    let address = address_hold (nat_lt 4095 p.0) (nat_lt p.0 least) good.0.1 in
+    let address = value_hold (nat_lt 4095 p.0) (nat_lt p.0 least) good.0.1 in
     let below : p.0 ≤ 4095 = ltb-false 4095 p.0 address.0 in
     record {
       above = ltb-false p.0 least address.1;

@@ -94,7 +94,6 @@ IsStored-without_logs n cap machine is =
       some_room = is.some_room;
       most_room = is.most_room;
       clock = is.clock;
-      plain = is.plain;
       unlogged = none;
       whole = record {
         chip_count = is.whole.chip_count;

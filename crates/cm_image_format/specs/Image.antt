@@ -1,12 +1,12 @@
--- An image: its parts in reading order, each with its check. Ours.
-use Rattle.std.specs.Prelude.{ℕ, ◌+◌, ◌^◌, ◌==◌, ◌&&◌, ◌||◌, not, Bool, List, ◌++◌, Some, None, length, nat_lt, nat_le}
-use Rattle.std.specs.Prelude.{if◌then◌else◌}
+-- The chips of an image: their parts in reading order, each with its check. Ours.
+use Rattle.std.specs.Prelude.{ℕ, ◌+◌, ◌==◌, ◌||◌, not, List, ◌++◌, Some, None, length, nat_lt, nat_le, if◌then◌else◌}
 use Rattle.std.specs.List.{flat_map}
 use Rattle.std.specs.Int.{w8, w16, w32, w64}
 use Rattle.cm_model.specs.declared.message.Message.{Message}
 use Rattle.cm_message.specs.Bytes.{number, message_text}
-use Rattle.cm_image_format.specs.declared.fault.ImageFault.TheVariants.{Magic, Version, Shape, Order, Count, Value}
+use Rattle.cm_image_format.specs.declared.fault.ImageFault.TheVariants.{Order, Count, Value}
 use Rattle.cm_image_format.specs.Reading.{Read, Check, must, number_at, part, ◌⨾◌, made, many, counted}
+use Rattle.cm_image_format.specs.Cuts.{chip_number_part}
 
 -- a memory plane that is listed: its address, and its bits
 pub record Listed : Type 0 where
@@ -19,38 +19,6 @@ pub record ChipImage : Type 0 where
   pub flags : List ℕ
   pub memory : List Listed
   pub messages : List Message
-
--- ---- the header
-
--- the four bytes `CM1I`
-abbrev pub MAGIC : ℕ
-MAGIC = 0x434d3149
-
--- a dimension of a cube, and room of a router
-abbrev pub is_dimension : ℕ → Bool
-is_dimension n = nat_le n 12
-
-abbrev pub is_room : ℕ → Bool
-is_room cap = nat_le 1 cap && nat_le cap 15
-
--- magic, version, dimension, room, reserve
-unfoldable pub shape_text : ℕ → ℕ → List ℕ
-shape_text n cap = number w32 MAGIC ++ (number w8 1 ++ (number w8 n ++ (number w8 cap ++ number w8 0)))
-
--- the same, where the dimension and the room pass these tests
-abbrev pub shape_part : (ℕ → Bool) → (ℕ → Bool) → List ℕ → Read (ℕ × ℕ)
-shape_part dimension room =
-    made (λ x. (x.1.1.0, x.1.1.1.0))
-    (part w32 (must Magic (λ k. k == MAGIC)) ⨾ part w8 (must Version (λ k. k == 1))
-    ⨾ part w8 (must Shape dimension) ⨾ part w8 (must Shape room) ⨾ part w8 (must Shape (λ k. k == 0)))
-
--- the counter
-abbrev pub clock_part : List ℕ → Read ℕ
-clock_part = part w64 (must Value (λ k. nat_lt k (2 ^ 63)))
-
--- the header of a machine of these sizes: its shape, then the counter
-abbrev pub header_part : ℕ → ℕ → List ℕ → Read ((ℕ × ℕ) × ℕ)
-header_part n cap = shape_part (λ k. is_dimension k && k == n) (λ k. is_room k && k == cap) ⨾ clock_part
 
 -- ---- a chip
 
@@ -70,9 +38,6 @@ listed_part least = made (λ x. record { at = x.0; plane = x.1 })
 
 abbrev pub memory_part : List ℕ → Read (List Listed)
 memory_part = counted w16 (must Count (λ k. nat_le k 4096)) (λ least x. x.at + 1) listed_part 0
-
-abbrev pub chip_number_part : ℕ → List ℕ → Read ℕ
-chip_number_part n = part w16 (must Value (λ k. nat_lt k (2 ^ n)))
 
 abbrev pub processor_part : List ℕ → Read ℕ
 processor_part = part w8 (must Value (λ k. nat_lt k 16))

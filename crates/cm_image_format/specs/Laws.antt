@@ -1,19 +1,17 @@
 -- Laws over images, each the contract of a function of its name. Ours.
 use Rattle.std.specs.Prelude.{◌≡◌, ℕ, ◌<◌, ◌≤◌, ◌^◌, ◌↔◌, List, [], None, Ok, slice_index}
 use Rattle.cm_model.specs.Array.{each_chip}
-use Rattle.cm_model.specs.Wiring.{plain_routing}
 use Rattle.cm_model.specs.Machine.{Machine}
 use Rattle.cm_model.specs.Keeping.{IsMachine}
 use Rattle.cm_model.specs.Unlogged.{IsUnlogged}
 use Rattle.cm_image_format.specs.Whole.{text_of, read_image, image_fault}
 
--- a machine that an image can tell: of these sizes, whole, its routing plain, and without logs
+-- a machine that an image can tell: of these sizes, whole, and without logs
 pub record IsStored (n cap : ℕ) (machine : Machine) : Type 0 where
   pub dimension : n ≤ 12
   pub some_room : 1 ≤ cap
   pub most_room : cap ≤ 15
   pub clock : machine.clock < 2 ^ 63
-  pub plain : machine.routing ≡ plain_routing
   pub whole : IsMachine n cap machine
   pub unlogged : IsUnlogged n machine
 
@@ -23,7 +21,6 @@ pub record HasText (n cap : ℕ) (machine : Machine) : Type 0 where
   pub some_room : 1 ≤ cap
   pub most_room : cap ≤ 15
   pub clock : machine.clock < 2 ^ 63
-  pub plain : machine.routing ≡ plain_routing
   pub whole : IsMachine n cap machine
 
 -- the machine as if it had been made with what stands in it now: no log has an event

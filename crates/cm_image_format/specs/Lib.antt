@@ -1,4 +1,6 @@
 pub mod Reading
+pub mod Header
+pub mod Cuts
 pub mod Image
 pub mod Whole
 pub mod Laws

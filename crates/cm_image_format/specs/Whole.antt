@@ -8,15 +8,16 @@ use Rattle.cm_model.specs.Each.{each_from}
 use Rattle.cm_model.specs.Processor.{Processor, memory_bit, flag}
 use Rattle.cm_model.specs.Chip.{each_processor, processor_at, plane_number}
 use Rattle.cm_model.specs.Array.{each_chip, chip_at, list_at}
-use Rattle.cm_model.specs.Wiring.{plain_routing}
+use Rattle.cm_model.specs.Wiring.{Routing}
 use Rattle.cm_model.specs.Machine.{Machine}
 pub use Rattle.cm_model.specs.Unlogged.{has_tag_twice}
 use Rattle.cm_message.specs.Bytes.{number}
 use Rattle.cm_image_format.specs.declared.fault.ImageFault.{ImageFault}
 use Rattle.cm_image_format.specs.declared.fault.ImageFault.TheVariants.{TagTwice, Extra}
-use Rattle.cm_image_format.specs.Reading.{Read, ◌>>=◌, followed, made, many, fault_in}
-use Rattle.cm_image_format.specs.Image.{Listed, ChipImage, is_dimension, is_room, shape_text, shape_part, header_part}
-use Rattle.cm_image_format.specs.Image.{chip_text, chip_part}
+use Rattle.cm_image_format.specs.Reading.{Read, ◌>>=◌, followed, ◌⨾◌, made, many, fault_in}
+use Rattle.cm_image_format.specs.Header.{is_dimension, is_room, head_text, shape_part, header_part}
+use Rattle.cm_image_format.specs.Cuts.{head_of, routing_text, routing_part}
+use Rattle.cm_image_format.specs.Image.{Listed, ChipImage, chip_text, chip_part}
 
 -- ---- a chip
 
@@ -60,43 +61,47 @@ chip_from image = each_processor (λ p. record {
 
 -- ---- a machine
 
--- the counter, and by number what there is of each chip
+-- the counter, how the machine routes, and by number what there is of each chip
 pub record Image : Type 0 where
   pub clock : ℕ
+  pub routing : Routing
   pub chips : List ChipImage
 
 abbrev pub image_of : ℕ → Machine → Image
 image_of n machine = record {
   clock = machine.clock;
+  routing = machine.routing;
   chips = each_chip n (λ c. image_of_chip (chip_at machine.chips c) (list_at machine.buffers c));
 }
 
 unfoldable pub image_text : ℕ → ℕ → Image → List ℕ
-image_text n cap image = shape_text n cap ++ (number w64 image.clock ++ flat_map chip_text image.chips)
+image_text n cap image = head_text (head_of n cap image.routing)
+    ++ (number w64 image.clock ++ (routing_text image.routing ++ flat_map chip_text image.chips))
 
 -- the one text of a machine: its logs are not in it
 abbrev pub text_of : ℕ → ℕ → Machine → List ℕ
 text_of n cap machine = image_text n cap (image_of n machine)
 
--- the machine of an image, with no event, its routing plain
+-- the machine of an image, with no event
 unfoldable pub machine_from : Image → Machine
 machine_from image = record {
   chips = map chip_from image.chips;
   buffers = map (λ chip. chip.messages) image.chips;
   logs = map (λ chip. []) image.chips;
   clock = image.clock;
-  routing = plain_routing;
+  routing = image.routing;
 }
 
 -- all messages of an image
 abbrev pub messages_in : List ChipImage → List Message
 messages_in chips = flat_map (λ chip. chip.messages) chips
 
--- header and chips
+-- header, routing and chips
 unfoldable pub image_part : ℕ → ℕ → List ℕ → Read Image
 image_part n cap =
-    made (λ x. record { clock = x.0.1; chips = x.1 })
-    (followed (header_part n cap) (λ header. many (λ i chip. i) (λ i. chip_part n cap header.1) (2 ^ n) 0))
+    made (λ x. record { clock = x.0.1; routing = x.1.0; chips = x.1.1 })
+    (followed (header_part n cap) (λ header.
+    routing_part n header.0 ⨾ many (λ i chip. i) (λ i. chip_part n cap header.1) (2 ^ n) 0))
 
 -- what comes after the last chip: tags, and the end
 abbrev pub ended : Image → List ℕ → Result Machine ImageFault
@@ -117,8 +122,8 @@ image_fault n cap bytes = fault_in (read_image n cap bytes)
 abbrev pub header_fault : ℕ → ℕ → List ℕ → Option ImageFault
 header_fault n cap bytes = fault_in (header_part n cap bytes)
 
--- dimension and room as they stand in the first five parts
+-- dimension and room as the first eight bytes tell them
 unfoldable pub read_shape : List ℕ → Result (ℕ × ℕ) ImageFault
 read_shape bytes = do
   shape ← shape_part is_dimension is_room bytes
-  Ok shape.0
+  Ok (shape.0.dimension, shape.0.room)

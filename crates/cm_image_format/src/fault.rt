@@ -12,11 +12,11 @@ pub enum ImageFault {
     Magic,
     #[error("an unknown version")]
     Version,
-    #[error("another dimension or room, or a reserve that is not 0")]
+    #[error("another dimension or room, or a rule that its version has not")]
     Shape,
-    #[error("a plane that is 0 or out of order")]
+    #[error("a plane that is 0, or planes or cut wires out of order")]
     Order,
-    #[error("too many planes or messages")]
+    #[error("too many planes, messages or cut wires, or no cut wire where there has to be one")]
     Count,
     #[error("a number out of its range")]
     Value,

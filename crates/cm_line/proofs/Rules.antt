@@ -83,9 +83,10 @@ bare a b c d new flag help asks =
     (ap app_of_fields help ∙ ap (on_top (λ (s : Shape). record s { disable_help_subcommand = true }))
     (ap app_of_fields flag ∙ ap without_help_flag new))
 
--- the rules of operands and of options that are added to none
-pub leaf_rules : (none some all : List Arg) (operands options : List Rule) → none ≡ []
-    → map rule_of some ≡ map rule_of none ++ operands → map rule_of all ≡ map rule_of some ++ options
-    → map rule_of all ≡ operands ++ options
-leaf_rules none some all operands options empty first second =
-    second ∙ ap (λ (l : List Rule). l ++ options) (first ∙ ap (λ (l : List Arg). map rule_of l ++ operands) empty)
+-- the rules of operands, of further ones and of options that are added to none
+pub leaf_rules : (none some more all : List Arg) (operands further options : List Rule) → none ≡ []
+    → map rule_of some ≡ map rule_of none ++ operands → map rule_of more ≡ map rule_of some ++ further
+    → map rule_of all ≡ map rule_of more ++ options → map rule_of all ≡ (operands ++ further) ++ options
+leaf_rules none some more all operands further options empty first second third =
+    third ∙ ap (λ (l : List Rule). l ++ options) (second ∙ ap (λ (l : List Rule). l ++ further)
+    (first ∙ ap (λ (l : List Arg). map rule_of l ++ operands) empty))

@@ -21,6 +21,10 @@ without_help_flag = on_top (λ (s : Shape). record s { disable_help_flag = true 
 abbrev pub required_operand : Text → Rule
 required_operand name = record (new_rule name) { required = true }
 
+-- an operand that may stand there
+abbrev pub optional_operand : Text → Rule
+optional_operand name = new_rule name
+
 -- an option `--name VALUE` or `--name=VALUE`, which may stand there, once
 abbrev pub option_with_value : Text → Rule
 option_with_value name = record (new_rule name) { long = Some name }
@@ -30,29 +34,37 @@ abbrev pub with_rules : App → List Rule → App
 with_rules app [] = app
 with_rules app (rule ∷ rules) = with_rules (with_rule app rule) rules
 
--- a subcommand of this name, with these operands and these options
-abbrev pub leaf_app : Text → List Text → List Text → App
-leaf_app name operands options =
-    with_rules (without_help_flag (new_app name)) (map required_operand operands ++ map option_with_value options)
+-- a subcommand of this name, with these operands, these that may stand behind them, and these options
+abbrev pub leaf_app : Text → List Text → List Text → List Text → App
+leaf_app name operands further options =
+    with_rules (without_help_flag (new_app name))
+    ((map required_operand operands ++ map optional_operand further) ++ map option_with_value options)
 
 -- the subcommand `chip`, which has no operands and no options
 abbrev pub chip_app : App
-chip_app = leaf_app (codes "chip") [] []
+chip_app = leaf_app (codes "chip") [] [] []
 
 -- the subcommand `list`, whose one operand is a program's file
 abbrev pub list_app : App
-list_app = leaf_app (codes "list") (codes "program" ∷ []) []
+list_app = leaf_app (codes "list") (codes "program" ∷ []) [] []
 
 -- the subcommand `fresh`, whose operands are a dimension, a room and a file
 abbrev pub fresh_app : App
-fresh_app = leaf_app (codes "fresh") (codes "n" ∷ codes "cap" ∷ codes "file" ∷ []) []
+fresh_app = leaf_app (codes "fresh") (codes "n" ∷ codes "cap" ∷ codes "file" ∷ []) [] []
 
 -- the subcommand `run`, whose operands are the files of an image and of a program, and whose options are two numbers
 -- and a file
 abbrev pub run_app : App
 run_app =
-    leaf_app (codes "run") (codes "image" ∷ codes "program" ∷ [])
+    leaf_app (codes "run") (codes "image" ∷ codes "program" ∷ []) []
     (codes "split" ∷ codes "workers" ∷ codes "out" ∷ [])
+
+-- the subcommand `weave`, whose operands are the files of an image, of a program and, if it is there, of steps, and
+-- whose options are a number and a file
+abbrev pub weave_app : App
+weave_app =
+    leaf_app (codes "weave") (codes "image" ∷ codes "program" ∷ []) (codes "steps" ∷ [])
+    (codes "split" ∷ codes "out" ∷ [])
 
 -- the program before it has a subcommand: it asks for one, and has none for help
 abbrev pub bare_app : App
@@ -67,7 +79,8 @@ with_subcommands app (leaf ∷ leaves) = with_subcommands (with_subcommand app l
 
 -- the program, with each of its subcommands
 abbrev pub program_app : App
-program_app = with_subcommands bare_app (chip_app.top ∷ list_app.top ∷ fresh_app.top ∷ run_app.top ∷ [])
+program_app =
+    with_subcommands bare_app (chip_app.top ∷ list_app.top ∷ fresh_app.top ∷ run_app.top ∷ weave_app.top ∷ [])
 
 -- a command with no argument that counts for its subcommands too
 abbrev pub IsLocal : Command → Type 0
@@ -116,6 +129,16 @@ pub record IsRunLine (image program : List ℕ) (split workers : ℕ) (out : Opt
   pub crew : IsNumberOption (codes "workers") found 1 64 1 workers
   pub left : first_of (codes "out") found ≡ out
 
+-- the names of an image's file, of a program's file and, if it is there, of a file of steps stand for the operands of
+-- `weave`; a number, and this name, if any, for its options
+pub record IsWeaveLine (image program : List ℕ) (steps : Option (List ℕ)) (split : ℕ) (out : Option (List ℕ))
+    (found : List Row) : Type 0 where
+  pub start : first_of (codes "image") found ≡ Some image
+  pub text : first_of (codes "program") found ≡ Some program
+  pub moves : first_of (codes "steps") found ≡ steps
+  pub cuts : IsNumberOption (codes "split") found 0 6 0 split
+  pub left : first_of (codes "out") found ≡ out
+
 -- the line is the subcommand of this name, with what was found for its arguments
 abbrev pub IsLine : Line → Text × List Row → Type 0
 IsLine line.Chip found = found.0 ≡ codes "chip"
@@ -125,6 +148,10 @@ IsLine (line.Fresh n cap file) found = (found.0 ≡ codes "fresh") × IsFreshLin
 IsLine (line.Run image program split workers out) found =
     (found.0 ≡ codes "run")
     × IsRunLine (string_bytes image) (string_bytes program) split workers (option_map string_bytes out) found.1
+IsLine (line.Weave image program steps split out) found =
+    (found.0 ≡ codes "weave")
+    × IsWeaveLine (string_bytes image) (string_bytes program) (option_map string_bytes steps) split
+    (option_map string_bytes out) found.1
 
 -- the words are taken, and the line is the subcommand that clap reads in them
 pub record AsksFor (words : List Text) (line : Line) : Type 0 where

@@ -1,14 +1,14 @@
 ghost use Rattle.std.specs.Prelude.{◌≡◌, ℕ, List, [], ◌∷◌, Option, Some, None, IfOk, IfSome, IsErrOf, String};
-ghost use Rattle.std.specs.Prelude.{codes, string_bytes};
+ghost use Rattle.std.specs.Prelude.{codes, option_map, string_bytes};
 ghost use Rattle.clap.specs.Walk.{first_of, rows_of, texts};
 ghost use Rattle.clap.specs.Matches.{found_of};
 ghost use Rattle.cm_line.specs.Lines.{AsksFor, IsBadLine, IsLine, IsFreshLine, IsRunLine, IsNumberOperand};
-ghost use Rattle.cm_line.specs.Lines.{IsNumberOption};
+ghost use Rattle.cm_line.specs.Lines.{IsNumberOption, IsWeaveLine};
 
-use crate::app::{DIMENSION, FILE, IMAGE, OUT, PROGRAM, ROOM, SPLIT, WORKERS, matches};
+use crate::app::{DIMENSION, FILE, IMAGE, OUT, PROGRAM, ROOM, SPLIT, STEPS, WORKERS, matches};
 use crate::fault::LineFault;
 use clap::ArgMatches;
-use std::alloc::Global;
+use std::alloc::{AllocError, Global};
 
 /// What the program is asked to do.
 #[derive(Debug, PartialEq, Eq, Drop)]
@@ -37,6 +37,16 @@ pub enum Line {
         workers: u8,
         out: Option<String>,
     },
+    /// `weave IMAGE PROGRAM [STEPS] [--split K] [--out FILE]`: steps the exchange of the 2^K blocks of the machine of
+    /// this image, which run the program in this file, by the lines of the file STEPS, or by itself where it is left
+    /// out. The image of the machine that is left goes into the file of `--out`, if one is named. K is as in `run`.
+    Weave {
+        image: String,
+        program: String,
+        steps: Option<String>,
+        split: u8,
+        out: Option<String>,
+    },
 }
 
 /// Reads the words of a command line. The first is the program's name, and may be any.
@@ -53,6 +63,7 @@ pub fn command<'a>(alloc: Global, words: &'a [&'a str]) -> Result<Line, LineFaul
         Some(("list", operands)) => list_line(alloc, operands),
         Some(("fresh", operands)) => fresh_line(alloc, operands),
         Some(("run", operands)) => run_line(alloc, operands),
+        Some(("weave", operands)) => weave_line(alloc, operands),
         _ => Err(LineFault::BadLine),
     }
 }
@@ -112,17 +123,53 @@ fn run_line(alloc: Global, operands: &ArgMatches) -> Result<Line, LineFault>
     let Some(workers) = number_option(operands, WORKERS, 1, 64, 1) else {
         return Err(LineFault::BadLine);
     };
-    let out = match operands.get_str(OUT) {
-        Some(file) => Some(String::from_str(alloc, file)?),
-        None => None,
-    };
     Ok(Line::Run {
         image: String::from_str(alloc, image)?,
         program: String::from_str(alloc, program)?,
         split,
         workers,
-        out,
+        out: file_if_named(alloc, operands, OUT)?,
     })
+}
+
+/// The line of `weave`, by what was found for its operands and its options.
+fn weave_line(alloc: Global, operands: &ArgMatches) -> Result<Line, LineFault>
+    ensures value { IfOk result (λ line. IsLine line (codes "weave", rows_of (found_of operands.now))) }
+    ensures none { IsErrOf result LineFault.BadLine
+        → (image : List ℕ) (program : List ℕ) (steps : Option (List ℕ)) (split : ℕ) (out : Option (List ℕ))
+        → ¬ IsWeaveLine image program steps split out (rows_of (found_of operands.now)) }
+{
+    let Some(image) = operands.get_str(IMAGE) else {
+        return Err(LineFault::BadLine);
+    };
+    let Some(program) = operands.get_str(PROGRAM) else {
+        return Err(LineFault::BadLine);
+    };
+    let Some(split) = number_option(operands, SPLIT, 0, 6, 0) else {
+        return Err(LineFault::BadLine);
+    };
+    Ok(Line::Weave {
+        image: String::from_str(alloc, image)?,
+        program: String::from_str(alloc, program)?,
+        steps: file_if_named(alloc, operands, STEPS)?,
+        split,
+        out: file_if_named(alloc, operands, OUT)?,
+    })
+}
+
+/// The name of a file that was found, if one was.
+fn file_if_named(
+    alloc: Global,
+    operands: &ArgMatches,
+    name: &str,
+) -> Result<Option<String>, AllocError>
+    ensures { IfOk result
+        (λ file. first_of name.now (rows_of (found_of operands.now)) ≡ option_map string_bytes file) }
+{
+    match operands.get_str(name) {
+        Some(file) => Ok(Some(String::from_str(alloc, file)?)),
+        None => Ok(None),
+    }
 }
 
 /// The number that was found for an operand, if it is one of this range.
@@ -151,11 +198,12 @@ fn number_option(operands: &ArgMatches, name: &str, least: u8, most: u8, usual: 
     }
 }
 
-/// A law: of the words below, `chip` alone, `list` with one operand, `fresh` with three, and `run` with two and at
-/// most one `--out`, `--split` and `--workers` each, before its operands or behind them, ask for a line. A call for
-/// help or for the version, no subcommand, no word at all, an unknown subcommand, an operand or an option of `chip`,
-/// `list` with no operand, with two or with an option, and `run` with one operand or three, with another option, with
-/// an option twice, or with no file or no number of its range behind it do not.
+/// A law: of the words below, `chip` alone, `list` with one operand, `fresh` with three, `run` with two and at most one
+/// `--out`, `--split` and `--workers` each, before its operands or behind them, and `weave` with two or three and at
+/// most one `--out` and `--split` each ask for a line. A call for help or for the version, no subcommand, no word at
+/// all, an unknown subcommand, an operand or an option of `chip`, `list` with no operand, with two or with an option,
+/// `run` with one operand or three, with another option, with an option twice, or with no file or no number of its
+/// range behind it, and `weave` with one operand or four, with `--workers`, or with a number out of its range do not.
 #[tactic(auto, unfolding(clap::proofs::OnLiterals::clap_on_literals))]
 pub fn lines_and_bad_lines()
     ensures chip { AsksFor (codes "cm1" ∷ codes "chip" ∷ []) Line.Chip }
@@ -229,4 +277,24 @@ pub fn lines_and_bad_lines()
     ensures workers_twice { IsBadLine
         (codes "cm1" ∷ codes "run" ∷ codes "a.image" ∷ codes "sums.txt" ∷ codes "--workers=1" ∷ codes "--workers=2"
         ∷ []) }
+    ensures weave { (image : String Global) (program : String Global) → string_bytes image ≡ codes "a.image"
+        → string_bytes program ≡ codes "sums.txt"
+        → AsksFor (codes "cm1" ∷ codes "weave" ∷ codes "a.image" ∷ codes "sums.txt" ∷ [])
+        (Line.Weave image program None 0 None) }
+    ensures weave_with_steps { (image : String Global) (program : String Global) (steps : String Global)
+        (out : String Global)
+        → string_bytes image ≡ codes "a.image" → string_bytes program ≡ codes "sums.txt"
+        → string_bytes steps ≡ codes "steps.txt" → string_bytes out ≡ codes "b.image"
+        → AsksFor
+        (codes "cm1" ∷ codes "weave" ∷ codes "a.image" ∷ codes "sums.txt" ∷ codes "--split" ∷ codes "1"
+        ∷ codes "steps.txt" ∷ codes "--out=b.image" ∷ [])
+        (Line.Weave image program (Some steps) 1 (Some out)) }
+    ensures weave_without_program { IsBadLine (codes "cm1" ∷ codes "weave" ∷ codes "a.image" ∷ []) }
+    ensures weave_of_four { IsBadLine
+        (codes "cm1" ∷ codes "weave" ∷ codes "a.image" ∷ codes "sums.txt" ∷ codes "steps.txt" ∷ codes "more.txt"
+        ∷ []) }
+    ensures weave_with_workers { IsBadLine
+        (codes "cm1" ∷ codes "weave" ∷ codes "a.image" ∷ codes "sums.txt" ∷ codes "--workers" ∷ codes "1" ∷ []) }
+    ensures weave_cut_seven_times { IsBadLine
+        (codes "cm1" ∷ codes "weave" ∷ codes "a.image" ∷ codes "sums.txt" ∷ codes "--split" ∷ codes "7" ∷ []) }
 {}

@@ -5,6 +5,7 @@ pub mod Preferring
 pub mod Places
 pub mod Flips
 pub mod Wires
+pub mod Cuts
 pub mod Crossing
 pub mod Leaving
 pub mod Readiness

@@ -1,5 +1,5 @@
 -- Laws over the definitions, each the contract of a function of its name. Ours.
-use Rattle.std.specs.Prelude.{◌≡◌, ℕ, ◌^◌, ◌<◌, List, ◌++◌, length, take}
+use Rattle.std.specs.Prelude.{◌≡◌, ℕ, ◌*◌, ◌/◌, ◌^◌, ◌<◌, ◌≤◌, List, ◌++◌, length, take}
 use Rattle.cm_bits.specs.declared.place.Place.{Place}
 use Rattle.cm_bits.specs.declared.plane.Dir.{Dir}
 use Rattle.cm_model.specs.declared.act.Act.{Act}
@@ -7,6 +7,7 @@ use Rattle.cm_model.specs.Place.{neighbour, opposite}
 use Rattle.cm_model.specs.declared.message.Tag.{Tag}
 use Rattle.cm_model.specs.Steps.{all_steps}
 use Rattle.cm_model.specs.Array.{list_at}
+use Rattle.cm_model.specs.Wiring.{Routing, is_cut, IsRouting}
 use Rattle.cm_model.specs.Machine.{Machine, blank_machine, machine_at, run_of}
 use Rattle.cm_model.specs.Buffers.{after_steps, after_act, after_acts}
 use Rattle.cm_model.specs.Account.{account, new_events, newly_injected, all_injected, SameLines, HasLines}
@@ -26,6 +27,15 @@ pub record LeadsBack (n : ℕ) (dir : Dir) (place : Place) : Type 0 where
 -- so it is at every place, in every direction, for every cube
 abbrev pub NeighboursLeadBack : Type 0
 NeighboursLeadBack = (n : ℕ) (dir : Dir) (place : Place) → IsPlace n place → LeadsBack n dir place
+
+-- a machine has at most as many cut wires as its cube has wires: two ends each, one at every chip in every dimension
+abbrev pub CutsAreFew : Type 0
+CutsAreFew = (n : ℕ) (routing : Routing) → IsRouting n routing → length routing.cuts ≤ n * 2 ^ n / 2
+
+-- which wires of its cube a routing cuts, and its rule, tell it
+abbrev pub RoutingsAreToldByWires : Type 0
+RoutingsAreToldByWires = (n : ℕ) (left right : Routing) → IsRouting n left → IsRouting n right
+    → left.rule ≡ right.rule → ((c d : ℕ) → c < 2 ^ n → d < n → is_cut left c d ≡ is_cut right c d) → left ≡ right
 
 -- a run cut in two gives the same machine, with its buffers and logs
 abbrev pub RunsCanBeCut : Type 0

@@ -3,7 +3,7 @@ use Rattle.std.specs.Prelude.{ℕ, ◌<◌, ◌^◌, ◌==◌, ◌&&◌, ◌||�
 use Rattle.std.specs.List.{All, list_any}
 use Rattle.cm_bits.specs.Wire.{Wire, IsWire}
 use Rattle.cm_model.specs.declared.rule.Rule.{Rule}
-use Rattle.cm_model.specs.declared.rule.Rule.TheVariants.{First}
+use Rattle.cm_model.specs.declared.rule.Rule.TheVariants.{First, Oldest}
 
 -- the wire of chip c over dimension d: the same one, seen from either end
 abbrev pub wire_of : ℕ → ℕ → Wire
@@ -27,6 +27,11 @@ pub record Routing : Type 0 where
   -- each wire that is cut, once, in their order
   pub cuts : List Wire
   pub rule : Rule
+
+-- a rule by its number
+abbrev pub rule_number : Rule → ℕ
+rule_number First = 0
+rule_number Oldest = 1
 
 -- no wire is cut, and who came first goes first: so the engine routes as yet
 abbrev pub plain_routing : Routing

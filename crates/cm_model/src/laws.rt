@@ -3,6 +3,7 @@
 ghost use Rattle.cm_model.specs.Laws.{NeighboursLeadBack, MessagesAreFound, InjectedStandInTheAccount, BlankIsMachine};
 ghost use Rattle.cm_model.specs.Laws.{StepsAreToldByBuffers, RunsKeepRoom, RunsCanBeCut, RunsAreToldByBuffers};
 ghost use Rattle.cm_model.specs.Laws.{LogsOnlyGrow, AccountIsConserved, TagsStayApart};
+ghost use Rattle.cm_model.specs.Laws.{CutsAreFew, RoutingsAreToldByWires};
 ghost use Rattle.cm_model.specs.Laws.{MachinesAreKept, RunsKeepMachines};
 ghost use Rattle.cm_model.specs.StepLaws.{SendersAreAcknowledged, DeliveriesAreApart, NobodyIsPassedOver};
 ghost use Rattle.cm_model.specs.StepLaws.{PayloadsAreReceived};
@@ -13,6 +14,16 @@ ghost use Rattle.cm_model.specs.StepLaws.{TargetsAreKept, RoomIsKept, Instructio
 /// A step on the grid and one back end where they began.
 pub fn neighbours_lead_back()
     ensures { NeighboursLeadBack }
+{}
+
+/// A machine has at most as many cut wires as its cube has wires.
+pub fn cuts_are_few()
+    ensures { CutsAreFew }
+{}
+
+/// Two routings that cut the same wires of their cube, by one rule, are one.
+pub fn routings_are_told_by_wires()
+    ensures { RoutingsAreToldByWires }
 {}
 
 /// A run cut in two gives the same buffers and logs.

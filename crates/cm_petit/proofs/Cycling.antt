@@ -6,7 +6,7 @@ use Rattle.std.proofs.lemmas.Bool.Decides.{nat_tests}
 use Rattle.cm_model.specs.declared.act.Act.TheVariants as act
 use Rattle.cm_model.specs.declared.message.Message.{Message}
 use Rattle.cm_model.specs.Array.{each_chip, list_at}
-use Rattle.cm_model.specs.Wiring.{Routing, plain_routing, plain_way}
+use Rattle.cm_model.specs.Wiring.{Routing, Way, way_of}
 use Rattle.cm_model.specs.Buffers.{leaving_place, outgoing, buffer_after_dimension, buffers_after_dimension, after_act}
 use Rattle.cm_model.specs.Buffers.{machine_after_injection, machine_after_dimension, machine_after_delivery}
 use Rattle.cm_model.specs.Machine.{Machine}
@@ -14,6 +14,7 @@ use Rattle.cm_model.specs.Steps.{Inject, Deliver}
 use Rattle.cm_model.proofs.Cycles.{after_crossings, after_crossings-more, routing_in_cycle, after_cycle-is}
 use Rattle.cm_model.proofs.Each.{is_each}
 use Rattle.cm_model.proofs.Flips.{across_below}
+use Rattle.cm_model.proofs.Wires.{way_of-across}
 use Rattle.cm_blocks.specs.Parcels.{Blank}
 use Rattle.cm_blocks.specs.Parts.{Part}
 use Rattle.cm_blocks.specs.Steps.{part_after}
@@ -36,19 +37,29 @@ pub delivered_whole : (n room : ℕ) (s : Part) {t : Part} → s.first ≡ 0 →
 unfolding machine_after_delivery part_after
 delivered_whole n room s first count is = simp (first, count, from_0) at (ap whole is)
 
+-- where all chips cross, each by the way that it shares with the chip across
+pub crossed_by_one_way : (routing : Routing) (n room d : ℕ) (old : List (List Message))
+    → each_chip n (λ c. buffer_after_dimension (way_of routing (0 + c) d) room d (list_at old c)
+    (outgoing (way_of routing (0 + c) d) room d (list_at old (bit_xor c (2 ^ d)))))
+    ≡ buffers_after_dimension routing n room d old
+crossed_by_one_way routing n room d old =
+    let here : (c : ℕ) → way_of routing (0 + c) d ≡ way_of routing c d =
+    λ c. ap (λ (k : ℕ). way_of routing k d) (omega arith) in
+    let there : (c : ℕ) → way_of routing (0 + c) d ≡ way_of routing (bit_xor c (2 ^ d)) d =
+    λ c. here c ∙ sym (way_of-across routing c d) in
+    λ i. each_chip n (λ c. buffer_after_dimension (here c i) room d (list_at old c)
+    (outgoing (there c i) room d (list_at old (bit_xor c (2 ^ d)))))
+
 -- the machine after injection and so many dimensions
 abbrev pub under_way : ℕ → ℕ → Machine → ℕ → Machine
 under_way n room m d = after_crossings n room (machine_after_injection n room m) d
 
 pub crossed_more : (n room : ℕ) (m : Machine) (d : ℕ) {now : Machine} {next : List (List Message)}
-    → now ≡ under_way n room m d → m.routing ≡ plain_routing
-    → next ≡ each_chip n (λ c. buffer_after_dimension plain_way room d (list_at now.buffers c)
-    (outgoing plain_way room d (list_at now.buffers (bit_xor c (2 ^ d)))))
+    → now ≡ under_way n room m d → next ≡ buffers_after_dimension m.routing n room d now.buffers
     → record now { buffers = next } ≡ under_way n room m (d + 1)
 unfolding machine_after_dimension
-crossed_more n room m d {now} {next} was plain is =
-    let routing : now.routing ≡ plain_routing =
-    ap (λ (s : Machine). s.routing) was ∙ (routing_in_cycle n room m d ∙ plain) in
+crossed_more n room m d {now} {next} was is =
+    let routing : now.routing ≡ m.routing = ap (λ (s : Machine). s.routing) was ∙ routing_in_cycle n room m d in
     let same : next ≡ buffers_after_dimension now.routing n room d now.buffers =
     is ∙ ap (λ (r : Routing). buffers_after_dimension r n room d now.buffers) (sym routing) in
     (λ k. record now { buffers = same k }) ∙ ap (machine_after_dimension n room d) was
@@ -60,18 +71,19 @@ cycle_is n room m was is = is ∙ ap (machine_after_delivery n) was ∙ sym (aft
 
 -- ---- where no message stands
 
-stays_empty : (room d : ℕ) → 0 < room → buffer_after_dimension plain_way room d [] (outgoing plain_way room d []) ≡ []
+stays_empty : (here there : Way) (room d : ℕ) → 0 < room
+    → buffer_after_dimension here room d [] (outgoing there room d []) ≡ []
 unfolding buffer_after_dimension leaving_place
-stays_empty room d some = grind (arith, nat_tests)
+stays_empty here there room d some = grind (arith, nat_tests)
 
 -- nothing crosses
 pub nothing_crosses : (n room : ℕ) (m now : Machine) → 0 < room → length now.buffers ≡ 2 ^ n
     → ((c : ℕ) → c < 2 ^ n → list_at now.buffers c ≡ []) → now ≡ machine_after_injection n room m
-    → m.routing ≡ plain_routing → (d : ℕ) → d ≤ n
-    → now ≡ under_way n room m d
-nothing_crosses n room m now some long empty begun plain zero few = begun
-nothing_crosses n room m now some long empty begun plain (suc d) few =
+    → (d : ℕ) → d ≤ n → now ≡ under_way n room m d
+nothing_crosses n room m now some long empty begun zero few = begun
+nothing_crosses n room m now some long empty begun (suc d) few =
     subst (λ (k : ℕ). now ≡ under_way n room m k) (add-one d)
-    (crossed_more n room m d (nothing_crosses n room m now some long empty begun plain d (omega arith)) plain
+    (crossed_more n room m d (nothing_crosses n room m now some long empty begun d (omega arith))
     (is_each [] (2 ^ n) _ now.buffers long (λ c l.
-    rw (empty c l, empty (bit_xor c (2 ^ d)) (across_below n d c (omega arith) l)) (sym (stays_empty room d some)))))
+    rw (empty c l, empty (bit_xor c (2 ^ d)) (across_below n d c (omega arith) l))
+    (sym (stays_empty (way_of m.routing c d) (way_of m.routing (bit_xor c (2 ^ d)) d) room d some)))))

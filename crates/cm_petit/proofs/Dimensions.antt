@@ -1,18 +1,21 @@
 -- A dimension at a run of chips that begins at any chip, within it and each half by itself; and at nodes, pair by pair.
-use Rattle.std.proofs.Common.{◌≡◌, ℕ, ◌+◌, ◌-◌, ◌*◌, ◌/◌, ◌%◌, ◌^◌, ◌<◌, true, List, [], length, map, get_or}
-use Rattle.std.proofs.Common.{refl, ◌∙◌, arith, ◌≢◌, ◌≤◌, min}
+use Rattle.std.proofs.Common.{◌≡◌, ℕ, ◌+◌, ◌-◌, ◌*◌, ◌/◌, ◌%◌, ◌^◌, ◌<◌, Bool, true, List, [], length, map, get_or}
+use Rattle.std.proofs.Common.{refl, sym, ap, ◌∙◌, arith, ◌≢◌, ◌≤◌, min}
 use Rattle.std.specs.Prelude.{bit_xor}
 use Rattle.std.specs.Int.Bits.{xor_zero_r, xor_self}
 use Rattle.std.proofs.lemmas.Bool.Decides.{nat_tests}
-use Rattle.std.proofs.lemmas.List.{length-map, get_or-map, get_or_default}
+use Rattle.std.proofs.lemmas.List.{length-map, get_or-map, get_or_default, append-nil}
 use Rattle.std.proofs.lemmas.Nat.{xor_block, xor_lt, pow_below, pow_pos, xor_comm}
 use Rattle.std.specs.List.{All}
+use Rattle.cm_model.specs.declared.message.Message.{Message}
 use Rattle.cm_model.specs.Each.{each_from}
+use Rattle.cm_model.specs.declared.rule.Rule.{Rule}
 use Rattle.cm_model.specs.Array.{each_chip, list_at}
-use Rattle.cm_model.specs.Wiring.{plain_routing, plain_way}
-use Rattle.cm_model.specs.Buffers.{outgoing, buffer_after_dimension}
+use Rattle.cm_model.specs.Wiring.{Routing, Way, way_of}
+use Rattle.cm_model.specs.Buffers.{leaving_place, outgoing, buffer_after_dimension, buffers_after_dimension}
 use Rattle.cm_model.proofs.Each.{length-each_from, get_or-each_below, is_each}
 use Rattle.cm_model.proofs.Flips.{xor_twice, across_below}
+use Rattle.cm_model.proofs.Wires.{way_of-across}
 use Rattle.cm_blocks.specs.Parts.{Part, is_within, buffer_in}
 use Rattle.cm_blocks.specs.Parcels.{Blank}
 use Rattle.cm_blocks.specs.Steps.{mail_for}
@@ -44,21 +47,26 @@ stays_in span first i d even below inside =
     let flip : 0 * 2 ^ span + 2 ^ d ≡ 2 ^ d = omega arith in
     rw (flip, xor_zero_r q, begins) at (xor_block span q 0 i (2 ^ d) inside (pow_below d span below))
 
--- so within the run
-pub each_crossed : (room d span : ℕ) (s : Part) → s.routing ≡ plain_routing → d < span
-    → s.first % 2 ^ span ≡ 0 → s.count ≡ 2 ^ span
-    → each_chip span (λ c. buffer_after_dimension plain_way room d (list_at s.buffers c)
-    (outgoing plain_way room d (list_at s.buffers (bit_xor c (2 ^ d)))))
-    ≡ each_from s.first s.count (λ c. buffer_after_dimension plain_way room d (buffer_in s c) (mail_for room d Blank s c))
-each_crossed room d span s plain below even many =
+-- so within the run, each chip by the way that it shares with the chip across
+pub each_crossed : (room d span : ℕ) (s : Part) → d < span → s.first % 2 ^ span ≡ 0 → s.count ≡ 2 ^ span
+    → each_chip span (λ c. buffer_after_dimension (way_of s.routing (s.first + c) d) room d (list_at s.buffers c)
+    (outgoing (way_of s.routing (s.first + c) d) room d (list_at s.buffers (bit_xor c (2 ^ d)))))
+    ≡ each_from s.first s.count
+    (λ c. buffer_after_dimension (way_of s.routing c d) room d (buffer_in s c) (mail_for room d Blank s c))
+each_crossed room d span s below even many =
     rw (← many) (each_shifted [] s.first s.count _
-    (λ c i. buffer_after_dimension plain_way room d (list_at s.buffers i) (mail_for room d Blank s c))
+    (λ c i. buffer_after_dimension (way_of s.routing c d) room d (list_at s.buffers i) (mail_for room d Blank s c))
     (λ i inside.
     let here : i < 2 ^ span = omega (arith, many) in
     let low : bit_xor i (2 ^ d) < 2 ^ span = xor_lt span i (2 ^ d) here (pow_below d span below) in
     let there : s.first + bit_xor i (2 ^ d) - s.first ≡ bit_xor i (2 ^ d) = omega arith in
     let is_in : is_within s (s.first + bit_xor i (2 ^ d)) ≡ true = grind (arith, nat_tests) in
-    rw (stays_in span s.first i d even below here, is_in, there, plain) refl))
+    let other : ℕ = bit_xor (s.first + i) (2 ^ d) in
+    let met : List Message = list_at s.buffers (bit_xor i (2 ^ d)) in
+    let coming : mail_for room d Blank s (s.first + i) ≡ outgoing (way_of s.routing other d) room d met =
+    rw (stays_in span s.first i d even below here, is_in, there) refl in
+    ap (buffer_after_dimension (way_of s.routing (s.first + i) d) room d (list_at s.buffers i))
+    (sym (coming ∙ ap (λ (w : Way). outgoing w room d met) (way_of-across s.routing (s.first + i) d)))))
 
 -- ---- nodes
 
@@ -68,18 +76,28 @@ across_differs c d same =
     let none : 2 ^ d ≡ 0 = cc (xor_twice (2 ^ d) c, xor_comm (2 ^ d) c, xor_self c) in
     absurd (omega (arith, pow_pos d, none))
 
+-- and sees the wire to this one as this one sees it
+pub one_way : (routing : Routing) (c d : ℕ) → way_of routing (bit_xor c (2 ^ d)) d ≡ way_of routing c d
+one_way = way_of-across
+
+-- over a wire that is cut a node stays as it is
+pub nothing_exchanged : {cut : Bool} (rule : Rule) (d : ℕ) (here there : Buffer) → cut ≡ true
+    → here ≡ exchanged (record { cut = cut; rule = rule }) d here there
+unfolding buffer_after_dimension leaving_place
+nothing_exchanged rule d here there is = rw (is, append-nil here.messages) refl
+
 -- the pairs that begin below a number have crossed, and the others are as before
-pub record AreCrossed (d : ℕ) (before now : List Buffer) (count : ℕ) : Type 0 where
+pub record AreCrossed (routing : Routing) (d : ℕ) (before now : List Buffer) (count : ℕ) : Type 0 where
   pub done : (b : ℕ) → min b (bit_xor b (2 ^ d)) < count → b < length before
-      → node_at now b ≡ exchanged d (node_at before b) (node_at before (bit_xor b (2 ^ d)))
+      → node_at now b ≡ exchanged (way_of routing b d) d (node_at before b) (node_at before (bit_xor b (2 ^ d)))
   pub rest : (b : ℕ) → count ≤ min b (bit_xor b (2 ^ d)) → node_at now b ≡ node_at before b
 
 -- all pairs
-pub crossed_all : (n room d : ℕ) (before now : List Buffer) → d < n → length before ≡ 2 ^ n → length now ≡ 2 ^ n
-    → All (λ node. node.room ≡ room) before → AreCrossed d before now (2 ^ n)
-    → (buffers_of now ≡ each_chip n (λ c. buffer_after_dimension plain_way room d (list_at (buffers_of before) c)
-    (outgoing plain_way room d (list_at (buffers_of before) (bit_xor c (2 ^ d)))))) × All (λ node. node.room ≡ room) now
-crossed_all n room d before now below long long_now rooms is =
+pub crossed_all : (routing : Routing) (n room d : ℕ) (before now : List Buffer) → d < n → length before ≡ 2 ^ n
+    → length now ≡ 2 ^ n → All (λ node. node.room ≡ room) before → AreCrossed routing d before now (2 ^ n)
+    → (buffers_of now ≡ buffers_after_dimension routing n room d (buffers_of before))
+    × All (λ node. node.room ≡ room) now
+crossed_all routing n room d before now below long long_now rooms is =
     let read : (nodes : List Buffer) (b : ℕ) → b < length nodes
     → list_at (buffers_of nodes) b ≡ (node_at nodes b).messages =
     λ nodes b h. get_or-map (λ (b : Buffer). b.messages) nodes b no_node [] h in (
@@ -94,7 +112,8 @@ crossed_all n room d before now below long long_now rooms is =
             read before other there,
             rooms c no_node here,
             rooms other no_node there,
-          ) refl),
+          ) (ap (λ (w : Way). buffer_after_dimension (way_of routing c d) room d (node_at before c).messages
+          (outgoing w room d (node_at before other).messages)) (sym (way_of-across routing c d)))),
       λ c e l.
           let here : c < length before = omega (arith, long, long_now) in
           rw (get_or_default now c e no_node l, is.done c (omega arith) here) (rooms c no_node here),

@@ -11,7 +11,7 @@ use Rattle.cm_model.specs.declared.message.Event.TheVariants.{Injected, Delivere
 use Rattle.cm_model.specs.Processor.{Processor}
 use Rattle.cm_model.specs.Each.{each_from}
 use Rattle.cm_model.specs.Array.{Chips, chip_at, list_at}
-use Rattle.cm_model.specs.Wiring.{plain_routing}
+use Rattle.cm_model.specs.Wiring.{Routing}
 use Rattle.cm_model.specs.Letters.{chip_after_injection, chip_after_delivery, can_receive, has_arrived}
 use Rattle.cm_model.specs.OneChip.{taken_here, sent_here, delivered, kept, delivered_here, kept_here}
 use Rattle.cm_model.proofs.Each.{length-each_from, get_or-each_from}
@@ -130,18 +130,18 @@ made_more {f} {most} {first} {count} {i} {before} {now} c log after was number i
     }
 
 -- all of them
-pub made_all : {f : ℕ → Cell → Cell} {most first count place : ℕ} {before now : Rows} (clock : ℕ)
+pub made_all : {f : ℕ → Cell → Cell} {most first count place : ℕ} {before now : Rows} (routing : Routing) (clock : ℕ)
     → AreMade f most first count before now place → count ≤ place
-    → part_of first count now.chips now.buffers now.logs clock ≡ record {
+    → part_of routing first count now.chips now.buffers now.logs clock ≡ record {
       first = first;
       count = count;
       chips = each_from first count (λ c. (f c (cell_at before (c - first))).chip);
       buffers = each_from first count (λ c. (f c (cell_at before (c - first))).messages);
       logs = each_from first count (λ c. (f c (cell_at before (c - first))).events);
       clock = clock;
-      routing = plain_routing;
+      routing = routing;
     }
-made_all {f} {most} {first} {count} {place} {before} {now} clock is all =
+made_all {f} {most} {first} {count} {place} {before} {now} routing clock is all =
     let made : ℕ → ℕ → Cell = λ c i. f c (cell_at before i) in
     let chips = row_is [] first count (λ c i. (made c i).chip) now.chips is.chip_count
     (λ i l. ap (λ (x : Cell). x.chip) (is.behind i (omega arith))) in

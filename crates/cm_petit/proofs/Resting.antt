@@ -5,6 +5,8 @@ use Rattle.cm_model.specs.declared.act.Act.TheVariants as act
 use Rattle.cm_model.specs.declared.message.Message.{Message}
 use Rattle.cm_model.specs.Array.{Chips, chip_at}
 use Rattle.cm_model.specs.Letters.{has_arrived, chip_after_delivery}
+use Rattle.cm_model.specs.Machine.{Machine}
+use Rattle.cm_model.specs.Wiring.{Routing}
 use Rattle.cm_model.specs.Buffers.{after_act}
 use Rattle.cm_model.specs.Steps.{Inject, Deliver}
 use Rattle.cm_blocks.specs.Parcels.{Blank}
@@ -17,22 +19,22 @@ use Rattle.cm_petit.proofs.Making.{injecting, delivering, made_none, made_past, 
 use Rattle.cm_petit.proofs.Making.{injecting_nothing, delivering_nothing}
 use Rattle.cm_petit.proofs.Cycling.{injected_whole, delivered_whole, cycle_is, nothing_crosses}
 
-module _ (n room : ℕ) (chips : Chips) (buffers : List (List Message)) (logs : List Log)
+module _ (routing : Routing) (n room : ℕ) (chips : Chips) (buffers : List (List Message)) (logs : List Log)
     (are : AreRouters n room chips buffers logs) (some : 0 < room) (empty : All (λ ms. ms ≡ []) buffers) where
   nothing_injected : (clock : ℕ) → ((c : ℕ) → c < length chips → IsIdle (chip_at chips c))
-      → part_of 0 (2 ^ n) chips buffers logs clock
-      ≡ part_after n room Inject Blank (part_of 0 (2 ^ n) chips buffers logs clock)
+      → part_of routing 0 (2 ^ n) chips buffers logs clock
+      ≡ part_after n room Inject Blank (part_of routing 0 (2 ^ n) chips buffers logs clock)
   unfolding part_after
-  nothing_injected clock idle = made_all {f = injecting n room clock} {most = 4} _
+  nothing_injected clock idle = made_all {f = injecting n room clock} {most = 4} _ _
       (made_past (2 ^ n) (made_none are.chip_count are.buffer_count are.log_count) (omega arith)
       (λ k from l e. injecting_nothing n room clock (0 + k) _ (idle k (omega (arith, l, are.chip_count))))) (omega arith)
 
   nothing_delivered : (clock : ℕ)
       → ((c : ℕ) → c < length chips → chip_at chips c ≡ chip_after_delivery [] (chip_at chips c))
-      → part_of 0 (2 ^ n) chips buffers logs (clock + 1)
-      ≡ part_after n room Deliver Blank (part_of 0 (2 ^ n) chips buffers logs clock)
+      → part_of routing 0 (2 ^ n) chips buffers logs (clock + 1)
+      ≡ part_after n room Deliver Blank (part_of routing 0 (2 ^ n) chips buffers logs clock)
   unfolding part_after
-  nothing_delivered clock same = made_all {f = delivering} {most = 0} _
+  nothing_delivered clock same = made_all {f = delivering} {most = 0} _ _
       (made_past (2 ^ n) (made_none are.chip_count are.buffer_count are.log_count) (omega arith)
       (λ k from l e. delivering_nothing _ _ _ e
       (ap (list_any has_arrived) (empty k [] (omega (arith, l, are.buffer_count))))
@@ -41,11 +43,12 @@ module _ (n room : ℕ) (chips : Chips) (buffers : List (List Message)) (logs : 
   -- it changes nothing but the counter
   pub resting : (clock : ℕ) → ((c : ℕ) → c < length chips → IsIdle (chip_at chips c))
       → ((c : ℕ) → c < length chips → chip_at chips c ≡ chip_after_delivery [] (chip_at chips c))
-      → machine_of chips buffers logs (clock + 1) ≡ after_act n room (machine_of chips buffers logs clock) act.Cycle
+      → machine_of routing chips buffers logs (clock + 1)
+      ≡ after_act n room (machine_of routing chips buffers logs clock) act.Cycle
   resting clock idle same =
-      let part : Part = part_of 0 (2 ^ n) chips buffers logs clock in
-      cycle_is n room (machine_of chips buffers logs clock)
-      (nothing_crosses n room (machine_of chips buffers logs clock) (machine_of chips buffers logs clock) some
+      let part : Part = part_of routing 0 (2 ^ n) chips buffers logs clock in
+      let machine : Machine = machine_of routing chips buffers logs clock in
+      cycle_is n room machine (nothing_crosses n room machine machine some
       are.buffer_count (λ k l. empty k [] (omega (arith, l, are.buffer_count)))
-      (injected_whole n room part refl refl (nothing_injected clock idle)) refl n (omega arith))
+      (injected_whole n room part refl refl (nothing_injected clock idle)) n (omega arith))
       (delivered_whole n room part refl refl (nothing_delivered clock same))

@@ -2,7 +2,7 @@
 use Rattle.std.specs.Prelude.{◌≡◌, ℕ, ◌^◌, List, [], length, slice_index_or}
 use Rattle.std.specs.List.{All}
 use Rattle.cm_model.specs.Array.{Chips}
-use Rattle.cm_model.specs.Wiring.{plain_way}
+use Rattle.cm_model.specs.Wiring.{Way}
 use Rattle.cm_model.specs.Buffers.{outgoing, buffer_after_dimension}
 use Rattle.cm_router.specs.Buffer.{Buffer, holding}
 use Rattle.cm_router.specs.Logs.{Log}
@@ -22,7 +22,7 @@ no_node = record { room = 0; messages = [] }
 abbrev pub node_at : List Buffer → ℕ → Buffer
 node_at nodes c = slice_index_or nodes c no_node
 
--- a node after dimension d, where this other one stands across it
-abbrev pub exchanged : ℕ → Buffer → Buffer → Buffer
-exchanged d here there =
-    holding here (buffer_after_dimension plain_way here.room d here.messages (outgoing plain_way there.room d there.messages))
+-- a node after dimension d, where this other one stands across it and both see this way
+abbrev pub exchanged : Way → ℕ → Buffer → Buffer → Buffer
+exchanged way d here there =
+    holding here (buffer_after_dimension way here.room d here.messages (outgoing way there.room d there.messages))

@@ -4,7 +4,7 @@ use Rattle.std.specs.List.{All}
 use Rattle.cm_model.specs.declared.message.Message.{Message}
 use Rattle.cm_model.specs.declared.message.Event.{Event}
 use Rattle.cm_model.specs.Array.{Chips}
-use Rattle.cm_model.specs.Wiring.{plain_routing}
+use Rattle.cm_model.specs.Wiring.{Routing}
 use Rattle.cm_model.specs.Machine.{Machine}
 use Rattle.cm_router.specs.Logs.{Log}
 use Rattle.cm_blocks.specs.Parts.{Part}
@@ -13,26 +13,26 @@ use Rattle.cm_blocks.specs.Parts.{Part}
 abbrev pub events_of : List Log → List (List Event)
 events_of logs = map (λ log. log.items) logs
 
--- the machine that these are at a count of petit cycles: its routing is plain
-abbrev pub machine_of : Chips → List (List Message) → List Log → ℕ → Machine
-machine_of chips buffers logs clock = record {
+-- the machine that these are at a count of petit cycles, where messages go by this routing
+abbrev pub machine_of : Routing → Chips → List (List Message) → List Log → ℕ → Machine
+machine_of routing chips buffers logs clock = record {
   chips = chips;
   buffers = buffers;
   logs = events_of logs;
   clock = clock;
-  routing = plain_routing;
+  routing = routing;
 }
 
--- the part of a machine that these are: so many chips, of which the first has this number
-abbrev pub part_of : ℕ → ℕ → Chips → List (List Message) → List Log → ℕ → Part
-part_of first count chips buffers logs clock = record {
+-- the part of a machine of this routing that these are: so many chips, of which the first has this number
+abbrev pub part_of : Routing → ℕ → ℕ → Chips → List (List Message) → List Log → ℕ → Part
+part_of routing first count chips buffers logs clock = record {
   first = first;
   count = count;
   chips = chips;
   buffers = buffers;
   logs = events_of logs;
   clock = clock;
-  routing = plain_routing;
+  routing = routing;
 }
 
 -- one chip, at most cap messages and one log for each number of a cube of n dimensions

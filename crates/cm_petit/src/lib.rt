@@ -9,4 +9,4 @@ mod ready;
 pub use halves::{cross, leave, take_in};
 pub use nodes::cycle_of_nodes;
 pub use phases::{cycle, deliver, inject};
-pub use ready::{are_nodes, are_routers, has_log_room, is_at_rest};
+pub use ready::{are_nodes, are_routers, has_log_room, has_space, is_at_rest};

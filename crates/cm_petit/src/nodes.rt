@@ -6,11 +6,12 @@ ghost use Rattle.std.specs.List.{All};
 ghost use Rattle.cm_model.specs.declared.act.Act.TheVariants as act;
 ghost use Rattle.cm_model.specs.Array.{each_chip, list_at};
 ghost use Rattle.cm_model.specs.Steps.{Inject, Deliver};
-ghost use Rattle.cm_model.specs.Wiring.{plain_way};
-ghost use Rattle.cm_model.specs.Buffers.{outgoing, buffer_after_dimension, after_act};
+ghost use Rattle.cm_model.specs.Wiring.{Routing as Routes, way_of};
+ghost use Rattle.cm_model.specs.Buffers.{outgoing, buffer_after_dimension, buffers_after_dimension, after_act};
 ghost use Rattle.cm_model.specs.Keeping.{AreSizes};
 ghost use Rattle.cm_blocks.specs.Parcels.{Blank};
 ghost use Rattle.cm_blocks.specs.Steps.{part_after};
+ghost use Rattle.cm_router.specs.Routes.{routing_of};
 ghost use Rattle.cm_router.specs.Buffer.{buffers_of, holding};
 ghost use Rattle.cm_router.specs.Logs.{log_rooms_of, HaveLogRoom, LoseAtMost};
 ghost use Rattle.cm_petit.specs.Routers.{machine_of, part_of};
@@ -19,28 +20,31 @@ ghost use Rattle.cm_petit.specs.Nodes.{AreNodes, node_at, exchanged};
 use cm_crossing::Sizes;
 use cm_element::Run;
 use cm_message::{Event, Message, Rule};
-use cm_router::Node;
+use cm_router::{Node, Routing};
 
 /// One petit cycle where each chip's messages stand in a node of its own: what `cycle` does where they stand in a
 /// `Crossing`. The counter stands at `clock`; that it is one more then is for the caller to keep.
 pub fn cycle_of_nodes(
     sizes: Sizes,
+    routing: &Routing,
     run: &mut Run,
     nodes: &mut [Node],
     logs: &mut [Vec<Event>],
     clock: u64,
 )
     requires sizes { AreSizes sizes.dims sizes.room }
+    requires cube { routing.now.cuts.dims ≡ sizes.dims }
     requires nodes { AreNodes sizes.dims sizes.room run.old nodes.old logs.old }
     requires log_room { HaveLogRoom (4 + sizes.room) (log_rooms_of logs.old) }
-    ensures value { machine_of run.new (buffers_of nodes.new) logs.new (clock + 1)
-        ≡ after_act sizes.dims sizes.room (machine_of run.old (buffers_of nodes.old) logs.old clock) act.Cycle }
+    ensures value { machine_of (routing_of routing.now) run.new (buffers_of nodes.new) logs.new (clock + 1)
+        ≡ after_act sizes.dims sizes.room
+        (machine_of (routing_of routing.now) run.old (buffers_of nodes.old) logs.old clock) act.Cycle }
     ensures nodes { AreNodes sizes.dims sizes.room run.new nodes.new logs.new }
     ensures log_room { LoseAtMost (4 + sizes.room) (log_rooms_of logs.old) (log_rooms_of logs.new) }
 {
     inject_into_nodes(sizes, run, nodes, logs, clock);
     for dim in 0..sizes.dims {
-        cross_nodes(sizes, nodes, dim);
+        cross_nodes(sizes, routing, nodes, dim);
     }
     deliver_from_nodes(sizes, run, nodes, logs);
 }
@@ -56,9 +60,10 @@ fn inject_into_nodes(
     requires sizes { AreSizes sizes.dims sizes.room }
     requires nodes { AreNodes sizes.dims sizes.room run.old nodes.old logs.old }
     requires log_room { HaveLogRoom 4 (log_rooms_of logs.old) }
-    ensures value { part_of 0 (2 ^ sizes.dims) run.new (buffers_of nodes.new) logs.new clock
+    ensures value { (routing : Routes)
+        → part_of routing 0 (2 ^ sizes.dims) run.new (buffers_of nodes.new) logs.new clock
         ≡ part_after sizes.dims sizes.room Inject Blank
-        (part_of 0 (2 ^ sizes.dims) run.old (buffers_of nodes.old) logs.old clock) }
+        (part_of routing 0 (2 ^ sizes.dims) run.old (buffers_of nodes.old) logs.old clock) }
     ensures nodes { AreNodes sizes.dims sizes.room run.new nodes.new logs.new }
     ensures log_room { LoseAtMost 4 (log_rooms_of logs.old) (log_rooms_of logs.new) }
 {
@@ -69,22 +74,23 @@ fn inject_into_nodes(
 }
 
 /// Messages cross a dimension: of each pair of chips both send who leaves before either takes in who comes.
-#[tactic(auto, using(crate::proofs::Dimensions::across_differs, cm_model::proofs::Flips::xor_twice))]
-fn cross_nodes(sizes: Sizes, nodes: &mut [Node], dim: u8)
+#[tactic(auto, using(crate::proofs::Dimensions::across_differs, crate::proofs::Dimensions::one_way, cm_model::proofs::Flips::xor_twice))]
+fn cross_nodes(sizes: Sizes, routing: &Routing, nodes: &mut [Node], dim: u8)
     requires sizes { AreSizes sizes.dims sizes.room }
+    requires cube { routing.now.cuts.dims ≡ sizes.dims }
     requires dim { dim < sizes.dims }
     requires count { length nodes.old ≡ 2 ^ sizes.dims }
     requires rooms { All (λ node. node.room ≡ sizes.room) nodes.old }
-    ensures value { buffers_of nodes.new ≡ each_chip sizes.dims (λ c. buffer_after_dimension plain_way sizes.room dim
-        (list_at (buffers_of nodes.old) c)
-        (outgoing plain_way sizes.room dim (list_at (buffers_of nodes.old) (bit_xor c (2 ^ dim))))) }
+    ensures value { buffers_of nodes.new
+        ≡ buffers_after_dimension (routing_of routing.now) sizes.dims sizes.room dim (buffers_of nodes.old) }
     ensures count { length nodes.new ≡ 2 ^ sizes.dims }
     ensures rooms { All (λ node. node.room ≡ sizes.room) nodes.new }
 {
     for c in 0..nodes.len() {
         let other = across(c, dim);
         if c < other {
-            exchange(nodes, c, other, dim);
+            let cut = routing.cuts.has(c as u16, dim);
+            exchange(nodes, c, other, dim, cut, routing.rule);
         }
     }
 }
@@ -97,20 +103,25 @@ fn across(chip: usize, dim: u8) -> usize
     chip ^ 1 << dim
 }
 
-/// Two nodes of a dimension send each other who leaves.
+/// Two nodes of a dimension, whose wire may be cut, send each other who leaves.
 #[tactic(auto, unfolding(cm_model::specs::Buffers::buffer_after_dimension))]
-fn exchange(nodes: &mut [Node], here: usize, there: usize, dim: u8)
+fn exchange(nodes: &mut [Node], here: usize, there: usize, dim: u8, cut: bool, rule: Rule)
     requires dimension { dim < 12 }
     requires here { here < length nodes.old }
     requires there { there < length nodes.old }
     requires apart { here ≢ there }
     ensures count { length nodes.new ≡ length nodes.old }
-    ensures here { node_at nodes.new here ≡ exchanged dim (node_at nodes.old here) (node_at nodes.old there) }
-    ensures there { node_at nodes.new there ≡ exchanged dim (node_at nodes.old there) (node_at nodes.old here) }
+    ensures here { node_at nodes.new here ≡ exchanged (record { cut = cut; rule = rule }) dim
+        (node_at nodes.old here) (node_at nodes.old there) }
+    ensures there { node_at nodes.new there ≡ exchanged (record { cut = cut; rule = rule }) dim
+        (node_at nodes.old there) (node_at nodes.old here) }
     ensures others { (c : ℕ) → c ≢ here → c ≢ there → node_at nodes.new c ≡ node_at nodes.old c }
 {
-    let going = nodes[here].leave(dim, false, Rule::First);
-    let coming = nodes[there].leave(dim, false, Rule::First);
+    if cut {
+        return;
+    }
+    let going = nodes[here].leave(dim, cut, rule);
+    let coming = nodes[there].leave(dim, cut, rule);
     welcome(&mut nodes[here], coming);
     welcome(&mut nodes[there], going);
 }
@@ -130,9 +141,10 @@ fn deliver_from_nodes(sizes: Sizes, run: &mut Run, nodes: &mut [Node], logs: &mu
     requires sizes { AreSizes sizes.dims sizes.room }
     requires nodes { AreNodes sizes.dims sizes.room run.old nodes.old logs.old }
     requires log_room { HaveLogRoom sizes.room (log_rooms_of logs.old) }
-    ensures value { (clock : ℕ) → part_of 0 (2 ^ sizes.dims) run.new (buffers_of nodes.new) logs.new (clock + 1)
+    ensures value { (routing : Routes) (clock : ℕ)
+        → part_of routing 0 (2 ^ sizes.dims) run.new (buffers_of nodes.new) logs.new (clock + 1)
         ≡ part_after sizes.dims sizes.room Deliver Blank
-        (part_of 0 (2 ^ sizes.dims) run.old (buffers_of nodes.old) logs.old clock) }
+        (part_of routing 0 (2 ^ sizes.dims) run.old (buffers_of nodes.old) logs.old clock) }
     ensures nodes { AreNodes sizes.dims sizes.room run.new nodes.new logs.new }
     ensures log_room { LoseAtMost sizes.room (log_rooms_of logs.old) (log_rooms_of logs.new) }
 {

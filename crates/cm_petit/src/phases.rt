@@ -5,21 +5,24 @@ ghost use Rattle.cm_model.specs.declared.act.Act.TheVariants as act;
 ghost use Rattle.cm_model.specs.Steps.{Inject, Deliver};
 ghost use Rattle.cm_model.specs.Buffers.{after_act};
 ghost use Rattle.cm_model.specs.Keeping.{AreSizes};
+ghost use Rattle.cm_model.specs.Wiring.{Routing as Routes};
 ghost use Rattle.cm_blocks.specs.Parcels.{Blank};
 ghost use Rattle.cm_blocks.specs.Steps.{part_after};
+ghost use Rattle.cm_router.specs.Routes.{routing_of};
 ghost use Rattle.cm_router.specs.Logs.{log_rooms_of, HaveLogRoom, LoseAtMost};
 ghost use Rattle.cm_petit.specs.Routers.{machine_of, part_of, AreRouters};
 
 use cm_crossing::{Crossing, Sizes};
 use cm_element::Run;
 use cm_message::Event;
-use cm_router::{is_idle, pass_over};
+use cm_router::{Routing, is_idle, pass_over};
 
 /// One petit cycle: every router takes messages in, they cross each dimension, from the lowest on,
 /// and those that have arrived go to their processors (a dimension at a time: Hillis 1985; the order:
 /// ours). The counter is one more then.
 pub fn cycle(
     sizes: Sizes,
+    routing: &Routing,
     run: &mut Run,
     crossing: &mut Crossing,
     logs: &mut [Vec<Event>],
@@ -27,11 +30,13 @@ pub fn cycle(
 )
     requires sizes { AreSizes sizes.dims sizes.room }
     requires all { sizes.span ≡ sizes.dims }
+    requires cube { routing.now.cuts.dims ≡ sizes.dims }
     requires routers { AreRouters sizes.dims sizes.room run.old crossing.old.buffers logs.old }
     requires log_room { HaveLogRoom (4 + sizes.room) (log_rooms_of logs.old) }
     requires counter { clock.old < 2 ^ 63 }
-    ensures value { machine_of run.new crossing.new.buffers logs.new clock.new
-        ≡ after_act sizes.dims sizes.room (machine_of run.old crossing.old.buffers logs.old clock.old) act.Cycle }
+    ensures value { machine_of (routing_of routing.now) run.new crossing.new.buffers logs.new clock.new
+        ≡ after_act sizes.dims sizes.room
+        (machine_of (routing_of routing.now) run.old crossing.old.buffers logs.old clock.old) act.Cycle }
     ensures counter { clock.new ≡ clock.old + 1 }
     ensures routers { AreRouters sizes.dims sizes.room run.new crossing.new.buffers logs.new }
     ensures log_room { LoseAtMost (4 + sizes.room) (log_rooms_of logs.old) (log_rooms_of logs.new) }
@@ -43,7 +48,7 @@ pub fn cycle(
         return;
     }
     for dim in 0..sizes.span {
-        crossing.cross(sizes, dim);
+        crossing.cross(sizes, routing, 0, dim);
     }
     deliver(sizes, 0, run, crossing, logs);
 }
@@ -62,9 +67,10 @@ pub fn inject(
     requires band { first + 2 ^ sizes.span ≤ 2 ^ sizes.dims }
     requires routers { AreRouters sizes.span sizes.room run.old crossing.old.buffers logs.old }
     requires log_room { HaveLogRoom 4 (log_rooms_of logs.old) }
-    ensures value { part_of first (2 ^ sizes.span) run.new crossing.new.buffers logs.new clock
+    ensures value { (routing : Routes)
+        → part_of routing first (2 ^ sizes.span) run.new crossing.new.buffers logs.new clock
         ≡ part_after sizes.dims sizes.room Inject Blank
-        (part_of first (2 ^ sizes.span) run.old crossing.old.buffers logs.old clock) }
+        (part_of routing first (2 ^ sizes.span) run.old crossing.old.buffers logs.old clock) }
     ensures routers { AreRouters sizes.span sizes.room run.new crossing.new.buffers logs.new }
     ensures log_room { LoseAtMost 4 (log_rooms_of logs.old) (log_rooms_of logs.new) }
 {
@@ -90,9 +96,10 @@ pub fn deliver(
     requires band { first + 2 ^ sizes.span ≤ 2 ^ sizes.dims }
     requires routers { AreRouters sizes.span sizes.room run.old crossing.old.buffers logs.old }
     requires log_room { HaveLogRoom sizes.room (log_rooms_of logs.old) }
-    ensures value { (clock : ℕ) → part_of first (2 ^ sizes.span) run.new crossing.new.buffers logs.new (clock + 1)
+    ensures value { (routing : Routes) (clock : ℕ)
+        → part_of routing first (2 ^ sizes.span) run.new crossing.new.buffers logs.new (clock + 1)
         ≡ part_after sizes.dims sizes.room Deliver Blank
-        (part_of first (2 ^ sizes.span) run.old crossing.old.buffers logs.old clock) }
+        (part_of routing first (2 ^ sizes.span) run.old crossing.old.buffers logs.old clock) }
     ensures routers { AreRouters sizes.span sizes.room run.new crossing.new.buffers logs.new }
     ensures log_room { LoseAtMost sizes.room (log_rooms_of logs.old) (log_rooms_of logs.new) }
 {

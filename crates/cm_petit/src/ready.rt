@@ -1,19 +1,22 @@
 //! What the parts of a petit cycle ask for, and where it changes nothing, as questions.
 
-ghost use Rattle.std.specs.Prelude.{◌≡◌, ℕ, ◌+◌, ◌≤◌, ◌↔◌, IsFalse, IsTrue, List, []};
+ghost use Rattle.std.specs.Prelude.{◌≡◌, ◌⊎◌, ℕ, ◌+◌, ◌^◌, ◌<◌, ◌≤◌, ◌↔◌, IsFalse, IsTrue, List, [], None, length};
+ghost use Rattle.std.specs.Prelude.{slice_index_or};
 ghost use Rattle.std.specs.List.{All, list_any};
 ghost use Rattle.cm_element.specs.Flags.{has_flag};
 ghost use Rattle.cm_model.specs.declared.act.Act.TheVariants as act;
+ghost use Rattle.cm_model.specs.Array.{list_at};
 ghost use Rattle.cm_model.specs.Processor.{SEND, ACK};
 ghost use Rattle.cm_model.specs.Buffers.{after_act};
 ghost use Rattle.cm_model.specs.Keeping.{AreSizes};
+ghost use Rattle.cm_model.specs.Wiring.{Routing as Routes};
 ghost use Rattle.cm_router.specs.Logs.{Log, log_rooms_of, HaveLogRoom};
 ghost use Rattle.cm_petit.specs.Routers.{machine_of, AreRouters};
 ghost use Rattle.cm_petit.specs.Nodes.{AreNodes};
 
 use cm_crossing::{Crossing, Sizes};
 use cm_element::Run;
-use cm_message::Event;
+use cm_message::{Event, Message};
 use cm_router::{Node, is_idle, pass_over};
 
 /// Whether there are as many chips, buffers and logs as the sizes tell, with no more messages at a chip than
@@ -54,16 +57,31 @@ pub fn has_log_room(logs: &[Vec<Event>], count: usize) -> bool
     true
 }
 
+/// Whether at each chip for which a message is written down there is room for it.
+pub fn has_space(sizes: Sizes, crossing: &Crossing, leavers: &[Option<Message>]) -> bool
+    requires count { length crossing.now.buffers ≡ 2 ^ sizes.span }
+    requires lanes { length leavers.now ≡ 2 ^ sizes.span }
+    ensures space { IsTrue result ↔ ((c : ℕ) → c < 2 ^ sizes.span → (slice_index_or leavers.now c None ≡ None)
+        ⊎ (length (list_at crossing.now.buffers c) < sizes.room)) }
+{
+    for c in 0..leavers.len() {
+        if leavers[c].is_some() && crossing.len(c) >= usize::from(sizes.room) {
+            return false;
+        }
+    }
+    true
+}
+
 /// Whether a petit cycle changes nothing but the counter: nobody asks to send, nobody is acknowledged, and no message
 /// stands anywhere. It is found by words of two rows of flags, and by the first slots of the chips.
 pub fn is_at_rest(sizes: Sizes, run: &Run, crossing: &Crossing) -> bool
     requires sizes { AreSizes sizes.dims sizes.room }
     ensures value { IsTrue result ↔ (IsFalse (list_any (has_flag SEND) run.now)
         × IsFalse (list_any (has_flag ACK) run.now) × All (λ ms. ms ≡ []) crossing.now.buffers) }
-    ensures rest { IsTrue result → (logs : List Log) (clock : ℕ)
+    ensures rest { IsTrue result → (routing : Routes) (logs : List Log) (clock : ℕ)
         → AreRouters sizes.dims sizes.room run.now crossing.now.buffers logs
-        → machine_of run.now crossing.now.buffers logs (clock + 1)
-        ≡ after_act sizes.dims sizes.room (machine_of run.now crossing.now.buffers logs clock) act.Cycle }
+        → machine_of routing run.now crossing.now.buffers logs (clock + 1)
+        ≡ after_act sizes.dims sizes.room (machine_of routing run.now crossing.now.buffers logs clock) act.Cycle }
 {
     if !is_idle(run) || !crossing.is_empty() {
         return false;

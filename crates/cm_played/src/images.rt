@@ -87,7 +87,12 @@ fn number(word: Option<&[u8]>) -> Option<u8> {
     u8::try_from(read_number(word?)?).ok()
 }
 
-fn tell_refused(alloc: Global, fault: ProgramFault, told: &mut Vec<u8>) -> Result<(), AllocError> {
+/// Tells a fault, and how the program tells it.
+pub(crate) fn tell_refused(
+    alloc: Global,
+    fault: ProgramFault,
+    told: &mut Vec<u8>,
+) -> Result<(), AllocError> {
     tell(told, format!(in alloc; "= Err({fault:?})")?.as_bytes())?;
     tell_fault(alloc, fault, told)
 }

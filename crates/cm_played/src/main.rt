@@ -5,6 +5,7 @@ mod images;
 mod playing;
 mod refusing;
 mod scene;
+mod weaving;
 mod whole;
 
 use crate::scene::perform;

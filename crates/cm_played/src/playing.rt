@@ -6,6 +6,7 @@ ghost use Rattle.cm_bits.specs.Doubles.{room_has_failed};
 use crate::images::{tell_image, tell_loaded};
 use crate::refusing::Refusing;
 use crate::scene::Scene;
+use crate::weaving::{Steps, play_exchange};
 use cm_array::{Builder, Machine};
 use cm_asm::{Program, assemble};
 use cm_bits::doubles::{Bytes, Room};
@@ -66,6 +67,8 @@ pub(crate) enum Turn {
     Session,
     /// It is read from the scene's image.
     Image,
+    /// Its blocks exchange.
+    Exchange(Steps),
 }
 
 /// Plays a scene on a machine of its size.
@@ -78,6 +81,7 @@ pub(crate) fn play(
     match (scene.dimensions, scene.room) {
         (0, 7) => play_on::<0, 7>(alloc, turn, scene, told),
         (1, 1) => play_on::<1, 1>(alloc, turn, scene, told),
+        (1, 7) => play_on::<1, 7>(alloc, turn, scene, told),
         (2, 1) => play_on::<2, 1>(alloc, turn, scene, told),
         (2, 2) => play_on::<2, 2>(alloc, turn, scene, told),
         (2, 7) => play_on::<2, 7>(alloc, turn, scene, told),
@@ -97,6 +101,22 @@ fn play_on<const N: usize, const CAP: usize>(
     match turn {
         Turn::Session => play_session::<N, CAP>(alloc, scene, told),
         Turn::Image => tell_loaded::<N, CAP>(alloc, scene.image.as_slice(), told),
+        Turn::Exchange(steps) => play_weave::<N, CAP>(alloc, steps, scene, told),
+    }
+}
+
+fn play_weave<const N: usize, const CAP: usize>(
+    alloc: Global,
+    steps: Steps,
+    scene: &Scene,
+    told: &mut Vec<u8>,
+) -> Result<(), AllocError> {
+    let Ok(program) = assemble(alloc, scene.program.as_slice()) else {
+        return tell(told, b"the program is refused");
+    };
+    match first_trial::<N, CAP>(alloc, scene) {
+        Some(trial) => play_exchange(alloc, steps, trial, program.acts(), scene, told),
+        None => tell(told, b"no machine"),
     }
 }
 
@@ -116,8 +136,8 @@ fn play_session<const N: usize, const CAP: usize>(
 
 /// A machine of which no contract tells anything.
 #[derive(Drop)]
-struct Trial<const N: usize, const CAP: usize> {
-    machine: Machine<N, CAP>,
+pub(crate) struct Trial<const N: usize, const CAP: usize> {
+    pub(crate) machine: Machine<N, CAP>,
 }
 
 /// The machine of the scene's image, or where it has none a blank one.

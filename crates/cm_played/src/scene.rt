@@ -3,6 +3,7 @@
 use crate::images::{add_bytes, tell_blank, tell_shape};
 use crate::playing::{Turn, count, listing, play, read_alone, tell};
 use crate::refusing::Lack;
+use crate::weaving::Steps;
 use crate::whole::{What, tell_each, tell_end, tell_line};
 use cm_bits::{Lines, Words, read_number};
 use std::alloc::{AllocError, Global};
@@ -21,6 +22,8 @@ pub(crate) struct Scene {
     pub(crate) tells_image: bool,
     pub(crate) program: Vec<u8>,
     pub(crate) commands: Vec<u8>,
+    /// Into 2^`split` blocks a machine is cut whose blocks exchange.
+    pub(crate) split: u64,
     /// How often the next line of the image, the program or of commands stands there.
     times: u64,
     /// How many bytes are read at once, after how many reading fails, and for how many that are written there is room.
@@ -45,6 +48,7 @@ impl Scene {
             tells_image: false,
             program: Vec::new(alloc),
             commands: Vec::new(alloc),
+            split: 0,
             times: 1,
             piece: 3,
             read: u64::MAX,
@@ -88,6 +92,8 @@ impl Scene {
             self.clock = number;
         } else if name == b"image".as_slice() {
             self.tells_image = number > 0;
+        } else if name == b"split".as_slice() {
+            self.split = number;
         } else if name == b"piece".as_slice() {
             self.piece = number;
         } else if name == b"read".as_slice() {
@@ -125,13 +131,14 @@ pub(crate) fn perform(alloc: Global, lines: Lines, told: &mut Vec<u8>) -> Result
 
 /// Does what a line says, by its first character:
 /// `#` a title, which is told again: a scene begins;
-/// `=` words of the scene (`dimensions`, `room`, `clock`, `image`, `piece`, `read`, `written`, `nothing`, `memory`,
-/// `thread`), each with its number;
+/// `=` words of the scene (`dimensions`, `room`, `clock`, `image`, `split`, `piece`, `read`, `written`, `nothing`,
+/// `memory`, `thread`), each with its number;
 /// `:` bytes of an image, each as two digits;
 /// `<` a line of the program, `-` one without its end;
 /// `>` a line of commands, `+` one without its end;
 /// `*` how often the next of these five stands there;
 /// `!` the commands are answered;
+/// `|` they are steps of an exchange, which are answered; `|self` it takes its own, which are told;
 /// `&` what the image is the image of is told, and its fault, or the bytes of its machine;
 /// `/` dimensions and room of a blank machine, whose bytes are told;
 /// `@` the number of the program's acts, or its first fault, is told, and `%` its listing;
@@ -159,6 +166,8 @@ fn obey(
             Ok(())
         }
         [b'!', ..] => play(alloc, Turn::Session, scene, told),
+        [b'|'] => play(alloc, Turn::Exchange(Steps::Told), scene, told),
+        [b'|', ..] => play(alloc, Turn::Exchange(Steps::Own), scene, told),
         [b'&', ..] => judge(alloc, scene, told),
         [b'/', rest @ ..] => tell_blank(alloc, rest, told),
         [b'@', ..] => count(alloc, scene, told),

@@ -30,11 +30,12 @@ use Rattle.cm_subcube.specs.declared.round.Kind.{Kind}
 use Rattle.cm_subcube.specs.declared.round.Round.{Round}
 use Rattle.cm_subcube.specs.Blocks.{KeptBlock}
 use Rattle.cm_subcube.specs.Rounds.{kind_of, kind_over, round_of, rounds_of, step_of}
-use Rattle.cm_subcube.specs.Parcels.{blank_parcel, IsOfKind, HaveSpaceFor, IsExchange}
+use Rattle.cm_subcube.specs.Parcels.{blank_parcel, IsOfKind, HaveSpaceFor, SparesCuts, IsExchange}
 use Rattle.cm_subcube.specs.Local.{local_after, IsRoundOf}
 use Rattle.cm_subcube.specs.Laws.{IsFollowed}
 use Rattle.cm_subcube.proofs.Counting.{steps_until-first, deliveries_shared, events_shared}
 use Rattle.cm_subcube.proofs.Following.{round_is_followed}
+use Rattle.cm_subcube.proofs.Sparing.{cuts_are_spared}
 use Rattle.cm_board.specs.Courses.{Course, due_now}
 use Rattle.cm_workers.specs.Posts.{giver}
 use Rattle.cm_resident.specs.Lanes.{Run, before, rounds_in, place_of, kind_at, is_over, passed, sent_in, dues, course}
@@ -297,7 +298,7 @@ pub record StandsSent (run : Run) (r b : ℕ) (round : Round) (one : KeptBlock) 
   pub part : one.kept.part ≡ less run.room (step_of round) (block run.n run.k b (before run r))
   pub log_room : HaveLogRoom (events_in run.room (ahead run.n run.k run.acts r)) one.kept.log_rooms
   pub clock : one.kept.part.clock + deliveries (ahead run.n run.k run.acts r) < 2 ^ 63
-  pub space : HaveSpaceFor round.kind one.kept.room one.kept.part.buffers
+  pub space : HaveSpaceFor round.kind one.kept.room one.kept.part
 
 pub sent : (run : Run) (r b : ℕ) (round : Round) (old new : KeptBlock) (e : Course Parcel) → StandsBefore run r b old
     → HasSent round old e new → StandsSent run r b round new
@@ -347,6 +348,12 @@ module _ (run : Run) (r b : ℕ) (phase : Phase) (one : KeptBlock)
       (ap (λ (x : Kind). giver one.kept.dims one.k x b) (kind_is own_it r phase at)
       ∙ giver_is_sender one.kept.dims one.k phase.step b followed_it.exchanges)
 
+  abbrev here_it : Part
+  here_it = block one.kept.dims one.k b (before own_it r)
+
+  left_it : one.kept.part ≡ less one.kept.room phase.step here_it
+  left_it = st.part ∙ ap (λ (step : Step). less one.kept.room step here_it) followed_it.step
+
   can_get_own : CanGet run.acts (round_of phase) one giver_end
   can_get_own = record {
     exchange = followed_it.round.exchange;
@@ -356,6 +363,9 @@ module _ (run : Run) (r b : ℕ) (phase : Phase) (one : KeptBlock)
         (due_of_kind one.kept.dims one.k one.kept.room phase.step (block one.kept.dims one.k sender_it (before own_it r))
         followed_it.exchanges (count_of_block one.kept.dims one.k sender_it (before own_it r)));
     space = st.space;
+    cuts = subst (λ (s : Part). SparesCuts (kind_of phase.step) s (due_now giver_end)) (sym left_it)
+        (subst (λ (p : Parcel). SparesCuts (kind_of phase.step) (less one.kept.room phase.step here_it) p) (sym came)
+        (cuts_are_spared one.kept.dims one.kept.room one.k b (before own_it r) phase.step followed_it.exchanges));
     going = record {
       following = λ x same. subst (λ (y : Round). IsRoundOf one.kept.dims one.k run.acts y)
           (let e : round_of phase ≡ x = (let f : Some (round_of phase) ≡ Some x = same in cc) in e) followed_it.round;
@@ -379,7 +389,7 @@ module _ (run : Run) (r b : ℕ) (phase : Phase) (one : KeptBlock)
       ap (λ (step : Step). absorbed n room step (due_now giver_end) one.kept.part) followed_it.step
       ∙ ap (λ (p : Parcel). absorbed n room phase.step p one.kept.part) came
       ∙ ap (λ (s : Part). absorbed n room phase.step parcel_it s)
-      (st.part ∙ ap (λ (step : Step). less room step (block n k b now)) followed_it.step)
+      left_it
       ∙ leaving_then_taking_in n room k b now phase.step (omega (arith, within)) below
       followed_it.is_step followed_it.exchanges in
       let part_is : new.kept.part ≡ block n k b (before own_it (r + 1)) =

@@ -3,3 +3,4 @@ pub mod Idle
 pub mod Logs
 pub mod Places
 pub mod Cuts
+pub mod Routes

@@ -3,11 +3,15 @@
 
 mod cuts;
 mod delivery;
+mod leaving;
 mod letters;
 mod node;
+mod routing;
 
 pub use cm_message::{Event, Message, Rule, Tag};
 pub use cuts::Cuts;
 pub use delivery::{begin, hand_over, pass_over, who_has_not_arrived_is_kept};
+pub use leaving::is_older;
 pub use letters::{acknowledge, asking, chip_asks, is_idle, may_ask, message_sent, take_none};
 pub use node::Node;
+pub use routing::Routing;

@@ -1,27 +1,25 @@
 //! The node of one chip: a buffer of messages.
 
-ghost use Rattle.std.specs.Prelude.{◌≡◌, ◌<◌, ◌≤◌, ◌==◌, ◌-◌, [], ◌∷◌, ◌++◌, ◌+◌, length, map};
-ghost use Rattle.std.specs.Prelude.{position, slice_set, IfSome, false, not, ◌&&◌};
+ghost use Rattle.std.specs.Prelude.{◌≡◌, ◌<◌, ◌≤◌, ◌==◌, [], ◌∷◌, ◌++◌, ◌+◌, length, map, slice_set, false};
 ghost use Rattle.std.specs.Prelude.{vec_len, vec_capacity};
 ghost use Rattle.cm_model.specs.Processor.{SEND, flag};
 ghost use Rattle.cm_model.specs.Chip.{IsPlane, processor_at};
 ghost use Rattle.cm_model.specs.Array.{chip_at};
-ghost use Rattle.cm_model.specs.Router.{is_older, has_to_cross, message_across};
+ghost use Rattle.cm_model.specs.Router.{message_across};
 ghost use Rattle.cm_model.specs.Letters.{is_among, chip_after_injection, chip_after_delivery};
-ghost use Rattle.cm_model.specs.Buffers.{leaving_place, chosen_place, first_place, last_place, outgoing, without};
-ghost use Rattle.cm_model.specs.Buffers.{element_at, is_older_one, is_older_or_none, oldest_place, youngest_place};
+ghost use Rattle.cm_model.specs.Buffers.{leaving_place, outgoing, without};
 ghost use Rattle.cm_model.specs.OneChip.{taken_here, sent_here, delivered_here, kept_here};
 ghost use Rattle.cm_router.specs.Buffer.{IsBuffer, holding};
-ghost use Rattle.cm_router.specs.Places.{oldest_from, youngest_from};
 ghost use Rattle.cm_router.specs.Logs.{log_room};
 
 use crate::delivery::{begin, hand_over};
+use crate::leaving::chosen_place;
 use crate::letters;
 use crate::letters::{acknowledge, is_one, message_sent, take_none, tell_injected};
 use arrayvec::ArrayVec;
 use cm_bits::{Plane, Proc};
 use cm_element::{ChipView, Run};
-use cm_message::{Event, Message, Rule, Tag};
+use cm_message::{Event, Message, Rule};
 use std::marker::Model;
 
 /// The buffer of one chip of the router (Hillis 1985; how large it is, is ours).
@@ -112,82 +110,8 @@ impl Node {
         if cut {
             return None;
         }
-        let place = self.chosen_place(dim, rule)?;
+        let place = chosen_place(&self.messages, self.room, dim, rule)?;
         Some(across(self.messages.remove(place), dim))
-    }
-
-    /// The place of whom it chooses.
-    fn chosen_place(&self, dim: u8, rule: Rule) -> Option<usize>
-        requires dimension { dim < 12 }
-        ensures value { result ≡ chosen_place rule self.now.room dim self.now.messages }
-        ensures within { IfSome result (λ place. place < length self.now.messages) }
-    {
-        match self.first_place(dim, rule) {
-            Some(place) => Some(place),
-            None if self.is_full() => self.last_place(rule),
-            None => None,
-        }
-    }
-
-    /// The place of who goes first of those that have to cross the dimension.
-    fn first_place(&self, dim: u8, rule: Rule) -> Option<usize>
-        requires dimension { dim < 12 }
-        ensures value { result ≡ first_place rule dim self.now.messages }
-        ensures within { IfSome result (λ place. place < length self.now.messages) }
-    {
-        match rule {
-            Rule::First => self.first_to_cross(dim),
-            Rule::Oldest => self.oldest_to_cross(dim),
-        }
-    }
-
-    /// The place of who goes last, where somebody stands here.
-    fn last_place(&self, rule: Rule) -> Option<usize>
-        requires some { 0 < length self.now.messages }
-        ensures value { result ≡ last_place rule self.now.messages }
-        ensures within { IfSome result (λ place. place < length self.now.messages) }
-    {
-        match rule {
-            Rule::First => Some(self.messages.len() - 1),
-            Rule::Oldest => self.youngest(),
-        }
-    }
-
-    /// The place of the oldest that has to cross, gone through from behind.
-    fn oldest_to_cross(&self, dim: u8) -> Option<usize>
-        requires dimension { dim < 12 }
-        ensures value { result ≡ oldest_place dim self.now.messages }
-        ensures within { IfSome result (λ place. place < length self.now.messages) }
-    {
-        let messages = self.messages.as_slice();
-        let mut oldest: Option<usize> = None;
-        for i in (0..messages.len()).rev() {
-            oldest = oldest_with(messages, dim, i, oldest);
-        }
-        oldest
-    }
-
-    /// The place of the youngest, gone through from behind.
-    fn youngest(&self) -> Option<usize>
-        ensures value { result ≡ youngest_place self.now.messages }
-        ensures within { IfSome result (λ place. place < length self.now.messages) }
-    {
-        let messages = self.messages.as_slice();
-        let mut youngest: Option<usize> = None;
-        for i in (0..messages.len()).rev() {
-            youngest = youngest_with(messages, i, youngest);
-        }
-        youngest
-    }
-
-    fn first_to_cross(&self, dim: u8) -> Option<usize>
-        requires dimension { dim < 12 }
-        ensures value { result ≡ position (has_to_cross dim) self.now.messages }
-        ensures within { IfSome result (λ place. place < length self.now.messages) }
-    {
-        self.messages
-            .iter()
-            .position(|message| has_to_cross(message, dim))
     }
 
     /// Takes in a message that comes across a dimension.
@@ -295,90 +219,6 @@ impl Node {
             }
         }
     }
-}
-
-/// The place of the oldest that has to cross from a place on, where that of those behind it is this one.
-fn oldest_with(messages: &[Message], dim: u8, place: usize, behind: Option<usize>) -> Option<usize>
-    requires dimension { dim < 12 }
-    requires place { place < length messages.now }
-    requires behind { behind ≡ oldest_from dim messages.now (place + 1) }
-    requires within { IfSome behind (λ i. i < length messages.now) }
-    ensures value { result ≡ oldest_from dim messages.now place }
-    ensures within { IfSome result (λ i. i < length messages.now) }
-{
-    if goes_first(messages, dim, behind, &messages[place]) {
-        Some(place)
-    } else {
-        behind
-    }
-}
-
-/// The place of the youngest from a place on, where that of those behind it is this one.
-fn youngest_with(messages: &[Message], place: usize, behind: Option<usize>) -> Option<usize>
-    requires place { place < length messages.now }
-    requires behind { behind ≡ youngest_from messages.now (place + 1) }
-    requires within { IfSome behind (λ i. i < length messages.now) }
-    ensures value { result ≡ youngest_from messages.now place }
-    ensures within { IfSome result (λ i. i < length messages.now) }
-{
-    if is_older_or_none(messages, behind, &messages[place]) {
-        Some(place)
-    } else {
-        behind
-    }
-}
-
-/// Whether a message has to cross, and none at that place, if one is given, is older.
-fn goes_first(messages: &[Message], dim: u8, place: Option<usize>, message: &Message) -> bool
-    requires dimension { dim < 12 }
-    requires within { IfSome place (λ i. i < length messages.now) }
-    ensures value { result
-        ≡ (has_to_cross dim message.now && not (is_older_one (element_at messages.now place) message.now)) }
-{
-    has_to_cross(message, dim) && !is_older_at(messages, place, message)
-}
-
-/// Whether there is a message at a place, if one is given, and it is older than this one.
-fn is_older_at(messages: &[Message], place: Option<usize>, message: &Message) -> bool
-    requires within { IfSome place (λ i. i < length messages.now) }
-    ensures value { result ≡ is_older_one (element_at messages.now place) message.now }
-{
-    match place {
-        Some(i) => is_older(&messages[i].tag, &message.tag),
-        None => false,
-    }
-}
-
-/// Whether there is no message at a place, or it is older than this one.
-fn is_older_or_none(messages: &[Message], place: Option<usize>, message: &Message) -> bool
-    requires within { IfSome place (λ i. i < length messages.now) }
-    ensures value { result ≡ is_older_or_none (element_at messages.now place) message.now }
-{
-    match place {
-        Some(i) => is_older(&messages[i].tag, &message.tag),
-        None => true,
-    }
-}
-
-/// Whether a tag is older than another: by birth, and then by origin.
-fn is_older(tag: &Tag, other: &Tag) -> bool
-    ensures value { result ≡ is_older tag.now other.now }
-{
-    if tag.birth != other.birth {
-        tag.birth < other.birth
-    } else if tag.chip != other.chip {
-        tag.chip < other.chip
-    } else {
-        tag.proc.get() < other.proc.get()
-    }
-}
-
-/// Whether the message has to cross this dimension.
-fn has_to_cross(message: &Message, dim: u8) -> bool
-    requires dimension { dim < 12 }
-    ensures value { result ≡ has_to_cross dim message.now }
-{
-    message.rel >> dim & 1 == 1
 }
 
 /// The message as it arrives across this dimension.

@@ -59,6 +59,7 @@ obeyed_follows n cap acts session (command.PokeFlag place number b) =
 obeyed_follows n cap acts session (command.Buffer c) = follows_itself n session.machine
 obeyed_follows n cap acts session (command.Find tag) = follows_itself n session.machine
 obeyed_follows n cap acts session (command.Events c) = follows_itself n session.machine
+obeyed_follows n cap acts session command.Rule = follows_itself n session.machine
 
 pub answered_follows : (n cap : ℕ) (acts : List Act) (session : Session) (read : Result (Option Command) Refusal)
     → Follows n session.machine (answered n cap acts session read).session.machine

@@ -158,4 +158,5 @@ named_is_for n count name operands =
     (if_either (bytes_eq name (codes "find")) _ _ _ (find_is_for n count operands)
     (if_either (bytes_eq name (codes "events")) _ _ _
     (then_by (chip_of n operands) _ (λ c. c < 2 ^ n) _ (chip_is_inside n operands) (λ c is. is))
-    tt)))))))))))
+    (if_either (bytes_eq name (codes "rule")) _ _ _ (alone_is_for n count command.Rule operands tt)
+    tt))))))))))))

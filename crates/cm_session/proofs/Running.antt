@@ -157,6 +157,7 @@ command_does n cap acts session (command.PokeFlag place number b) long = refl
 command_does n cap acts session (command.Buffer c) long = still_has_run n cap acts session session long refl refl
 command_does n cap acts session (command.Find tag) long = still_has_run n cap acts session session long refl refl
 command_does n cap acts session (command.Events c) long = still_has_run n cap acts session session long refl refl
+command_does n cap acts session command.Rule long = still_has_run n cap acts session session long refl refl
 
 read_does : (n cap : ℕ) (acts : List Act) (session : Session) (read : Result (Option Command) Refusal)
     → length session.machine.buffers ≡ 2 ^ n
@@ -217,6 +218,7 @@ obeyed_keeps n cap acts session (command.PokeFlag place number b) is h =
 obeyed_keeps n cap acts session (command.Buffer c) is h = h
 obeyed_keeps n cap acts session (command.Find tag) is h = h
 obeyed_keeps n cap acts session (command.Events c) is h = h
+obeyed_keeps n cap acts session command.Rule is h = h
 
 -- a line of words, whatever it is read as
 named_keeps : (n cap : ℕ) (acts : List Act) (session : Session) (named : Result Command Refusal)

@@ -60,6 +60,9 @@ an_index_is_below_3 = refl
 numbers_may_be_hexadecimal : reading (codes "break 0x2") ≡ Ok (Some (Break 2))
 numbers_may_be_hexadecimal = refl
 
+rule_has_no_operand : reading (codes "rule 0") ≡ Err Operands
+rule_has_no_operand = refl
+
 any_birth_is_taken : reading (codes "find 1 15 18446744073709551615")
     ≡ Ok (Some (Find (record { chip = 1; proc = 15; birth = 18446744073709551615 })))
 any_birth_is_taken = refl
@@ -126,6 +129,10 @@ nothing_is_there :
     of_blank looks (codes "buf 0" ∷ codes "events 0" ∷ codes "find 0 0 0" ∷ []) ≡ codes "buf 0\nevents 0\nunknown\n"
 unfolding after_line after_lines line digits buffer_lines log_lines blank_machine found_in each_from
 nothing_is_there = refl
+
+the_rule_is_told_by_its_number : of_blank looks (codes "rule" ∷ []) ≡ codes "rule 0\n"
+unfolding after_line after_lines line digits blank_machine
+the_rule_is_told_by_its_number = refl
 
 a_message_is_told_by_seven_words :
     line (message_words (codes "msg")

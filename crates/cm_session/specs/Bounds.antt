@@ -20,3 +20,4 @@ IsFor n count (command.PokeFlag place number b) = (place.chip < 2 ^ n) × (numbe
 IsFor n count (command.Buffer c) = c < 2 ^ n
 IsFor n count (command.Find tag) = tag.chip < 2 ^ n
 IsFor n count (command.Events c) = c < 2 ^ n
+IsFor n count command.Rule = Unit {0}

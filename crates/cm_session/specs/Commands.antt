@@ -87,7 +87,8 @@ command_named n count name operands =
     else (if bytes_eq name (codes "buf") then (chip_of n operands >>= λ c. Ok (command.Buffer c))
     else (if bytes_eq name (codes "find") then find_of n operands
     else (if bytes_eq name (codes "events") then (chip_of n operands >>= λ c. Ok (command.Events c))
-    else Err Word)))))))))))
+    else (if bytes_eq name (codes "rule") then alone command.Rule operands
+    else Err Word))))))))))))
 
 -- the command of the words of a line, none where there are no words
 abbrev pub command_of : ℕ → ℕ → List (List ℕ) → Result (Option Command) Refusal

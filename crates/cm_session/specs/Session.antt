@@ -8,6 +8,7 @@ use Rattle.cm_model.specs.declared.act.Act.{Act}
 use Rattle.cm_model.specs.declared.act.Act.TheVariants.{Nano, Sense, Cycle}
 use Rattle.cm_model.specs.Processor.{flag, field_value}
 use Rattle.cm_model.specs.Array.{processor_of, wire, list_at}
+use Rattle.cm_model.specs.Wiring.{rule_number}
 use Rattle.cm_model.specs.Machine.{Machine, run_of}
 use Rattle.cm_model.specs.Found.{found_in}
 use Rattle.cm_array.specs.Pokes.{machine_with_memory_bit, machine_with_flag}
@@ -125,6 +126,8 @@ obeyed n cap acts session (command.PokeFlag place number b) =
 obeyed n cap acts session (command.Buffer c) = told session (buffer_lines (list_at session.machine.buffers c))
 obeyed n cap acts session (command.Find tag) = told session (found_line (found_in n session.machine tag))
 obeyed n cap acts session (command.Events c) = told session (log_lines (list_at session.machine.logs c))
+obeyed n cap acts session command.Rule =
+    told session (line (codes "rule" ∷ decimal (rule_number session.machine.routing.rule) ∷ []))
 
 -- ---- lines
 

@@ -50,6 +50,7 @@ is_poke (command.PokeFlag place number b) = true
 is_poke (command.Buffer c) = false
 is_poke (command.Find tag) = false
 is_poke (command.Events c) = false
+is_poke command.Rule = false
 
 -- what a line was read as does so
 abbrev pub asks_poke : Result (Option Command) Refusal → Bool

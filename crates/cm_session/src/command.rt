@@ -37,6 +37,8 @@ pub enum Command {
     Find(Tag),
     /// The log of a chip is told.
     Events(u16),
+    /// The rule is told by which the routers choose who leaves.
+    Rule,
 }
 
 /// Why a line is refused: it changes nothing then, and is answered by the refusal's number.

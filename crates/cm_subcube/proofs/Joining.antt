@@ -69,4 +69,10 @@ module _ (n cap k : ℕ) (machine : Machine) (within : k ≤ n) (is : IsMachine 
         (get_or-each_below (2 ^ k) (λ j. block n k j machine) b (block n k 0 machine)
         (omega (arith, l, length-each_from 0 (2 ^ k) (λ j. block n k j machine))))
         ∙ clock-block n k b machine ∙ sym first_clock-blocks);
+    routing = All-from_get_or (λ (s : Part). s.routing ≡ first_routing (all_blocks n k machine)) (all_blocks n k machine)
+        (block n k 0 machine)
+        (λ b l. ap (λ (s : Part). s.routing)
+        (get_or-each_below (2 ^ k) (λ j. block n k j machine) b (block n k 0 machine)
+        (omega (arith, l, length-each_from 0 (2 ^ k) (λ j. block n k j machine))))
+        ∙ routing-block n k b machine ∙ sym first_routing-blocks);
   }

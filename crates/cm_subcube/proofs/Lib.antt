@@ -7,3 +7,4 @@ pub mod Following
 mod Stopping
 mod Going
 mod Acting
+pub mod Sparing

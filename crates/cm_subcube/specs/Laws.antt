@@ -8,9 +8,12 @@ use Rattle.cm_model.specs.Keeping.{IsMachine}
 use Rattle.cm_blocks.specs.Rounds.{is_round, rounds, steps_until, steps_between, ahead}
 use Rattle.cm_blocks.specs.Counts.{deliveries, events_in}
 use Rattle.cm_blocks.specs.Parts.{Part, block}
+use Rattle.cm_blocks.specs.Parcels.{due, sender}
+use Rattle.cm_blocks.specs.Steps.{less}
 use Rattle.cm_array.specs.Acts.{cycles_in}
 use Rattle.cm_array.specs.Cuts.{joined, AreWhole}
-use Rattle.cm_subcube.specs.Rounds.{round_of, step_of}
+use Rattle.cm_subcube.specs.Rounds.{kind_of, round_of, step_of}
+use Rattle.cm_subcube.specs.Parcels.{SparesCuts}
 use Rattle.cm_subcube.specs.Local.{local_after, IsRoundOf}
 
 -- the 2 ^ k blocks of a machine, in their order
@@ -50,3 +53,9 @@ pub record IsSharedOut (count : List Step → ℕ) (each : ℕ) : Type 0 where
 pub record LogsHaveRoom : Type 0 where
   pub events : (room : ℕ) → IsSharedOut (events_in room) (4 + room)
   pub counts : IsSharedOut deliveries 1
+
+-- what a block has to get at a round has nothing for a chip whose wire is cut: nobody leaves over it at its other end
+abbrev pub CutsAreSpared : Type 0
+CutsAreSpared = (n cap k b : ℕ) (machine : Machine) (step : Step) → is_round n k step ≡ true
+    → SparesCuts (kind_of step) (less cap step (block n k b machine))
+    (due n cap step (block n k (sender n k step b) machine))

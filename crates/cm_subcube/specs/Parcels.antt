@@ -1,6 +1,5 @@
 -- Parcels as they are kept. Ours.
-use Rattle.std.specs.Prelude.{◌≡◌, ◌≢◌, ℕ, ◌-◌, ◌<◌, ◌≤◌, false, List, None, length}
-use Rattle.std.specs.List.{All}
+use Rattle.std.specs.Prelude.{◌≡◌, ◌≢◌, ℕ, ◌+◌, ◌-◌, ◌<◌, ◌≤◌, false, true, Option, None, length}
 use Rattle.cm_bits.specs.declared.plane.Dir.{Dir}
 use Rattle.cm_bits.specs.declared.plane.Dir.TheVariants as dir
 use Rattle.cm_model.specs.declared.act.Act.{Act}
@@ -10,8 +9,10 @@ use Rattle.cm_model.specs.declared.message.Message.{Message}
 use Rattle.cm_model.specs.Processor.{NEWS}
 use Rattle.cm_model.specs.Each.{each_from}
 use Rattle.cm_model.specs.Place.{columns}
-use Rattle.cm_blocks.specs.Parts.{size}
-use Rattle.cm_blocks.specs.Parcels.{Parcel, Blank, Mail, Edge}
+use Rattle.cm_model.specs.Array.{list_at}
+use Rattle.cm_model.specs.Wiring.{is_cut}
+use Rattle.cm_blocks.specs.Parts.{Part, size}
+use Rattle.cm_blocks.specs.Parcels.{Parcel, Blank, Mail, Edge, mail_in}
 use Rattle.cm_news.specs.Bands.{bits_of}
 use Rattle.cm_subcube.specs.declared.parcel.Load.{Load}
 use Rattle.cm_subcube.specs.declared.parcel.Load.TheVariants as load
@@ -57,11 +58,26 @@ IsExchangeBy n k one (kind.Dim d) = IsOuter n k d
 abbrev pub IsExchange : ℕ → ℕ → Round → Type 0
 IsExchange n k round = IsExchangeBy n k round.act round.kind
 
--- in a round over a dimension each router has room for one message more
-abbrev pub HaveSpaceFor : Kind → ℕ → List (List Message) → Type 0
-HaveSpaceFor kind.North room buffers = Unit {0}
-HaveSpaceFor kind.South room buffers = Unit {0}
-HaveSpaceFor (kind.Dim d) room buffers = All (λ ms. length ms < room) buffers
+-- in dimension d each chip whose wire is not cut has room for one message more
+abbrev pub HaveSpaceOver : ℕ → ℕ → Part → Type 0
+HaveSpaceOver d room s =
+    (c : ℕ) → c < s.count → is_cut s.routing (s.first + c) d ≡ false → length (list_at s.buffers c) < room
+
+-- and for a chip whose wire is cut none stands in a lane
+abbrev pub SparesCutsOver : ℕ → Part → (ℕ → Option Message) → Type 0
+SparesCutsOver d s lane = (c : ℕ) → c < s.count → is_cut s.routing (s.first + c) d ≡ true → lane c ≡ None
+
+-- in a round over a dimension each router whose wire is not cut has room for one message more
+abbrev pub HaveSpaceFor : Kind → ℕ → Part → Type 0
+HaveSpaceFor kind.North room s = Unit {0}
+HaveSpaceFor kind.South room s = Unit {0}
+HaveSpaceFor (kind.Dim d) room s = HaveSpaceOver d room s
+
+-- and in a parcel nothing stands for one whose wire is cut
+abbrev pub SparesCuts : Kind → Part → Parcel → Type 0
+SparesCuts kind.North s parcel = Unit {0}
+SparesCuts kind.South s parcel = Unit {0}
+SparesCuts (kind.Dim d) s parcel = SparesCutsOver d s (mail_in parcel)
 
 -- a parcel with a bit for each column of the grid
 abbrev pub HasColumns : ℕ → Parcel → Type 0

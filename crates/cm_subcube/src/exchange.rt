@@ -1,7 +1,8 @@
 //! What a block does in a round: it fills a parcel for another block, and absorbs one that came.
 
-ghost use Rattle.std.specs.Prelude.{◌≡◌, ℕ, ◌/◌, ◌<◌, ◌^◌, IsTrue, None, length};
+ghost use Rattle.std.specs.Prelude.{◌≡◌, ◌⊎◌, ℕ, ◌/◌, ◌<◌, ◌^◌, IsTrue, None, length, slice_index_or};
 ghost use Rattle.std.specs.List.{All};
+ghost use Rattle.cm_model.specs.Array.{list_at};
 ghost use Rattle.cm_model.specs.Place.{chip_columns};
 ghost use Rattle.cm_model.specs.Steps.{Instruct, Cross};
 ghost use Rattle.cm_news.specs.Bands.{bits_of};
@@ -10,7 +11,8 @@ ghost use Rattle.cm_blocks.specs.Parcels.{Edge, Mail, due};
 ghost use Rattle.cm_blocks.specs.Rounds.{is_vertical};
 ghost use Rattle.cm_blocks.specs.Steps.{less, absorbed};
 ghost use Rattle.cm_subcube.specs.Rounds.{step_of};
-ghost use Rattle.cm_subcube.specs.Parcels.{blank_parcel, IsOuter, IsExchange, IsOfKind, HaveSpaceFor};
+ghost use Rattle.cm_subcube.specs.Parcels.{blank_parcel, IsOuter, IsExchange, IsOfKind};
+ghost use Rattle.cm_subcube.specs.Parcels.{HaveSpaceOver, HaveSpaceFor, SparesCuts};
 
 use crate::block::Block;
 use crate::parcel::{Load, Parcel};
@@ -30,7 +32,7 @@ impl Block {
           gathered = self.new.kept.gathered;
         } }
         ensures blocks { self.new.k ≡ self.old.k }
-        ensures space { HaveSpaceFor round.now.kind self.new.kept.room self.new.kept.part.buffers }
+        ensures space { HaveSpaceFor round.now.kind self.new.kept.room self.new.kept.part }
     {
         match &mut parcel.load {
             Load::Mail(mail) => {
@@ -48,11 +50,12 @@ impl Block {
         }
     }
 
-    /// Takes in what stands in a parcel, which is blank then.
+    /// Takes in what stands in a parcel, which is blank then. Nothing stands there for a chip whose wire is cut.
     pub fn absorb(&mut self, round: &Round, parcel: &mut Parcel)
         requires exchange { IsExchange self.old.kept.dims self.old.k round.now }
         requires lanes { IsOfKind self.old.kept.dims self.old.k round.now.kind parcel.old }
-        requires space { HaveSpaceFor round.now.kind self.old.kept.room self.old.kept.part.buffers }
+        requires space { HaveSpaceFor round.now.kind self.old.kept.room self.old.kept.part }
+        requires cuts { SparesCuts round.now.kind self.old.kept.part parcel.old }
         ensures value { self.new.kept ≡ record self.old.kept {
           part = absorbed self.old.kept.dims self.old.kept.room (step_of round.now) parcel.old self.old.kept.part;
           gathered = self.new.kept.gathered;
@@ -81,7 +84,7 @@ impl Block {
         } }
         ensures blocks { self.new.k ≡ self.old.k }
         ensures sent { Mail mail.new ≡ due self.old.kept.dims self.old.kept.room (Cross dim) self.old.kept.part }
-        ensures space { All (λ ms. length ms < self.new.kept.room) self.new.kept.part.buffers }
+        ensures space { HaveSpaceOver dim self.new.kept.room self.new.kept.part }
     {
         let span = self.part.dims() - self.k;
         self.part.leave(span, dim, mail);
@@ -90,7 +93,8 @@ impl Block {
     /// What comes to each chip in a dimension.
     fn receive(&mut self, mail: &mut [Option<Message>])
         requires lanes { length mail.old ≡ size self.old.kept.dims self.old.k }
-        requires space { All (λ ms. length ms < self.old.kept.room) self.old.kept.part.buffers }
+        requires space { (c : ℕ) → c < self.old.kept.part.count → (slice_index_or mail.old c None ≡ None)
+            ⊎ (length (list_at self.old.kept.part.buffers c) < self.old.kept.room) }
         ensures kept { (dim : ℕ) → self.new.kept ≡ record self.old.kept {
           part = absorbed self.old.kept.dims self.old.kept.room (Cross dim) (Mail mail.old) self.old.kept.part;
           gathered = self.new.kept.gathered;

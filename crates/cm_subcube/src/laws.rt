@@ -1,6 +1,6 @@
 //! Laws over the definitions: what each function is named for holds.
 
-ghost use Rattle.cm_subcube.specs.Laws.{BlocksAreJoined, RoundsAreFollowed, LogsHaveRoom};
+ghost use Rattle.cm_subcube.specs.Laws.{BlocksAreJoined, CutsAreSpared, RoundsAreFollowed, LogsHaveRoom};
 
 /// The blocks of a machine in their order are that machine.
 pub fn blocks_are_joined()
@@ -17,4 +17,9 @@ pub fn rounds_are_followed()
 /// those petit cycles.
 pub fn logs_have_room()
     ensures { LogsHaveRoom }
+{}
+
+/// What comes to a block at a round has nothing for a chip whose wire is cut.
+pub fn cuts_are_spared()
+    ensures { CutsAreSpared }
 {}

@@ -11,6 +11,6 @@ mod round;
 
 pub use block::{Block, SplitFault, join, split};
 pub use copying::copy_by_blocks;
-pub use laws::{blocks_are_joined, logs_have_room, rounds_are_followed};
+pub use laws::{blocks_are_joined, cuts_are_spared, logs_have_room, rounds_are_followed};
 pub use parcel::Parcel;
 pub use round::{Kind, Round, rounds};

@@ -98,7 +98,7 @@ pub woven_filed : (acts : List Act) (step : Step) (round : Round) (old : KeptBlo
     (new : KeptBlock) (moved : Lane) (gathered : Bool)
     → step ≡ File b
     → new ≡ with_part old (less old.kept.room (step_of round) old.kept.part) gathered
-    → HaveSpaceFor round.kind new.kept.room new.kept.part.buffers
+    → HaveSpaceFor round.kind new.kept.room new.kept.part
     → moved.parcel ≡ due old.kept.dims old.kept.room (step_of round) old.kept.part
     → moved.word ≡ lane.word + 1
     → HasWoven acts step round old lane new moved

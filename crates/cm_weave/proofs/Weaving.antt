@@ -14,7 +14,7 @@ use Rattle.cm_model.specs.Steps.{Phase}
 use Rattle.cm_model.specs.Steps as phased
 use Rattle.cm_blocks.specs.Counts.{deliveries, events_in}
 use Rattle.cm_blocks.specs.Parts.{Part, part, block}
-use Rattle.cm_blocks.specs.Parcels.{Parcel, due}
+use Rattle.cm_blocks.specs.Parcels.{Parcel, due, sender as from_block}
 use Rattle.cm_blocks.specs.Rounds.{rounds, before_round, steps_between, ahead}
 use Rattle.cm_blocks.specs.Steps.{part_after_all, less, absorbed}
 use Rattle.cm_router.specs.Logs.{HaveLogRoom, LoseAtMost}
@@ -24,9 +24,10 @@ use Rattle.cm_subcube.specs.declared.round.Kind.TheVariants as kind
 use Rattle.cm_subcube.specs.declared.round.Round.{Round}
 use Rattle.cm_subcube.specs.Blocks.{KeptBlock}
 use Rattle.cm_subcube.specs.Rounds.{round_of, step_of}
-use Rattle.cm_subcube.specs.Parcels.{blank_parcel, IsOfKind, HaveSpaceFor}
+use Rattle.cm_subcube.specs.Parcels.{blank_parcel, IsOfKind, HaveSpaceFor, SparesCuts}
 use Rattle.cm_subcube.specs.Local.{local_after, IsRoundOf}
 use Rattle.cm_subcube.proofs.Counting.{deliveries_shared, events_shared}
+use Rattle.cm_subcube.proofs.Sparing.{cuts_are_spared}
 use Rattle.cm_exchange.specs.declared.stand.Stand.{Stand}
 use Rattle.cm_exchange.specs.declared.step.Step.{Step}
 use Rattle.cm_exchange.specs.declared.step.Step.TheVariants.{Grip, File, Draw, Clear}
@@ -51,7 +52,7 @@ use Rattle.cm_weave.specs.Moves.{events_woven}
 use Rattle.cm_weave.specs.Moves.{HasSpaceAfter}
 use Rattle.cm_weave.specs.Woven.{lane_seen, world_seen, IsSomehowReached, HasSpaceIn, StandsThere, blank_of, AreBlank}
 use Rattle.cm_weave.specs.Woven.{AreWoven}
-use Rattle.cm_weave.proofs.Clocks.{clock_after_all, clock_left, due_of_kind, kind_is_number}
+use Rattle.cm_weave.proofs.Clocks.{clock_after_all, clock_left, due_of_kind, kind_is_number, giver_is_sender}
 use Rattle.cm_weave.proofs.Following.{IsRoundAt, round_at, count-rounds, exchange_is, blocks_follow}
 use Rattle.cm_weave.proofs.Moving.{clock_stands}
 
@@ -233,6 +234,27 @@ module _ (n cap k : ℕ) (machine : Machine) (acts : List Act) (rounds_kept : Li
       sent_is from =
           ap (λ (o : Option Phase). due_from n cap k (before_round n cap k machine acts stand.round) o from) there.at
 
+      -- where it has filed, and from whom it gets
+      abbrev whole : Machine
+      whole = before_round n cap k machine acts stand.round
+
+      abbrev now : Part
+      now = block n k b whole
+
+      left_at : stand.stage ≡ 3 → old.kept.part ≡ less cap there.phase.step now
+      unfolding part_at
+      left_at stage =
+          stood.part
+          ∙ (ap (λ (z : ℕ). at_stage cap z (slice_get (rounds n k acts) stand.round) now) stage
+          ∙ ap (λ (o : Option Phase). at_stage cap 3 o now) there.at)
+
+      gives : (x : ℕ) → step ≡ Clear x → sender ≡ from_block n k there.phase.step b
+      gives x is =
+          ap (sender_of exchange stand) is
+          ∙ (ap (λ (z : ℕ). giver k z x) there.number
+          ∙ (ap (giver k (lane_kinds.kind_of n k there.phase.step)) (sym (ap block_of is))
+          ∙ giver_is_sender n k there.phase.step b there.followed.exchanges))
+
       -- ---- it is ready
 
       ready_by : (s : Step) → step ≡ s → IsReadyFor acts s round old lane
@@ -262,10 +284,14 @@ module _ (n cap k : ℕ) (machine : Machine) (acts : List Act) (rounds_kept : Li
                 (block n k sender (before_round n cap k machine acts stand.round))))
                 (due_of_kind n k cap there.phase.step
                 (block n k sender (before_round n cap k machine acts stand.round)) there.followed.exchanges refl));
-            space = as_own (λ n1 k1 room1. HaveSpaceFor round.kind room1 old.kept.part.buffers)
+            space = as_own (λ n1 k1 room1. HaveSpaceFor round.kind room1 old.kept.part)
                 (subst (λ (o : Option Phase). HasSpaceIn cap 3 o old.kept.part) there.at
                 (subst (λ (z : ℕ). HasSpaceIn cap z (slice_get (rounds n k acts) stand.round) old.kept.part)
                 stage_now stood.space));
+            cuts = subst (λ (s : Part). SparesCuts round.kind s lane.parcel) (sym (left_at stage_now))
+                (subst (λ (p : Parcel). SparesCuts round.kind (less cap there.phase.step now) p)
+                (sym (parcel ∙ ap (λ (from : ℕ). due n cap there.phase.step (block n k from whole)) (gives x is)))
+                (cuts_are_spared n cap k b whole there.phase.step there.followed.exchanges));
             log_room = as_own (λ n1 k1 room1. HaveLogRoom (events_in room1 (local_after n1 k1 acts (Some round)))
                 old.kept.log_rooms)
                 (subst (λ steps. HaveLogRoom (events_in cap steps) old.kept.log_rooms) there.followed.between
@@ -330,7 +356,7 @@ module _ (n cap k : ℕ) (machine : Machine) (acts : List Act) (rounds_kept : Li
         space_by (Grip y) is = tt
         space_by (File y) is =
             subst (λ (o : Option Phase). HasSpaceIn cap 2 o new.kept.part) (sym there.at)
-            (subst (λ (z : ℕ). HaveSpaceFor round.kind z new.kept.part.buffers) (has.room ∙ stood.room)
+            (subst (λ (z : ℕ). HaveSpaceFor round.kind z new.kept.part) (has.room ∙ stood.room)
             (subst (λ (z : Step). HasSpaceAfter z round old new) is has.space))
         space_by (Draw y) is =
             subst (λ (o : Option Phase). HasSpaceIn cap 3 o new.kept.part) (sym there.at)

@@ -47,12 +47,12 @@ pub record IsSomehowReached (exchange : Exchange) (world : World) : Type 0 where
   pub steps : List Step
   pub is : IsReached exchange steps world
 
--- once a block has filed there is room in it for what comes
+-- once a block has filed there is room in it for what comes, wherever a wire is not cut
 abbrev pub HasSpaceIn : ℕ → ℕ → Option Phase → Part → Type 0
 HasSpaceIn room zero one s = Unit {0}
 HasSpaceIn room (suc zero) one s = Unit {0}
 HasSpaceIn room (suc (suc stage)) None s = Unit {0}
-HasSpaceIn room (suc (suc stage)) (Some phase) s = HaveSpaceFor (kind_of phase.step) room s.buffers
+HasSpaceIn room (suc (suc stage)) (Some phase) s = HaveSpaceFor (kind_of phase.step) room s
 
 -- block b where it stands
 pub record StandsThere (n cap k : ℕ) (machine : Machine) (acts : List Act) (b : ℕ) (stand : Stand)

@@ -32,8 +32,9 @@ use Rattle.cm_subcube.specs.declared.round.Kind.{Kind}
 use Rattle.cm_subcube.specs.declared.round.Kind.TheVariants as kind
 use Rattle.cm_subcube.specs.declared.round.Round.{Round}
 use Rattle.cm_subcube.specs.Rounds.{kind_of, kind_over, round_of, rounds_of, step_of}
-use Rattle.cm_subcube.specs.Parcels.{IsOfKind, HaveSpaceFor}
+use Rattle.cm_subcube.specs.Parcels.{IsOfKind, HaveSpaceFor, SparesCuts}
 use Rattle.cm_subcube.specs.Local.{local_after, IsRoundOf}
+use Rattle.cm_subcube.proofs.Sparing.{cuts_are_spared}
 use Rattle.cm_subcube.proofs.Counting.{steps_until-first, deliveries_shared, events_shared}
 use Rattle.cm_subcube.proofs.Following.{round_is_followed}
 use Rattle.cm_workers.specs.declared.post.Post.{Post}
@@ -237,11 +238,16 @@ module _ (n k room : ℕ) (machine : Machine) (acts : List Act) (b : ℕ) (next 
       let lane : lane_in (kind_of phase.step) post ≡ parcel =
       ap (λ (p : Post). lane_in (kind_of phase.step) p) came ∙ lane_of_post n k (kind_of phase.step) parcel in
       let steps = sym told.between in
+      let left : kept.kept.part ≡ less room phase.step (block n k b now) = at.part
+      ∙ ap (λ (o : Option Phase). without_sent room o (block n k b now)) is in
       as_own (Some (round_of phase)) (following_phase n k r acts phase is)
       (record {
         kind = subst (λ (p : Parcel). IsOfKind n k (kind_of phase.step) p) (sym lane)
             (due_of_kind n k room phase.step sent told.exchanges (count_of_block n k (sender n k phase.step b) now));
         space = subst (λ (o : Option Phase). HaveSpaceAt room o kept.kept.part) is at.space;
+        cuts = subst (λ (s : Part). SparesCuts (kind_of phase.step) s (lane_in (kind_of phase.step) post)) (sym left)
+            (subst (λ (p : Parcel). SparesCuts (kind_of phase.step) (less room phase.step (block n k b now)) p) (sym lane)
+            (cuts_are_spared n room k b now phase.step told.exchanges));
         other = came ∙ ap (λ (p : Parcel). post_of n k (kind_of phase.step) p) (sym lane);
       })
       (subst (λ (xs : List Step). HaveLogRoom (events_in room xs) kept.kept.log_rooms) told.between
@@ -291,7 +297,7 @@ space_as_phase : (room : ℕ) (one : Option Phase) (block : KeptBlock) → block
     → HaveSpaceAt room one block.kept.part
 space_as_phase room None block is space = tt
 space_as_phase room (Some phase) block is space =
-    subst (λ (r : ℕ). HaveSpaceFor (kind_of phase.step) r block.kept.part.buffers) is space
+    subst (λ (r : ℕ). HaveSpaceFor (kind_of phase.step) r block.kept.part) is space
 
 module _ (n k room t b : ℕ) (machine : Machine) (acts : List Act) (before : Option Round)
     (one : Option Phase) (kept new : KeptBlock) (post sent : Post) (dims : kept.kept.dims ≡ n) (blocks : kept.k ≡ k)

@@ -31,7 +31,7 @@ come_in n k room (Some phase) b machine =
 -- there is room for it
 abbrev pub HaveSpaceAt : ℕ → Option Phase → Part → Type 0
 HaveSpaceAt room None s = Unit {0}
-HaveSpaceAt room (Some phase) s = HaveSpaceFor (kind_of phase.step) room s.buffers
+HaveSpaceAt room (Some phase) s = HaveSpaceFor (kind_of phase.step) room s
 
 -- the part of block b when turn t begins: as it was cut out, and then as it is before the round at which
 -- the turn begins, without what it sent

@@ -4,6 +4,7 @@ use Rattle.cm_model.specs.declared.act.Act.TheVariants.{Cycle}
 use Rattle.cm_model.specs.Machine.{Machine}
 use Rattle.cm_model.specs.Buffers.{after_act}
 use Rattle.cm_router.specs.Logs.{Log}
+use Rattle.cm_router.specs.Routes.{routing_of}
 use Rattle.cm_petit.specs.Routers.{machine_of as machine_from, AreRouters}
 use Rattle.cm_array.specs.Acts.{cycles_in}
 use Rattle.cm_array.proofs.Lists.{items-lent}
@@ -15,6 +16,7 @@ returns-in-Nano-clause-parts c =
     AreUnderWay-instructed c.args.sizes.dims c.args.sizes.room c.in-Nano.nano c.args.parts.now c.instruct.new.parts
     c.requires.parts c.instruct.ensures.run c.instruct.ensures.logs c.instruct.ensures.clock
     c.instruct.ensures.sent_count c.instruct.ensures.incoming_count c.instruct.ensures.crossing
+    c.instruct.ensures.routing
 
 pub cycle-requires-clause-routers : goal.cycle-requires-clause-routers
 cycle-requires-clause-routers c =
@@ -26,6 +28,7 @@ pub returns-in-Cycle-clause-parts : goal.returns-in-Cycle-clause-parts
 returns-in-Cycle-clause-parts c =
     let before = c.args.parts.now in
     let run = c.cycle.new.run in
+    let routing = routing_of before.routing in
     let logs = c.cycle.new.logs in
     let logs_back = items-lent before.logs logs (c.cycle.auto.logs ∙ ap length c.deref_mut.ensures.value) in
     let next : ℕ = c.cycle.new.clock in
@@ -33,8 +36,8 @@ returns-in-Cycle-clause-parts c =
     let counted : before.clock + cycles_in (Cycle ∷ []) < 2 ^ 63 =
     subst (λ (a : Act). before.clock + cycles_in (a ∷ []) < 2 ^ 63) c.in-Cycle.is c.requires.clock in
     AreUnderWay-after_act c.args.sizes.dims c.args.sizes.room Cycle before _ c.requires.parts
-    (ap (λ (ls : List Log). machine_from run c.cycle.new.crossing.buffers ls next) logs_back
+    (ap (λ (ls : List Log). machine_from routing run c.cycle.new.crossing.buffers ls next) logs_back
     ∙ c.cycle.ensures.value
-    ∙ ap (λ (ls : List Log). was (machine_from before.run before.crossing.buffers ls before.clock))
+    ∙ ap (λ (ls : List Log). was (machine_from routing before.run before.crossing.buffers ls before.clock))
     c.deref_mut.ensures.value)
-    refl refl (omega (arith, counted, c.cycle.ensures.counter))
+    refl refl refl (omega (arith, counted, c.cycle.ensures.counter))

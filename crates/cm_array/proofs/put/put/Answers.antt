@@ -1,16 +1,18 @@
-use Rattle.std.proofs.Common.{ℕ, ◌+◌, List, [], length, map, ap, sym, ◌∙◌, refl, arith}
+use Rattle.std.proofs.Common.{◌≡◌, ℕ, ◌+◌, List, [], length, map, ap, sym, ◌∙◌, refl, arith, subst}
+use Rattle.std.specs.List.{All}
 use Rattle.std.proofs.lemmas.List.{length-map, length_push}
 use Rattle.std.proofs.lemmas.Iterator.Adapters.{YieldsList-from_vec}
 use Rattle.std.proofs.lemmas.Iterator.Consumers.{YieldsList-turn, YieldsList-end}
 use Rattle.cm_model.specs.declared.message.Message.{Message}
 use Rattle.cm_model.specs.declared.message.Event.{Event}
-use Rattle.cm_model.specs.Wiring.{plain_routing}
+use Rattle.cm_model.specs.Wiring.{Routing, IsWireOf}
 use Rattle.cm_model.proofs.Each.{length-each_from}
 use Rattle.cm_blocks.specs.Parts.{Part}
 use Rattle.cm_router.specs.Logs.{Log}
 use Rattle.cm_petit.specs.Routers.{events_of}
+use Rattle.cm_array.specs.Cuts.{first_routing}
 use Rattle.cm_array.proofs.Laying.{none_stand}
-use Rattle.cm_array.proofs.Putting.{none_put, next_fits, next_put, next_held, next_routing, all_put, some_put}
+use Rattle.cm_array.proofs.Putting.{none_put, next_fits, next_put, next_held, all_put, some_put}
 use Rattle.cm_array.proofs.put.put.Goals as goal
 
 pub loop-piece-init : goal.loop-piece-init
@@ -29,6 +31,7 @@ loop-piece-init g c =
       log_count = refl;
       sent_count = refl;
       incoming_count = refl;
+      cube = refl;
       clock = λ l. absurd (omega (arith, l));
       routing = λ l. absurd (omega (arith, l));
       within = λ l. absurd (omega (arith, l));
@@ -53,6 +56,23 @@ put_one-at-requires-clause-chips g c =
       c.loop-piece.invariant.chip_count,
       c.requires.many.chips,
     )
+
+pub put_one-at-requires-clause-wires : goal.put_one-at-requires-clause-wires
+put_one-at-requires-clause-wires g c =
+    let pieces = c.args.pieces.items in
+    let parts = map (λ (piece : g.row.P.Denot). (g.P.IntoPart.held piece).part) pieces in
+    let j = length c.loop-piece.yielded in
+    let s = c.into_part.result.part in
+    let gives = c.into_iter-piece-iterator.ensures.into_iter_gives in
+    let turn = YieldsList-turn (YieldsList-from_vec {s = c.into_iter-piece-iterator.result} pieces gives.0
+    (gives.1 ∙ c.args.pieces.ok.0)) c.loop-piece.yielded
+    c.loop-piece.piece-iterator
+    c.loop-piece.yielded_by c.next.result c.next.new.self c.in-Some.piece c.in-Some.is c.next.ensures.steps in
+    let next = next_held g.P.IntoPart.held pieces j c.in-Some.piece c.into_part.result turn c.into_part.ensures.value in
+    let same : s.routing ≡ first_routing parts =
+    ap (λ (x : Part). x.routing) next.1 ∙ c.requires.routings j s next.0 in
+    subst (λ (n : ℕ). All (IsWireOf n) s.routing.cuts) (sym c.loop-piece.invariant.cube)
+    (subst (λ (r : Routing). All (IsWireOf c.args.parts.now.routing.cuts.dims) r.cuts) (sym same) c.requires.wires)
 
 pub loop-piece-preserved : goal.loop-piece-preserved
 loop-piece-preserved g c =
@@ -89,8 +109,9 @@ loop-piece-preserved g c =
           ∙ were.log_count;
       sent_count = put.sent ∙ were.sent_count;
       incoming_count = put.incoming ∙ were.incoming_count;
+      cube = put.cube ∙ were.cube;
       clock = λ l. put.clock ∙ ap (λ (x : Part). x.clock) next.1 ∙ c.requires.clocks j s next.0;
-      routing = λ l. next_routing parts j s plain_routing next.0 next.1 put.routing were.routing;
+      routing = λ l. put.routing ∙ ap (λ (x : Part). x.routing) next.1 ∙ c.requires.routings j s next.0;
       within = λ l. put.within;
     }
 
@@ -121,10 +142,11 @@ returns g c =
         logs = all_put (λ (x : Part). x.logs) parts j at (events_of now.logs.items) all
             (length-map now.logs.items events ∙ were.log_count ∙ c.requires.many.logs) were.logs i;
         clock = were.clock some i;
-        routing = sym (were.routing some) i;
+        routing = were.routing some i;
       };
       gathered = c.gather.ensures.gathered;
       sent = were.sent_count;
       incoming = were.incoming_count;
+      cube = were.cube;
       clock = were.within some;
     }

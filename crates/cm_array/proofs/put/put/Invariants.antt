@@ -1,6 +1,6 @@
 use Rattle.std.proofs.Common.{◌≡◌, ℕ, ◌<◌, ◌≤◌, ◌^◌, [], length, map}
-use Rattle.cm_model.specs.Wiring.{plain_routing}
 use Rattle.cm_model.specs.Array.{list_at}
+use Rattle.cm_router.specs.Routes.{routing_of}
 use Rattle.cm_petit.specs.Routers.{events_of}
 use Rattle.cm_array.specs.Cuts.{first_clock, first_routing}
 use Rattle.cm_array.proofs.Putting.{IsPut}
@@ -20,6 +20,7 @@ invariant-loop-piece g l =
       sent_count : length l.parts.sent.items ≡ length l.fn.parts.sent.items;
       incoming_count : length l.parts.incoming.items ≡ length l.fn.parts.incoming.items;
       clock : 0 < length l.yielded → l.parts.clock ≡ first_clock parts;
-      routing : 0 < length l.yielded → first_routing parts ≡ plain_routing;
+      cube : l.parts.routing.cuts.dims ≡ l.fn.parts.routing.cuts.dims;
+      routing : 0 < length l.yielded → routing_of l.parts.routing ≡ first_routing parts;
       within : 0 < length l.yielded → l.parts.clock < 2 ^ 63;
     }

@@ -1,7 +1,9 @@
 use Rattle.std.proofs.Common.{◌≡◌, List, length, ap, sym, ◌∙◌, subst}
 use Rattle.cm_model.specs.declared.message.Message.{Message}
 use Rattle.cm_model.specs.declared.message.Event.{Event}
+use Rattle.std.specs.List.{All}
 use Rattle.cm_model.specs.Array.{Chips}
+use Rattle.cm_model.specs.Wiring.{Routing, IsWireOf}
 use Rattle.cm_blocks.specs.Parts.{cut}
 use Rattle.cm_router.specs.Logs.{Log}
 use Rattle.cm_petit.specs.Routers.{events_of}
@@ -43,5 +45,12 @@ returns-clause-logs c =
     subst (λ (logs : List Log). IsLaid c.args.at c.args.piece.part.logs (events_of old) (events_of logs))
     (sym lent) next
 
+pub route_as-requires : goal.route_as-requires
+route_as-requires c = record {
+  within = subst (λ (r : Routing). All (IsWireOf c.args.parts.now.routing.cuts.dims) r.cuts)
+      (ap (λ (k : KeptPart). k.part.routing) (sym c.into_parts-from.ensures.value)) c.requires.wires;
+}
+
 pub returns-clause-routing : goal.returns-clause-routing
-returns-clause-routing c = ap (λ (k : KeptPart). k.part.routing) (sym c.into_parts-from.ensures.value)
+returns-clause-routing c =
+    c.route_as.ensures.value ∙ ap (λ (k : KeptPart). k.part.routing) c.into_parts-from.ensures.value

@@ -25,3 +25,8 @@ returns-then-workers-eq1 g c = record { does = rw c.in-Run.is c.run_files_alone.
 
 pub returns-else-workers-eq1 : goal.returns-else-workers-eq1
 returns-else-workers-eq1 g c = record { does = rw c.in-Run.is c.run_files_shared.ensures.does }
+
+pub returns-in-Weave : goal.returns-in-Weave
+returns-in-Weave g c = record {
+  does = rw c.in-Weave.is (did_so c.weave_line.ensures.does (λ deeds h. ((refl, c.requires.reader), h)));
+}

@@ -17,7 +17,7 @@ loop-chip-init g c =
     record {
       waiting = rw c.requires.none (omega arith);
       blank = subst (λ (m : Machine). IsBlankFrom g.row.N 0 m) (sym c.requires.blank ∙ none)
-          (blank_from-blank_at g.row.N c.args.clock);
+          (blank_from-blank_at g.row.N c.args.clock c.args.builder.now.routing);
       clock = ap (λ (m : Machine). m.clock) c.requires.blank;
       same = ap (λ (m : Machine). chips_left g.row.N g.row.CAP c.args.clock 0 m c.args.bytes.now) (sym none);
     }
@@ -52,7 +52,8 @@ returns-clause-ok g c =
     let end : c.loop-chip.chip ≡ c.chip_count-chips.result = omega (arith, c.loop-chip-test.false) in
     let all : with_waiting c.loop-chip.chip c.loop-chip.builder c.loop-chip.tile ≡ c.put.new.builder =
     (λ i. with_waiting (end i) c.loop-chip.builder c.loop-chip.tile) ∙ sym c.put.ensures.value in
-    chips_read g.row.N g.row.CAP c.args.clock c.loop-chip.chip c.put.new.builder c.args.bytes.now
+    chips_read g.row.N g.row.CAP c.args.clock c.loop-chip.chip c.args.builder.now.routing c.put.new.builder
+    c.args.bytes.now
     c.loop-chip.rest.now (omega (arith, c.chip_count-chips.ensures.value, c.loop-chip-test.false))
     ((λ i. chips_left g.row.N g.row.CAP c.args.clock c.loop-chip.chip (sym all i) c.loop-chip.rest.now)
     ∙ c.loop-chip.invariant.same

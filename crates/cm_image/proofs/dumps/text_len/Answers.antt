@@ -1,44 +1,22 @@
-use Rattle.std.proofs.Common.{◌≡◌, ◌<◌, ◌≤◌, ◌+◌, ◌^◌, ℕ, length, get_or, sym, ap, ◌∙◌, arith}
-use Rattle.cm_model.specs.Array.{chip_at, list_at}
-use Rattle.cm_image_format.specs.Image.{chip_text}
-use Rattle.cm_image_format.specs.Whole.{image_of_chip}
-use Rattle.cm_image.specs.Planes.{chips_text}
-use Rattle.cm_image.proofs.Lengths.{length-chips_none, length-chips_more, length-text_of}
+use Rattle.std.proofs.Common.{◌≡◌, ℕ, List, length, ap, arith}
+use Rattle.cm_bits.specs.Wire.{Wire}
+use Rattle.cm_image_format.specs.Cuts.{cuts_text}
+use Rattle.cm_image.proofs.Lengths.{length-text_of}
 use Rattle.cm_image.proofs.dumps.text_len.Goals as goal
-
-pub loop-c-init : goal.loop-c-init
-loop-c-init g c = record {
-  within = omega arith;
-  is = omega (arith, length-chips_none c.args.machine.now.machine);
-}
-
-pub chip_len-len-requires : goal.chip_len-len-requires
-chip_len-len-requires g c =
-    let below : c.loop-c.c < 2 ^ g.row.N = omega (arith, c.chip_count-count.ensures.value) in
-    let room : length (list_at c.args.machine.now.machine.buffers c.loop-c.c) ≤ g.row.CAP =
-    c.buffer.ensures.whole.room c.loop-c.c below in
-    record { few = rw c.buffer.ensures.value (omega (arith, room)) }
-
-pub loop-c-preserved : goal.loop-c-preserved
-loop-c-preserved g c =
-    let chip = chip_at c.args.machine.now.machine.chips c.loop-c.c in
-    let below : c.loop-c.c < 2 ^ g.row.N = omega (arith, c.chip_count-count.ensures.value) in
-    record {
-      within = omega (arith, c.chip_len-len.ensures.within);
-      is = omega (
-        arith,
-        length-chips_more c.args.machine.now.machine c.loop-c.c,
-        c.loop-c.invariant.is,
-        c.chip_len-len.ensures.value chip
-            (ap (λ (k : ℕ). get_or c.args.counts.now k 0) c.from.ensures ∙ c.requires.counts.each c.loop-c.c below)
-            ∙ (λ i. length (chip_text (image_of_chip chip (c.buffer.ensures.value i)))),
-      );
-    }
 
 pub returns : goal.returns
 returns g c =
-    let all : c.loop-c.c ≡ 2 ^ g.row.N = omega (arith, c.chip_count-count.ensures.value) in
+    let cuts : length (cuts_text c.args.version c.args.cuts.now)
+    ≡ length (cuts_text c.args.version c.args.machine.now.machine.routing.cuts) =
+    ap (λ (ws : List Wire). length (cuts_text c.args.version ws)) c.requires.cuts in
+    let version = ap (λ (v : ℕ). length (cuts_text v c.args.machine.now.machine.routing.cuts)) c.requires.version in
     record {
-      value = c.loop-c.invariant.is ∙ (ap (λ k. 16 + length (chips_text c.args.machine.now.machine 0 k)) all
-          ∙ sym (length-text_of g.row.N g.row.CAP c.args.machine.now.machine));
+      value = omega (
+        arith,
+        c.cuts_len.ensures.value,
+        cuts,
+        version,
+        c.chips_len.ensures.value,
+        length-text_of g.row.N g.row.CAP c.args.machine.now.machine,
+      );
     }

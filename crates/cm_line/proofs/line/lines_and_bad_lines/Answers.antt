@@ -128,3 +128,15 @@ returns-clause-split_twice c = faulty _ refl
 pub returns-clause-workers_twice : goal.returns-clause-workers_twice
 unfolding clap_on_literals
 returns-clause-workers_twice c = faulty _ refl
+
+pub returns-clause-weave_without_program : goal.returns-clause-weave_without_program
+unfolding clap_on_literals
+returns-clause-weave_without_program c = faulty _ refl
+
+pub returns-clause-weave_of_four : goal.returns-clause-weave_of_four
+unfolding clap_on_literals
+returns-clause-weave_of_four c = faulty _ refl
+
+pub returns-clause-weave_with_workers : goal.returns-clause-weave_with_workers
+unfolding clap_on_literals
+returns-clause-weave_with_workers c = faulty _ refl

@@ -2,7 +2,6 @@ use Rattle.std.proofs.Common.{◌≡◌, ℕ, List, Option, Some, None, codes, r
 use Rattle.clap.specs.Walk.{Text}
 use Rattle.clap.specs.Matches.{found_of}
 use Rattle.clap.proofs.WalkLemmas.{first_value-rows}
-use Rattle.cm_line.proofs.line.run_line.Goals.{in-Some-get_str-2+in_ok-from_str-in-Some-get_str-2, in-None}
 use Rattle.cm_line.proofs.line.run_line.Goals as goal
 
 pub returns-in_default-clause-none : goal.returns-in_default-clause-none
@@ -33,12 +32,6 @@ returns-clause-value c = (
         ∙ ap (λ (text : List ℕ). Some text) (sym c.in_ok-from_str-2.ensures.ok);
     cuts = c.in-Some-number_option.ensures.some;
     crew = c.in-Some-number_option-2.ensures.some;
-    left = elim c.match-get_str-3.branch [
-      | in-Some-get_str-2+in_ok-from_str-in-Some-get_str-2 w ↦ rw w.out-is
-          (sym (first_value-rows (found_of c.args.operands.now) (codes "out")) ∙ sym w.in-Some-get_str-2.ensures
-          ∙ ap (λ (text : List ℕ). Some text) (sym w.in_ok-from_str-in-Some-get_str-2.ensures.ok))
-      | in-None w ↦ rw w.out-is (sym (first_value-rows (found_of c.args.operands.now) (codes "out"))
-          ∙ sym w.in-None.ensures)
-    ];
+    left = c.in_ok-file_if_named.ensures;
   },
 )

@@ -1,18 +1,33 @@
-use Rattle.std.proofs.Common.{◌∙◌, ◌^◌, List, [], None, ap}
+use Rattle.std.proofs.Common.{ℕ, ◌+◌, ◌^◌, List, [], Option, None, length, refl, ap, ◌∙◌}
 use Rattle.cm_model.specs.declared.message.Message.{Message}
-use Rattle.cm_blocks.specs.Parcels.{Mail, due}
+use Rattle.cm_model.specs.Array.{list_at}
+use Rattle.cm_model.specs.Wiring.{way_of}
+use Rattle.cm_model.specs.Buffers.{leaving_place, outgoing, without}
+use Rattle.cm_model.proofs.Each.{length-each_from}
+use Rattle.cm_blocks.specs.Parcels.{due}
 use Rattle.cm_blocks.specs.Steps.{less}
-use Rattle.cm_petit.specs.Routers.{part_of}
-use Rattle.cm_petit.proofs.Dimensions.{mapped_from}
+use Rattle.cm_router.specs.Routes.{routing_of}
+use Rattle.cm_petit.proofs.Dimensions.{each_shifted}
 use Rattle.cm_petit.proofs.halves.leave.Goals as goal
 
 pub returns-clause-value : goal.returns-clause-value
 unfolding less
-returns-clause-value c = λ first clock chips logs.
-    ap (λ (bs : List (List Message)). part_of first (2 ^ c.args.sizes.span) chips bs logs clock)
-    (c.leave.ensures.value ∙ mapped_from _ [] [] first _ _ c.requires.count)
+returns-clause-value c = λ clock chips logs.
+    let here = list_at c.args.crossing.now.buffers in
+    let stay : ℕ → ℕ → List Message = λ k i.
+    without (here i)
+    (leaving_place (way_of (routing_of c.args.routing.now) k c.args.dim) c.args.sizes.room c.args.dim (here i)) in
+    let shifted = each_shifted [] c.args.first (2 ^ c.args.sizes.span) (λ i. stay (c.args.first + i) i) stay (λ i l. refl) in
+    rw (c.leave.ensures.value, c.requires.count, shifted) refl
 
 pub returns-clause-going : goal.returns-clause-going
 unfolding due
-returns-clause-going c = λ first clock chips logs.
-    ap Mail (c.leave.ensures.going ∙ mapped_from _ [] None first _ _ c.requires.count)
+returns-clause-going c = λ clock chips logs.
+    let gone : ℕ → ℕ → Option Message = λ k i.
+    outgoing (way_of (routing_of c.args.routing.now) k c.args.dim) c.args.sizes.room c.args.dim
+    (list_at c.args.crossing.now.buffers i) in
+    let shifted = each_shifted None c.args.first (2 ^ c.args.sizes.span) (λ i. gone (c.args.first + i) i) gone (λ i l. refl) in
+    rw (c.leave.ensures.going, c.requires.count, shifted) refl
+
+pub returns-clause-count : goal.returns-clause-count
+returns-clause-count c = ap length c.leave.ensures.value ∙ length-each_from _ _ _ ∙ c.requires.count

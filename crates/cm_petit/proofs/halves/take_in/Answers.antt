@@ -8,7 +8,7 @@ use Rattle.cm_petit.proofs.halves.take_in.Goals as goal
 
 pub returns-clause-value : goal.returns-clause-value
 unfolding absorbed
-returns-clause-value c = λ dim first clock chips logs.
+returns-clause-value c = λ routing dim first clock chips logs.
     let came = λ (i : ℕ). list_at c.args.crossing.now.buffers i ++ option_to_list (get_or c.args.leavers.now i None) in
     let shifted = each_shifted [] first (2 ^ c.args.sizes.span) came (λ k. came) (λ i l. refl) in
     rw (c.take_in.ensures.value, c.requires.count, shifted) refl

@@ -21,4 +21,5 @@ loop-c-preserved c =
 
 pub returns-clause-value : goal.returns-clause-value
 unfolding part_after
-returns-clause-value c = λ clock. made_all _ c.loop-c.invariant.delivered (omega (arith, c.requires.nodes.node_count))
+returns-clause-value c = λ routing clock.
+    made_all routing _ c.loop-c.invariant.delivered (omega (arith, c.requires.nodes.node_count))

@@ -21,4 +21,5 @@ loop-c-preserved c =
 
 pub returns-clause-value : goal.returns-clause-value
 unfolding part_after
-returns-clause-value c = made_all _ c.loop-c.invariant.injected (omega (arith, c.requires.nodes.node_count))
+returns-clause-value c = λ routing.
+    made_all routing _ c.loop-c.invariant.injected (omega (arith, c.requires.nodes.node_count))

@@ -5,9 +5,9 @@ use Rattle.cm_petit.proofs.phases.inject.Goals as goal
 
 pub returns-then-is_idle-clause-value : goal.returns-then-is_idle-clause-value
 unfolding part_after
-returns-then-is_idle-clause-value c =
+returns-then-is_idle-clause-value c = λ routing.
     let are = c.requires.routers in
-    made_all {f = injecting c.args.sizes.dims c.args.sizes.room c.args.clock} {most = 4} _
+    made_all {f = injecting c.args.sizes.dims c.args.sizes.room c.args.clock} {most = 4} routing _
     (made_past (2 ^ c.args.sizes.span) (made_none are.chip_count are.buffer_count are.log_count) (omega arith)
     (λ k from l e. injecting_nothing c.args.sizes.dims c.args.sizes.room c.args.clock (c.args.first + k) _
     (c.is_idle.ensures.idle c.if-is_idle.true k (omega (arith, l, are.chip_count))))) (omega arith)
@@ -23,4 +23,5 @@ loop-c-preserved c = record {
 
 pub returns-clause-value : goal.returns-clause-value
 unfolding part_after
-returns-clause-value c = made_all _ c.loop-c.invariant.injected (omega (arith, c.requires.routers.log_count))
+returns-clause-value c = λ routing.
+    made_all routing _ c.loop-c.invariant.injected (omega (arith, c.requires.routers.log_count))

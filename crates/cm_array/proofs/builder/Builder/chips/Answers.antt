@@ -20,6 +20,7 @@ invariant_of-self g c =
       sent = b.sent;
       incoming = b.incoming;
       crossing = b.crossing;
+      routing = b.routing;
     } in
     let from : Chips = chips_beside c.args.memory.now c.args.flags.now c.args.count in
     let long : length from ≡ c.args.count =

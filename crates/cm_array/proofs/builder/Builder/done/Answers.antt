@@ -19,6 +19,7 @@ of_parts-requires g c =
       sent = b.sent;
       incoming = b.incoming;
       crossing = b.crossing;
+      routing = b.routing;
     } in
     let same : c.into_run.result ≡ b.run = c.into_run.ensures.value in
     let unfinished : AreUnfinished g.row.N g.row.CAP parts =

@@ -17,6 +17,7 @@ invariant_of-self g c =
       sent = b.sent;
       incoming = b.incoming;
       crossing = b.crossing;
+      routing = b.routing;
     } in
     let below : c.from.result < 2 ^ g.row.N = omega arith in
     let is : machine_of parts ≡ c.args.self.now = c.self.view_is in
@@ -40,6 +41,7 @@ returns g c =
       sent = b.sent;
       incoming = b.incoming;
       crossing = b.crossing;
+      routing = b.routing;
     } in
     record {
       value =

@@ -16,6 +16,7 @@ invariant_of-self g c =
       sent = b.sent;
       incoming = b.incoming;
       crossing = b.crossing;
+      routing = b.routing;
     } in
     let chip = get_or parts.run c.args.chip [] in
     AreUnfinished-with_chip g.row.N g.row.CAP parts c.poke_plane.new.self c.args.chip

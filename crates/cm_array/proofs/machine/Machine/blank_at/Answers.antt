@@ -12,6 +12,7 @@ invariant_of-result g c =
     c.in_ok-run.ensures.value c.in_ok-crossing.ensures.value c.in_ok-logs.ensures.value
     c.in_ok-sent.ensures.count c.in_ok-incoming.ensures.count
     c.in_ok-crossing.ensures.gathered c.requires.clock
+    c.in_ok-routing.ensures.dims c.in_ok-routing.ensures.value
 
 pub returns-clause-value : goal.returns-clause-value
 returns-clause-value g c =
@@ -23,5 +24,7 @@ returns-clause-value g c =
       sent = c.in_ok-sent.sent;
       incoming = c.in_ok-incoming.incoming;
       crossing = c.in_ok-crossing.crossing;
+      routing = c.in_ok-routing.routing;
     })
     c.chip_count-count.ensures.value c.in_ok-run.ensures.value c.in_ok-crossing.ensures.value c.in_ok-logs.ensures.value
+    c.in_ok-routing.ensures.value

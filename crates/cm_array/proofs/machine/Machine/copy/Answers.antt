@@ -8,4 +8,4 @@ invariant_of-result g c =
     AreParts-copied g.row.N g.row.CAP c.chips-count.result c.self.inside.parts _ c.self.invariant
     c.chips-count.ensures.value c.in_ok-run.ensures.value c.in_ok-crossing.ensures.value
     (c.in_ok-logs.ensures.value ∙ ap events_of c.deref.ensures.value)
-    refl c.in_ok-sent.ensures.count c.in_ok-incoming.ensures.count
+    refl c.in_ok-sent.ensures.count c.in_ok-incoming.ensures.count c.in_ok-routing.ensures.value

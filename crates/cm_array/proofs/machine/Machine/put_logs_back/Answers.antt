@@ -1,8 +1,8 @@
 use Rattle.std.proofs.Common.{◌≡◌, List, length, ap, sym, ◌∙◌, refl}
 use Rattle.std.proofs.lemmas.List.{length-map}
 use Rattle.cm_model.specs.declared.message.Event.{Event}
-use Rattle.cm_model.specs.Wiring.{plain_routing}
 use Rattle.cm_router.specs.Logs.{Log}
+use Rattle.cm_router.specs.Routes.{routing_of}
 use Rattle.cm_petit.specs.Routers.{events_of}
 use Rattle.cm_array.specs.Behind.{Aside, behind}
 use Rattle.cm_array.proofs.Behind.{logs_behind}
@@ -28,6 +28,6 @@ invariant_of-self g c =
       buffers = parts.crossing.buffers;
       logs = logs i;
       clock = parts.clock;
-      routing = plain_routing;
+      routing = routing_of parts.routing;
     }) ∙ (λ i. behind g.row.N (before i) (c.self.view_is i).machine))
-    c.self.invariant.gathered refl refl c.self.invariant.clock
+    c.self.invariant.gathered refl refl c.self.invariant.clock c.self.invariant.cube

@@ -1,7 +1,7 @@
 use Rattle.std.proofs.Common.{List, [], ap, ◌∙◌, refl}
 use Rattle.cm_model.specs.declared.message.Event.{Event}
 use Rattle.cm_model.specs.Each.{each_from}
-use Rattle.cm_model.specs.Wiring.{plain_routing}
+use Rattle.cm_router.specs.Routes.{routing_of}
 use Rattle.cm_petit.specs.Routers.{events_of}
 use Rattle.cm_array.specs.Behind.{unlogged}
 use Rattle.cm_array.specs.Parts.{machine_of}
@@ -21,6 +21,6 @@ invariant_of-self-2 g c =
       buffers = parts.crossing.buffers;
       logs = logs i;
       clock = parts.clock;
-      routing = plain_routing;
+      routing = routing_of parts.routing;
     })
-    c.self.invariant.gathered refl refl c.self.invariant.clock
+    c.self.invariant.gathered refl refl c.self.invariant.clock c.self.invariant.cube

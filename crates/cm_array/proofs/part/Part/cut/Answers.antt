@@ -9,7 +9,7 @@ use Rattle.cm_array.specs.declared.parts.Parts.{Parts}
 use Rattle.cm_array.proofs.Lists.{items-lent}
 use Rattle.cm_array.proofs.Cutting.{within_fifteen, few_buffers, events_of-cut, AreCut, IsKeptPart-cut, part_of-cut}
 use Rattle.cm_array.proofs.part.Part.cut.Goals as goal
-use Rattle.cm_array.proofs.part.Part.cut.Goals.{In_ok-crossing}
+use Rattle.cm_array.proofs.part.Part.cut.Goals.{In_ok-routing}
 
 pub copied_buffers-requires-clause-few : goal.copied_buffers-requires-clause-few
 copied_buffers-requires-clause-few c = few_buffers c.args.sizes.dims c.args.sizes.room c.args.parts.now c.requires.parts
@@ -18,7 +18,7 @@ pub copied_buffers-requires-clause-within : goal.copied_buffers-requires-clause-
 copied_buffers-requires-clause-within c =
     within_fifteen c.args.sizes.dims c.args.sizes.room c.args.parts.now c.requires.parts
 
-parts_cut : In_ok-crossing → Parts
+parts_cut : In_ok-routing → Parts
 parts_cut c = record {
   run = c.in_ok-run.run';
   logs = with_items c.in_ok-logs.logs c.reserve.new.logs;
@@ -26,9 +26,10 @@ parts_cut c = record {
   sent = c.in_ok-sent.sent;
   incoming = c.in_ok-incoming.incoming;
   crossing = c.in_ok-crossing.crossing;
+  routing = c.in_ok-routing.routing;
 }
 
-are_cut : (c : In_ok-crossing) → AreCut c.args.first c.args.count c.args.parts.now (parts_cut c)
+are_cut : (c : In_ok-routing) → AreCut c.args.first c.args.count c.args.parts.now (parts_cut c)
 unfolding parts_cut
 are_cut c =
     let old = c.args.parts.now in
@@ -50,6 +51,7 @@ are_cut c =
       sent = c.in_ok-sent.ensures.count ∙ c.from-chips.ensures;
       incoming = c.in_ok-incoming.ensures.count ∙ c.from-chips.ensures;
       clock = refl;
+      routing = c.in_ok-routing.ensures.value;
     }
 
 pub invariant_of-result : goal.invariant_of-result

@@ -1,10 +1,12 @@
-use Rattle.std.proofs.Common.{◌<◌, sym, ◌∙◌, subst}
+use Rattle.std.proofs.Common.{◌≡◌, ℕ, ◌<◌, ◌+◌, ◌^◌, false, length, sym, ◌∙◌, subst, arith}
+use Rattle.cm_model.specs.Array.{list_at}
+use Rattle.cm_model.specs.Wiring.{is_cut}
 use Rattle.cm_model.specs.Steps.{Cross}
 use Rattle.cm_blocks.specs.Parts.{Part}
 use Rattle.cm_blocks.specs.Parcels.{Mail, due}
 use Rattle.cm_blocks.specs.Steps.{less}
 use Rattle.cm_array.specs.Cuts.{KeptPart}
-use Rattle.cm_array.proofs.Halving.{chips_in_band, kept_stepped, kept_gave, IsKeptPart-crossed, within_where_space}
+use Rattle.cm_array.proofs.Halving.{chips_in_band, kept_stepped, kept_gave, IsKeptPart-crossed}
 use Rattle.cm_array.proofs.part.Part.leave.Goals as goal
 
 pub leave-requires : goal.leave-requires
@@ -15,6 +17,8 @@ leave-requires c =
     c.requires.band in
     record {
       sizes = c.self.invariant.sizes;
+      cube = c.self.invariant.cube;
+      band = omega (arith, c.self.invariant.there, long);
       dim = subst (λ (k : KeptPart). c.args.dim < k.dims) (sym c.self.view_is) c.requires.dim;
       count = c.self.invariant.buffer_count ∙ long;
       lanes = c.requires.lanes;
@@ -29,7 +33,7 @@ invariant_of-self c =
     c.requires.band in
     IsKeptPart-crossed inside.dims inside.room inside.first inside.parts c.leave.new.crossing c.self.invariant
     (c.leave.ensures.count ∙ sym long)
-    (within_where_space inside.room c.leave.new.crossing.buffers c.leave.ensures.space)
+    c.leave.ensures.within
 
 pub returns : goal.returns
 returns c =
@@ -38,10 +42,12 @@ returns c =
     record {
       value = kept_stepped inside.dims inside.room inside.first c.args.span parts c.args.self.now c.self.view_is
           c.requires.band c.leave.new.crossing (λ (k : KeptPart) (s : Part). less k.room (Cross c.args.dim) s)
-          (c.leave.ensures.value inside.first parts.clock parts.run parts.logs.items);
+          (c.leave.ensures.value parts.clock parts.run parts.logs.items);
       going = kept_gave inside.dims inside.room inside.first c.args.span parts c.args.self.now c.self.view_is
           c.requires.band (Mail c.leave.new.leavers)
           (λ (k : KeptPart) (s : Part). due k.dims k.room (Cross c.args.dim) s)
-          (c.leave.ensures.going inside.first parts.clock parts.run parts.logs.items);
-      space = c.leave.ensures.space;
+          (c.leave.ensures.going parts.clock parts.run parts.logs.items);
+      space = subst (λ (k : KeptPart). (i : ℕ) → i < 2 ^ c.args.span
+          → is_cut k.part.routing (k.part.first + i) c.args.dim ≡ false
+          → length (list_at c.leave.new.crossing.buffers i) < inside.room) c.self.view_is c.leave.ensures.space;
     }

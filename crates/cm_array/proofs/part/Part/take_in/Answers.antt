@@ -1,9 +1,10 @@
-use Rattle.std.proofs.Common.{◌<◌, length, sym, ◌∙◌, subst}
-use Rattle.std.specs.List.{All}
+use Rattle.std.proofs.Common.{◌≡◌, ◌⊎◌, ℕ, ◌<◌, ◌^◌, None, get_or, length, sym, ◌∙◌, subst}
+use Rattle.cm_model.specs.Array.{list_at}
 use Rattle.cm_model.specs.Steps.{Cross}
 use Rattle.cm_blocks.specs.Parts.{Part}
 use Rattle.cm_blocks.specs.Parcels.{Mail}
 use Rattle.cm_blocks.specs.Steps.{absorbed}
+use Rattle.cm_router.specs.Routes.{routing_of}
 use Rattle.cm_array.specs.Cuts.{KeptPart}
 use Rattle.cm_array.proofs.Halving.{chips_in_band, kept_stepped, IsKeptPart-crossed}
 use Rattle.cm_array.proofs.part.Part.take_in.Goals as goal
@@ -18,7 +19,9 @@ take_in-requires c =
       sizes = c.self.invariant.sizes;
       count = c.self.invariant.buffer_count ∙ long;
       lanes = c.requires.lanes;
-      space = subst (λ (k : KeptPart). All (λ ms. length ms < k.room) k.part.buffers)
+      within = c.self.invariant.within;
+      space = subst (λ (k : KeptPart). (i : ℕ) → i < 2 ^ c.args.span
+          → (get_or c.args.leavers.now i None ≡ None) ⊎ (length (list_at k.part.buffers i) < k.room))
           (sym c.self.view_is) c.requires.space;
     }
 
@@ -39,6 +42,6 @@ returns c =
       value = λ dim. kept_stepped inside.dims inside.room inside.first c.args.span parts c.args.self.now c.self.view_is
           c.requires.band c.take_in.new.crossing
           (λ (k : KeptPart) (s : Part). absorbed k.dims k.room (Cross dim) (Mail c.args.leavers.now) s)
-          (c.take_in.ensures.value dim inside.first parts.clock parts.run parts.logs.items);
+          (c.take_in.ensures.value (routing_of parts.routing) dim inside.first parts.clock parts.run parts.logs.items);
       blank = c.take_in.ensures.blank;
     }

@@ -1,7 +1,10 @@
-use Rattle.std.proofs.Common.{◌≤◌, length, rules, arith}
+use Rattle.std.proofs.Common.{◌≤◌, ◌∙◌, length, sym, ap, arith}
+use Rattle.std.specs.Vec.{with_items}
 use Rattle.std.proofs.lemmas.List.{length-map}
-use Rattle.cm_model.proofs.Each.{length-each_from}
-use Rattle.cm_crossing.proofs.Carrying.{as_many, crossed_standing, crossed_kept}
+use Rattle.cm_router.specs.Routes.{routing_of}
+use Rattle.cm_crossing.specs.Standing.{UnderWay, standing}
+use Rattle.cm_crossing.proofs.Carrying.{as_many}
+use Rattle.cm_crossing.proofs.Leaving.{whole_crossed, whole_crossed_long, whole_crossed_kept, whole_crossed_within}
 use Rattle.cm_crossing.proofs.crossing.Crossing.cross.Goals as goal
 
 pub cross-requires-clause-within : goal.cross-requires-clause-within
@@ -11,18 +14,39 @@ cross-requires-clause-within c =
 
 pub invariant_of-self : goal.invariant_of-self
 invariant_of-self c =
-    let kept = crossed_kept c.args.sizes.span c.args.sizes.room c.args.dim (length c.self.inside.row.items)
-    c.self.inside.slots c.self.invariant.kept in
-    search (rules, length-each_from, length-map, rw (← c.cross.ensures.value) at kept)
+    let was = c.self.invariant in
+    let are = ap (λ (crossing : UnderWay). crossing.buffers) c.self.view_is in
+    let long = whole_crossed_long c.deref.result.now c.self.inside.row.items c.deref.ensures.value
+    (routing_of c.args.routing.now) c.args.sizes.room c.args.dim c.args.sizes.span c.args.first c.self.inside.slots
+    c.cross.new.slots c.args.self.now.buffers are c.cross.ensures.value in
+    let before = sym (length-map c.self.inside.slots (standing c.self.inside.row.items)) ∙ (ap length are ∙ c.requires.count) in
+    record {
+      few = omega (arith, was.few, long, before);
+      enough = omega (arith, was.enough, long, before);
+      most = was.most;
+      capacity = was.capacity;
+      spare_capacity = was.spare_capacity;
+      filled = was.filled;
+      rows = omega (arith, (with_items c.self.inside.leavers c.cross.new.leavers).ok.0, c.self.inside.leavers.ok.0, was.rows, long, before);
+      kept = whole_crossed_kept c.deref.result.now c.self.inside.row.items c.deref.ensures.value
+          (routing_of c.args.routing.now) c.args.sizes.room c.args.dim c.args.sizes.span c.args.first c.self.inside.slots
+          c.cross.new.slots c.args.self.now.buffers are c.cross.ensures.value was.kept;
+      together = λ t. absurd cc;
+    }
 
-pub returns-clause-value : goal.returns-clause-value
-returns-clause-value c =
-    rw (← c.self.view_is, c.cross.ensures.value)
-    (crossed_standing c.args.sizes.span c.args.sizes.room c.args.dim c.self.inside.row.items c.self.inside.slots)
-
-pub returns-clause-count : goal.returns-clause-count
-returns-clause-count c = grind (arith, length-each_from, length-map)
-
-pub returns-clause-within : goal.returns-clause-within
-returns-clause-within c =
-    (as_many (λ n. n ≤ c.args.sizes.room) c.self.inside.row.items c.cross.new.self).0 c.cross.ensures.within
+pub returns : goal.returns
+returns c =
+    let are = ap (λ (crossing : UnderWay). crossing.buffers) c.self.view_is in
+    record {
+      value = whole_crossed c.deref.result.now c.self.inside.row.items c.deref.ensures.value
+          (routing_of c.args.routing.now) c.args.sizes.room c.args.dim c.args.sizes.span c.args.first c.self.inside.slots
+          c.cross.new.slots c.args.self.now.buffers are c.cross.ensures.value;
+      count = length-map c.cross.new.slots (standing c.self.inside.row.items)
+          ∙ whole_crossed_long c.deref.result.now c.self.inside.row.items c.deref.ensures.value
+          (routing_of c.args.routing.now) c.args.sizes.room c.args.dim c.args.sizes.span c.args.first c.self.inside.slots
+          c.cross.new.slots c.args.self.now.buffers are c.cross.ensures.value;
+      within = whole_crossed_within c.deref.result.now c.self.inside.row.items c.deref.ensures.value
+          (routing_of c.args.routing.now) c.args.sizes.room c.args.dim c.args.sizes.span c.args.first c.self.inside.slots
+          c.cross.new.slots c.args.self.now.buffers are c.cross.ensures.value c.requires.within
+          (omega (arith, c.requires.sizes.some_room));
+    }

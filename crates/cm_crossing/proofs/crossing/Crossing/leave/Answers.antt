@@ -1,10 +1,11 @@
-use Rattle.std.proofs.Common.{◌≤◌, ◌<◌, length, get_or, rules}
-use Rattle.std.specs.List.{All}
-use Rattle.std.proofs.lemmas.List.{length-map}
-use Rattle.std.proofs.lemmas.List.Elements.{All-map}
-use Rattle.std.proofs.lemmas.Grind.{common_steps}
-use Rattle.cm_crossing.specs.Standing.{AreKept, IsKept}
-use Rattle.cm_crossing.proofs.Carrying.{as_many, both_maps, stayers-standing, going-standing, without_kept, leaver_kept}
+use Rattle.std.proofs.Common.{◌≤◌, ◌∙◌, ap, map, arith}
+use Rattle.std.specs.Option.{option_map}
+use Rattle.std.specs.Vec.{with_items}
+use Rattle.cm_router.specs.Routes.{routing_of}
+use Rattle.cm_crossing.specs.Standing.{UnderWay, message_of}
+use Rattle.cm_crossing.proofs.Carrying.{as_many}
+use Rattle.cm_crossing.proofs.Leaving.{whole_left, whole_left_long, whole_left_kept, whole_gone, whole_gone_kept}
+use Rattle.cm_crossing.proofs.Leaving.{whole_left_within, whole_left_space}
 use Rattle.cm_crossing.proofs.crossing.Crossing.leave.Goals as goal
 
 pub leave-requires-clause-within : goal.leave-requires-clause-within
@@ -14,28 +15,51 @@ leave-requires-clause-within c =
 
 pub read_off-requires-clause-kept : goal.read_off-requires-clause-kept
 read_off-requires-clause-kept c =
-    let slots = c.self.inside.slots in
-    rw (c.leave.ensures.going, c.deref.ensures.value) (All-map (IsKept (length c.self.inside.row.items)) _ slots
-    (λ k e l. leaver_kept _ c.args.dim (get_or slots k e) _ (c.self.invariant.kept k e l)))
+    let are = ap (λ (crossing : UnderWay). crossing.buffers) c.self.view_is in
+    rw (c.deref-2.ensures.value, ← c.deref.ensures.value) (whole_gone_kept c.deref.result.now c.self.inside.row.items c.deref.ensures.value
+    (routing_of c.args.routing.now) c.args.sizes.room c.args.dim c.args.first c.self.inside.slots
+    c.leave.new.slots c.args.self.now.buffers are c.leave.ensures.value c.leave.new.leavers c.leave.ensures.going
+    c.self.invariant.kept)
 
 pub invariant_of-self : goal.invariant_of-self
 invariant_of-self c =
-    let slots = c.self.inside.slots in
-    let kept : All (AreKept (length c.self.inside.row.items)) c.leave.new.self =
-    rw c.leave.ensures.value (All-map (AreKept (length c.self.inside.row.items)) _ slots
-    (λ k e l. without_kept _ (get_or slots k e) _ (c.self.invariant.kept k e l))) in
-    search (rules, common_steps, length-map, kept)
+    let was = c.self.invariant in
+    let are = ap (λ (crossing : UnderWay). crossing.buffers) c.self.view_is in
+    let long = whole_left_long c.deref.result.now c.self.inside.row.items c.deref.ensures.value
+    (routing_of c.args.routing.now) c.args.sizes.room c.args.dim c.args.first c.self.inside.slots
+    c.leave.new.slots c.args.self.now.buffers are c.leave.ensures.value in
+    record {
+      few = omega (arith, was.few, long);
+      enough = omega (arith, was.enough, long);
+      most = was.most;
+      capacity = was.capacity;
+      spare_capacity = was.spare_capacity;
+      filled = was.filled;
+      rows = omega (arith, (with_items c.self.inside.leavers c.leave.new.leavers).ok.0, c.self.inside.leavers.ok.0, was.rows, long);
+      kept = whole_left_kept c.deref.result.now c.self.inside.row.items c.deref.ensures.value
+          (routing_of c.args.routing.now) c.args.sizes.room c.args.dim c.args.first c.self.inside.slots
+          c.leave.new.slots c.args.self.now.buffers are c.leave.ensures.value was.kept;
+      together = λ t. absurd cc;
+    }
 
-pub returns-clause-value : goal.returns-clause-value
-returns-clause-value c =
-    rw (← c.self.view_is, c.leave.ensures.value)
-    (both_maps _ _ _ _ (stayers-standing c.self.inside.row.items c.args.sizes.room c.args.dim) c.self.inside.slots)
-
-pub returns-clause-going : goal.returns-clause-going
-returns-clause-going c =
-    rw (← c.self.view_is, c.read_off.ensures.value, c.leave.ensures.going, c.deref.ensures.value)
-    (both_maps _ _ _ _ (going-standing c.self.inside.row.items c.args.sizes.room c.args.dim) c.self.inside.slots)
-
-pub returns-clause-space : goal.returns-clause-space
-returns-clause-space c =
-    (as_many (λ n. n < c.args.sizes.room) c.self.inside.row.items c.leave.new.self).0 c.leave.ensures.space
+pub returns : goal.returns
+returns c =
+    let are = ap (λ (crossing : UnderWay). crossing.buffers) c.self.view_is in
+    record {
+      value = whole_left c.deref.result.now c.self.inside.row.items c.deref.ensures.value
+          (routing_of c.args.routing.now) c.args.sizes.room c.args.dim c.args.first c.self.inside.slots
+          c.leave.new.slots c.args.self.now.buffers are c.leave.ensures.value;
+      going = c.read_off.ensures.value
+          ∙ ((λ i. map (λ t. option_map (message_of (c.deref-2.ensures.value i)) t) c.leave.new.leavers)
+          ∙ whole_gone c.deref.result.now c.self.inside.row.items c.deref.ensures.value
+          (routing_of c.args.routing.now) c.args.sizes.room c.args.dim c.args.first c.self.inside.slots
+          c.leave.new.slots c.args.self.now.buffers are c.leave.ensures.value c.leave.new.leavers c.leave.ensures.going);
+      within = whole_left_within c.deref.result.now c.self.inside.row.items c.deref.ensures.value
+          (routing_of c.args.routing.now) c.args.sizes.room c.args.dim c.args.first c.self.inside.slots
+          c.leave.new.slots c.args.self.now.buffers are c.leave.ensures.value c.requires.within
+          (omega (arith, c.requires.sizes.some_room));
+      space = whole_left_space c.deref.result.now c.self.inside.row.items c.deref.ensures.value
+          (routing_of c.args.routing.now) c.args.sizes.room c.args.dim c.args.first c.self.inside.slots
+          c.leave.new.slots c.args.self.now.buffers are c.leave.ensures.value c.requires.within
+          (omega (arith, c.requires.sizes.some_room));
+    }

@@ -1,4 +1,4 @@
-use Rattle.std.proofs.Common.{◌≤◌, length, arith}
+use Rattle.std.proofs.Common.{◌≤◌, arith}
 use Rattle.std.proofs.lemmas.List.{length-map}
 use Rattle.cm_crossing.proofs.Carrying.{as_many, standing_at, arrived_standing}
 use Rattle.cm_crossing.proofs.crossing.Crossing.next_arrived.Goals as goal

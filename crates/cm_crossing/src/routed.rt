@@ -1,0 +1,187 @@
+//! A dimension as the machine routes: where no wire over it is cut and who came first goes first all chips at once,
+//! else chip by chip.
+
+ghost use Rattle.std.specs.Prelude.{◌≡◌, ℕ, ◌+◌, ◌%◌, ◌^◌, ◌<◌, ◌≤◌, ◌++◌, ◌⊎◌, None, length, bit_xor};
+ghost use Rattle.std.specs.Prelude.{slice_index_or};
+ghost use Rattle.std.specs.List.{All};
+ghost use Rattle.std.specs.Option.{option_to_list};
+ghost use Rattle.cm_model.specs.Each.{each_from};
+ghost use Rattle.cm_model.specs.Array.{each_chip, list_at};
+ghost use Rattle.cm_model.specs.Keeping.{AreSizes};
+ghost use Rattle.cm_model.specs.Wiring.{way_of};
+ghost use Rattle.cm_router.specs.Routes.{routing_of};
+ghost use Rattle.cm_crossing.specs.Standing.{AreKept, IsKept, IsWritten};
+ghost use Rattle.cm_crossing.specs.Routed.{ticket_leaving, tickets_staying, tickets_crossed};
+
+use crate::choosing::place_of_chosen;
+use crate::sizes::Sizes;
+use cm_message::{Message, Rule};
+use cm_router::Routing;
+use cm_slots::{Slots, Ticket};
+
+/// The tickets of a run of chips cross a dimension that these span: all leave before any comes. The run begins at
+/// chip `first` of the machine.
+pub(crate) fn cross(
+    row: &[Message],
+    slots: &mut Slots,
+    sizes: Sizes,
+    routing: &Routing,
+    first: u16,
+    dim: u8,
+    leavers: &mut [Option<Ticket>],
+)
+    requires sizes { AreSizes sizes.dims sizes.room }
+    requires cube { routing.now.cuts.dims ≡ sizes.dims }
+    requires span { sizes.span ≤ sizes.dims }
+    requires dim { dim < sizes.span }
+    requires count { length slots.old ≡ 2 ^ sizes.span }
+    requires rows { length leavers.old ≡ length slots.old }
+    requires begins { first % 2 ^ sizes.span ≡ 0 }
+    requires band { first + 2 ^ sizes.span ≤ 2 ^ sizes.dims }
+    requires few { length row.now ≤ 65535 }
+    requires kept { All (AreKept (length row.now)) slots.old }
+    requires within { All (λ ts. length ts ≤ sizes.room) slots.old }
+    ensures value { slots.new ≡ each_chip sizes.span (λ c. tickets_crossed row.now
+        (way_of (routing_of routing.now) (first + c) dim) sizes.room dim
+        (list_at slots.old c) (list_at slots.old (bit_xor c (2 ^ dim)))) }
+{
+    if routing.is_plain_over(dim) {
+        slots.cross(sizes.span, sizes.room, dim);
+    } else {
+        cross_by_chip(row, slots, sizes, routing, first, dim, leavers);
+    }
+}
+
+/// The first half by itself: who leaves each chip is taken out, and written down as it arrives across.
+pub(crate) fn leave(
+    row: &[Message],
+    slots: &mut Slots,
+    sizes: Sizes,
+    routing: &Routing,
+    first: u16,
+    dim: u8,
+    leavers: &mut [Option<Ticket>],
+)
+    requires sizes { AreSizes sizes.dims sizes.room }
+    requires cube { routing.now.cuts.dims ≡ sizes.dims }
+    requires dim { dim < sizes.dims }
+    requires rows { length leavers.old ≡ length slots.old }
+    requires band { first + length slots.old ≤ 2 ^ sizes.dims }
+    requires kept { All (AreKept (length row.now)) slots.old }
+    requires within { All (λ ts. length ts ≤ sizes.room) slots.old }
+    ensures value { slots.new ≡ each_from 0 (length slots.old) (λ c. tickets_staying row.now
+        (way_of (routing_of routing.now) (first + c) dim) sizes.room dim (list_at slots.old c)) }
+    ensures going { leavers.new ≡ each_from 0 (length slots.old) (λ c. ticket_leaving row.now
+        (way_of (routing_of routing.now) (first + c) dim) sizes.room dim (list_at slots.old c)) }
+{
+    if routing.is_plain_over(dim) {
+        slots.leave(sizes.room, dim, leavers);
+    } else {
+        leave_by_chip(row, slots, sizes, routing, first, dim, leavers);
+    }
+}
+
+fn cross_by_chip(
+    row: &[Message],
+    slots: &mut Slots,
+    sizes: Sizes,
+    routing: &Routing,
+    first: u16,
+    dim: u8,
+    leavers: &mut [Option<Ticket>],
+)
+    requires sizes { AreSizes sizes.dims sizes.room }
+    requires cube { routing.now.cuts.dims ≡ sizes.dims }
+    requires span { sizes.span ≤ sizes.dims }
+    requires dim { dim < sizes.span }
+    requires count { length slots.old ≡ 2 ^ sizes.span }
+    requires rows { length leavers.old ≡ length slots.old }
+    requires begins { first % 2 ^ sizes.span ≡ 0 }
+    requires band { first + 2 ^ sizes.span ≤ 2 ^ sizes.dims }
+    requires few { length row.now ≤ 65535 }
+    requires kept { All (AreKept (length row.now)) slots.old }
+    requires within { All (λ ts. length ts ≤ sizes.room) slots.old }
+    ensures value { slots.new ≡ each_chip sizes.span (λ c. tickets_crossed row.now
+        (way_of (routing_of routing.now) (first + c) dim) sizes.room dim
+        (list_at slots.old c) (list_at slots.old (bit_xor c (2 ^ dim)))) }
+{
+    leave_by_chip(row, slots, sizes, routing, first, dim, leavers);
+    take_in_by_chip(slots, leavers, dim);
+}
+
+fn leave_by_chip(
+    row: &[Message],
+    slots: &mut Slots,
+    sizes: Sizes,
+    routing: &Routing,
+    first: u16,
+    dim: u8,
+    leavers: &mut [Option<Ticket>],
+)
+    requires sizes { AreSizes sizes.dims sizes.room }
+    requires cube { routing.now.cuts.dims ≡ sizes.dims }
+    requires dim { dim < sizes.dims }
+    requires rows { length leavers.old ≡ length slots.old }
+    requires band { first + length slots.old ≤ 2 ^ sizes.dims }
+    requires kept { All (AreKept (length row.now)) slots.old }
+    ensures value { slots.new ≡ each_from 0 (length slots.old) (λ c. tickets_staying row.now
+        (way_of (routing_of routing.now) (first + c) dim) sizes.room dim (list_at slots.old c)) }
+    ensures going { leavers.new ≡ each_from 0 (length slots.old) (λ c. ticket_leaving row.now
+        (way_of (routing_of routing.now) (first + c) dim) sizes.room dim (list_at slots.old c)) }
+{
+    for chip in 0..slots.chips() {
+        let cut = routing.cuts.has(first + chip as u16, dim);
+        leavers[chip] = let_leave(row, slots, chip, sizes.room, dim, cut, routing.rule);
+    }
+}
+
+/// Each chip takes in who was written down at the chip across, behind all that stand there.
+fn take_in_by_chip(slots: &mut Slots, leavers: &[Option<Ticket>], dim: u8)
+    requires dim { dim < 12 }
+    requires rows { length leavers.now ≡ length slots.old }
+    requires across { (c : ℕ) → c < length slots.old → bit_xor c (2 ^ dim) < length slots.old }
+    requires numbers { All (IsKept 65535) leavers.now }
+    requires space { (c : ℕ) → c < length slots.old
+        → (slice_index_or leavers.now (bit_xor c (2 ^ dim)) None ≡ None) ⊎ (length (list_at slots.old c) < 15) }
+    ensures value { slots.new ≡ each_from 0 (length slots.old) (λ c. list_at slots.old c
+        ++ option_to_list (slice_index_or leavers.now (bit_xor c (2 ^ dim)) None)) }
+{
+    for chip in 0..leavers.len() {
+        if let Some(ticket) = leavers[chip ^ 1 << dim] {
+            slots.arrive(chip, ticket);
+        }
+    }
+}
+
+/// Takes out who leaves a chip, if anyone does, as it arrives across.
+#[tactic(auto, unfolding(cm_model::specs::Buffers::leaving_place))]
+fn let_leave(
+    row: &[Message],
+    slots: &mut Slots,
+    chip: usize,
+    room: u8,
+    dim: u8,
+    cut: bool,
+    rule: Rule,
+) -> Option<Ticket>
+    requires chip { chip < length slots.old }
+    requires some { 0 < room }
+    requires dim { dim < 12 }
+    requires kept { AreKept (length row.now) (list_at slots.old chip) }
+    ensures value { list_at slots.new chip
+        ≡ tickets_staying row.now (record { cut = cut; rule = rule }) room dim (list_at slots.old chip) }
+    ensures going { result
+        ≡ ticket_leaving row.now (record { cut = cut; rule = rule }) room dim (list_at slots.old chip) }
+    ensures others { IsWritten chip slots.old slots.new }
+{
+    if cut {
+        return None;
+    }
+    let place = place_of_chosen(row, slots, chip, room, dim, rule)?;
+    let ticket = slots.ticket(chip, place).unwrap();
+    slots.remove(chip, place);
+    Some(Ticket {
+        rel: ticket.rel ^ 1 << dim,
+        ..ticket
+    })
+}

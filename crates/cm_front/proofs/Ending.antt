@@ -1,0 +1,254 @@
+-- How a front end ends, by what was heard and told before.
+use Rattle.std.proofs.Common.{◌≡◌, ℕ, ◌+◌, ◌-◌, ◌<◌, ◌≤◌, List, [], ◌∷◌, ◌++◌, length, take, drop, get_or, Option, Result}
+use Rattle.std.proofs.Common.{Ok, Err, refl, ap, ◌∙◌, sym, subst, arith, append_assoc, append-nil, length-append}
+use Rattle.std.proofs.Common.{take-append-drop, drop-drop, length-drop, Bool, true, false}
+use Rattle.std.proofs.lemmas.Grind.{common_steps}
+use Rattle.std.proofs.KnownBytes.{Appends-nil, Consumes-kept, Consumes-trans}
+use Rattle.std.specs.Io.KnownBytes.{Appends, Consumes}
+use Rattle.cm_bits.specs.Text.{lines_of}
+use Rattle.cm_model.specs.Machine.{Machine}
+use Rattle.cm_session.specs.declared.fault.SessionFault.{SessionFault}
+use Rattle.cm_session.specs.declared.fault.SessionFault.TheVariants.{Read, Write, TooMuch, Memory, NoThread}
+use Rattle.cm_session.specs.Ends.{ended_lines}
+use Rattle.cm_debug.specs.Gathering.{IsCutOff}
+use Rattle.cm_debug.specs.Telling.{IsUnended}
+use Rattle.cm_front.specs.Front.{Front}
+use Rattle.cm_front.specs.Ends.{LIMIT, Ends, IsAnswered}
+use Rattle.cm_front.specs.Hearing.{BreaksOff, HasHeard, HearingStops}
+use Rattle.cm_front.proofs.Lines.{AreLinesOf, line_more, last_line, all_ended, no_open}
+use Rattle.cm_front.proofs.Told.{IsTold, answered_all, stopped, broken_off, line_stops}
+
+-- ---- a line of what was heard
+
+whole_rest : (k : ℕ) (xs : List ℕ) → take (length xs - k) (drop k xs) ≡ drop k xs
+whole_rest k xs = grind (arith, common_steps)
+
+take_one : (xs : List ℕ) (k : ℕ) → k < length xs → take (k + 1) xs ≡ take k xs ++ get_or xs k 0 ∷ []
+take_one xs k h = grind (arith, common_steps)
+
+take_whole : (xs : List ℕ) (k : ℕ) → k ≡ length xs → take k xs ≡ xs
+take_whole xs k h = grind (arith, common_steps)
+
+-- what was heard from a place on is a line and the rest
+pub a_line_on : (heard given rest line : List ℕ) (place len : ℕ) → rest ≡ take (length heard - place) (drop place heard)
+    → line ≡ take len rest → len < length rest → get_or rest len 0 ≡ 10
+    → given ++ drop place heard ≡ (given ++ (line ++ 10 ∷ [])) ++ drop (place + (len + 1)) heard
+a_line_on heard given rest line place len is part inside ends =
+    let one : line ++ 10 ∷ [] ≡ take (len + 1) (drop place heard) =
+    ap (λ (xs : List ℕ). xs ++ 10 ∷ []) part ∙ ap (λ (b : ℕ). take len rest ++ b ∷ []) (sym ends)
+    ∙ sym (take_one rest len inside) ∙ ap (take (len + 1)) (is ∙ whole_rest place heard) in
+    let parts : drop place heard ≡ (line ++ 10 ∷ []) ++ drop (place + (len + 1)) heard =
+    sym (take-append-drop (len + 1) (drop place heard))
+    ∙ (λ i. sym one i ++ drop-drop (len + 1) place heard i) in
+    ap (λ (xs : List ℕ). given ++ xs) parts ∙ sym (append_assoc given (line ++ 10 ∷ []) (drop (place + (len + 1)) heard))
+
+-- where no line has ended
+pub unended_rest : (heard rest : List ℕ) (place len : ℕ) → rest ≡ take (length heard - place) (drop place heard)
+    → length rest ≤ len → len ≤ length rest → IsUnended (take len rest) → IsUnended (drop place heard)
+unended_rest heard rest place len is above within free =
+    subst IsUnended (take_whole rest len (omega (arith, above, within)) ∙ is ∙ whole_rest place heard) free
+
+-- ---- in the midst
+
+-- a line breaks off
+pub line_ends : (n cap : ℕ) (start : Machine) (held before after : Option (List ℕ)) (heard given rest line : List ℕ)
+    (place len : ℕ) (done : List (List ℕ)) (front : Front) (holds on : Option (List ℕ)) (sent : ℕ) (kept : List ℕ)
+    (machine : Machine) (fault : SessionFault) → rest ≡ take (length heard - place) (drop place heard)
+    → line ≡ take len rest → len < length rest → get_or rest len 0 ≡ 10 → IsUnended line → AreLinesOf given done
+    → Consumes before after (given ++ drop place heard) → IsTold n cap start held done front holds sent kept
+    → BreaksOff n cap front line sent kept holds machine on fault → Ends n cap before after start held machine on (Err fault)
+line_ends n cap start held before after heard given rest line place len done front holds on sent kept machine fault is
+    part inside ends free lines consumed told' breaks = record {
+      taken = given ++ drop place heard;
+      consumed = consumed;
+      over = line_stops n cap start held (given ++ drop place heard) done (lines_of (drop (place + (len + 1)) heard)) front
+          holds on sent kept line machine fault
+          (ap lines_of (a_line_on heard given rest line place len is part inside ends)
+          ∙ (line_more given line done free lines).all (drop (place + (len + 1)) heard)) told' breaks;
+    }
+
+-- a write is cut off between two lines
+pub send_ends : (n cap : ℕ) (start : Machine) (held before after : Option (List ℕ)) (given rest : List ℕ)
+    (done : List (List ℕ)) (front : Front) (holds on : Option (List ℕ)) (sent : ℕ) (kept : List ℕ) (count : ℕ)
+    → AreLinesOf given done → Consumes before after (given ++ rest) → IsTold n cap start held done front holds sent kept
+    → IsCutOff sent kept holds on count → Ends n cap before after start held front.machine on (Err (Write count))
+send_ends n cap start held before after given rest done front holds on sent kept count lines consumed told' cut = record {
+  taken = given ++ rest;
+  consumed = consumed;
+  over = stopped n cap start held done (lines_of rest) (lines_of (given ++ rest)) front holds on sent kept count
+      (lines.all rest) told' cut;
+}
+
+take_front : (xs ys : List ℕ) (k : ℕ) → k ≡ length xs → take k (xs ++ ys) ≡ xs
+take_front xs ys k is = grind (arith, common_steps)
+
+nothing_appended : (holds : Option (List ℕ)) (kept : List ℕ) → kept ≡ [] → Appends holds holds kept
+nothing_appended holds kept none = subst (Appends holds holds) (sym none) (Appends-nil holds)
+
+-- no more is heard
+pub hearing_ends : (n cap : ℕ) (start : Machine) (held before mid after : Option (List ℕ)) (given rest : List ℕ)
+    (taken : ℕ) (done : List (List ℕ)) (front : Front) (holds : Option (List ℕ)) (sent : ℕ) (kept : List ℕ)
+    (fault : SessionFault) → kept ≡ [] → IsUnended rest → AreLinesOf given done → Consumes before mid (given ++ rest)
+    → taken ≡ length (given ++ rest) → taken ≤ LIMIT → IsTold n cap start held done front holds sent kept
+    → HearingStops mid after taken fault → Ends n cap before after start held front.machine holds (Err fault)
+hearing_ends n cap start held before mid after given rest taken done front holds sent kept Read none free lines consumed
+    count within told' stops = record {
+      taken = given ++ rest;
+      consumed = Consumes-kept before mid after (given ++ rest) consumed stops;
+      over = (
+        omega (arith, count, within),
+        subst (λ (ls : List (List ℕ)). IsAnswered n cap start held ls front.machine holds)
+            (sym (all_ended given rest done free lines))
+            (answered_all n cap start held done front holds sent kept none told'),
+      );
+    }
+hearing_ends n cap start held before mid after given rest taken done front holds sent kept TooMuch none free lines
+    consumed count within told' stops = record {
+      taken = (given ++ rest) ++ stops.bytes;
+      consumed = Consumes-trans before mid after (given ++ rest) stops.bytes consumed stops.consumed;
+      over = (
+        omega (arith, count, stops.full, stops.some, length-append (given ++ rest) stops.bytes),
+        subst (λ (ls : List (List ℕ)). IsAnswered n cap start held ls front.machine holds)
+            (sym (ap ended_lines (take_front (given ++ rest) stops.bytes LIMIT (sym stops.full ∙ count))
+            ∙ all_ended given rest done free lines))
+            (answered_all n cap start held done front holds sent kept none told'),
+      );
+    }
+hearing_ends n cap start held before mid after given rest taken done front holds sent kept Memory none free lines consumed
+    count within told' stops = record {
+      taken = (given ++ rest) ++ stops.bytes;
+      consumed = Consumes-trans before mid after (given ++ rest) stops.bytes consumed stops.consumed;
+      over = broken_off n cap start held done (lines_of (rest ++ stops.bytes)) (lines_of ((given ++ rest) ++ stops.bytes))
+          front holds holds sent kept
+          (ap lines_of (append_assoc given rest stops.bytes) ∙ lines.all (rest ++ stops.bytes)) told'
+          (nothing_appended holds kept none);
+    }
+hearing_ends n cap start held before mid after given rest taken done front holds sent kept (Write cut) none free lines
+    consumed count within told' stops = absurd stops
+hearing_ends n cap start held before mid after given rest taken done front holds sent kept NoThread none free lines
+    consumed count within told' stops = absurd stops
+
+-- ---- more is heard
+
+pub heard_more : (before mid after : Option (List ℕ)) (given rest heard : List ℕ) (taken count : ℕ)
+    → Consumes before mid (given ++ rest) → HasHeard mid after rest heard taken count
+    → Consumes before after (given ++ heard)
+heard_more before mid after given rest heard taken count consumed more =
+    subst (Consumes before after)
+    (append_assoc given rest more.bytes ∙ ap (λ (xs : List ℕ). given ++ xs) (sym more.heard_is))
+    (Consumes-trans before mid after (given ++ rest) more.bytes consumed more.consumed)
+
+pub heard_len : (before after : Option (List ℕ)) (rest heard : List ℕ) (taken count : ℕ)
+    → HasHeard before after rest heard taken count → length heard ≡ length rest + count
+heard_len before after rest heard taken count more =
+    ap length more.heard_is ∙ length-append rest more.bytes ∙ ap (λ (k : ℕ). length rest + k) (sym more.count_is)
+
+none_there : (rest bytes : List ℕ) → length bytes ≡ 0 → rest ++ bytes ≡ rest
+none_there rest [] zero = append-nil rest
+none_there rest (byte ∷ bytes) zero = absurd (omega (arith, zero))
+
+-- where no more came
+pub heard_none : (before after : Option (List ℕ)) (rest heard : List ℕ) (taken count : ℕ) → count ≡ 0
+    → HasHeard before after rest heard taken count → heard ≡ rest
+heard_none before after rest heard taken count zero more =
+    more.heard_is ∙ none_there rest more.bytes (sym more.count_is ∙ zero)
+
+-- ---- the end of the bytes
+
+-- no line is open
+pub closed_ends : (n cap : ℕ) (start : Machine) (held before after : Option (List ℕ)) (given heard : List ℕ)
+    (done : List (List ℕ)) (front : Front) (holds : Option (List ℕ)) (sent : ℕ) (kept : List ℕ) → kept ≡ []
+    → heard ≡ [] → AreLinesOf given done → Consumes before after (given ++ heard) → length (given ++ heard) ≤ LIMIT
+    → IsTold n cap start held done front holds sent kept → Ends n cap before after start held front.machine holds (Ok tt)
+closed_ends n cap start held before after given heard done front holds sent kept none empty lines consumed within told' =
+    record {
+      taken = given ++ heard;
+      consumed = consumed;
+      over = (
+        within,
+        subst (λ (ls : List (List ℕ)). IsAnswered n cap start held ls front.machine holds)
+            (sym (ap (λ (xs : List ℕ). lines_of (given ++ xs)) empty ∙ no_open given done lines))
+            (answered_all n cap start held done front holds sent kept none told'),
+      );
+    }
+
+-- the line that is open is the last
+last_parts : (given heard : List ℕ) (done : List (List ℕ)) → IsUnended heard → 0 < length heard → AreLinesOf given done
+    → lines_of (given ++ heard) ≡ (done ++ heard ∷ []) ++ []
+last_parts given heard done free some lines =
+    last_line given heard done free some lines ∙ sym (append-nil (done ++ heard ∷ []))
+
+-- it breaks off
+pub last_ends : (n cap : ℕ) (start : Machine) (held before after : Option (List ℕ)) (given heard : List ℕ)
+    (done : List (List ℕ)) (front : Front) (holds on : Option (List ℕ)) (sent : ℕ) (kept : List ℕ) (machine : Machine)
+    (fault : SessionFault) → IsUnended heard → 0 < length heard → AreLinesOf given done
+    → Consumes before after (given ++ heard) → IsTold n cap start held done front holds sent kept
+    → BreaksOff n cap front heard sent kept holds machine on fault → Ends n cap before after start held machine on (Err fault)
+last_ends n cap start held before after given heard done front holds on sent kept machine fault free some lines consumed
+    told' breaks = record {
+      taken = given ++ heard;
+      consumed = consumed;
+      over = line_stops n cap start held (given ++ heard) done [] front holds on sent kept heard machine fault
+          (last_parts given heard done free some lines) told' breaks;
+    }
+
+-- it is answered, and the answer written
+pub answered_ends : (n cap : ℕ) (start : Machine) (held before after : Option (List ℕ)) (given heard : List ℕ)
+    (done : List (List ℕ)) (front : Front) (holds : Option (List ℕ)) (sent : ℕ) (kept : List ℕ) → kept ≡ []
+    → IsUnended heard → 0 < length heard → AreLinesOf given done → Consumes before after (given ++ heard)
+    → length (given ++ heard) ≤ LIMIT → IsTold n cap start held (done ++ heard ∷ []) front holds sent kept
+    → Ends n cap before after start held front.machine holds (Ok tt)
+answered_ends n cap start held before after given heard done front holds sent kept none free some lines consumed within
+    told' = record {
+      taken = given ++ heard;
+      consumed = consumed;
+      over = (
+        within,
+        subst (λ (ls : List (List ℕ)). IsAnswered n cap start held ls front.machine holds)
+            (sym (last_line given heard done free some lines))
+            (answered_all n cap start held (done ++ heard ∷ []) front holds sent kept none told'),
+      );
+    }
+
+-- or not
+pub cut_ends : (n cap : ℕ) (start : Machine) (held before after : Option (List ℕ)) (given heard : List ℕ)
+    (done : List (List ℕ)) (front : Front) (holds on : Option (List ℕ)) (sent : ℕ) (kept : List ℕ) (count : ℕ)
+    → IsUnended heard → 0 < length heard → AreLinesOf given done → Consumes before after (given ++ heard)
+    → IsTold n cap start held (done ++ heard ∷ []) front holds sent kept → IsCutOff sent kept holds on count
+    → Ends n cap before after start held front.machine on (Err (Write count))
+cut_ends n cap start held before after given heard done front holds on sent kept count free some lines consumed told' cut =
+    record {
+      taken = given ++ heard;
+      consumed = consumed;
+      over = stopped n cap start held (done ++ heard ∷ []) [] (lines_of (given ++ heard)) front holds on sent kept count
+          (last_parts given heard done free some lines) told' cut;
+    }
+
+-- ---- how much was heard
+
+pub rest_len : (heard rest : List ℕ) (place : ℕ) → rest ≡ take (length heard - place) (drop place heard)
+    → length rest ≡ length heard - place
+rest_len heard rest place is = ap length (is ∙ whole_rest place heard) ∙ length-drop place heard
+
+pub line_len_is : (rest : List ℕ) (len : ℕ) → len ≤ length rest → length (take len rest) ≡ len
+line_len_is rest len within = grind (arith, common_steps)
+
+pub all_len : (heard given : List ℕ) (place taken : ℕ) → place ≤ length heard
+    → taken + place ≡ length given + length heard → taken ≡ length (given ++ drop place heard)
+all_len heard given place taken within count =
+    omega (arith, within, count, length-append given (drop place heard), length-drop place heard)
+
+-- a source that has not failed
+pub not_failed : (b : Bool) → (b ≡ true → ⊥) → b ≡ false
+not_failed true is = absurd (is refl)
+not_failed false is = refl
+
+abbrev IsSome : Result ℕ SessionFault → Type 0
+IsSome (Ok count) = Unit {0}
+IsSome (Err fault) = ⊥
+
+abbrev pub counted : ℕ → Result ℕ SessionFault
+counted count = Ok count
+
+pub no_fault : (count : ℕ) (fault : SessionFault) → counted count ≡ Err fault → ⊥
+no_fault count fault is = subst IsSome is tt

@@ -1,0 +1,5 @@
+pub mod Lines
+pub mod Saying
+pub mod Told
+pub mod Ending
+pub mod Running

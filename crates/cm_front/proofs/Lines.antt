@@ -1,0 +1,90 @@
+-- The lines of bytes that were heard: those that have ended, and what is open.
+use Rattle.std.proofs.Common.{◌≡◌, ℕ, ◌<◌, false, List, [], ◌∷◌, ◌++◌, length, refl, ap, ◌∙◌, sym, arith}
+use Rattle.std.proofs.Common.{append_assoc, append-nil}
+use Rattle.std.specs.List.{slice_split, All}
+use Rattle.std.proofs.lemmas.List.Splits.{slice_split_at, slice_split_none, length-slice_split}
+use Rattle.std.proofs.lemmas.List.Elements.{All-from_get_or}
+use Rattle.cm_bits.specs.Text.{is_line_end, lines_of, without_empty_last}
+use Rattle.cm_session.specs.Ends.{ended_lines, but_last}
+use Rattle.cm_debug.specs.Telling.{IsUnended}
+
+-- bytes that end with the end of a line, or are none, are these lines, whatever follows
+pub record AreLinesOf (given : List ℕ) (done : List (List ℕ)) : Type 0 where
+  pub all : (rest : List ℕ) → lines_of (given ++ rest) ≡ done ++ lines_of rest
+  pub ended : (rest : List ℕ) → ended_lines (given ++ rest) ≡ done ++ ended_lines rest
+
+pub no_lines : AreLinesOf [] []
+no_lines = record { all = λ rest. refl; ended = λ rest. refl }
+
+free_of : (bytes : List ℕ) → IsUnended bytes → All (λ (byte : ℕ). is_line_end byte ≡ false) bytes
+free_of bytes free = All-from_get_or (λ (byte : ℕ). is_line_end byte ≡ false) bytes 0 free
+
+some_parts : (text : List ℕ) → 0 < length (slice_split is_line_end text)
+some_parts text = omega (arith, length-slice_split is_line_end text)
+
+not_last : (line : List ℕ) (parts : List (List ℕ)) → 0 < length parts
+    → without_empty_last (line ∷ parts) ≡ line ∷ without_empty_last parts
+not_last line [] some = absurd (omega arith)
+not_last line (part ∷ parts) some = refl
+
+not_last_ended : (line : List ℕ) (parts : List (List ℕ)) → 0 < length parts
+    → but_last (line ∷ parts) ≡ line ∷ but_last parts
+not_last_ended line [] some = absurd (omega arith)
+not_last_ended line (part ∷ parts) some = refl
+
+first_line : (line rest : List ℕ) → IsUnended line → lines_of (line ++ 10 ∷ rest) ≡ line ∷ lines_of rest
+first_line line rest free =
+    ap without_empty_last (slice_split_at is_line_end line 10 rest (free_of line free) refl)
+    ∙ not_last line (slice_split is_line_end rest) (some_parts rest)
+
+first_ended : (line rest : List ℕ) → IsUnended line → ended_lines (line ++ 10 ∷ rest) ≡ line ∷ ended_lines rest
+unfolding ended_lines
+first_ended line rest free =
+    ap but_last (slice_split_at is_line_end line 10 rest (free_of line free) refl)
+    ∙ not_last_ended line (slice_split is_line_end rest) (some_parts rest)
+
+behind : (given line rest : List ℕ)
+    → (given ++ (line ++ 10 ∷ [])) ++ rest ≡ given ++ (line ++ 10 ∷ rest)
+behind given line rest = append_assoc given (line ++ 10 ∷ []) rest
+    ∙ ap (λ (xs : List ℕ). given ++ xs) (append_assoc line (10 ∷ []) rest)
+
+-- one line more
+pub line_more : (given line : List ℕ) (done : List (List ℕ)) → IsUnended line → AreLinesOf given done
+    → AreLinesOf (given ++ (line ++ 10 ∷ [])) (done ++ line ∷ [])
+line_more given line done free is = record {
+  all = λ rest.
+      ap lines_of (behind given line rest) ∙ is.all (line ++ 10 ∷ rest)
+      ∙ ap (λ (ls : List (List ℕ)). done ++ ls) (first_line line rest free)
+      ∙ sym (append_assoc done (line ∷ []) (lines_of rest));
+  ended = λ rest.
+      ap ended_lines (behind given line rest) ∙ is.ended (line ++ 10 ∷ rest)
+      ∙ ap (λ (ls : List (List ℕ)). done ++ ls) (first_ended line rest free)
+      ∙ sym (append_assoc done (line ∷ []) (ended_lines rest));
+}
+
+-- ---- the end
+
+some_line : (last : List ℕ) → 0 < length last → without_empty_last (last ∷ []) ≡ last ∷ []
+some_line [] some = absurd (omega arith)
+some_line (byte ∷ bytes) some = refl
+
+-- where bytes are open they are the last line
+pub last_line : (given last : List ℕ) (done : List (List ℕ)) → IsUnended last → 0 < length last
+    → AreLinesOf given done → lines_of (given ++ last) ≡ done ++ last ∷ []
+last_line given last done free some is =
+    is.all last ∙ ap (λ (ls : List (List ℕ)). done ++ ls)
+    (ap without_empty_last (slice_split_none is_line_end last (free_of last free)) ∙ some_line last some)
+
+none_ended : (last : List ℕ) → IsUnended last → ended_lines last ≡ []
+unfolding ended_lines
+none_ended last free = ap but_last (slice_split_none is_line_end last (free_of last free))
+
+-- those that have ended
+pub all_ended : (given last : List ℕ) (done : List (List ℕ)) → IsUnended last → AreLinesOf given done
+    → ended_lines (given ++ last) ≡ done
+all_ended given last done free is =
+    is.ended last ∙ ap (λ (ls : List (List ℕ)). done ++ ls) (none_ended last free) ∙ append-nil done
+
+-- where none are open
+pub no_open : (given : List ℕ) (done : List (List ℕ)) → AreLinesOf given done → lines_of (given ++ []) ≡ done
+no_open given done is = is.all [] ∙ append-nil done

@@ -1,0 +1,115 @@
+-- What a line says, as it is read.
+use Rattle.std.proofs.Common.{◌≡◌, ℕ, true, false, Bool, Result, Ok, Err, List, [], take, drop, inl, inr}
+use Rattle.std.proofs.Common.{refl, ap, ◌∙◌, sym, if◌then◌else◌}
+use Rattle.std.proofs.Math.Seq.{drop-nil, take-nil}
+use Rattle.cm_bits.specs.Text.{words_of}
+use Rattle.cm_model.specs.declared.act.Act.{Act}
+use Rattle.cm_model.specs.Machine.{Machine, run_of}
+use Rattle.cm_model.specs.Keeping.{IsMachine}
+use Rattle.cm_model.proofs.Runs.{run_of-nil}
+use Rattle.cm_language.specs.declared.fault.AsmKind.{AsmKind}
+use Rattle.cm_language.specs.declared.fault.AsmKind.TheVariants as kind
+use Rattle.cm_language.specs.Program.{Reading, after_words, IsLineFault, IsOwnFault, MatchKind}
+use Rattle.cm_session.specs.Answer.{refused_line}
+use Rattle.cm_session.specs.Session.{Session}
+use Rattle.cm_session.specs.Ends.{IsOnTheWay}
+use Rattle.cm_front.specs.Asked.{is_of_program, question_of, kind_number}
+use Rattle.cm_front.specs.Front.{Front, front_of, without_acts, said, asked, after_line, acts_line, after_acts}
+
+-- the acts are forgotten
+pub forgotten : (old new before : Reading) → without_acts old ≡ before → new.fields ≡ old.fields
+    → new.context ≡ old.context → new.acts ≡ [] → new ≡ before
+forgotten old new before is fields context acts =
+    (λ i. record { fields = fields i; context = context i; acts = acts i }) ∙ is
+
+-- what was kept stays
+pub stays : (old new left before : Reading) → without_acts old ≡ before → new.fields ≡ old.fields
+    → new.context ≡ old.context → left.fields ≡ new.fields → left.context ≡ new.context → without_acts left ≡ before
+stays old new left before is fields context fields' context' =
+    (λ i. record { fields = (fields' ∙ fields) i; context = (context' ∙ context) i; acts = [] }) ∙ is
+
+-- the line is read by what was kept
+is_read : (before new : Reading) (words : List (List ℕ)) (q : Result Reading AsmKind) → new ≡ before
+    → after_words new words ≡ q → after_words before words ≡ q
+is_read before new words q same is = ap (λ (r : Reading). after_words r words) (sym same) ∙ is
+
+-- it is accepted
+pub said_ok : (n cap : ℕ) (machine after : Machine) (before new read : Reading) (words : List (List ℕ))
+    → new ≡ before → after_words new words ≡ Ok read → after ≡ after_acts n cap machine read.acts
+    → front_of after (without_acts read) ≡ (said n cap (front_of machine before) (after_words before words)).front
+said_ok n cap machine after before new read words same taken is =
+    ap (λ (m : Machine). front_of m (without_acts read)) is
+    ∙ sym (ap (λ (q : Result Reading AsmKind). (said n cap (front_of machine before) q).front)
+    (is_read before new words (Ok read) same taken))
+
+pub said_ok_answer : (n cap : ℕ) (machine : Machine) (before new read : Reading) (words : List (List ℕ)) (text : List ℕ)
+    → new ≡ before → after_words new words ≡ Ok read → text ≡ acts_line machine read.acts
+    → text ≡ (said n cap (front_of machine before) (after_words before words)).answer
+said_ok_answer n cap machine before new read words text same taken is =
+    is ∙ sym (ap (λ (q : Result Reading AsmKind). (said n cap (front_of machine before) q).answer)
+    (is_read before new words (Ok read) same taken))
+
+-- an own fault is told as it is
+own_fault : (k : AsmKind) (W : Type 0) (q : Result Reading AsmKind) → IsOwnFault k → MatchKind k W (q ≡ Err k)
+    → q ≡ Err k
+own_fault kind.Memory W q own is = absurd own
+own_fault kind.Width W q own is = is
+own_fault kind.Range W q own is = is
+own_fault kind.Overlap W q own is = is
+own_fault kind.Lengths W q own is = is
+own_fault kind.Scratch W q own is = is
+own_fault kind.Context W q own is = is
+own_fault kind.Word W q own is = is
+own_fault kind.Operands W q own is = is
+own_fault kind.Number W q own is = is
+own_fault kind.Name W q own is = is
+own_fault kind.Twice W q own is = is
+own_fault kind.TooLong W q own is = is
+
+-- it is refused
+pub said_err : (n cap : ℕ) (machine : Machine) (before new left : Reading) (words : List (List ℕ)) (k : AsmKind)
+    → new ≡ before → IsOwnFault k → IsLineFault new (after_words new words) k → left ≡ before
+    → front_of machine left ≡ (said n cap (front_of machine before) (after_words before words)).front
+said_err n cap machine before new left words k same own is stays =
+    ap (front_of machine) stays
+    ∙ sym (ap (λ (q : Result Reading AsmKind). (said n cap (front_of machine before) q).front)
+    (is_read before new words (Err k) same (own_fault k _ (after_words new words) own is)))
+
+pub said_err_answer : (n cap : ℕ) (machine : Machine) (before new : Reading) (words : List (List ℕ)) (k : AsmKind)
+    (number : ℕ) (text : List ℕ)
+    → new ≡ before → IsOwnFault k → IsLineFault new (after_words new words) k → number ≡ kind_number k
+    → text ≡ refused_line number
+    → text ≡ (said n cap (front_of machine before) (after_words before words)).answer
+said_err_answer n cap machine before new words k number text same own is so tells =
+    tells ∙ ap refused_line so
+    ∙ sym (ap (λ (q : Result Reading AsmKind). (said n cap (front_of machine before) q).answer)
+    (is_read before new words (Err k) same (own_fault k _ (after_words new words) own is)))
+
+-- ---- a line of a program, or a question
+
+pub after_said : (n cap : ℕ) (front : Front) (line : List ℕ) → is_of_program (words_of line) ≡ true
+    → after_line n cap front line ≡ said n cap front (after_words front.reading (words_of line))
+unfolding after_line
+after_said n cap front line is =
+    ap (λ (b : Bool). if b then said n cap front (after_words front.reading (words_of line))
+    else asked n cap front (question_of n (words_of line))) is
+
+pub after_asked : (n cap : ℕ) (front : Front) (line : List ℕ) → is_of_program (words_of line) ≡ false
+    → after_line n cap front line ≡ asked n cap front (question_of n (words_of line))
+unfolding after_line
+after_asked n cap front line is =
+    ap (λ (b : Bool). if b then said n cap front (after_words front.reading (words_of line))
+    else asked n cap front (question_of n (words_of line))) is
+
+-- ---- no acts
+
+none_left : (k p : ℕ) (acts : List Act) → acts ≡ [] → take k (drop p acts) ≡ []
+none_left k p acts none = ap (λ (xs : List Act). take k (drop p xs)) none ∙ ap (take k) (drop-nil p) ∙ take-nil k
+
+-- without acts a session that breaks off leaves the machine as it was
+pub still : (n cap : ℕ) (before after : Session) (machine : Machine) → IsMachine n cap before.machine
+    → IsOnTheWay n cap [] before after machine → machine ≡ before.machine
+still n cap before after machine whole (inl is) = is
+still n cap before after machine whole (inr amid) =
+    amid.machine_is ∙ ap (run_of n cap before.machine) (none_left amid.count before.position [] refl)
+    ∙ run_of-nil n cap before.machine whole.buffer_count

@@ -1,0 +1,60 @@
+-- How a front end ends: what it took, what it wrote and the machine that it left, after each of its faults too. Ours.
+use Rattle.std.specs.Prelude.{◌≡◌, ℕ, ◌<◌, ◌≤◌, Option, Result, Ok, Err, List, ◌++◌, length, take}
+use Rattle.std.specs.Io.KnownBytes.{Appends, Consumes}
+use Rattle.cm_bits.specs.Text.{lines_of}
+use Rattle.cm_model.specs.Machine.{Machine}
+use Rattle.cm_session.specs.declared.fault.SessionFault.{SessionFault}
+use Rattle.cm_session.specs.declared.fault.SessionFault.TheVariants.{Read, Write, TooMuch, Memory, NoThread}
+use Rattle.cm_session.specs.Ends.{ended_lines}
+use Rattle.cm_front.specs.Front.{answers, left}
+
+-- the most bytes of lines
+abbrev pub LIMIT : ℕ
+LIMIT = 16777216
+
+-- these lines are all answered, and the machine is that after them
+pub record IsAnswered (n cap : ℕ) (start : Machine) (held : Option (List ℕ)) (lines : List (List ℕ))
+    (machine : Machine) (holds : Option (List ℕ)) : Type 0 where
+  pub written : Appends held holds (answers n cap start lines)
+  pub machine_is : machine ≡ left n cap start lines
+
+-- some of these lines are done, and the machine is that after them; so many bytes of their answers are written, not all
+pub record IsStopped (n cap : ℕ) (start : Machine) (held : Option (List ℕ)) (lines : List (List ℕ))
+    (machine : Machine) (holds : Option (List ℕ)) (count : ℕ) : Type 0 where
+  pub done : List (List ℕ)
+  pub undone : List (List ℕ)
+  pub lines_are : lines ≡ done ++ undone
+  pub within : count < length (answers n cap start done)
+  pub written : Appends held holds (take count (answers n cap start done))
+  pub machine_is : machine ≡ left n cap start done
+
+-- some of these lines are done and their answers written, and nothing of the others
+pub record IsBrokenOff (n cap : ℕ) (start : Machine) (held : Option (List ℕ)) (lines : List (List ℕ))
+    (machine : Machine) (holds : Option (List ℕ)) : Type 0 where
+  pub done : List (List ℕ)
+  pub undone : List (List ℕ)
+  pub lines_are : lines ≡ done ++ undone
+  pub answered : IsAnswered n cap start held done machine holds
+
+-- how a front end ends that took this text
+abbrev pub EndsOver : ℕ → ℕ → List ℕ → Machine → Option (List ℕ) → Machine → Option (List ℕ)
+    → Result (Unit {0}) SessionFault → Type 0
+EndsOver n cap taken start held machine holds (Ok done) =
+    (length taken ≤ LIMIT) × IsAnswered n cap start held (lines_of taken) machine holds
+EndsOver n cap taken start held machine holds (Err Read) =
+    (length taken ≤ LIMIT) × IsAnswered n cap start held (ended_lines taken) machine holds
+EndsOver n cap taken start held machine holds (Err (Write count)) =
+    IsStopped n cap start held (lines_of taken) machine holds count
+EndsOver n cap taken start held machine holds (Err TooMuch) =
+    (LIMIT < length taken) × IsAnswered n cap start held (ended_lines (take LIMIT taken)) machine holds
+EndsOver n cap taken start held machine holds (Err Memory) =
+    IsBrokenOff n cap start held (lines_of taken) machine holds
+EndsOver n cap taken start held machine holds (Err NoThread) =
+    IsBrokenOff n cap start held (lines_of taken) machine holds
+
+-- it took a text from its source, the known bytes of which began with it, and ended so
+pub record Ends (n cap : ℕ) (before after : Option (List ℕ)) (start : Machine) (held : Option (List ℕ))
+    (machine : Machine) (holds : Option (List ℕ)) (result : Result (Unit {0}) SessionFault) : Type 0 where
+  pub taken : List ℕ
+  pub consumed : Consumes before after taken
+  pub over : EndsOver n cap taken start held machine holds result

@@ -1,0 +1,116 @@
+-- A front end: what it does and answers line by line. Ours.
+use Rattle.std.specs.Prelude.{ℕ, ◌||◌, if◌then◌else◌, Option, Result, Ok, Err, List, [], ◌∷◌, ◌++◌, codes, decimal}
+use Rattle.cm_bits.specs.Bit.{bit_number}
+use Rattle.cm_bits.specs.Text.{words_of}
+use Rattle.cm_model.specs.declared.act.Act.{Act}
+use Rattle.cm_model.specs.Array.{wire}
+use Rattle.cm_model.specs.Machine.{Machine, run_of}
+use Rattle.cm_array.specs.Acts.{is_late, is_long}
+use Rattle.cm_language.specs.declared.fault.AsmKind.{AsmKind}
+use Rattle.cm_language.specs.Program.{Reading, nothing_read, after_words}
+use Rattle.cm_session.specs.declared.command.Command.{Command}
+use Rattle.cm_session.specs.declared.command.Refusal.{Refusal}
+use Rattle.cm_session.specs.Answer.{line, refused_line, CLOCK}
+use Rattle.cm_session.specs.Session as session
+use Rattle.cm_session.specs.Stretches.{looks_at}
+use Rattle.cm_front.specs.Asked.{is_of_program, question_of, kind_number}
+
+-- a front end between two lines
+pub record Front : Type 0 where
+  pub machine : Machine
+  -- the fields and the context of the program so far, without its acts, which are run
+  pub reading : Reading
+
+-- of a machine, and what was read
+abbrev pub front_of : Machine → Reading → Front
+front_of machine reading = record { machine = machine; reading = reading }
+
+-- before the first line
+abbrev pub opening : Machine → Front
+opening machine = front_of machine nothing_read
+
+-- a front end after a line, and what was answered to it
+pub record Answered : Type 0 where
+  pub front : Front
+  pub answer : List ℕ
+
+-- a front end, and this answer
+abbrev pub told : Front → List ℕ → Answered
+told front answer = record { front = front; answer = answer }
+
+-- what was answered before, and then the rest
+abbrev pub preceded_by : List ℕ → Answered → Answered
+preceded_by first rest = told rest.front (first ++ rest.answer)
+
+-- ---- a line of the program
+
+-- names and context stay
+abbrev pub without_acts : Reading → Reading
+without_acts read = record { fields = read.fields; context = read.context; acts = [] }
+
+-- the number of the refusal of acts that are too many for one run, which those of no line are
+abbrev pub LONG : ℕ
+LONG = 6
+
+-- what acts that were run answer: a look tells the wire, as `wire show` does
+abbrev pub done_line : Machine → List Act → List ℕ
+done_line machine acts =
+    if looks_at acts 0 then line (codes "wire" ∷ decimal (bit_number (wire machine.chips)) ∷ [])
+    else line (codes "ok" ∷ [])
+
+-- the answer to the acts of a line, which are run at once unless the counter has no room for a petit cycle
+abbrev pub acts_line : Machine → List Act → List ℕ
+acts_line machine acts =
+    if is_long acts then refused_line LONG
+    else (if is_late machine.clock acts then refused_line CLOCK else done_line machine acts)
+
+-- the machine after them
+abbrev pub after_acts : ℕ → ℕ → Machine → List Act → Machine
+after_acts n cap machine acts =
+    if is_long acts || is_late machine.clock acts then machine else run_of n cap machine acts
+
+-- a line that is refused changes nothing
+abbrev pub said : ℕ → ℕ → Front → Result Reading AsmKind → Answered
+said n cap front (Ok read) =
+    told (front_of (after_acts n cap front.machine read.acts) (without_acts read))
+    (acts_line front.machine read.acts)
+said n cap front (Err kind) = told front (refused_line (kind_number kind))
+
+-- ---- a question
+
+-- it is answered, and a bit is poked, as in a session over this machine that has no acts
+abbrev pub answered_to : ℕ → ℕ → Machine → Result (Option Command) Refusal → session.Answered
+answered_to n cap machine question = session.answered n cap [] (session.opening machine 0) question
+
+-- the fields and the context stay
+abbrev pub asked : ℕ → ℕ → Front → Result (Option Command) Refusal → Answered
+asked n cap front question =
+    told (front_of (answered_to n cap front.machine question).session.machine front.reading)
+    (answered_to n cap front.machine question).answer
+
+-- ---- lines
+
+-- after a line, by its words
+abbrev pub after_words_of : ℕ → ℕ → Front → List (List ℕ) → Answered
+after_words_of n cap front words =
+    if is_of_program words then said n cap front (after_words front.reading words)
+    else asked n cap front (question_of n words)
+
+-- after a line
+unfoldable pub after_line : ℕ → ℕ → Front → List ℕ → Answered
+after_line n cap front line = after_words_of n cap front (words_of line)
+
+-- after lines, one after another
+unfoldable pub after_lines : ℕ → ℕ → Front → List (List ℕ) → Answered
+after_lines n cap front [] = told front []
+after_lines n cap front (line ∷ lines) =
+    preceded_by (after_line n cap front line).answer
+    (after_lines n cap (after_line n cap front line).front lines)
+
+-- what is answered to these lines
+abbrev pub answers : ℕ → ℕ → Machine → List (List ℕ) → List ℕ
+answers n cap start lines = (after_lines n cap (opening start) lines).answer
+
+-- the machine that they leave
+abbrev pub left : ℕ → ℕ → Machine → List (List ℕ) → Machine
+left n cap start lines = (after_lines n cap (opening start) lines).front.machine

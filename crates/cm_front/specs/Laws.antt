@@ -1,0 +1,46 @@
+-- Laws over the definitions, each the contract of a function of its name. Ours.
+use Rattle.std.specs.Prelude.{◌≡◌, ℕ, ◌||◌, Bool, false, Result, Ok, Err, List, [], ◌∷◌}
+use Rattle.std.specs.List.{filter}
+use Rattle.cm_bits.specs.Text.{words_of}
+use Rattle.cm_model.specs.Machine.{Machine, run_of}
+use Rattle.cm_model.specs.Keeping.{IsMachine}
+use Rattle.cm_array.specs.Acts.{is_late, is_long}
+use Rattle.cm_language.specs.declared.fault.AsmKind.{AsmKind}
+use Rattle.cm_language.specs.Program as language
+use Rattle.cm_session.specs.Whole.{asks_poke}
+use Rattle.cm_front.specs.Asked.{is_of_program, question_of}
+use Rattle.cm_front.specs.Front.{Front, front_of, opening, without_acts, after_line, after_lines}
+
+-- the line is one of a program
+abbrev pub is_program_line : List ℕ → Bool
+is_program_line line = is_of_program (words_of line)
+
+-- the lines of a program among these
+abbrev pub program_lines : List (List ℕ) → List (List ℕ)
+program_lines lines = filter is_program_line lines
+
+-- no line asks for a poke
+abbrev pub HaveNoPoke : ℕ → List (List ℕ) → Type 0
+HaveNoPoke n [] = Unit {0}
+HaveNoPoke n (line ∷ lines) = (asks_poke (question_of n (words_of line)) ≡ false) × HaveNoPoke n lines
+
+-- what a line adds is accepted, and its acts are refused: they are too many, or the counter has no room
+abbrev pub refuses_acts : Front → Result language.Reading AsmKind → Bool
+refuses_acts front (Ok read) = is_long read.acts || is_late front.machine.clock read.acts
+refuses_acts front (Err kind) = false
+
+-- of no line that is so
+abbrev pub AreRun : ℕ → ℕ → Front → List (List ℕ) → Type 0
+AreRun n cap front [] = Unit {0}
+AreRun n cap front (line ∷ lines) =
+    (refuses_acts front (language.after_words front.reading (words_of line)) ≡ false)
+    × AreRun n cap (after_line n cap front line).front lines
+
+-- where the program lines, as one text, are accepted, no acts are refused and nothing is poked, the machine is that
+-- after a run of the text's acts, and the fields and the context are those of the text: what is asked in between
+-- changes nothing
+abbrev pub FrontsRunTheirPrograms : Type 0
+FrontsRunTheirPrograms = (n cap : ℕ) (start : Machine) (lines : List (List ℕ)) (read : language.Reading)
+    → IsMachine n cap start → language.after_lines language.nothing_read 1 (program_lines lines) ≡ Ok read
+    → HaveNoPoke n lines → AreRun n cap (opening start) lines
+    → (after_lines n cap (opening start) lines).front ≡ front_of (run_of n cap start read.acts) (without_acts read)

@@ -1,0 +1,194 @@
+//! What a front end keeps between two lines, and what a line does.
+
+ghost use Rattle.std.specs.Prelude.{◌≡◌, [], cond, false, IfErr, MatchResult, OnErr, OnOk};
+ghost use Rattle.cm_bits.specs.Text.{words_of};
+ghost use Rattle.cm_model.specs.Machine.{run_of};
+ghost use Rattle.cm_array.specs.Faults.{one_more_lacked};
+ghost use Rattle.cm_language.specs.Program.{nothing_read, after_words};
+ghost use Rattle.cm_session.specs.Answer.{refused_line};
+ghost use Rattle.cm_debug.specs.Telling.{is_thread};
+ghost use Rattle.cm_front.specs.Asked.{question_of};
+ghost use Rattle.cm_front.specs.Front.{front_of, said, after_line, acts_line, after_acts, done_line, answered_to};
+
+use crate::questions::{is_of_program, own_number, read_question};
+use cm_array::{Machine, RunFault, Runner};
+use cm_asm::Reader;
+use cm_debug::{Desk, Want, answer, push_bit, push_number, push_word};
+use cm_model::Act;
+use std::alloc::{AllocError, Global};
+use std::marker::Model;
+
+const LONG: u64 = 6;
+
+const CLOCK: u64 = 7;
+
+/// The fields and the context of the program so far.
+#[derive(Drop)]
+pub struct FrontEnd {
+    reader: Reader,
+}
+
+impl Model for FrontEnd {
+    ghost use Rattle.cm_language.specs.Program.{Reading};
+    ghost use Rattle.cm_front.specs.Front.{without_acts};
+
+    ghost Value = { Reading };
+
+    ghost view = { λ front. without_acts front.reader };
+}
+
+impl FrontEnd {
+    /// Before the first line.
+    pub fn new(alloc: Global) -> FrontEnd
+        ensures { result ≡ nothing_read }
+    {
+        FrontEnd {
+            reader: Reader::new(alloc),
+        }
+    }
+
+    /// Does what a line says or asks, and makes its answer. After an `Err` the machine is as it was, and the front end
+    /// is not used again.
+    pub fn tell<const N: usize, const CAP: usize, R: Runner<N, CAP>>(
+        &mut self,
+        alloc: Global,
+        machine: &mut Machine<N, CAP>,
+        runner: &mut R,
+        line: &[u8],
+        text: &mut Vec<u8>,
+    ) -> Result<(), Want>
+        requires runner { R.ready }
+        ensures answer { OnOk result (text.new.items
+            ≡ (after_line N CAP (front_of machine.old.machine self.old) line.now).answer) }
+        ensures front { OnOk result (front_of machine.new.machine self.new
+            ≡ (after_line N CAP (front_of machine.old.machine self.old) line.now).front) }
+        ensures err { OnErr result (machine.new.machine ≡ machine.old.machine) }
+        ensures thread { MatchResult result
+            (λ _. R.threads_lacked runner.new ≡ R.threads_lacked runner.old)
+            (λ want. R.threads_lacked runner.new
+            ≡ cond (is_thread want) (one_more_lacked (R.threads_lacked runner.old)) (R.threads_lacked runner.old)) }
+    {
+        text.clear();
+        if is_of_program(line) {
+            self.say(alloc, machine, runner, line, text)
+        } else {
+            ask(alloc, machine, runner, line, text)
+        }
+    }
+
+    /// A line of the program: its acts are run.
+    fn say<const N: usize, const CAP: usize, R: Runner<N, CAP>>(
+        &mut self,
+        alloc: Global,
+        machine: &mut Machine<N, CAP>,
+        runner: &mut R,
+        line: &[u8],
+        text: &mut Vec<u8>,
+    ) -> Result<(), Want>
+        requires runner { R.ready }
+        requires none { text.old.items ≡ [] }
+        ensures answer { OnOk result (text.new.items ≡ (said N CAP (front_of machine.old.machine self.old)
+            (after_words self.old (words_of line.now))).answer) }
+        ensures front { OnOk result (front_of machine.new.machine self.new
+            ≡ (said N CAP (front_of machine.old.machine self.old) (after_words self.old (words_of line.now))).front) }
+        ensures err { OnErr result (machine.new.machine ≡ machine.old.machine) }
+        ensures thread { MatchResult result
+            (λ _. R.threads_lacked runner.new ≡ R.threads_lacked runner.old)
+            (λ want. R.threads_lacked runner.new
+            ≡ cond (is_thread want) (one_more_lacked (R.threads_lacked runner.old)) (R.threads_lacked runner.old)) }
+    {
+        self.reader.forget_acts();
+        if let Err(kind) = self.reader.read_line(alloc, line) {
+            let Some(number) = own_number(kind) else {
+                return Err(Want::Memory);
+            };
+            return refuse(text, number);
+        }
+        run_at_once(machine, runner, self.reader.acts(), text)
+    }
+}
+
+/// Runs the acts of a line, and tells that, or why they are not run.
+fn run_at_once<const N: usize, const CAP: usize, R: Runner<N, CAP>>(
+    machine: &mut Machine<N, CAP>,
+    runner: &mut R,
+    acts: &[Act],
+    text: &mut Vec<u8>,
+) -> Result<(), Want>
+    requires runner { R.ready }
+    requires none { text.old.items ≡ [] }
+    ensures answer { OnOk result (text.new.items ≡ acts_line machine.old.machine acts.now) }
+    ensures machine { OnOk result (machine.new.machine ≡ after_acts N CAP machine.old.machine acts.now) }
+    ensures err { OnErr result (machine.new.machine ≡ machine.old.machine) }
+    ensures thread { MatchResult result
+        (λ _. R.threads_lacked runner.new ≡ R.threads_lacked runner.old)
+        (λ want. R.threads_lacked runner.new
+        ≡ cond (is_thread want) (one_more_lacked (R.threads_lacked runner.old)) (R.threads_lacked runner.old)) }
+{
+    push_done(text, machine, acts)?;
+    match runner.go(machine, acts) {
+        Ok(()) => Ok(()),
+        Err(RunFault::Long) => refuse(text, LONG),
+        Err(RunFault::Clock) => refuse(text, CLOCK),
+        Err(RunFault::NoThread) => Err(Want::Thread),
+        Err(RunFault::Memory) => Err(Want::Memory),
+    }
+}
+
+/// What acts answer that are run.
+fn push_done<const N: usize, const CAP: usize>(
+    text: &mut Vec<u8>,
+    machine: &Machine<N, CAP>,
+    acts: &[Act],
+) -> Result<(), AllocError>
+    requires none { text.old.items ≡ [] }
+    ensures ok { OnOk result (text.new.items ≡ done_line machine.now.machine acts.now) }
+{
+    match acts {
+        [Act::Sense, ..] => push_bit(text, b"wire", machine.wire()),
+        _ => push_word(text, b"ok"),
+    }
+}
+
+/// A refusal in place of the answer.
+fn refuse(text: &mut Vec<u8>, number: u64) -> Result<(), Want>
+    ensures ok { OnOk result (text.new.items ≡ refused_line number) }
+    ensures memory { IfErr result (λ want. is_thread want ≡ false) }
+{
+    text.clear();
+    push_number(text, b"?", number)?;
+    Ok(())
+}
+
+/// A line that asks: it is answered as in a session without acts.
+fn ask<const N: usize, const CAP: usize, R: Runner<N, CAP>>(
+    alloc: Global,
+    machine: &mut Machine<N, CAP>,
+    runner: &mut R,
+    line: &[u8],
+    text: &mut Vec<u8>,
+) -> Result<(), Want>
+    requires runner { R.ready }
+    requires none { text.old.items ≡ [] }
+    ensures answer { OnOk result (text.new.items
+        ≡ (answered_to N CAP machine.old.machine (question_of N (words_of line.now))).answer) }
+    ensures machine { OnOk result (machine.new.machine
+        ≡ (answered_to N CAP machine.old.machine (question_of N (words_of line.now))).session.machine) }
+    ensures err { OnErr result (machine.new.machine ≡ machine.old.machine) }
+    ensures thread { MatchResult result
+        (λ _. R.threads_lacked runner.new ≡ R.threads_lacked runner.old)
+        (λ want. R.threads_lacked runner.new
+        ≡ cond (is_thread want) (one_more_lacked (R.threads_lacked runner.old)) (R.threads_lacked runner.old)) }
+{
+    machine.clock();
+    let mut desk = Desk::new(alloc, 0)?;
+    let acts: &[Act] = &[];
+    answer(
+        machine,
+        acts,
+        runner,
+        &mut desk,
+        read_question(line, N),
+        text,
+    )
+}

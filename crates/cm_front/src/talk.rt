@@ -1,0 +1,160 @@
+//! A front end, from the bytes of a source to those of a sink.
+
+ghost use Rattle.std.specs.Prelude.{◌≡◌, ◌+◌, ◌<◌, ◌≤◌, ◌^◌, ◌↔◌, false, length, true, Err, IfErr, IsErrOf, OnOk};
+ghost use Rattle.std.specs.Io.KnownBytes.{Appends, IsAtEnd};
+ghost use Rattle.cm_array.specs.Faults.{one_more_lacked};
+ghost use Rattle.cm_session.specs.Ends.{is_no_thread, is_write};
+ghost use Rattle.cm_debug.specs.Gathering.{answered_bytes, with_gathered, BreaksOffBetween};
+ghost use Rattle.cm_debug.specs.Telling.{is_thread};
+ghost use Rattle.cm_front.specs.Front.{front_of, after_line};
+ghost use Rattle.cm_front.specs.Ends.{Ends};
+ghost use Rattle.cm_front.specs.Hearing.{BreaksOff};
+
+use crate::front_end::FrontEnd;
+use crate::hearing::{hear, line_len};
+use cm_array::{Machine, Runner};
+use cm_bits::{Sink, Source};
+use cm_debug::{Gathered, Want};
+use cm_session::SessionFault;
+use std::alloc::Global;
+
+/// Does and answers the lines of a source one after another, at most 16,777,216 bytes of them, and leaves the machine
+/// as they leave it. All answers are written before more bytes are asked for.
+///
+/// After a fault of reading, and after too much, the lines that ended before are done and answered. After a failed
+/// write, or for want of memory or of a thread, a front of the answers is written, and the machine is that after a
+/// front of the lines.
+pub fn front<const N: usize, const CAP: usize, R: Runner<N, CAP>, I: Source, O: Sink>(
+    alloc: Global,
+    machine: &mut Machine<N, CAP>,
+    commands: &mut I,
+    out: &mut O,
+    runner: &mut R,
+) -> Result<(), SessionFault>
+    requires runner { R.ready }
+    requires reader { I.has_failed commands.old ≡ false }
+    requires writer { O.has_failed out.old ≡ false }
+    ensures ends { Ends N CAP (I.left commands.old) (I.left commands.new) machine.old.machine (O.contents out.old)
+        machine.new.machine (O.contents out.new) result }
+    ensures end { OnOk result (IsAtEnd (I.left commands.new)) }
+    ensures read { (I.has_failed commands.new ≡ true) ↔ IsErrOf result SessionFault.Read }
+    ensures write { O.has_failed out.new ≡ is_write result }
+    ensures thread { OnOk result (R.threads_lacked runner.new ≡ R.threads_lacked runner.old) }
+    ensures no_thread { IsErrOf result SessionFault.NoThread
+        → R.threads_lacked runner.new ≡ one_more_lacked (R.threads_lacked runner.old) }
+{
+    let mut front = FrontEnd::new(alloc);
+    let mut answers = Gathered::new(alloc);
+    let mut heard = Vec::new(alloc);
+    let mut place = 0;
+    let mut taken = 0;
+    loop {
+        let rest = &heard[place..];
+        let len = line_len(rest);
+        if len < rest.len() {
+            match tell_line(
+                alloc,
+                &mut front,
+                machine,
+                runner,
+                &rest[..len],
+                &mut answers,
+                out,
+            ) {
+                Ok(()) => {}
+                Err(fault) => return Err(fault),
+            }
+            place += len + 1;
+        } else {
+            match answers.send(out) {
+                Ok(()) => {}
+                Err(cut) => return Err(SessionFault::Write(cut.0)),
+            }
+            let count = match hear(alloc, commands, &mut heard, place, taken) {
+                Ok(count) => count,
+                Err(fault) => return Err(fault),
+            };
+            place = 0;
+            if count == 0 {
+                break;
+            }
+            taken += count;
+        }
+    }
+    if heard.is_empty() {
+        return Ok(());
+    }
+    // the end of the bytes ends the line that is open
+    match tell_line(
+        alloc,
+        &mut front,
+        machine,
+        runner,
+        heard.as_slice(),
+        &mut answers,
+        out,
+    ) {
+        Ok(()) => {}
+        Err(fault) => return Err(fault),
+    }
+    match answers.send(out) {
+        Ok(()) => Ok(()),
+        Err(cut) => Err(SessionFault::Write(cut.0)),
+    }
+}
+
+/// Does a line, and its answer is gathered.
+fn tell_line<const N: usize, const CAP: usize, R: Runner<N, CAP>, O: Sink>(
+    alloc: Global,
+    front: &mut FrontEnd,
+    machine: &mut Machine<N, CAP>,
+    runner: &mut R,
+    line: &[u8],
+    answers: &mut Gathered,
+    out: &mut O,
+) -> Result<(), SessionFault>
+    requires runner { R.ready }
+    requires writer { O.has_failed out.old ≡ false }
+    requires room { answered_bytes answers.old + 2 ^ 64 < 2 ^ 128 }
+    ensures front { OnOk result (front_of machine.new.machine front.new
+        ≡ (after_line N CAP (front_of machine.old.machine front.old) line.now).front) }
+    ensures written { OnOk result (Appends (with_gathered (O.contents out.old) answers.old)
+        (with_gathered (O.contents out.new) answers.new)
+        (after_line N CAP (front_of machine.old.machine front.old) line.now).answer) }
+    ensures count { OnOk result (answered_bytes answers.new ≡ answered_bytes answers.old
+        + length (after_line N CAP (front_of machine.old.machine front.old) line.now).answer) }
+    ensures few { OnOk result (answered_bytes answers.new ≤ answered_bytes answers.old + 2 ^ 64) }
+    ensures err { IfErr result (BreaksOff N CAP (front_of machine.old.machine front.old) line.now answers.old.sent
+        answers.old.bytes.items (O.contents out.old) machine.new.machine (O.contents out.new)) }
+    ensures failed { O.has_failed out.new ≡ is_write result }
+    ensures thread { OnOk result (R.threads_lacked runner.new ≡ R.threads_lacked runner.old) }
+    ensures no_thread { IsErrOf result SessionFault.NoThread
+        → R.threads_lacked runner.new ≡ one_more_lacked (R.threads_lacked runner.old) }
+{
+    match front.tell(alloc, machine, runner, line, &mut answers.line) {
+        Ok(()) => match answers.add_line(out) {
+            Ok(()) => Ok(()),
+            Err(cut) => Err(SessionFault::Write(cut.0)),
+        },
+        Err(want) => Err(give_up(answers, want, out)),
+    }
+}
+
+/// What a front end ends by that wants something: what is gathered is written first.
+fn give_up<O: Sink>(answers: &mut Gathered, want: Want, out: &mut O) -> SessionFault
+    requires writer { O.has_failed out.old ≡ false }
+    requires room { answered_bytes answers.old < 2 ^ 128 }
+    ensures value { BreaksOffBetween answers.old.sent answers.old.bytes.items (O.contents out.old) (O.contents out.new)
+        result }
+    ensures failed { O.has_failed out.new ≡ is_write (Err result) }
+    ensures thread { is_no_thread result ≡ true → is_thread want ≡ true }
+{
+    match answers.send(out) {
+        Ok(()) => {}
+        Err(cut) => return SessionFault::Write(cut.0),
+    }
+    match want {
+        Want::Memory => SessionFault::Memory,
+        Want::Thread => SessionFault::NoThread,
+    }
+}

@@ -1,0 +1,113 @@
+//! What comes of an exchange of blocks.
+
+ghost use Rattle.std.specs.Prelude.{◌≡◌, false};
+ghost use Rattle.cm_bits.specs.Doubles.{room_has_failed};
+
+use crate::images::{tell_image, tell_refused};
+use crate::playing::{Trial, tell};
+use crate::scene::Scene;
+use cm_array::Machine;
+use cm_bits::doubles::{Bytes, Room};
+use cm_cli::ProgramFault;
+use cm_model::Act;
+use cm_steps::{weave_self, weave_session};
+use cm_weave::World;
+use std::alloc::{AllocError, Global};
+
+/// Which steps an exchange takes.
+#[derive(Clone, Copy)]
+pub(crate) enum Steps {
+    /// Those of the scene's commands.
+    Told,
+    /// Each time that of the lowest block which has one.
+    Own,
+}
+
+/// A world of which no contract tells anything.
+#[derive(Drop)]
+struct Exchange<const N: usize, const CAP: usize> {
+    world: World<N, CAP>,
+}
+
+/// Tells what comes of the exchange of the blocks of a machine, and the image that is left if it is asked for.
+pub(crate) fn play_exchange<const N: usize, const CAP: usize>(
+    alloc: Global,
+    steps: Steps,
+    trial: Trial<N, CAP>,
+    acts: &[Act],
+    scene: &Scene,
+    told: &mut Vec<u8>,
+) -> Result<(), AllocError> {
+    match cut(alloc, trial, acts, scene.split.min(255) as u8) {
+        Ok(exchange) => go_through(alloc, steps, exchange, scene, told),
+        Err(fault) => tell_refused(alloc, fault, told),
+    }
+}
+
+fn cut<const N: usize, const CAP: usize>(
+    alloc: Global,
+    trial: Trial<N, CAP>,
+    acts: &[Act],
+    k: u8,
+) -> Result<Exchange<N, CAP>, ProgramFault> {
+    match World::new(alloc, trial.machine, acts, k) {
+        Ok(world) => Ok(Exchange { world }),
+        Err(refused) => Err(ProgramFault::from(refused.fault)),
+    }
+}
+
+fn go_through<const N: usize, const CAP: usize>(
+    alloc: Global,
+    steps: Steps,
+    exchange: Exchange<N, CAP>,
+    scene: &Scene,
+    told: &mut Vec<u8>,
+) -> Result<(), AllocError> {
+    let mut answers = Room::new(alloc, scene.written.min(1048576) as usize, 5)?;
+    let end = end_of(alloc, steps, exchange, scene, &mut answers);
+    told.extend_from_slice(answers.taken())?;
+    match end {
+        Ok(trial) => tell_left(alloc, &trial, scene, told),
+        Err(fault) => tell_refused(alloc, fault, told),
+    }
+}
+
+/// How the exchange ended.
+fn end_of<const N: usize, const CAP: usize>(
+    alloc: Global,
+    steps: Steps,
+    exchange: Exchange<N, CAP>,
+    scene: &Scene,
+    answers: &mut Room,
+) -> Result<Trial<N, CAP>, ProgramFault>
+    requires writer { room_has_failed answers.old ≡ false }
+{
+    let left = match steps {
+        Steps::Told => {
+            let mut lines = Bytes::failing(
+                scene.commands.as_slice(),
+                scene.piece as usize,
+                scene.read as usize,
+            );
+            weave_session(alloc, exchange.world, &mut lines, answers)
+        }
+        Steps::Own => weave_self(alloc, exchange.world, answers),
+    };
+    match left {
+        Ok(machine) => Ok(Trial { machine }),
+        Err(fault) => Err(ProgramFault::from(fault)),
+    }
+}
+
+fn tell_left<const N: usize, const CAP: usize>(
+    alloc: Global,
+    trial: &Trial<N, CAP>,
+    scene: &Scene,
+    told: &mut Vec<u8>,
+) -> Result<(), AllocError> {
+    tell(told, b"= Ok(())")?;
+    if scene.tells_image {
+        return tell_image(alloc, &trial.machine, told);
+    }
+    Ok(())
+}
