@@ -16,10 +16,10 @@ use Rattle.cm_exchange.specs.Worlds.{World, IsFinished}
 use Rattle.cm_steps.specs.declared.fault.WeaveFault.{WeaveFault}
 use Rattle.cm_steps.specs.declared.fault.WeaveFault.TheVariants.{Read, Write, TooMuch, Memory, Unfinished}
 use Rattle.cm_steps.specs.Session.{answers, left}
-use Rattle.cm_steps.specs.Ends.{LIMIT, heard_lines, told_text, finished_line, unfinished_line, is_finished, last_line}
-use Rattle.cm_steps.specs.Ends.{IsCutBy, EndsBy, EndsFinished}
+use Rattle.cm_steps.specs.Ends.{LIMIT, heard_lines, closing, told_text, finished_line, unfinished_line, is_finished}
+use Rattle.cm_steps.specs.Ends.{last_line, IsCutBy, EndsBy, EndsFinished}
 use Rattle.cm_steps.specs.Hearing.{Hearing, heard, at_start, BreaksOff, HasHeard, IsHeard}
-use Rattle.cm_steps.proofs.Lines.{heard_first, heard_whole, told_on, lines_closed, lines_at_last}
+use Rattle.cm_steps.proofs.Lines.{heard_first, heard_whole, closing_whole, told_on, lines_closed, lines_at_last}
 use Rattle.cm_steps.proofs.Pieces.{heard_piece, heard_so_far, so_far}
 use Rattle.cm_steps.proofs.Going.{cut_text}
 
@@ -118,17 +118,17 @@ module _ (exchange : Exchange) (start : World) (held before : Option (List ℕ))
     -- that broke off
     pub cut_in_piece : (rest : List ℕ) (on : Option (List ℕ)) (fault : WeaveFault) → length (text ++ piece) ≤ LIMIT
         → BreaksOff at.answers sent holds on fault
-        → IsCutBy (told_text exchange start (heard_lines ((text ++ piece) ++ rest))) held on fault
+        → IsCutBy (told_text exchange start ((text ++ piece) ++ rest)) held on fault
     cut_in_piece rest on fault within breaks =
-        let begins = told_on exchange start (heard_lines ((text ++ piece) ++ rest)) (ended_lines (text ++ piece))
+        let begins = told_on exchange start ((text ++ piece) ++ rest) (ended_lines (text ++ piece))
         (heard_first (text ++ piece) rest within) in
-        cut_text (told_text exchange start (heard_lines ((text ++ piece) ++ rest))) mid.said at.answers begins.more
+        cut_text (told_text exchange start ((text ++ piece) ++ rest)) mid.said at.answers begins.more
         held holds on sent fault mid.written mid.sent_is
         (begins.is ∙ ap (λ (xs : List ℕ). xs ++ begins.more) (sym both_are)
         ∙ append_assoc mid.said at.answers begins.more) breaks
 
   cut_ends : (all : List ℕ) (rest on : Option (List ℕ)) (fault : WeaveFault)
-      → IsCutBy (told_text exchange start (heard_lines all)) held on fault
+      → IsCutBy (told_text exchange start all) held on fault
       → EndsBy exchange all rest start held on fault
   cut_ends all rest on (Write count) cut = cut
   cut_ends all rest on Memory cut = cut
@@ -253,12 +253,12 @@ module _ (exchange : Exchange) (start : World) (held before : Option (List ℕ))
         let lines : lines_of text ≡ ended_lines (text ++ 10 ∷ []) = lines_at_last text line some line_is in
         let heard_is : heard_lines text ≡ lines_of text =
         heard_whole text (let w = mid.within in omega (arith, w, mid.taken_is)) in
-        let last : List ℕ = last_line exchange (left exchange start (heard_lines text)) in
+        let last : List ℕ = closing exchange start text in
         let all : answers exchange start (heard_lines text) ≡ mid.said ++ (at (10 ∷ [])).answers =
         ap (answers exchange start) (heard_is ∙ lines) ∙ sym (both_are (10 ∷ [])) in
         Consumes-whole before after text (λ text. EndsBy exchange text after start held on fault) whole end
         (cut_ends text after on fault
-        (cut_text (told_text exchange start (heard_lines text)) mid.said (at (10 ∷ [])).answers last held holds on sent
+        (cut_text (told_text exchange start text) mid.said (at (10 ∷ [])).answers last held holds on sent
         fault mid.written mid.sent_is
         (ap (λ (xs : List ℕ). xs ++ last) all ∙ append_assoc mid.said (at (10 ∷ [])).answers last) breaks))
 
@@ -328,11 +328,12 @@ module _ (exchange : Exchange) (start world : World) (held holds before after on
       at_known (λ text. EndsBy exchange text after start held on (Write (sent + part))) (λ text all.
       let lines : heard_lines text ≡ lines_of text = heard_whole text all.within in
       let first : List ℕ = answers exchange start (lines_of text) in
-      let whole : told_text exchange start (heard_lines text) ≡ first ++ (last ++ []) =
-      ap (told_text exchange start) lines
+      let whole : told_text exchange start text ≡ first ++ (last ++ []) =
+      ap (λ (xs : List (List ℕ)). answers exchange start xs ++ closing exchange start text) lines
+      ∙ ap (λ (xs : List ℕ). first ++ xs) (closing_whole exchange start text all.within)
       ∙ ap (λ (w : World). first ++ last_line exchange w) (sym all.world_is)
       ∙ ap (λ (xs : List ℕ). first ++ xs) (sym is ∙ sym (append-nil last)) in
-      cut_text (told_text exchange start (heard_lines text)) first last [] held holds on sent (Write (sent + part))
+      cut_text (told_text exchange start text) first last [] held holds on sent (Write (sent + part))
       all.written all.sent_is whole
       (record { part = part; count_is = refl; within = inside; written = wrote }))
 

@@ -11,7 +11,7 @@ use Rattle.cm_session.proofs.Lines.{lines_after}
 use Rattle.cm_exchange.specs.Lanes.{Exchange}
 use Rattle.cm_exchange.specs.Worlds.{World}
 use Rattle.cm_steps.specs.Session.{Answered, told, preceded_by, after_line, after_lines, answers, left}
-use Rattle.cm_steps.specs.Ends.{LIMIT, heard_lines, last_line, told_text}
+use Rattle.cm_steps.specs.Ends.{LIMIT, heard_lines, last_line, closing, told_text}
 
 preceded_by-twice : (first second : List ℕ) (rest : Answered)
     → preceded_by first (preceded_by second rest) ≡ preceded_by (first ++ second) rest
@@ -55,15 +55,23 @@ heard_first front more within = by (nat_le (length (front ++ more)) LIMIT) where
         ∙ ap ended_lines (take-append-add front more rest) ∙ ended_lines-append front (take rest more);
   }
 
--- what is told of all lines begins with the answers to the first
+-- behind them stands the last line
+pub closing_whole : (exchange : Exchange) (start : World) (text : List ℕ) → length text ≤ LIMIT
+    → closing exchange start text ≡ last_line exchange (left exchange start (lines_of text))
+closing_whole exchange start text within =
+    ap (λ (b : Bool). cond b (last_line exchange (left exchange start (lines_of text))) [])
+    (le-leb (length text) LIMIT within)
+
+-- what is told of a text begins with the answers to its first lines
 pub record IsGoneOn (text first : List ℕ) : Type 0 where
   pub more : List ℕ
   pub is : text ≡ first ++ more
 
-pub told_on : (exchange : Exchange) (start : World) (lines first : List (List ℕ)) → BeginsWith lines first
-    → IsGoneOn (told_text exchange start lines) (answers exchange start first)
-told_on exchange start lines first begins =
-    let last : List ℕ = last_line exchange (left exchange start lines) in
+pub told_on : (exchange : Exchange) (start : World) (text : List ℕ) (first : List (List ℕ))
+    → BeginsWith (heard_lines text) first
+    → IsGoneOn (told_text exchange start text) (answers exchange start first)
+told_on exchange start text first begins =
+    let last : List ℕ = closing exchange start text in
     let others : List ℕ = answers exchange (left exchange start first) begins.more in
     record {
       more = others ++ last;

@@ -35,9 +35,14 @@ unfinished_line = line (codes "unfinished" ∷ [])
 abbrev pub last_line : Exchange → World → List ℕ
 last_line exchange world = if is_finished exchange world then finished_line else unfinished_line
 
--- all that is told of these lines
-abbrev pub told_text : Exchange → World → List (List ℕ) → List ℕ
-told_text exchange start lines = answers exchange start lines ++ last_line exchange (left exchange start lines)
+-- what stands behind the answers to the lines of a text: the last line, and nothing where there are too many bytes
+abbrev pub closing : Exchange → World → List ℕ → List ℕ
+closing exchange start text =
+    if nat_le (length text) LIMIT then last_line exchange (left exchange start (lines_of text)) else []
+
+-- all that is told of a text
+abbrev pub told_text : Exchange → World → List ℕ → List ℕ
+told_text exchange start text = answers exchange start (heard_lines text) ++ closing exchange start text
 
 -- ---- ends
 
@@ -86,11 +91,11 @@ abbrev pub EndsBy : Exchange → List ℕ → Option (List ℕ) → World → Op
     → Type 0
 EndsBy exchange text rest start held holds Read = IsAnsweredSoFar exchange text rest start held holds
 EndsBy exchange text rest start held holds (Write count) =
-    IsCutBy (told_text exchange start (heard_lines text)) held holds (Write count)
+    IsCutBy (told_text exchange start text) held holds (Write count)
 EndsBy exchange text rest start held holds TooMuch =
     (LIMIT < length text) × Appends held holds (answers exchange start (ended_lines (take LIMIT text)))
 EndsBy exchange text rest start held holds Memory =
-    IsCutBy (told_text exchange start (heard_lines text)) held holds Memory
+    IsCutBy (told_text exchange start text) held holds Memory
 EndsBy exchange text rest start held holds Unfinished =
     (IsFinished exchange (left exchange start (lines_of text)) → ⊥)
     × IsTold exchange text start unfinished_line held holds
