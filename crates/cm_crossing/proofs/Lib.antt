@@ -2,3 +2,4 @@ pub mod Carrying
 pub mod Keeping
 pub mod Leaving
 pub mod Places
+pub mod Rising

@@ -1,9 +1,11 @@
 -- Which messages stand at the chips, where tickets cross in their place. Ours.
-use Rattle.std.specs.Prelude.{◌≡◌, ℕ, ◌+◌, ◌*◌, ◌<◌, ◌≤◌, ◌++◌, Bool, IsTrue, List, length, map, Vec, Option, IfSome}
+use Rattle.std.specs.Prelude.{◌≡◌, ℕ, ◌+◌, ◌*◌, ◌<◌, ◌≤◌, ◌++◌, Bool, IsTrue, true, List, length, map, Vec, Option, IfSome}
 use Rattle.std.specs.Prelude.{slice_index_or, slice_set, vec_len, vec_capacity}
 use Rattle.std.specs.List.{All, slice_range}
 use Rattle.std.specs.declared.alloc.Global.{Global}
 use Rattle.cm_model.specs.declared.message.Message.{Message}
+use Rattle.cm_model.specs.declared.message.Tag.{Tag}
+use Rattle.cm_model.specs.Router.{is_older}
 use Rattle.cm_model.specs.Array.{list_at}
 use Rattle.cm_slots.specs.declared.ticket.Ticket.{Ticket}
 
@@ -69,10 +71,23 @@ pub record AreLaidOut (row spare : List Message) (old new : List Ticket) : Type 
 abbrev pub IsWritten : ℕ → List (List Ticket) → List (List Ticket) → Type 0
 IsWritten here old new = new ≡ slice_set old here (list_at new here)
 
+-- ---- the order of age
+
+-- the tag of a message of the row
+abbrev pub tag_at : List Message → ℕ → Tag
+tag_at row i = (slice_index_or row i no_message).tag
+
+-- of the first so many messages of the row each is older than all behind it
+pub record AreRising (row : List Message) (count : ℕ) : Type 0 where
+  pub within : count ≤ length row
+  pub each : (i j : ℕ) → i < j → j < count → is_older (tag_at row i) (tag_at row j) ≡ true
+
+-- ---- all that is kept
+
 -- at most 4,096 chips, and 15 places of the row for each, and four more, in two rows in turn;
--- each ticket stands for a message; and a row of leavers
+-- each ticket stands for a message; a row of leavers; and so many first messages stand in the order of age
 pub record IsCrossing (row spare : Vec Message Global) (places : ℕ) (queues : List (List Ticket))
-    (leavers : Vec (Option Ticket) Global) (gathered : Bool) : Type 0 where
+    (leavers : Vec (Option Ticket) Global) (gathered : Bool) (risen : ℕ) : Type 0 where
   pub few : length queues ≤ 4096
   pub enough : 15 * length queues + 4 ≤ places
   pub most : places ≤ 65535
@@ -82,3 +97,4 @@ pub record IsCrossing (row spare : Vec Message Global) (places : ℕ) (queues : 
   pub rows : length leavers.items ≡ length queues
   pub kept : All (AreKept (length row.items)) queues
   pub together : IsTrue gathered → All (AreTogether row.items) queues
+  pub rising : AreRising row.items risen

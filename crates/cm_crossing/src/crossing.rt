@@ -16,12 +16,13 @@ ghost use Rattle.cm_model.specs.OneChip.{taken_here, sent_here, delivered_here, 
 ghost use Rattle.cm_router.specs.Logs.{log_room};
 ghost use Rattle.cm_router.specs.Routes.{routing_of};
 
+use crate::ranking::{rearrange, renumber, risen_to, sort_numbers};
 use crate::routed::{cross, leave};
 use crate::row::{give_out, lay_out, read_off, read_out, stand};
 use crate::sizes::Sizes;
 use cm_bits::NoMemory;
 use cm_element::Run;
-use cm_message::{Event, Message};
+use cm_message::{Event, Message, Rule};
 use cm_router::{Node, Routing, chip_asks, take_none};
 use cm_slots::{Slots, Ticket};
 use std::alloc::Global;
@@ -33,6 +34,10 @@ const MOST_PLACES: usize = 65535;
 
 /// Most messages that a chip takes in at once.
 const MOST_INJECTED: usize = 4;
+
+/// So many dimensions, a petit cycle of the largest machine, are crossed chip by chip before the row is put in the order
+/// of age: this takes about as long, and a list that ends before has no use for it.
+const PATIENCE: u8 = 12;
 
 /// The messages of a run of chips, for as long as these live (ours). A message stays where it is kept; what
 /// crosses is a ticket, the relative address and the place of the message. Where its chip's messages are to
@@ -52,6 +57,15 @@ pub struct Crossing {
     leavers: Vec<Option<Ticket>>,
     /// Whether nothing has moved since all were gathered.
     gathered: bool,
+    /// How many of the row's first messages are known to stand in the order of age.
+    risen: usize,
+    /// How many dimensions were crossed since the row was made while it was not in that order; past the patience, that
+    /// it was put in order, or that it cannot be.
+    waited: u8,
+    /// Room for what the messages' numbers are sorted by.
+    keys: Vec<u128>,
+    /// Room for where each message goes when they are put in order.
+    moved: Vec<u16>,
 }
 
 impl Model for Crossing {
@@ -67,7 +81,7 @@ impl Model for Crossing {
     } };
 
     ghost invariant = { λ crossing. IsCrossing crossing.row crossing.spare crossing.places crossing.slots
-        crossing.leavers crossing.gathered };
+        crossing.leavers crossing.gathered crossing.risen };
 }
 
 impl Crossing {
@@ -84,6 +98,8 @@ impl Crossing {
         let spare = Vec::with_capacity(alloc, places)?;
         let slots = Slots::new(alloc, chips)?;
         let leavers = no_leavers(alloc, chips)?;
+        let keys = Vec::with_capacity(alloc, places)?;
+        let moved = Vec::with_capacity(alloc, places)?;
         Ok(Crossing {
             row,
             spare,
@@ -91,6 +107,10 @@ impl Crossing {
             slots,
             leavers,
             gathered: true,
+            risen: 0,
+            waited: 0,
+            keys,
+            moved,
         })
     }
 
@@ -103,6 +123,8 @@ impl Crossing {
         let spare = Vec::with_capacity(alloc, self.places)?;
         let slots = self.slots.copy(alloc)?;
         let leavers = no_leavers(alloc, self.slots.chips())?;
+        let keys = Vec::with_capacity(alloc, self.places)?;
+        let moved = Vec::with_capacity(alloc, self.places)?;
         Ok(Crossing {
             row,
             spare,
@@ -110,6 +132,10 @@ impl Crossing {
             slots,
             leavers,
             gathered: self.gathered,
+            risen: 0,
+            waited: 0,
+            keys,
+            moved,
         })
     }
 
@@ -165,6 +191,7 @@ impl Crossing {
     }
 
     /// Gives all messages new places, chip by chip, and with these all places back that nobody needs.
+    #[tactic(auto, using(crate::proofs::Rising::none_rising))]
     fn gather_anew(&mut self)
         ensures value { self.new.buffers ≡ self.old.buffers }
         ensures gathered { IsTrue self.new.gathered }
@@ -173,6 +200,8 @@ impl Crossing {
         lay_out(&self.row, &mut self.spare, &mut self.slots);
         mem::swap(&mut self.row, &mut self.spare);
         self.gathered = true;
+        self.risen = 0;
+        self.waited = 0;
     }
 
     /// Makes places for all that a chip takes in at once.
@@ -193,6 +222,8 @@ impl Crossing {
         self.row.clear();
         self.slots.clear();
         self.gathered = true;
+        self.risen = 0;
+        self.waited = 0;
     }
 
     /// A message comes to stand last at a chip.
@@ -296,8 +327,75 @@ impl Crossing {
         ensures count { length self.new.buffers ≡ 2 ^ sizes.span }
         ensures within { All (λ ms. length ms ≤ sizes.room) self.new.buffers }
     {
+        if routing.rule == Rule::Oldest && sizes.span == sizes.dims {
+            self.rank();
+        }
+        self.cross_in_order(sizes, routing, first, dim);
+    }
+
+    /// Puts the row in the order of age, if it is not, and if it pays.
+    fn rank(&mut self)
+        ensures value { self.new.buffers ≡ self.old.buffers }
+    {
+        self.look_at_order();
+        if self.risen < self.row.len() && self.waited <= PATIENCE {
+            self.waited += 1;
+            if self.waited > PATIENCE {
+                self.rank_anew();
+                self.look_at_order();
+            }
+        }
+    }
+
+    /// Looks how many of the first messages of the row stand in the order of age.
+    fn look_at_order(&mut self)
+        ensures value { self.new ≡ self.old }
+    {
+        self.risen = risen_to(&self.row, self.risen);
+    }
+
+    /// Gives all messages new places in the row, in the order of age.
+    fn rank_anew(&mut self)
+        ensures value { self.new.buffers ≡ self.old.buffers }
+    {
+        sort_numbers(&self.row, &mut self.keys);
+        if rearrange(&self.row, &self.keys, &mut self.spare, &mut self.moved) {
+            renumber(&mut self.slots, &self.moved);
+            mem::swap(&mut self.row, &mut self.spare);
+            self.gathered = false;
+            self.risen = 0;
+        }
+    }
+
+    /// The same where what is known of the row's order stays so.
+    fn cross_in_order(&mut self, sizes: Sizes, routing: &Routing, first: u16, dim: u8)
+        requires sizes { AreSizes sizes.dims sizes.room }
+        requires cube { routing.now.cuts.dims ≡ sizes.dims }
+        requires span { sizes.span ≤ sizes.dims }
+        requires dim { dim < sizes.span }
+        requires count { length self.old.buffers ≡ 2 ^ sizes.span }
+        requires begins { first % 2 ^ sizes.span ≡ 0 }
+        requires band { first + 2 ^ sizes.span ≤ 2 ^ sizes.dims }
+        requires within { All (λ ms. length ms ≤ sizes.room) self.old.buffers }
+        ensures value { self.new.buffers ≡ each_chip sizes.span (λ c. buffer_after_dimension
+            (way_of (routing_of routing.now) (first + c) dim) sizes.room dim (list_at self.old.buffers c)
+            (outgoing (way_of (routing_of routing.now) (first + c) dim) sizes.room dim
+            (list_at self.old.buffers (bit_xor c (2 ^ dim))))) }
+        ensures count { length self.new.buffers ≡ 2 ^ sizes.span }
+        ensures within { All (λ ms. length ms ≤ sizes.room) self.new.buffers }
+    {
+        let in_order = self.risen == self.row.len();
         let gone = self.leavers.as_mut_slice();
-        cross(&self.row, &mut self.slots, sizes, routing, first, dim, gone);
+        cross(
+            &self.row,
+            in_order,
+            &mut self.slots,
+            sizes,
+            routing,
+            first,
+            dim,
+            gone,
+        );
         self.gathered = false;
     }
 

@@ -4,6 +4,7 @@
 
 mod choosing;
 mod crossing;
+mod ranking;
 mod routed;
 mod row;
 mod sizes;

@@ -1,16 +1,17 @@
-//! A dimension as the machine routes: where no wire over it is cut and who came first goes first all chips at once,
-//! else chip by chip.
+//! A dimension as the machine routes: where no wire over it is cut all chips at once, by the rule that who came first
+//! goes first, and by the other where the row stands in the order of age; else chip by chip.
 
-ghost use Rattle.std.specs.Prelude.{◌≡◌, ℕ, ◌+◌, ◌%◌, ◌^◌, ◌<◌, ◌≤◌, ◌++◌, ◌⊎◌, None, length, bit_xor};
+ghost use Rattle.std.specs.Prelude.{◌≡◌, ℕ, ◌+◌, ◌%◌, ◌^◌, ◌<◌, ◌≤◌, ◌++◌, ◌⊎◌, None, length, bit_xor, false, IsTrue};
 ghost use Rattle.std.specs.Prelude.{slice_index_or};
 ghost use Rattle.std.specs.List.{All};
 ghost use Rattle.std.specs.Option.{option_to_list};
+ghost use Rattle.cm_model.specs.declared.rule.Rule.TheVariants.{Oldest};
 ghost use Rattle.cm_model.specs.Each.{each_from};
 ghost use Rattle.cm_model.specs.Array.{each_chip, list_at};
 ghost use Rattle.cm_model.specs.Keeping.{AreSizes};
 ghost use Rattle.cm_model.specs.Wiring.{way_of};
 ghost use Rattle.cm_router.specs.Routes.{routing_of};
-ghost use Rattle.cm_crossing.specs.Standing.{AreKept, IsKept, IsWritten};
+ghost use Rattle.cm_crossing.specs.Standing.{AreKept, IsKept, IsWritten, AreRising};
 ghost use Rattle.cm_crossing.specs.Routed.{ticket_leaving, tickets_staying, tickets_crossed};
 
 use crate::choosing::place_of_chosen;
@@ -20,9 +21,10 @@ use cm_router::Routing;
 use cm_slots::{Slots, Ticket};
 
 /// The tickets of a run of chips cross a dimension that these span: all leave before any comes. The run begins at
-/// chip `first` of the machine.
+/// chip `first` of the machine. It may be known that the row stands in the order of age.
 pub(crate) fn cross(
     row: &[Message],
+    in_order: bool,
     slots: &mut Slots,
     sizes: Sizes,
     routing: &Routing,
@@ -39,6 +41,7 @@ pub(crate) fn cross(
     requires begins { first % 2 ^ sizes.span ≡ 0 }
     requires band { first + 2 ^ sizes.span ≤ 2 ^ sizes.dims }
     requires few { length row.now ≤ 65535 }
+    requires in_order { IsTrue in_order → AreRising row.now (length row.now) }
     requires kept { All (AreKept (length row.now)) slots.old }
     requires within { All (λ ts. length ts ≤ sizes.room) slots.old }
     ensures value { slots.new ≡ each_chip sizes.span (λ c. tickets_crossed row.now
@@ -47,9 +50,20 @@ pub(crate) fn cross(
 {
     if routing.is_plain_over(dim) {
         slots.cross(sizes.span, sizes.room, dim);
+    } else if in_order && goes_by_age(routing, dim) {
+        slots.cross_by_number(sizes.span, sizes.room, dim);
     } else {
         cross_by_chip(row, slots, sizes, routing, first, dim, leavers);
     }
+}
+
+/// Whether no wire over a dimension is cut, and the oldest goes first.
+fn goes_by_age(routing: &Routing, dim: u8) -> bool
+    requires dimension { dim < routing.now.cuts.dims }
+    ensures oldest { IsTrue result → (c : ℕ)
+        → way_of (routing_of routing.now) c dim ≡ record { cut = false; rule = Oldest } }
+{
+    routing.rule == Rule::Oldest && routing.is_whole_over(dim)
 }
 
 /// The first half by itself: who leaves each chip is taken out, and written down as it arrives across.

@@ -260,6 +260,10 @@ none_cut (w ∷ ws) c d e =
     let parts = or_false (w.dim == d) (list_any (λ v. v.dim == d) ws) e in
     rw (no_wire w c d parts.0) (none_cut ws c d parts.1)
 
+pub whole_over : (routing : Routing) (d : ℕ) → list_any (λ w. w.dim == d) routing.cuts ≡ false
+    → (c : ℕ) → way_of routing c d ≡ record { cut = false; rule = routing.rule }
+whole_over routing d none c = λ i. record { cut = none_cut routing.cuts c d none i; rule = routing.rule }
+
 pub plain_over : (routing : Routing) (d : ℕ) → routing.rule ≡ First → list_any (λ w. w.dim == d) routing.cuts ≡ false
     → (c : ℕ) → way_of routing c d ≡ plain_way
 plain_over routing d first none c = λ i. record { cut = none_cut routing.cuts c d none i; rule = first i }

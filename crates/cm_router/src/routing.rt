@@ -1,6 +1,6 @@
 //! How a machine routes.
 
-ghost use Rattle.std.specs.Prelude.{◌≡◌, ℕ, ◌<◌, ◌≤◌, IfOk, IsTrue};
+ghost use Rattle.std.specs.Prelude.{◌≡◌, ℕ, ◌<◌, ◌≤◌, false, IfOk, IsTrue};
 ghost use Rattle.cm_model.specs.Wiring.{plain_routing, plain_way, way_of};
 ghost use Rattle.cm_router.specs.Routes.{routing_of};
 
@@ -48,5 +48,14 @@ impl Routing {
             Rule::First => !self.cuts.has_any(dim),
             Rule::Oldest => false,
         }
+    }
+
+    /// Whether no wire over a dimension is cut.
+    pub fn is_whole_over(&self, dim: u8) -> bool
+        requires dimension { dim < self.now.cuts.dims }
+        ensures whole { IsTrue result → (c : ℕ)
+            → way_of (routing_of self.now) c dim ≡ record { cut = false; rule = self.now.rule } }
+    {
+        !self.cuts.has_any(dim)
     }
 }

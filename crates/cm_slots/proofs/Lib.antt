@@ -1,4 +1,5 @@
 pub mod Carrying
+pub mod Choosing
 pub mod Numbers
 pub mod Standing
 pub mod Changing

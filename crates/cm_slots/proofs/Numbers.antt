@@ -11,14 +11,18 @@ use Rattle.std.proofs.lemmas.Bool.{cases_eq, cases_Bool, ne_eqb}
 use Rattle.std.proofs.lemmas.List.{length-map, map-append}
 use Rattle.std.proofs.lemmas.Nat.{pow-add, shl-shr, xor_shr, xor_mod}
 use Rattle.cm_model.proofs.Leaving.{map-without, element_at-map, position-map}
-use Rattle.cm_slots.specs.Queues.{place_of_leaver, last_of_full, leaver_of, stayers_of}
-use Rattle.cm_slots.specs.Tickets.{ticket_of, ticket_in, has_to_go, ticket_across, ticket_going, exchanged}
+use Rattle.cm_model.specs.Buffers.{element_at}
+use Rattle.cm_slots.specs.Queues.{place_of_leaver, last_of_full}
+use Rattle.cm_slots.specs.declared.order.Order.{Order}
+use Rattle.cm_slots.specs.Tickets.{ticket_of, ticket_in, has_to_go, ticket_across}
+use Rattle.cm_slots.specs.Choice.{place_by, going_by, staying_by, exchanged_by}
+use Rattle.cm_slots.specs.Tiles.{stayers_by}
 use Rattle.cm_slots.specs.Slots.{is_taken, crosses, slot_across, comers}
 
 -- ---- one ticket
 
 -- the bits of the relative address stand from bit 16 on
-has_to_go_is : (d x : ℕ) → has_to_go d (ticket_of x) ≡ crosses d x
+pub has_to_go_is : (d x : ℕ) → has_to_go d (ticket_of x) ≡ crosses d x
 has_to_go_is d x = ap (λ (n : ℕ). n % 2 == 1)
     (div-div-eq-div-mul x (2 ^ 16) (2 ^ d) ∙ ap (λ (n : ℕ). x / n) (sym (pow-add 2 16 d)))
 
@@ -61,7 +65,7 @@ across_is d x taken = ⊎_elim (λ (e : x ≡ 0). rw e refl)
 
 -- ---- queues
 
-same_place : (d room : ℕ) (xs : List ℕ)
+pub same_place : (d room : ℕ) (xs : List ℕ)
     → place_of_leaver (has_to_go d) room (map ticket_of xs) ≡ place_of_leaver (crosses d) room xs
 unfolding place_of_leaver
 same_place d room xs =
@@ -70,22 +74,22 @@ same_place d room xs =
     ∙ ap (λ (n : ℕ). option_or (position (crosses d) xs) (if n == room then Some (n - 1) else None))
     (length-map xs ticket_of)
 
-pub stayers-tickets : (d room : ℕ) (xs : List ℕ)
-    → map ticket_of (stayers_of (crosses d) room xs) ≡ stayers_of (has_to_go d) room (map ticket_of xs)
-stayers-tickets d room xs = rw (same_place d room xs) (map-without ticket_of xs (place_of_leaver (crosses d) room xs))
+pub stayers-tickets : (order : Order) (d room : ℕ) (xs : List ℕ)
+    → map ticket_of (stayers_by order room d xs) ≡ staying_by order room d (map ticket_of xs)
+stayers-tickets order d room xs = map-without ticket_of xs (place_by order room d (map ticket_of xs))
 
 -- who leaves, of which the number is known, as a ticket that arrives across
-pub going_is : (d room : ℕ) (xs : List ℕ) (x : ℕ) → (x ≢ 0 → is_taken x ≡ true)
-    → ticket_in x ≡ option_map ticket_of (leaver_of (crosses d) room xs)
-    → ticket_in (slot_across d x) ≡ ticket_going room d (map ticket_of xs)
-going_is d room xs x taken is = across_is d x taken
-    ∙ rw (is, same_place d room xs) (ap (option_map (ticket_across d))
-    (sym (element_at-map ticket_of xs (place_of_leaver (crosses d) room xs))))
+pub going_is : (d : ℕ) (xs : List ℕ) (who : Option ℕ) (x : ℕ) → (x ≢ 0 → is_taken x ≡ true)
+    → ticket_in x ≡ option_map ticket_of (element_at xs who)
+    → ticket_in (slot_across d x) ≡ option_map (ticket_across d) (element_at (map ticket_of xs) who)
+going_is d xs who x taken is =
+    across_is d x taken ∙ rw is (ap (option_map (ticket_across d)) (sym (element_at-map ticket_of xs who)))
 
 -- a queue that somebody leaves and somebody comes to
-pub exchanged-tickets : (d room : ℕ) (xs ys : List ℕ) (x : ℕ) → ticket_in x ≡ ticket_going room d (map ticket_of ys)
-    → map ticket_of (stayers_of (crosses d) room xs ++ comers x)
-    ≡ exchanged room d (map ticket_of xs) (map ticket_of ys)
-exchanged-tickets d room xs ys x is =
-    map-append ticket_of (stayers_of (crosses d) room xs) (comers x)
-    ∙ rw (map-comers x, is, stayers-tickets d room xs) refl
+pub exchanged-tickets : (order : Order) (d room : ℕ) (xs ys : List ℕ) (x : ℕ)
+    → ticket_in x ≡ going_by order room d (map ticket_of ys)
+    → map ticket_of (stayers_by order room d xs ++ comers x)
+    ≡ exchanged_by order room d (map ticket_of xs) (map ticket_of ys)
+exchanged-tickets order d room xs ys x is =
+    map-append ticket_of (stayers_by order room d xs) (comers x)
+    ∙ rw (map-comers x, is, stayers-tickets order d room xs) refl

@@ -10,12 +10,12 @@ use Rattle.std.specs.Int.Bits.{xor_zero_r}
 use Rattle.std.proofs.lemmas.List.Elements.{All-from_get_or}
 use Rattle.std.proofs.lemmas.Nat.{pow-add, pow_below, pow_pos, xor_lt}
 use Rattle.cm_slots.specs.declared.tile.Tile.{Tile}
-use Rattle.cm_slots.specs.Slots.{comers, AreSlots, is_taken, crosses, slot_behind}
-use Rattle.cm_slots.specs.Tiles.{slots_of, IsShaped, IsQuiet, HasTakenIn, standing_at, IsTile, HasGone}
+use Rattle.cm_slots.specs.declared.order.Order.{Order}
+use Rattle.cm_slots.specs.Slots.{comers, AreSlots, is_taken, slot_behind}
+use Rattle.cm_slots.specs.Choice.{staying_by, exchanged_by}
+use Rattle.cm_slots.specs.Tiles.{slots_of, IsShaped, IsQuiet, HasTakenIn, standing_at, IsTile, HasGone, stayers_by}
 use Rattle.cm_slots.specs.Runs.{no_tile, tile_at, tile_across, place_across, arriving, number_leaving, numbers_at}
 use Rattle.cm_slots.specs.Runs.{tickets_of, HaveLeft, HaveTakenIn, AreWithin, AreLeavers}
-use Rattle.cm_slots.specs.Queues.{stayers_of}
-use Rattle.cm_slots.specs.Tickets.{has_to_go, exchanged}
 use Rattle.cm_slots.proofs.Standing.{nobody_comes, standing_is, stands}
 use Rattle.cm_slots.proofs.Numbers.{stayers-tickets, exchanged-tickets}
 
@@ -85,10 +85,10 @@ across_in dims d t h l =
 
 -- ---- both passes
 
-module _ {room d : ℕ} {old left : List Tile} {leaving : List (Option (List ℕ))}
-    (gone : HaveLeft room d old left leaving) where
+module _ {order : Order} {room d : ℕ} {old left : List Tile} {leaving : List (Option (List ℕ))}
+    (gone : HaveLeft order room d old left leaving) where
   -- who leaves a chip
-  pub gone_at : (c : ℕ) → c / 64 < length old → HasGone room d (numbers_at old c) (number_leaving leaving c)
+  pub gone_at : (c : ℕ) → c / 64 < length old → HasGone order room d (numbers_at old c) (number_leaving leaving c)
       (slot_behind (tile_at left (c / 64)).rest (c % 64))
   gone_at c h = (gone.each (c / 64) h).gone (c % 64) (omega arith)
 
@@ -108,13 +108,13 @@ module _ {room d : ℕ} {old left : List Tile} {leaving : List (Option (List ℕ
   -- who comes, by tile and place, is taken in behind who stays
   module _ {coming : ℕ → ℕ → ℕ} {new : List Tile} (come : HaveTakenIn room coming left new) where
     slots_after : (t i : ℕ) → t < length old → i < 64 → AreSlots (slots_of (tile_at new t) i)
-        (stayers_of (crosses d) room (standing_at (tile_at old t) i) ++ comers (coming t i))
+        (stayers_by order room d (standing_at (tile_at old t) i) ++ comers (coming t i))
     slots_after t i h l =
         let has = (gone.each t h).gone i l in
         (come.each t (omega (arith, gone.long))).came i _ l has.few has.stay
 
     standing_after : (t i : ℕ) → t < length old → i < 64 → standing_at (tile_at new t) i
-        ≡ stayers_of (crosses d) room (standing_at (tile_at old t) i) ++ comers (coming t i)
+        ≡ stayers_by order room d (standing_at (tile_at old t) i) ++ comers (coming t i)
     standing_after t i h l = standing_is (tile_at new t) i _ (slots_after t i h l)
 
     pub whole_after : All IsTile new
@@ -132,27 +132,27 @@ module _ {room d : ℕ} {old left : List Tile} {leaving : List (Option (List ℕ
         let few = ((gone.each t inside).gone i l).few in
         rw (
           standing_after t i inside l,
-          length-append (stayers_of (crosses d) room (standing_at (tile_at old t) i))
+          length-append (stayers_by order room d (standing_at (tile_at old t) i))
               (comers (coming t i)),
         ) (grind arith)
 
     -- who comes to a chip is who leaves the chip across
     pub chip_after : (c : ℕ) → c / 64 < length old → bit_xor c (2 ^ d) / 64 < length old
         → coming (c / 64) (c % 64) ≡ number_leaving leaving (bit_xor c (2 ^ d))
-        → tickets_of new c ≡ exchanged room d (tickets_of old c) (tickets_of old (bit_xor c (2 ^ d)))
+        → tickets_of new c ≡ exchanged_by order room d (tickets_of old c) (tickets_of old (bit_xor c (2 ^ d)))
     chip_after c h l comes = rw (standing_after (c / 64) (c % 64) h (omega arith), comes)
-        (exchanged-tickets d room (numbers_at old c) (numbers_at old (bit_xor c (2 ^ d))) _
+        (exchanged-tickets order d room (numbers_at old c) (numbers_at old (bit_xor c (2 ^ d))) _
         (gone_at (bit_xor c (2 ^ d)) l).going)
 
     -- nobody comes
     module _ (nobody : (t i : ℕ) → coming t i ≡ 0) where
       closed_at : (t i : ℕ) → t < length old → i < 64
-          → standing_at (tile_at new t) i ≡ stayers_of (crosses d) room (standing_at (tile_at old t) i)
+          → standing_at (tile_at new t) i ≡ stayers_by order room d (standing_at (tile_at old t) i)
       closed_at t i h l = standing_after t i h l ∙ rw (nobody t i) (append-nil _)
 
       pub closed_up : (c : ℕ) → c / 64 < length old
-          → tickets_of new c ≡ stayers_of (has_to_go d) room (tickets_of old c)
-      closed_up c h = rw (closed_at (c / 64) (c % 64) h (omega arith)) (stayers-tickets d room (numbers_at old c))
+          → tickets_of new c ≡ staying_by order room d (tickets_of old c)
+      closed_up c h = rw (closed_at (c / 64) (c % 64) h (omega arith)) (stayers-tickets order d room (numbers_at old c))
 
       pub space_after : AreWithin (room - 1) new
       space_after t i h l =

@@ -1,5 +1,5 @@
 -- What stands in slots is one list, and who leaves them is who leaves that list.
-use Rattle.std.proofs.Common.{◌≡◌, ◌≢◌, ℕ, zero, suc, ◌+◌, ◌-◌, ◌<◌, ◌≤◌, ◌==◌, ◌↔◌, Bool, true, false}
+use Rattle.std.proofs.Common.{◌≡◌, ◌≢◌, ℕ, zero, suc, ◌+◌, ◌-◌, ◌<◌, ◌≤◌, ◌==◌, ◌↔◌, Bool, true, false, map, min}
 use Rattle.std.proofs.Common.{List, [], ◌++◌, length, get_or, replicate, Some, None, refl, sym, ◌∙◌, ap}
 use Rattle.std.proofs.Common.{⊎_elim, arith}
 use Rattle.std.specs.List.{position_or_len}
@@ -10,13 +10,19 @@ use Rattle.std.proofs.lemmas.List.Edits.{length-remove, get_or-remove_below, get
 use Rattle.std.proofs.lemmas.Option.{slice_get-get_or}
 use Rattle.cm_model.proofs.Bits.{bit-zero}
 use Rattle.cm_model.proofs.Each.{is_each}
-use Rattle.cm_slots.specs.Queues.{place_of_leaver, leaver_of}
+use Rattle.cm_model.specs.Buffers.{element_at}
+use Rattle.cm_slots.specs.declared.order.Order.{Order}
+use Rattle.cm_slots.specs.declared.order.Order.TheVariants.{Arrival, Number}
+use Rattle.cm_slots.specs.Queues.{place_of_leaver}
+use Rattle.cm_slots.specs.Tickets.{ticket_of}
+use Rattle.cm_slots.specs.Choice.{place_by, IsFound}
 use Rattle.cm_slots.specs.Slots.{crosses, is_taken, slot_across, comers, first_of, slot_behind, leaver_in, AreSlots}
 use Rattle.cm_slots.specs.Slots.{IsCarried}
 use Rattle.cm_slots.specs.declared.tile.Tile.{Tile}
 use Rattle.cm_slots.specs.Tiles.{slots_of, standing_at, IsTile, HasGone}
 use Rattle.cm_slots.proofs.Carrying.{first_of-is}
-use Rattle.cm_slots.proofs.Numbers.{going_is, going_taken}
+use Rattle.cm_slots.proofs.Choosing.{Goes, NobodyGoes, chosen_is, place_by-nobody}
+use Rattle.cm_slots.proofs.Numbers.{going_is, going_taken, same_place}
 
 pub get_or-zeros : (n i : ℕ) → get_or (replicate {A = ℕ} n 0) i 0 ≡ 0
 get_or-zeros n i = grind (arith, get_or-replicate, get_or_past, length-replicate)
@@ -67,72 +73,89 @@ nobody_comes slots xs comes are first second none =
 
 -- ---- who leaves
 
--- slots of which so many are looked at: all for which there is room, or more than are taken
-module _ (d room reach : ℕ) (slots : ℕ → ℕ) (xs : List ℕ) (are : AreSlots slots xs) (some : 0 < reach)
-    (less : reach ≤ room) (fits : length xs ≤ reach) (full : length xs ≡ reach → reach ≡ room) (here leaver : ℕ)
-    (left : ℕ → ℕ) (carried : IsCarried (leaver_in d (reach - 1) slots) slots here left)
+-- who stands at a place is carried, which is among those who stand there or behind all slots that are looked at
+module _ (order : Order) (d room at : ℕ) (slots : ℕ → ℕ) (xs : List ℕ) (are : AreSlots slots xs)
+    (fits : length xs ≤ room) (here leaver : ℕ) (left : ℕ → ℕ) (carried : IsCarried at slots here left)
     (is : leaver ≡ slot_across d here) where
   taken : here ≢ 0 → is_taken here ≡ true
-  taken = grind (arith, get_or_past, are.taken (leaver_in d (reach - 1) slots))
+  taken = grind (arith, get_or_past, are.taken at)
 
-  somebody_goes : leaver_in d (reach - 1) slots < length xs
-      → place_of_leaver (crosses d) room xs ≡ Some (leaver_in d (reach - 1) slots) → HasGone room d xs leaver left
+  pub somebody_goes : at < length xs → place_by order room d (map ticket_of xs) ≡ Some at
+      → HasGone order room d xs leaver left
   somebody_goes there who =
-      let p : ℕ = leaver_in d (reach - 1) slots in
-      let some : here ≢ 0 = grind (arith, are.taken p) in
-      let found : leaver_of (crosses d) room xs ≡ Some here =
-      rw who (slice_get-get_or xs p 0 there ∙ ap Some (sym (carried.here ∙ are.each p))) in
+      let some : here ≢ 0 = grind (arith, are.taken at) in
+      let found : element_at xs (Some at) ≡ Some here =
+      slice_get-get_or xs at 0 there ∙ ap Some (sym (carried.here ∙ are.each at)) in
       record {
-        going = rw is (going_is d room xs here taken (rw (found, ne_eqb here 0 some) refl));
+        going = rw (is, who) (going_is d xs (Some at) here taken (rw (found, ne_eqb here 0 some) refl));
         taken = rw is (going_taken d here taken);
         few = rw who (grind (arith, length-remove));
         stay = rw who (grind (arith, length-remove, get_or-remove_below, get_or-remove_above));
       }
 
-  all_stay : length xs ≤ leaver_in d (reach - 1) slots → length xs < room
-      → place_of_leaver (crosses d) room xs ≡ None → HasGone room d xs leaver left
+  pub all_stay : length xs ≤ at → length xs < room → place_by order room d (map ticket_of xs) ≡ None
+      → HasGone order room d xs leaver left
   all_stay past few who =
       let none : here ≡ 0 = grind (arith, get_or_past) in
       record {
-        going = rw is (going_is d room xs here taken (rw (who, none) refl));
+        going = rw (is, who) (going_is d xs None here taken (rw none refl));
         taken = rw is (going_taken d here taken);
         few = rw who few;
         stay = rw who (grind (arith, get_or_past));
       }
 
-  -- who leaves as it arrives across, and who stays
-  pub has_gone : HasGone room d xs leaver left
+-- slots of which so many are looked at: all for which there is room, or more than are taken
+module _ (d room reach : ℕ) (slots : ℕ → ℕ) (xs : List ℕ) (are : AreSlots slots xs) (some : 0 < reach)
+    (less : reach ≤ room) (most : room ≤ 15) (fits : length xs ≤ reach) (full : length xs ≡ reach → reach ≡ room) where
+  -- in the order of arrival: who leaves as it arrives across, and who stays
+  pub has_gone : (here leaver : ℕ) (left : ℕ → ℕ) → IsCarried (leaver_in d (reach - 1) slots) slots here left
+      → leaver ≡ slot_across d here → HasGone Arrival room d xs leaver left
   unfolding place_of_leaver
-  has_gone =
+  has_gone here leaver left carried is =
       let test : ℕ → Bool = λ j. crosses d (slots j) in
       let q : ℕ = position_or_len (crosses d) xs in
       let fails : (j : ℕ) → j < q → test j ≡ false = λ j h. rw (are.each j) (fails_before_first (crosses d) xs j 0 h) in
+      let goes = somebody_goes Arrival d room (leaver_in d (reach - 1) slots) slots xs are (omega (arith, fits, less))
+      here leaver left carried is in
+      let stay = all_stay Arrival d room (leaver_in d (reach - 1) slots) slots xs are (omega (arith, fits, less))
+      here leaver left carried is in
       ⊎_elim
       (λ (l : q < length xs).
       let at : leaver_in d (reach - 1) slots ≡ q = first_of-is test (reach - 1) q (omega arith) fails
       (λ h. rw (are.each q) (passes_at_first (crosses d) xs 0 l)) in
-      somebody_goes (omega (arith, at)) (rw (lt-ltb q (length xs) l) (ap Some (sym at))))
+      goes (omega (arith, at)) (same_place d room xs ∙ rw (lt-ltb q (length xs) l) (ap Some (sym at))))
       (λ (l : length xs ≤ q).
       let at : leaver_in d (reach - 1) slots ≡ reach - 1 = first_of-is test (reach - 1) (reach - 1) (omega arith)
       (λ j h. ⊎_elim (λ (m : j < length xs). fails j (omega arith))
       (λ (m : length xs ≤ j). rw (are.each j, get_or_past xs j 0 m) (bit-zero (16 + d))) (cases_lt j (length xs)))
       (λ h. absurd (omega arith)) in
       ⊎_elim
-      (λ (e : length xs ≡ room). somebody_goes (omega (arith, at))
-      (rw (le-ltb q (length xs) l, eq-eqb (length xs) room e) (ap Some (omega (arith, at)))))
-      (λ (e : length xs ≢ room). all_stay (grind arith) (omega (arith, e))
-      (rw (le-ltb q (length xs) l, ne_eqb (length xs) room e) refl))
+      (λ (e : length xs ≡ room). goes (omega (arith, at))
+      (same_place d room xs ∙ rw (le-ltb q (length xs) l, eq-eqb (length xs) room e) (ap Some (omega (arith, at)))))
+      (λ (e : length xs ≢ room). stay (grind arith) (omega (arith, e))
+      (same_place d room xs ∙ rw (le-ltb q (length xs) l, ne_eqb (length xs) room e) refl))
       (cases_eq (length xs) room))
       (cases_lt q (length xs))
 
+  -- by number
+  pub has_gone_by_number : (place here leaver : ℕ) (left : ℕ → ℕ) → IsFound d (reach - 1) slots place
+      → IsCarried (min place (reach - 1)) slots here left → leaver ≡ slot_across d here
+      → HasGone Number room d xs leaver left
+  has_gone_by_number place here leaver left found carried is =
+      ⊎_elim
+      (λ (goes : Goes d room (min place (reach - 1)) xs).
+      somebody_goes Number d room (min place (reach - 1)) slots xs are (omega (arith, fits, less)) here leaver left carried is
+      goes.0 goes.1)
+      (λ (none : NobodyGoes d room (min place (reach - 1)) xs).
+      all_stay Number d room (min place (reach - 1)) slots xs are (omega (arith, fits, less)) here leaver left carried is
+      none.0 none.1.0 none.1.1)
+      (chosen_is d room reach slots xs are some less most fits full place found)
+
 -- nobody leaves where nobody stands
-pub nobody_goes : (d room : ℕ) (tile : Tile) (i : ℕ) → AreSlots (slots_of tile i) [] → 0 < room
-    → HasGone room d (standing_at tile i) 0 (slot_behind tile.rest i)
-nobody_goes d room tile i are some = rw (standing_is tile i [] are)
-    (has_gone d room room (slots_of tile i) [] are some (omega arith) (omega arith) (λ e. refl) 0 0
-    (slot_behind tile.rest i)
-    (record {
-      here = sym (are.each (leaver_in d (room - 1) (slots_of tile i)));
-      earlier = λ j h. are.each (suc j) ∙ sym (are.each j);
-      later = λ j h. refl;
-    }) refl)
+pub nobody_goes : (order : Order) (d room : ℕ) (tile : Tile) (i : ℕ) → AreSlots (slots_of tile i) [] → 0 < room
+    → HasGone order room d (standing_at tile i) 0 (slot_behind tile.rest i)
+nobody_goes order d room tile i are some =
+    rw (standing_is tile i [] are)
+    (all_stay order d room 0 (slots_of tile i) [] are (omega arith) 0 0 (slot_behind tile.rest i)
+    (record { here = sym (are.each 0); earlier = λ j h. absurd (omega (arith, h)); later = λ j h. refl }) refl
+    (omega arith) some (place_by-nobody order d room some))

@@ -15,13 +15,16 @@ use Rattle.cm_model.proofs.Each.{same_each_below, is_each, length-each_from, get
 use Rattle.cm_model.specs.Array.{each_chip, list_at}
 use Rattle.cm_model.proofs.Flips.{across_below, xor_twice}
 use Rattle.cm_slots.specs.declared.tile.Tile.{Tile}
-use Rattle.cm_slots.specs.Tickets.{ticket_of, has_to_go, exchanged}
+use Rattle.cm_slots.specs.declared.order.Order.{Order}
+use Rattle.cm_slots.specs.Tickets.{ticket_of}
+use Rattle.cm_slots.specs.Choice.{exchanged_by}
 use Rattle.cm_slots.specs.Tiles.{slots_of, IsTile, IsQuiet}
 use Rattle.cm_slots.specs.Runs.{no_tile, tile_at, tickets_of, queues_in, AreEmpty, tile_across, numbers_at, AreTiles}
 use Rattle.cm_slots.specs.Runs.{IsChanged, AreWithin}
 use Rattle.cm_slots.specs.declared.ticket.Ticket.{Ticket}
 use Rattle.cm_slots.specs.Queues.{place_of_leaver}
 use Rattle.cm_slots.proofs.Standing.{get_or-zeros, standing_is, stands}
+use Rattle.cm_slots.proofs.Choosing.{place_by-nobody}
 use Rattle.cm_slots.proofs.Runs.{tiles_of_cube, across_in}
 
 -- a new tile
@@ -128,18 +131,18 @@ module _ {chips : ℕ} {tiles : List Tile} {leaving : List (Option (List ℕ))} 
         (λ c h. grind (arith, get_or-set_same, get_or-set_other, step.here, step.others c, ticket_list c, as_many)))
 
     -- a dimension of a cube
-    module _ {dims d : ℕ} (count : length q ≡ 2 ^ dims) (below : d < dims) (room : ℕ) (each : (c : ℕ)
+    module _ {dims d : ℕ} (count : length q ≡ 2 ^ dims) (below : d < dims) (order : Order) (room : ℕ) (each : (c : ℕ)
         → c / 64 < length tiles
-        → tickets_of new c ≡ exchanged room d (tickets_of tiles c) (tickets_of tiles (bit_xor c (2 ^ d)))) where
+        → tickets_of new c ≡ exchanged_by order room d (tickets_of tiles c) (tickets_of tiles (bit_xor c (2 ^ d)))) where
       pub queues_after : queues_in chips new
-          ≡ each_chip dims (λ c. exchanged room d (list_at q c) (list_at q (bit_xor c (2 ^ d))))
+          ≡ each_chip dims (λ c. exchanged_by order room d (list_at q c) (list_at q (bit_xor c (2 ^ d))))
       queues_after = same_each_below [] chips (tickets_of new)
-          (λ c. exchanged room d (list_at q c) (list_at q (bit_xor c (2 ^ d))))
+          (λ c. exchanged_by order room d (list_at q c) (list_at q (bit_xor c (2 ^ d))))
           (λ c h. each c (omega (arith, are.count)) ∙ rw (
             ticket_list c h,
             ticket_list (bit_xor c (2 ^ d)) (omega (arith, as_many, across_below dims d c below)),
           ) refl)
-          ∙ ap (λ (n : ℕ). each_from 0 n (λ c. exchanged room d (list_at q c) (list_at q (bit_xor c (2 ^ d)))))
+          ∙ ap (λ (n : ℕ). each_from 0 n (λ c. exchanged_by order room d (list_at q c) (list_at q (bit_xor c (2 ^ d)))))
           (sym as_many ∙ count)
 
       -- behind the last chip, where nobody stood, nobody comes
@@ -153,7 +156,7 @@ module _ {chips : ℕ} {tiles : List Tile} {leaving : List (Option (List ℕ))} 
           each c h ∙ rw (
             are.past c past h,
             are.past other past_too there,
-            place_of_leaver-nobody (has_to_go d) room some,
+            place_by-nobody order d room some,
           ) refl
 
 pub within_view : (chips : ℕ) (tiles : List Tile) (room : ℕ) → chips ≤ length tiles * 64 → AreWithin room tiles

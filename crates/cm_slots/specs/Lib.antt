@@ -1,5 +1,6 @@
 pub mod Queues
 pub mod Tickets
 pub mod Slots
+pub mod Choice
 pub mod Tiles
 pub mod Runs

@@ -4,6 +4,7 @@ use Rattle.std.specs.Prelude.{Option, None, IfSome, slice_index_or}
 use Rattle.std.specs.List.{All}
 use Rattle.cm_model.specs.Each.{each_from}
 use Rattle.cm_slots.specs.declared.ticket.Ticket.{Ticket}
+use Rattle.cm_slots.specs.declared.order.Order.{Order}
 use Rattle.cm_slots.specs.declared.tile.Tile.{Tile}
 use Rattle.cm_slots.specs.Tickets.{ticket_of, ticket_in}
 use Rattle.cm_slots.specs.Slots.{is_taken, leaver_at}
@@ -40,10 +41,10 @@ abbrev pub ticket_leaving : List (Option (List ℕ)) → ℕ → Option Ticket
 ticket_leaving leaving c = ticket_in (number_leaving leaving c)
 
 -- who leaves has been taken out of all tiles
-pub record HaveLeft (room d : ℕ) (old new : List Tile) (leaving : List (Option (List ℕ))) : Type 0 where
+pub record HaveLeft (order : Order) (room d : ℕ) (old new : List Tile) (leaving : List (Option (List ℕ))) : Type 0 where
   pub long : length new ≡ length old
   pub rows : length leaving ≡ length old
-  pub each : (t : ℕ) → t < length old → HasLeft room d (tile_at old t) (tile_at new t) (leavers_at leaving t)
+  pub each : (t : ℕ) → t < length old → HasLeft order room d (tile_at old t) (tile_at new t) (leavers_at leaving t)
 
 -- who comes, by tile and place, has been taken in at all tiles
 pub record HaveTakenIn (room : ℕ) (coming : ℕ → ℕ → ℕ) (old new : List Tile) : Type 0 where

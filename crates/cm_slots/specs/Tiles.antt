@@ -1,9 +1,11 @@
 -- Tiles: 64 chips that stand side by side, and what a dimension's two passes make of one. Ours.
 use Rattle.std.specs.Prelude.{ℕ, ◌<◌, ◌≡◌, ◌≢◌, ◌++◌, true, false, List, [], length, map, Option, None, IfSome}
 use Rattle.cm_slots.specs.declared.tile.Tile.{Tile}
-use Rattle.cm_slots.specs.Tickets.{ticket_of, ticket_in, ticket_going}
-use Rattle.cm_slots.specs.Queues.{stayers_of}
-use Rattle.cm_slots.specs.Slots.{is_taken, crosses, comers, leaver_at, slot_in, slot_behind, standing_in}
+use Rattle.cm_model.specs.Buffers.{without}
+use Rattle.cm_slots.specs.declared.order.Order.{Order}
+use Rattle.cm_slots.specs.Tickets.{ticket_of, ticket_in}
+use Rattle.cm_slots.specs.Slots.{is_taken, comers, leaver_at, slot_in, slot_behind, standing_in}
+use Rattle.cm_slots.specs.Choice.{place_by, going_by}
 use Rattle.cm_slots.specs.Slots.{AreRows, AreSlots}
 
 -- the slots of the chip at place i
@@ -14,13 +16,16 @@ slots_of tile i = slot_in tile.first tile.rest i
 unfoldable pub standing_at : Tile → ℕ → List ℕ
 standing_at tile i = standing_in (slots_of tile i)
 
--- of a queue of numbers, with room for so many, who leaves in dimension d arrives across as this one, 0 where nobody
--- does, and these slots hold who stays
-pub record HasGone (room d : ℕ) (numbers : List ℕ) (leaver : ℕ) (slots : ℕ → ℕ) : Type 0 where
-  pub going : ticket_in leaver ≡ ticket_going room d (map ticket_of numbers)
+-- of a queue of numbers, with room for so many, who stays in dimension d
+abbrev pub stayers_by : Order → ℕ → ℕ → List ℕ → List ℕ
+stayers_by order room d numbers = without numbers (place_by order room d (map ticket_of numbers))
+
+-- of such a queue who leaves arrives across as this one, 0 where nobody does, and these slots hold who stays
+pub record HasGone (order : Order) (room d : ℕ) (numbers : List ℕ) (leaver : ℕ) (slots : ℕ → ℕ) : Type 0 where
+  pub going : ticket_in leaver ≡ going_by order room d (map ticket_of numbers)
   pub taken : leaver ≢ 0 → is_taken leaver ≡ true
-  pub few : length (stayers_of (crosses d) room numbers) < room
-  pub stay : AreSlots slots (stayers_of (crosses d) room numbers)
+  pub few : length (stayers_by order room d numbers) < room
+  pub stay : AreSlots slots (stayers_by order room d numbers)
 
 -- fifteen rows of 64 lanes
 abbrev pub IsShaped : Tile → Type 0
@@ -38,11 +43,11 @@ pub record IsTile (tile : Tile) : Type 0 where
 
 -- of each chip with room for so many who leaves in dimension d is among the leavers, and the slots behind
 -- the first hold who stays; where there are no leavers, nobody stood there
-pub record HasLeft (room d : ℕ) (old new : Tile) (leavers : Option (List ℕ)) : Type 0 where
+pub record HasLeft (order : Order) (room d : ℕ) (old new : Tile) (leavers : Option (List ℕ)) : Type 0 where
   pub shape : IsShaped new
   pub long : IfSome leavers (λ row. length row ≡ 64)
   pub gone : (i : ℕ) → i < 64
-      → HasGone room d (standing_at old i) (leaver_at leavers i) (slot_behind new.rest i)
+      → HasGone order room d (standing_at old i) (leaver_at leavers i) (slot_behind new.rest i)
   pub quiet : leavers ≡ None → IsQuiet new
 
 -- at each chip the slots hold who stood in those behind the first, and behind them who comes, by its place

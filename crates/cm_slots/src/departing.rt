@@ -9,6 +9,7 @@ ghost use Rattle.cm_slots.specs.Tiles.{IsShaped, IsQuiet, IsTile};
 ghost use Rattle.cm_slots.specs.Runs.{HaveTakenIn, tile_at, leavers_at, tickets_of, ticket_leaving, AreWithin};
 ghost use Rattle.cm_slots.specs.Runs.{AreLeavers};
 
+use crate::order::Order;
 use crate::passes::leave;
 use crate::rows::{Row, WIDTH};
 use crate::ticket::{Ticket, ticket_in};
@@ -30,7 +31,7 @@ pub(crate) fn take_out(tiles: &mut [Tile], leaving: &mut [Option<Row>], room: us
     ensures whole { All IsTile tiles.new }
     ensures space { AreWithin (room - 1) tiles.new }
 {
-    leave(tiles, leaving, room, dim);
+    leave(tiles, leaving, room, dim, Order::Arrival);
     close_up(tiles, leaving, room);
 }
 

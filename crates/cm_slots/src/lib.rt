@@ -3,8 +3,10 @@
 
 mod across;
 mod chips;
+mod choice;
 mod departing;
 pub mod laws;
+mod order;
 mod passes;
 mod rows;
 mod slots;

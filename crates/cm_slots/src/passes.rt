@@ -4,17 +4,24 @@ ghost use Rattle.std.specs.Prelude.{◌≡◌, ◌≢◌, ℕ, ◌/◌, ◌^◌,
 ghost use Rattle.std.specs.Prelude.{IfSome, IsTrue};
 ghost use Rattle.std.specs.List.{All};
 ghost use Rattle.cm_slots.specs.Slots.{is_taken};
-ghost use Rattle.cm_slots.specs.Tickets.{exchanged};
+ghost use Rattle.cm_slots.specs.Choice.{exchanged_by};
 ghost use Rattle.cm_slots.specs.Tiles.{IsShaped, IsQuiet, IsTile};
 ghost use Rattle.cm_slots.specs.Runs.{HaveLeft, HaveTakenIn, tile_at, leavers_at, tile_across, arriving, tickets_of};
 ghost use Rattle.cm_slots.specs.Runs.{AreWithin};
 
 use crate::across::{arrivals, tile_across};
+use crate::order::Order;
 use crate::rows::Row;
 use crate::tile::Tile;
 
 /// The tickets of all chips cross a dimension, for which who leaves each tile is put down here.
-pub(crate) fn cross(tiles: &mut [Tile], leaving: &mut [Option<Row>], room: usize, dim: u8)
+pub(crate) fn cross(
+    tiles: &mut [Tile],
+    leaving: &mut [Option<Row>],
+    room: usize,
+    dim: u8,
+    order: Order,
+)
     requires dimension { dim < 12 }
     requires some { 0 < room }
     requires most { room ≤ 15 }
@@ -23,26 +30,32 @@ pub(crate) fn cross(tiles: &mut [Tile], leaving: &mut [Option<Row>], room: usize
     requires whole { All IsTile tiles.old }
     requires within { AreWithin room tiles.old }
     ensures value { (c : ℕ) → c / 64 < length tiles.old → tickets_of tiles.new c
-        ≡ exchanged room dim (tickets_of tiles.old c) (tickets_of tiles.old (bit_xor c (2 ^ dim))) }
+        ≡ exchanged_by order room dim (tickets_of tiles.old c) (tickets_of tiles.old (bit_xor c (2 ^ dim))) }
     ensures whole { All IsTile tiles.new }
     ensures within { AreWithin room tiles.new }
 {
-    leave(tiles, leaving, room, dim);
+    leave(tiles, leaving, room, dim, order);
     take_in(tiles, leaving, room, dim);
 }
 
 /// Takes out of each tile who leaves in a dimension.
-pub(crate) fn leave(tiles: &mut [Tile], leaving: &mut [Option<Row>], room: usize, dim: u8)
+pub(crate) fn leave(
+    tiles: &mut [Tile],
+    leaving: &mut [Option<Row>],
+    room: usize,
+    dim: u8,
+    order: Order,
+)
     requires dimension { dim < 12 }
     requires some { 0 < room }
     requires most { room ≤ 15 }
     requires rows { length leaving.old ≡ length tiles.old }
     requires whole { All IsTile tiles.old }
     requires within { AreWithin room tiles.old }
-    ensures value { HaveLeft room dim tiles.old tiles.new leaving.new }
+    ensures value { HaveLeft order room dim tiles.old tiles.new leaving.new }
 {
     for t in 0..tiles.len() {
-        tiles[t].leave(&mut leaving[t], room, dim);
+        tiles[t].leave(&mut leaving[t], room, dim, order);
     }
 }
 

@@ -123,7 +123,7 @@ fn is_arrival(slot: u32) -> bool
 
 /// Whether the message of a slot's ticket has to cross a dimension.
 #[tactic(auto, using(std::proofs::lemmas::Nat::Bits::shr_and_one))]
-fn has_to_cross(slot: u32, dim: u8) -> bool
+pub(crate) fn has_to_cross(slot: u32, dim: u8) -> bool
     requires dimension { dim < 12 }
     ensures value { result ≡ crosses dim slot }
 {

@@ -9,9 +9,11 @@ ghost use Rattle.cm_model.specs.Array.{each_chip, list_at};
 ghost use Rattle.cm_slots.specs.Runs.{AreEmpty};
 ghost use Rattle.cm_slots.specs.Queues.{stayers_of};
 ghost use Rattle.cm_slots.specs.Tickets.{has_to_go, has_come, ticket_going, exchanged};
+ghost use Rattle.cm_slots.specs.Choice.{exchanged_by_number};
 
 use crate::chips;
 use crate::departing::{take_out, write_down};
+use crate::order::Order;
 use crate::passes::cross;
 use crate::rows::{Row, WIDTH};
 use crate::ticket::Ticket;
@@ -172,7 +174,35 @@ impl Slots {
             (λ c. exchanged room dim (list_at self.old c) (list_at self.old (bit_xor c (2 ^ dim)))) }
         ensures within { All (λ ts. length ts ≤ room) self.new }
     {
-        cross(&mut self.tiles, &mut self.leaving, usize::from(room), dim);
+        cross(
+            &mut self.tiles,
+            &mut self.leaving,
+            usize::from(room),
+            dim,
+            Order::Arrival,
+        );
+    }
+
+    /// The same, where of those that have to cross the lowest number goes first: at each chip it leaves, or where none
+    /// has to and no room is left, the highest.
+    pub fn cross_by_number(&mut self, span: u8, room: u8, dim: u8)
+        requires dimension { span ≤ 12 }
+        requires dim { dim < span }
+        requires some { 0 < room }
+        requires most { room ≤ 15 }
+        requires count { length self.old ≡ 2 ^ span }
+        requires within { All (λ ts. length ts ≤ room) self.old }
+        ensures value { self.new ≡ each_chip span (λ c. exchanged_by_number room dim
+            (list_at self.old c) (list_at self.old (bit_xor c (2 ^ dim)))) }
+        ensures within { All (λ ts. length ts ≤ room) self.new }
+    {
+        cross(
+            &mut self.tiles,
+            &mut self.leaving,
+            usize::from(room),
+            dim,
+            Order::Number,
+        );
     }
 
     /// The first half of a dimension by itself: who leaves each chip is taken out, and written down as it

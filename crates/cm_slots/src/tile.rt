@@ -3,11 +3,14 @@
 ghost use Rattle.std.specs.Prelude.{◌≡◌, ◌↔◌, ◌≢◌, ℕ, ◌<◌, ◌≤◌, ◌++◌, [], ◌∷◌, IsFalse, IsTrue, true, length, remove};
 ghost use Rattle.std.specs.Prelude.{List, slice_index, slice_set, None, false};
 ghost use Rattle.std.specs.List.{list_any};
+ghost use Rattle.cm_slots.specs.declared.order.Order.TheVariants.{Arrival, Number};
 ghost use Rattle.cm_slots.specs.Slots.{is_taken, is_arrival, slot_behind, AreSlots, IsBlank, AreTaken};
 ghost use Rattle.cm_slots.specs.Tiles.{slots_of, standing_at, IsShaped, IsQuiet, IsTile, HasLeft, HasTakenIn, IsPut};
 ghost use Rattle.cm_slots.specs.Tiles.{HasChanged};
 
 use crate::across::flipped;
+use crate::choice::{leave_from, places};
+use crate::order::Order;
 use crate::rows::{ROOM, Row, WIDTH, has_arrival, is_blank, leave, take_in};
 
 /// 64 chips that stand side by side, and their tickets slot by slot: the one that came first in slot 0.
@@ -48,23 +51,27 @@ impl Tile {
     /// Takes out of each chip, where there is room for so many tickets, who leaves in a dimension, and
     /// puts them down as they arrive across; of a tile at which nobody stands, none. The slots hold nothing
     /// that counts until who comes has been taken in.
-    pub fn leave(&mut self, leavers: &mut Option<Row>, room: usize, dim: u8)
+    pub fn leave(&mut self, leavers: &mut Option<Row>, room: usize, dim: u8, order: Order)
         requires dimension { dim < 12 }
         requires some { 0 < room }
         requires most { room ≤ 15 }
         requires whole { IsTile self.old }
         requires within { (i : ℕ) → i < 64 → length (standing_at self.old i) ≤ room }
-        ensures value { HasLeft room dim self.old self.new leavers.new }
+        ensures value { HasLeft order room dim self.old self.new leavers.new }
     {
         if self.is_quiet() {
             self.awake = false;
             forget(leavers);
         } else {
-            self.let_leave(leavers, room, dim);
+            match order {
+                Order::Arrival => self.let_leave(leavers, room, dim),
+                Order::Number => self.let_leave_by_number(leavers, room, dim),
+            }
         }
     }
 
-    /// The same where somebody stands. It stands apart so that a tile at which nobody does costs no more than a look.
+    /// The same where somebody stands, in the order of arrival. It stands apart so that a tile at which nobody does costs
+    /// no more than a look.
     #[inline(never)]
     fn let_leave(&mut self, leavers: &mut Option<Row>, room: usize, dim: u8)
         requires dimension { dim < 12 }
@@ -72,10 +79,26 @@ impl Tile {
         requires most { room ≤ 15 }
         requires whole { IsTile self.old }
         requires within { (i : ℕ) → i < 64 → length (standing_at self.old i) ≤ room }
-        ensures value { HasLeft room dim self.old self.new leavers.new }
+        ensures value { HasLeft Arrival room dim self.old self.new leavers.new }
     {
         let reach = self.reach(room);
         leave(&mut self.first, &mut self.rest[..], reach - 1, dim);
+        *leavers = Some(flipped(&self.first, dim));
+    }
+
+    /// The same by number.
+    #[inline(never)]
+    fn let_leave_by_number(&mut self, leavers: &mut Option<Row>, room: usize, dim: u8)
+        requires dimension { dim < 12 }
+        requires some { 0 < room }
+        requires most { room ≤ 15 }
+        requires whole { IsTile self.old }
+        requires within { (i : ℕ) → i < 64 → length (standing_at self.old i) ≤ room }
+        ensures value { HasLeft Number room dim self.old self.new leavers.new }
+    {
+        let reach = self.reach(room);
+        let places = places(&self.first, &self.rest[..], reach - 1, dim);
+        leave_from(&mut self.first, &mut self.rest[..], reach - 1, &places);
         *leavers = Some(flipped(&self.first, dim));
     }
 

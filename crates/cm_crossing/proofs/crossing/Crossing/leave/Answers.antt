@@ -40,6 +40,7 @@ invariant_of-self c =
           (routing_of c.args.routing.now) c.args.sizes.room c.args.dim c.args.first c.self.inside.slots
           c.leave.new.slots c.args.self.now.buffers are c.leave.ensures.value was.kept;
       together = λ t. absurd cc;
+      rising = was.rising;
     }
 
 pub returns : goal.returns

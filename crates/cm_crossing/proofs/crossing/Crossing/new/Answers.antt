@@ -1,6 +1,7 @@
 use Rattle.std.proofs.Common.{arith}
 use Rattle.std.proofs.lemmas.List.{length-map}
 use Rattle.cm_crossing.proofs.Carrying.{none_standing, none_kept, none_together, none_long}
+use Rattle.cm_crossing.proofs.Rising.{none_rising}
 use Rattle.cm_crossing.proofs.crossing.Crossing.new.Goals as goal
 
 pub invariant_of-result : goal.invariant_of-result
@@ -9,7 +10,7 @@ invariant_of-result c =
     let row = c.in_ok-row.ensures in
     let spare = c.in_ok-spare.ensures in
     let leavers = c.in_ok-leavers.ensures in
-    search (arith, none_long, none_kept, none_together, none, row, spare, leavers, c.min-places.ensures, c.requires)
+    search (arith, none_rising, none_long, none_kept, none_together, none, row, spare, leavers, c.min-places.ensures, c.requires)
 
 pub returns-clause-value : goal.returns-clause-value
 returns-clause-value c = none_standing _ _ c.in_ok-slots.ensures.value c.in_ok-row.row.items

@@ -1,4 +1,5 @@
 use Rattle.std.proofs.Common.{length, ap, ◌∙◌, arith}
+use Rattle.cm_slots.specs.declared.order.Order.TheVariants.{Arrival}
 use Rattle.cm_slots.proofs.Views.{across_inside, tiles_kept, queues_after, within_view, within_everywhere, items-lent}
 use Rattle.cm_slots.proofs.Views.{crossed_past}
 use Rattle.cm_slots.proofs.slots.Slots.cross.Goals as goal
@@ -22,7 +23,7 @@ invariant_of-self c =
       items-lent c.self.inside.leaving c.cross.new.leaving rows,
     )
     (tiles_kept c.self.invariant c.self.view_is c.cross.new.tiles long rows c.cross.ensures.whole
-    (crossed_past c.self.invariant c.self.view_is c.cross.new.tiles long c.requires.count c.requires.dim c.args.room
+    (crossed_past c.self.invariant c.self.view_is c.cross.new.tiles long c.requires.count c.requires.dim Arrival c.args.room
     (rw (c.from.ensures, c.deref_mut.ensures.value) at c.cross.ensures.value) c.requires.some))
 
 pub returns : goal.returns
@@ -31,7 +32,7 @@ returns c =
     record {
       value = rw (items-lent c.self.inside.tiles c.cross.new.tiles long)
           (queues_after c.self.invariant c.self.view_is c.cross.new.tiles long c.requires.count c.requires.dim
-          c.args.room (rw (c.from.ensures, c.deref_mut.ensures.value) at c.cross.ensures.value));
+          Arrival c.args.room (rw (c.from.ensures, c.deref_mut.ensures.value) at c.cross.ensures.value));
       within = rw (items-lent c.self.inside.tiles c.cross.new.tiles long)
           (within_view c.self.inside.chips c.cross.new.tiles c.args.room (omega (arith, c.self.invariant.count, long))
           (rw c.from.ensures at c.cross.ensures.within));

@@ -9,7 +9,7 @@ returns c = record {
     gone = λ i h.
         let few = c.reach-reach.ensures.few i h (c.requires.within i h) in
         has_gone c.args.dim c.args.room c.reach-reach.result _ _ (c.requires.whole.queues i h)
-        c.reach-reach.ensures.some c.reach-reach.ensures.most (few.0) (few.1) _ _ _ (c.leave.ensures.value i h)
+        c.reach-reach.ensures.some c.reach-reach.ensures.most c.requires.most (few.0) (few.1) _ _ _ (c.leave.ensures.value i h)
         (c.flipped.ensures.value i h);
     quiet = λ none. absurd (cc none);
   };

@@ -5,7 +5,7 @@ use Rattle.cm_router.specs.Routes.{routing_of}
 use Rattle.cm_crossing.specs.Standing.{UnderWay, standing}
 use Rattle.cm_crossing.proofs.Carrying.{as_many}
 use Rattle.cm_crossing.proofs.Leaving.{whole_crossed, whole_crossed_long, whole_crossed_kept, whole_crossed_within}
-use Rattle.cm_crossing.proofs.crossing.Crossing.cross.Goals as goal
+use Rattle.cm_crossing.proofs.crossing.Crossing.cross_in_order.Goals as goal
 
 pub cross-requires-clause-within : goal.cross-requires-clause-within
 cross-requires-clause-within c =
@@ -32,6 +32,7 @@ invariant_of-self c =
           (routing_of c.args.routing.now) c.args.sizes.room c.args.dim c.args.sizes.span c.args.first c.self.inside.slots
           c.cross.new.slots c.args.self.now.buffers are c.cross.ensures.value was.kept;
       together = λ t. absurd cc;
+      rising = was.rising;
     }
 
 pub returns : goal.returns
