@@ -10,6 +10,8 @@ mod growths;
 #[cfg(test)]
 mod machines;
 #[cfg(test)]
+mod order;
+#[cfg(test)]
 mod orders;
 #[cfg(test)]
 mod plain;
