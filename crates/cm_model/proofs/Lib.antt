@@ -16,6 +16,7 @@ pub mod Opening
 pub mod Runs
 mod StandardFacts
 mod RouterFacts
+mod RoutingFacts
 pub mod Rooms
 pub mod Torus
 pub mod Values

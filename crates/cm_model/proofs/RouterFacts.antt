@@ -25,7 +25,7 @@ abbrev no_flags : List Bool
 no_flags = replicate 16 false
 
 -- a chip whose processors send nothing, and of whose memory nothing is read
-unfoldable quiet_chip : List Processor
+unfoldable pub quiet_chip : List Processor
 unfolding each_from
 quiet_chip = each_processor (λ p. record { memory = []; flags = no_flags })
 
@@ -47,13 +47,13 @@ sending_chip count rel proc =
           no_flags;
     })
 
-abbrev tag_of : ℕ → ℕ → ℕ → Tag
+abbrev pub tag_of : ℕ → ℕ → ℕ → Tag
 tag_of c p birth = record { chip = c; proc = p; birth = birth }
 
-abbrev message_to : ℕ → ℕ → ℕ → Tag → Message
+abbrev pub message_to : ℕ → ℕ → ℕ → Tag → Message
 message_to rel proc payload tag = record { rel = rel; proc = proc; payload = payload; tag = tag }
 
-abbrev cycles : ℕ → List Act
+abbrev pub cycles : ℕ → List Act
 cycles count = replicate count act.Cycle
 
 -- ---- two full nodes refer to each other, and deliver in the second cycle
