@@ -12,6 +12,8 @@ mod both;
 #[cfg(test)]
 mod building;
 #[cfg(test)]
+mod growths;
+#[cfg(test)]
 mod machines;
 #[cfg(test)]
 mod nodes;

@@ -1,13 +1,9 @@
-//! Petit cycles on machines of a few chips: answers worked by hand, long lists, refused memory.
+//! Petit cycles on machines of a few chips: answers worked by hand, long lists.
 
 ghost use Rattle.std.specs.Prelude.{◌≡◌, ◌≤◌, ◌^◌};
 
-use crate::machines::{ask, message, tag};
 use crate::scenario::{Scenario, plays};
 use crate::scenarios::{OF_256_CHIPS, OF_FOUR_CHIPS, OF_ONE_CHIP, OF_TWO_CHIPS};
-use cm_array::{Machine, MachineFault, Plain, RunFault, Runner};
-use cm_draws::{are_same, have_same_messages};
-use cm_model::Act;
 use std::alloc::Global;
 
 /// The first scenario that does not go as it says, and the place of the step; 0 too where memory is lacking.
@@ -54,46 +50,4 @@ fn four_chips_go_as_their_scenarios_say(rt: HostRuntime) {
 #[test]
 fn chips_far_apart_go_as_their_scenario_says(rt: HostRuntime) {
     assert_eq!(rt; failing::<8>(rt.alloc(), 256, &OF_256_CHIPS), None);
-}
-
-// ---- refused memory
-
-/// A machine of which nothing is told from call to call.
-#[derive(Drop)]
-struct Trial {
-    machine: Machine<2, 7>,
-}
-
-impl Trial {
-    /// Two processors of each chip ask to send.
-    fn asking(alloc: Global) -> Result<Trial, MachineFault> {
-        let mut machine = Machine::blank(alloc)?;
-        for c in 0u16..4 {
-            ask(&mut machine, &message(3, 2, 4, tag(c, 0)));
-            ask(&mut machine, &message(1, 2, 5, tag(c, 1)));
-        }
-        Ok(Trial { machine })
-    }
-
-    /// Whether it goes through two petit cycles, or answers Memory and is as it was.
-    fn goes_or_stays(&mut self, alloc: Global) -> bool {
-        let Ok(before) = self.machine.copy(alloc) else {
-            return true;
-        };
-        match Plain.go(&mut self.machine, &[Act::Cycle, Act::Cycle]) {
-            Ok(()) => !have_same_messages(&self.machine, &before, 4),
-            Err(fault) => fault == RunFault::Memory && are_same(&self.machine, &before, 4),
-        }
-    }
-}
-
-// Made for `rt try --test --fail-alloc N`, which makes the Nth allocation fail.
-#[test]
-fn a_refused_growth_leaves_the_machine_as_it_was(rt: HostRuntime) {
-    let alloc = rt.alloc();
-    let went = match Trial::asking(alloc) {
-        Ok(mut trial) => trial.goes_or_stays(alloc) && trial.goes_or_stays(alloc),
-        Err(_) => true,
-    };
-    assert!(rt; went);
 }

@@ -14,6 +14,7 @@ use cm_workers::{Forked, Gate, Passage};
 use std::alloc::Global;
 use std::sync::atomic::{AtomicU64, Ordering};
 use std::sync::{Arc, Wait};
+use std::test::Fail;
 use std::thread::Threads;
 
 /// How often a gate was asked, and how often it was passed.
@@ -32,9 +33,10 @@ impl Calls {
     }
 }
 
-/// A gate that does not admit worker 1 where it is asked for the second time.
+/// A gate that does not admit a worker at its first question.
 #[derive(Drop)]
 struct Reluctant {
+    refused: u16,
     calls: Arc<Calls, Global>,
 }
 
@@ -43,7 +45,7 @@ impl Gate for Reluctant {
 
     fn admit(&self, worker: u16) -> bool {
         let before = self.calls.asked.fetch_add(1, Ordering::SeqCst);
-        worker != 1 || before != 1
+        worker != self.refused || before != u64::from(self.refused)
     }
 
     fn pass(&self, _worker: u16, _round: u32, _blocks: &[Block])
@@ -89,39 +91,60 @@ fn cycles<X: Runner<4, 7>>(
     Some([(first, between), (second, calls.told())])
 }
 
-/// What two of two workers tell, of whom the gate does not admit one in the first.
+/// What so many workers tell, of whom the gate does not admit one in the first.
 fn gated<R: Threads + Wait>(
     rt: &R,
     alloc: Global,
     machine: &mut Machine<4, 7>,
+    workers: u16,
+    refused: u16,
     calls: &Arc<Calls, Global>,
 ) -> Option<[Cycled; 2]>
     requires threads { IsSync R.row }
 {
     let gate = Reluctant {
+        refused,
         calls: Arc::try_clone(calls).ok()?,
     };
     let passage = Passage::Gated(Box::new(alloc, gate).ok()?);
-    let mut forked = Forked::new::<4>(rt, alloc, 2, 2, passage).ok()?;
+    let mut forked = Forked::new::<4>(rt, alloc, 2, workers, passage).ok()?;
     cycles(&mut forked, alloc, machine, calls)
 }
 
 /// The same of a machine in which some processors ask to send.
-fn told<R: Threads + Wait>(rt: &R, alloc: Global) -> Option<[Cycled; 2]>
+fn told<R: Threads + Wait>(rt: &R, alloc: Global, workers: u16, refused: u16) -> Option<[Cycled; 2]>
     requires threads { IsSync R.row }
 {
     let calls = no_calls(alloc)?;
     let mut machine = asking(alloc)?;
-    gated(rt, alloc, &mut machine, &calls)
+    gated(rt, alloc, &mut machine, workers, refused, &calls)
 }
+
+/// Which of so many workers is not admitted, how often the gate was asked then, and after a second cycle, and how often it
+/// was passed in that.
+static REFUSED: [(u16, u16, u64, u64, u64); 5] = [
+    (2, 1, 2, 4, 4),
+    (4, 0, 1, 5, 8),
+    (4, 1, 2, 6, 8),
+    (4, 2, 3, 7, 8),
+    (4, 3, 4, 8, 8),
+];
 
 #[test]
 fn a_worker_that_is_not_admitted_leaves_the_machine_as_it_was_and_may_be_admitted_later(
     rt: HostRuntime,
-) {
-    let wanted = [
-        ((Some(RunFault::NoThread), true), (2, 0)),
-        ((None, true), (4, 4)),
-    ];
-    assert_eq!(rt; told(&rt, rt.alloc()), Some(wanted));
+) -> Result<(), Fail> {
+    for row in &REFUSED {
+        let (workers, refused, first, second, passed) = *row;
+        let wanted = [
+            ((Some(RunFault::NoThread), true), (first, 0)),
+            ((None, true), (second, passed)),
+        ];
+        assert_eq!(rt;
+            told(&rt, rt.alloc(), workers, refused),
+            Some(wanted),
+            "worker {refused} of {workers}"
+        );
+    }
+    Ok(())
 }

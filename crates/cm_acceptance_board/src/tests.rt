@@ -50,3 +50,18 @@ fn a_lane_without_uses_is_opened_and_dropped(rt: HostRuntime) -> Result<(), Fail
     assert!(rt; are_rising(&relay(&rt, rt.alloc(), 0)?, 0));
     Ok(())
 }
+
+/// Whether a lane is opened; or else want of memory is told, and it is opened then.
+fn is_opened(alloc: Global) -> bool {
+    let made = match opened(alloc, 3) {
+        Err(NoMemory) => opened(alloc, 3),
+        made => made,
+    };
+    made.is_ok()
+}
+
+// `.ci/refusals` refuses each growth in turn.
+#[test]
+fn a_refused_growth_opens_no_lane(rt: HostRuntime) {
+    assert!(rt; is_opened(rt.alloc()));
+}

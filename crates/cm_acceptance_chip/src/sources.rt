@@ -218,6 +218,17 @@ static TAKEN: [Taken; 9] = [
     ),
 ];
 
+/// What `take` answers to so many zeros, where as many may come as a program's text has.
+fn zeros_taken(alloc: Global, count: usize) -> Result<Result<(), TakeFault>, Fail> {
+    let zeros = vec![in alloc; 0; count]?;
+    let taken = take(alloc, &mut Bytes::new(&zeros, 65536), 16_777_216);
+    match taken {
+        Ok(bytes) if bytes.as_slice() == zeros.as_slice() => Ok(Ok(())),
+        Ok(_) => Err(Fail::new("other bytes")),
+        Err(fault) => Ok(Err(fault)),
+    }
+}
+
 /// Whether a reader of std over three bytes gives them two a call, and then its end.
 fn std_gives_its_bytes() -> bool {
     let mut source = Std::new(b"abc".as_slice());
@@ -234,6 +245,12 @@ fn sources_give_each_read_once(rt: HostRuntime) -> Result<(), Fail> {
 
 #[test]
 fn take_reads_to_the_end_and_no_further_than_its_limit(rt: HostRuntime) -> Result<(), Fail> {
-    assert_eq!(rt; first_not_so(rt.alloc(), &TAKEN)?, None);
+    let alloc = rt.alloc();
+    let zeros = [
+        zeros_taken(alloc, 16_777_216)?,
+        zeros_taken(alloc, 16_777_217)?,
+    ];
+    let wanted = [Ok(()), Err(TakeFault::TooMuch)];
+    assert_eq!(rt; (first_not_so(alloc, &TAKEN)?, zeros), (None, wanted));
     Ok(())
 }

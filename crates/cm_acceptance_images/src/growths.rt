@@ -1,9 +1,42 @@
 //! Growths of memory that are refused while images are read and written.
 
+use crate::hostile::FOUR_CHIPS;
 use cm_array::Machine;
+use cm_bits::NoMemory;
 use cm_cli::{ProgramFault, fresh};
+use cm_draws::{Call, first_not_so};
 use cm_image::{ImageFault, dump, load};
 use std::alloc::Global;
+
+/// What takes memory.
+#[derive(Clone, Copy, Debug, PartialEq, Eq)]
+enum Grown {
+    Loaded,
+    LoadedWithCutWires,
+    Dumped,
+    DumpedWithCutWires,
+    Fresh,
+}
+
+static GROWN: [Grown; 5] = [
+    Grown::Loaded,
+    Grown::LoadedWithCutWires,
+    Grown::Dumped,
+    Grown::DumpedWithCutWires,
+    Grown::Fresh,
+];
+
+impl Call for Grown {
+    fn is_so(&self, alloc: Global) -> Option<bool> {
+        match self {
+            Grown::Loaded => Some(is_loaded::<1, 1>(alloc, &TWO_CHIPS)),
+            Grown::LoadedWithCutWires => Some(is_loaded::<2, 1>(alloc, &FOUR_CHIPS)),
+            Grown::Dumped => is_dumped::<1, 1>(alloc, &TWO_CHIPS),
+            Grown::DumpedWithCutWires => is_dumped::<2, 1>(alloc, &FOUR_CHIPS),
+            Grown::Fresh => Some(is_made(alloc)),
+        }
+    }
+}
 
 /// Two chips, room for one message, counter 1; a plane and a message at the first.
 static TWO_CHIPS: [u8; 108] = [
@@ -13,35 +46,46 @@ static TWO_CHIPS: [u8; 108] = [
     0, 0, 0, 0, 0, 0, 0, 0, 0, 0, 0, 0, 0, 0, 0, 0, 0,
 ];
 
-/// Whether bytes are read and written back, or want of memory is told.
-fn come_back_or_want_memory(alloc: Global) -> bool {
-    match load::<1, 1>(alloc, &TWO_CHIPS) {
-        Ok(machine) => is_written_back_or_wants_memory(alloc, &machine),
-        Err(fault) => fault == ImageFault::Memory,
+fn is_loaded<const N: usize, const CAP: usize>(alloc: Global, bytes: &[u8]) -> bool {
+    match load::<N, CAP>(alloc, bytes) {
+        Ok(_) => true,
+        Err(fault) => fault == ImageFault::Memory && load::<N, CAP>(alloc, bytes).is_ok(),
     }
 }
 
-fn is_written_back_or_wants_memory(alloc: Global, machine: &Machine<1, 1>) -> bool {
-    match dump(alloc, machine) {
-        Ok(text) => text.as_slice() == TWO_CHIPS.as_slice(),
-        Err(_) => true,
+fn is_dumped<const N: usize, const CAP: usize>(alloc: Global, bytes: &[u8]) -> Option<bool> {
+    let machine = load::<N, CAP>(alloc, bytes).ok()?;
+    Some(comes_back(alloc, &machine, bytes))
+}
+
+fn comes_back<const N: usize, const CAP: usize>(
+    alloc: Global,
+    machine: &Machine<N, CAP>,
+    bytes: &[u8],
+) -> bool {
+    let made = match dump(alloc, machine) {
+        Err(NoMemory) => dump(alloc, machine),
+        made => made,
+    };
+    match made {
+        Ok(text) => text.as_slice() == bytes,
+        Err(_) => false,
     }
 }
 
-/// Whether a blank image is made, or want of memory is told.
-fn is_made_or_wants_memory(alloc: Global) -> bool {
-    match fresh(alloc, 1, 7) {
+fn is_made(alloc: Global) -> bool {
+    let made = match fresh(alloc, 1, 7) {
+        Err(ProgramFault::Memory) => fresh(alloc, 1, 7),
+        made => made,
+    };
+    match made {
         Ok(image) => image.len() == 86,
-        Err(fault) => fault == ProgramFault::Memory,
+        Err(_) => false,
     }
 }
 
-// Made for `rt try --test --fail-alloc N`, which makes the Nth allocation fail.
+// `.ci/refusals` refuses each growth in turn.
 #[test]
 fn a_refused_growth_is_told_as_want_of_memory(rt: HostRuntime) {
-    let so = [
-        come_back_or_want_memory(rt.alloc()),
-        is_made_or_wants_memory(rt.alloc()),
-    ];
-    assert_eq!(rt; so, [true; 2]);
+    assert_eq!(rt; first_not_so(rt.alloc(), &GROWN), None);
 }

@@ -10,16 +10,16 @@ use cm_image::{ImageFault, dump, load};
 use std::alloc::Global;
 use std::test::Fail;
 
-/// Two chips, room for one message, counter 1; a message with one tag at each.
+/// Two chips, room for seven messages, counter 1; a message with one tag at each.
 static TWO_CHIPS: [u8; 122] = [
-    0x43, 0x4d, 0x31, 0x49, 1, 1, 1, 0, 0, 0, 0, 0, 0, 0, 0, 1, 0, 0, 0, 0, 0, 0, 0, 0, 0, 0, 0, 0,
+    0x43, 0x4d, 0x31, 0x49, 1, 1, 7, 0, 0, 0, 0, 0, 0, 0, 0, 1, 0, 0, 0, 0, 0, 0, 0, 0, 0, 0, 0, 0,
     0, 0, 0, 0, 0, 0, 0, 0, 0, 0, 0, 0, 0, 0, 0, 0, 0, 0, 0, 0, 0, 0, 1, 0, 0, 0, 0, 0, 0, 0, 0, 0,
     0, 0, 0, 0, 0, 0, 0, 0, 0, 0, 0, 0, 0, 0, 0, 0, 0, 0, 0, 0, 0, 0, 0, 0, 0, 0, 0, 0, 0, 0, 0, 0,
     0, 0, 0, 0, 0, 0, 0, 0, 0, 0, 0, 1, 0, 0, 0, 0, 0, 0, 0, 0, 0, 0, 0, 0, 0, 0, 0, 0, 0, 0,
 ];
 
 /// Four chips, room for one message, counter 1; three wires are cut, the oldest goes first, and a message at chip 0.
-static FOUR_CHIPS: [u8; 185] = [
+pub(crate) static FOUR_CHIPS: [u8; 185] = [
     0x43, 0x4d, 0x31, 0x49, 2, 2, 1, 1, 0, 0, 0, 0, 0, 0, 0, 1, 0, 3, 0, 0, 0, 0, 1, 1, 0, 2, 0, 0,
     0, 0, 0, 0, 0, 0, 0, 0, 0, 0, 0, 0, 0, 0, 0, 0, 0, 0, 0, 0, 0, 0, 0, 0, 0, 0, 0, 0, 0, 0, 0, 0,
     0, 1, 0, 2, 5, 1, 2, 3, 4, 0, 3, 15, 0, 0, 0, 0, 0, 0, 0, 0, 0, 0, 0, 0, 0, 0, 0, 0, 0, 0, 0,
@@ -157,12 +157,12 @@ fn all_go_so<const N: usize, const CAP: usize>(
 #[test]
 fn bytes_that_are_cut_are_short(rt: HostRuntime) -> Result<(), Fail> {
     let lengths = [
-        first_not_short::<1, 1>(rt.alloc(), &TWO_CHIPS)?,
+        first_not_short::<1, 7>(rt.alloc(), &TWO_CHIPS)?,
         first_not_short::<2, 1>(rt.alloc(), &FOUR_CHIPS)?,
     ];
     assert_eq!(rt; lengths, [122, 185]);
     let whole = [
-        goes_so::<1, 1>(rt.alloc(), &TWO_CHIPS, Some(ImageFault::TagTwice))?,
+        goes_so::<1, 7>(rt.alloc(), &TWO_CHIPS, Some(ImageFault::TagTwice))?,
         goes_so::<2, 1>(rt.alloc(), &FOUR_CHIPS, None)?,
     ];
     assert_eq!(rt; whole, [true; 2]);

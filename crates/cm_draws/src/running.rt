@@ -2,6 +2,7 @@
 
 ghost use Rattle.std.specs.Prelude.{◌≡◌, ◌^◌};
 
+use crate::four_messages::{four_messages_each, has_one_of_four};
 use crate::looking::are_same;
 use cm_array::{Machine, Plain, RunFault, Runner};
 use cm_model::Act;
@@ -25,4 +26,23 @@ pub fn run_beside_plain<const N: usize, const CAP: usize, X: Runner<N, CAP>>(
         Plain.go(&mut wanted, acts).ok()?;
     }
     Some((refused, are_same(machine, &wanted, chips)))
+}
+
+/// Whether a runner takes a blank machine of sixteen chips through the program of four messages of each; or else leaves it as
+/// it was, want of memory or of a thread being told, and takes it through when it is asked again. None where memory is
+/// wanting beside it.
+pub fn sends_or_stays<X: Runner<4, 7>>(runner: &mut X, alloc: Global) -> Option<bool>
+    requires runner { X.ready }
+{
+    let acts = four_messages_each(alloc).ok()?;
+    let mut machine = Machine::<4, 7>::blank(alloc).ok()?;
+    let (refused, is_right) = run_beside_plain(runner, alloc, &mut machine, &acts, 16)?;
+    let went = match refused {
+        None => Some((None, is_right)),
+        Some(RunFault::Memory | RunFault::NoThread) if is_right => {
+            run_beside_plain(runner, alloc, &mut machine, &acts, 16)
+        }
+        Some(_) => None,
+    };
+    Some(went == Some((None, true)) && has_one_of_four(&machine))
 }

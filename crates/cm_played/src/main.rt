@@ -1,10 +1,12 @@
 //! Plays the scenes of a text on standard input, and tells what came of each.
 #![tactic(auto)]
 
+mod ends;
 mod images;
 mod playing;
 mod refusing;
 mod scene;
+mod sessions;
 mod weaving;
 mod whole;
 

@@ -9,7 +9,7 @@ use crate::scene::Scene;
 use crate::weaving::{Steps, play_exchange};
 use cm_array::{Builder, Machine};
 use cm_asm::{Program, assemble};
-use cm_bits::doubles::{Bytes, Room};
+use cm_bits::doubles::Room;
 use cm_bits::read_number;
 use cm_debug::{SessionFault, read_command, session};
 use cm_image::load;
@@ -185,7 +185,7 @@ fn answer<const N: usize, const CAP: usize>(
     scene: &Scene,
     told: &mut Vec<u8>,
 ) -> Result<(), AllocError> {
-    let mut answers = Room::new(alloc, scene.written.min(1048576) as usize, 5)?;
+    let mut answers = scene.ends.sink(alloc)?;
     let end = end_of(alloc, trial, program, scene, &mut answers);
     told.extend_from_slice(answers.taken())?;
     tell_end(alloc, end, told)
@@ -201,11 +201,7 @@ fn end_of<const N: usize, const CAP: usize>(
 ) -> Result<(), SessionFault>
     requires writer { room_has_failed answers.old ≡ false }
 {
-    let mut commands = Bytes::failing(
-        scene.commands.as_slice(),
-        scene.piece as usize,
-        scene.read as usize,
-    );
+    let mut commands = scene.ends.source(scene.commands.as_slice());
     let mut runner = Refusing::new(scene.lists, scene.lack);
     session(
         alloc,

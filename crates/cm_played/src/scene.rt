@@ -1,8 +1,10 @@
 //! Scenes as a text tells them, line by line.
 
+use crate::ends::{Ends, WHOLE};
 use crate::images::{add_bytes, tell_blank, tell_shape};
 use crate::playing::{Turn, count, listing, play, read_alone, tell};
 use crate::refusing::Lack;
+use crate::sessions::tell_each_session;
 use crate::weaving::Steps;
 use crate::whole::{What, tell_each, tell_end, tell_line};
 use cm_bits::{Lines, Words, read_number};
@@ -26,12 +28,8 @@ pub(crate) struct Scene {
     pub(crate) split: u64,
     /// How often the next line of the image, the program or of commands stands there.
     times: u64,
-    /// How many bytes are read at once, after how many reading fails, and for how many that are written there is room.
-    pub(crate) piece: u64,
-    pub(crate) read: u64,
-    pub(crate) written: u64,
-    /// Once there is no room, nothing is taken in place of failing.
-    pub(crate) takes_nothing: bool,
+    /// How bytes of texts and commands come, and how answers go.
+    pub(crate) ends: Ends,
     /// After how many lists of acts the runner lacks something.
     pub(crate) lists: u64,
     pub(crate) lack: Lack,
@@ -50,10 +48,7 @@ impl Scene {
             commands: Vec::new(alloc),
             split: 0,
             times: 1,
-            piece: 3,
-            read: u64::MAX,
-            written: 65536,
-            takes_nothing: false,
+            ends: Ends { piece: 3, ..WHOLE },
             lists: u64::MAX,
             lack: Lack::Memory,
         }
@@ -95,13 +90,13 @@ impl Scene {
         } else if name == b"split".as_slice() {
             self.split = number;
         } else if name == b"piece".as_slice() {
-            self.piece = number;
+            self.ends.piece = number as usize;
         } else if name == b"read".as_slice() {
-            self.read = number;
+            self.ends.read = number as usize;
         } else if name == b"written".as_slice() {
-            self.written = number;
+            self.ends.room = number as usize;
         } else if name == b"nothing".as_slice() {
-            self.takes_nothing = true;
+            self.ends.takes_nothing = number > 0;
         } else if name == b"memory".as_slice() {
             self.lists = number;
         } else if name == b"thread".as_slice() {
@@ -144,7 +139,7 @@ pub(crate) fn perform(alloc: Global, lines: Lines, told: &mut Vec<u8>) -> Result
 /// `@` the number of the program's acts, or its first fault, is told, and `%` its listing;
 /// `?` dimensions of a cube, acts of a program, and a line of commands, which is read alone;
 /// `~` the program goes from bytes to bytes: `chip`, `list`, or a refusal's number is told, with its line;
-/// `^` the same in pieces, with little room, and with reading that fails;
+/// `^` the same in pieces, with little room, and with reading that fails; `^session` so the commands are answered;
 /// `$` the words of a command line, each behind a bar.
 fn obey(
     alloc: Global,
@@ -193,7 +188,15 @@ fn whole(alloc: Global, scene: &Scene, line: &[u8], told: &mut Vec<u8>) -> Resul
     }
 }
 
-fn each(alloc: Global, scene: &Scene, line: &[u8], told: &mut Vec<u8>) -> Result<(), AllocError> {
+fn each(
+    alloc: Global,
+    scene: &mut Scene,
+    line: &[u8],
+    told: &mut Vec<u8>,
+) -> Result<(), AllocError> {
+    if line == b"session".as_slice() {
+        return tell_each_session(alloc, scene, told);
+    }
     match What::of(line) {
         Some(what) => tell_each(alloc, what, scene, told),
         None => tell(told, b"no such word"),

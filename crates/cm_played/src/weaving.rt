@@ -7,7 +7,7 @@ use crate::images::{tell_image, tell_refused};
 use crate::playing::{Trial, tell};
 use crate::scene::Scene;
 use cm_array::Machine;
-use cm_bits::doubles::{Bytes, Room};
+use cm_bits::doubles::Room;
 use cm_cli::ProgramFault;
 use cm_model::Act;
 use cm_steps::{weave_self, weave_session};
@@ -63,7 +63,7 @@ fn go_through<const N: usize, const CAP: usize>(
     scene: &Scene,
     told: &mut Vec<u8>,
 ) -> Result<(), AllocError> {
-    let mut answers = Room::new(alloc, scene.written.min(1048576) as usize, 5)?;
+    let mut answers = scene.ends.sink(alloc)?;
     let end = end_of(alloc, steps, exchange, scene, &mut answers);
     told.extend_from_slice(answers.taken())?;
     match end {
@@ -84,11 +84,7 @@ fn end_of<const N: usize, const CAP: usize>(
 {
     let left = match steps {
         Steps::Told => {
-            let mut lines = Bytes::failing(
-                scene.commands.as_slice(),
-                scene.piece as usize,
-                scene.read as usize,
-            );
+            let mut lines = scene.ends.source(scene.commands.as_slice());
             weave_session(alloc, exchange.world, &mut lines, answers)
         }
         Steps::Own => weave_self(alloc, exchange.world, answers),

@@ -3,6 +3,7 @@
 ghost use Rattle.std.specs.Prelude.{◌≡◌, false, IfOk};
 ghost use Rattle.cm_bits.specs.Doubles.{bytes_has_failed, room_has_failed};
 
+use crate::ends::{Ends, WHOLE};
 use crate::playing::tell;
 use crate::scene::Scene;
 use cm_bits::doubles::{Bytes, Room};
@@ -22,34 +23,12 @@ pub(crate) enum What {
     Refusal(u8, Option<u64>),
 }
 
-/// In what pieces bytes come and go, after how many reading fails, and for how many there is room.
-#[derive(Clone, Copy)]
-struct Ends {
-    piece: usize,
-    read: usize,
-    room: usize,
-    /// A full sink takes nothing in place of failing.
-    takes_nothing: bool,
-}
-
 /// What was written, how it ended, and with which fault of the program.
 #[derive(Drop)]
 struct Played {
     written: Room,
     end: String,
     fault: Option<ProgramFault>,
-}
-
-impl Ends {
-    fn sink(&self, alloc: Global) -> Result<Room, AllocError>
-        ensures working { IfOk result (λ sink. room_has_failed sink ≡ false) }
-    {
-        if self.takes_nothing {
-            Room::taking_nothing(alloc, self.room, self.piece)
-        } else {
-            Room::new(alloc, self.room, self.piece)
-        }
-    }
 }
 
 impl What {
@@ -73,7 +52,7 @@ impl What {
 
     /// What comes of the text.
     fn play(self, alloc: Global, text: &[u8], ends: Ends) -> Result<Played, AllocError> {
-        let mut source = Bytes::failing(text, ends.piece, ends.read);
+        let mut source = ends.source(text);
         let mut sink = ends.sink(alloc)?;
         let (end, fault) = self.end_of(alloc, &mut source, &mut sink)?;
         Ok(Played {
@@ -140,13 +119,7 @@ pub(crate) fn tell_end(
     scene: &Scene,
     told: &mut Vec<u8>,
 ) -> Result<(), AllocError> {
-    let ends = Ends {
-        piece: scene.piece as usize,
-        read: scene.read as usize,
-        room: scene.written.min(1048576) as usize,
-        takes_nothing: scene.takes_nothing,
-    };
-    let played = what.play(alloc, scene.program.as_slice(), ends)?;
+    let played = what.play(alloc, scene.program.as_slice(), scene.ends)?;
     told.extend_from_slice(played.written.taken())?;
     tell(told, format!(in alloc; "= {}", played.end)?.as_bytes())?;
     match played.fault {
@@ -180,13 +153,6 @@ pub(crate) fn tell_line(alloc: Global, line: &[u8], told: &mut Vec<u8>) -> Resul
         Err(fault) => tell_fault(alloc, ProgramFault::from(fault), told),
     }
 }
-
-const WHOLE: Ends = Ends {
-    piece: 4096,
-    read: usize::MAX,
-    room: 65536,
-    takes_nothing: false,
-};
 
 /// Tells how many of these come out as they should, one after another: the text in pieces of 1 to 19 bytes, as it does
 /// whole; room for 0, 1 and more bytes of what is written whole, as its front; reading that fails after 0, 1 and more

@@ -1,0 +1,180 @@
+//! Growths of memory that are refused: of machines, of what they are made of, and while one goes.
+
+use cm_array::{BuildFault, Builder, Machine, MachineFault, Plain, Runner};
+use cm_bits::{Edge, FlagNo, NoMemory};
+use cm_draws::{Call, Draws, are_same, first_not_so, poke_plane, put_messages, sends_or_stays};
+use cm_model::Act;
+use cm_router::{Cuts, Routing};
+use std::alloc::Global;
+
+/// What takes memory.
+#[derive(Clone, Copy, Debug, PartialEq, Eq)]
+enum Grown {
+    Cuts,
+    CopiedCuts,
+    Routing,
+    Blank,
+    Copied,
+    Part,
+    LogsAside,
+    Built,
+    Run,
+}
+
+static GROWN: [Grown; 9] = [
+    Grown::Cuts,
+    Grown::CopiedCuts,
+    Grown::Routing,
+    Grown::Blank,
+    Grown::Copied,
+    Grown::Part,
+    Grown::LogsAside,
+    Grown::Built,
+    Grown::Run,
+];
+
+impl Call for Grown {
+    fn is_so(&self, alloc: Global) -> Option<bool> {
+        match self {
+            Grown::Cuts => Some(has_blank_cuts(alloc)),
+            Grown::CopiedCuts => has_copied_cuts(alloc),
+            Grown::Routing => has_copied_routing(alloc),
+            Grown::Blank => Some(has_blank_machine(alloc)),
+            Grown::Copied => has_copy(alloc),
+            Grown::Part => has_part(alloc),
+            Grown::LogsAside => has_logs_aside(alloc),
+            Grown::Built => Some(is_built(alloc)),
+            Grown::Run => sends_or_stays(&mut Plain, alloc),
+        }
+    }
+}
+
+// ---- routing
+
+fn has_blank_cuts(alloc: Global) -> bool {
+    let made = match Cuts::blank(alloc, 4) {
+        Err(NoMemory) => Cuts::blank(alloc, 4),
+        made => made,
+    };
+    match made {
+        Ok(cuts) => cuts.edges().is_empty(),
+        Err(_) => false,
+    }
+}
+
+/// Of a cube of four dimensions the wire of chip 7 over dimension 3.
+fn one_cut(alloc: Global) -> Option<Cuts> {
+    let mut cuts = Cuts::blank(alloc, 4).ok()?;
+    cuts.add(Edge::new(7, 3)?);
+    Some(cuts)
+}
+
+fn has_copied_cuts(alloc: Global) -> Option<bool> {
+    let cuts = one_cut(alloc)?;
+    let made = match cuts.copy() {
+        Err(NoMemory) => cuts.copy(),
+        made => made,
+    };
+    match made {
+        Ok(copy) => Some(copy.edges() == cuts.edges()),
+        Err(_) => Some(false),
+    }
+}
+
+fn has_copied_routing(alloc: Global) -> Option<bool> {
+    let routing = match Routing::plain(alloc, 4) {
+        Err(NoMemory) => Routing::plain(alloc, 4),
+        made => made,
+    };
+    let Ok(routing) = routing else {
+        return Some(false);
+    };
+    let made = match routing.copy() {
+        Err(NoMemory) => routing.copy(),
+        made => made,
+    };
+    Some(made.is_ok())
+}
+
+// ---- machines
+
+/// Sixteen chips, of which eight processors asked to send, two petit cycles later.
+fn busy(alloc: Global) -> Option<Machine<4, 7>> {
+    let mut machine = Machine::<4, 7>::blank(alloc).ok()?;
+    poke_plane(&mut machine, 0, FlagNo::SEND, 0x00ff);
+    Plain.go(&mut machine, &[Act::Cycle, Act::Cycle]).ok()?;
+    Some(machine)
+}
+
+fn has_blank_machine(alloc: Global) -> bool {
+    let made = match Machine::<4, 7>::blank(alloc) {
+        Err(MachineFault::Memory) => Machine::blank(alloc),
+        made => made,
+    };
+    match made {
+        Ok(machine) => machine.clock() == 0 && machine.buffer(15).is_empty(),
+        Err(_) => false,
+    }
+}
+
+fn has_copy(alloc: Global) -> Option<bool> {
+    let machine = busy(alloc)?;
+    let made = match machine.copy(alloc) {
+        Err(NoMemory) => machine.copy(alloc),
+        made => made,
+    };
+    match made {
+        Ok(copy) => Some(are_same(&copy, &machine, 16)),
+        Err(_) => Some(false),
+    }
+}
+
+fn has_part(alloc: Global) -> Option<bool> {
+    let machine = busy(alloc)?;
+    let made = match machine.part(alloc, 0, 8, 2) {
+        Err(NoMemory) => machine.part(alloc, 0, 8, 2),
+        made => made,
+    };
+    match made {
+        Ok(part) => Some(part.chips() == 8 && part.clock() == 2 && part.log(0) == machine.log(0)),
+        Err(_) => Some(false),
+    }
+}
+
+fn has_logs_aside(alloc: Global) -> Option<bool> {
+    let mut machine = busy(alloc)?;
+    let before = machine.copy(alloc).ok()?;
+    if machine.set_logs_aside(alloc, 2).is_ok() {
+        return Some(machine.log(0).is_empty() && !before.log(0).is_empty());
+    }
+    let is_kept = are_same(&machine, &before, 16);
+    Some(is_kept && machine.set_logs_aside(alloc, 2).is_ok())
+}
+
+/// A machine with messages; or else whether want of memory is told.
+fn built(alloc: Global) -> Result<Machine<1, 7>, bool> {
+    let mut builder = match Builder::<1, 7>::start(alloc, 5) {
+        Ok(builder) => builder,
+        Err(fault) => return Err(fault == MachineFault::Memory),
+    };
+    let mut draws = Draws::new(7);
+    put_messages(&mut builder, &mut draws, 0, 2, 6);
+    put_messages(&mut builder, &mut draws, 1, 2, 6);
+    match builder.done() {
+        Ok(machine) => Ok(machine),
+        Err(fault) => Err(fault == BuildFault::Memory),
+    }
+}
+
+fn is_built(alloc: Global) -> bool {
+    match built(alloc) {
+        Ok(machine) => machine.clock() == 5,
+        Err(wants_memory) => wants_memory && built(alloc).is_ok(),
+    }
+}
+
+// `.ci/refusals` refuses each growth in turn.
+#[test]
+fn a_refused_growth_leaves_all_as_it_was(rt: HostRuntime) {
+    assert_eq!(rt; first_not_so(rt.alloc(), &GROWN), None);
+}
