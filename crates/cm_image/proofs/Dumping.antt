@@ -78,7 +78,7 @@ flags_more chip text before after n plane is more same =
 abbrev plane_entry : List Processor → ℕ → Listed
 plane_entry chip address = record { at = address; plane = memory_plane_of chip address }
 
-planes_more : (chip : List Processor) (n : ℕ)
+pub planes_more : (chip : List Processor) (n : ℕ)
     → planes_below chip (n + 1)
     ≡ planes_below chip n ++ cond (not (memory_plane_of chip n == 0)) (plane_entry chip n ∷ []) []
 unfolding planes_below each_from

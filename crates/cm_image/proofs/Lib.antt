@@ -9,3 +9,4 @@ mod Dumping
 mod Listing
 mod Lengths
 mod Counting
+mod Blanks

@@ -35,7 +35,7 @@ const FLAGS: u8 = 16;
 
 const HEADER_LEN: usize = 16;
 
-const BLANK_CHIP_LEN: usize = 35;
+pub(crate) const BLANK_CHIP_LEN: usize = 35;
 
 const LISTED_LEN: usize = 4;
 
@@ -222,14 +222,14 @@ fn push_u32(text: &mut Vec<u8>, n: u32) -> Result<(), NoMemory>
 }
 
 #[tactic(auto, unfolding(cm_message::specs::Bytes::number))]
-fn push_u64(text: &mut Vec<u8>, n: u64) -> Result<(), NoMemory>
+pub(crate) fn push_u64(text: &mut Vec<u8>, n: u64) -> Result<(), NoMemory>
     ensures ok { OnOk result (text.new.items ≡ text.old.items ++ number w64 n) }
 {
     push(text, &n.to_be_bytes())
 }
 
 /// Magic, version, dimension, room, rule.
-fn push_head(
+pub(crate) fn push_head(
     text: &mut Vec<u8>,
     version: u8,
     n: usize,

@@ -1,6 +1,7 @@
 //! Images of machines: reading and writing their bytes.
 #![tactic(auto)]
 
+mod blank;
 mod chips;
 mod counts;
 mod cuts;
@@ -12,6 +13,7 @@ mod messages;
 mod numbers;
 mod tile;
 
+pub use blank::blank_image;
 pub use cm_image_format::ImageFault;
 pub use dumps::dump;
 pub use header::shape;
