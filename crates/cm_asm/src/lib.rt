@@ -12,7 +12,8 @@ mod statements;
 
 pub use assembler::assemble;
 pub use cm_language::{AsmFault, AsmKind};
-pub use operands::read_nano;
+pub use listings::push_act_line;
+pub use operands::{read_direction, read_nano};
 pub use program::Program;
-pub use reader::Reader;
+pub use reader::{Reader, is_name};
 pub use statements::verb_of;

@@ -53,7 +53,8 @@ fn push_field(text: &mut Vec<u8>, name: &[u8], field: &Field) -> Result<(), Allo
     Ok(())
 }
 
-fn push_act_line(text: &mut Vec<u8>, index: usize, act: &Act) -> Result<(), AllocError>
+/// The line of an act, with a number as a comment.
+pub fn push_act_line(text: &mut Vec<u8>, index: usize, act: &Act) -> Result<(), AllocError>
     ensures ok { OnOk result (text.new.items ≡ text.old.items ++ act_line index act.now) }
 {
     push_act(text, act)?;

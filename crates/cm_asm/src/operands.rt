@@ -172,7 +172,8 @@ fn read_below(word: &[u8], limit: u64) -> Result<u64, AsmKind>
     }
 }
 
-fn read_direction(word: &[u8]) -> Result<Dir, AsmKind>
+/// n, e, w or s.
+pub fn read_direction(word: &[u8]) -> Result<Dir, AsmKind>
     ensures value { result ≡ direction_of word.now }
     ensures own { IfErr result IsOwnFault }
 {

@@ -4,7 +4,7 @@ ghost use Rattle.std.specs.Prelude.{◌≡◌, ◌∷◌, [], Ok, OnOk, Err, OnE
 ghost use Rattle.cm_bits.specs.Text.{words_left, words_of};
 ghost use Rattle.cm_language.specs.Program.{Reading, nothing_read, after_words, after_statement, after_definition};
 ghost use Rattle.cm_language.specs.Program.{with_acts, with_macro, within_length, MOST_ACTS, IsLineFault};
-ghost use Rattle.cm_language.specs.Names.{is_name, is_name_byte};
+ghost use Rattle.cm_language.specs.Names.{is_name, is_name_byte, field_named};
 ghost use Rattle.std.specs.List.{list_all};
 ghost use Rattle.cm_language.specs.Faults.{first_fault};
 
@@ -161,6 +161,23 @@ impl Reader {
         }
     }
 
+    /// These acts come next, whatever the context.
+    #[tactic(auto, using(crate::proofs::Reading::told_growth))]
+    pub fn add_acts(&mut self, acts: &[Act]) -> Result<(), AsmKind>
+        ensures ok { OnOk result (with_acts self.old acts.now ≡ Ok self.new) }
+        ensures fault { IfErr result (IsLineFault self.old (with_acts self.old acts.now)) }
+        ensures fields { OnErr result (self.new.fields ≡ self.old.fields) }
+        ensures context { OnErr result (self.new.context ≡ self.old.context) }
+    {
+        if acts.is_empty() {
+            return self.check_length();
+        }
+        match self.acts.extend_from_slice(acts) {
+            Ok(()) => self.check_length(),
+            Err(_) => Err(self.refused_growth(acts.len())),
+        }
+    }
+
     /// Why so many acts more are refused where memory is wanting: a program that would be too long is told so.
     fn refused_growth(&self, count: usize) -> AsmKind
         ensures { result
@@ -181,6 +198,20 @@ impl Reader {
         } else {
             Ok(())
         }
+    }
+
+    /// The field of a name.
+    pub fn find(&self, name: &[u8]) -> Option<Field>
+        ensures value { result ≡ field_named self.now.fields name.now }
+    {
+        self.fields.find(name)
+    }
+
+    /// The context of the macros that follow.
+    pub fn context(&self) -> Context
+        ensures value { result ≡ self.now.context }
+    {
+        self.context
     }
 
     /// The acts of the lines that were read, from the first that was not forgotten.
@@ -207,7 +238,7 @@ impl Reader {
 }
 
 /// A letter, and then letters, digits and `_`.
-fn is_name(word: &[u8]) -> bool
+pub fn is_name(word: &[u8]) -> bool
     ensures { result ≡ is_name word.now }
 {
     match word {

@@ -7,5 +7,6 @@ mod fits;
 mod product;
 mod pushes;
 
+pub use acts::{Tables, address, carry, clear_flag, nano, zero};
 pub use cm_language::{Context, Macro, MacroFault};
 pub use expansion::{count_acts, expand};

@@ -1,0 +1,5 @@
+pub mod Bitwise
+pub mod Numbered
+pub mod Fetched
+pub mod AllPhrases
+pub mod LeftAlone

@@ -1,0 +1,88 @@
+-- The acts of a phrase, bit by bit: ours.
+use Rattle.std.specs.Prelude.{ℕ, ◌+◌, List, [], ◌∷◌, map, if◌then◌else◌}
+use Rattle.std.specs.List.{flat_map, range_with_len}
+use Rattle.cm_bits.specs.Bit.{bit}
+use Rattle.cm_bits.specs.Span.{Span}
+use Rattle.cm_bits.specs.declared.plane.Dir.{Dir}
+use Rattle.cm_bits.specs.declared.plane.Dir.TheVariants.{North}
+use Rattle.cm_model.specs.declared.act.Nano.{Nano}
+use Rattle.cm_model.specs.declared.act.Act.{Act}
+use Rattle.cm_model.specs.declared.act.Act.TheVariants as act
+use Rattle.cm_model.specs.Processor.{ZERO, NEWS, DAISY}
+use Rattle.cm_model.specs.Each.{each_from}
+use Rattle.cm_language.specs.declared.macros.Context.{Context}
+use Rattle.cm_language.specs.Effect.{CARRY}
+use Rattle.cm_language.specs.Acts.{TABLE_OF_A, TABLE_OF_F, ALWAYS_0, nano, clear_flag, each_bit}
+use Rattle.cm_phrases.specs.declared.phrase.Phrase.{Phrase}
+use Rattle.cm_phrases.specs.declared.phrase.Phrase.TheVariants.{News, Chain, And, Or, Xor, Not, AddNumber}
+
+-- ---- truth tables, by the number of their byte
+
+abbrev pub A_AND_B : ℕ
+A_AND_B = 0xc0
+
+abbrev pub A_OR_B : ℕ
+A_OR_B = 0xfc
+
+abbrev pub A_XOR_B : ℕ
+A_XOR_B = 0x3c
+
+abbrev pub NOT_A : ℕ
+NOT_A = 0x0f
+
+-- A + 0 + F: the sum's bit, and its carry
+abbrev pub SUM_WITH_0 : ℕ
+SUM_WITH_0 = 0x5a
+
+abbrev pub CARRY_WITH_0 : ℕ
+CARRY_WITH_0 = 0xa0
+
+-- A + 1 + F: the sum's bit, and its carry
+abbrev pub SUM_WITH_1 : ℕ
+SUM_WITH_1 = 0xa5
+
+abbrev pub CARRY_WITH_1 : ℕ
+CARRY_WITH_1 = 0xfa
+
+-- ---- a field from another processor
+
+-- into a flag the bit at this address of the processor that sends here: memory stays as it is
+abbrev pub fetch : Context → ℕ → Dir → ℕ → Nano
+fetch context flag dir address =
+    record (nano context address address ZERO flag TABLE_OF_A TABLE_OF_A) { dir = dir }
+
+-- a flag into the memory bit of this address
+abbrev pub keep : Context → ℕ → ℕ → Nano
+keep context flag address = nano context address address flag ZERO TABLE_OF_F ALWAYS_0
+
+-- both for a bit of a field d, from s
+abbrev pub fetch_bit : Context → ℕ → Dir → Span → Span → ℕ → List Nano
+fetch_bit context flag dir d s i = fetch context flag dir (s.at + i) ∷ keep context flag (d.at + i) ∷ []
+
+-- for each bit, from the lowest up
+abbrev pub fetch_all : Context → ℕ → Dir → Span → Span → List Nano
+fetch_all context flag dir d s = flat_map (fetch_bit context flag dir d s) (range_with_len 0 d.len)
+
+-- ---- a number
+
+-- to a bit of a field, and flag 7, a bit of the number is added
+abbrev pub add_bit : Context → Span → ℕ → ℕ → Nano
+add_bit context d v i =
+    nano context (d.at + i) (d.at + i) CARRY CARRY (if bit v i then SUM_WITH_1 else SUM_WITH_0)
+    (if bit v i then CARRY_WITH_1 else CARRY_WITH_0)
+
+-- ---- all
+
+-- the instructions of a phrase
+abbrev pub nanos : Phrase → Context → List Nano
+nanos (News d s dir) c = fetch_all c NEWS dir d s
+nanos (Chain d s) c = fetch_all c DAISY North d s
+nanos (And d s) c = each_bit c d s ZERO ZERO A_AND_B ALWAYS_0
+nanos (Or d s) c = each_bit c d s ZERO ZERO A_OR_B ALWAYS_0
+nanos (Xor d s) c = each_bit c d s ZERO ZERO A_XOR_B ALWAYS_0
+nanos (Not d) c = each_bit c d d ZERO ZERO NOT_A ALWAYS_0
+nanos (AddNumber d v) c = clear_flag c CARRY ∷ each_from 0 d.len (add_bit c d v)
+
+-- the acts of a phrase under a context
+abbrev pub acts_of : Phrase → Context → List Act
+acts_of phrase context = map act.Nano (nanos phrase context)

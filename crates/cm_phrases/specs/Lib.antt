@@ -1,0 +1,4 @@
+pub mod Effect
+pub mod Acts
+pub mod Faults
+pub mod Laws
