@@ -35,6 +35,10 @@ const MOST_PLACES: usize = 65535;
 /// Most messages that a chip takes in at once.
 const MOST_INJECTED: usize = 4;
 
+/// So many dimensions, a petit cycle of the largest machine, are crossed chip by chip before the row is put in the order
+/// of age: this takes twice as long, and a list that ends before has no use for it.
+const PATIENCE: u8 = 12;
+
 /// The messages of a run of chips, for as long as these live (ours). A message stays where it is kept; what
 /// crosses is a ticket, the relative address and the place of the message. Where its chip's messages are to
 /// be read as one slice, and where places run out, all are gathered into a second row, which takes the
@@ -55,8 +59,9 @@ pub struct Crossing {
     gathered: bool,
     /// How many of the row's first messages are known to stand in the order of age.
     risen: usize,
-    /// Whether the row was put in that order since it was made. It is not tried again: tags that are equal have none.
-    ranked: bool,
+    /// How many dimensions were crossed since the row was made while it was not in that order; past the patience, that
+    /// it was put in order, or that it cannot be.
+    waited: u8,
     /// Room for what the messages' numbers are sorted by.
     keys: Vec<u128>,
     /// Room for where each message goes when they are put in order.
@@ -103,7 +108,7 @@ impl Crossing {
             leavers,
             gathered: true,
             risen: 0,
-            ranked: false,
+            waited: 0,
             keys,
             moved,
         })
@@ -128,7 +133,7 @@ impl Crossing {
             leavers,
             gathered: self.gathered,
             risen: 0,
-            ranked: false,
+            waited: 0,
             keys,
             moved,
         })
@@ -196,7 +201,7 @@ impl Crossing {
         mem::swap(&mut self.row, &mut self.spare);
         self.gathered = true;
         self.risen = 0;
-        self.ranked = false;
+        self.waited = 0;
     }
 
     /// Makes places for all that a chip takes in at once.
@@ -218,7 +223,7 @@ impl Crossing {
         self.slots.clear();
         self.gathered = true;
         self.risen = 0;
-        self.ranked = false;
+        self.waited = 0;
     }
 
     /// A message comes to stand last at a chip.
@@ -328,15 +333,17 @@ impl Crossing {
         self.cross_in_order(sizes, routing, first, dim);
     }
 
-    /// Puts the row in the order of age, if it is not.
+    /// Puts the row in the order of age, if it is not, and if it pays.
     fn rank(&mut self)
         ensures value { self.new.buffers ≡ self.old.buffers }
     {
         self.look_at_order();
-        if self.risen < self.row.len() && !self.ranked {
-            self.ranked = true;
-            self.rank_anew();
-            self.look_at_order();
+        if self.risen < self.row.len() && self.waited <= PATIENCE {
+            self.waited += 1;
+            if self.waited > PATIENCE {
+                self.rank_anew();
+                self.look_at_order();
+            }
         }
     }
 
