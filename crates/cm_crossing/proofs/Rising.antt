@@ -1,31 +1,30 @@
 -- The order of age in the row: lower numbers are those of older messages; and messages that move into it.
-use Rattle.std.proofs.Common.{◌≡◌, ◌≢◌, ◌⊎◌, ℕ, zero, suc, ◌+◌, ◌-◌, ◌^◌, ◌<◌, ◌≤◌, ◌++◌, ◌==◌, ◌&&◌, Bool, true, false, not}
+use Rattle.std.proofs.Common.{◌≡◌, ◌≢◌, ◌⊎◌, ℕ, zero, suc, ◌+◌, ◌-◌, ◌^◌, ◌<◌, ◌≤◌, ◌++◌, true, false}
 use Rattle.std.proofs.Common.{List, [], ◌∷◌, length, map, get_or, Option, Some, None, refl, sym, ap, ◌∙◌, ⊎_elim, arith}
 use Rattle.std.specs.Prelude.{nat_lt, bit_xor}
 use Rattle.std.specs.List.{All}
 use Rattle.std.specs.Option.{option_map}
 use Rattle.std.proofs.lemmas.Bool.{cases_eq, cases_lt, lt-ltb, le-ltb}
 use Rattle.std.proofs.lemmas.Bool.Decides.{nat_tests}
-use Rattle.std.proofs.lemmas.List.{length-map, get_or_append_left, get_or-map, length-append}
+use Rattle.std.proofs.lemmas.List.{length-map, get_or_append_left, length-append}
 use Rattle.std.proofs.lemmas.List.Elements.{All-tail, All-cons}
 use Rattle.cm_model.specs.declared.message.Message.{Message}
 use Rattle.cm_model.specs.declared.message.Tag.{Tag}
 use Rattle.cm_model.specs.declared.rule.Rule.TheVariants.{Oldest}
 use Rattle.cm_model.specs.Array.{each_chip, list_at}
 use Rattle.cm_model.specs.Wiring.{Routing, Way, way_of}
-use Rattle.cm_model.specs.Router.{is_older, has_to_cross}
-use Rattle.cm_model.specs.Buffers.{element_at, one_behind, is_older_one, is_older_or_none, oldest_place, youngest_place}
-use Rattle.cm_model.specs.Buffers.{leaving_place, without}
+use Rattle.cm_model.specs.Router.{is_older}
+use Rattle.cm_model.specs.Buffers.{element_at, is_older_one, is_older_or_none, oldest_place, youngest_place}
+use Rattle.cm_model.specs.Buffers.{leaving_place}
 use Rattle.cm_model.proofs.Each.{same_each_below}
 use Rattle.cm_model.proofs.Leaving.{element_at-map}
 use Rattle.cm_model.proofs.Preferring.{older_itself, not_both_older}
 use Rattle.cm_slots.specs.declared.ticket.Ticket.{Ticket}
-use Rattle.cm_slots.specs.Tickets.{ticket_across, has_to_go}
 use Rattle.cm_slots.specs.Choice.{is_lower_one, is_lower_or_none, lowest_place, highest_place, exchanged_by_number}
 use Rattle.cm_crossing.specs.Standing.{no_message, message_of, standing, all_standing, AreKept, IsKept}
 use Rattle.cm_crossing.specs.Standing.{tag_at, AreRising}
 use Rattle.cm_crossing.specs.Ranking.{moved_ticket, HaveMoved}
-use Rattle.cm_crossing.specs.Routed.{place_leaving, tickets_crossed}
+use Rattle.cm_crossing.specs.Routed.{tickets_crossed}
 use Rattle.cm_crossing.proofs.Carrying.{all_at}
 
 -- ---- the order of age
@@ -101,18 +100,24 @@ module _ (row : List Message) (rising : AreRising row (length row)) where
   lowest_is_oldest d [] kept = refl
   lowest_is_oldest d (t ∷ ts) kept =
       let rest : AreKept (length row) ts = All-tail (λ (x : Ticket). x.number < length row) t ts kept in
-      rw (lowest_is_oldest d ts rest, element_at-map (message_of row) ts (lowest_place d ts),
+      rw (
+        lowest_is_oldest d ts rest,
+        element_at-map (message_of row) ts (lowest_place d ts),
         one_lower t (element_at ts (lowest_place d ts)) (kept 0 t (omega arith))
-            (element_kept ts (lowest_place d ts) rest)) refl
+            (element_kept ts (lowest_place d ts) rest),
+      ) refl
 
   highest_is_youngest : (ts : List Ticket) → AreKept (length row) ts
       → youngest_place (standing row ts) ≡ highest_place ts
   highest_is_youngest [] kept = refl
   highest_is_youngest (t ∷ ts) kept =
       let rest : AreKept (length row) ts = All-tail (λ (x : Ticket). x.number < length row) t ts kept in
-      rw (highest_is_youngest ts rest, element_at-map (message_of row) ts (highest_place ts),
+      rw (
+        highest_is_youngest ts rest,
+        element_at-map (message_of row) ts (highest_place ts),
         one_lower_or_none t (element_at ts (highest_place ts)) (kept 0 t (omega arith))
-            (element_kept ts (highest_place ts) rest)) refl
+            (element_kept ts (highest_place ts) rest),
+      ) refl
 
   abbrev pub oldest_way : Way
   oldest_way = record { cut = false; rule = Oldest }
@@ -137,7 +142,7 @@ module _ (row : List Message) (rising : AreRising row (length row)) where
       (list_at old c) (list_at old (bit_xor c (2 ^ d))))
   all_crossed_by_number routing room d first span old kept ways =
       let kept_at : (c : ℕ) → AreKept (length row) (list_at old c) = λ c.
-          all_at (AreKept (length row)) (λ k e l. absurd (omega (arith, l))) old c kept in
+      all_at (AreKept (length row)) (λ k e l. absurd (omega (arith, l))) old c kept in
       same_each_below [] (2 ^ span)
       (λ c. exchanged_by_number room d (list_at old c) (list_at old (bit_xor c (2 ^ d))))
       (λ c. tickets_crossed row (way_of routing (first + c) d) room d (list_at old c) (list_at old (bit_xor c (2 ^ d))))

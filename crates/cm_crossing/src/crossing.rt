@@ -36,7 +36,7 @@ const MOST_PLACES: usize = 65535;
 const MOST_INJECTED: usize = 4;
 
 /// So many dimensions, a petit cycle of the largest machine, are crossed chip by chip before the row is put in the order
-/// of age: this takes about as long, and a list that ends before has no use for it.
+/// of age: this takes twice as long, and a list that ends before has no use for it.
 const PATIENCE: u8 = 12;
 
 /// The messages of a run of chips, for as long as these live (ours). A message stays where it is kept; what

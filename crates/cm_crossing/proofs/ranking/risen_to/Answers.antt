@@ -1,4 +1,3 @@
-use Rattle.std.proofs.Common.{refl}
 use Rattle.cm_crossing.proofs.Rising.{rising_more}
 use Rattle.cm_crossing.proofs.ranking.risen_to.Goals as goal
 
