@@ -1,0 +1,4 @@
+pub mod Named
+pub mod Laying
+pub mod Writing
+pub mod Pushing

@@ -1,0 +1,95 @@
+//! Why a phrase is refused.
+
+ghost use Rattle.std.specs.Prelude.{◌≡◌, ◌^◌, not, nat_le};
+ghost use Rattle.cm_bits.specs.Field.{meeting};
+ghost use Rattle.cm_language.specs.Faults.{is_partly, lengths_differ};
+ghost use Rattle.cm_phrases.specs.Faults.{overlaps, misfits, writes, writes_condition, first_fault};
+
+use cm_bits::{Field, FlagNo, Meets};
+use cm_language::{Context, MacroFault};
+use cm_phrases::Phrase;
+
+const CARRY_FLAG: u8 = 7;
+
+const NEWS_FLAG: u8 = 10;
+
+const DAISY_FLAG: u8 = 11;
+
+/// The first cause to refuse a phrase under a context.
+pub fn fault_of(wanted: &Phrase, context: &Context) -> Option<MacroFault>
+    ensures value { result ≡ first_fault wanted.now context.now }
+{
+    if overlaps(wanted) {
+        Some(MacroFault::Overlap)
+    } else if misfits(wanted) {
+        Some(MacroFault::Lengths)
+    } else if writes_condition(wanted, context) {
+        Some(MacroFault::Scratch)
+    } else {
+        None
+    }
+}
+
+fn overlaps(wanted: &Phrase) -> bool
+    ensures value { result ≡ overlaps wanted.now }
+{
+    match *wanted {
+        Phrase::News(d, s, _) | Phrase::Chain(d, s) => meet_partly(d, s),
+        Phrase::And(d, s) | Phrase::Or(d, s) | Phrase::Xor(d, s) => meet_partly(d, s),
+        Phrase::Not(_) | Phrase::AddNumber(_, _) => false,
+    }
+}
+
+fn misfits(wanted: &Phrase) -> bool
+    ensures value { result ≡ misfits wanted.now }
+{
+    match *wanted {
+        Phrase::News(d, s, _) | Phrase::Chain(d, s) => lengths_differ(d, s),
+        Phrase::And(d, s) | Phrase::Or(d, s) | Phrase::Xor(d, s) => lengths_differ(d, s),
+        Phrase::AddNumber(d, v) => !holds(d, v),
+        Phrase::Not(_) => false,
+    }
+}
+
+fn writes_condition(wanted: &Phrase, context: &Context) -> bool
+    ensures value { result ≡ writes_condition wanted.now context.now }
+{
+    match *context {
+        Context::Always => false,
+        Context::On(flag) | Context::Off(flag) => writes(wanted, flag),
+    }
+}
+
+fn writes(wanted: &Phrase, flag: FlagNo) -> bool
+    ensures value { result ≡ writes wanted.now flag }
+{
+    match *wanted {
+        Phrase::News(_, _, _) => flag.get() == NEWS_FLAG,
+        Phrase::Chain(_, _) => flag.get() == DAISY_FLAG,
+        Phrase::AddNumber(_, _) => flag.get() == CARRY_FLAG,
+        Phrase::And(_, _) | Phrase::Or(_, _) | Phrase::Xor(_, _) | Phrase::Not(_) => false,
+    }
+}
+
+fn lengths_differ(a: Field, b: Field) -> bool
+    ensures value { result ≡ lengths_differ a b }
+{
+    a.len() != b.len()
+}
+
+fn meet_partly(a: Field, b: Field) -> bool
+    ensures value { result ≡ is_partly (meeting a b) }
+{
+    match a.meets(&b) {
+        Meets::Partly => true,
+        Meets::Same | Meets::Apart => false,
+    }
+}
+
+/// The number has no bit above those of the field.
+fn holds(field: Field, number: u64) -> bool
+    ensures value { result ≡ not (nat_le (2 ^ field.len) number) }
+{
+    let len = field.len();
+    len == 64 || number >> len == 0
+}

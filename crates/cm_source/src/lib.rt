@@ -1,0 +1,18 @@
+//! Sources: programs with constants, lines that are repeated, and phrases. `expand` turns one into a text of
+//! the program language.
+#![tactic(auto)]
+
+mod acts;
+mod constants;
+mod expanding;
+mod expansion;
+mod fault;
+mod fits;
+mod layout;
+mod plain;
+mod says;
+mod verb;
+
+pub use cm_language::AsmKind;
+pub use expansion::expand;
+pub use fault::{SourceFault, SourceKind};
