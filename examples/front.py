@@ -1,5 +1,5 @@
-"""A front end's wires to the machine: lines go to `cm1lab front`, and its answers come back (docs/LABORATORY.md, "A front
-end"). The front ends of the gallery import it. `cm1lab` has to be on the path.
+"""A front end's wires to the machine: lines go to `cm1lab front`, and its answers come back (docs/LABORATORY.md, "A
+front end"). The front ends of the gallery import it. `cm1lab` has to be on the path.
 """
 import subprocess
 
@@ -16,13 +16,19 @@ class Machine:
         lines = [line for line in text.splitlines() if line.partition(";")[0].strip()]
         answers = []
         for at in range(0, len(lines), 1000):                        # never more than the wires hold
-            self.front.stdin.write("\n".join(lines[at:at + 1000]) + "\n")
-            self.front.stdin.flush()
+            self.send("\n".join(lines[at:at + 1000]) + "\n")
             for line in lines[at:at + 1000]:
                 answers.append(self.front.stdout.readline().strip())
                 if not answers[-1] or answers[-1].startswith("?"):
-                    raise SystemExit(f"{line}: {answers[-1]}")
+                    raise SystemExit(f"{line.strip()}: {answers[-1] or 'no answer'}")
         return answers
+
+    def send(self, text):
+        try:
+            self.front.stdin.write(text)
+            self.front.stdin.flush()
+        except BrokenPipeError:                                      # it has ended, and has told why
+            raise SystemExit(1)
 
     def wire(self):
         """Whether flag 9, GLOBAL, is 1 in any processor."""
@@ -32,6 +38,9 @@ class Machine:
         return self
 
     def __exit__(self, *fault):
-        self.front.stdin.close()
+        try:
+            self.front.stdin.close()
+        except BrokenPipeError:
+            pass
         if self.front.wait() and not any(fault):
-            raise SystemExit("cm1lab front failed")
+            raise SystemExit(1)

@@ -1,5 +1,6 @@
-"""Prints a gas in 256 by 256 processors, row by row, four bits each: `python3 board.py DRAWING`. Where the drawing has a #, sixteen
-by sixteen places have particles, each of the four directions with even chance; there are none elsewhere. The same each time.
+"""Prints a gas in 256 by 256 processors, row by row, four bits each: `python3 board.py DRAWING`. Where the drawing
+has a #, sixteen by sixteen places have particles, each of the four directions with even chance; there are none
+elsewhere. The same each time.
 """
 import random
 import sys

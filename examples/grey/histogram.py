@@ -1,5 +1,5 @@
-"""Counts how often each grey occurs: `python3 histogram.py IMAGE OUT`. Each processor sends a message to the one that counts its grey:
-for grey g that is processor 0 of chip 16 * g.
+"""Counts how often each grey occurs: `python3 histogram.py IMAGE OUT`. Each processor sends a message to the one that
+counts its grey: for grey g that is processor 0 of chip 16 * g.
 """
 import sys
 
@@ -19,7 +19,8 @@ with front.Machine(*sys.argv[1:3]) as machine:
         const place 0
         const rel 0
         move reltop dot""")
-    machine.ask("\n".join(f"nano {3968 + bit} {84 + bit} 8 8 8 0 0x3c 0x00 n" for bit in range(12)))    # xor the own chip
+    # rel := rel xor one's own chip
+    machine.ask("\n".join(f"nano {3968 + bit} {84 + bit} 8 8 8 0 0x3c 0x00 n" for bit in range(12)))
     machine.ask("set 12")
     cycles = quiet = 0
     while quiet < 3:

@@ -19,4 +19,5 @@ def light(row, column):
 
 print("P2\n256 256\n255")
 for row in range(256):
-    print(" ".join(str(max(0, min(255, int(255 * light(row, column) + 40 * (random.random() - 0.5))))) for column in range(256)))
+    dots = [int(255 * light(row, column) + 40 * (random.random() - 0.5)) for column in range(256)]
+    print(*(max(0, min(255, dot)) for dot in dots))

@@ -1,5 +1,5 @@
-"""Prints a board of 256 by 256 cells as a picture (PBM): `python3 board.py DRAWING` puts the drawing near its north-west
-corner.
+"""Prints a board of 256 by 256 cells as a picture (PBM): `python3 board.py DRAWING` puts the drawing near its
+north-west corner.
 """
 import sys
 

@@ -1,5 +1,5 @@
-"""Prints a coordinate of the point of each of 256 by 256 processors, row by row: `python3 points.py x` or `y`. Numbers have 32
-bits, of which twelve are behind the point; those below 0 are told as 2^32 more.
+"""Prints a coordinate of the point of each of 256 by 256 processors, row by row: `python3 points.py x` or `y`.
+Numbers have 32 bits, of which twelve are behind the point; those below 0 are told as 2^32 more.
 """
 import sys
 

@@ -1,5 +1,5 @@
-"""The maze's front end: `python3 flood.py IMAGE OUT`. The water rises from the north-west corner until the wire tells that it is in
-the south-east; then the way is marked back from there.
+"""The maze's front end: `python3 flood.py IMAGE OUT`. The water rises from the north-west corner until the wire tells
+that it is in the south-east; then the way is marked back from there.
 """
 import sys
 
@@ -46,7 +46,7 @@ with front.Machine(*sys.argv[1:3]) as machine:
         field way 9 1
         field next 10 1
         field goal 11 1
-        field shade 16 8
+        field shade 16 2
         field steps 24 12
         move wet wall
         poke {place(1, 1)} 1 1
@@ -66,11 +66,11 @@ with front.Machine(*sys.argv[1:3]) as machine:
     print("places", places)
 
     machine.ask("""
-        const shade 255                                     ; a picture: dry white, wet grey, way and walls darker
+        const shade 2                                       ; a picture: way white, dry and wet grey, walls black
         nano 1 1 8 0 8 0 0xf0 0xf0 n
         if 0
-        const shade 200
+        const shade 1
         nano 9 9 8 0 8 0 0xf0 0xf0 n
-        const shade 90
+        const shade 3
         nano 0 0 8 0 8 0 0xf0 0xf0 n
         const shade 0""")

@@ -9,8 +9,9 @@ dots[1][1] = 0
 border = [(0, 0)]                                       # rooms that may have closed neighbours
 while border:
     row, column = border[-1] if draw(10) < 7 else border[draw(len(border))]
-    closed = [(row + down, column + right) for down, right in ((-1, 0), (0, 1), (1, 0), (0, -1))
-              if 0 <= row + down < SIDE and 0 <= column + right < SIDE and dots[2 * (row + down) + 1][2 * (column + right) + 1]]
+    around = [(row - 1, column), (row, column + 1), (row + 1, column), (row, column - 1)]
+    closed = [(down, right) for down, right in around
+              if 0 <= down < SIDE and 0 <= right < SIDE and dots[2 * down + 1][2 * right + 1]]
     if closed:
         to = closed[draw(len(closed))]
         dots[row + to[0] + 1][column + to[1] + 1] = dots[2 * to[0] + 1][2 * to[1] + 1] = 0

@@ -1,5 +1,5 @@
-"""The front end of the net: `python3 network.py KNOWLEDGE QUESTIONS IMAGE OUT` puts each thing and each statement into a processor of its
-own, and answers questions by marks that go along the statements.
+"""The front end of the net: `python3 network.py KNOWLEDGE QUESTIONS IMAGE OUT` puts each thing and each statement
+into a processor of its own, and answers questions by marks that go along the statements.
 """
 import sys
 
@@ -9,16 +9,16 @@ import front
 statements = [line.split() for line in open(sys.argv[1])]
 things = sorted({thing for subject, _, object in statements for thing in (subject, object)})
 relations = ["none"] + sorted({relation for _, relation, _ in statements})
-FIELDS = {"number": (0, 8), "kind": (8, 8), "up": (16, 8), "hasup": (24, 1), "object": (25, 8), "down": (33, 8), "hasdown": (41, 1),
-          "subject": (42, 8), "wanted": (56, 8), "seen": (64, 1), "told": (65, 1), "fresh": (66, 1), "asks": (67, 1), "mark": (68, 1),
-          "rel": (3968, 4), "place": (3984, 4)}
+FIELDS = {"number": (0, 8), "kind": (8, 8), "up": (16, 8), "hasup": (24, 1), "object": (25, 8), "down": (33, 8),
+          "hasdown": (41, 1), "subject": (42, 8), "wanted": (56, 8), "seen": (64, 1), "told": (65, 1), "fresh": (66, 1),
+          "asks": (67, 1), "mark": (68, 1), "rel": (3968, 4), "place": (3984, 4)}
 ENDS = {"up": "object", "down": "subject"}
 place = lambda number: f"{number // 16} {number % 16}"
 
 
 def records():
-    """Of each processor its fields. A thing tells the first statement about it, and that the next: `up` those of which it is the
-    subject, `down` those of which it is the object.
+    """Of each processor its fields. A thing tells the first statement about it, and that the next: `up` those of which
+    it is the subject, `down` those of which it is the object.
     """
     found = [{"number": number} for number in range(len(things))]
     for subject, relation, object in statements:

@@ -1,5 +1,5 @@
-"""Prints 65,536 candidates: all 40,320 orders of the columns 0 to 7, each as eight octal digits, the queen of row 0 first; and
-then zeros.
+"""Prints 65,536 candidates: all 40,320 orders of the columns 0 to 7, each as eight octal digits, the queen of row 0
+first; and then zeros.
 """
 import itertools
 

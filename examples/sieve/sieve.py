@@ -1,5 +1,5 @@
-"""The sieve's front end: `python3 sieve.py IMAGE OUT`. It finds the least number that is left, by looks at the global wire, and
-has its multiples struck out; then the next.
+"""The sieve's front end: `python3 sieve.py IMAGE OUT`. It finds the least number that is left, by looks at the global
+wire, and has its multiples struck out; then the next.
 """
 import sys
 
@@ -15,7 +15,7 @@ with front.Machine(*sys.argv[1:3]) as machine:
         field zero   {3 * BITS} {BITS}
         const part 1
         less part number
-        nano 0 0 7 2 8 0 0xf0 0xaa n            ; flag 2: neither struck out nor tried; at first all that are more than 1
+        nano 0 0 7 2 8 0 0xf0 0xaa n            ; flag 2: neither struck out nor tried; at first all from 2
         field prime  {4 * BITS} 1
         const prime 0""")
     while True:
@@ -24,7 +24,7 @@ with front.Machine(*sys.argv[1:3]) as machine:
         for bit in reversed(range(BITS)):
             machine.ask(f"nano {bit} {bit} 4 9 8 0 0xf0 0x0a n")        # GLOBAL := flag 4 and not the bit
             if machine.wire():
-                machine.ask(f"nano {bit} {bit} 4 4 8 0 0xf0 0x0a n")    # one has a 0 there: those with a 1 are not the least
+                machine.ask(f"nano {bit} {bit} 4 4 8 0 0xf0 0x0a n")    # one has a 0 there: out are those with a 1
             else:
                 least += 2**bit
         if least > 256:

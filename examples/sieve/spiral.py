@@ -1,4 +1,6 @@
-"""Prints the numbers 1 to 65,536 for 256 by 256 processors, row by row, as they stand on a spiral that begins in the middle."""
+"""Prints the numbers 1 to 65,536 for 256 by 256 processors, row by row, as they stand on a spiral that begins in the
+middle.
+"""
 board = [[0] * 256 for _ in range(256)]
 row, column, down, right, number, side = 128, 127, 0, 1, 1, 1
 while number <= 65536:

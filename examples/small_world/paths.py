@@ -1,15 +1,15 @@
-"""The front end: `python3 paths.py IMAGE OUT`. All people tell the three whom they know how far it is from person 0 to themselves, as
-far as they have heard; so often that nobody hears of a shorter way.
+"""The front end: `python3 paths.py IMAGE OUT`. All people tell the three whom they know how far it is from person 0
+to themselves, as far as they have heard; so often that nobody hears of a shorter way.
 """
 import sys
 
 sys.path.insert(0, "..")
 import front
 
-send = """
+send = """                                                  ; rel := its chip xor one's own
     move place {to}place
     move rel {to}chip
-""" + "\n".join(f"nano {3968 + bit} {4 + bit} 8 8 8 0 0x3c 0x00 n" for bit in range(12)) + """     ; rel := rel xor the own chip
+""" + "\n".join(f"nano {3968 + bit} {4 + bit} 8 8 8 0 0x3c 0x00 n" for bit in range(12)) + """
     move sent far
     set 12"""
 look = "cycle\nnano 0 0 14 9 8 0 0xf0 0x55 n"               # GLOBAL := not RECV

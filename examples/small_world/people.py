@@ -1,5 +1,5 @@
-"""Prints for each of 65,536 people the number of an acquaintance, who has this one too: `python3 people.py SHARE`. Of a thousand SHARE
-have one, the others have themselves. The same each time.
+"""Prints for each of 65,536 people the number of an acquaintance, who has this one too: `python3 people.py SHARE`. Of
+a thousand SHARE have one, the others have themselves. The same each time.
 """
 import random
 import sys

@@ -1,5 +1,5 @@
-"""The front end of Batcher's sort: `python3 bitonic.py IMAGE OUT`. In each step all compare their key with that of one whose number
-differs in one bit, which comes by a message.
+"""The front end of Batcher's sort: `python3 bitonic.py IMAGE OUT`. In each step all compare their key with that of
+one whose number differs in one bit, which comes by a message.
 """
 import sys
 
@@ -16,7 +16,7 @@ with front.Machine(*sys.argv[1:3]) as machine:
         field sent 3988 16
         field came 4032 16""")
     steps = cycles = 0
-    for run in range(1, 13):                                    # runs of 2^run keys become sorted, upward and downward by turns
+    for run in range(1, 13):                                    # sorts 2^run keys each, up and down by turns
         for bit in reversed(range(run)):
             steps += 1
             machine.ask(f"const rel {2**bit >> 4}\nmove to place\nmove sent key")
@@ -30,7 +30,7 @@ with front.Machine(*sys.argv[1:3]) as machine:
                 asked = machine.wire()
             machine.ask(f"""
                 less came key
-                nano {bit} {run} 7 3 8 0 0xf0 0x96 n            ; flag 3: take it, if it is less and I keep the smaller, or neither
+                nano {bit} {run} 7 3 8 0 0xf0 0x96 n            ; flag 3: less, and I keep the smaller, or neither
                 if 3
                 move key came
                 always
