@@ -4,6 +4,7 @@ use crate::words::HELP;
 use cm_bits::FieldFault;
 use cm_front::{FrontFault, ImageFault, SessionFault};
 use cm_lab::{LabFault, NumbersFault};
+use cm_source::{AsmKind, SourceFault, SourceKind};
 use std::alloc::Global;
 use std::io;
 use thiserror::Error;
@@ -31,6 +32,8 @@ pub enum Fault {
     Image { path: String, fault: LabFault },
     #[error("cm1lab: {path}: {fault}")]
     Machine { path: String, fault: ImageFault },
+    #[error("cm1lab: {path}: {fault}")]
+    Source { path: String, fault: SourceFault },
     #[error("cm1lab: standard input: {0}")]
     Numbers(NumbersFault),
     #[error("cm1lab: standard input {0}")]
@@ -70,6 +73,17 @@ impl Fault {
     pub fn image(alloc: Global, path: &str, fault: LabFault) -> Fault {
         match String::from_str(alloc, path) {
             Ok(path) => Fault::Image { path, fault },
+            Err(_) => Fault::Memory,
+        }
+    }
+
+    /// What is wrong with a source.
+    pub fn source(alloc: Global, path: &str, fault: SourceFault) -> Fault {
+        if let SourceKind::Asm(AsmKind::Memory) = fault.kind {
+            return Fault::Memory;
+        }
+        match String::from_str(alloc, path) {
+            Ok(path) => Fault::Source { path, fault },
             Err(_) => Fault::Memory,
         }
     }

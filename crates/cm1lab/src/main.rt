@@ -1,5 +1,6 @@
 //! The laboratory: data and pictures of all processors, out of a machine's image and into it, studies of its router, and
-//! a front end. This is its words, its files, its standard input and output; what it does is in cm_lab and cm_front.
+//! a front end, and the programs of sources. This is its words, its files, its standard input and output; what it does is
+//! in cm_lab, cm_front and cm_source.
 #![tactic(auto)]
 
 mod fault;
@@ -13,6 +14,7 @@ use cm_bits::{Std, write_all};
 use cm_cli::{TakeFault, take};
 use cm_front::front_image;
 use cm_lab::{LabFault, Task, perform};
+use cm_source::expand;
 use std::alloc::Global;
 use std::io::Write;
 use std::process::ExitCode;
@@ -30,6 +32,9 @@ const PICTURE_LIMIT: u64 = 16777216;
 
 /// Most bytes of a program's text.
 const PROGRAM_LIMIT: u64 = 16777216;
+
+/// Most bytes of a source.
+const SOURCE_LIMIT: u64 = 16777216;
 
 fn main(rt: HostRuntime) -> ExitCode {
     match run(&rt, rt.alloc()) {
@@ -64,6 +69,7 @@ fn run<R: Input + Print + Env + Files + AllocGlobal>(rt: &R, alloc: Global) -> R
     match read_words(alloc, words.as_slice())? {
         Wanted::Task(asked) => work(rt, alloc, &asked),
         Wanted::Front { image, out } => converse(rt, alloc, image, out),
+        Wanted::Expand { source } => unfold(rt, alloc, source),
     }
 }
 
@@ -116,6 +122,21 @@ fn converse<R: Input + Print + Files + AllocGlobal>(
     match out {
         None => Ok(()),
         Some(out) => write_file(rt, out, left.as_slice()),
+    }
+}
+
+/// The program of a source, on standard output.
+fn unfold<R: Print + Files>(rt: &R, alloc: Global, path: &str) -> Result<(), Fault> {
+    let source = read_file(
+        rt,
+        alloc,
+        path,
+        SOURCE_LIMIT,
+        "has too many bytes for a source",
+    )?;
+    match expand(alloc, source.as_slice()) {
+        Ok(program) => show(rt, program.as_slice()),
+        Err(fault) => Err(Fault::source(alloc, path, fault)),
     }
 }
 

@@ -37,6 +37,9 @@ cm1lab front IMAGE [--out FILE]
     takes the place of the front end: each line of standard input is one of a program, whose
     acts are run at once and which is answered ok, sense by the wire as it is, or a question
     as to cm1 run; at the end the image of the machine goes into FILE
+cm1lab expand SOURCE > PROGRAM
+    tells the program of a source, which has constants, lines that are repeated, and lines
+    for a field from a neighbour or along the chain, for bits, and for a number added
 
 ADDRESS is that of the field's lowest bit, 0 to 4095, and LENGTH how many bits it has, 1 to 64.
 IMAGE is a file that cm1 fresh, cm1 run --out or cm1lab wrote, PROGRAM a text as for cm1 run.";
@@ -63,6 +66,10 @@ pub enum Wanted<'a> {
         image: &'a str,
         out: Option<&'a str>,
     },
+    /// The program of a source.
+    Expand {
+        source: &'a str,
+    },
 }
 
 /// A task: of which image, with what is given beside it, and into which file, if the machine changes.
@@ -84,6 +91,7 @@ pub fn read_words<'a>(alloc: Global, words: &[&'a str]) -> Result<Wanted<'a>, Fa
                 out: Some(out),
             })
         }
+        [_, "expand", source] => Ok(Wanted::Expand { source }),
         _ => {
             let asked = read_task(alloc, words)?;
             Ok(Wanted::Task(asked))
