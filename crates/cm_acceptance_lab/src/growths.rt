@@ -1,7 +1,8 @@
-//! Growths of memory that are refused while numbers are put into an image and told.
+//! Growths of memory that are refused while numbers are put into an image and told, and while a source is expanded.
 
 use cm_bits::Field;
 use cm_lab::{LabFault, NumbersFault, Order, Task, perform, read_numbers, write_numbers};
+use cm_source::{AsmKind, SourceKind, expand};
 use std::alloc::Global;
 
 /// One chip, room for seven messages, nothing in it.
@@ -44,6 +45,23 @@ fn are_written_or_want_memory(alloc: Global) -> bool {
     }
 }
 
+static SOURCE: &str = "constant K 2\nfield x 0 1\nrepeat K\nnot x\nadd x x\nend\n";
+
+static PROGRAM: &str = "field x 0 1 ; 2
+nano 0 0 8 8 8 0 0x0f 0x00 n ; 4
+add x x ; 5
+nano 0 0 8 8 8 0 0x0f 0x00 n ; 4
+add x x ; 5
+";
+
+/// Whether a source comes out as its program, or want of memory is told.
+fn is_expanded_or_wants_memory(alloc: Global) -> bool {
+    match expand(alloc, SOURCE.as_bytes()) {
+        Ok(program) => program.as_slice() == PROGRAM.as_bytes(),
+        Err(fault) => fault.kind == SourceKind::Asm(AsmKind::Memory),
+    }
+}
+
 // Made for `rt try --test --fail-alloc N`, which makes the Nth allocation fail.
 #[test]
 fn a_refused_growth_is_told_as_want_of_memory(rt: HostRuntime) {
@@ -52,8 +70,9 @@ fn a_refused_growth_is_told_as_want_of_memory(rt: HostRuntime) {
         Ok(field) => [
             come_back_or_want_memory(alloc, field),
             are_written_or_want_memory(alloc),
+            is_expanded_or_wants_memory(alloc),
         ],
-        Err(_) => [false; 2],
+        Err(_) => [false; 3],
     };
-    assert_eq!(rt; so, [true; 2]);
+    assert_eq!(rt; so, [true; 3]);
 }
