@@ -1,4 +1,5 @@
-//! Growths of memory that are refused: while numbers, pictures and studies are made, and at a front end.
+//! Growths of memory that are refused: while numbers, pictures and studies are made, a source is expanded, and at a front
+//! end.
 
 use cm_bits::doubles::{Bytes, Room};
 use cm_bits::{Field, NoMemory};
@@ -7,6 +8,7 @@ use cm_front::{FrontFault, ImageFault, SessionFault, front_image};
 use cm_lab::{
     Form, LabFault, NumbersFault, Order, Shown, Table, Task, perform, read_numbers, write_numbers,
 };
+use cm_source::{AsmKind, SourceKind, expand};
 use std::alloc::Global;
 
 /// One chip, room for seven messages, nothing in it.
@@ -27,6 +29,15 @@ static CYCLES: &str = "cycle,taken,delivered,referred,standing,full,asking\n0,4,
 static MESSAGES: &str =
     "chip,processor,taken,to chip,to processor,delivered,crossed,referred\n0,0,0,0,0,0,0,0\n0,1,0,0,0,,0,0\n0,2,0,0,0,,0,0\n0,3,0,0,0,,0,0\n";
 
+static SOURCE: &str = "constant K 2\nfield x 0 1\nrepeat K\nnot x\nadd x x\nend\n";
+
+static PROGRAM: &str = "field x 0 1 ; 2
+nano 0 0 8 8 8 0 0x0f 0x00 n ; 4
+add x x ; 5
+nano 0 0 8 8 8 0 0x0f 0x00 n ; 4
+add x x ; 5
+";
+
 static SENT: &str = "field x 0 8\nconst x 100\nfield 0 5 0 8\ncycle\nbuf 0\n";
 
 static TOLD: &str = "ok\nok\nfield 100\nok\nbuf 0\n";
@@ -39,15 +50,17 @@ enum Grown {
     Picture,
     Cycles,
     Messages,
+    Source,
     Front,
 }
 
-static GROWN: [Grown; 6] = [
+static GROWN: [Grown; 7] = [
     Grown::Read,
     Grown::Numbers,
     Grown::Picture,
     Grown::Cycles,
     Grown::Messages,
+    Grown::Source,
     Grown::Front,
 ];
 
@@ -59,6 +72,7 @@ impl Call for Grown {
             Grown::Picture => is_shown(alloc),
             Grown::Cycles => Some(tells(alloc, Table::Cycles, CYCLES)),
             Grown::Messages => Some(tells(alloc, Table::Messages, MESSAGES)),
+            Grown::Source => Some(is_expanded(alloc)),
             Grown::Front => is_answered(alloc),
         }
     }
@@ -129,6 +143,20 @@ fn is_shown(alloc: Global) -> Option<bool> {
 
 fn tells(alloc: Global, table: Table, wanted: &str) -> bool {
     is_made(alloc, Task::Study(table), &BLANK, ALL_SEND, wanted)
+}
+
+/// Whether a source comes out as its program.
+fn is_expanded(alloc: Global) -> bool {
+    let made = match expand(alloc, SOURCE.as_bytes()) {
+        Err(fault) if fault.kind == SourceKind::Asm(AsmKind::Memory) => {
+            expand(alloc, SOURCE.as_bytes())
+        }
+        made => made,
+    };
+    match made {
+        Ok(program) => program.as_slice() == PROGRAM.as_bytes(),
+        Err(_) => false,
+    }
 }
 
 // ---- a front end
