@@ -1,5 +1,5 @@
 -- A blank machine to which nothing was offered, from its parts.
-use Rattle.std.proofs.Common.{◌≡◌, ℕ, ◌+◌, ◌*◌, ◌^◌, ◌≤◌, List, [], length, get_or, replicate, refl, sym, ap, ◌∙◌, subst, arith}
+use Rattle.std.proofs.Common.{◌≡◌, ℕ, ◌^◌, ◌≤◌, List, [], length, replicate, sym, ap, ◌∙◌, subst, arith}
 use Rattle.std.specs.List.{All}
 use Rattle.std.proofs.lemmas.List.{length-map}
 use Rattle.cm_model.specs.declared.message.Message.{Message}
@@ -9,14 +9,14 @@ use Rattle.cm_model.specs.Each.{each_from}
 use Rattle.cm_model.specs.Chip.{blank_chip}
 use Rattle.cm_model.specs.Array.{Chips}
 use Rattle.cm_model.specs.Wiring.{Routing}
-use Rattle.cm_model.specs.Machine.{Machine, blank_machine}
+use Rattle.cm_model.specs.Machine.{blank_machine}
 use Rattle.cm_model.proofs.Each.{length-each_from, get_or-each_below}
 use Rattle.cm_router.specs.Logs.{Log}
 use Rattle.cm_petit.specs.Routers.{machine_of, events_of, AreRouters}
 use Rattle.cm_load.specs.declared.sources.Source.{Source}
 use Rattle.cm_load.specs.Offers.{places}
 use Rattle.cm_load.specs.Asking.{no_source}
-use Rattle.cm_load.specs.Loaded.{Loaded, unloaded}
+use Rattle.cm_load.specs.Loaded.{unloaded}
 
 module _ (n count : ℕ) (run : Chips) (buffers : List (List Message)) (logs : List Log) (all : count ≡ 2 ^ n)
     (chips : run ≡ each_from 0 count (λ c. blank_chip)) (none : buffers ≡ each_from 0 count (λ c. []))
@@ -53,6 +53,9 @@ module _ (n count : ℕ) (run : Chips) (buffers : List (List Message)) (logs : L
     log_count = sym (length-map logs (λ (log : Log). log.items))
         ∙ (ap length empty ∙ (length-each_from {X = List Event} 0 count (λ c. []) ∙ all));
     within = subst (λ (xs : List (List Message)). All (λ ms. length ms ≤ cap) xs) (sym none)
-        (λ k d h. omega (arith, ap length (get_or-each_below {X = List Message} count (λ c. []) k d
-        (omega (arith, h, length-each_from {X = List Message} 0 count (λ c. []))))));
+        (λ k d h. omega (
+          arith,
+          ap length (get_or-each_below {X = List Message} count (λ c. []) k d
+              (omega (arith, h, length-each_from {X = List Message} 0 count (λ c. [])))),
+        ));
   }

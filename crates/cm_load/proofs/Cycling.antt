@@ -1,5 +1,5 @@
 -- One petit cycle under a load, from what its parts leave.
-use Rattle.std.proofs.Common.{◌≡◌, ℕ, ◌+◌, ◌*◌, ◌^◌, List, [], ◌++◌, refl, sym, ap, ◌∙◌}
+use Rattle.std.proofs.Common.{◌≡◌, ℕ, ◌+◌, ◌^◌, List, [], ◌++◌, sym, ap, ◌∙◌}
 use Rattle.cm_bits.specs.Bit.{bit}
 use Rattle.cm_model.specs.declared.act.Act.TheVariants.{Cycle}
 use Rattle.cm_model.specs.declared.message.Message.{Message}

@@ -1,5 +1,5 @@
 -- One chip that is changed again and again, and places one after another.
-use Rattle.std.proofs.Common.{◌≡◌, ℕ, suc, ◌+◌, ◌<◌, List, [], length, get_or, set, refl, sym, ap, ◌∙◌, arith}
+use Rattle.std.proofs.Common.{◌≡◌, ℕ, suc, ◌+◌, ◌<◌, List, [], length, set, ap, ◌∙◌, arith}
 use Rattle.std.proofs.lemmas.List.{get_or-set_same, set-set, length-set}
 use Rattle.cm_model.specs.Processor.{Processor}
 use Rattle.cm_model.specs.Array.{Chips, chip_at}

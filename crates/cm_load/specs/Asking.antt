@@ -1,5 +1,5 @@
 -- Processors that ask the router to take what they have offered, first come first served. Ours.
-use Rattle.std.specs.Prelude.{◌≡◌, ℕ, suc, zero, ◌+◌, ◌-◌, ◌*◌, ◌/◌, ◌%◌, ◌^◌, Bool, true, List, Option, Some, None}
+use Rattle.std.specs.Prelude.{ℕ, suc, zero, ◌+◌, ◌-◌, ◌/◌, ◌%◌, ◌^◌, Bool, true, List, Option, Some, None}
 use Rattle.std.specs.Prelude.{min, max, bit_xor, slice_index_or, slice_set, if◌then◌else◌}
 use Rattle.std.specs.List.{find, range_with_len}
 use Rattle.cm_bits.specs.Bit.{bit_number}

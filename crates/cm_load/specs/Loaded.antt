@@ -1,12 +1,8 @@
 -- A machine under a load, petit cycle after petit cycle, and what it did. Ours.
-use Rattle.std.specs.Prelude.{◌≡◌, ℕ, suc, zero, ◌+◌, ◌-◌, ◌*◌, ◌/◌, ◌^◌, ◌<◌, ◌≤◌, ◌==◌, Bool, true, false, List, [], replicate}
-use Rattle.std.specs.Prelude.{◌++◌, Option, Some, None, length, sum, sum_by, nat_le, if◌then◌else◌}
-use Rattle.std.specs.List.{count_by, filter_map, flat_map}
+use Rattle.std.specs.Prelude.{ℕ, suc, zero, ◌+◌, List, [], replicate}
+use Rattle.std.specs.Prelude.{◌++◌}
 use Rattle.cm_bits.specs.Bit.{bit, bit_number}
 use Rattle.cm_model.specs.declared.act.Act.TheVariants.{Cycle}
-use Rattle.cm_model.specs.declared.message.Message.{Message}
-use Rattle.cm_model.specs.declared.message.Event.{Event}
-use Rattle.cm_model.specs.declared.message.Event.TheVariants.{Injected, Delivered}
 use Rattle.cm_model.specs.declared.rule.Rule.{Rule}
 use Rattle.cm_model.specs.Processor.{RECV}
 use Rattle.cm_model.specs.Array.{Chips, each_chip, chip_at}

@@ -12,13 +12,7 @@ use cm_element::Run;
 use cm_model::{SENT_PAYLOAD, SENT_PROC, SENT_REL};
 
 /// Every processor offers what the load says in petit cycle t, and asks for what waits there, if it does not ask already.
-pub(crate) fn ask_all(
-    load: &Load,
-    t: u32,
-    run: &mut Run,
-    sources: &mut [Source],
-    deepest: &mut u32,
-)
+pub(crate) fn ask_all(load: &Load, t: u32, run: &mut Run, sources: &mut [Source], deepest: &mut u32)
     requires dimension { load.now.dims ≤ 12 }
     requires early { t < 2 ^ 31 }
     requires chips { length run.old ≡ 2 ^ load.now.dims }
@@ -96,7 +90,14 @@ fn ask(run: &mut Run, place: u32, to: u32, payload: u32)
     let chip = chip_of(place);
     let far = chip_of(to);
     let proc = proc_of(place);
-    write_record(run, chip, proc, (chip ^ far) as u64, (to % 16) as u64, payload as u64);
+    write_record(
+        run,
+        chip,
+        proc,
+        (chip ^ far) as u64,
+        (to % 16) as u64,
+        payload as u64,
+    );
 }
 
 /// Writes the record of a message that a processor sends, and sets its SEND.

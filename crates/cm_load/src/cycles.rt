@@ -57,9 +57,7 @@ pub(crate) fn go_through(
         sources.old told.old) cycles) }
 {
     for t in 0..cycles {
-        go_on(
-            sizes, routing, load, t, run, crossing, logs, sources, told,
-        )?;
+        go_on(sizes, routing, load, t, run, crossing, logs, sources, told)?;
     }
     Ok(())
 }

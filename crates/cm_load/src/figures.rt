@@ -143,13 +143,7 @@ pub fn measure(
     ensures value { IfOk result (λ figures. AreFigures load.now cycles (loaded_for room load.now rule cycles) figures) }
 {
     let told = tell(alloc, room, rule, load, cycles)?;
-    Ok(figures_of(
-        load,
-        cycles,
-        told.taken,
-        told.deepest,
-        &told.latencies,
-    ))
+    Ok(figures_of(load, cycles, told.taken, told.deepest, &told.latencies))
 }
 
 /// The numbers of a load after so many petit cycles, of which these were told.
@@ -172,13 +166,7 @@ fn figures_of(load: &Load, cycles: u32, taken: u128, deepest: u32, latencies: &[
 }
 
 /// What it tells.
-fn tell(
-    alloc: Global,
-    room: u8,
-    rule: Rule,
-    load: &Load,
-    cycles: u32,
-) -> Result<Told, NoMemory>
+fn tell(alloc: Global, room: u8, rule: Rule, load: &Load, cycles: u32) -> Result<Told, NoMemory>
     requires sizes { AreSizes load.now.dims room }
     requires few { cycles ≤ 1000000 }
     ensures taken { IfOk result (λ told. told.taken ≡ (loaded_for room load.now rule cycles).taken) }

@@ -1,4 +1,4 @@
-use Rattle.std.proofs.Common.{◌≡◌, ◌∙◌, ◌/◌, ◌%◌, ℕ, bit_xor, set, ap}
+use Rattle.std.proofs.Common.{◌≡◌, ◌∙◌, ◌/◌, ◌%◌, bit_xor, set}
 use Rattle.cm_model.specs.Array.{chip_at}
 use Rattle.cm_load.specs.Asking.{chip_asking, chips_asking}
 use Rattle.cm_load.proofs.Poking.{as_many}

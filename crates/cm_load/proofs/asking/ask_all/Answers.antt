@@ -1,4 +1,4 @@
-use Rattle.std.proofs.Common.{◌≡◌, ◌∙◌, ◌+◌, ◌≤◌, ℕ, max, length, refl, sym, ap, arith}
+use Rattle.std.proofs.Common.{◌≡◌, ◌∙◌, ℕ, refl, ap, arith}
 use Rattle.cm_load.specs.Offers.{places}
 use Rattle.cm_load.specs.Asking.{Asking, after_place, after_places}
 use Rattle.cm_load.proofs.Poking.{after_places-more}

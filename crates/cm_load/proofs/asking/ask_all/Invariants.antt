@@ -1,4 +1,4 @@
-use Rattle.std.proofs.Common.{◌≡◌, ℕ, length}
+use Rattle.std.proofs.Common.{◌≡◌, length}
 use Rattle.cm_load.specs.Asking.{after_places}
 use Rattle.cm_load.proofs.asking.ask_all.Given as goal
 

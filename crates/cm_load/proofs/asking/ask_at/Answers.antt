@@ -1,4 +1,4 @@
-use Rattle.std.proofs.Common.{◌≡◌, ◌∙◌, ℕ, Bool, Option, List, get_or, set, max, ap}
+use Rattle.std.proofs.Common.{◌≡◌, ◌∙◌, ℕ, Bool, Option, set, max, ap}
 use Rattle.cm_load.specs.declared.sources.Source.{Source}
 use Rattle.cm_load.specs.Offers.{offers}
 use Rattle.cm_load.specs.Asking.{source_at, with_offer, source_asked, chips_asked, offer_asked, after_place}

@@ -1,4 +1,4 @@
-use Rattle.std.proofs.Common.{◌≡◌, ◌∙◌, ◌/◌, ◌%◌, ℕ, Bool, true, false, None, sym, ap, if◌then◌else◌}
+use Rattle.std.proofs.Common.{◌≡◌, ◌∙◌, ◌/◌, ◌%◌, Bool, true, false, None, sym, ap, if◌then◌else◌}
 use Rattle.cm_model.specs.Processor.{SEND, flag}
 use Rattle.cm_model.specs.Chip.{processor_at}
 use Rattle.cm_model.specs.Array.{chip_at}

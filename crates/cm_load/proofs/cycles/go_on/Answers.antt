@@ -1,4 +1,4 @@
-use Rattle.std.proofs.Common.{◌≡◌, ℕ, ◌+◌, ◌*◌, ◌%◌, ◌^◌, ◌<◌, ◌≤◌, List, [], ◌++◌, length, sym, ap, ◌∙◌, arith, lit<}
+use Rattle.std.proofs.Common.{◌≡◌, ℕ, ◌*◌, ◌%◌, ◌^◌, ◌≤◌, List, [], ◌++◌, length, sym, ap, ◌∙◌, arith, lit<}
 use Rattle.std.specs.List.{count_by, flat_map}
 use Rattle.std.proofs.Math.Nat.{pow-le-pow_right}
 use Rattle.std.proofs.lemmas.Nat.{one_shl}
@@ -6,7 +6,7 @@ use Rattle.cm_bits.specs.Bit.{bit}
 use Rattle.cm_model.specs.declared.message.Event.{Event}
 use Rattle.cm_model.specs.Each.{each_from}
 use Rattle.cm_model.specs.Processor.{RECV}
-use Rattle.cm_model.specs.Array.{Chips, chip_at}
+use Rattle.cm_model.specs.Array.{chip_at}
 use Rattle.cm_model.proofs.Each.{length-each_from}
 use Rattle.cm_element.specs.Wide.{with_flag_plane}
 use Rattle.cm_router.specs.Logs.{Log}

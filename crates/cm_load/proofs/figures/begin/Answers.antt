@@ -1,10 +1,9 @@
-use Rattle.std.proofs.Common.{◌≡◌, ℕ, List, [], ap, ◌∙◌, refl}
+use Rattle.std.proofs.Common.{ℕ, List, [], ap, ◌∙◌, refl}
 use Rattle.cm_model.specs.declared.message.Message.{Message}
 use Rattle.cm_model.specs.Each.{each_from}
-use Rattle.cm_model.specs.Array.{Chips}
 use Rattle.cm_router.specs.Routes.{routing_of}
 use Rattle.cm_load.specs.Offers.{places}
-use Rattle.cm_load.specs.Loaded.{Loaded, after_cycles, loaded_for}
+use Rattle.cm_load.specs.Loaded.{Loaded, after_cycles}
 use Rattle.cm_load.proofs.Beginning.{begins, routers}
 use Rattle.cm_load.proofs.figures.begin.Goals as goal
 

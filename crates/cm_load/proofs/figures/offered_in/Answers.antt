@@ -1,4 +1,4 @@
-use Rattle.std.proofs.Common.{◌≡◌, ℕ, suc, ◌+◌, ◌*◌, ◌≤◌, refl, ap, ◌∙◌, arith}
+use Rattle.std.proofs.Common.{◌≡◌, ℕ, suc, ◌+◌, refl, ap, ◌∙◌, arith}
 use Rattle.cm_load.specs.declared.offers.Load.{Load}
 use Rattle.cm_load.specs.Offers.{places}
 use Rattle.cm_load.specs.Loaded.{offered_by, offered_in}

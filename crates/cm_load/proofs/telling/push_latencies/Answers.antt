@@ -1,6 +1,5 @@
-use Rattle.std.proofs.Common.{◌≡◌, ℕ, ◌+◌, ◌++◌, List, take, sym, ap, ◌∙◌, append_assoc}
+use Rattle.std.proofs.Common.{ℕ, ◌++◌, List, take, sym, ap, ◌∙◌, append_assoc}
 use Rattle.std.specs.List.{flat_map}
-use Rattle.cm_model.specs.declared.message.Event.{Event}
 use Rattle.cm_router.specs.Logs.{Log}
 use Rattle.cm_load.specs.Telling.{latency_told}
 use Rattle.cm_load.proofs.Adding.{made_more}

@@ -1,6 +1,5 @@
-use Rattle.std.proofs.Common.{◌≡◌, ◌+◌, ◌<◌, ◌^◌, List, sum_by, take, length, sym, ap, ◌∙◌, arith}
+use Rattle.std.proofs.Common.{◌≡◌, ap, ◌∙◌, arith}
 use Rattle.std.specs.List.{count_by}
-use Rattle.cm_model.specs.declared.message.Event.{Event}
 use Rattle.cm_router.specs.Logs.{Log}
 use Rattle.cm_load.specs.Telling.{is_injection}
 use Rattle.cm_load.proofs.Adding.{sum_more}

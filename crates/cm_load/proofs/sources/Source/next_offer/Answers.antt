@@ -1,4 +1,4 @@
-use Rattle.std.proofs.Common.{◌≡◌, ℕ, ◌+◌, ◌<◌, ◌≤◌, sym, ◌∙◌, arith}
+use Rattle.std.proofs.Common.{◌+◌, sym, ◌∙◌, arith}
 use Rattle.cm_load.specs.Offers.{offers}
 use Rattle.cm_load.specs.Asking.{next_offer}
 use Rattle.cm_load.proofs.Finding.{found_at, found_past, none_found}

@@ -1,4 +1,4 @@
-use Rattle.std.proofs.Common.{◌≡◌, ℕ, ◌+◌, ◌-◌, ◌≤◌}
+use Rattle.std.proofs.Common.{◌≡◌, ◌+◌, ◌-◌}
 use Rattle.std.specs.List.{find, range_with_len}
 use Rattle.cm_load.specs.Offers.{offers}
 use Rattle.cm_load.proofs.sources.Source.next_offer.Given as goal
