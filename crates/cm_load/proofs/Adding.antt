@@ -1,0 +1,35 @@
+-- One element more of what is made of a list.
+use Rattle.std.proofs.Common.{◌≡◌, ℕ, ◌+◌, ◌<◌, List, [], ◌∷◌, ◌++◌, length, get_or, take, map, fold, sum_by, refl, sym, ap, ◌∙◌, arith}
+use Rattle.std.specs.List.{flat_map}
+use Rattle.std.proofs.lemmas.List.{append-nil, take_more}
+use Rattle.std.proofs.lemmas.List.Concat.{flat_map-append}
+use Rattle.std.proofs.lemmas.List.Sums.{sum_by-append}
+
+next : {X : Type 0} (xs : List X) (i : ℕ) (x : X) → i < length xs → x ≡ get_or xs i x
+    → take (i + 1) xs ≡ take i xs ++ x ∷ []
+next {X} xs i x h read = take_more xs i x h ∙ ap (λ (y : X). take i xs ++ y ∷ []) (sym read)
+
+pub sum_more : {X : Type 0} (f : X → ℕ) (xs : List X) (i : ℕ) (x : X) → i < length xs → x ≡ get_or xs i x
+    → sum_by f (take (i + 1) xs) ≡ sum_by f (take i xs) + f x
+sum_more f xs i x h read =
+    ap (sum_by f) (next xs i x h read) ∙ (sum_by-append f (take i xs) (x ∷ []) ∙ omega arith)
+
+pub made_more : {X : Type 0} (g : X → List ℕ) (xs : List X) (i : ℕ) (x : X) → i < length xs → x ≡ get_or xs i x
+    → flat_map g (take (i + 1) xs) ≡ flat_map g (take i xs) ++ g x
+made_more g xs i x h read =
+    ap (flat_map g) (next xs i x h read)
+    ∙ (flat_map-append g (take i xs) (x ∷ []) ∙ ap (λ (ys : List ℕ). flat_map g (take i xs) ++ ys) (append-nil (g x)))
+
+-- what is made of what is seen of each
+pub flat_map-map : {X Y : Type 0} (g : Y → List ℕ) (f : X → Y) (xs : List X)
+    → flat_map g (map f xs) ≡ flat_map (λ x. g (f x)) xs
+flat_map-map g f [] = refl
+flat_map-map g f (x ∷ xs) = ap (λ (ys : List ℕ). g (f x) ++ ys) (flat_map-map g f xs)
+
+fold-map : {X Y : Type 0} (h : ℕ → Y → ℕ) (f : X → Y) (a : ℕ) (xs : List X)
+    → fold h a (map f xs) ≡ fold (λ b x. h b (f x)) a xs
+fold-map h f a [] = refl
+fold-map h f a (x ∷ xs) = fold-map h f (h a (f x)) xs
+
+pub sum_by-map : {X Y : Type 0} (g : Y → ℕ) (f : X → Y) (xs : List X) → sum_by g (map f xs) ≡ sum_by (λ x. g (f x)) xs
+sum_by-map g f xs = fold-map (λ a y. a + g y) f 0 xs

@@ -1,0 +1,6 @@
+pub mod Finding
+pub mod Poking
+pub mod Adding
+pub mod Emptying
+pub mod Cycling
+pub mod Beginning

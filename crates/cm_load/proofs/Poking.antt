@@ -1,0 +1,25 @@
+-- One chip that is changed again and again, and places one after another.
+use Rattle.std.proofs.Common.{◌≡◌, ℕ, suc, ◌+◌, ◌<◌, List, [], length, set, ap, ◌∙◌, arith}
+use Rattle.std.proofs.lemmas.List.{get_or-set_same, set-set, length-set}
+use Rattle.cm_model.specs.Processor.{Processor}
+use Rattle.cm_model.specs.Array.{Chips, chip_at}
+use Rattle.cm_load.specs.declared.offers.Load.{Load}
+use Rattle.cm_load.specs.Asking.{Asking, after_place, after_places}
+
+-- the chip that was put in its place is changed
+pub poked_again : (f : List Processor → List Processor) (old now new : Chips) (c : ℕ) (chip : List Processor)
+    → c < length old → now ≡ set old c chip → new ≡ set now c (f (chip_at now c)) → new ≡ set old c (f chip)
+poked_again f old now new c chip h is more =
+    more
+    ∙ (ap (λ (k : Chips). set k c (f (chip_at k c))) is
+    ∙ (ap (λ (x : List Processor). set (set old c chip) c (f x)) (get_or-set_same old c chip [] h)
+    ∙ set-set old c chip (f chip)))
+
+pub as_many : (old new : Chips) (c : ℕ) (chip : List Processor) → new ≡ set old c chip → length new ≡ length old
+as_many old new c chip is = ap length is ∙ length-set old c chip
+
+pub after_places-more : (load : Load) (t : ℕ) (asking : Asking) (k : ℕ)
+    → after_place load t (after_places load t asking k) k ≡ after_places load t asking (k + 1)
+unfolding after_places
+after_places-more load t asking k =
+    let next : suc k ≡ k + 1 = omega arith in ap (λ (j : ℕ). after_places load t asking j) next

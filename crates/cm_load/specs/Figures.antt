@@ -1,0 +1,35 @@
+-- The numbers of a load: what was offered, and what became of it. Ours.
+use Rattle.std.specs.Prelude.{◌≡◌, ℕ, ◌+◌, ◌*◌, ◌/◌, ◌==◌, Bool, List, Option, length, max, fold, nat_le, sum_by, if◌then◌else◌}
+use Rattle.std.specs.List.{count_by, find, range_with_len}
+use Rattle.cm_load.specs.declared.offers.Load.{Load}
+use Rattle.cm_load.specs.declared.figures.Figures.{Figures}
+use Rattle.cm_load.specs.Loaded.{Loaded, offered_in}
+
+-- the mean in hundredths, rounded down; 0 of no message
+abbrev pub mean_of : List ℕ → ℕ
+mean_of latencies =
+    if length latencies == 0 then 0 else 100 * sum_by (λ x. x) latencies / length latencies
+
+-- at least so many hundredths are of messages that took no more than so many petit cycles
+abbrev pub is_reached : List ℕ → ℕ → ℕ → Bool
+is_reached latencies hundredths most =
+    nat_le hundredths (100 * count_by (λ x. nat_le x most) latencies)
+
+-- the least number of petit cycles, up to the last of these, within which 95 in a hundred were delivered
+abbrev pub most_of : ℕ → List ℕ → Option ℕ
+most_of cycles latencies = find (is_reached latencies (95 * length latencies)) (range_with_len 0 (cycles + 1))
+
+-- the greatest, or 0
+abbrev pub greatest_of : List ℕ → ℕ
+greatest_of latencies = fold max 0 latencies
+
+-- the numbers of a load after so many petit cycles, which left this
+pub record AreFigures (load : Load) (cycles : ℕ) (loaded : Loaded) (figures : Figures) : Type 0 where
+  pub rate : figures.rate ≡ load.rate
+  pub offered : figures.offered ≡ offered_in load cycles
+  pub taken : figures.taken ≡ loaded.taken
+  pub delivered : figures.delivered ≡ length loaded.latencies
+  pub mean : figures.mean ≡ mean_of loaded.latencies
+  pub most : figures.most ≡ most_of cycles loaded.latencies
+  pub greatest : figures.greatest ≡ greatest_of loaded.latencies
+  pub deepest : figures.deepest ≡ loaded.deepest

@@ -1,0 +1,270 @@
+//! The numbers of a load.
+
+ghost use Rattle.std.specs.Prelude.{◌≡◌, ◌≤◌, ◌^◌, [], IfOk, replicate, sum_by};
+ghost use Rattle.cm_bits.specs.Bit.{bit_number};
+ghost use Rattle.cm_model.specs.Each.{each_from};
+ghost use Rattle.cm_model.specs.Keeping.{AreSizes};
+ghost use Rattle.cm_router.specs.Routes.{routing_of};
+ghost use Rattle.cm_petit.specs.Routers.{events_of};
+ghost use Rattle.cm_load.specs.Offers.{places};
+ghost use Rattle.cm_load.specs.Asking.{no_source};
+ghost use Rattle.cm_load.specs.Loaded.{Loaded, offered_by, offered_in, loaded_for};
+ghost use Rattle.cm_load.specs.Figures.{mean_of, is_reached, most_of, greatest_of, AreFigures};
+
+use crate::cycles::{Told, go_through};
+use crate::offers::Load;
+use crate::sources::Source;
+use cm_bits::NoMemory;
+use cm_crossing::{Crossing, Sizes};
+use cm_element::Run;
+use cm_message::{Event, Rule};
+use cm_router::Routing;
+use std::alloc::Global;
+
+/// What was offered to a machine, and what became of it.
+#[derive(Clone, Copy, Debug, PartialEq, Eq)]
+pub struct Figures {
+    /// Hundredths of a message that the processors of a chip were to offer in a petit cycle.
+    pub rate: u16,
+    /// Messages that were offered.
+    pub offered: u64,
+    /// Messages that routers took in.
+    pub taken: u128,
+    /// Messages that were delivered.
+    pub delivered: usize,
+    /// Hundredths of petit cycles that these took in the mean, from that of the offer to that of the delivery, both
+    /// counted.
+    pub mean: u128,
+    /// So many petit cycles took 95 in a hundred of them at most.
+    pub most: Option<u32>,
+    /// The most that one took.
+    pub greatest: u32,
+    /// The most offers that waited at one processor, behind the one that it asked for.
+    pub deepest: u32,
+}
+
+/// How many messages are offered in so many petit cycles.
+pub(crate) fn offered_in(load: &Load, cycles: u32) -> u64
+    requires dimension { load.now.dims ≤ 12 }
+    ensures value { result ≡ offered_in load.now cycles }
+{
+    let mut offered = 0u64;
+    for t in 0..cycles {
+        offered += offered_by(load, t) as u64;
+    }
+    offered
+}
+
+fn offered_by(load: &Load, t: u32) -> u32
+    requires dimension { load.now.dims ≤ 12 }
+    ensures value { result ≡ offered_by load.now t (places load.now.dims) }
+    ensures within { result ≤ 65536 }
+{
+    let mut offered = 0;
+    for place in 0..load.places() {
+        offered += bit_number(load.offers(t, place));
+    }
+    offered
+}
+
+fn bit_number(bit: bool) -> u32
+    ensures value { result ≡ bit_number bit }
+    ensures within { result ≤ 1 }
+{
+    if bit { 1 } else { 0 }
+}
+
+/// The mean of some numbers, in hundredths.
+pub(crate) fn mean_of(latencies: &[u32]) -> u128
+    ensures value { result ≡ mean_of latencies.now }
+{
+    let count = latencies.len() as u128;
+    let total = total_of(latencies);
+    if count == 0 {
+        return 0;
+    }
+    100 * total / count
+}
+
+fn total_of(latencies: &[u32]) -> u128
+    ensures value { result ≡ sum_by (λ x. x) latencies.now }
+    ensures within { result ≤ 2 ^ 100 }
+{
+    let mut total = 0u128;
+    for latency in latencies {
+        total += *latency as u128;
+    }
+    total
+}
+
+/// The least number up to this one which 95 in a hundred do not pass.
+pub(crate) fn most_of(latencies: &[u32], cycles: u32) -> Option<u32>
+    requires few { cycles ≤ 1000000 }
+    ensures value { result ≡ most_of cycles latencies.now }
+{
+    let hundredths = 95 * latencies.len() as u128;
+    for most in 0..cycles + 1 {
+        if is_reached(latencies, hundredths, most) {
+            return Some(most);
+        }
+    }
+    None
+}
+
+fn is_reached(latencies: &[u32], hundredths: u128, most: u32) -> bool
+    ensures value { result ≡ is_reached latencies.now hundredths most }
+{
+    let count = latencies.iter().filter(|latency| **latency <= most).count();
+    hundredths <= 100 * count as u128
+}
+
+/// The greatest, or 0.
+pub(crate) fn greatest_of(latencies: &[u32]) -> u32
+    ensures value { result ≡ greatest_of latencies.now }
+{
+    let mut greatest = 0u32;
+    for latency in latencies {
+        greatest = greatest.max(*latency);
+    }
+    greatest
+}
+
+/// The numbers of a load on a blank machine of its cube, whose routers have this room and choose by this rule, after so
+/// many petit cycles.
+pub fn measure(
+    alloc: Global,
+    room: u8,
+    rule: Rule,
+    load: &Load,
+    cycles: u32,
+) -> Result<Figures, NoMemory>
+    requires sizes { AreSizes load.now.dims room }
+    requires few { cycles ≤ 1000000 }
+    ensures value { IfOk result (λ figures. AreFigures load.now cycles (loaded_for room load.now rule cycles) figures) }
+{
+    let told = tell(alloc, room, rule, load, cycles)?;
+    Ok(figures_of(load, cycles, told.taken, told.deepest, &told.latencies))
+}
+
+/// The numbers of a load after so many petit cycles, of which these were told.
+fn figures_of(load: &Load, cycles: u32, taken: u128, deepest: u32, latencies: &[u32]) -> Figures
+    requires dimension { load.now.dims ≤ 12 }
+    requires few { cycles ≤ 1000000 }
+    ensures value { (loaded : Loaded) → taken ≡ loaded.taken → deepest ≡ loaded.deepest
+        → latencies.now ≡ loaded.latencies → AreFigures load.now cycles loaded result }
+{
+    Figures {
+        rate: load.rate,
+        offered: offered_in(load, cycles),
+        taken,
+        delivered: latencies.len(),
+        mean: mean_of(latencies),
+        most: most_of(latencies, cycles),
+        greatest: greatest_of(latencies),
+        deepest,
+    }
+}
+
+/// What it tells.
+fn tell(alloc: Global, room: u8, rule: Rule, load: &Load, cycles: u32) -> Result<Told, NoMemory>
+    requires sizes { AreSizes load.now.dims room }
+    requires few { cycles ≤ 1000000 }
+    ensures taken { IfOk result (λ told. told.taken ≡ (loaded_for room load.now rule cycles).taken) }
+    ensures latencies { IfOk result (λ told. told.latencies.items ≡ (loaded_for room load.now rule cycles).latencies) }
+    ensures deepest { IfOk result (λ told. told.deepest ≡ (loaded_for room load.now rule cycles).deepest) }
+{
+    let chips = chip_count(load.dims);
+    let mut logs = blank_logs(alloc, usize::from(chips))?;
+    let mut sources = blank_sources(alloc, load.places())?;
+    begin(
+        alloc,
+        chips,
+        room,
+        rule,
+        load,
+        cycles,
+        &mut logs,
+        &mut sources,
+    )
+}
+
+/// The same, with a log for each chip, and a source for each place.
+fn begin(
+    alloc: Global,
+    chips: u16,
+    room: u8,
+    rule: Rule,
+    load: &Load,
+    cycles: u32,
+    logs: &mut [Vec<Event>],
+    sources: &mut [Source],
+) -> Result<Told, NoMemory>
+    requires sizes { AreSizes load.now.dims room }
+    requires few { cycles ≤ 1000000 }
+    requires chips { chips ≡ 2 ^ load.now.dims }
+    requires all { chips ≤ 4096 }
+    requires logs { events_of logs.old ≡ each_from 0 chips (λ c. []) }
+    requires sources { sources.old ≡ replicate (places load.now.dims) no_source }
+    ensures taken { IfOk result (λ told. told.taken ≡ (loaded_for room load.now rule cycles).taken) }
+    ensures latencies { IfOk result (λ told. told.latencies.items ≡ (loaded_for room load.now rule cycles).latencies) }
+    ensures deepest { IfOk result (λ told. told.deepest ≡ (loaded_for room load.now rule cycles).deepest) }
+{
+    let mut rows = Run::blank(alloc, chips)?;
+    let mut crossing = Crossing::new(alloc, usize::from(chips))?;
+    let routing = routing_by(alloc, load.dims, rule)?;
+    let latencies = Vec::new(alloc);
+    let mut told = Told {
+        deepest: 0,
+        taken: 0,
+        latencies,
+    };
+    let sizes = Sizes {
+        dims: load.dims,
+        span: load.dims,
+        room,
+    };
+    go_through(
+        sizes,
+        &routing,
+        load,
+        cycles,
+        &mut rows,
+        &mut crossing,
+        logs,
+        sources,
+        &mut told,
+    )?;
+    Ok(told)
+}
+
+/// The chips of a cube of so many dimensions.
+fn chip_count(n: u8) -> u16
+    requires dimension { n ≤ 12 }
+    ensures value { result ≡ 2 ^ n }
+    ensures few { result ≤ 4096 }
+{
+    1 << n
+}
+
+/// No wire is cut, and routers choose by this rule.
+fn routing_by(alloc: Global, n: u8, rule: Rule) -> Result<Routing, NoMemory>
+    requires dimension { n ≤ 12 }
+    ensures value { IfOk result (λ routing. routing_of routing ≡ record { cuts = []; rule = rule }) }
+    ensures dims { IfOk result (λ routing. routing.cuts.dims ≡ n) }
+{
+    let mut routing = Routing::plain(alloc, n)?;
+    routing.rule = rule;
+    Ok(routing)
+}
+
+fn blank_logs(alloc: Global, count: usize) -> Result<Vec<Vec<Event>>, NoMemory>
+    ensures value { IfOk result (λ logs. events_of logs.items ≡ each_from 0 count (λ c. [])) }
+{
+    Ok((0..count).map(|_| Vec::new(alloc)).collect(alloc)?)
+}
+
+fn blank_sources(alloc: Global, count: u32) -> Result<Vec<Source>, NoMemory>
+    ensures value { IfOk result (λ sources. sources.items ≡ replicate count no_source) }
+{
+    Ok(vec![in alloc; Source::NONE; count as usize]?)
+}

@@ -1,0 +1,15 @@
+//! Loads of the router: messages that are drawn, offered petit cycle after petit cycle, and what it does with them.
+#![tactic(auto)]
+
+mod asking;
+mod cycles;
+mod draws;
+mod figures;
+mod logs;
+mod offers;
+mod sources;
+mod telling;
+
+pub use cm_message::Rule;
+pub use figures::{Figures, measure};
+pub use offers::{Load, Pattern};
