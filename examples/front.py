@@ -30,9 +30,9 @@ class Machine:
         except BrokenPipeError:                                      # it has ended, and has told why
             raise SystemExit(1)
 
-    def wire(self):
-        """Whether flag 9, GLOBAL, is 1 in any processor."""
-        return self.ask("sense") == ["wire 1"]
+    def wire(self, text=""):
+        """Sends the lines of a text, and then looks: whether flag 9, GLOBAL, is 1 in any processor."""
+        return self.ask(text + "\nsense")[-1] == "wire 1"
 
     def __enter__(self):
         return self

@@ -53,10 +53,8 @@ with front.Machine(*sys.argv[1:3]) as machine:
         for to in "next", "last", "other":
             machine.ask(send.format(to=to))
             cycles.append(1)
-            machine.ask(look)
-            while machine.wire():                           # somebody has not heard yet
+            while machine.wire(look):                       # somebody has not heard yet
                 cycles[-1] += 1
-                machine.ask(look)
             machine.ask(hear)
         machine.ask("""
             add heard one8
