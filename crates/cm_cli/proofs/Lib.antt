@@ -10,3 +10,4 @@ mod Leading
 mod Weaving
 mod ToTheEnd
 mod Sessions
+mod Begun
