@@ -2,6 +2,7 @@
 
 use crate::words::HELP;
 use cm_bits::FieldFault;
+use cm_fresh::FreshFault;
 use cm_front::{FrontFault, ImageFault, SessionFault};
 use cm_lab::{LabFault, NumbersFault};
 use cm_source::{AsmKind, SourceFault, SourceKind};
@@ -23,8 +24,13 @@ pub enum Fault {
     /// A word that is to be a flag is none.
     #[error("cm1lab: {word} is no number of a flag, 0 to 15")]
     Flag { word: String },
+    /// A word that is to be any other number is none.
+    #[error("cm1lab: {word} is no number from 0 to 65535")]
+    Count { word: String },
     #[error("cm1lab: {0}")]
     Field(FieldFault),
+    #[error("cm1lab: {0}")]
+    Fresh(FreshFault),
     /// What is wrong with a file.
     #[error("cm1lab: {path}: {what}")]
     File { path: String, what: &'static str },
@@ -57,6 +63,14 @@ impl Fault {
     pub fn flag(alloc: Global, word: &str) -> Fault {
         match String::from_str(alloc, word) {
             Ok(word) => Fault::Flag { word },
+            Err(_) => Fault::Memory,
+        }
+    }
+
+    /// A word that is no number of a dimension, a room, a chip or a rule.
+    pub fn count(alloc: Global, word: &str) -> Fault {
+        match String::from_str(alloc, word) {
+            Ok(word) => Fault::Count { word },
             Err(_) => Fault::Memory,
         }
     }
@@ -110,7 +124,7 @@ impl Fault {
     pub fn status(&self) -> u8 {
         match self {
             Fault::Help => 0,
-            Fault::Words | Fault::Number { .. } | Fault::Flag { .. } => 2,
+            Fault::Words | Fault::Number { .. } | Fault::Flag { .. } | Fault::Count { .. } => 2,
             Fault::Memory => 3,
             Fault::File { .. } | Fault::Input(_) | Fault::Output => 4,
             _ => 1,

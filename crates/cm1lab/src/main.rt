@@ -1,6 +1,6 @@
-//! The laboratory: data and pictures of all processors, out of a machine's image and into it, studies of its router, and
-//! a front end, and the programs of sources. This is its words, its files, its standard input and output; what it does is
-//! in cm_lab, cm_front and cm_source.
+//! The laboratory: data and pictures of all processors, out of a machine's image and into it, studies of its router, a
+//! front end, the programs of sources, and blank machines. This is its words, its files, its standard input and output;
+//! what it does is in cm_lab, cm_front, cm_source and cm_fresh.
 #![tactic(auto)]
 
 mod fault;
@@ -9,9 +9,10 @@ mod words;
 
 use crate::fault::Fault;
 use crate::files::{read_file, write_file};
-use crate::words::{Asked, Given, Wanted, read_words};
+use crate::words::{Asked, Blank, Given, Wanted, read_words};
 use cm_bits::{Std, write_all};
 use cm_cli::{TakeFault, take};
+use cm_fresh::{FreshFault, fresh};
 use cm_front::front_image;
 use cm_lab::{LabFault, Task, perform};
 use cm_source::expand;
@@ -70,6 +71,16 @@ fn run<R: Input + Print + Env + Files + AllocGlobal>(rt: &R, alloc: Global) -> R
         Wanted::Task(asked) => work(rt, alloc, &asked),
         Wanted::Front { image, out } => converse(rt, alloc, image, out),
         Wanted::Expand { source } => unfold(rt, alloc, source),
+        Wanted::Fresh(blank) => begin(rt, alloc, &blank),
+    }
+}
+
+/// The image of a blank machine.
+fn begin<R: Files + AllocGlobal>(rt: &R, alloc: Global, blank: &Blank<'_>) -> Result<(), Fault> {
+    match fresh(alloc, blank.n, blank.room, &blank.cuts, blank.rule) {
+        Ok(image) => write_file(rt, blank.out, image.as_slice()),
+        Err(FreshFault::Memory) => Err(Fault::Memory),
+        Err(fault) => Err(Fault::Fresh(fault)),
     }
 }
 

@@ -2,6 +2,7 @@
 
 use crate::fault::Fault;
 use cm_bits::{Field, FlagNo};
+use cm_fresh::WireEnd;
 use cm_lab::{Form, Order, Shown, Table, Task};
 use std::alloc::Global;
 
@@ -40,6 +41,10 @@ cm1lab front IMAGE [--out FILE]
 cm1lab expand SOURCE > PROGRAM
     tells the program of a source, which has constants, lines that are repeated, and lines
     for a field from a neighbour or along the chain, for bits, and for a number added
+cm1lab fresh N CAP [--cut CHIP DIM].. [--rule R] FILE
+    puts the image of a blank machine of 2^N chips with room for CAP messages in each router,
+    1 to 15, into FILE; the wire of CHIP over dimension DIM is cut, by whichever end it is
+    named; rule 0, who came first goes first, or rule 1, the oldest
 
 ADDRESS is that of the field's lowest bit, 0 to 4095, and LENGTH how many bits it has, 1 to 64.
 IMAGE is a file that cm1 fresh, cm1 run --out or cm1lab wrote, PROGRAM a text as for cm1 run.";
@@ -56,8 +61,18 @@ pub enum Given<'a> {
     Program(&'a str),
 }
 
+/// A blank machine, and the file into which its image goes.
+#[derive(Drop)]
+pub struct Blank<'a> {
+    pub n: u16,
+    pub room: u16,
+    pub cuts: Vec<WireEnd>,
+    pub rule: u16,
+    pub out: &'a str,
+}
+
 /// What the words ask for.
-#[derive(Clone, Copy)]
+#[derive(Drop)]
 pub enum Wanted<'a> {
     /// A task of cm_lab.
     Task(Asked<'a>),
@@ -70,6 +85,8 @@ pub enum Wanted<'a> {
     Expand {
         source: &'a str,
     },
+    /// A blank machine.
+    Fresh(Blank<'a>),
 }
 
 /// A task: of which image, with what is given beside it, and into which file, if the machine changes.
@@ -92,11 +109,58 @@ pub fn read_words<'a>(alloc: Global, words: &[&'a str]) -> Result<Wanted<'a>, Fa
             })
         }
         [_, "expand", source] => Ok(Wanted::Expand { source }),
+        [_, "fresh", n, room, rest @ ..] => {
+            let blank = read_blank(alloc, n, room, rest)?;
+            Ok(Wanted::Fresh(blank))
+        }
         _ => {
             let asked = read_task(alloc, words)?;
             Ok(Wanted::Task(asked))
         }
     }
+}
+
+/// A blank machine: its dimensions, its room, and the words behind these, of which the last is the file.
+fn read_blank<'a>(
+    alloc: Global,
+    n: &str,
+    room: &str,
+    words: &[&'a str],
+) -> Result<Blank<'a>, Fault> {
+    let mut cuts = Vec::new(alloc);
+    let n = count(alloc, n)?;
+    let room = count(alloc, room)?;
+    let mut rule = 0;
+    let mut rest = words;
+    for _ in 0..words.len() {
+        match rest {
+            ["--cut", chip, dim, after @ ..] => {
+                let end = WireEnd {
+                    chip: count(alloc, chip)?,
+                    dim: count(alloc, dim)?,
+                };
+                if cuts.push(end).is_err() {
+                    return Err(Fault::Memory);
+                }
+                rest = after;
+            }
+            ["--rule", number, after @ ..] => {
+                rule = count(alloc, number)?;
+                rest = after;
+            }
+            [out] => {
+                return Ok(Blank {
+                    n,
+                    room,
+                    cuts,
+                    rule,
+                    out,
+                });
+            }
+            _ => return Err(Fault::Words),
+        }
+    }
+    Err(Fault::Words)
 }
 
 /// The words of a task.
@@ -212,5 +276,13 @@ fn number(alloc: Global, word: &str) -> Result<u16, Fault> {
     match word.parse::<u16>() {
         Ok(number) => Ok(number),
         Err(_) => Err(Fault::number(alloc, word)),
+    }
+}
+
+/// A number of a dimension, a room, a chip or a rule.
+fn count(alloc: Global, word: &str) -> Result<u16, Fault> {
+    match word.parse::<u16>() {
+        Ok(number) => Ok(number),
+        Err(_) => Err(Fault::count(alloc, word)),
     }
 }

@@ -4,6 +4,8 @@
 #[cfg(test)]
 mod again;
 #[cfg(test)]
+mod blanks;
+#[cfg(test)]
 mod drawn;
 #[cfg(test)]
 mod draws;
