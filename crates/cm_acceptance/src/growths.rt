@@ -1,6 +1,6 @@
 //! Growths of memory that are refused: of machines, of what they are made of, and while one goes.
 
-use cm_array::{BuildFault, Builder, Machine, MachineFault, Plain, Runner};
+use cm_array::{BuildFault, Builder, Machine, MachineFault, Part, Plain, Runner};
 use cm_bits::{Edge, FlagNo, NoMemory};
 use cm_draws::{Call, Draws, are_same, first_not_so, poke_plane, put_messages, sends_or_stays};
 use cm_model::Act;
@@ -136,9 +136,13 @@ fn has_part(alloc: Global) -> Option<bool> {
         made => made,
     };
     match made {
-        Ok(part) => Some(part.chips() == 8 && part.clock() == 2 && part.log(0) == machine.log(0)),
+        Ok(part) => Some(is_first_half(&part, &machine)),
         Err(_) => Some(false),
     }
+}
+
+fn is_first_half(part: &Part, machine: &Machine<4, 7>) -> bool {
+    part.first() == 0 && part.chips() == 8 && part.clock() == 2 && part.log(0) == machine.log(0)
 }
 
 fn has_logs_aside(alloc: Global) -> Option<bool> {
