@@ -176,9 +176,15 @@ fn reads_words(alloc: Global) -> bool {
                 program,
                 split: 2,
                 workers: 3,
-                out: Some(out),
+                out,
             },
-        ) => image.as_str() == WORDS[2] && program.as_str() == WORDS[3] && out.as_str() == WORDS[9],
+        ) => {
+            let is_out = match out {
+                Some(file) => file.as_str() == WORDS[9],
+                None => false,
+            };
+            image.as_str() == WORDS[2] && program.as_str() == WORDS[3] && is_out
+        }
         _ => false,
     }
 }
