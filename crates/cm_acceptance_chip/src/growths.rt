@@ -88,6 +88,9 @@ fn has_blank_run(alloc: Global) -> bool {
 
 fn has_copied_run(alloc: Global) -> Option<bool> {
     let mut run = Run::blank(alloc, 9).ok()?;
+    if run.chips() != 9 {
+        return Some(false);
+    }
     run.poke(8, processor(3), address(77), true);
     let made = match run.copy(alloc) {
         Err(NoMemory) => run.copy(alloc),
@@ -115,14 +118,18 @@ fn has_outputs(alloc: Global) -> bool {
 }
 
 /// The run is given up where there is no memory for the near one.
-fn has_near_run(alloc: Global) -> Option<bool> {
+fn near_run(alloc: Global) -> Option<Result<NearRun, NoMemory>> {
     let run = Run::blank(alloc, 9).ok()?;
-    match NearRun::of(alloc, run, 9) {
+    if run.chips() != 9 {
+        return None;
+    }
+    Some(NearRun::of(alloc, run, 9))
+}
+
+fn has_near_run(alloc: Global) -> Option<bool> {
+    match near_run(alloc)? {
         Ok(near) => Some(near.into_run().chips() == 9),
-        Err(NoMemory) => {
-            let run = Run::blank(alloc, 9).ok()?;
-            Some(NearRun::of(alloc, run, 9).is_ok())
-        }
+        Err(NoMemory) => Some(near_run(alloc)?.is_ok()),
     }
 }
 
