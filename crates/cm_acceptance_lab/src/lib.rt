@@ -4,8 +4,6 @@
 #[cfg(test)]
 mod again;
 #[cfg(test)]
-mod blanks;
-#[cfg(test)]
 mod drawn;
 #[cfg(test)]
 mod draws;
@@ -23,8 +21,6 @@ mod performed;
 mod pictures;
 #[cfg(test)]
 mod shown;
-#[cfg(test)]
-mod sources;
 #[cfg(test)]
 mod studies;
 #[cfg(test)]
