@@ -1,10 +1,13 @@
-//! Drawn debugger sessions beside a plain program, and the order of their reads and writes; it has no code of its own.
+//! Drawn debugger sessions beside a plain program, the order of their reads and writes, and growths that are refused in one;
+//! it has no code of its own.
 #![tactic(auto)]
 
 #[cfg(test)]
 mod asked;
 #[cfg(test)]
 mod draws;
+#[cfg(test)]
+mod growths;
 #[cfg(test)]
 mod images;
 #[cfg(test)]
