@@ -22,6 +22,8 @@ mod pictures;
 #[cfg(test)]
 mod shown;
 #[cfg(test)]
+mod sources;
+#[cfg(test)]
 mod studies;
 #[cfg(test)]
 mod texts;
