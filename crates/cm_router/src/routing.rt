@@ -1,7 +1,8 @@
 //! How a machine routes.
 
-ghost use Rattle.std.specs.Prelude.{◌≡◌, ℕ, ◌<◌, ◌≤◌, false, IfOk, IsTrue};
-ghost use Rattle.cm_model.specs.Wiring.{plain_routing, plain_way, way_of};
+ghost use Rattle.std.specs.Prelude.{◌≡◌, ℕ, ◌<◌, ◌≤◌, ◌==◌, ◌&&◌, not, false, IfOk, IsTrue};
+ghost use Rattle.std.specs.List.{list_any};
+ghost use Rattle.cm_model.specs.Wiring.{rule_number, plain_routing, plain_way, way_of};
 ghost use Rattle.cm_router.specs.Routes.{routing_of};
 
 use crate::cuts::Cuts;
@@ -42,6 +43,7 @@ impl Routing {
     /// Whether no wire over a dimension is cut, and who came first goes first.
     pub fn is_plain_over(&self, dim: u8) -> bool
         requires dimension { dim < self.now.cuts.dims }
+        ensures value { result ≡ (rule_number self.now.rule == 0 && not (list_any (λ w. w.dim == dim) self.now.cuts.wires)) }
         ensures plain { IsTrue result → (c : ℕ) → way_of (routing_of self.now) c dim ≡ plain_way }
     {
         match self.rule {
@@ -53,6 +55,7 @@ impl Routing {
     /// Whether no wire over a dimension is cut.
     pub fn is_whole_over(&self, dim: u8) -> bool
         requires dimension { dim < self.now.cuts.dims }
+        ensures value { result ≡ not (list_any (λ w. w.dim == dim) self.now.cuts.wires) }
         ensures whole { IsTrue result → (c : ℕ)
             → way_of (routing_of self.now) c dim ≡ record { cut = false; rule = self.now.rule } }
     {

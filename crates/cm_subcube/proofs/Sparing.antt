@@ -1,7 +1,8 @@
 -- What comes to a block has nothing for a chip whose wire is cut.
 use Rattle.std.proofs.Common.{◌≡◌, ℕ, ◌+◌, ◌-◌, ◌*◌, ◌<◌, ◌≤◌, ◌^◌, Bool, true, false, List, None, length}
-use Rattle.std.proofs.Common.{refl, sym, ap, ◌∙◌, arith}
-use Rattle.std.specs.Prelude.{bit_xor}
+use Rattle.std.proofs.Common.{Option, refl, sym, ap, ◌∙◌, ⊎_elim, inl, inr, arith}
+use Rattle.std.specs.Prelude.{◌⊎◌, bit_xor}
+use Rattle.std.proofs.lemmas.Bool.{cases_Bool}
 use Rattle.std.proofs.lemmas.Bool.Decides.{nat_tests}
 use Rattle.cm_bits.specs.declared.plane.Dir.{Dir}
 use Rattle.cm_bits.specs.declared.plane.Dir.TheVariants.{North, East, South, West}
@@ -19,8 +20,10 @@ use Rattle.cm_blocks.specs.Rounds.{is_round}
 use Rattle.cm_blocks.specs.Steps.{less}
 use Rattle.cm_blocks.proofs.Mailing.{high_across}
 use Rattle.cm_array.specs.Cuts.{KeptPart}
+use Rattle.cm_subcube.specs.declared.round.Kind.{Kind}
+use Rattle.cm_subcube.specs.declared.round.Kind.TheVariants as kind
 use Rattle.cm_subcube.specs.Rounds.{kind_over, kind_of}
-use Rattle.cm_subcube.specs.Parcels.{HaveSpaceOver, SparesCuts, SparesCutsOver}
+use Rattle.cm_subcube.specs.Parcels.{HaveSpaceOver, HaveSpaceFor, HaveRoomOver, HasRoomFor, SparesCuts, SparesCutsOver}
 
 nobody_leaves : (way : Way) (cap d : ℕ) (ms : List Message) → way.cut ≡ true → outgoing way cap d ms ≡ None
 unfolding leaving_place
@@ -69,3 +72,15 @@ space_left d span old new gathered is many space c l joined =
     let count : new.part.count ≡ old.part.count = ap (λ (kept : KeptPart). kept.part.count) is in
     space c (omega (arith, l, count, many))
     (sym (ap (λ (kept : KeptPart). is_cut kept.part.routing (kept.part.first + c) d) is) ∙ joined)
+
+-- so there is room for each message that comes, where there is at each chip whose wire is not cut
+room_over : (d room : ℕ) (s : Part) (lane : ℕ → Option Message) → HaveSpaceOver d room s → SparesCutsOver d s lane
+    → HaveRoomOver room s lane
+room_over d room s lane space spared c l =
+    ⊎_elim (λ cut. inl (spared c l cut)) (λ whole. inr (space c l whole)) (cases_Bool (is_cut s.routing (s.first + c) d))
+
+pub room_for : (kind : Kind) (room : ℕ) (s : Part) (parcel : Parcel) → HaveSpaceFor kind room s
+    → SparesCuts kind s parcel → HasRoomFor kind room s parcel
+room_for kind.North room s parcel space spared = tt
+room_for kind.South room s parcel space spared = tt
+room_for (kind.Dim d) room s parcel space spared = room_over d room s (mail_in parcel) space spared

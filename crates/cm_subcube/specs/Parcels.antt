@@ -1,5 +1,5 @@
 -- Parcels as they are kept. Ours.
-use Rattle.std.specs.Prelude.{◌≡◌, ◌≢◌, ℕ, ◌+◌, ◌-◌, ◌<◌, ◌≤◌, false, true, Option, None, length}
+use Rattle.std.specs.Prelude.{◌≡◌, ◌≢◌, ◌⊎◌, ℕ, ◌+◌, ◌-◌, ◌<◌, ◌≤◌, false, true, Option, None, length}
 use Rattle.cm_bits.specs.declared.plane.Dir.{Dir}
 use Rattle.cm_bits.specs.declared.plane.Dir.TheVariants as dir
 use Rattle.cm_model.specs.declared.act.Act.{Act}
@@ -78,6 +78,16 @@ abbrev pub SparesCuts : Kind → Part → Parcel → Type 0
 SparesCuts kind.North s parcel = Unit {0}
 SparesCuts kind.South s parcel = Unit {0}
 SparesCuts (kind.Dim d) s parcel = SparesCutsOver d s (mail_in parcel)
+
+-- each message of a lane has room at its chip
+abbrev pub HaveRoomOver : ℕ → Part → (ℕ → Option Message) → Type 0
+HaveRoomOver room s lane = (c : ℕ) → c < s.count → (lane c ≡ None) ⊎ (length (list_at s.buffers c) < room)
+
+-- each message of a parcel has
+abbrev pub HasRoomFor : Kind → ℕ → Part → Parcel → Type 0
+HasRoomFor kind.North room s parcel = Unit {0}
+HasRoomFor kind.South room s parcel = Unit {0}
+HasRoomFor (kind.Dim d) room s parcel = HaveRoomOver room s (mail_in parcel)
 
 -- a parcel with a bit for each column of the grid
 abbrev pub HasColumns : ℕ → Parcel → Type 0

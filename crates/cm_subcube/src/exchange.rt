@@ -12,7 +12,7 @@ ghost use Rattle.cm_blocks.specs.Rounds.{is_vertical};
 ghost use Rattle.cm_blocks.specs.Steps.{less, absorbed};
 ghost use Rattle.cm_subcube.specs.Rounds.{step_of};
 ghost use Rattle.cm_subcube.specs.Parcels.{blank_parcel, IsOuter, IsExchange, IsOfKind};
-ghost use Rattle.cm_subcube.specs.Parcels.{HaveSpaceOver, HaveSpaceFor, SparesCuts};
+ghost use Rattle.cm_subcube.specs.Parcels.{HaveSpaceOver, HaveSpaceFor, HasRoomFor};
 
 use crate::block::Block;
 use crate::parcel::{Load, Parcel};
@@ -50,12 +50,11 @@ impl Block {
         }
     }
 
-    /// Takes in what stands in a parcel, which is blank then. Nothing stands there for a chip whose wire is cut.
+    /// Takes in what stands in a parcel, which is blank then. Each chip for which a message stands there has room for it.
     pub fn absorb(&mut self, round: &Round, parcel: &mut Parcel)
         requires exchange { IsExchange self.old.kept.dims self.old.k round.now }
         requires lanes { IsOfKind self.old.kept.dims self.old.k round.now.kind parcel.old }
-        requires space { HaveSpaceFor round.now.kind self.old.kept.room self.old.kept.part }
-        requires cuts { SparesCuts round.now.kind self.old.kept.part parcel.old }
+        requires space { HasRoomFor round.now.kind self.old.kept.room self.old.kept.part parcel.old }
         ensures value { self.new.kept ≡ record self.old.kept {
           part = absorbed self.old.kept.dims self.old.kept.room (step_of round.now) parcel.old self.old.kept.part;
           gathered = self.new.kept.gathered;

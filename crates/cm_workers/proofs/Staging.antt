@@ -34,7 +34,7 @@ use Rattle.cm_subcube.specs.declared.round.Round.{Round}
 use Rattle.cm_subcube.specs.Rounds.{kind_of, kind_over, round_of, rounds_of, step_of}
 use Rattle.cm_subcube.specs.Parcels.{IsOfKind, HaveSpaceFor, SparesCuts}
 use Rattle.cm_subcube.specs.Local.{local_after, IsRoundOf}
-use Rattle.cm_subcube.proofs.Sparing.{cuts_are_spared}
+use Rattle.cm_subcube.proofs.Sparing.{cuts_are_spared, room_for}
 use Rattle.cm_subcube.proofs.Counting.{steps_until-first, deliveries_shared, events_shared}
 use Rattle.cm_subcube.proofs.Following.{round_is_followed}
 use Rattle.cm_workers.specs.declared.post.Post.{Post}
@@ -244,10 +244,11 @@ module _ (n k room : ℕ) (machine : Machine) (acts : List Act) (b : ℕ) (next 
       (record {
         kind = subst (λ (p : Parcel). IsOfKind n k (kind_of phase.step) p) (sym lane)
             (due_of_kind n k room phase.step sent told.exchanges (count_of_block n k (sender n k phase.step b) now));
-        space = subst (λ (o : Option Phase). HaveSpaceAt room o kept.kept.part) is at.space;
-        cuts = subst (λ (s : Part). SparesCuts (kind_of phase.step) s (lane_in (kind_of phase.step) post)) (sym left)
+        space = room_for (kind_of phase.step) room kept.kept.part (lane_in (kind_of phase.step) post)
+            (subst (λ (o : Option Phase). HaveSpaceAt room o kept.kept.part) is at.space)
+            (subst (λ (s : Part). SparesCuts (kind_of phase.step) s (lane_in (kind_of phase.step) post)) (sym left)
             (subst (λ (p : Parcel). SparesCuts (kind_of phase.step) (less room phase.step (block n k b now)) p) (sym lane)
-            (cuts_are_spared n room k b now phase.step told.exchanges));
+            (cuts_are_spared n room k b now phase.step told.exchanges)));
         other = came ∙ ap (λ (p : Parcel). post_of n k (kind_of phase.step) p) (sym lane);
       })
       (subst (λ (xs : List Step). HaveLogRoom (events_in room xs) kept.kept.log_rooms) told.between

@@ -11,7 +11,7 @@ use Rattle.cm_router.specs.Logs.{HaveLogRoom, LoseAtMost}
 use Rattle.cm_subcube.specs.declared.round.Round.{Round}
 use Rattle.cm_subcube.specs.Blocks.{KeptBlock}
 use Rattle.cm_subcube.specs.Rounds.{step_of}
-use Rattle.cm_subcube.specs.Parcels.{HaveSpaceFor, SparesCuts, IsExchange, IsOfKind}
+use Rattle.cm_subcube.specs.Parcels.{HaveSpaceFor, HasRoomFor, IsExchange, IsOfKind}
 use Rattle.cm_subcube.specs.Local.{local_after, IsRoundOf}
 use Rattle.cm_workers.specs.declared.post.Post.{Post}
 use Rattle.cm_workers.specs.Posts.{lane_in, blank_post, post_of}
@@ -40,12 +40,11 @@ abbrev pub sent_by : ℕ → ℕ → ℕ → Option Round → Part → Post
 sent_by n k room None s = blank_post n k
 sent_by n k room (Some round) s = post_of n k round.kind (due n room (step_of round) s)
 
--- what came for a block is of the round's kind, with nothing for a chip whose wire is cut, and there is room for it;
+-- what came for a block is of the round's kind, and there is room for it;
 -- before the first round nothing came
 pub record HasCome (n k room : ℕ) (round : Round) (s : Part) (post : Post) : Type 0 where
   pub kind : IsOfKind n k round.kind (lane_in round.kind post)
-  pub space : HaveSpaceFor round.kind room s
-  pub cuts : SparesCuts round.kind s (lane_in round.kind post)
+  pub space : HasRoomFor round.kind room s (lane_in round.kind post)
   pub other : post ≡ post_of n k round.kind (lane_in round.kind post)
 
 abbrev pub HasComeBefore : ℕ → ℕ → ℕ → Option Round → Part → Post → Type 0
