@@ -27,7 +27,7 @@ use Rattle.cm_subcube.specs.Rounds.{round_of, step_of}
 use Rattle.cm_subcube.specs.Parcels.{blank_parcel, IsOfKind, HaveSpaceFor, SparesCuts}
 use Rattle.cm_subcube.specs.Local.{local_after, IsRoundOf}
 use Rattle.cm_subcube.proofs.Counting.{deliveries_shared, events_shared}
-use Rattle.cm_subcube.proofs.Sparing.{cuts_are_spared}
+use Rattle.cm_subcube.proofs.Sparing.{cuts_are_spared, room_for}
 use Rattle.cm_exchange.specs.declared.stand.Stand.{Stand}
 use Rattle.cm_exchange.specs.declared.step.Step.{Step}
 use Rattle.cm_exchange.specs.declared.step.Step.TheVariants.{Grip, File, Draw, Clear}
@@ -284,14 +284,15 @@ module _ (n cap k : ℕ) (machine : Machine) (acts : List Act) (rounds_kept : Li
                 (block n k sender (before_round n cap k machine acts stand.round))))
                 (due_of_kind n k cap there.phase.step
                 (block n k sender (before_round n cap k machine acts stand.round)) there.followed.exchanges refl));
-            space = as_own (λ n1 k1 room1. HaveSpaceFor round.kind room1 old.kept.part)
+            space = room_for round.kind old.kept.room old.kept.part lane.parcel
+                (as_own (λ n1 k1 room1. HaveSpaceFor round.kind room1 old.kept.part)
                 (subst (λ (o : Option Phase). HasSpaceIn cap 3 o old.kept.part) there.at
                 (subst (λ (z : ℕ). HasSpaceIn cap z (slice_get (rounds n k acts) stand.round) old.kept.part)
-                stage_now stood.space));
-            cuts = subst (λ (s : Part). SparesCuts round.kind s lane.parcel) (sym (left_at stage_now))
+                stage_now stood.space)))
+                (subst (λ (s : Part). SparesCuts round.kind s lane.parcel) (sym (left_at stage_now))
                 (subst (λ (p : Parcel). SparesCuts round.kind (less cap there.phase.step now) p)
                 (sym (parcel ∙ ap (λ (from : ℕ). due n cap there.phase.step (block n k from whole)) (gives x is)))
-                (cuts_are_spared n cap k b whole there.phase.step there.followed.exchanges));
+                (cuts_are_spared n cap k b whole there.phase.step there.followed.exchanges)));
             log_room = as_own (λ n1 k1 room1. HaveLogRoom (events_in room1 (local_after n1 k1 acts (Some round)))
                 old.kept.log_rooms)
                 (subst (λ steps. HaveLogRoom (events_in cap steps) old.kept.log_rooms) there.followed.between

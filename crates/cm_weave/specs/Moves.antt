@@ -9,7 +9,7 @@ use Rattle.cm_router.specs.Logs.{HaveLogRoom, LoseAtMost}
 use Rattle.cm_subcube.specs.declared.round.Round.{Round}
 use Rattle.cm_subcube.specs.Blocks.{KeptBlock}
 use Rattle.cm_subcube.specs.Rounds.{step_of}
-use Rattle.cm_subcube.specs.Parcels.{blank_parcel, IsOfKind, HaveSpaceFor, SparesCuts}
+use Rattle.cm_subcube.specs.Parcels.{blank_parcel, IsOfKind, HaveSpaceFor, HasRoomFor}
 use Rattle.cm_subcube.specs.Local.{local_after, IsRoundOf}
 use Rattle.cm_exchange.specs.declared.step.Step.{Step}
 use Rattle.cm_exchange.specs.declared.step.Step.TheVariants.{Grip, File, Draw, Clear}
@@ -21,8 +21,7 @@ pub record CanFile (round : Round) (block : KeptBlock) (lane : Lane) : Type 0 wh
 
 pub record CanClear (acts : List Act) (round : Round) (block : KeptBlock) (lane : Lane) : Type 0 where
   pub lanes : IsOfKind block.kept.dims block.k round.kind lane.parcel
-  pub space : HaveSpaceFor round.kind block.kept.room block.kept.part
-  pub cuts : SparesCuts round.kind block.kept.part lane.parcel
+  pub space : HasRoomFor round.kind block.kept.room block.kept.part lane.parcel
   pub log_room : HaveLogRoom (events_in block.kept.room (local_after block.kept.dims block.k acts (Some round)))
       block.kept.log_rooms
   pub clock : block.kept.part.clock + deliveries (local_after block.kept.dims block.k acts (Some round)) < 2 ^ 63
