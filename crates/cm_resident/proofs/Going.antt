@@ -35,7 +35,7 @@ use Rattle.cm_subcube.specs.Local.{local_after, IsRoundOf}
 use Rattle.cm_subcube.specs.Laws.{IsFollowed}
 use Rattle.cm_subcube.proofs.Counting.{steps_until-first, deliveries_shared, events_shared}
 use Rattle.cm_subcube.proofs.Following.{round_is_followed}
-use Rattle.cm_subcube.proofs.Sparing.{cuts_are_spared}
+use Rattle.cm_subcube.proofs.Sparing.{cuts_are_spared, room_for}
 use Rattle.cm_board.specs.Courses.{Course, due_now}
 use Rattle.cm_workers.specs.Posts.{giver}
 use Rattle.cm_resident.specs.Lanes.{Run, before, rounds_in, place_of, kind_at, is_over, passed, sent_in, dues, course}
@@ -362,10 +362,10 @@ module _ (run : Run) (r b : ℕ) (phase : Phase) (one : KeptBlock)
     kind = subst (λ (p : Parcel). IsOfKind one.kept.dims one.k (kind_of phase.step) p) (sym came)
         (due_of_kind one.kept.dims one.k one.kept.room phase.step (block one.kept.dims one.k sender_it (before own_it r))
         followed_it.exchanges (count_of_block one.kept.dims one.k sender_it (before own_it r)));
-    space = st.space;
-    cuts = subst (λ (s : Part). SparesCuts (kind_of phase.step) s (due_now giver_end)) (sym left_it)
+    space = room_for (kind_of phase.step) one.kept.room one.kept.part (due_now giver_end) st.space
+        (subst (λ (s : Part). SparesCuts (kind_of phase.step) s (due_now giver_end)) (sym left_it)
         (subst (λ (p : Parcel). SparesCuts (kind_of phase.step) (less one.kept.room phase.step here_it) p) (sym came)
-        (cuts_are_spared one.kept.dims one.kept.room one.k b (before own_it r) phase.step followed_it.exchanges));
+        (cuts_are_spared one.kept.dims one.kept.room one.k b (before own_it r) phase.step followed_it.exchanges)));
     going = record {
       following = λ x same. subst (λ (y : Round). IsRoundOf one.kept.dims one.k run.acts y)
           (let e : round_of phase ≡ x = (let f : Some (round_of phase) ≡ Some x = same in cc) in e) followed_it.round;
