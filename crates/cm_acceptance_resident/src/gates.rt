@@ -92,11 +92,12 @@ fn cycles<X: Runner<4, 7>>(
     Some([(first, between), (second, calls.told())])
 }
 
-/// What four workers tell, of whom the gate does not admit one in the first.
+/// What so many workers tell, of whom the gate does not admit one in the first.
 fn gated<R: Threads + Wait + Sync>(
     rt: &R,
     alloc: Global,
     machine: &mut Machine<4, 7>,
+    workers: u16,
     refused: u16,
     calls: &Arc<Calls, Global>,
 ) -> Option<[Cycled; 2]>
@@ -107,36 +108,48 @@ fn gated<R: Threads + Wait + Sync>(
         calls: Arc::try_clone(calls).ok()?,
     };
     let passage = Passage::Gated(Box::new(alloc, gate).ok()?);
-    let mut resident = Resident::new::<4>(rt, alloc, 2, 4, passage).ok()?;
+    let mut resident = Resident::new::<4>(rt, alloc, 2, workers, passage).ok()?;
     cycles(&mut resident, alloc, machine, calls)
 }
 
 /// The same of a machine in which some processors ask to send.
-fn told<R: Threads + Wait + Sync>(rt: &R, alloc: Global, refused: u16) -> Option<[Cycled; 2]>
+fn told<R: Threads + Wait + Sync>(
+    rt: &R,
+    alloc: Global,
+    workers: u16,
+    refused: u16,
+) -> Option<[Cycled; 2]>
     requires threads { IsSync R.row }
 {
     let calls = no_calls(alloc)?;
     let mut machine = asking(alloc)?;
-    gated(rt, alloc, &mut machine, refused, &calls)
+    gated(rt, alloc, &mut machine, workers, refused, &calls)
 }
 
-/// Which of four workers is not admitted, and how often the gate was asked then, and after a second cycle.
-static REFUSED: [(u16, u64, u64); 4] = [(0, 1, 5), (1, 2, 6), (2, 3, 7), (3, 4, 8)];
+/// Which of so many workers is not admitted, how often the gate was asked then, and after a second cycle, and how often it
+/// was passed in that.
+static REFUSED: [(u16, u16, u64, u64, u64); 5] = [
+    (2, 1, 2, 4, 4),
+    (4, 0, 1, 5, 8),
+    (4, 1, 2, 6, 8),
+    (4, 2, 3, 7, 8),
+    (4, 3, 4, 8, 8),
+];
 
 #[test]
 fn a_worker_that_is_not_admitted_leaves_the_machine_as_it_was_and_may_be_admitted_later(
     rt: HostRuntime,
 ) -> Result<(), Fail> {
     for row in &REFUSED {
-        let (refused, first, second) = *row;
+        let (workers, refused, first, second, passed) = *row;
         let wanted = [
             ((Some(RunFault::NoThread), true), (first, 0)),
-            ((None, true), (second, 8)),
+            ((None, true), (second, passed)),
         ];
         assert_eq!(rt;
-            told(&rt, rt.alloc(), refused),
+            told(&rt, rt.alloc(), workers, refused),
             Some(wanted),
-            "worker {refused}"
+            "worker {refused} of {workers}"
         );
     }
     Ok(())

@@ -1,46 +1,57 @@
-//! Growths of memory and starts of threads that are refused while workers run.
+//! Growths of memory and starts of threads that are refused, while a team is made and while workers run.
 
 ghost use Rattle.std.specs.Thread.{IsSync};
 
 use crate::shares::Anyone;
-use cm_array::{Machine, RunFault};
-use cm_bits::FlagNo;
-use cm_draws::{poke_plane, run_beside_plain};
+use cm_array::{Machine, check_stretch};
+use cm_bits::NoMemory;
+use cm_draws::sends_or_stays;
 use cm_model::Act;
-use cm_resident::Resident;
+use cm_resident::{Resident, team};
 use cm_workers::Passage;
 use std::alloc::Global;
 use std::sync::Wait;
 use std::thread::Threads;
 
-/// Whether two workers run two petit cycles of sixteen chips as one thread does; or else leave the machine as it was, want
-/// of memory or of a thread being told, and run them when they are asked again. None where memory is wanting beside it.
-fn run_or_leave<R: Threads + Wait + Sync>(rt: &R, alloc: Global) -> Option<bool>
-    requires threads { IsSync R.row }
-{
-    let acts = [Act::Cycle, Act::Cycle];
-    let mut machine = Machine::<4, 7>::blank(alloc).ok()?;
-    poke_plane(&mut machine, 0, FlagNo::SEND, 0x00ff);
-    poke_plane(&mut machine, 9, FlagNo::SEND, 0xf0f0);
-    let passage = Passage::Gated(Box::new(alloc, Anyone).ok()?);
-    let mut resident = Resident::new::<4>(rt, alloc, 2, 2, passage).ok()?;
-    let (refused, is_right) = run_beside_plain(&mut resident, alloc, &mut machine, &acts, 16)?;
-    match refused {
-        None => Some(is_right),
-        Some(RunFault::Memory | RunFault::NoThread) => {
-            let again = run_beside_plain(&mut resident, alloc, &mut machine, &acts, 16)?;
-            Some(is_right && again == (None, true))
-        }
-        Some(_) => Some(false),
+/// Whether there is a team of two workers for a petit cycle of sixteen chips.
+fn has_team(alloc: Global) -> Option<bool> {
+    let machine = Machine::<4, 7>::blank(alloc).ok()?;
+    let acts = [Act::Cycle];
+    let Ok(_cycles) = check_stretch(&acts, machine.clock()) else {
+        return None;
+    };
+    let made = match team(alloc, &machine, &acts, 2, 2) {
+        Err(NoMemory) => team(alloc, &machine, &acts, 2, 2),
+        made => made,
+    };
+    match made {
+        Ok(team) => Some(team.len() == 2),
+        Err(_) => Some(false),
     }
 }
 
-// One growth in all is refused, so that the second time none is.
+/// Whether two workers go through the program of messages as one thread does, or else leave the machine as it was.
+fn workers_go<R: Threads + Wait + Sync>(rt: &R, alloc: Global) -> Option<bool>
+    requires threads { IsSync R.row }
+{
+    let passage = Passage::Gated(Box::new(alloc, Anyone).ok()?);
+    let mut resident = Resident::new::<4>(rt, alloc, 2, 2, passage).ok()?;
+    sends_or_stays(&mut resident, alloc)
+}
+
+/// Both; None where memory is wanting beside them.
+fn both<R: Threads + Wait + Sync>(rt: &R, alloc: Global) -> Option<[bool; 2]>
+    requires threads { IsSync R.row }
+{
+    Some([has_team(alloc)?, workers_go(rt, alloc)?])
+}
+
+// `.ci/refusals` refuses each growth and each thread in turn: one in all, so that the second time none is.
 #[test]
 fn a_refused_growth_or_thread_leaves_the_machine_as_it_was(rt: HostRuntime) {
-    let told = match run_or_leave(&rt, rt.alloc()) {
-        None => run_or_leave(&rt, rt.alloc()),
+    let told = match both(&rt, rt.alloc()) {
+        None => both(&rt, rt.alloc()),
         told => told,
     };
-    assert_eq!(rt; told, Some(true));
+    assert_eq!(rt; told, Some([true; 2]));
 }
