@@ -3,3 +3,4 @@ pub mod Saying
 pub mod Told
 pub mod Ending
 pub mod Running
+pub mod Alike

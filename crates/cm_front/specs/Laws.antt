@@ -1,15 +1,19 @@
 -- Laws over the definitions, each the contract of a function of its name. Ours.
-use Rattle.std.specs.Prelude.{◌≡◌, ℕ, ◌||◌, Bool, false, Result, Ok, Err, List, [], ◌∷◌}
+use Rattle.std.specs.Prelude.{◌≡◌, ℕ, ◌||◌, Bool, true, false, Some, Result, Ok, Err, List, [], ◌∷◌}
 use Rattle.std.specs.List.{filter}
 use Rattle.cm_bits.specs.Text.{words_of}
+use Rattle.cm_model.specs.declared.act.Act.{Act}
 use Rattle.cm_model.specs.Machine.{Machine, run_of}
 use Rattle.cm_model.specs.Keeping.{IsMachine}
 use Rattle.cm_array.specs.Acts.{is_late, is_long}
 use Rattle.cm_language.specs.declared.fault.AsmKind.{AsmKind}
 use Rattle.cm_language.specs.Program as language
+use Rattle.cm_session.specs.declared.command.Command.{Command}
+use Rattle.cm_session.specs.declared.command.Command.TheVariants as command
+use Rattle.cm_session.specs.Session as session
 use Rattle.cm_session.specs.Whole.{asks_poke}
 use Rattle.cm_front.specs.Asked.{is_of_program, question_of}
-use Rattle.cm_front.specs.Front.{Front, front_of, opening, without_acts, after_line, after_lines}
+use Rattle.cm_front.specs.Front.{Front, Answered, front_of, opening, without_acts, after_line, after_lines}
 
 -- the line is one of a program
 abbrev pub is_program_line : List ℕ → Bool
@@ -44,3 +48,25 @@ FrontsRunTheirPrograms = (n cap : ℕ) (start : Machine) (lines : List (List ℕ
     → IsMachine n cap start → language.after_lines language.nothing_read 1 (program_lines lines) ≡ Ok read
     → HaveNoPoke n lines → AreRun n cap (opening start) lines
     → (after_lines n cap (opening start) lines).front ≡ front_of (run_of n cap start read.acts) (without_acts read)
+
+-- what is asked of the machine alone, and a poke; not what bears on the acts of a session
+abbrev pub is_of_machine : Command → Bool
+is_of_machine command.Step = false
+is_of_machine command.Run = false
+is_of_machine (command.Break i) = false
+is_of_machine (command.Clear i) = false
+is_of_machine command.WireOn = false
+is_of_machine command.WireOff = false
+is_of_machine _ = true
+
+-- a front end and a session answer alike, and have the same machine then
+pub record AnswerAlike (asked : Answered) (heard : session.Answered) : Type 0 where
+  pub answer : asked.answer ≡ heard.answer
+  pub machine : asked.front.machine ≡ heard.session.machine
+
+-- a question is answered as a session over the same machine answers it, whatever acts that has and wherever it stands in them
+abbrev pub FrontsAnswerAsSessions : Type 0
+FrontsAnswerAsSessions = (n cap : ℕ) (front : Front) (acts : List Act) (here : session.Session) (line : List ℕ)
+    (it : Command) → here.machine ≡ front.machine → is_program_line line ≡ false
+    → question_of n (words_of line) ≡ Ok (Some it) → is_of_machine it ≡ true
+    → AnswerAlike (after_line n cap front line) (session.after_line n cap acts here line)

@@ -13,5 +13,5 @@ pub use cm_image::ImageFault;
 pub use cm_session::SessionFault;
 pub use front_end::FrontEnd;
 pub use images::{FrontFault, front_image};
-pub use laws::fronts_run_their_programs;
+pub use laws::{fronts_answer_as_sessions, fronts_run_their_programs};
 pub use talk::front;
