@@ -17,8 +17,8 @@ use Rattle.cm_steps.specs.declared.fault.WeaveFault.{WeaveFault}
 use Rattle.cm_steps.specs.declared.fault.WeaveFault.TheVariants.{Read, Write, TooMuch, Memory, Unfinished}
 use Rattle.cm_steps.specs.Session.{answers, left}
 use Rattle.cm_steps.specs.Ends.{LIMIT, heard_lines, closing, told_text, finished_line, unfinished_line, is_finished}
-use Rattle.cm_steps.specs.Ends.{last_line, IsCutBy, EndsBy, EndsFinished}
-use Rattle.cm_steps.specs.Hearing.{Hearing, heard, at_start, BreaksOff, HasHeard, IsHeard}
+use Rattle.cm_steps.specs.Ends.{last_line, IsCutBy, EndsBy, EndsByForSome, EndsFinished, EndsFinishedForSome}
+use Rattle.cm_steps.specs.Hearing.{Hearing, heard, at_start, BreaksOff, HasHeard, IsHeard, IsHeardForSome}
 use Rattle.cm_steps.proofs.Lines.{heard_first, heard_whole, closing_whole, told_on, lines_closed, lines_at_last}
 use Rattle.cm_steps.proofs.Pieces.{heard_piece, heard_so_far, so_far}
 use Rattle.cm_steps.proofs.Going.{cut_text}
@@ -85,6 +85,17 @@ module _ (exchange : Exchange) (start : World) (held before : Option (List ℕ))
       within = let w = mid.within in omega (arith, w, mid.taken_is);
       written = subst (Appends held holds) said_is mid.written;
     }
+
+  pub some_read : EndsByForSome exchange start held holds Read
+  some_read = record {
+    text = text;
+    ends = record {
+      taken = text;
+      consumed = sym (append-nil text);
+      within = let w = mid.within in omega (arith, w, mid.taken_is);
+      written = subst (Appends held holds) said_is mid.written;
+    };
+  }
 
   -- ---- a piece
 
@@ -156,56 +167,131 @@ module _ (exchange : Exchange) (start : World) (held before : Option (List ℕ))
   long k xs h = grind (arith, common_steps)
 
   -- the first bytes that it gave broke off
-  pub ends_in_read : (after : Option (List ℕ)) (buf : List ℕ) (count room : ℕ) (on : Option (List ℕ))
-      (fault : WeaveFault) → room ≡ min count (LIMIT - taken) → Consumes now after (take count buf)
-      → BreaksOff (heard exchange (record { world = world; line = line; answers = [] }) (take room buf)).answers
-      sent holds on fault
-      → IfSome before (λ text. EndsBy exchange text after start held on fault)
-  ends_in_read after buf count room on fault is read breaks =
-      let w = mid.within in
-      known before after (text ++ take count buf) (λ text. EndsBy exchange text after start held on fault)
-      (Consumes-trans before now after text (take count buf) mid.consumed read)
-      (λ rest. subst (λ (t : List ℕ). EndsBy exchange t after start held on fault)
-      (sym (front_and_rest buf rest room count (omega (arith, is))))
-      (cut_ends ((text ++ take room buf) ++ (drop room (take count buf) ++ rest)) after on fault
-      (cut_in_piece (take room buf) (drop room (take count buf) ++ rest) on fault
-      (omega (arith, is, w, mid.taken_is, length-append text (take room buf), short room buf)) breaks)))
+  module _ (buf : List ℕ) (count room : ℕ) (on : Option (List ℕ)) (fault : WeaveFault)
+      (is : room ≡ min count (LIMIT - taken))
+      (breaks : BreaksOff (heard exchange (record { world = world; line = line; answers = [] }) (take room buf)).answers
+      sent holds on fault) where
+    in_read : (beyond : Option (List ℕ)) (rest : List ℕ)
+        → EndsBy exchange ((text ++ take count buf) ++ rest) beyond start held on fault
+    in_read beyond rest =
+        let w = mid.within in
+        subst (λ (t : List ℕ). EndsBy exchange t beyond start held on fault)
+        (sym (front_and_rest buf rest room count (omega (arith, is))))
+        (cut_ends ((text ++ take room buf) ++ (drop room (take count buf) ++ rest)) beyond on fault
+        (cut_in_piece (take room buf) (drop room (take count buf) ++ rest) on fault
+        (omega (arith, is, w, mid.taken_is, length-append text (take room buf), short room buf)) breaks))
+
+    pub ends_in_read : (after : Option (List ℕ)) → Consumes now after (take count buf)
+        → IfSome before (λ text. EndsBy exchange text after start held on fault)
+    ends_in_read after read =
+        known before after (text ++ take count buf) (λ text. EndsBy exchange text after start held on fault)
+        (Consumes-trans before now after text (take count buf) mid.consumed read) (in_read after)
+
+    pub some_in_read : EndsByForSome exchange start held on fault
+    some_in_read = record { text = (text ++ take count buf) ++ []; ends = in_read (Some []) [] }
 
   -- it gave more than there was room for
-  pub ends_over : (after : Option (List ℕ)) (buf : List ℕ) (count room : ℕ) (new : World) (kept : List ℕ)
-      (on : Option (List ℕ)) (more : ℕ) → count ≤ length buf → room ≡ min count (LIMIT - taken) → room < count
-      → Consumes now after (take count buf)
-      → HasHeard exchange world new line kept (take room buf) sent holds on more
-      → IfSome before (λ text. EndsBy exchange text after start held on TooMuch)
-  ends_over after buf count room new kept on more inside is less read has =
-      let w = mid.within in
-      let fed : length (take room buf) ≡ room = long room buf (omega (arith, less, inside)) in
-      let all : length (take count buf) ≡ count = long count buf inside in
-      let full : length (text ++ take room buf) ≡ LIMIT =
-      length-append text (take room buf) ∙ omega (arith, fed, is, less, w, mid.taken_is) in
-      known before after (text ++ take count buf) (λ text. EndsBy exchange text after start held on TooMuch)
-      (Consumes-trans before now after text (take count buf) mid.consumed read)
-      (λ rest. subst (λ (t : List ℕ). EndsBy exchange t after start held on TooMuch)
-      (sym (front_and_rest buf rest room count (omega (arith, less)))) (
-        omega (
-          arith,
-          full,
-          less,
-          all,
-          length-append (text ++ take room buf) (drop room (take count buf) ++ rest),
-          length-append (drop room (take count buf)) rest,
-          length-drop room (take count buf),
-        ),
-        subst (Appends held on) (both_are (take room buf)
-            ∙ ap (λ (t : List ℕ). answers exchange start (ended_lines t))
-            (sym (ap (λ (k : ℕ). take k ((text ++ take room buf) ++ (drop room (take count buf) ++ rest))) (sym full)
-            ∙ take_all (text ++ take room buf) (drop room (take count buf) ++ rest))))
-            (Appends-trans held holds on mid.said _ mid.written has.written),
-      )) where
-        take_all : (xs ys : List ℕ) → take (length xs) (xs ++ ys) ≡ xs
-        take_all xs ys = grind (arith, common_steps)
+  module _ (buf : List ℕ) (count room : ℕ) (new : World) (kept : List ℕ) (on : Option (List ℕ)) (more : ℕ)
+      (inside : count ≤ length buf) (is : room ≡ min count (LIMIT - taken)) (less : room < count)
+      (has : HasHeard exchange world new line kept (take room buf) sent holds on more) where
+    over : (beyond : Option (List ℕ)) (rest : List ℕ)
+        → EndsBy exchange ((text ++ take count buf) ++ rest) beyond start held on TooMuch
+    over beyond rest =
+        let w = mid.within in
+        let fed : length (take room buf) ≡ room = long room buf (omega (arith, less, inside)) in
+        let all : length (take count buf) ≡ count = long count buf inside in
+        let full : length (text ++ take room buf) ≡ LIMIT =
+        length-append text (take room buf) ∙ omega (arith, fed, is, less, w, mid.taken_is) in
+        subst (λ (t : List ℕ). EndsBy exchange t beyond start held on TooMuch)
+        (sym (front_and_rest buf rest room count (omega (arith, less)))) (
+          omega (
+            arith,
+            full,
+            less,
+            all,
+            length-append (text ++ take room buf) (drop room (take count buf) ++ rest),
+            length-append (drop room (take count buf)) rest,
+            length-drop room (take count buf),
+          ),
+          subst (Appends held on) (both_are (take room buf)
+              ∙ ap (λ (t : List ℕ). answers exchange start (ended_lines t))
+              (sym (ap (λ (k : ℕ). take k ((text ++ take room buf) ++ (drop room (take count buf) ++ rest))) (sym full)
+              ∙ take_all (text ++ take room buf) (drop room (take count buf) ++ rest))))
+              (Appends-trans held holds on mid.said _ mid.written has.written),
+        ) where
+          take_all : (xs ys : List ℕ) → take (length xs) (xs ++ ys) ≡ xs
+          take_all xs ys = grind (arith, common_steps)
+
+    pub ends_over : (after : Option (List ℕ)) → Consumes now after (take count buf)
+        → IfSome before (λ text. EndsBy exchange text after start held on TooMuch)
+    ends_over after read =
+        known before after (text ++ take count buf) (λ text. EndsBy exchange text after start held on TooMuch)
+        (Consumes-trans before now after text (take count buf) mid.consumed read) (over after)
+
+    pub some_over : EndsByForSome exchange start held on TooMuch
+    some_over = record { text = (text ++ take count buf) ++ []; ends = over (Some []) [] }
 
   -- ---- it gave nothing
+
+  -- and no line is open
+  closed : line ≡ [] → IsHeard exchange text start held world holds sent
+  closed empty =
+      let lines : lines_of text ≡ ended_lines text = lines_closed text line line_is empty in
+      record {
+        within = let w = mid.within in omega (arith, w, mid.taken_is);
+        world_is = world_is ∙ ap (left exchange start) (sym lines);
+        written = subst (Appends held holds) (said_is ∙ ap (answers exchange start) (sym lines)) mid.written;
+        sent_is = mid.sent_is ∙ ap length (said_is ∙ ap (answers exchange start) (sym lines));
+      }
+
+  -- and the line that is open is answered
+  answered_last : (new : World) (kept : List ℕ) (on : Option (List ℕ)) (more : ℕ) → 0 < length line
+      → HasHeard exchange world new line kept (10 ∷ []) sent holds on more
+      → IsHeard exchange text start held new on more
+  answered_last new kept on more some has =
+      let lines : lines_of text ≡ ended_lines (text ++ 10 ∷ []) = lines_at_last text line some line_is in
+      let all : mid.said ++ (at (10 ∷ [])).answers ≡ answers exchange start (lines_of text) =
+      both_are (10 ∷ []) ∙ ap (answers exchange start) (sym lines) in
+      record {
+        within = let w = mid.within in omega (arith, w, mid.taken_is);
+        world_is = has.world_is
+            ∙ ap (λ (z : Hearing). z.world) (both (10 ∷ []) ∙ heard_so_far exchange start (text ++ 10 ∷ []))
+            ∙ ap (left exchange start) (sym lines);
+        written = subst (Appends held on) all (Appends-trans held holds on mid.said _ mid.written has.written);
+        sent_is = has.count_is ∙ ap (λ (k : ℕ). k + length (at (10 ∷ [])).answers) mid.sent_is
+            ∙ sym (length-append mid.said (at (10 ∷ [])).answers) ∙ ap length all;
+      }
+
+  -- and the line that is open breaks off
+  cut_last : (beyond : Option (List ℕ)) (on : Option (List ℕ)) (fault : WeaveFault) → 0 < length line
+      → BreaksOff (heard exchange (record { world = world; line = line; answers = [] }) (10 ∷ [])).answers
+      sent holds on fault
+      → EndsBy exchange text beyond start held on fault
+  cut_last beyond on fault some breaks =
+      let lines : lines_of text ≡ ended_lines (text ++ 10 ∷ []) = lines_at_last text line some line_is in
+      let heard_is : heard_lines text ≡ lines_of text =
+      heard_whole text (let w = mid.within in omega (arith, w, mid.taken_is)) in
+      let last : List ℕ = closing exchange start text in
+      let all : answers exchange start (heard_lines text) ≡ mid.said ++ (at (10 ∷ [])).answers =
+      ap (answers exchange start) (heard_is ∙ lines) ∙ sym (both_are (10 ∷ [])) in
+      cut_ends text beyond on fault
+      (cut_text (told_text exchange start text) mid.said (at (10 ∷ [])).answers last held holds on sent
+      fault mid.written mid.sent_is
+      (ap (λ (xs : List ℕ). xs ++ last) all ∙ append_assoc mid.said (at (10 ∷ [])).answers last) breaks)
+
+  pub some_closed : line ≡ [] → IsHeardForSome exchange start held world holds sent
+  some_closed empty = record { text = text; is = closed empty }
+
+  pub some_last : (new : World) (kept : List ℕ) (on : Option (List ℕ)) (more : ℕ) → 0 < length line
+      → HasHeard exchange world new line kept (10 ∷ []) sent holds on more
+      → IsHeardForSome exchange start held new on more
+  some_last new kept on more some has = record { text = text; is = answered_last new kept on more some has }
+
+  pub some_cut_last : (on : Option (List ℕ)) (fault : WeaveFault) → 0 < length line
+      → BreaksOff (heard exchange (record { world = world; line = line; answers = [] }) (10 ∷ [])).answers
+      sent holds on fault
+      → EndsByForSome exchange start held on fault
+  some_cut_last on fault some breaks = record { text = text; ends = cut_last (Some []) on fault some breaks }
 
   module _ (after : Option (List ℕ)) (buf : List ℕ) (count : ℕ) (none : count ≡ 0)
       (read : Consumes now after (take count buf)) (end : IsAtEnd after) where
@@ -214,53 +300,26 @@ module _ (exchange : Exchange) (start : World) (held before : Option (List ℕ))
         (Consumes-trans before now after text [] mid.consumed
         (subst (λ (k : ℕ). Consumes now after (take k buf)) none read))
 
-    -- and no line is open
     pub heard_closed : line ≡ []
         → IfSome before (λ text. IsHeard exchange text start held world holds sent)
     heard_closed empty =
-        let lines : lines_of text ≡ ended_lines text = lines_closed text line line_is empty in
-        Consumes-whole before after text (λ text. IsHeard exchange text start held world holds sent) whole end (record {
-          within = let w = mid.within in omega (arith, w, mid.taken_is);
-          world_is = world_is ∙ ap (left exchange start) (sym lines);
-          written = subst (Appends held holds) (said_is ∙ ap (answers exchange start) (sym lines)) mid.written;
-          sent_is = mid.sent_is ∙ ap length (said_is ∙ ap (answers exchange start) (sym lines));
-        })
+        Consumes-whole before after text (λ text. IsHeard exchange text start held world holds sent) whole end
+        (closed empty)
 
-    -- and the line that is open is answered
     pub heard_last : (new : World) (kept : List ℕ) (on : Option (List ℕ)) (more : ℕ) → 0 < length line
         → HasHeard exchange world new line kept (10 ∷ []) sent holds on more
         → IfSome before (λ text. IsHeard exchange text start held new on more)
     heard_last new kept on more some has =
-        let lines : lines_of text ≡ ended_lines (text ++ 10 ∷ []) = lines_at_last text line some line_is in
-        let all : mid.said ++ (at (10 ∷ [])).answers ≡ answers exchange start (lines_of text) =
-        both_are (10 ∷ []) ∙ ap (answers exchange start) (sym lines) in
-        Consumes-whole before after text (λ text. IsHeard exchange text start held new on more) whole end (record {
-          within = let w = mid.within in omega (arith, w, mid.taken_is);
-          world_is = has.world_is
-              ∙ ap (λ (z : Hearing). z.world) (both (10 ∷ []) ∙ heard_so_far exchange start (text ++ 10 ∷ []))
-              ∙ ap (left exchange start) (sym lines);
-          written = subst (Appends held on) all (Appends-trans held holds on mid.said _ mid.written has.written);
-          sent_is = has.count_is ∙ ap (λ (k : ℕ). k + length (at (10 ∷ [])).answers) mid.sent_is
-              ∙ sym (length-append mid.said (at (10 ∷ [])).answers) ∙ ap length all;
-        })
+        Consumes-whole before after text (λ text. IsHeard exchange text start held new on more) whole end
+        (answered_last new kept on more some has)
 
-    -- and the line that is open breaks off
     pub ends_last : (on : Option (List ℕ)) (fault : WeaveFault) → 0 < length line
         → BreaksOff (heard exchange (record { world = world; line = line; answers = [] }) (10 ∷ [])).answers
         sent holds on fault
         → IfSome before (λ text. EndsBy exchange text after start held on fault)
     ends_last on fault some breaks =
-        let lines : lines_of text ≡ ended_lines (text ++ 10 ∷ []) = lines_at_last text line some line_is in
-        let heard_is : heard_lines text ≡ lines_of text =
-        heard_whole text (let w = mid.within in omega (arith, w, mid.taken_is)) in
-        let last : List ℕ = closing exchange start text in
-        let all : answers exchange start (heard_lines text) ≡ mid.said ++ (at (10 ∷ [])).answers =
-        ap (answers exchange start) (heard_is ∙ lines) ∙ sym (both_are (10 ∷ [])) in
         Consumes-whole before after text (λ text. EndsBy exchange text after start held on fault) whole end
-        (cut_ends text after on fault
-        (cut_text (told_text exchange start text) mid.said (at (10 ∷ [])).answers last held holds on sent
-        fault mid.written mid.sent_is
-        (ap (λ (xs : List ℕ). xs ++ last) all ∙ append_assoc mid.said (at (10 ∷ [])).answers last) breaks))
+        (cut_last after on fault some breaks)
 
 -- ---- the last line
 
@@ -291,6 +350,44 @@ last-unfinished exchange world unfinished = by (is_finished exchange world) refl
   by true h = absurd (unfinished (passes (round_count exchange) world.stands h))
   by false h = refl
 
+-- all lines of a text are answered
+module _ (exchange : Exchange) (start world : World) (held holds on : Option (List ℕ)) (sent : ℕ) (text : List ℕ)
+    (all : IsHeard exchange text start held world holds sent) where
+  finished_at : IsFinished exchange world → Appends holds on finished_line → EndsFinished exchange text start held on
+  finished_at finished wrote = record {
+    finished = subst (IsFinished exchange) all.world_is finished;
+    told = record {
+      within = all.within;
+      written = Appends-trans held holds on _ finished_line all.written wrote;
+    };
+  }
+
+  unfinished_at : (beyond : Option (List ℕ)) → (IsFinished exchange world → ⊥) → Appends holds on unfinished_line
+      → EndsBy exchange text beyond start held on Unfinished
+  unfinished_at beyond unfinished wrote = (
+    (λ h. unfinished (subst (IsFinished exchange) (sym all.world_is) h)),
+    record {
+      within = all.within;
+      written = Appends-trans held holds on _ unfinished_line all.written wrote;
+    },
+  )
+
+  -- and the last line is cut
+  cut_at : (beyond : Option (List ℕ)) (last : List ℕ) (part : ℕ) → last ≡ last_line exchange world → part < length last
+      → Appends holds on (take part last)
+      → EndsBy exchange text beyond start held on (Write (sent + part))
+  cut_at beyond last part is inside wrote =
+      let lines : heard_lines text ≡ lines_of text = heard_whole text all.within in
+      let first : List ℕ = answers exchange start (lines_of text) in
+      let whole : told_text exchange start text ≡ first ++ (last ++ []) =
+      ap (λ (xs : List (List ℕ)). answers exchange start xs ++ closing exchange start text) lines
+      ∙ ap (λ (xs : List ℕ). first ++ xs) (closing_whole exchange start text all.within)
+      ∙ ap (λ (w : World). first ++ last_line exchange w) (sym all.world_is)
+      ∙ ap (λ (xs : List ℕ). first ++ xs) (sym is ∙ sym (append-nil last)) in
+      cut_text (told_text exchange start text) first last [] held holds on sent (Write (sent + part))
+      all.written all.sent_is whole
+      (record { part = part; count_is = refl; within = inside; written = wrote })
+
 module _ (exchange : Exchange) (start world : World) (held holds before after on : Option (List ℕ)) (sent : ℕ)
     (heard_all : IfSome before (λ text. IsHeard exchange text start held world holds sent)) where
   at_known : (P : List ℕ → Type 0) → ((text : List ℕ) → IsHeard exchange text start held world holds sent → P text)
@@ -302,40 +399,20 @@ module _ (exchange : Exchange) (start world : World) (held holds before after on
 
   pub ends_finished : IsFinished exchange world → Appends holds on finished_line
       → IfSome before (λ text. EndsFinished exchange text start held on)
-  ends_finished finished wrote = at_known (λ text. EndsFinished exchange text start held on) (λ text all. record {
-    finished = subst (IsFinished exchange) all.world_is finished;
-    told = record {
-      within = all.within;
-      written = Appends-trans held holds on _ finished_line all.written wrote;
-    };
-  })
+  ends_finished finished wrote = at_known (λ text. EndsFinished exchange text start held on)
+      (λ text all. finished_at exchange start world held holds on sent text all finished wrote)
 
   pub ends_unfinished : (IsFinished exchange world → ⊥) → Appends holds on unfinished_line
       → IfSome before (λ text. EndsBy exchange text after start held on Unfinished)
-  ends_unfinished unfinished wrote = at_known (λ text. EndsBy exchange text after start held on Unfinished) (λ text all. (
-    (λ h. unfinished (subst (IsFinished exchange) (sym all.world_is) h)),
-    record {
-      within = all.within;
-      written = Appends-trans held holds on _ unfinished_line all.written wrote;
-    },
-  ))
+  ends_unfinished unfinished wrote = at_known (λ text. EndsBy exchange text after start held on Unfinished)
+      (λ text all. unfinished_at exchange start world held holds on sent text all after unfinished wrote)
 
-  -- and the last line is cut
-  pub ends_in_last : (last : List ℕ) (part : ℕ) → last ≡ last_line exchange world → part < length last
+  ends_in_last : (last : List ℕ) (part : ℕ) → last ≡ last_line exchange world → part < length last
       → Appends holds on (take part last)
       → IfSome before (λ text. EndsBy exchange text after start held on (Write (sent + part)))
   ends_in_last last part is inside wrote =
-      at_known (λ text. EndsBy exchange text after start held on (Write (sent + part))) (λ text all.
-      let lines : heard_lines text ≡ lines_of text = heard_whole text all.within in
-      let first : List ℕ = answers exchange start (lines_of text) in
-      let whole : told_text exchange start text ≡ first ++ (last ++ []) =
-      ap (λ (xs : List (List ℕ)). answers exchange start xs ++ closing exchange start text) lines
-      ∙ ap (λ (xs : List ℕ). first ++ xs) (closing_whole exchange start text all.within)
-      ∙ ap (λ (w : World). first ++ last_line exchange w) (sym all.world_is)
-      ∙ ap (λ (xs : List ℕ). first ++ xs) (sym is ∙ sym (append-nil last)) in
-      cut_text (told_text exchange start text) first last [] held holds on sent (Write (sent + part))
-      all.written all.sent_is whole
-      (record { part = part; count_is = refl; within = inside; written = wrote }))
+      at_known (λ text. EndsBy exchange text after start held on (Write (sent + part)))
+      (λ text all. cut_at exchange start world held holds on sent text all after last part is inside wrote)
 
   pub ends_before_finished : (part : ℕ) → IsFinished exchange world → part < length finished_line
       → Appends holds on (take part finished_line)
@@ -348,6 +425,40 @@ module _ (exchange : Exchange) (start world : World) (held holds before after on
       → IfSome before (λ text. EndsBy exchange text after start held on (Write (sent + part)))
   ends_before_unfinished part unfinished =
       ends_in_last unfinished_line part (sym (last-unfinished exchange world unfinished))
+
+module _ (exchange : Exchange) (start world : World) (held holds on : Option (List ℕ)) (sent : ℕ)
+    (some : IsHeardForSome exchange start held world holds sent) where
+  pub some_finished : IsFinished exchange world → Appends holds on finished_line
+      → EndsFinishedForSome exchange start held on
+  some_finished finished wrote = record {
+    text = some.text;
+    ends = finished_at exchange start world held holds on sent some.text some.is finished wrote;
+  }
+
+  pub some_unfinished : (IsFinished exchange world → ⊥) → Appends holds on unfinished_line
+      → EndsByForSome exchange start held on Unfinished
+  some_unfinished unfinished wrote = record {
+    text = some.text;
+    ends = unfinished_at exchange start world held holds on sent some.text some.is (Some []) unfinished wrote;
+  }
+
+  pub some_before_finished : (part : ℕ) → IsFinished exchange world → part < length finished_line
+      → Appends holds on (take part finished_line)
+      → EndsByForSome exchange start held on (Write (sent + part))
+  some_before_finished part finished inside wrote = record {
+    text = some.text;
+    ends = cut_at exchange start world held holds on sent some.text some.is (Some []) finished_line part
+        (sym (last-finished exchange world finished)) inside wrote;
+  }
+
+  pub some_before_unfinished : (part : ℕ) → (IsFinished exchange world → ⊥) → part < length unfinished_line
+      → Appends holds on (take part unfinished_line)
+      → EndsByForSome exchange start held on (Write (sent + part))
+  some_before_unfinished part unfinished inside wrote = record {
+    text = some.text;
+    ends = cut_at exchange start world held holds on sent some.text some.is (Some []) unfinished_line part
+        (sym (last-unfinished exchange world unfinished)) inside wrote;
+  }
 
 -- ---- whether a line is open
 

@@ -100,6 +100,17 @@ EndsBy exchange text rest start held holds Unfinished =
     (IsFinished exchange (left exchange start (lines_of text)) → ⊥)
     × IsTold exchange text start unfinished_line held holds
 
+-- it ends finished so for some text: this can be said of a source that does not tell its bytes
+pub record EndsFinishedForSome (exchange : Exchange) (start : World) (held holds : Option (List ℕ)) : Type 0 where
+  pub text : List ℕ
+  pub ends : EndsFinished exchange text start held holds
+
+-- and so by a fault, where all of that text was read
+pub record EndsByForSome (exchange : Exchange) (start : World) (held holds : Option (List ℕ)) (fault : WeaveFault)
+    : Type 0 where
+  pub text : List ℕ
+  pub ends : EndsBy exchange text (Some []) start held holds fault
+
 -- it ended by a write
 abbrev pub is_write : {M : Type 0} → Result M WeaveFault → Bool
 is_write (Ok machine) = false

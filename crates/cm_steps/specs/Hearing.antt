@@ -96,6 +96,12 @@ pub record IsHeard (exchange : Exchange) (text : List ℕ) (start : World) (held
   pub written : Appends held holds (answers exchange start (lines_of text))
   pub sent_is : sent ≡ length (answers exchange start (lines_of text))
 
+-- so it is of some text
+pub record IsHeardForSome (exchange : Exchange) (start : World) (held : Option (List ℕ)) (world : World)
+    (holds : Option (List ℕ)) (sent : ℕ) : Type 0 where
+  pub text : List ℕ
+  pub is : IsHeard exchange text start held world holds sent
+
 -- a world took all its own steps and is finished: so many, of which so many bytes went out, and the rest is kept
 pub record HasPlayed (exchange : Exchange) (start world : World) (held holds : Option (List ℕ)) (rest : List ℕ)
     (steps sent : ℕ) : Type 0 where

@@ -1,9 +1,10 @@
 //! A session of steps, from the bytes of a source to those of a sink.
 
 ghost use Rattle.std.specs.Prelude.{◌≡◌, ◌↔◌, ◌+◌, ◌<◌, ◌^◌, [], false, true, IfOk, IfErr, IfSome, IsOk, IsErrOf};
+ghost use Rattle.std.specs.Prelude.{MatchResult};
 ghost use Rattle.cm_model.specs.Machine.{run_of};
-ghost use Rattle.cm_steps.specs.Ends.{is_write, EndsBy, EndsFinished};
-ghost use Rattle.cm_steps.specs.Hearing.{exchange_in, heard, BreaksOff, HasHeard, IsHeard, IsOfRun};
+ghost use Rattle.cm_steps.specs.Ends.{is_write, EndsBy, EndsByForSome, EndsFinished, EndsFinishedForSome};
+ghost use Rattle.cm_steps.specs.Hearing.{exchange_in, heard, BreaksOff, HasHeard, IsHeard, IsHeardForSome, IsOfRun};
 
 use crate::fault::WeaveFault;
 use crate::hearing::hear;
@@ -35,6 +36,9 @@ pub fn weave_session<const N: usize, const CAP: usize, I: Source, O: Sink>(
         text world.entry.world (O.contents out.old) (O.contents out.new)) }
     ensures err { IfErr result (λ fault. IfSome (I.left steps.old) (λ text. EndsBy (exchange_in N CAP world.entry)
         text (I.left steps.new) world.entry.world (O.contents out.old) (O.contents out.new) fault)) }
+    ensures heard { MatchResult result
+        (λ _. EndsFinishedForSome (exchange_in N CAP world.entry) world.entry.world (O.contents out.old) (O.contents out.new))
+        (EndsByForSome (exchange_in N CAP world.entry) world.entry.world (O.contents out.old) (O.contents out.new)) }
     ensures read { (I.has_failed steps.new ≡ true) ↔ IsErrOf result WeaveFault.Read }
     ensures write { O.has_failed out.new ≡ is_write result }
 {
@@ -70,6 +74,9 @@ fn hear_all<const N: usize, const CAP: usize, I: Source, O: Sink>(
     ensures few { IfOk result (λ sent. sent < 2 ^ 127) }
     ensures err { IfErr result (λ fault. IfSome (I.left steps.old) (λ text. EndsBy (exchange_in N CAP world.old) text
         (I.left steps.new) world.old.world (O.contents out.old) (O.contents out.new) fault)) }
+    ensures heard { MatchResult result
+        (IsHeardForSome (exchange_in N CAP world.old) world.old.world (O.contents out.old) world.new.world (O.contents out.new))
+        (EndsByForSome (exchange_in N CAP world.old) world.old.world (O.contents out.old) (O.contents out.new)) }
     ensures read { (I.has_failed steps.new ≡ true) ↔ IsErrOf result WeaveFault.Read }
     ensures write { O.has_failed out.new ≡ is_write result }
 {
