@@ -10,14 +10,16 @@ use Rattle.cm_language.specs.Program.{ProgramText, program_of}
 use Rattle.cm_study.specs.declared.studies.StudyFault.{StudyFault}
 use Rattle.cm_study.specs.declared.studies.StudyFault.TheVariants as study
 use Rattle.cm_study.specs.Study.{table_of}
+use Rattle.cm_study.specs.declared.routes.RouteFault.{RouteFault}
+use Rattle.cm_study.specs.Routes.{route_of}
 use Rattle.cm_image_format.specs.declared.fault.ImageFault.{ImageFault}
 use Rattle.cm_image_format.specs.Whole.{read_shape, read_image, text_of}
 use Rattle.cm_figures.specs.declared.numbers.NumbersFault.{NumbersFault}
 use Rattle.cm_lab.specs.declared.lab.Task.{Task}
-use Rattle.cm_lab.specs.declared.lab.Task.TheVariants.{Get, Put, Show, Paint, Study}
+use Rattle.cm_lab.specs.declared.lab.Task.TheVariants.{Get, Put, Show, Paint, Study, Route}
 use Rattle.cm_lab.specs.declared.lab.LabFault.{LabFault}
 use Rattle.cm_lab.specs.declared.lab.LabFault.TheVariants.{Image, Room, Numbers, Wide, Picture, Greatest, Field}
-use Rattle.cm_lab.specs.declared.lab.LabFault.TheVariants.{Program, Clock, Memory}
+use Rattle.cm_lab.specs.declared.lab.LabFault.TheVariants.{Program, Clock, NoRoute, Memory}
 use Rattle.cm_lab.specs.declared.order.Order.TheVariants.{Rows as by_rows}
 use Rattle.cm_lab.specs.Data.{processors, width_in, numbers_of, machine_with_numbers}
 use Rattle.cm_lab.specs.Pictures.{is_narrow, picture_of, bits_of}
@@ -58,6 +60,11 @@ of_table (Ok text) = Ok text
 of_table (Err study.Clock) = Err Clock
 of_table (Err study.Memory) = Err Memory
 
+-- the route of a message, if there is one
+abbrev pub of_route : Result (List ℕ) RouteFault → Result (List ℕ) LabFault
+of_route (Ok text) = Ok text
+of_route (Err fault) = Err (NoRoute fault)
+
 -- what is made of a program, if it is one
 abbrev pub of_program : (List Act → Result (List ℕ) LabFault) → Result ProgramText AsmFault → Result (List ℕ) LabFault
 of_program made (Ok program) = made program.acts
@@ -76,6 +83,8 @@ work_of n cap (Show shown form) given machine =
 work_of n cap (Paint at) given machine = of_picture n cap at machine (picture_in (columns n) (rows n) given)
 work_of n cap (Study table) given machine =
     of_program (λ acts. of_table (table_of n cap table machine acts)) (program_of given)
+work_of n cap (Route tag) given machine =
+    of_program (λ acts. of_route (route_of n cap tag machine acts)) (program_of given)
 
 -- the rooms of the laboratory's machines
 abbrev pub is_own_room : ℕ → Bool

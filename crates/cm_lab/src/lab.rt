@@ -21,7 +21,8 @@ use cm_figures::{
 };
 use cm_image::{ImageFault, dump, load, shape};
 use cm_language::{AsmFault, AsmKind};
-use cm_study::{StudyFault, Table, study};
+use cm_model::Tag;
+use cm_study::{RouteFault, StudyFault, Table, route, study};
 use std::alloc::Global;
 use thiserror::Error;
 
@@ -38,6 +39,8 @@ pub enum Task {
     Paint(u16),
     /// The program that is given is run, and a table of it is told.
     Study(Table),
+    /// The same, and the route of the message of this tag is told.
+    Route(Tag),
 }
 
 /// Why nothing was done.
@@ -70,6 +73,9 @@ pub enum LabFault {
     /// The counter of petit cycles would pass its end.
     #[error("more than 2^63 - 1 petit cycles in all")]
     Clock,
+    /// There is no such message.
+    #[error("{0}")]
+    NoRoute(RouteFault),
     #[error("out of memory")]
     Memory,
 }
@@ -158,6 +164,7 @@ fn work<const N: usize, const CAP: usize>(
         Task::Show(shown, form) => pictured(alloc, machine, shown, form),
         Task::Paint(at) => painted(alloc, machine, at, given),
         Task::Study(table) => studied(alloc, machine, table, given),
+        Task::Route(tag) => routed(alloc, machine, tag, given),
     }
 }
 
@@ -331,6 +338,29 @@ fn studied<const N: usize, const CAP: usize>(
         Ok(text) => Ok(text),
         Err(StudyFault::Clock) => Err(LabFault::Clock),
         Err(StudyFault::Memory) => Err(LabFault::Memory),
+    }
+}
+
+/// The route of a message of a program that a machine runs.
+fn routed<const N: usize, const CAP: usize>(
+    alloc: Global,
+    machine: &mut Machine<N, CAP>,
+    tag: Tag,
+    given: &[u8],
+) -> Result<Vec<u8>, LabFault>
+    ensures value { IfOk result
+        (λ text. work_of N CAP (task.Route tag) given.now machine.old.machine ≡ Ok text.items) }
+    ensures refused { IfErr result (λ fault. fault ≢ LabFault.Memory
+        → work_of N CAP (task.Route tag) given.now machine.old.machine ≡ Err fault) }
+{
+    let program = match assemble(alloc, given) {
+        Ok(program) => program,
+        Err(fault) => return Err(of_program(fault)),
+    };
+    match route(alloc, machine, program.acts(), tag) {
+        Ok(text) => Ok(text),
+        Err(RouteFault::Memory) => Err(LabFault::Memory),
+        Err(fault) => Err(LabFault::NoRoute(fault)),
     }
 }
 

@@ -12,7 +12,8 @@ pub use cm_figures::{
     Form, NumbersFault, Picture, PictureFault, read_numbers, read_picture, write_numbers,
     write_picture,
 };
-pub use cm_study::Table;
+pub use cm_model::Tag;
+pub use cm_study::{RouteFault, Table};
 pub use data::{get, put};
 pub use data_laws::{each_processor_comes_once, numbers_read_back};
 pub use lab::{LabFault, Task, perform};

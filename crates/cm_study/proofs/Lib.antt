@@ -1,4 +1,6 @@
 pub mod Agreeing
 pub mod Going
+pub mod Routing
+pub mod Searching
 pub mod Sending
 pub mod Sums

@@ -1,6 +1,9 @@
 pub mod Adding
 pub mod Counts
+pub mod RouteLines
+pub mod Routes
 pub mod Study
 pub mod StudyLaws
 pub mod Tables
 pub mod Traces
+pub mod Whereabouts

@@ -113,7 +113,7 @@ impl Known {
 }
 
 /// Has a machine do one act. It is refused for want of memory alone.
-fn go_on<const N: usize, const CAP: usize>(
+pub(crate) fn go_on<const N: usize, const CAP: usize>(
     machine: &mut Machine<N, CAP>,
     act: Act,
 ) -> Result<(), NoMemory>

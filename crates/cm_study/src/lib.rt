@@ -4,13 +4,17 @@
 mod counting;
 mod counts;
 mod known;
+mod route_lines;
+mod routes;
 mod studies;
 mod study_laws;
 mod tables;
 mod trace;
 mod ways;
+mod whereabouts;
 
 pub use counts::Counts;
+pub use routes::{RouteFault, route};
 pub use studies::{StudyFault, Table, study};
 pub use study_laws::counts_agree_with_the_account;
 pub use trace::Trace;

@@ -78,7 +78,7 @@ fn opening_text(alloc: Global, table: Table) -> Result<Vec<u8>, NoMemory>
 }
 
 /// Whether the act is a petit cycle for which the counter has no room.
-fn lacks_room(clock: u64, act: &Act) -> bool
+pub(crate) fn lacks_room(clock: u64, act: &Act) -> bool
     ensures value { result ≡ lacks_room clock act.now }
 {
     match act {

@@ -154,7 +154,7 @@ fn known_of(traces: &[Trace], tag: &Tag) -> Option<Trace>
     None
 }
 
-fn are_same(left: &Tag, right: &Tag) -> bool
+pub(crate) fn are_same(left: &Tag, right: &Tag) -> bool
     ensures value { result ≡ same_tag left.now right.now }
 {
     left.chip == right.chip && left.proc.get() == right.proc.get() && left.birth == right.birth
