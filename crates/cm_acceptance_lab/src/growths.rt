@@ -1,7 +1,14 @@
-//! Growths of memory that are refused while numbers are put into an image and told.
+//! Growths of memory that are refused: while numbers, pictures and studies are made, a source is expanded, and at a front
+//! end.
 
-use cm_bits::Field;
-use cm_lab::{LabFault, NumbersFault, Order, Task, perform, read_numbers, write_numbers};
+use cm_bits::doubles::{Bytes, Room};
+use cm_bits::{Field, NoMemory};
+use cm_draws::{Call, first_not_so};
+use cm_front::{FrontFault, ImageFault, SessionFault, front_image};
+use cm_lab::{
+    Form, LabFault, NumbersFault, Order, Shown, Table, Task, perform, read_numbers, write_numbers,
+};
+use cm_source::{AsmKind, SourceKind, expand};
 use std::alloc::Global;
 
 /// One chip, room for seven messages, nothing in it.
@@ -12,48 +19,183 @@ static BLANK: [u8; 51] = [
 
 static NUMBERS: &str = "1 2 3 4 5 6 7 0 1 2 3 4 5 6 7 0\n";
 
-/// Whether numbers come back from an image that they were put into, or want of memory is told.
-fn come_back_or_want_memory(alloc: Global, field: Field) -> bool {
-    let image = perform(
-        alloc,
+static PICTURE: &str = "P1\n4 4\n1 0 0 0\n0 1 0 0\n0 0 1 0\n1 1 1 1\n";
+
+/// All processors ask to send to processor 0 of their chip.
+static ALL_SEND: &str = "set 12\ncycle\n";
+
+static CYCLES: &str = "cycle,taken,delivered,referred,standing,full,asking\n0,4,1,0,3,0,12\n";
+
+static MESSAGES: &str =
+    "chip,processor,taken,to chip,to processor,delivered,crossed,referred\n0,0,0,0,0,0,0,0\n0,1,0,0,0,,0,0\n0,2,0,0,0,,0,0\n0,3,0,0,0,,0,0\n";
+
+static SOURCE: &str = "constant K 2\nfield x 0 1\nrepeat K\nnot x\nadd x x\nend\n";
+
+static PROGRAM: &str = "field x 0 1 ; 2
+nano 0 0 8 8 8 0 0x0f 0x00 n ; 4
+add x x ; 5
+nano 0 0 8 8 8 0 0x0f 0x00 n ; 4
+add x x ; 5
+";
+
+static SENT: &str = "field x 0 8\nconst x 100\nfield 0 5 0 8\ncycle\nbuf 0\n";
+
+static TOLD: &str = "ok\nok\nfield 100\nok\nbuf 0\n";
+
+/// What takes memory.
+#[derive(Clone, Copy, Debug, PartialEq, Eq)]
+enum Grown {
+    Read,
+    Numbers,
+    Picture,
+    Cycles,
+    Messages,
+    Source,
+    Front,
+}
+
+static GROWN: [Grown; 7] = [
+    Grown::Read,
+    Grown::Numbers,
+    Grown::Picture,
+    Grown::Cycles,
+    Grown::Messages,
+    Grown::Source,
+    Grown::Front,
+];
+
+impl Call for Grown {
+    fn is_so(&self, alloc: Global) -> Option<bool> {
+        match self {
+            Grown::Read => are_written(alloc),
+            Grown::Numbers => come_back(alloc),
+            Grown::Picture => is_shown(alloc),
+            Grown::Cycles => Some(tells(alloc, Table::Cycles, CYCLES)),
+            Grown::Messages => Some(tells(alloc, Table::Messages, MESSAGES)),
+            Grown::Source => Some(is_expanded(alloc)),
+            Grown::Front => is_answered(alloc),
+        }
+    }
+}
+
+/// Whether a text of numbers is read and written again.
+fn are_written(alloc: Global) -> Option<bool> {
+    let read = match read_numbers(alloc, NUMBERS.as_bytes(), 3, 16) {
+        Err(NumbersFault::Memory) => read_numbers(alloc, NUMBERS.as_bytes(), 3, 16),
+        read => read,
+    };
+    let Ok(numbers) = read else {
+        return Some(false);
+    };
+    let made = match write_numbers(alloc, &numbers, 16) {
+        Err(NoMemory) => write_numbers(alloc, &numbers, 16),
+        made => made,
+    };
+    match made {
+        Ok(text) => Some(text.as_slice() == NUMBERS.as_bytes()),
+        Err(_) => Some(false),
+    }
+}
+
+// ---- from image to image or text
+
+/// What a task makes, asked once more where it tells want of memory.
+fn made(alloc: Global, task: &Task, image: &[u8], given: &str) -> Result<Vec<u8>, LabFault> {
+    for _ in 0..2 {
+        match perform(alloc, *task, image, given.as_bytes()) {
+            Err(LabFault::Memory) => {}
+            made => return made,
+        }
+    }
+    Err(LabFault::Memory)
+}
+
+/// Whether a text comes out of the image that it was put into.
+fn comes_out(alloc: Global, into: &Task, out: &Task, text: &str) -> bool {
+    match made(alloc, into, &BLANK, text) {
+        Ok(image) => is_made(alloc, out, &image, "", text),
+        Err(_) => false,
+    }
+}
+
+fn is_made(alloc: Global, task: &Task, image: &[u8], given: &str, wanted: &str) -> bool {
+    match made(alloc, task, image, given) {
+        Ok(text) => text.as_slice() == wanted.as_bytes(),
+        Err(_) => false,
+    }
+}
+
+fn come_back(alloc: Global) -> Option<bool> {
+    let field = Field::new(7, 3).ok()?;
+    let (into, out) = (
         Task::Put(Order::Chips, field),
-        &BLANK,
-        NUMBERS.as_bytes(),
+        Task::Get(Order::Chips, field),
     );
-    match image {
-        Ok(image) => are_told_or_want_memory(alloc, field, &image),
-        Err(fault) => fault == LabFault::Memory,
+    Some(comes_out(alloc, &into, &out, NUMBERS))
+}
+
+fn is_shown(alloc: Global) -> Option<bool> {
+    let shown = Shown::Number(Field::new(7, 1).ok()?);
+    Some(comes_out(
+        alloc,
+        &Task::Paint(7),
+        &Task::Show(shown, Form::Plain),
+        PICTURE,
+    ))
+}
+
+fn tells(alloc: Global, table: Table, wanted: &str) -> bool {
+    is_made(alloc, &Task::Study(table), &BLANK, ALL_SEND, wanted)
+}
+
+/// Whether a source comes out as its program.
+fn is_expanded(alloc: Global) -> bool {
+    let made = match expand(alloc, SOURCE.as_bytes()) {
+        Err(fault) if fault.kind == SourceKind::Asm(AsmKind::Memory) => {
+            expand(alloc, SOURCE.as_bytes())
+        }
+        made => made,
+    };
+    match made {
+        Ok(program) => program.as_slice() == PROGRAM.as_bytes(),
+        Err(_) => false,
     }
 }
 
-fn are_told_or_want_memory(alloc: Global, field: Field, image: &[u8]) -> bool {
-    match perform(alloc, Task::Get(Order::Chips, field), image, &[]) {
-        Ok(text) => text.as_slice() == NUMBERS.as_bytes(),
-        Err(fault) => fault == LabFault::Memory,
-    }
+// ---- a front end
+
+/// With which fault a front end ends, if with one, and what it answers.
+fn answered(alloc: Global) -> Option<(Option<FrontFault>, Room)> {
+    let mut sink = Room::new(alloc, 1000, 1000).ok()?;
+    let mut source = Bytes::new(SENT.as_bytes(), 5);
+    let ended = front_image(alloc, &BLANK, &mut source, &mut sink);
+    Some((ended.err(), sink))
 }
 
-/// Whether a text of numbers is read and written again, or want of memory is told.
-fn are_written_or_want_memory(alloc: Global) -> bool {
-    match read_numbers(alloc, NUMBERS.as_bytes(), 3, 16) {
-        Ok(numbers) => match write_numbers(alloc, &numbers, 16) {
-            Ok(text) => text.as_slice() == NUMBERS.as_bytes(),
-            Err(_) => true,
-        },
-        Err(fault) => fault == NumbersFault::Memory,
-    }
+/// Whether want of memory is told, of the image or of the lines.
+fn wants_memory(fault: FrontFault) -> bool {
+    matches!(
+        fault,
+        FrontFault::Memory
+            | FrontFault::Image(ImageFault::Memory)
+            | FrontFault::Ended(SessionFault::Memory)
+    )
 }
 
-// Made for `rt try --test --fail-alloc N`, which makes the Nth allocation fail.
+/// Whether all lines are answered; or else want of memory is told behind a front of the answers, and they are when they are
+/// sent again.
+fn is_answered(alloc: Global) -> Option<bool> {
+    let (fault, sink) = answered(alloc)?;
+    let Some(fault) = fault else {
+        return Some(sink.taken() == TOLD.as_bytes());
+    };
+    let is_told = wants_memory(fault) && TOLD.as_bytes().starts_with(sink.taken());
+    let (again, whole) = answered(alloc)?;
+    Some(is_told && again.is_none() && whole.taken() == TOLD.as_bytes())
+}
+
+// `.ci/refusals` refuses each growth in turn.
 #[test]
 fn a_refused_growth_is_told_as_want_of_memory(rt: HostRuntime) {
-    let alloc = rt.alloc();
-    let so = match Field::new(7, 3) {
-        Ok(field) => [
-            come_back_or_want_memory(alloc, field),
-            are_written_or_want_memory(alloc),
-        ],
-        Err(_) => [false; 2],
-    };
-    assert_eq!(rt; so, [true; 2]);
+    assert_eq!(rt; first_not_so(rt.alloc(), &GROWN), None);
 }

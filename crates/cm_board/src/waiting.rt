@@ -6,7 +6,7 @@ use std::sync::Wait;
 use std::thread::yield_now;
 
 /// How often it looks before it parks.
-const LOOKS: u32 = 20;
+const LOOKS: u32 = 200;
 
 /// Waits for the other end to come to this word: looks a few times, and lets other threads run between two looks, then
 /// parks until the word changes. It may also return for no reason.

@@ -191,7 +191,7 @@ fn run<const N: usize, const CAP: usize, R: Threads + Wait + Sync>(
 {
     admit_all(passage, workers)?;
     let rounds = rounds(alloc, machine.dims(), acts, k)?;
-    if is_soon_done(passage, machine, acts, rounds.len(), cycles) {
+    if is_soon_done(passage, machine, acts, workers, rounds.len(), cycles) {
         return run_alone(machine, acts);
     }
     match passage {

@@ -1,42 +1,65 @@
 //! Which lists of acts are not worth sharing out.
 
-ghost use Rattle.std.specs.Prelude.{◌≡◌, ◌≤◌, ◌^◌};
+ghost use Rattle.std.specs.Prelude.{◌≡◌, ◌<◌, ◌≤◌, ◌^◌};
 
 use cm_array::Machine;
-use cm_bits::FlagNo;
+use cm_bits::{Addr, FlagNo};
 use cm_model::Act;
 use cm_workers::Passage;
 
-/// So many acts go through a machine before it is cut into blocks and these are put together again.
-const CUT: usize = 4096;
+/// So many acts go through 4,096 chips before these are cut into blocks and put together again, without their memory.
+const CUT: usize = 768;
 
-/// As many go through it in a petit cycle.
-const CYCLE: usize = 512;
+/// So many before one row of memory is.
+const ROW: usize = 4;
 
-/// So many go through 4,096 chips before a list's lanes are laid and its threads are started and joined.
-const START: usize = 512;
+/// So many before the parcels of a round are filled and taken in.
+const PARCELS: usize = 40;
 
-/// So many before they are through a round.
-const ROUND: usize = 8;
+/// As many go through them in a petit cycle, and again for each message that a router has room for.
+const MESSAGE: usize = 64;
 
-/// Whether nobody looks, and one thread runs a list before it was shared out and its blocks came through so many rounds.
-/// It has so many petit cycles.
+/// So many before threads are started and joined, however many chips there are.
+const START: usize = 128;
+
+/// So many before the parcels of a round have changed hands.
+const ROUND: usize = 6;
+
+/// Whether nobody looks, and one thread runs a list before it was shared out among so many workers and its blocks came
+/// through so many rounds. It has so many petit cycles.
 pub(crate) fn is_soon_done<const N: usize, const CAP: usize>(
     passage: &Passage,
     machine: &Machine<N, CAP>,
     acts: &[Act],
+    workers: u16,
     rounds: usize,
     cycles: usize,
-) -> bool {
+) -> bool
+    requires some { 0 < workers }
+{
     if matches!(passage, Passage::Gated(_)) {
         return false;
     }
-    if has_no_instruction(acts) && is_at_rest(machine) {
-        return true;
+    let cycle = MESSAGE.saturating_mul(CAP.saturating_add(1));
+    let alone = cycles.saturating_mul(cycle).saturating_add(acts.len());
+    let spared = alone - alone / usize::from(workers);
+    let cut = CUT.saturating_add(rounds.saturating_mul(PARCELS));
+    let shared = START.saturating_add(rounds.saturating_mul(ROUND));
+    let smaller = 12 - machine.dims();
+    spared.saturating_sub(cut) >> smaller <= shared
+        || spared.saturating_sub(cut.saturating_add(ROW.saturating_mul(rows_in_use(machine)))) >> smaller <= shared
+        || has_no_instruction(acts) && is_at_rest(machine)
+}
+
+/// How many rows of memory a machine has.
+fn rows_in_use<const N: usize, const CAP: usize>(machine: &Machine<N, CAP>) -> usize {
+    let mut rows = 0usize;
+    for at in 0u16..4096 {
+        if machine.is_in_use(Addr::new(at).unwrap()) {
+            rows = rows.saturating_add(1);
+        }
     }
-    let alone = cycles.saturating_mul(CYCLE).saturating_add(acts.len());
-    let shared = rounds.saturating_mul(ROUND).saturating_add(START);
-    alone.saturating_sub(CUT) >> (12 - machine.dims()) <= shared
+    rows
 }
 
 fn has_no_instruction(acts: &[Act]) -> bool {
