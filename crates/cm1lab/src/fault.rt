@@ -24,6 +24,12 @@ pub enum Fault {
     /// A word that is to be a flag is none.
     #[error("cm1lab: {word} is no number of a flag, 0 to 15")]
     Flag { word: String },
+    /// A word that is to be a processor is none.
+    #[error("cm1lab: {word} is no number of a processor, 0 to 15")]
+    Processor { word: String },
+    /// A word that is to be a petit cycle is none.
+    #[error("cm1lab: {word} is no number of a petit cycle")]
+    Cycle { word: String },
     /// A word that is to be any other number is none.
     #[error("cm1lab: {word} is no number from 0 to 65535")]
     Count { word: String },
@@ -63,6 +69,22 @@ impl Fault {
     pub fn flag(alloc: Global, word: &str) -> Fault {
         match String::from_str(alloc, word) {
             Ok(word) => Fault::Flag { word },
+            Err(_) => Fault::Memory,
+        }
+    }
+
+    /// A word that is no processor.
+    pub fn processor(alloc: Global, word: &str) -> Fault {
+        match String::from_str(alloc, word) {
+            Ok(word) => Fault::Processor { word },
+            Err(_) => Fault::Memory,
+        }
+    }
+
+    /// A word that is no petit cycle.
+    pub fn cycle(alloc: Global, word: &str) -> Fault {
+        match String::from_str(alloc, word) {
+            Ok(word) => Fault::Cycle { word },
             Err(_) => Fault::Memory,
         }
     }
@@ -124,7 +146,12 @@ impl Fault {
     pub fn status(&self) -> u8 {
         match self {
             Fault::Help => 0,
-            Fault::Words | Fault::Number { .. } | Fault::Flag { .. } | Fault::Count { .. } => 2,
+            Fault::Words
+            | Fault::Number { .. }
+            | Fault::Flag { .. }
+            | Fault::Processor { .. }
+            | Fault::Cycle { .. }
+            | Fault::Count { .. } => 2,
             Fault::Memory => 3,
             Fault::File { .. } | Fault::Input(_) | Fault::Output => 4,
             _ => 1,

@@ -14,7 +14,7 @@ use cm_bits::{Std, write_all};
 use cm_cli::{TakeFault, take};
 use cm_fresh::{FreshFault, fresh};
 use cm_front::front_image;
-use cm_lab::{LabFault, Task, perform};
+use cm_lab::{LabFault, RouteFault, perform};
 use cm_source::expand;
 use std::alloc::Global;
 use std::io::Write;
@@ -214,7 +214,9 @@ fn told_of<'a>(asked: &Asked<'a>, fault: LabFault) -> &'a str {
     match (fault, asked.given) {
         (LabFault::Picture(_) | LabFault::Greatest(_) | LabFault::Field(_), Given::Picture(path)) =>
             path,
-        (LabFault::Program(_) | LabFault::Clock, Given::Program(path)) => path,
+        (LabFault::NoRoute(RouteFault::Chip(_)), _) => asked.image,
+        (LabFault::Program(_) | LabFault::Clock | LabFault::NoRoute(_), Given::Program(path)) =>
+            path,
         _ => asked.image,
     }
 }

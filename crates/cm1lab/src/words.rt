@@ -1,9 +1,9 @@
 //! The words of the command line.
 
 use crate::fault::Fault;
-use cm_bits::{Field, FlagNo};
+use cm_bits::{Field, FlagNo, Proc};
 use cm_fresh::WireEnd;
-use cm_lab::{Form, Order, Shown, Table, Task};
+use cm_lab::{Form, Order, Shown, Table, Tag, Task};
 use std::alloc::Global;
 
 /// What help tells.
@@ -34,6 +34,10 @@ cm1lab study --messages IMAGE PROGRAM
     tells a line for each message: who sent it and in which petit cycle, where it is
     bound for, when it was delivered, how many dimensions it crossed, how often it was
     referred
+cm1lab route IMAGE PROGRAM CHIP PROC CYCLE
+    runs the program and tells the way of the message that processor PROC of CHIP sent and
+    that was taken in in petit cycle CYCLE: a line for each petit cycle with the chips on its
+    way, the dimensions in which it was referred, and its place in the router where it stands
 cm1lab front IMAGE [--out FILE]
     takes the place of the front end: each line of standard input is one of a program, whose
     acts are run at once and which is answered ok, sense by the wire as it is, or a question
@@ -177,6 +181,10 @@ fn read_task<'a>(alloc: Global, words: &[&'a str]) -> Result<Asked<'a>, Fault> {
         [_, "paint", image, picture, at, out] => painted(alloc, image, picture, at, out),
         [_, "study", "--messages", image, program] => Ok(studied(Table::Messages, image, program)),
         [_, "study", image, program] => Ok(studied(Table::Cycles, image, program)),
+        [_, "route", image, program, chip, proc, birth] => {
+            let tag = sent(alloc, chip, proc, birth)?;
+            Ok(routed(tag, image, program))
+        }
         [_, "--help"] | [_, "-h"] | [_, "help"] => Err(Fault::Help),
         _ => Err(Fault::Words),
     }
@@ -250,6 +258,39 @@ fn studied<'a>(table: Table, image: &'a str, program: &'a str) -> Asked<'a> {
         image,
         given: Given::Program(program),
         out: None,
+    }
+}
+
+fn routed<'a>(tag: Tag, image: &'a str, program: &'a str) -> Asked<'a> {
+    Asked {
+        task: Task::Route(tag),
+        image,
+        given: Given::Program(program),
+        out: None,
+    }
+}
+
+/// The tag of a message: the chip and the processor that sent it, and the petit cycle in which it was taken in.
+fn sent(alloc: Global, chip: &str, proc: &str, birth: &str) -> Result<Tag, Fault> {
+    Ok(Tag {
+        chip: count(alloc, chip)?,
+        proc: processor(alloc, proc)?,
+        birth: cycle(alloc, birth)?,
+    })
+}
+
+fn processor(alloc: Global, word: &str) -> Result<Proc, Fault> {
+    let number = word.parse::<u8>().ok().and_then(|number| Proc::new(number));
+    match number {
+        Some(number) => Ok(number),
+        None => Err(Fault::processor(alloc, word)),
+    }
+}
+
+fn cycle(alloc: Global, word: &str) -> Result<u64, Fault> {
+    match word.parse::<u64>() {
+        Ok(number) => Ok(number),
+        Err(_) => Err(Fault::cycle(alloc, word)),
     }
 }
 

@@ -20,6 +20,8 @@ mod performed;
 #[cfg(test)]
 mod pictures;
 #[cfg(test)]
+mod routes;
+#[cfg(test)]
 mod shown;
 #[cfg(test)]
 mod sources;
