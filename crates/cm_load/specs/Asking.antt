@@ -1,5 +1,5 @@
 -- Processors that ask the router to take what they have offered, first come first served. Ours.
-use Rattle.std.specs.Prelude.{ℕ, suc, zero, ◌+◌, ◌-◌, ◌/◌, ◌%◌, ◌^◌, Bool, true, List, Option, Some, None}
+use Rattle.std.specs.Prelude.{ℕ, suc, zero, ◌+◌, ◌-◌, ◌/◌, ◌%◌, ◌^◌, ◌==◌, Bool, true, List, Option, Some, None}
 use Rattle.std.specs.Prelude.{min, max, bit_xor, slice_index_or, slice_set, if◌then◌else◌}
 use Rattle.std.specs.List.{find, range_with_len}
 use Rattle.cm_bits.specs.Bit.{bit_number}
@@ -25,10 +25,14 @@ source_at sources place = slice_index_or sources place no_source
 abbrev pub with_offer : Bool → Source → Source
 with_offer offered source = record source { waiting = min (source.waiting + bit_number offered) (2 ^ 32 - 1) }
 
+-- the first petit cycle from this one to petit cycle t in which a place offers, if it does in any
+unfoldable pub first_offer : Load → ℕ → ℕ → ℕ → Option ℕ
+first_offer load t place next = find (λ s. offers load s place) (range_with_len next (t + 1 - next))
+
 -- the petit cycle of the earliest offer that waits in petit cycle t, if any does
 unfoldable pub next_offer : Load → ℕ → ℕ → Source → Option ℕ
 next_offer load t place source =
-    find (λ s. offers load s place) (range_with_len source.next (t + 1 - source.next))
+    if source.waiting == 0 then None else first_offer load t place source.next
 
 -- after the processor has asked for that of petit cycle s
 abbrev pub source_asked : Option ℕ → Source → Source

@@ -1,9 +1,13 @@
 -- The numbers of a load: what was offered, and what became of it. Ours.
-use Rattle.std.specs.Prelude.{◌≡◌, ℕ, ◌+◌, ◌*◌, ◌/◌, ◌==◌, Bool, List, Option, length, max, fold, nat_le, sum_by, if◌then◌else◌}
+use Rattle.std.specs.Prelude.{◌≡◌, ℕ, ◌+◌, ◌*◌, ◌/◌, ◌^◌, ◌==◌, Bool, List, Option, length, max, fold, nat_le, sum_by, if◌then◌else◌}
 use Rattle.std.specs.List.{count_by, find, range_with_len}
 use Rattle.cm_load.specs.declared.offers.Load.{Load}
 use Rattle.cm_load.specs.declared.figures.Figures.{Figures}
 use Rattle.cm_load.specs.Loaded.{Loaded, offered_in}
+
+-- how many of so many messages each of so many turns delivers, in thousandths, rounded down; 0 of no turn
+abbrev pub throughput_of : ℕ → ℕ → ℕ
+throughput_of delivered turns = if turns == 0 then 0 else 1000 * delivered / turns
 
 -- the mean in hundredths, rounded down; 0 of no message
 abbrev pub mean_of : List ℕ → ℕ
@@ -29,6 +33,8 @@ pub record AreFigures (load : Load) (cycles : ℕ) (loaded : Loaded) (figures : 
   pub offered : figures.offered ≡ offered_in load cycles
   pub taken : figures.taken ≡ loaded.taken
   pub delivered : figures.delivered ≡ length loaded.latencies
+  -- a turn is a petit cycle of a chip
+  pub throughput : figures.throughput ≡ throughput_of (length loaded.latencies) (2 ^ load.dims * cycles)
   pub mean : figures.mean ≡ mean_of loaded.latencies
   pub most : figures.most ≡ most_of cycles loaded.latencies
   pub greatest : figures.greatest ≡ greatest_of loaded.latencies

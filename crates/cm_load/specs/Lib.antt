@@ -5,3 +5,5 @@ pub mod Telling
 pub mod Loaded
 pub mod Kept
 pub mod Figures
+pub mod Tables
+pub mod Trials

@@ -1,5 +1,5 @@
 -- What is offered to the routers of a machine: who offers a message in which petit cycle, and to whom. Ours.
-use Rattle.std.specs.Prelude.{ℕ, ◌+◌, ◌-◌, ◌*◌, ◌/◌, ◌%◌, ◌^◌, Bool, nat_lt}
+use Rattle.std.specs.Prelude.{ℕ, ◌+◌, ◌-◌, ◌*◌, ◌/◌, ◌%◌, ◌^◌, ◌&&◌, Bool, nat_lt}
 use Rattle.std.specs.Int.{w32, reverse_bits}
 use Rattle.cm_load.specs.declared.offers.Pattern.{Pattern}
 use Rattle.cm_load.specs.declared.offers.Pattern.TheVariants.{Uniform, Transpose, Reversal, HotSpot}
@@ -16,7 +16,7 @@ draw_number t place = 2 * (t * 65536 + place)
 
 -- the processor of this place offers a message in petit cycle t
 unfoldable pub offers : Load → ℕ → ℕ → Bool
-offers load t place = nat_lt (draw_of load.seed (draw_number t place) % 1600) load.rate
+offers load t place = nat_lt t load.until && nat_lt (draw_of load.seed (draw_number t place) % 1600) load.rate
 
 -- the place that a message of this place goes to, where this was drawn for it: of a number of n + 4 bits
 abbrev pub aimed : Pattern → ℕ → ℕ → ℕ → ℕ

@@ -9,7 +9,7 @@ ghost use Rattle.cm_petit.specs.Routers.{events_of};
 ghost use Rattle.cm_load.specs.Offers.{places};
 ghost use Rattle.cm_load.specs.Asking.{no_source};
 ghost use Rattle.cm_load.specs.Loaded.{Loaded, offered_by, offered_in, loaded_for};
-ghost use Rattle.cm_load.specs.Figures.{mean_of, is_reached, most_of, greatest_of, AreFigures};
+ghost use Rattle.cm_load.specs.Figures.{throughput_of, mean_of, is_reached, most_of, greatest_of, AreFigures};
 
 use crate::cycles::{Told, go_through};
 use crate::offers::Load;
@@ -32,6 +32,8 @@ pub struct Figures {
     pub taken: u128,
     /// Messages that were delivered.
     pub delivered: usize,
+    /// Thousandths of a message that a chip delivered in a petit cycle, in the mean.
+    pub throughput: u128,
     /// Hundredths of petit cycles that these took in the mean, from that of the offer to that of the delivery, both
     /// counted.
     pub mean: u128,
@@ -74,6 +76,16 @@ fn bit_number(bit: bool) -> u32
     if bit { 1 } else { 0 }
 }
 
+/// How many messages each of so many turns delivered, in thousandths.
+fn throughput_of(delivered: usize, turns: u64) -> u128
+    ensures value { result ≡ throughput_of delivered turns }
+{
+    if turns == 0 {
+        return 0;
+    }
+    1000 * delivered as u128 / u128::from(turns)
+}
+
 /// The mean of some numbers, in hundredths.
 pub(crate) fn mean_of(latencies: &[u32]) -> u128
     ensures value { result ≡ mean_of latencies.now }
@@ -103,12 +115,17 @@ pub(crate) fn most_of(latencies: &[u32], cycles: u32) -> Option<u32>
     ensures value { result ≡ most_of cycles latencies.now }
 {
     let hundredths = 95 * latencies.len() as u128;
-    for most in 0..cycles + 1 {
-        if is_reached(latencies, hundredths, most) {
-            return Some(most);
+    let mut low = 0;
+    let mut high = cycles + 1;
+    while low < high {
+        let middle = low + (high - low) / 2;
+        if is_reached(latencies, hundredths, middle) {
+            high = middle;
+        } else {
+            low = middle + 1;
         }
     }
-    None
+    if low <= cycles { Some(low) } else { None }
 }
 
 fn is_reached(latencies: &[u32], hundredths: u128, most: u32) -> bool
@@ -153,11 +170,14 @@ fn figures_of(load: &Load, cycles: u32, taken: u128, deepest: u32, latencies: &[
     ensures value { (loaded : Loaded) → taken ≡ loaded.taken → deepest ≡ loaded.deepest
         → latencies.now ≡ loaded.latencies → AreFigures load.now cycles loaded result }
 {
+    let delivered = latencies.len();
+    let turns = u64::from(chip_count(load.dims)) * u64::from(cycles);
     Figures {
         rate: load.rate,
         offered: offered_in(load, cycles),
         taken,
-        delivered: latencies.len(),
+        delivered,
+        throughput: throughput_of(delivered, turns),
         mean: mean_of(latencies),
         most: most_of(latencies, cycles),
         greatest: greatest_of(latencies),

@@ -8,8 +8,12 @@ mod figures;
 mod logs;
 mod offers;
 mod sources;
+mod tables;
 mod telling;
+mod trials;
 
 pub use cm_message::Rule;
 pub use figures::{Figures, measure};
 pub use offers::{Load, Pattern};
+pub use tables::table;
+pub use trials::{LoadFault, Trial};

@@ -31,6 +31,8 @@ pub struct Load {
     pub pattern: Pattern,
     /// Hundredths of a message that the processors of a chip offer in a petit cycle: at 1600 each offers one.
     pub rate: u16,
+    /// In so many first petit cycles something is offered, and in none behind them.
+    pub until: u32,
     pub seed: u64,
 }
 
@@ -50,7 +52,7 @@ impl Load {
         requires place { place < 65536 }
         ensures value { result ≡ offers self.now t place }
     {
-        draw(self.seed, draw_number(t, place)) % ALL < u64::from(self.rate)
+        t < self.until && draw(self.seed, draw_number(t, place)) % ALL < u64::from(self.rate)
     }
 
     /// The place to which a message goes that this place offers in petit cycle t.

@@ -1,7 +1,7 @@
 //! What one processor has offered, and what of it waits.
 
 ghost use Rattle.std.specs.Prelude.{◌≡◌, ◌+◌, ◌<◌, ◌≤◌, ◌^◌, IfSome};
-ghost use Rattle.cm_load.specs.Asking.{with_offer, next_offer, source_asked};
+ghost use Rattle.cm_load.specs.Asking.{with_offer, first_offer, next_offer, source_asked};
 
 use crate::offers::Load;
 
@@ -33,10 +33,24 @@ impl Source {
     }
 
     /// The petit cycle of the earliest offer of a place that waits in petit cycle t, if any does.
+    #[tactic(auto, unfolding(crate::specs::Asking::next_offer))]
     pub(crate) fn next_offer(self, load: &Load, t: u32, place: u32) -> Option<u32>
         requires place { place < 65536 }
         requires early { t < 2 ^ 31 }
         ensures value { result ≡ next_offer load.now t place self }
+        ensures early { IfSome result (λ s. s < 2 ^ 31) }
+    {
+        if self.waiting == 0 {
+            return None;
+        }
+        self.first_offer(load, t, place)
+    }
+
+    /// The first petit cycle up to petit cycle t in which a place makes an offer that may wait.
+    fn first_offer(self, load: &Load, t: u32, place: u32) -> Option<u32>
+        requires place { place < 65536 }
+        requires early { t < 2 ^ 31 }
+        ensures value { result ≡ first_offer load.now t place self.next }
         ensures early { IfSome result (λ s. s < 2 ^ 31) }
     {
         for s in self.next..t + 1 {

@@ -1,10 +1,15 @@
-use Rattle.std.proofs.Common.{◌≡◌, ◌+◌, ◌-◌, ◌*◌, length}
-use Rattle.std.specs.List.{find, range_with_len}
+use Rattle.std.proofs.Common.{◌≡◌, ℕ, ◌+◌, ◌-◌, ◌*◌, ◌<◌, ◌≤◌, true, false, length}
 use Rattle.cm_load.specs.Figures.{is_reached}
 use Rattle.cm_load.proofs.figures.most_of.Given as goal
 
--- the least from here on is the least of all
-abbrev pub invariant-loop-most : goal.invariant-loop-most
-invariant-loop-most l =
-    find (is_reached l.latencies (95 * length l.latencies)) (range_with_len 0 (l.cycles + 1))
-    ≡ find (is_reached l.latencies (95 * length l.latencies)) (range_with_len l.most (l.cycles + 1 - l.most))
+-- below `low` 95 in a hundred are not reached; at `high` they are, unless that is past the last
+abbrev pub invariant-loop-low : goal.invariant-loop-low
+invariant-loop-low l = record {
+  below : (k : ℕ) → k < l.low → is_reached l.latencies (95 * length l.latencies) k ≡ false;
+  there : l.high < l.cycles + 1 → is_reached l.latencies (95 * length l.latencies) l.high ≡ true;
+  order : l.low ≤ l.high;
+  within : l.high ≤ l.cycles + 1;
+}
+
+abbrev pub decreases-loop-low : goal.decreases-loop-low
+decreases-loop-low l = l.high - l.low

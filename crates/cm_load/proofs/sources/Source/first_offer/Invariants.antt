@@ -1,7 +1,7 @@
 use Rattle.std.proofs.Common.{◌≡◌, ◌+◌, ◌-◌}
 use Rattle.std.specs.List.{find, range_with_len}
 use Rattle.cm_load.specs.Offers.{offers}
-use Rattle.cm_load.proofs.sources.Source.next_offer.Given as goal
+use Rattle.cm_load.proofs.sources.Source.first_offer.Given as goal
 
 -- the earliest from here on is the earliest of all
 abbrev pub invariant-loop-s : goal.invariant-loop-s

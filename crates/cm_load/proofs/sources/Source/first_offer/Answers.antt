@@ -1,11 +1,11 @@
 use Rattle.std.proofs.Common.{◌+◌, sym, ◌∙◌, arith}
 use Rattle.cm_load.specs.Offers.{offers}
-use Rattle.cm_load.specs.Asking.{next_offer}
+use Rattle.cm_load.specs.Asking.{first_offer}
 use Rattle.cm_load.proofs.Finding.{found_at, found_past, none_found}
-use Rattle.cm_load.proofs.sources.Source.next_offer.Goals as goal
+use Rattle.cm_load.proofs.sources.Source.first_offer.Goals as goal
 
 pub returns-then-offers-clause-value : goal.returns-then-offers-clause-value
-unfolding next_offer
+unfolding first_offer
 returns-then-offers-clause-value c =
     sym (c.loop-s.invariant
     ∙ found_at (λ s. offers c.args.load.now s c.args.place) c.loop-s.s (c.args.t + 1) (omega arith)
@@ -18,7 +18,7 @@ loop-s-preserved c =
     (sym c.offers.ensures.value ∙ c.if-offers.false)
 
 pub returns-clause-value : goal.returns-clause-value
-unfolding next_offer
+unfolding first_offer
 returns-clause-value c =
     sym (c.loop-s.invariant
     ∙ none_found (λ s. offers c.args.load.now s c.args.place) c.loop-s.s (c.args.t + 1) (omega arith))

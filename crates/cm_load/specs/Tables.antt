@@ -1,0 +1,62 @@
+-- The table of loads, as a text: numbers in columns, with a comma between them. Ours.
+use Rattle.std.specs.Prelude.{ℕ, ◌/◌, ◌%◌, List, [], ◌∷◌, ◌++◌, Option, Some, None, codes, decimal}
+use Rattle.std.specs.List.{flat_map}
+use Rattle.cm_load.specs.declared.figures.Figures.{Figures}
+
+-- ---- numbers
+
+-- a number and the comma behind it
+abbrev pub column : ℕ → List ℕ
+column x = decimal x ++ 44 ∷ []
+
+-- the last number of a line, and its end
+abbrev pub last_column : ℕ → List ℕ
+last_column x = decimal x ++ 10 ∷ []
+
+-- the last digits of a number
+abbrev pub last_digit : ℕ → List ℕ
+last_digit x = decimal (x % 10)
+
+abbrev pub last_two : ℕ → List ℕ
+last_two x = last_digit (x / 10) ++ last_digit x
+
+-- so many hundredths: whole ones, a point, two digits, and the comma behind them
+abbrev pub hundredths : ℕ → List ℕ
+hundredths x = decimal (x / 100) ++ 46 ∷ [] ++ last_two x ++ 44 ∷ []
+
+-- so many thousandths: three digits
+abbrev pub thousandths : ℕ → List ℕ
+thousandths x = decimal (x / 1000) ++ 46 ∷ [] ++ last_digit (x / 100) ++ last_two x ++ 44 ∷ []
+
+-- a number and the comma, or the comma alone
+abbrev pub column_if : Option ℕ → List ℕ
+column_if None = 44 ∷ []
+column_if (Some x) = column x
+
+-- ---- loads
+
+abbrev pub header : List ℕ
+header = codes "rate,offered,taken,delivered,throughput,mean,p95,greatest,deepest\n"
+
+-- what was offered
+abbrev pub offer_columns : Figures → List ℕ
+offer_columns figures = hundredths figures.rate ++ column figures.offered
+
+-- what became of it
+abbrev pub message_columns : Figures → List ℕ
+message_columns figures =
+    column figures.taken ++ column figures.delivered ++ thousandths figures.throughput
+
+-- how long that took
+abbrev pub latency_columns : Figures → List ℕ
+latency_columns figures =
+    hundredths figures.mean ++ column_if figures.most ++ column figures.greatest
+
+-- the line of a load
+unfoldable pub load_line : Figures → List ℕ
+load_line figures =
+    offer_columns figures ++ message_columns figures ++ latency_columns figures ++ last_column figures.deepest
+
+-- the table: a line of names, and a line for each load
+unfoldable pub table_of : List Figures → List ℕ
+table_of loads = header ++ flat_map load_line loads

@@ -1,0 +1,131 @@
+//! The table of loads, as a text.
+
+ghost use Rattle.std.specs.Prelude.{◌≡◌, ◌++◌, ◌∷◌, [], ◌/◌, ◌%◌, OnOk, IfOk, decimal};
+ghost use Rattle.cm_load.specs.Tables.{last_digit, last_two, hundredths, thousandths, column_if};
+ghost use Rattle.cm_load.specs.Tables.{header, offer_columns, message_columns, latency_columns, load_line, table_of};
+
+use crate::figures::Figures;
+use cm_bits::NoMemory;
+use itoa::Buffer;
+use std::alloc::Global;
+
+/// The table of these loads: a line of names, and a line for each load.
+#[tactic(auto, unfolding(crate::specs::Tables::table_of))]
+pub fn table(alloc: Global, loads: &[Figures]) -> Result<Vec<u8>, NoMemory>
+    ensures value { IfOk result (λ text. text.items ≡ table_of loads.now) }
+{
+    let mut text = opening_text(alloc)?;
+    for figures in loads {
+        push_line(&mut text, figures)?;
+    }
+    Ok(text)
+}
+
+/// The first line.
+fn opening_text(alloc: Global) -> Result<Vec<u8>, NoMemory>
+    ensures value { IfOk result (λ text. text.items ≡ header) }
+{
+    Ok(Vec::from_slice(
+        alloc,
+        b"rate,offered,taken,delivered,throughput,mean,p95,greatest,deepest\n",
+    )?)
+}
+
+/// The line of a load.
+#[tactic(auto, unfolding(crate::specs::Tables::load_line))]
+fn push_line(text: &mut Vec<u8>, figures: &Figures) -> Result<(), NoMemory>
+    ensures ok { OnOk result (text.new.items ≡ text.old.items ++ load_line figures.now) }
+{
+    push_offers(text, figures)?;
+    push_messages(text, figures)?;
+    push_latencies(text, figures)?;
+    push_number(text, u128::from(figures.deepest), b'\n')
+}
+
+/// What was offered.
+fn push_offers(text: &mut Vec<u8>, figures: &Figures) -> Result<(), NoMemory>
+    ensures ok { OnOk result (text.new.items ≡ text.old.items ++ offer_columns figures.now) }
+{
+    push_hundredths(text, u128::from(figures.rate))?;
+    push_number(text, u128::from(figures.offered), b',')
+}
+
+/// What became of it.
+fn push_messages(text: &mut Vec<u8>, figures: &Figures) -> Result<(), NoMemory>
+    ensures ok { OnOk result (text.new.items ≡ text.old.items ++ message_columns figures.now) }
+{
+    push_number(text, figures.taken, b',')?;
+    push_number(text, figures.delivered as u128, b',')?;
+    push_thousandths(text, figures.throughput)
+}
+
+/// How long that took.
+fn push_latencies(text: &mut Vec<u8>, figures: &Figures) -> Result<(), NoMemory>
+    ensures ok { OnOk result (text.new.items ≡ text.old.items ++ latency_columns figures.now) }
+{
+    push_hundredths(text, figures.mean)?;
+    push_if(text, figures.most)?;
+    push_number(text, u128::from(figures.greatest), b',')
+}
+
+/// A number with a comma behind it, or the comma alone.
+fn push_if(text: &mut Vec<u8>, number: Option<u32>) -> Result<(), NoMemory>
+    ensures ok { OnOk result (text.new.items ≡ text.old.items ++ column_if number) }
+{
+    match number {
+        None => push_byte(text, b','),
+        Some(number) => push_number(text, u128::from(number), b','),
+    }
+}
+
+/// So many hundredths, and a comma.
+fn push_hundredths(text: &mut Vec<u8>, number: u128) -> Result<(), NoMemory>
+    ensures ok { OnOk result (text.new.items ≡ text.old.items ++ hundredths number) }
+{
+    push_number(text, number / 100, b'.')?;
+    push_last_two(text, number)?;
+    push_byte(text, b',')
+}
+
+/// So many thousandths, and a comma.
+fn push_thousandths(text: &mut Vec<u8>, number: u128) -> Result<(), NoMemory>
+    ensures ok { OnOk result (text.new.items ≡ text.old.items ++ thousandths number) }
+{
+    push_number(text, number / 1000, b'.')?;
+    push_last_digit(text, number / 100)?;
+    push_last_two(text, number)?;
+    push_byte(text, b',')
+}
+
+/// The last two digits of a number.
+fn push_last_two(text: &mut Vec<u8>, number: u128) -> Result<(), NoMemory>
+    ensures ok { OnOk result (text.new.items ≡ text.old.items ++ last_two number) }
+{
+    push_last_digit(text, number / 10)?;
+    push_last_digit(text, number)
+}
+
+/// The last digit of a number.
+fn push_last_digit(text: &mut Vec<u8>, number: u128) -> Result<(), NoMemory>
+    ensures ok { OnOk result (text.new.items ≡ text.old.items ++ last_digit number) }
+{
+    text.extend_from_slice(Buffer::new().format(number % 10).as_bytes())?;
+    Ok(())
+}
+
+/// A number, and a byte behind it.
+fn push_number(text: &mut Vec<u8>, number: u128, behind: u8) -> Result<(), NoMemory>
+    ensures ok { OnOk result (text.new.items ≡ text.old.items ++ (decimal number ++ behind ∷ [])) }
+{
+    text.extend_from_slice(Buffer::new().format(number).as_bytes())?;
+    push_byte(text, behind)
+}
+
+fn push_byte(text: &mut Vec<u8>, byte: u8) -> Result<(), NoMemory>
+    ensures ok { OnOk result (text.new.items ≡ text.old.items ++ byte ∷ []) }
+{
+    match text.push(byte) {
+        Ok(()) => Ok(()),
+        Err(_) => Err(NoMemory),
+    }
+}
