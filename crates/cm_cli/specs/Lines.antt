@@ -1,8 +1,8 @@
 -- What the program does for a command line, what it tells on standard error, and the status that it ends with. Ours.
 use Rattle.std.specs.Prelude.{◌≡◌, ◌⊎◌, ◌↔◌, ℕ, Bool, true, false, Option, None, IfSome, IfOk, IsErrOf, IsOkUnless}
-use Rattle.std.specs.Prelude.{Result, Ok, Err, Vec, String, List, [], ◌∷◌, ◌++◌, map, option_map, string_bytes}
+use Rattle.std.specs.Prelude.{IsTrue, Result, Ok, Err, Vec, String, List, [], ◌∷◌, ◌++◌, map, option_map, string_bytes}
 use Rattle.std.specs.declared.alloc.Global.{Global}
-use Rattle.std.specs.Io.KnownBytes.{Appends}
+use Rattle.std.specs.Io.KnownBytes.{Appends, IsAtEnd}
 use Rattle.cm_bits.specs.declared.ends.Failed.{Failed}
 use Rattle.cm_model.specs.Machine.{blank_machine}
 use Rattle.cm_image_format.specs.Whole.{text_of}
@@ -20,8 +20,9 @@ use Rattle.cm_cli.specs.declared.program_fault.ProgramFault.{ProgramFault}
 use Rattle.cm_cli.specs.declared.program_fault.ProgramFault.TheVariants.{Read, Memory}
 use Rattle.cm_cli.specs.ProgramFault.{of_chip, of_line, told_number, line_of}
 use Rattle.cm_cli.specs.Report.{HasFront, message_of, status_of}
-use Rattle.cm_cli.specs.Session.{Ends, is_write as is_chip_write}
-use Rattle.cm_cli.specs.Listed.{EndsListing, is_write}
+use Rattle.cm_cli.specs.Take.{ConsumesAtMost}
+use Rattle.cm_cli.specs.Session.{CHIP_LIMIT, Ends, has_read_all as has_heard_all, is_write as is_chip_write}
+use Rattle.cm_cli.specs.Listed.{PROGRAM_LIMIT, EndsListing, has_read_all, is_write}
 use Rattle.cm_cli.specs.Fresh.{fresh_fault}
 use Rattle.cm_cli.specs.Opened.{Start}
 use Rattle.cm_cli.specs.Deeds.{Deed, Asked, Opened}
@@ -42,7 +43,10 @@ pub record DoesChip {F P : Type 0} (streams : Streams) (result : Result (Unit {0
     (deeds : List (Deed F P)) : Type 0 where
   pub ended : Result (Unit {0}) ChipFault
   pub ends : IfSome streams.lines (λ text. Ends text streams.held streams.holds ended)
+  pub end : IsTrue (has_heard_all ended) → IsAtEnd streams.rest
   pub read : (streams.read_failed ≡ true) ↔ IsErrOf ended chip.Read
+  pub read_within : IsErrOf ended chip.Read → ConsumesAtMost CHIP_LIMIT streams.lines streams.rest
+  pub memory_within : IsErrOf ended chip.Memory → ConsumesAtMost CHIP_LIMIT streams.lines streams.rest
   pub write : streams.write_failed ≡ is_chip_write ended
   pub then : Flushes streams.holds (chip_end ended) result deeds
 
@@ -52,7 +56,10 @@ pub record ListsOut {F P : Type 0} (reads : Reads F) (file : F) (held holds : Op
   pub after : F
   pub ended : Result (Unit {0}) ProgramFault
   pub ends : IfSome (reads.left file) (λ text. EndsListing text held holds ended)
+  pub end : IsTrue (has_read_all ended) → IsAtEnd (reads.left after)
   pub read : (reads.has_failed after ≡ true) ↔ IsErrOf ended Read
+  pub read_within : IsErrOf ended Read → ConsumesAtMost PROGRAM_LIMIT (reads.left file) (reads.left after)
+  pub memory_within : IsErrOf ended Memory → ConsumesAtMost PROGRAM_LIMIT (reads.left file) (reads.left after)
   pub write : failed ≡ is_write ended
   pub then : Flushes holds ended result deeds
 

@@ -1,5 +1,6 @@
 -- Files that are read to their end: which one, how much of it at most, and what came of it. Ours.
-use Rattle.std.specs.Prelude.{◌≡◌, ℕ, ◌<◌, ◌≤◌, Bool, true, Option, IfSome, Result, Ok, Err, Vec, List, [], ◌∷◌, length}
+use Rattle.std.specs.Prelude.{◌≡◌, ◌↔◌, ℕ, ◌<◌, ◌≤◌, Bool, true, Option, IfSome, IsErrOf, Result, Ok, Err, Vec, List}
+use Rattle.std.specs.Prelude.{[], ◌∷◌, length}
 use Rattle.std.specs.declared.alloc.Global.{Global}
 use Rattle.std.specs.Io.KnownBytes.{Consumes, IsAtEnd}
 use Rattle.cm_bits.specs.declared.ends.Failed.{Failed}
@@ -9,6 +10,7 @@ use Rattle.cm_cli.specs.declared.takes.TakeFault.TheVariants.{Read, TooMuch, Mem
 use Rattle.cm_cli.specs.declared.program_fault.ProgramFault.{ProgramFault}
 use Rattle.cm_cli.specs.ProgramFault.{of_take}
 use Rattle.cm_cli.specs.Opened.{Start, opened, IsUnopened}
+use Rattle.cm_cli.specs.Take.{ConsumesAtMost}
 use Rattle.cm_cli.specs.Listed.{PROGRAM_LIMIT}
 use Rattle.cm_cli.specs.Run.{IsRefusedText}
 use Rattle.cm_cli.specs.Deeds.{Deed, Opened}
@@ -30,15 +32,16 @@ abbrev pub IsTakenTo : {F : Type 0} → Reads F → ℕ → F → F → Result (
 IsTakenTo reads limit file after (Ok bytes) =
     (length bytes.items ≤ limit) × Consumes (reads.left file) (reads.left after) bytes.items
     × IsAtEnd (reads.left after)
-IsTakenTo reads limit file after (Err Read) = reads.has_failed after ≡ true
+IsTakenTo reads limit file after (Err Read) = ConsumesAtMost limit (reads.left file) (reads.left after)
 IsTakenTo reads limit file after (Err TooMuch) = IfSome (reads.left file) (λ bytes. limit < length bytes)
-IsTakenTo reads limit file after (Err Memory) = Unit {0}
+IsTakenTo reads limit file after (Err Memory) = ConsumesAtMost limit (reads.left file) (reads.left after)
 
 -- what came of taking a file to its end, at most so many bytes
 pub record IsTaken {F : Type 0} (reads : Reads F) (limit : ℕ) (file : F) (taken : Result (Vec ℕ Global) TakeFault)
     : Type 0 where
   pub after : F
   pub so : IsTakenTo reads limit file after taken
+  pub read : (reads.has_failed after ≡ true) ↔ IsErrOf taken Read
 
 -- the same of a file that was to be opened: one that cannot be opened cannot be read
 abbrev pub IsGiven : {F : Type 0} → Reads F → ℕ → Result F Failed → Result (Vec ℕ Global) TakeFault → Type 0

@@ -9,7 +9,7 @@ use Rattle.cm_weave.specs.Woven.{Woven}
 use Rattle.cm_steps.specs.declared.fault.WeaveFault.{WeaveFault}
 use Rattle.cm_steps.specs.declared.fault.WeaveFault.TheVariants as weave
 use Rattle.cm_steps.specs.Alone.{own_text}
-use Rattle.cm_steps.specs.Ends.{EndsBy, EndsFinished, IsCutBy, is_write}
+use Rattle.cm_steps.specs.Ends.{EndsBy, EndsByForSome, EndsFinished, EndsFinishedForSome, IsCutBy, is_write}
 use Rattle.cm_steps.specs.Hearing.{exchange_in}
 use Rattle.cm_cli.specs.declared.program_fault.ProgramFault.{ProgramFault}
 use Rattle.cm_cli.specs.declared.program_fault.ProgramFault.TheVariants.{Memory}
@@ -31,6 +31,11 @@ abbrev pub EndsBySteps : Exchange → World → List ℕ → Option (List ℕ) �
 EndsBySteps exchange world text rest out (Ok done) = EndsFinished exchange text world out.held out.holds
 EndsBySteps exchange world text rest out (Err fault) = EndsBy exchange text rest world out.held out.holds fault
 
+-- and so by the lines of some text: this can be said of a file that does not tell its bytes
+abbrev pub EndsBySome : Exchange → World → Outgoing → Result (Unit {0}) WeaveFault → Type 0
+EndsBySome exchange world out (Ok done) = EndsFinishedForSome exchange world out.held out.holds
+EndsBySome exchange world out (Err fault) = EndsByForSome exchange world out.held out.holds fault
+
 -- and so by itself
 abbrev pub EndsByItself : Exchange → World → Outgoing → Result (Unit {0}) WeaveFault → Type 0
 EndsByItself exchange world out (Ok done) = Appends out.held out.holds (own_text exchange world)
@@ -41,6 +46,7 @@ pub record HearsSteps {F : Type 0} (reads : Reads F) (exchange : Exchange) (worl
     (ended : Result (Unit {0}) WeaveFault) : Type 0 where
   pub after : F
   pub ends : IfSome (reads.left file) (λ text. EndsBySteps exchange world text (reads.left after) out ended)
+  pub heard : EndsBySome exchange world out ended
   pub read : (reads.has_failed after ≡ true) ↔ IsErrOf ended weave.Read
 
 -- an exchange ends so, by a file of steps or, where there is none, by itself

@@ -361,11 +361,25 @@ fn run_by_workers<const N: usize, const CAP: usize, R: Threads + Wait + Sync, I:
     ensures read { (I.has_failed commands.new ≡ true) ↔ IsErrOf result ProgramFault.Read }
     ensures write { (O.has_failed out.new ≡ true) ↔ IsErrOf result ProgramFault.Write }
 {
+    let mut runner = shared_runner::<N, R>(rt, alloc, sharing, passage);
+    run_machine(alloc, machine, program, &mut runner, commands, out, keeps)
+}
+
+/// The runner of as many workers as are asked for, on as many blocks of a machine of 2^`N` chips.
+fn shared_runner<'a, const N: usize, R: Threads + Wait + Sync>(
+    rt: &'a R,
+    alloc: Global,
+    sharing: Sharing,
+    passage: Passage,
+) -> Resident<'a, R>
+    requires shared { sharing_fault N sharing ≡ None }
+    ensures blocks { result.k ≡ sharing.split }
+    ensures workers { result.workers ≡ sharing.workers }
+    ensures passage { result.passage ≡ passage }
+{
     let workers = u16::from(sharing.workers);
     match Resident::new::<N>(rt, alloc, sharing.split, workers, passage) {
-        Ok(mut resident) => {
-            run_machine(alloc, machine, program, &mut resident, commands, out, keeps)
-        }
+        Ok(resident) => resident,
         Err(_) => unreachable!(),
     }
 }

@@ -9,7 +9,10 @@ returns-in-Ok g c = record {
     so = record {
       ended = Ok c.in-Ok.field-0;
       ends = c.in-Ok.ensures.ends;
+      end = c.in-Ok.ensures.end;
       read = c.in-Ok.ensures.read;
+      read_within = c.in-Ok.ensures.read_within;
+      memory_within = c.in-Ok.ensures.memory_within;
       write = c.in-Ok.ensures.write;
       then = c.flush_out.ensures.so;
     };
@@ -24,7 +27,10 @@ returns-in-Err g c = record {
     so = record {
       ended = Err c.in-Err.fault;
       ends = c.in-Err.ensures.ends;
+      end = c.in-Err.ensures.end;
       read = c.in-Err.ensures.read;
+      read_within = c.in-Err.ensures.read_within;
+      memory_within = c.in-Err.ensures.memory_within;
       write = c.in-Err.ensures.write;
       then = (refl, ap (λ fault. Err fault) c.from.ensures);
     };

@@ -15,7 +15,10 @@ returns-in-Ok-list g c = record {
         after = c.list.new.source;
         ended = Ok c.in-Ok-list.field-0;
         ends = c.in-Ok-list.ensures.ends;
+        end = c.in-Ok-list.ensures.end;
         read = c.in-Ok-list.ensures.read;
+        read_within = c.in-Ok-list.ensures.read_within;
+        memory_within = c.in-Ok-list.ensures.memory_within;
         write = c.in-Ok-list.ensures.write;
         then = c.flush_out.ensures.so;
       };
@@ -36,7 +39,10 @@ returns-in-Ok g c = record {
         after = c.list.new.source;
         ended = Err c.in-Err-list.fault;
         ends = c.in-Err-list.ensures.ends;
+        end = c.in-Err-list.ensures.end;
         read = c.in-Err-list.ensures.read;
+        read_within = c.in-Err-list.ensures.read_within;
+        memory_within = c.in-Err-list.ensures.memory_within;
         write = c.in-Err-list.ensures.write;
         then = (refl, refl);
       };

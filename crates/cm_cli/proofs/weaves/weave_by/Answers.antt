@@ -10,6 +10,7 @@ returns-in-Ok-clause-woven g c = record {
   ends = record {
     after = c.weave_session.new.steps;
     ends = c.in-Ok.ensures.finished refl;
+    heard = c.in-Ok.ensures.heard;
     read = same_none c.in-Ok.ensures.read;
   };
   write = c.in-Ok.ensures.write;
@@ -23,6 +24,7 @@ returns-clause-woven g c = record {
   ends = record {
     after = c.weave_session.new.steps;
     ends = c.in-Err.ensures.err;
+    heard = c.in-Err.ensures.heard;
     read = same_fault c.in-Err.ensures.read;
   };
   write = c.in-Err.ensures.write;
