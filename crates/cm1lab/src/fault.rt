@@ -5,6 +5,7 @@ use cm_bits::FieldFault;
 use cm_fresh::FreshFault;
 use cm_front::{FrontFault, ImageFault, SessionFault};
 use cm_lab::{LabFault, NumbersFault};
+use cm_load::LoadFault;
 use cm_source::{AsmKind, SourceFault, SourceKind};
 use std::alloc::Global;
 use std::io;
@@ -27,10 +28,15 @@ pub enum Fault {
     /// A word that is to be any other number is none.
     #[error("cm1lab: {word} is no number from 0 to 65535")]
     Count { word: String },
+    /// A word that is to be something else is not.
+    #[error("cm1lab: {word} is no {what}")]
+    Word { word: String, what: &'static str },
     #[error("cm1lab: {0}")]
     Field(FieldFault),
     #[error("cm1lab: {0}")]
     Fresh(FreshFault),
+    #[error("cm1lab: {0}")]
+    Load(LoadFault),
     /// What is wrong with a file.
     #[error("cm1lab: {path}: {what}")]
     File { path: String, what: &'static str },
@@ -71,6 +77,14 @@ impl Fault {
     pub fn count(alloc: Global, word: &str) -> Fault {
         match String::from_str(alloc, word) {
             Ok(word) => Fault::Count { word },
+            Err(_) => Fault::Memory,
+        }
+    }
+
+    /// A word that is not what it is to be.
+    pub fn word(alloc: Global, word: &str, what: &'static str) -> Fault {
+        match String::from_str(alloc, word) {
+            Ok(word) => Fault::Word { word, what },
             Err(_) => Fault::Memory,
         }
     }
@@ -124,7 +138,11 @@ impl Fault {
     pub fn status(&self) -> u8 {
         match self {
             Fault::Help => 0,
-            Fault::Words | Fault::Number { .. } | Fault::Flag { .. } | Fault::Count { .. } => 2,
+            Fault::Words
+            | Fault::Number { .. }
+            | Fault::Flag { .. }
+            | Fault::Count { .. }
+            | Fault::Word { .. } => 2,
             Fault::Memory => 3,
             Fault::File { .. } | Fault::Input(_) | Fault::Output => 4,
             _ => 1,
