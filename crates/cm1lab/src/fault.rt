@@ -5,6 +5,7 @@ use cm_bits::FieldFault;
 use cm_fresh::FreshFault;
 use cm_front::{FrontFault, ImageFault, SessionFault};
 use cm_lab::{LabFault, NumbersFault};
+use cm_load::LoadFault;
 use cm_source::{AsmKind, SourceFault, SourceKind};
 use std::alloc::Global;
 use std::io;
@@ -33,10 +34,15 @@ pub enum Fault {
     /// A word that is to be any other number is none.
     #[error("cm1lab: {word} is no number from 0 to 65535")]
     Count { word: String },
+    /// A word that is to be something else is not.
+    #[error("cm1lab: {word} is no {what}")]
+    Word { word: String, what: &'static str },
     #[error("cm1lab: {0}")]
     Field(FieldFault),
     #[error("cm1lab: {0}")]
     Fresh(FreshFault),
+    #[error("cm1lab: {0}")]
+    Load(LoadFault),
     /// What is wrong with a file.
     #[error("cm1lab: {path}: {what}")]
     File { path: String, what: &'static str },
@@ -97,6 +103,14 @@ impl Fault {
         }
     }
 
+    /// A word that is not what it is to be.
+    pub fn word(alloc: Global, word: &str, what: &'static str) -> Fault {
+        match String::from_str(alloc, word) {
+            Ok(word) => Fault::Word { word, what },
+            Err(_) => Fault::Memory,
+        }
+    }
+
     /// What is wrong with a file.
     pub fn file(alloc: Global, path: &str, what: &'static str) -> Fault {
         match String::from_str(alloc, path) {
@@ -151,7 +165,8 @@ impl Fault {
             | Fault::Flag { .. }
             | Fault::Processor { .. }
             | Fault::Cycle { .. }
-            | Fault::Count { .. } => 2,
+            | Fault::Count { .. }
+            | Fault::Word { .. } => 2,
             Fault::Memory => 3,
             Fault::File { .. } | Fault::Input(_) | Fault::Output => 4,
             _ => 1,

@@ -1,14 +1,16 @@
 //! The laboratory: data and pictures of all processors, out of a machine's image and into it, studies of its router, a
-//! front end, the programs of sources, and blank machines. This is its words, its files, its standard input and output;
-//! what it does is in cm_lab, cm_front, cm_source and cm_fresh.
+//! front end, the programs of sources, blank machines, and loads. This is its words, its files, its standard input and
+//! output; what it does is in cm_lab, cm_front, cm_source, cm_fresh and cm_load.
 #![tactic(auto)]
 
 mod fault;
 mod files;
+mod loads;
 mod words;
 
 use crate::fault::Fault;
 use crate::files::{read_file, write_file};
+use crate::loads::{Loads, measure_all};
 use crate::words::{Asked, Blank, Given, Wanted, read_words};
 use cm_bits::{Std, write_all};
 use cm_cli::{TakeFault, take};
@@ -19,7 +21,7 @@ use cm_source::expand;
 use std::alloc::Global;
 use std::io::Write;
 use std::process::ExitCode;
-use std::rt::{Env, Files};
+use std::rt::{Clock, Env, Files};
 use std::{env, io};
 
 /// Most bytes of an image's file.
@@ -51,7 +53,10 @@ fn main(rt: HostRuntime) -> ExitCode {
 }
 
 /// Does what the words of the command line ask for.
-fn run<R: Input + Print + Env + Files + AllocGlobal>(rt: &R, alloc: Global) -> Result<(), Fault> {
+fn run<R: Input + Print + Eprint + Env + Files + Clock + AllocGlobal>(
+    rt: &R,
+    alloc: Global,
+) -> Result<(), Fault> {
     let Ok(given) = env::args(rt) else {
         return Err(Fault::Memory);
     };
@@ -72,7 +77,14 @@ fn run<R: Input + Print + Env + Files + AllocGlobal>(rt: &R, alloc: Global) -> R
         Wanted::Front { image, out } => converse(rt, alloc, image, out),
         Wanted::Expand { source } => unfold(rt, alloc, source),
         Wanted::Fresh(blank) => begin(rt, alloc, &blank),
+        Wanted::Load(loads) => load(rt, alloc, &loads),
     }
+}
+
+/// The table of loads.
+fn load<R: Print + Eprint + Clock>(rt: &R, alloc: Global, loads: &Loads) -> Result<(), Fault> {
+    let text = measure_all(rt, alloc, loads)?;
+    show(rt, text.as_slice())
 }
 
 /// The image of a blank machine.

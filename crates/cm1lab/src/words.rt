@@ -1,6 +1,7 @@
 //! The words of the command line.
 
 use crate::fault::Fault;
+use crate::loads::{Loads, read_loads};
 use cm_bits::{Field, FlagNo, Proc};
 use cm_fresh::WireEnd;
 use cm_lab::{Form, Order, Shown, Table, Tag, Task};
@@ -49,6 +50,11 @@ cm1lab fresh N CAP [--cut CHIP DIM].. [--rule R] FILE
     puts the image of a blank machine of 2^N chips with room for CAP messages in each router,
     1 to 15, into FILE; the wire of CHIP over dimension DIM is cut, by whichever end it is
     named; rule 0, who came first goes first, or rule 1, the oldest
+cm1lab load N CAP RATE[,RATE].. CYCLES [--rule R] [--pattern P] [--until T] [--seed S]
+    tells a table, a line for each RATE of messages that the processors of a chip offer in a
+    petit cycle, as 0.5: what was offered, taken in and delivered on such a blank machine, and
+    how many petit cycles that took; P is uniform, transpose, reversal or hotspot; with
+    --until only the first T petit cycles offer; S draws others
 
 ADDRESS is that of the field's lowest bit, 0 to 4095, and LENGTH how many bits it has, 1 to 64.
 IMAGE is a file that cm1 fresh, cm1 run --out or cm1lab wrote, PROGRAM a text as for cm1 run.";
@@ -91,6 +97,8 @@ pub enum Wanted<'a> {
     },
     /// A blank machine.
     Fresh(Blank<'a>),
+    /// Loads of the router.
+    Load(Loads),
 }
 
 /// A task: of which image, with what is given beside it, and into which file, if the machine changes.
@@ -116,6 +124,10 @@ pub fn read_words<'a>(alloc: Global, words: &[&'a str]) -> Result<Wanted<'a>, Fa
         [_, "fresh", n, room, rest @ ..] => {
             let blank = read_blank(alloc, n, room, rest)?;
             Ok(Wanted::Fresh(blank))
+        }
+        [_, "load", n, room, rates, cycles, options @ ..] => {
+            let loads = read_loads(alloc, n, room, rates, cycles, options)?;
+            Ok(Wanted::Load(loads))
         }
         _ => {
             let asked = read_task(alloc, words)?;
@@ -321,7 +333,7 @@ fn number(alloc: Global, word: &str) -> Result<u16, Fault> {
 }
 
 /// A number of a dimension, a room, a chip or a rule.
-fn count(alloc: Global, word: &str) -> Result<u16, Fault> {
+pub fn count(alloc: Global, word: &str) -> Result<u16, Fault> {
     match word.parse::<u16>() {
         Ok(number) => Ok(number),
         Err(_) => Err(Fault::count(alloc, word)),

@@ -4,6 +4,8 @@
 #[cfg(test)]
 mod again;
 #[cfg(test)]
+mod blanks;
+#[cfg(test)]
 mod drawn;
 #[cfg(test)]
 mod draws;
@@ -15,6 +17,8 @@ mod fronts;
 mod grid;
 #[cfg(test)]
 mod growths;
+#[cfg(test)]
+mod loads;
 #[cfg(test)]
 mod performed;
 #[cfg(test)]
