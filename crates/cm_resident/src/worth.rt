@@ -47,7 +47,9 @@ pub(crate) fn is_soon_done<const N: usize, const CAP: usize>(
     let shared = START.saturating_add(rounds.saturating_mul(ROUND));
     let smaller = 12 - machine.dims();
     spared.saturating_sub(cut) >> smaller <= shared
-        || spared.saturating_sub(cut.saturating_add(ROW.saturating_mul(rows_in_use(machine)))) >> smaller <= shared
+        || spared.saturating_sub(cut.saturating_add(ROW.saturating_mul(rows_in_use(machine))))
+            >> smaller
+            <= shared
         || has_no_instruction(acts) && is_at_rest(machine)
 }
 
