@@ -1,5 +1,5 @@
 -- An instruction in a band of whole rows of chips: what comes in at each is what the step of a part names.
-use Rattle.std.proofs.Common.{◌≡◌, ◌≢◌, ℕ, zero, suc, ◌+◌, ◌-◌, ◌*◌, ◌/◌, ◌%◌, ◌^◌, ◌<◌, ◌≤◌, ◌&&◌, nat_le, nat_lt}
+use Rattle.std.proofs.Common.{◌≡◌, ◌≢◌, ℕ, zero, suc, ◌+◌, ◌-◌, ◌*◌, ◌/◌, ◌%◌, ◌^◌, ◌<◌, ◌≤◌, ◌==◌, ◌&&◌, nat_le, nat_lt}
 use Rattle.std.proofs.Common.{Bool, true, false}
 use Rattle.std.proofs.Common.{if◌then◌else◌, List, [], length, get_or, refl, sym, ap, ◌∙◌, subst}
 use Rattle.std.proofs.Common.{⊎_elim, arith, ext_get_or}
@@ -14,10 +14,10 @@ use Rattle.cm_model.specs.declared.act.Nano.{Nano}
 use Rattle.cm_model.specs.declared.message.Message.{Message}
 use Rattle.cm_model.specs.Each.{each_from}
 use Rattle.cm_model.specs.Laws.{IsPlace}
-use Rattle.cm_model.specs.Place.{chip_columns, source, opposite, column_of, place_at}
+use Rattle.cm_model.specs.Place.{chip_columns, source, opposite, predecessor, column_of, place_at}
 use Rattle.cm_model.specs.Chip.{IsPlane, chip_after, processor_at}
 use Rattle.cm_model.specs.Instruction.{flag_output}
-use Rattle.cm_model.specs.Array.{Chips, chip_at, output}
+use Rattle.cm_model.specs.Array.{Chips, chip_at, output, chain_output, incoming, after_nano}
 use Rattle.cm_model.specs.Wiring.{Routing, plain_routing}
 use Rattle.cm_model.specs.Steps.{Instruct}
 use Rattle.cm_model.proofs.Each.{length-each_from, get_or-each_from, get_or-each_below, same_each_below}
@@ -28,7 +28,8 @@ use Rattle.cm_blocks.specs.Parts.{Part, is_within, chip_in}
 use Rattle.cm_blocks.specs.Parcels.{Parcel, Blank, Edge, bit_in, edge_row, due}
 use Rattle.cm_blocks.specs.Rounds.{is_vertical}
 use Rattle.cm_blocks.specs.Steps.{part_after, incoming_in, news_in}
-use Rattle.cm_blocks.proofs.Cutting.{within-from, within-below}
+use Rattle.cm_blocks.proofs.Bands.{band as rows_in, size-band}
+use Rattle.cm_blocks.proofs.Cutting.{within-part, within-from, within-below}
 use Rattle.cm_news.specs.Bands.{AreRows, bits_of, bit_for}
 use Rattle.cm_news.specs.Moves.{at_edge}
 use Rattle.cm_router.specs.Logs.{Log}
@@ -37,6 +38,9 @@ use Rattle.cm_petit.specs.Routers.{part_of}
 use Rattle.cm_array.specs.declared.parts.Parts.{Parts}
 use Rattle.cm_array.specs.Cuts.{KeptPart, kept_part, IsKeptPart}
 use Rattle.cm_array.specs.Bands.{IsBand, IsStepped, edge_from, IsEdgeOf}
+
+from_0 : (c : ℕ) → c - 0 ≡ c
+from_0 c = omega arith
 
 -- a list that is made from 0 on is made from another number on, by a function that agrees there
 each-from_other : {X : Type 0} (d : X) (first count : ℕ) (f g : ℕ → X) → ((i : ℕ) → i < count → f i ≡ g (first + i))
@@ -126,6 +130,46 @@ stepped_apart n nano old new edge apart is routing cap first clock buffers logs 
     (λ i p l h. ap (λ (k : ℕ). along_chain nano (chip_at old k) p) (let e : i ≡ first + i - first = omega arith in e)
     ∙ along_chain_in n nano (Edge (bits_of edge)) s (first + i) p apart)
 
+-- ---- where the band is all chips
+
+-- these are whole rows
+pub all_rows : (n count : ℕ) → count ≡ 2 ^ n → AreRows n count
+all_rows n count all = (
+  rows_in n 0,
+  all ∙ ap (λ (k : ℕ). 2 ^ k) (let e : n ≡ n - 0 = omega arith in e) ∙ size-band n 0 (omega arith),
+)
+
+-- what comes in at a place is what comes in there in all chips
+incoming_in_all : (n count : ℕ) (nano : Nano) (parcel : Parcel) (chips : Chips) (c p : ℕ) → count ≡ 2 ^ n → c < 2 ^ n
+    → p < 16
+    → incoming_in n nano parcel (part_of plain_routing 0 count chips [] [] 0) c p ≡ incoming n nano chips c p
+unfolding incoming_in incoming
+incoming_in_all n count nano parcel chips c p all there h =
+    let s : Part = part_of plain_routing 0 count chips [] [] 0 in
+    let place : Place = record { chip = c; proc = p } in
+    let from : Place = source n nano.dir place in
+    let within : IsPlace n from =
+    (neighbours_lead_back n (opposite nano.dir) place (record { chip = there; proc = h })).within in
+    let inside : is_within s from.chip ≡ true =
+    within-part s from.chip (omega arith) (omega (arith, within.chip, all)) in
+    rw inside (λ t. if nano.write == 10 then output nano (λ k. chip_at chips (from_0 k t)) from
+    else chain_output nano (chip_at chips (from_0 c t)) (predecessor p))
+
+-- so an instruction is one in all chips
+pub all_stepped : (n : ℕ) (nano : Nano) (edge : List ℕ) (old new : Chips) → length old ≡ 2 ^ n
+    → IsStepped n nano edge old new → new ≡ after_nano n nano old
+unfolding part_after after_nano
+all_stepped n nano edge old new all is =
+    let s : Part = part_of plain_routing 0 (length old) old [] [] 0 in
+    let parcel : Parcel = Edge (bits_of edge) in
+    ap (λ (after : Part). after.chips) (is plain_routing 0 0 0 [] [] (0, omega arith) (omega (arith, all)))
+    ∙ ap (λ (k : ℕ). each_from 0 k (λ c. chip_after nano (incoming_in n nano parcel s c) (chip_in s c))) all
+    ∙ same_each_below [] (2 ^ n) (λ c. chip_after nano (incoming_in n nano parcel s c) (chip_in s c))
+    (λ c. chip_after nano (incoming n nano old c) (chip_at old c))
+    (λ c l. same_chip nano (incoming_in n nano parcel s c) (incoming n nano old c) (chip_in s c)
+    (λ p h takes. incoming_in_all n (length old) nano parcel old c p all l h)
+    ∙ ap (λ (k : ℕ). chip_after nano (incoming n nano old c) (chip_at old k)) (from_0 c))
+
 -- ---- the part that is kept
 
 -- there are as many chips as before
@@ -169,15 +213,17 @@ module _ (dims room first : ℕ) (parts : Parts) (old : KeptPart) (nano : Nano) 
   IsKeptPart-instructed sent_count incoming_count =
       let many = as_many in
       record {
-        sizes = was.sizes;
+        sized = record {
+          sizes = was.sized.sizes;
+          sent_count = sent_count ∙ sym many;
+          incoming_count = incoming_count ∙ sym many;
+          clock = was.sized.clock;
+          cube = was.sized.cube;
+        };
         there = omega (arith, was.there, many);
         buffer_count = was.buffer_count ∙ sym many;
         log_count = was.log_count ∙ sym many;
-        sent_count = sent_count ∙ sym many;
-        incoming_count = incoming_count ∙ sym many;
         within = was.within;
-        clock = was.clock;
-        cube = was.cube;
       }
 
 -- ---- where nothing comes in from outside

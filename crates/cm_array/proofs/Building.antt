@@ -56,13 +56,7 @@ IsUnfinished-blank n cap clock =
 pub AreUnfinished-blank : (n cap clock : ℕ) (parts : Parts) → AreParts n cap parts
     → machine_of parts ≡ record (blank_machine n) { clock = clock } → AreUnfinished n cap parts
 AreUnfinished-blank n cap clock parts h is = record {
-  dimension = h.dimension;
-  some_room = h.some_room;
-  most_room = h.most_room;
-  sent_count = h.sent_count;
-  incoming_count = h.incoming_count;
-  clock = h.clock;
-  cube = h.cube;
+  sized = h.sized;
   machine = subst (λ (m : Machine). IsUnfinished n cap m) (sym is) (IsUnfinished-blank n cap clock);
 }
 
@@ -72,13 +66,7 @@ AreUnfinished-blank n cap clock parts h is = record {
 pub AreUnfinished-with_chip : (n cap : ℕ) (parts : Parts) (run : Chips) (i : ℕ) (chip : List Processor) → IsChip chip
     → run ≡ set parts.run i chip → AreUnfinished n cap parts → AreUnfinished n cap (record parts { run = run })
 AreUnfinished-with_chip n cap parts run i chip whole is h = record {
-  dimension = h.dimension;
-  some_room = h.some_room;
-  most_room = h.most_room;
-  sent_count = h.sent_count;
-  incoming_count = h.incoming_count;
-  clock = h.clock;
-  cube = h.cube;
+  sized = h.sized;
   machine = record {
     chip_count = ap length is ∙ length-set parts.run i chip ∙ h.machine.chip_count;
     buffer_count = h.machine.buffer_count;
@@ -113,13 +101,7 @@ AreUnfinished-with_chips n cap parts run from first inside whole is h =
       h.machine.chip_count,
     ) in
     record {
-      dimension = h.dimension;
-      some_room = h.some_room;
-      most_room = h.most_room;
-      sent_count = h.sent_count;
-      incoming_count = h.incoming_count;
-      clock = h.clock;
-      cube = h.cube;
+      sized = h.sized;
       machine = record {
         chip_count = ap length is ∙ long ∙ h.machine.chip_count;
         buffer_count = h.machine.buffer_count;
@@ -198,13 +180,7 @@ pub AreUnfinished-with_message : (n cap : ℕ) (parts : Parts) (i : ℕ) (crossi
     → IsMessage n m → m.tag.birth < parts.clock
     → AreUnfinished n cap (record parts { crossing = crossing })
 AreUnfinished-with_message n cap parts i crossing m h below is room message born = record {
-  dimension = h.dimension;
-  some_room = h.some_room;
-  most_room = h.most_room;
-  sent_count = h.sent_count;
-  incoming_count = h.incoming_count;
-  clock = h.clock;
-  cube = h.cube;
+  sized = h.sized;
   machine = subst (λ (machine : Machine). IsUnfinished n cap machine)
       (sym (machine_of-with_message parts i crossing m is))
       (IsUnfinished-with_message n cap (machine_of parts) i m h.machine below room message born);
@@ -239,13 +215,7 @@ pub AreParts-finished : (n cap : ℕ) (parts : Parts) (crossing : UnderWay) → 
     → has_tag_twice (standing_messages (machine_of parts)) ≡ false
     → AreParts n cap (record parts { crossing = crossing })
 AreParts-finished n cap parts crossing h same gathered apart = record {
-  dimension = h.dimension;
-  some_room = h.some_room;
-  most_room = h.most_room;
-  sent_count = h.sent_count;
-  incoming_count = h.incoming_count;
-  clock = h.clock;
-  cube = h.cube;
+  sized = h.sized;
   gathered = gathered;
   machine = subst (λ (m : Machine). IsMachine n cap m) (sym (machine_of-gathered parts crossing same))
       (IsMachine-finished n cap (machine_of parts) h.machine apart);

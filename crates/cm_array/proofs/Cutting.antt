@@ -22,10 +22,10 @@ pub within_fifteen : (n cap : ℕ) (parts : Parts) → AreParts n cap parts
     → All (λ ms. length ms ≤ 15) parts.crossing.buffers
 within_fifteen n cap parts h =
     All-from_get_or (λ (ms : List Message). length ms ≤ 15) parts.crossing.buffers []
-    (λ c l. omega (arith, h.machine.room c (omega (arith, h.machine.buffer_count, l)), h.most_room))
+    (λ c l. omega (arith, h.machine.room c (omega (arith, h.machine.buffer_count, l)), h.sized.sizes.most_room))
 
 pub few_buffers : (n cap : ℕ) (parts : Parts) → AreParts n cap parts → length parts.crossing.buffers ≤ 4096
-few_buffers n cap parts h = omega (arith, h.machine.buffer_count, few_chips n h.dimension)
+few_buffers n cap parts h = omega (arith, h.machine.buffer_count, few_chips n h.sized.sizes.dimension)
 
 -- the events of some of the logs
 pub events_of-cut : (first count : ℕ) (logs : List Log)
@@ -73,15 +73,17 @@ module _ (n cap first count : ℕ) (old new : Parts) (were : AreParts n cap old)
   -- so it is the part of the machine
   pub IsKeptPart-cut : IsKeptPart n cap first new
   IsKeptPart-cut = record {
-    sizes = record { dimension = were.dimension; some_room = were.some_room; most_room = were.most_room };
+    sized = record {
+      sizes = were.sized.sizes;
+      sent_count = are.sent ∙ sym length-run_cut;
+      incoming_count = are.incoming ∙ sym length-run_cut;
+      clock = omega (arith, are.clock, were.sized.clock);
+      cube = ap (λ (r : Routing). r.cuts.dims) are.routing ∙ were.sized.cube;
+    };
     there = omega (arith, there, length-run_cut);
     buffer_count = length-buffers_cut ∙ sym length-run_cut;
     log_count = length-logs_cut ∙ sym length-run_cut;
-    sent_count = are.sent ∙ sym length-run_cut;
-    incoming_count = are.incoming ∙ sym length-run_cut;
     within = within_cut;
-    clock = omega (arith, are.clock, were.clock);
-    cube = ap (λ (r : Routing). r.cuts.dims) are.routing ∙ were.cube;
   }
 
   pub part_of-cut : part_of (routing_of new.routing) first (length new.run) new.run new.crossing.buffers

@@ -59,15 +59,11 @@ pub IsKeptPart-crossed : (n cap first : ℕ) (parts : Parts) (crossing : UnderWa
     → length crossing.buffers ≡ length parts.run → All (λ ms. length ms ≤ cap) crossing.buffers
     → IsKeptPart n cap first (record parts { crossing = crossing })
 IsKeptPart-crossed n cap first parts crossing was long within = record {
-  sizes = was.sizes;
+  sized = was.sized;
   there = was.there;
   buffer_count = long;
   log_count = was.log_count;
-  sent_count = was.sent_count;
-  incoming_count = was.incoming_count;
   within = within;
-  clock = was.clock;
-  cube = was.cube;
 }
 
 -- chips within a cube span no more dimensions than it has

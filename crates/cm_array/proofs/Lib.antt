@@ -1,5 +1,4 @@
 mod Lists
-mod Instructing
 mod Banding
 mod Wholes
 mod Searching

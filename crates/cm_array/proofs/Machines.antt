@@ -6,6 +6,7 @@ use Rattle.std.proofs.lemmas.List.{length-set, length-map}
 use Rattle.std.proofs.Math.Nat.{pow-le-pow_right}
 use Rattle.std.proofs.lemmas.List.Elements.{All-from_get_or}
 use Rattle.std.specs.Prelude.{IsTrue}
+use Rattle.std.specs.Global.{Vec}
 use Rattle.std.specs.List.{list_any}
 use Rattle.cm_model.specs.declared.act.Act.{Act}
 use Rattle.cm_model.specs.declared.act.Act.TheVariants as act
@@ -20,7 +21,7 @@ use Rattle.cm_model.specs.Chip.{blank_chip, with_flag}
 use Rattle.cm_model.specs.Machine.{Machine, blank_machine, run_of}
 use Rattle.cm_model.specs.Buffers.{after_act}
 use Rattle.cm_model.specs.Account.{account, all_injected}
-use Rattle.cm_model.specs.Keeping.{IsMachine}
+use Rattle.cm_model.specs.Keeping.{AreSizes, IsMachine}
 use Rattle.cm_model.proofs.Blanks.{IsMachine-blank_at}
 use Rattle.cm_model.proofs.Keeping.{IsMachine-after_act, IsMachine-run_of}
 use Rattle.cm_model.proofs.Runs.{run_of-nil, run_of-cons}
@@ -31,7 +32,7 @@ use Rattle.cm_router.specs.Logs.{Log}
 use Rattle.cm_petit.specs.Routers.{events_of, AreRouters}
 use Rattle.cm_array.specs.declared.parts.Parts.{Parts}
 use Rattle.cm_array.specs.Acts.{cycles_in, is_instruction}
-use Rattle.cm_array.specs.Parts.{machine_of, AreParts, AreUnderWay}
+use Rattle.cm_array.specs.Parts.{machine_of, AreSized, AreParts, AreUnderWay}
 use Rattle.cm_array.proofs.Lists.{each_after_set}
 use Rattle.cm_array.proofs.Rooms.{cycles_in-append}
 use Rattle.cm_array.proofs.Searching.{AreOf}
@@ -59,13 +60,7 @@ IsMachine-with_chips n cap machine chips long whole h = record {
 -- the parts of a machine between two lists of acts are so between two acts
 pub AreUnderWay-parts : (n cap : ℕ) (parts : Parts) → AreParts n cap parts → AreUnderWay n cap parts
 AreUnderWay-parts n cap parts h = record {
-  dimension = h.dimension;
-  some_room = h.some_room;
-  most_room = h.most_room;
-  sent_count = h.sent_count;
-  incoming_count = h.incoming_count;
-  clock = h.clock;
-  cube = h.cube;
+  sized = h.sized;
   machine = h.machine;
 }
 
@@ -85,15 +80,21 @@ pub AreParts-gathered : (n cap : ℕ) (parts : Parts) (crossing : UnderWay) → 
     → IsTrue crossing.gathered
     → AreUnderWay n cap parts → AreParts n cap (record parts { crossing = crossing })
 AreParts-gathered n cap parts crossing same gathered h = record {
-  dimension = h.dimension;
-  some_room = h.some_room;
-  most_room = h.most_room;
-  sent_count = h.sent_count;
-  incoming_count = h.incoming_count;
-  clock = h.clock;
-  cube = h.cube;
+  sized = h.sized;
   gathered = gathered;
   machine = subst (λ (m : Machine). IsMachine n cap m) (sym (machine_of-gathered parts crossing same)) h.machine;
+}
+
+-- with rows as long, another count, and wires of the same cube, they are sized still
+pub AreSized-again : (n cap count : ℕ) (old new : Parts) → AreSized n cap count old
+    → length new.sent.items ≡ length old.sent.items → length new.incoming.items ≡ length old.incoming.items
+    → new.clock < 2 ^ 63 → new.routing.cuts.dims ≡ old.routing.cuts.dims → AreSized n cap count new
+AreSized-again n cap count old new h sent incoming clock cube = record {
+  sizes = h.sizes;
+  sent_count = sent ∙ h.sent_count;
+  incoming_count = incoming ∙ h.incoming_count;
+  clock = clock;
+  cube = cube ∙ h.cube;
 }
 
 -- after an act the parts are the parts of a machine, if sizes are as before
@@ -102,46 +103,28 @@ pub AreUnderWay-after_act : (n cap : ℕ) (a : Act) (before after : Parts) → A
     → length after.sent.items ≡ length before.sent.items → length after.incoming.items ≡ length before.incoming.items
     → after.routing ≡ before.routing → after.clock < 2 ^ 63 → AreUnderWay n cap after
 AreUnderWay-after_act n cap a before after h is same_sent same_incoming routing clock = record {
-  dimension = h.dimension;
-  some_room = h.some_room;
-  most_room = h.most_room;
-  sent_count = same_sent ∙ h.sent_count;
-  incoming_count = same_incoming ∙ h.incoming_count;
-  clock = clock;
-  cube = ap (λ (r : Routing). r.cuts.dims) routing ∙ h.cube;
+  sized = AreSized-again n cap (2 ^ n) before after h.sized same_sent same_incoming clock
+      (ap (λ (r : Routing). r.cuts.dims) routing);
   machine = subst (λ (m : Machine). IsMachine n cap m) (sym is)
       (IsMachine-after_act n cap (machine_of before) a h.machine);
 }
 
 -- after an instruction
-pub AreUnderWay-instructed : (n cap : ℕ) (nano : Nano) (before after : Parts) → AreUnderWay n cap before
-    → after.run ≡ after_nano n nano before.run
-    → after.logs ≡ before.logs → after.clock ≡ before.clock → length after.sent.items ≡ 2 ^ n
-    → length after.incoming.items ≡ 2 ^ n → after.crossing ≡ before.crossing → after.routing ≡ before.routing
-    → AreUnderWay n cap after
-AreUnderWay-instructed n cap nano before after h chips logs clock sent incoming crossing routing =
-    AreUnderWay-after_act n cap (act.Nano nano) before after h
-    (λ i. record {
-      chips = chips i;
-      buffers = (crossing i).buffers;
-      logs = events_of (logs i).items;
-      clock = clock i;
-      routing = routing_of (routing i);
-    })
-    (sent ∙ sym h.sent_count) (incoming ∙ sym h.incoming_count) routing (omega (arith, clock, h.clock))
+pub AreUnderWay-instructed : (n cap : ℕ) (nano : Nano) (before : Parts) (run : Chips) (sent incoming : Vec ℕ)
+    → AreUnderWay n cap before → run ≡ after_nano n nano before.run
+    → length sent.items ≡ length before.sent.items → length incoming.items ≡ length before.incoming.items
+    → AreUnderWay n cap (record before { run = run; sent = sent; incoming = incoming })
+AreUnderWay-instructed n cap nano before run sent incoming h is same_sent same_incoming =
+    AreUnderWay-after_act n cap (act.Nano nano) before
+    (record before { run = run; sent = sent; incoming = incoming }) h
+    (λ i. record (machine_of before) { chips = is i }) same_sent same_incoming refl h.sized.clock
 
 -- where the counter alone is another after acts, they are the parts of a machine still
 pub AreParts-counted : (n cap : ℕ) (acts : List Act) (parts : Parts) (clock : ℕ) → AreParts n cap parts
     → machine_of (record parts { clock = clock }) ≡ run_of n cap (machine_of parts) acts → clock < 2 ^ 63
     → AreParts n cap (record parts { clock = clock })
 AreParts-counted n cap acts parts clock h is few = record {
-  dimension = h.dimension;
-  some_room = h.some_room;
-  most_room = h.most_room;
-  sent_count = h.sent_count;
-  incoming_count = h.incoming_count;
-  clock = few;
-  cube = h.cube;
+  sized = AreSized-again n cap (2 ^ n) parts (record parts { clock = clock }) h.sized refl refl few refl;
   gathered = h.gathered;
   machine = subst (λ (m : Machine). IsMachine n cap m) (sym is)
       (IsMachine-run_of n cap (machine_of parts) acts h.machine);
@@ -227,19 +210,19 @@ machine_of-blank n count parts all chips buffers logs plain =
     }
 
 -- they are the parts of a machine
-pub AreParts-blank : (n cap count : ℕ) (parts : Parts) → n ≤ 12 → 1 ≤ cap → cap ≤ 15 → count ≡ 2 ^ n
+pub AreParts-blank : (n cap count : ℕ) (parts : Parts) → AreSizes n cap → count ≡ 2 ^ n
     → parts.run ≡ each_from 0 count (λ c. blank_chip)
     → parts.crossing.buffers ≡ each_from 0 count (λ c. []) → events_of parts.logs.items ≡ each_from 0 count (λ c. [])
     → length parts.sent.items ≡ count → length parts.incoming.items ≡ count → IsTrue parts.crossing.gathered
     → parts.clock < 2 ^ 63 → parts.routing.cuts.dims ≡ n → routing_of parts.routing ≡ plain_routing → AreParts n cap parts
-AreParts-blank n cap count parts few some most all chips buffers logs same_sent same_incoming gathered clock cube plain = record {
-  dimension = few;
-  some_room = some;
-  most_room = most;
-  sent_count = same_sent ∙ all;
-  incoming_count = same_incoming ∙ all;
-  clock = clock;
-  cube = cube;
+AreParts-blank n cap count parts sizes all chips buffers logs same_sent same_incoming gathered clock cube plain = record {
+  sized = record {
+    sizes = sizes;
+    sent_count = same_sent ∙ all;
+    incoming_count = same_incoming ∙ all;
+    clock = clock;
+    cube = cube;
+  };
   gathered = gathered;
   machine = subst (λ (m : Machine). IsMachine n cap m)
       (sym (machine_of-blank n count parts all chips buffers logs plain)) (IsMachine-blank_at n cap parts.clock);
@@ -254,13 +237,7 @@ blank_machine-from_zero n = refl
 pub AreParts-with_chip : (n cap : ℕ) (parts : Parts) (run : Chips) (i : ℕ) (chip : List Processor) → IsChip chip
     → run ≡ set parts.run i chip → AreParts n cap parts → AreParts n cap (record parts { run = run })
 AreParts-with_chip n cap parts run i chip whole is h = record {
-  dimension = h.dimension;
-  some_room = h.some_room;
-  most_room = h.most_room;
-  sent_count = h.sent_count;
-  incoming_count = h.incoming_count;
-  clock = h.clock;
-  cube = h.cube;
+  sized = h.sized;
   gathered = h.gathered;
   machine = subst (λ (chips : Chips). IsMachine n cap (record (machine_of parts) { chips = chips })) (sym is)
       (IsMachine-with_chip n cap (machine_of parts) i chip whole h.machine);
@@ -286,13 +263,13 @@ pub AreParts-copied : (n cap count : ℕ) (parts copy : Parts) → AreParts n ca
 AreParts-copied n cap count parts copy h counted chips crossing logs clock sent incoming routing =
     let all : count ≡ 2 ^ n = counted ∙ h.machine.chip_count in
     record {
-      dimension = h.dimension;
-      some_room = h.some_room;
-      most_room = h.most_room;
-      sent_count = sent ∙ all;
-      incoming_count = incoming ∙ all;
-      clock = omega (arith, clock, h.clock);
-      cube = ap (λ (r : Routing). r.cuts.dims) routing ∙ h.cube;
+      sized = record {
+        sizes = h.sized.sizes;
+        sent_count = sent ∙ all;
+        incoming_count = incoming ∙ all;
+        clock = omega (arith, clock, h.sized.clock);
+        cube = ap (λ (r : Routing). r.cuts.dims) routing ∙ h.sized.cube;
+      };
       gathered = subst (λ (u : UnderWay). IsTrue u.gathered) (sym crossing) h.gathered;
       machine = subst (λ (m : Machine). IsMachine n cap m)
           (λ i. record {

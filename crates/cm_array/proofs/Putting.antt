@@ -16,7 +16,7 @@ use Rattle.cm_blocks.specs.Parts.{Part}
 use Rattle.cm_array.specs.declared.parts.Parts.{Parts}
 use Rattle.cm_array.specs.Parts.{machine_of, AreParts}
 use Rattle.cm_array.specs.Cuts.{KeptPart, IsLaid, AreAsMany}
-use Rattle.cm_array.proofs.Machines.{few_chips, length-logs, AreUnderWay-parts}
+use Rattle.cm_array.proofs.Machines.{few_chips, length-logs, AreUnderWay-parts, AreSized-again}
 use Rattle.std.proofs.lemmas.Nat.{pow_pos}
 
 -- the lists of the first j pieces stand one after another, to a place
@@ -106,21 +106,15 @@ pub some_chips : (n cap : ℕ) (parts : Parts) → AreParts n cap parts → 0 < 
 some_chips n cap parts h = omega (arith, h.machine.chip_count, pow_pos n)
 
 pub most_chips : (n cap : ℕ) (parts : Parts) → AreParts n cap parts → length parts.run ≤ 4096
-most_chips n cap parts h = omega (arith, h.machine.chip_count, few_chips n h.dimension)
+most_chips n cap parts h = omega (arith, h.machine.chip_count, few_chips n h.sized.sizes.dimension)
 
 -- so what is kept then are the parts of a machine
 pub AreParts-put : (n cap : ℕ) (old new : Parts) (machine : Machine) → AreParts n cap old → IsMachine n cap machine
     → machine_of new ≡ machine → IsTrue new.crossing.gathered
     → length new.sent.items ≡ length old.sent.items → length new.incoming.items ≡ length old.incoming.items
-    → new.clock < 2 ^ 63 → new.routing.cuts.dims ≡ n → AreParts n cap new
+    → new.clock < 2 ^ 63 → new.routing.cuts.dims ≡ old.routing.cuts.dims → AreParts n cap new
 AreParts-put n cap old new machine were is same gathered sent incoming clock cube = record {
-  dimension = were.dimension;
-  some_room = were.some_room;
-  most_room = were.most_room;
-  sent_count = sent ∙ were.sent_count;
-  incoming_count = incoming ∙ were.incoming_count;
-  clock = clock;
-  cube = cube;
+  sized = AreSized-again n cap (2 ^ n) old new were.sized sent incoming clock cube;
   gathered = gathered;
   machine = subst (λ (m : Machine). IsMachine n cap m) (sym same) is;
 }

@@ -1,5 +1,5 @@
 -- A machine that is being built: it has no log yet, and a tag may stand twice in it. Ours.
-use Rattle.std.specs.Prelude.{◌≡◌, ℕ, ◌<◌, ◌≤◌, ◌^◌, length}
+use Rattle.std.specs.Prelude.{◌≡◌, ℕ, ◌<◌, ◌^◌, length}
 use Rattle.std.specs.List.{All}
 use Rattle.cm_model.specs.Whole.{IsChip}
 use Rattle.cm_model.specs.Wiring.{IsRouting}
@@ -8,7 +8,8 @@ use Rattle.cm_model.specs.Machine.{Machine}
 use Rattle.cm_model.specs.Keeping.{HasRoom, HasMessages}
 use Rattle.cm_model.specs.Unlogged.{IsUnlogged}
 use Rattle.cm_array.specs.declared.parts.Parts.{Parts}
-use Rattle.cm_array.specs.Parts.{machine_of}
+use Rattle.cm_array.specs.declared.builder.Builder.TheInside.{Inside}
+use Rattle.cm_array.specs.Parts.{machine_of, AreSized}
 
 -- all that every machine keeps but that a tag stands once, and no event
 pub record IsUnfinished (n cap : ℕ) (machine : Machine) : Type 0 where
@@ -21,13 +22,19 @@ pub record IsUnfinished (n cap : ℕ) (machine : Machine) : Type 0 where
   pub unlogged : IsUnlogged n machine
   pub routing : IsRouting n machine.routing
 
+-- the parts that a builder has, whose chips are filled near
+abbrev pub parts_built : {n cap : ℕ} → Inside n cap → Parts
+parts_built builder = record {
+  run = builder.run;
+  logs = builder.logs;
+  clock = builder.clock;
+  sent = builder.sent;
+  incoming = builder.incoming;
+  crossing = builder.crossing;
+  routing = builder.routing;
+}
+
 -- the parts of such a machine, with sizes and working room as every machine has them
 pub record AreUnfinished (n cap : ℕ) (parts : Parts) : Type 0 where
-  pub dimension : n ≤ 12
-  pub some_room : 1 ≤ cap
-  pub most_room : cap ≤ 15
-  pub sent_count : length parts.sent.items ≡ 2 ^ n
-  pub incoming_count : length parts.incoming.items ≡ 2 ^ n
-  pub clock : parts.clock < 2 ^ 63
-  pub cube : parts.routing.cuts.dims ≡ n
+  pub sized : AreSized n cap (2 ^ n) parts
   pub machine : IsUnfinished n cap (machine_of parts)

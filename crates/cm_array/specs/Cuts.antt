@@ -4,10 +4,11 @@ use Rattle.std.specs.List.{All, flat_map}
 use Rattle.cm_model.specs.Array.{list_at}
 use Rattle.cm_model.specs.Wiring.{Routing, plain_routing}
 use Rattle.cm_model.specs.Machine.{Machine}
-use Rattle.cm_model.specs.Keeping.{AreSizes, IsMachine}
+use Rattle.cm_model.specs.Keeping.{IsMachine}
 use Rattle.cm_blocks.specs.Parts.{Part}
 use Rattle.cm_petit.specs.Routers.{part_of}
 use Rattle.cm_array.specs.declared.parts.Parts.{Parts}
+use Rattle.cm_array.specs.Parts.{AreSized}
 use Rattle.cm_router.specs.Logs.{log_rooms_of}
 use Rattle.cm_router.specs.Routes.{routing_of}
 
@@ -35,15 +36,11 @@ kept_part dims room first parts = record {
 
 -- some chips of a cube of n dimensions, with a buffer, a log and working room for each
 pub record IsKeptPart (n cap first : ℕ) (parts : Parts) : Type 0 where
-  pub sizes : AreSizes n cap
+  pub sized : AreSized n cap (length parts.run) parts
   pub there : first + length parts.run ≤ 2 ^ n
   pub buffer_count : length parts.crossing.buffers ≡ length parts.run
   pub log_count : length parts.logs.items ≡ length parts.run
-  pub sent_count : length parts.sent.items ≡ length parts.run
-  pub incoming_count : length parts.incoming.items ≡ length parts.run
   pub within : All (λ ms. length ms ≤ cap) parts.crossing.buffers
-  pub clock : parts.clock < 2 ^ 63
-  pub cube : parts.routing.cuts.dims ≡ n
 
 -- ---- parts one after another
 

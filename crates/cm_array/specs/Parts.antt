@@ -1,7 +1,7 @@
 -- A machine as it is kept: chips, messages and logs by number, a counter, and working room by number. Ours.
-use Rattle.std.specs.Prelude.{◌≡◌, ℕ, ◌<◌, ◌≤◌, ◌^◌, IsTrue, List, length, slice_index}
+use Rattle.std.specs.Prelude.{◌≡◌, ℕ, ◌<◌, ◌^◌, IsTrue, List, length, slice_index}
 use Rattle.cm_model.specs.Machine.{Machine}
-use Rattle.cm_model.specs.Keeping.{IsMachine}
+use Rattle.cm_model.specs.Keeping.{AreSizes, IsMachine}
 use Rattle.cm_router.specs.Routes.{routing_of}
 use Rattle.cm_router.specs.Logs.{log_rooms_of}
 use Rattle.cm_petit.specs.Routers.{machine_of as machine_from}
@@ -27,26 +27,26 @@ pub record LacksLogRoom (count : ℕ) (log_rooms : List ℕ) : Type 0 where
   pub is_chip : chip < length log_rooms
   pub few : slice_index log_rooms chip < count
 
--- sizes within bounds, a place in each row of working room for each chip, and a machine:
--- so between two acts, when the messages of a chip may be kept anywhere
+-- sizes within bounds, a place in each row of working room for each of so many chips, and wires of this cube
+pub record IsSized (n cap count : ℕ) (sent incoming : List ℕ) (cycles dims : ℕ) : Type 0 where
+  pub sizes : AreSizes n cap
+  pub sent_count : length sent ≡ count
+  pub incoming_count : length incoming ≡ count
+  pub clock : cycles < 2 ^ 63
+  pub cube : dims ≡ n
+
+-- so are parts, whatever their chips are of
+abbrev pub AreSized : ℕ → ℕ → ℕ → Parts → Type 0
+AreSized n cap count parts =
+    IsSized n cap count parts.sent.items parts.incoming.items parts.clock parts.routing.cuts.dims
+
+-- a machine between two acts, when the messages of a chip may be kept anywhere
 pub record AreUnderWay (n cap : ℕ) (parts : Parts) : Type 0 where
-  pub dimension : n ≤ 12
-  pub some_room : 1 ≤ cap
-  pub most_room : cap ≤ 15
-  pub sent_count : length parts.sent.items ≡ 2 ^ n
-  pub incoming_count : length parts.incoming.items ≡ 2 ^ n
-  pub clock : parts.clock < 2 ^ 63
-  pub cube : parts.routing.cuts.dims ≡ n
+  pub sized : AreSized n cap (2 ^ n) parts
   pub machine : IsMachine n cap (machine_of parts)
 
--- the same between two lists of acts, when they are gathered, so that they can be read
+-- and between two lists of acts, when they are gathered, so that they can be read
 pub record AreParts (n cap : ℕ) (parts : Parts) : Type 0 where
-  pub dimension : n ≤ 12
-  pub some_room : 1 ≤ cap
-  pub most_room : cap ≤ 15
-  pub sent_count : length parts.sent.items ≡ 2 ^ n
-  pub incoming_count : length parts.incoming.items ≡ 2 ^ n
-  pub clock : parts.clock < 2 ^ 63
-  pub cube : parts.routing.cuts.dims ≡ n
+  pub sized : AreSized n cap (2 ^ n) parts
   pub gathered : IsTrue parts.crossing.gathered
   pub machine : IsMachine n cap (machine_of parts)

@@ -60,30 +60,15 @@ pub struct Builder<const N: usize, const CAP: usize> {
 
 impl<const N: usize, const CAP: usize> Model for Builder<N, CAP> {
     ghost use Rattle.cm_model.specs.Machine.{Machine};
-    ghost use Rattle.cm_array.specs.Parts.{machine_of};
-    ghost use Rattle.cm_array.specs.Building.{AreUnfinished};
 
     ghost Value = { Machine };
 
-    ghost view = { λ builder. machine_of (record {
-      run = builder.run;
-      logs = builder.logs;
-      clock = builder.clock;
-      sent = builder.sent;
-      incoming = builder.incoming;
-      crossing = builder.crossing;
-      routing = builder.routing;
-    }) };
+    ghost use Rattle.cm_array.specs.Parts.{machine_of};
+    ghost use Rattle.cm_array.specs.Building.{parts_built, AreUnfinished};
 
-    ghost invariant = { λ builder. AreUnfinished N CAP (record {
-      run = builder.run;
-      logs = builder.logs;
-      clock = builder.clock;
-      sent = builder.sent;
-      incoming = builder.incoming;
-      crossing = builder.crossing;
-      routing = builder.routing;
-    }) };
+    ghost view = { λ builder. machine_of (parts_built builder) };
+
+    ghost invariant = { λ builder. AreUnfinished N CAP (parts_built builder) };
 }
 
 impl<const N: usize, const CAP: usize> Builder<N, CAP> {

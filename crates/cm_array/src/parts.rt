@@ -5,7 +5,6 @@ ghost use Rattle.std.specs.Prelude.{OnOk};
 ghost use Rattle.std.specs.List.{list_any};
 ghost use Rattle.std.specs.Prelude.{length, vec_len, vec_capacity};
 ghost use Rattle.cm_model.specs.Each.{each_from};
-ghost use Rattle.cm_model.specs.Array.{after_nano};
 ghost use Rattle.cm_model.specs.Machine.{run_of};
 ghost use Rattle.cm_model.specs.Buffers.{after_act};
 ghost use Rattle.cm_router.specs.Logs.{log_rooms_of, HaveLogRoom, LoseAtMost};
@@ -18,7 +17,7 @@ use cm_bits::{NoMemory, Plane};
 use cm_crossing::{Crossing, Sizes};
 use cm_element::Run;
 use cm_message::Event;
-use cm_model::{Act, Nano};
+use cm_model::Act;
 use cm_petit::{cycle, is_at_rest};
 use cm_router::Routing;
 use std::alloc::Global;
@@ -71,7 +70,13 @@ fn run_one(sizes: Sizes, parts: &mut Parts, act: &Act)
         (log_rooms_of parts.old.logs.items) (log_rooms_of parts.new.logs.items) }
 {
     match act {
-        Act::Nano(nano) => instruct(sizes.dims, parts, nano),
+        Act::Nano(nano) => step(
+            sizes.dims,
+            &mut parts.run,
+            nano,
+            &mut parts.sent,
+            &mut parts.incoming,
+        ),
         Act::Sense => {}
         Act::Cycle => cycle(
             sizes,
@@ -82,29 +87,6 @@ fn run_one(sizes: Sizes, parts: &mut Parts, act: &Act)
             &mut parts.clock,
         ),
     }
-}
-
-/// One instruction in all chips.
-fn instruct(dims: u8, parts: &mut Parts, nano: &Nano)
-    requires dimension { dims ≤ 12 }
-    requires chip_count { length parts.old.run ≡ 2 ^ dims }
-    requires sent_count { length parts.old.sent.items ≡ 2 ^ dims }
-    requires incoming_count { length parts.old.incoming.items ≡ 2 ^ dims }
-    ensures run { parts.new.run ≡ after_nano dims nano.now parts.old.run }
-    ensures logs { parts.new.logs ≡ parts.old.logs }
-    ensures clock { parts.new.clock ≡ parts.old.clock }
-    ensures sent_count { length parts.new.sent.items ≡ 2 ^ dims }
-    ensures incoming_count { length parts.new.incoming.items ≡ 2 ^ dims }
-    ensures crossing { parts.new.crossing ≡ parts.old.crossing }
-    ensures routing { parts.new.routing ≡ parts.old.routing }
-{
-    step(
-        dims,
-        &mut parts.run,
-        nano,
-        &mut parts.sent,
-        &mut parts.incoming,
-    );
 }
 
 /// Runs acts that change nothing but the counter, so many of them petit cycles: no instruction is among them, and a

@@ -1,6 +1,6 @@
 //! One instruction in all chips, or in those of a band: every place reads the old state before any place writes.
 
-ghost use Rattle.std.specs.Prelude.{◌≡◌, ◌≢◌, ℕ, ◌+◌, ◌/◌, ◌^◌, ◌<◌, ◌≤◌, IsTrue, length, slice_index};
+ghost use Rattle.std.specs.Prelude.{◌≡◌, ℕ, ◌+◌, ◌/◌, ◌^◌, ◌<◌, ◌≤◌, IsTrue, length, slice_index};
 ghost use Rattle.cm_model.specs.Place.{chip_columns};
 ghost use Rattle.cm_model.specs.Processor.{NEWS};
 ghost use Rattle.cm_model.specs.Array.{after_nano};
@@ -10,7 +10,7 @@ ghost use Rattle.cm_array.specs.Bands.{IsStepped, edge_from, IsEdgeOf};
 use cm_bits::{Dir, FlagNo, Plane};
 use cm_element::Run;
 use cm_model::Nano;
-use cm_news::{Grid, incoming_band, incoming_row};
+use cm_news::{Grid, incoming_band};
 
 /// One instruction in all chips of a cube of so many dimensions, which stand in the run by number. The other rows
 /// are working room, one plane for each chip.
@@ -21,34 +21,7 @@ pub fn step(dims: u8, run: &mut Run, nano: &Nano, sent: &mut [Plane], incoming: 
     requires incoming_count { length incoming.old ≡ 2 ^ dims }
     ensures value { run.new ≡ after_nano dims nano.now run.old }
 {
-    if nano.write == FlagNo::NEWS {
-        step_over_grid(dims, run, nano, sent, incoming);
-    } else {
-        step_apart(dims, run, nano);
-    }
-}
-
-/// One instruction that takes in what comes over NEWS: what each chip sends is written down first.
-fn step_over_grid(dims: u8, run: &mut Run, nano: &Nano, sent: &mut [Plane], incoming: &mut [Plane])
-    requires dimension { dims ≤ 12 }
-    requires news { nano.now.write ≡ NEWS }
-    requires count { length run.old ≡ 2 ^ dims }
-    requires sent_count { length sent.old ≡ 2 ^ dims }
-    requires incoming_count { length incoming.old ≡ 2 ^ dims }
-    ensures value { run.new ≡ after_nano dims nano.now run.old }
-{
-    run.send(nano, sent);
-    incoming_row(dims, sent, nano.dir, incoming);
-    run.take(nano, incoming);
-}
-
-/// One instruction in which no chip takes in anything of another.
-fn step_apart(dims: u8, run: &mut Run, nano: &Nano)
-    requires apart { nano.now.write ≢ NEWS }
-    requires count { length run.old ≡ 2 ^ dims }
-    ensures value { run.new ≡ after_nano dims nano.now run.old }
-{
-    run.step(nano);
+    step_in_band(dims, run, nano, &[], sent, incoming);
 }
 
 /// One instruction in a band of whole rows of chips, of a cube of so many dimensions, which stand in the run by
@@ -78,7 +51,7 @@ pub(crate) fn step_in_band(
     }
 }
 
-/// The same over NEWS: what each chip sends is written down first.
+/// One instruction that takes in what comes over NEWS: what each chip sends is written down first.
 fn step_in_band_over_grid(
     dims: u8,
     run: &mut Run,

@@ -1,4 +1,5 @@
 use Rattle.std.proofs.Common.{ℕ, ◌+◌, ◌^◌, ◌<◌, List, [], ◌∷◌, length, sym, ap, ◌∙◌, refl, subst, arith}
+use Rattle.std.specs.Vec.{with_items}
 use Rattle.cm_model.specs.declared.act.Act.{Act}
 use Rattle.cm_model.specs.declared.act.Act.TheVariants.{Cycle}
 use Rattle.cm_model.specs.Machine.{Machine}
@@ -13,16 +14,20 @@ use Rattle.cm_array.proofs.parts.run_one.Goals as goal
 
 pub returns-in-Nano-clause-parts : goal.returns-in-Nano-clause-parts
 returns-in-Nano-clause-parts c =
-    AreUnderWay-instructed c.args.sizes.dims c.args.sizes.room c.in-Nano.nano c.args.parts.now c.instruct.new.parts
-    c.requires.parts c.instruct.ensures.run c.instruct.ensures.logs c.instruct.ensures.clock
-    c.instruct.ensures.sent_count c.instruct.ensures.incoming_count c.instruct.ensures.crossing
-    c.instruct.ensures.routing
+    let before = c.args.parts.now in
+    let now = c.step.new in
+    let sent = c.step.auto.sent ∙ ap length c.deref_mut.ensures.value in
+    let incoming = c.step.auto.incoming ∙ ap length c.deref_mut-in-Nano.ensures.value in
+    AreUnderWay-instructed c.args.sizes.dims c.args.sizes.room c.in-Nano.nano before now.run
+    (with_items before.sent now.sent) (with_items before.incoming now.incoming) c.requires.parts c.step.ensures.value
+    (ap length (items-lent before.sent now.sent sent) ∙ sent)
+    (ap length (items-lent before.incoming now.incoming incoming) ∙ incoming)
 
 pub cycle-requires-clause-routers : goal.cycle-requires-clause-routers
 cycle-requires-clause-routers c =
     let before = c.args.parts.now in
     subst (λ (ls : List Log). AreRouters c.args.sizes.dims c.args.sizes.room before.run before.crossing.buffers ls)
-    (sym c.deref_mut.ensures.value) (AreRouters-parts c.args.sizes.dims c.args.sizes.room before c.requires.parts)
+    (sym c.deref_mut-in-Cycle.ensures.value) (AreRouters-parts c.args.sizes.dims c.args.sizes.room before c.requires.parts)
 
 pub returns-in-Cycle-clause-parts : goal.returns-in-Cycle-clause-parts
 returns-in-Cycle-clause-parts c =
@@ -30,7 +35,7 @@ returns-in-Cycle-clause-parts c =
     let run = c.cycle.new.run in
     let routing = routing_of before.routing in
     let logs = c.cycle.new.logs in
-    let logs_back = items-lent before.logs logs (c.cycle.auto.logs ∙ ap length c.deref_mut.ensures.value) in
+    let logs_back = items-lent before.logs logs (c.cycle.auto.logs ∙ ap length c.deref_mut-in-Cycle.ensures.value) in
     let next : ℕ = c.cycle.new.clock in
     let was : Machine → Machine = λ m. after_act c.args.sizes.dims c.args.sizes.room m Cycle in
     let counted : before.clock + cycles_in (Cycle ∷ []) < 2 ^ 63 =
@@ -39,5 +44,5 @@ returns-in-Cycle-clause-parts c =
     (ap (λ (ls : List Log). machine_from routing run c.cycle.new.crossing.buffers ls next) logs_back
     ∙ c.cycle.ensures.value
     ∙ ap (λ (ls : List Log). was (machine_from routing before.run before.crossing.buffers ls before.clock))
-    c.deref_mut.ensures.value)
+    c.deref_mut-in-Cycle.ensures.value)
     refl refl refl (omega (arith, counted, c.cycle.ensures.counter))

@@ -3,6 +3,7 @@ use Rattle.cm_model.specs.Array.{Chips}
 use Rattle.cm_model.proofs.Each.{length-each_from}
 use Rattle.cm_element.specs.Runs.{chip_beside, chips_beside}
 use Rattle.cm_array.specs.declared.parts.Parts.{Parts}
+use Rattle.cm_array.specs.Building.{parts_built}
 use Rattle.cm_array.proofs.Building.{AreUnfinished-with_chips}
 use Rattle.cm_array.proofs.builder.Builder.chips.Goals as goal
 
@@ -12,16 +13,7 @@ lay_planes-requires-clause-here g c = omega (arith, c.requires.chips, c.self.inv
 pub invariant_of-self : goal.invariant_of-self
 unfolding chips_beside
 invariant_of-self g c =
-    let b = c.self.inside in
-    let parts : Parts = record {
-      run = b.run;
-      logs = b.logs;
-      clock = b.clock;
-      sent = b.sent;
-      incoming = b.incoming;
-      crossing = b.crossing;
-      routing = b.routing;
-    } in
+    let parts : Parts = parts_built c.self.inside in
     let from : Chips = chips_beside c.args.memory.now c.args.flags.now c.args.count in
     let long : length from ≡ c.args.count =
     length-each_from 0 c.args.count (chip_beside c.args.memory.now c.args.flags.now) in

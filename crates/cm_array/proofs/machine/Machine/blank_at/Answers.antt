@@ -7,8 +7,8 @@ new-requires g c = record { few = omega (arith, c.chip_count-count.ensures.value
 
 pub invariant_of-result : goal.invariant_of-result
 invariant_of-result g c =
-    AreParts-blank g.row.N g.row.CAP c.chip_count-count.result _ (omega arith) (omega arith) (omega arith)
-    c.chip_count-count.ensures.value
+    AreParts-blank g.row.N g.row.CAP c.chip_count-count.result _
+    (record { dimension = omega arith; some_room = omega arith; most_room = omega arith }) c.chip_count-count.ensures.value
     c.in_ok-run.ensures.value c.in_ok-crossing.ensures.value c.in_ok-logs.ensures.value
     c.in_ok-sent.ensures.count c.in_ok-incoming.ensures.count
     c.in_ok-crossing.ensures.gathered c.requires.clock

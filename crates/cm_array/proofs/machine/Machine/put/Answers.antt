@@ -18,7 +18,7 @@ put-requires g c =
       few = most_chips g.row.N g.row.CAP old were;
       clocks = c.requires.whole.clock;
       routings = c.requires.whole.routing;
-      wires = rw were.cube c.requires.whole.machine.routing.within;
+      wires = rw were.sized.cube c.requires.whole.machine.routing.within;
     }
 
 pub invariant_of-self : goal.invariant_of-self
@@ -26,4 +26,4 @@ invariant_of-self g c =
     let machine = joined (map (λ (piece : g.row.P.Denot). (g.P.IntoPart.held piece).part) c.args.pieces.items) in
     AreParts-put g.row.N g.row.CAP c.self.inside.parts c.put.new.parts machine c.self.invariant c.requires.whole.machine
     c.put.ensures.value c.put.ensures.gathered c.put.ensures.sent c.put.ensures.incoming c.put.ensures.clock
-    (c.put.ensures.cube ∙ c.self.invariant.cube)
+    c.put.ensures.cube

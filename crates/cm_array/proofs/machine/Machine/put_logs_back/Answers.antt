@@ -30,4 +30,4 @@ invariant_of-self g c =
       clock = parts.clock;
       routing = routing_of parts.routing;
     }) ∙ (λ i. behind g.row.N (before i) (c.self.view_is i).machine))
-    c.self.invariant.gathered refl refl c.self.invariant.clock c.self.invariant.cube
+    c.self.invariant.gathered refl refl c.self.invariant.sized.clock refl

@@ -23,4 +23,4 @@ invariant_of-self-2 g c =
       clock = parts.clock;
       routing = routing_of parts.routing;
     })
-    c.self.invariant.gathered refl refl c.self.invariant.clock c.self.invariant.cube
+    c.self.invariant.gathered refl refl c.self.invariant.sized.clock refl

@@ -21,7 +21,7 @@ returns-clause-value c =
     let as_many = c.send.auto.sent ∙ ap length c.deref_mut.ensures.value in
     subst (λ (k : KeptPart). Edge (bits_of out) ≡ due k.dims k.room (Instruct nano) k.part) c.self.view_is
     (edge_due inside.dims inside.room nano before.part sent out c.requires.vertical band refl
-    (as_many ∙ c.self.invariant.sent_count)
+    (as_many ∙ c.self.invariant.sized.sent_count)
     (c.write_edge.auto.out ∙ c.requires.lanes ∙ ap (λ (k : KeptPart). chip_columns k.dims) (sym c.self.view_is))
     c.send.ensures.value
     (subst (λ (planes : List ℕ). IsEdgeOf nano.dir planes out)

@@ -15,8 +15,8 @@ invariant_of-self c =
     c.args.nano.now c.args.edge.now now.run
     (with_items parts.sent now.sent) (with_items parts.incoming now.incoming) c.self.view_is c.self.invariant
     c.requires.band c.step_in_band.ensures.value
-    (ap length (items-lent parts.sent now.sent sent) ∙ sent ∙ c.self.invariant.sent_count)
-    (ap length (items-lent parts.incoming now.incoming incoming) ∙ incoming ∙ c.self.invariant.incoming_count)
+    (ap length (items-lent parts.sent now.sent sent) ∙ sent ∙ c.self.invariant.sized.sent_count)
+    (ap length (items-lent parts.incoming now.incoming incoming) ∙ incoming ∙ c.self.invariant.sized.incoming_count)
 
 pub returns : goal.returns
 returns c =

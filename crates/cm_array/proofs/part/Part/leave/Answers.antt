@@ -16,8 +16,8 @@ leave-requires c =
     c.args.self.now c.self.view_is
     c.requires.band in
     record {
-      sizes = c.self.invariant.sizes;
-      cube = c.self.invariant.cube;
+      sizes = c.self.invariant.sized.sizes;
+      cube = c.self.invariant.sized.cube;
       band = omega (arith, c.self.invariant.there, long);
       dim = subst (λ (k : KeptPart). c.args.dim < k.dims) (sym c.self.view_is) c.requires.dim;
       count = c.self.invariant.buffer_count ∙ long;

@@ -16,7 +16,7 @@ take_in-requires c =
     c.args.self.now c.self.view_is
     c.requires.band in
     record {
-      sizes = c.self.invariant.sizes;
+      sizes = c.self.invariant.sized.sizes;
       count = c.self.invariant.buffer_count ∙ long;
       lanes = c.requires.lanes;
       within = c.self.invariant.within;
