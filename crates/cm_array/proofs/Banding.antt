@@ -25,7 +25,7 @@ use Rattle.cm_model.proofs.Incoming.{same_chip}
 use Rattle.cm_model.proofs.Torus.{columns_some, neighbours_lead_back}
 use Rattle.cm_element.specs.Steps.{AreSent, along_chain}
 use Rattle.cm_blocks.specs.Parts.{Part, is_within, chip_in}
-use Rattle.cm_blocks.specs.Parcels.{Parcel, Blank, Edge, bit_in, edge_row, due}
+use Rattle.cm_blocks.specs.Parcels.{Parcel, Edge, bit_in, edge_row, due}
 use Rattle.cm_blocks.specs.Rounds.{is_vertical}
 use Rattle.cm_blocks.specs.Steps.{part_after, incoming_in, news_in}
 use Rattle.cm_blocks.proofs.Bands.{band as rows_in, size-band}
@@ -225,14 +225,6 @@ module _ (dims room first : ℕ) (parts : Parts) (old : KeptPart) (nano : Nano) 
         log_count = was.log_count ∙ sym many;
         within = was.within;
       }
-
--- ---- where nothing comes in from outside
-
--- nothing is read of an edge that is not there
-pub no_edge : (n cap : ℕ) (nano : Nano) (s : Part)
-    → part_after n cap (Instruct nano) (Edge (bits_of [])) s ≡ part_after n cap (Instruct nano) Blank s
-unfolding part_after incoming_in each_from
-no_edge n cap nano s = refl
 
 -- ---- what goes out over an edge
 

@@ -62,12 +62,6 @@ pub on_err : {A E P : Type 0} (result : Result A E) → P → OnErr result P
 on_err (Ok x) p = tt
 on_err (Err e) p = p
 
--- what follows from two facts of a result that came
-pub if_both : {X E : Type 0} (result : Result X E) (A B C : X → Type 0) → ((x : X) → A x → B x → C x)
-    → IfOk result A → IfOk result B → IfOk result C
-if_both (Ok x) A B C f a b = f x a b
-if_both (Err e) A B C f a b = tt
-
 -- ---- room for a run of acts
 
 -- of the room that all acts need, so much is left for the next one

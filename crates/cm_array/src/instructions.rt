@@ -4,7 +4,7 @@ ghost use Rattle.std.specs.Prelude.{◌≡◌, ◌⊎◌, ℕ, ◌<◌, ◌^◌,
 ghost use Rattle.cm_model.specs.Place.{chip_columns};
 ghost use Rattle.cm_model.specs.Steps.{Instruct};
 ghost use Rattle.cm_blocks.specs.Rounds.{is_vertical};
-ghost use Rattle.cm_blocks.specs.Parcels.{Blank, Edge, due};
+ghost use Rattle.cm_blocks.specs.Parcels.{Edge, due};
 ghost use Rattle.cm_blocks.specs.Steps.{part_after};
 ghost use Rattle.cm_news.specs.Bands.{bits_of};
 ghost use Rattle.cm_array.specs.Bands.{IsBand, IsAlone};
@@ -14,31 +14,9 @@ use crate::stepping::{step_in_band, write_edge};
 use cm_model::Nano;
 
 impl Part {
-    /// One instruction, at which nothing comes in from outside.
-    pub fn instruct_alone(&mut self, nano: &Nano)
-        requires band { IsBand self.old.dims self.old.part }
-        requires alone { IsAlone self.old.dims self.old.part nano.now }
-        ensures value { self.new ≡ record self.old {
-          part = part_after self.old.dims self.old.room (Instruct nano.now) Blank self.old.part;
-        } }
-    {
-        self.instruct_in_band(nano, &[]);
-    }
-
-    /// One instruction, where `edge` has what comes in over NEWS from outside: by column of chips the four bits
+    /// One instruction. If something comes in over NEWS from outside, `edge` has it: by column of chips the four bits
     /// that come in there, the lowest column's lowest.
     pub fn instruct(&mut self, nano: &Nano, edge: &[u8])
-        requires band { IsBand self.old.dims self.old.part }
-        requires lanes { length edge.now ≡ chip_columns self.old.dims }
-        ensures value { self.new ≡ record self.old {
-          part = part_after self.old.dims self.old.room (Instruct nano.now) (Edge (bits_of edge.now)) self.old.part;
-        } }
-    {
-        self.instruct_in_band(nano, edge);
-    }
-
-    /// One instruction, where the edge is read only if something comes in over it.
-    fn instruct_in_band(&mut self, nano: &Nano, edge: &[u8])
         requires band { IsBand self.old.dims self.old.part }
         requires lanes { IsAlone self.old.dims self.old.part nano.now ⊎ length edge.now ≡ chip_columns self.old.dims }
         ensures value { self.new ≡ record self.old {

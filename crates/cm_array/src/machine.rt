@@ -22,7 +22,7 @@ ghost use Rattle.cm_array.specs.Pokes.{machine_with_memory_bit, machine_with_fla
 
 use crate::earlier::{Earlier, put_behind};
 use crate::finding::{delivered_to, router_of};
-use crate::part::Part;
+use crate::part::{Part, copied_buffers, copied_chips};
 use crate::parts::{Parts, blank_logs, blank_planes, copied_logs, pass_time, reserve, run};
 use crate::put::{IntoPart, put};
 use cm_bits::{Addr, FlagNo, NoMemory, Plane, Proc};
@@ -184,8 +184,31 @@ impl<const N: usize, const CAP: usize> Machine<N, CAP> {
         ensures gathered { IfOk result (λ kept. IsTrue kept.gathered) }
     {
         let parts = &self.parts;
+        let sizes = Self::sizes();
+        let at = usize::from(first);
+        let chips = usize::from(count);
+        let run = copied_chips(alloc, &parts.run, first, count)?;
+        let mut logs = copied_logs(alloc, &parts.logs[at..at + chips])?;
         let more = cycles.saturating_mul(MOST_INJECTED + CAP);
-        Part::cut(alloc, Self::sizes(), parts, first, count, more)
+        reserve(&mut logs, more)?;
+        let sent = blank_planes(alloc, chips)?;
+        let incoming = blank_planes(alloc, chips)?;
+        let crossing = copied_buffers(alloc, &parts.crossing, at, chips)?;
+        let routing = parts.routing.copy()?;
+        Ok(Part {
+            dims: sizes.dims,
+            room: sizes.room,
+            first,
+            parts: Parts {
+                run,
+                logs,
+                clock: parts.clock,
+                sent,
+                incoming,
+                crossing,
+                routing,
+            },
+        })
     }
 
     /// Becomes the machine that these are in their order. No memory is taken.

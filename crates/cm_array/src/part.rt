@@ -9,12 +9,10 @@ ghost use Rattle.cm_model.specs.Wiring.{is_cut};
 ghost use Rattle.cm_model.specs.Steps.{Cross};
 ghost use Rattle.cm_blocks.specs.Parcels.{Mail, due};
 ghost use Rattle.cm_blocks.specs.Steps.{less, absorbed};
-ghost use Rattle.cm_blocks.specs.Parts.{cut, part, chip_in, buffer_in, log_in};
-ghost use Rattle.cm_array.specs.Parts.{machine_of, AreParts};
-ghost use Rattle.cm_router.specs.Logs.{HaveLogRoom};
+ghost use Rattle.cm_blocks.specs.Parts.{cut, chip_in, buffer_in, log_in};
 ghost use Rattle.cm_array.specs.Cuts.{kept_part, IsKeptPart, IsLaid};
 
-use crate::parts::{Parts, blank_planes, copied_logs, reserve};
+use crate::parts::Parts;
 use cm_bits::NoMemory;
 use cm_crossing::{Crossing, Sizes};
 use cm_element::{ChipView, Run};
@@ -51,49 +49,6 @@ impl Model for Part {
 }
 
 impl Part {
-    /// So many chips of a machine, from `first` on, with room in their logs for so many events more.
-    pub(crate) fn cut(
-        alloc: Global,
-        sizes: Sizes,
-        parts: &Parts,
-        first: u16,
-        count: u16,
-        more: usize,
-    ) -> Result<Part, NoMemory>
-        requires parts { AreParts sizes.dims sizes.room parts.now }
-        requires there { first + count ≤ 2 ^ sizes.dims }
-        ensures value { IfOk result (λ kept. kept.part ≡ part first count (machine_of parts.now)) }
-        ensures dims { IfOk result (λ kept. kept.dims ≡ sizes.dims) }
-        ensures room { IfOk result (λ kept. kept.room ≡ sizes.room) }
-        ensures log_room { IfOk result (λ kept. HaveLogRoom more kept.log_rooms) }
-        ensures can_be { IfOk result (λ kept. 0 < length kept.log_rooms → more < 2 ^ 63) }
-        ensures gathered { IfOk result (λ kept. IsTrue kept.gathered) }
-    {
-        let at = usize::from(first);
-        let chips = usize::from(count);
-        let run = copied_chips(alloc, &parts.run, first, count)?;
-        let mut logs = copied_logs(alloc, &parts.logs[at..at + chips])?;
-        reserve(&mut logs, more)?;
-        let sent = blank_planes(alloc, chips)?;
-        let incoming = blank_planes(alloc, chips)?;
-        let crossing = copied_buffers(alloc, &parts.crossing, at, chips)?;
-        let routing = parts.routing.copy()?;
-        Ok(Part {
-            dims: sizes.dims,
-            room: sizes.room,
-            first,
-            parts: Parts {
-                run,
-                logs,
-                clock: parts.clock,
-                sent,
-                incoming,
-                crossing,
-                routing,
-            },
-        })
-    }
-
     /// What it keeps of its chips.
     pub(crate) fn into_parts(self) -> Parts
         ensures value { kept_part self.dims self.room self.part.first result ≡ self }
@@ -222,7 +177,12 @@ impl Part {
 }
 
 /// Some chips of a run, as a run of their own.
-fn copied_chips(alloc: Global, from: &Run, first: u16, count: u16) -> Result<Run, NoMemory>
+pub(crate) fn copied_chips(
+    alloc: Global,
+    from: &Run,
+    first: u16,
+    count: u16,
+) -> Result<Run, NoMemory>
     requires there { first + count ≤ length from.now }
     ensures value { IfOk result (λ run. run ≡ cut first count from.now) }
 {
@@ -232,7 +192,7 @@ fn copied_chips(alloc: Global, from: &Run, first: u16, count: u16) -> Result<Run
 }
 
 /// The messages of some chips, by themselves.
-fn copied_buffers(
+pub(crate) fn copied_buffers(
     alloc: Global,
     from: &Crossing,
     first: usize,

@@ -2,11 +2,14 @@
 use Rattle.std.proofs.Common.{◌≡◌, ℕ, ◌+◌, Bool, cond, List, [], ◌∷◌, ◌++◌, refl, sym, ◌∙◌}
 use Rattle.std.proofs.Common.{ap, arith}
 use Rattle.std.proofs.lemmas.List.Sums.{sum_by-cons, sum_by-append}
+use Rattle.cm_model.specs.declared.act.Nano.{Nano}
+use Rattle.cm_model.specs.Each.{each_from}
 use Rattle.cm_model.specs.Steps.{Step, Instruct, Look, Inject, Cross, Deliver}
 use Rattle.cm_blocks.specs.Counts.{is_injection, is_delivery, deliveries, events_in}
 use Rattle.cm_blocks.specs.Parts.{Part}
-use Rattle.cm_blocks.specs.Parcels.{Parcel, Blank}
-use Rattle.cm_blocks.specs.Steps.{part_after, part_after_all}
+use Rattle.cm_blocks.specs.Parcels.{Parcel, Blank, Edge}
+use Rattle.cm_blocks.specs.Steps.{part_after, part_after_all, incoming_in}
+use Rattle.cm_news.specs.Bands.{bits_of}
 use Rattle.cm_router.specs.Logs.{LoseAtMost}
 use Rattle.cm_router.proofs.Rooms.{lost_nothing}
 use Rattle.cm_array.specs.Cuts.{KeptPart}
@@ -74,6 +77,12 @@ pub HasGone-one : (k : ℕ) (step : Step) (rooms : List ℕ) (gathered : Bool) (
     → HasGone (step ∷ []) seen (record { k = k; kept = new })
 HasGone-one k step rooms gathered old new seen view is lost =
     rw (← view, is) (record { part = refl; dims = refl; room = refl; blocks = refl; log_room = lost })
+
+-- an instruction with an edge that is not there is one at which no parcel comes
+pub no_edge : (n cap : ℕ) (nano : Nano) (s : Part)
+    → part_after n cap (Instruct nano) (Edge (bits_of [])) s ≡ part_after n cap (Instruct nano) Blank s
+unfolding part_after incoming_in each_from
+no_edge n cap nano s = refl
 
 -- a look changes nothing
 pub HasGone-look : (block : KeptBlock) → HasGone (Look ∷ []) block block

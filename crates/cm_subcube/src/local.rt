@@ -136,7 +136,7 @@ impl Block {
         requires local { is_round self.old.kept.dims self.old.k (Instruct nano.now) ≡ false }
         ensures gone { HasGone (Instruct nano.now ∷ []) self.old self.new }
     {
-        self.part.instruct_alone(nano);
+        self.part.instruct(nano, &[]);
     }
 
     /// Its routers take messages in.

@@ -1,16 +1,83 @@
-use Rattle.std.proofs.Common.{◌+◌, ◌*◌, ◌<◌, ◌^◌, length}
-use Rattle.cm_router.specs.Logs.{HaveLogRoom}
-use Rattle.cm_array.specs.Cuts.{KeptPart}
-use Rattle.cm_array.proofs.Rooms.{room_that_can_be, if_both}
+use Rattle.std.proofs.Common.{◌≡◌, ℕ, ◌+◌, ◌*◌, ◌<◌, ◌≤◌, ◌^◌, List, length, ap, sym, ◌∙◌, refl, subst, arith}
+use Rattle.std.proofs.lemmas.List.{length-map}
+use Rattle.std.specs.List.{slice_range}
+use Rattle.std.specs.Vec.{with_items}
+use Rattle.cm_blocks.specs.Parts.{cut, part}
+use Rattle.cm_router.specs.Logs.{Log, log_room, log_rooms_of, HaveLogRoom}
+use Rattle.cm_petit.specs.Routers.{events_of}
+use Rattle.cm_array.specs.declared.parts.Parts.{Parts}
+use Rattle.cm_array.specs.Parts.{Kept, AreParts}
+use Rattle.cm_array.proofs.Lists.{items-lent}
+use Rattle.cm_array.proofs.Rooms.{room_that_can_be}
+use Rattle.cm_array.proofs.Cutting.{within_fifteen, few_buffers, events_of-cut, AreCut, IsKeptPart-cut, part_of-cut}
 use Rattle.cm_array.proofs.machine.Machine.part.Goals as goal
+use Rattle.cm_array.proofs.machine.Machine.part.Given.{Over}
+use Rattle.cm_array.proofs.machine.Machine.part.Goals.{In_ok-routing}
+
+pub copied_buffers-requires-clause-few : goal.copied_buffers-requires-clause-few
+copied_buffers-requires-clause-few g c = few_buffers g.row.N g.row.CAP c.self.inside.parts c.self.invariant
+
+pub copied_buffers-requires-clause-within : goal.copied_buffers-requires-clause-within
+copied_buffers-requires-clause-within g c = within_fifteen g.row.N g.row.CAP c.self.inside.parts c.self.invariant
+
+parts_cut : (g : Over) → In_ok-routing g → Parts
+parts_cut g c = record {
+  run = c.in_ok-run.run';
+  logs = with_items c.in_ok-logs.logs c.reserve.new.logs;
+  clock = c.self.inside.parts.clock;
+  sent = c.in_ok-sent.sent;
+  incoming = c.in_ok-incoming.incoming;
+  crossing = c.in_ok-crossing.crossing;
+  routing = c.in_ok-routing.routing;
+}
+
+are_cut : (g : Over) (c : In_ok-routing g) → AreCut c.args.first c.args.count c.self.inside.parts (parts_cut g c)
+unfolding parts_cut
+are_cut g c =
+    let old = c.self.inside.parts in
+    let at = c.from-at.result in
+    let chips = c.from-chips.result in
+    let lent = items-lent c.in_ok-logs.logs c.reserve.new.logs
+    (c.reserve.auto.logs ∙ ap length c.deref_mut.ensures.value) in
+    record {
+      run = c.in_ok-run.ensures.value;
+      buffers = c.in_ok-crossing.ensures.value
+          ∙ ap (λ (k : ℕ). cut k chips old.crossing.buffers) c.from-at.ensures
+          ∙ ap (λ (k : ℕ). cut c.args.first k old.crossing.buffers) c.from-chips.ensures;
+      logs = ap events_of lent ∙ c.reserve.ensures.events ∙ ap events_of c.deref_mut.ensures.value
+          ∙ c.in_ok-logs.ensures.value
+          ∙ ap (λ (logs : List Log). events_of (slice_range logs at (at + chips))) c.deref.ensures.value
+          ∙ events_of-cut at chips old.logs.items
+          ∙ ap (λ (k : ℕ). cut k chips (events_of old.logs.items)) c.from-at.ensures
+          ∙ ap (λ (k : ℕ). cut c.args.first k (events_of old.logs.items)) c.from-chips.ensures;
+      sent = c.in_ok-sent.ensures.count ∙ c.from-chips.ensures;
+      incoming = c.in_ok-incoming.ensures.count ∙ c.from-chips.ensures;
+      clock = refl;
+      routing = c.in_ok-routing.ensures.value;
+    }
+
+pub invariant_of-result : goal.invariant_of-result
+unfolding parts_cut
+invariant_of-result g c =
+    rw (c.sizes-sizes.ensures.dims, c.sizes-sizes.ensures.room) (IsKeptPart-cut g.row.N g.row.CAP c.args.first c.args.count
+    c.self.inside.parts (parts_cut g c) c.self.invariant c.requires.there (are_cut g c))
+
+pub returns-clause-value : goal.returns-clause-value
+unfolding parts_cut
+returns-clause-value g c =
+    part_of-cut g.row.N g.row.CAP c.args.first c.args.count c.self.inside.parts (parts_cut g c) c.self.invariant
+    c.requires.there (are_cut g c)
+    ∙ ap (λ (kept : Kept). part c.args.first c.args.count kept.machine) c.self.view_is
 
 pub returns-clause-log_room : goal.returns-clause-log_room
 returns-clause-log_room g c =
     let more = c.saturating_mul-more.result in
-    if_both c.cut.result
-    (λ (kept : KeptPart). HaveLogRoom more kept.log_rooms)
-    (λ (kept : KeptPart). 0 < length kept.log_rooms → more < 2 ^ 63)
-    (λ (kept : KeptPart). HaveLogRoom (c.args.cycles * (4 + g.row.CAP)) kept.log_rooms)
-    (λ kept has can_be. room_that_can_be (c.args.cycles * (4 + g.row.CAP)) more kept.log_rooms
-    c.saturating_mul-more.ensures can_be has)
-    c.cut.ensures.log_room c.cut.ensures.can_be
+    let wanted = c.args.cycles * (4 + g.row.CAP) in
+    let logs = with_items c.in_ok-logs.logs c.reserve.new.logs in
+    let same = items-lent c.in_ok-logs.logs c.reserve.new.logs
+    (c.reserve.auto.logs ∙ ap length c.deref_mut.ensures.value) in
+    let rooms = length-map logs.items log_room in
+    let many = ap length same in
+    room_that_can_be wanted more (log_rooms_of logs.items) c.saturating_mul-more.ensures
+    (λ some. c.in_ok-reserve.ensures.can_be (omega (arith, some, rooms, many, c.reserve.auto.logs)))
+    (subst (λ (logs : List Log). HaveLogRoom more (log_rooms_of logs)) (sym same) c.in_ok-reserve.ensures.ok)

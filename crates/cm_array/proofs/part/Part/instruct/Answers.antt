@@ -2,7 +2,7 @@ use Rattle.std.proofs.Common.{length, ap, ◌∙◌}
 use Rattle.std.specs.Vec.{with_items}
 use Rattle.cm_array.proofs.Banding.{kept_instructed, IsKeptPart-instructed}
 use Rattle.cm_array.proofs.Lists.{items-lent}
-use Rattle.cm_array.proofs.part.Part.instruct_in_band.Goals as goal
+use Rattle.cm_array.proofs.part.Part.instruct.Goals as goal
 
 pub invariant_of-self : goal.invariant_of-self
 invariant_of-self c =
