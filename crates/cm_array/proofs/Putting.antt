@@ -11,12 +11,16 @@ use Rattle.std.specs.List.{flat_map}
 use Rattle.cm_model.specs.Array.{list_at}
 use Rattle.std.specs.Prelude.{IsTrue}
 use Rattle.cm_model.specs.Machine.{Machine}
-use Rattle.cm_model.specs.Keeping.{IsMachine}
+use Rattle.cm_model.specs.Keeping.{AreSizes, IsMachine}
 use Rattle.cm_blocks.specs.Parts.{Part}
+use Rattle.cm_crossing.specs.Standing.{UnderWay}
+use Rattle.cm_router.specs.Routes.{routing_of}
+use Rattle.cm_router.specs.Logs.{Log}
+use Rattle.cm_petit.specs.Routers.{events_of}
 use Rattle.cm_array.specs.declared.parts.Parts.{Parts}
 use Rattle.cm_array.specs.Parts.{machine_of, AreParts}
-use Rattle.cm_array.specs.Cuts.{KeptPart, IsLaid, AreAsMany}
-use Rattle.cm_array.proofs.Machines.{few_chips, length-logs, AreUnderWay-parts, AreSized-again}
+use Rattle.cm_array.specs.Cuts.{KeptPart, IsLaid, first_clock, first_routing, joined}
+use Rattle.cm_array.proofs.Machines.{AreSized-again}
 use Rattle.std.proofs.lemmas.Nat.{pow_pos}
 
 -- the lists of the first j pieces stand one after another, to a place
@@ -93,20 +97,57 @@ some_put lists_of (s ∷ rest) j at now all long some = omega (arith, all)
 
 -- ---- into a machine
 
--- a whole machine has as many of all as another
-pub AreAsMany-whole : (n cap : ℕ) (parts : Parts) (machine : Machine) → AreParts n cap parts → IsMachine n cap machine
-    → AreAsMany parts machine
-AreAsMany-whole n cap parts machine were is = record {
-  chips = were.machine.chip_count ∙ sym is.chip_count;
-  buffers = were.machine.buffer_count ∙ sym is.buffer_count;
-  logs = length-logs n cap parts (AreUnderWay-parts n cap parts were) ∙ sym is.log_count;
-}
+-- what is kept, as much as of a cube of n dimensions, once the first j pieces are put
+pub record ArePut (n : ℕ) (pieces : List Part) (j at : ℕ) (now : Parts) : Type 0 where
+  pub chips : IsPut (λ s. s.chips) pieces j at now.run
+  pub buffers : IsPut (λ s. s.buffers) pieces j at now.crossing.buffers
+  pub logs : IsPut (λ s. s.logs) pieces j at (events_of now.logs.items)
+  pub empty : (c : ℕ) → at ≤ c → list_at now.crossing.buffers c ≡ []
+  pub chip_count : length now.run ≡ 2 ^ n
+  pub buffer_count : length now.crossing.buffers ≡ 2 ^ n
+  pub log_count : length now.logs.items ≡ 2 ^ n
+  pub sent_count : length now.sent.items ≡ 2 ^ n
+  pub incoming_count : length now.incoming.items ≡ 2 ^ n
+  pub cube : now.routing.cuts.dims ≡ n
+  pub clock : 0 < j → now.clock ≡ first_clock pieces
+  pub routing : 0 < j → routing_of now.routing ≡ first_routing pieces
+  pub within : 0 < j → now.clock < 2 ^ 63
 
-pub some_chips : (n cap : ℕ) (parts : Parts) → AreParts n cap parts → 0 < length parts.run
-some_chips n cap parts h = omega (arith, h.machine.chip_count, pow_pos n)
+-- all of them, gathered, are the machine that the pieces are
+module _ (n cap : ℕ) (pieces : List Part) (j at : ℕ) (now : Parts) (crossing : UnderWay) (were : ArePut n pieces j at now)
+    (all : j ≡ length pieces) (is : IsMachine n cap (joined pieces)) (same : crossing.buffers ≡ now.crossing.buffers)
+  where
+    long : length now.run ≡ length (joined pieces).chips
+    long = were.chip_count ∙ sym is.chip_count
 
-pub most_chips : (n cap : ℕ) (parts : Parts) → AreParts n cap parts → length parts.run ≤ 4096
-most_chips n cap parts h = omega (arith, h.machine.chip_count, few_chips n h.sized.sizes.dimension)
+    some : 0 < j
+    some =
+        some_put (λ (s : Part). s.chips) pieces j at now.run all long (omega (arith, were.chip_count, pow_pos n))
+
+    pub machine_of-put : machine_of (record now { crossing = crossing }) ≡ joined pieces
+    machine_of-put = λ i. record {
+      chips = all_put (λ (s : Part). s.chips) pieces j at now.run all long were.chips i;
+      buffers = (same
+          ∙ all_put (λ (s : Part). s.buffers) pieces j at now.crossing.buffers all
+          (were.buffer_count ∙ sym is.buffer_count) were.buffers) i;
+      logs = all_put (λ (s : Part). s.logs) pieces j at (events_of now.logs.items) all
+          (length-map now.logs.items (λ (log : Log). log.items) ∙ were.log_count ∙ sym is.log_count) were.logs i;
+      clock = were.clock some i;
+      routing = were.routing some i;
+    }
+
+    pub AreParts-all_put : AreSizes n cap → IsTrue crossing.gathered → AreParts n cap (record now { crossing = crossing })
+    AreParts-all_put sizes gathered = record {
+      sized = record {
+        sizes = sizes;
+        sent_count = were.sent_count;
+        incoming_count = were.incoming_count;
+        clock = were.within some;
+        cube = were.cube;
+      };
+      gathered = gathered;
+      machine = subst (λ (m : Machine). IsMachine n cap m) (sym machine_of-put) is;
+    }
 
 -- so what is kept then are the parts of a machine
 pub AreParts-put : (n cap : ℕ) (old new : Parts) (machine : Machine) → AreParts n cap old → IsMachine n cap machine

@@ -78,12 +78,6 @@ pub record AreWhole (n cap : ℕ) (parts : List Part) : Type 0 where
   pub clock : AreOfOneClock parts
   pub routing : AreOfOneRouting parts
 
--- what is kept has as many chips, buffers and logs as a machine
-pub record AreAsMany (parts : Parts) (machine : Machine) : Type 0 where
-  pub chips : length parts.run ≡ length machine.chips
-  pub buffers : length parts.crossing.buffers ≡ length machine.buffers
-  pub logs : length parts.logs.items ≡ length machine.logs
-
 -- ---- one list laid into another
 
 -- from a place on a list reads as the piece, and else as before

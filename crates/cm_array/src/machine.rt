@@ -24,7 +24,7 @@ use crate::earlier::{Earlier, put_behind};
 use crate::finding::{delivered_to, router_of};
 use crate::part::{Part, copied_buffers, copied_chips};
 use crate::parts::{Parts, blank_logs, blank_planes, copied_logs, pass_time, reserve, run};
-use crate::put::{IntoPart, put};
+use crate::put::{IntoPart, put_one};
 use cm_bits::{Addr, FlagNo, NoMemory, Plane, Proc};
 use cm_crossing::{Crossing, Sizes};
 use cm_element::{ChipView, Run, ZeroFlag};
@@ -216,7 +216,13 @@ impl<const N: usize, const CAP: usize> Machine<N, CAP> {
         requires whole { AreWhole N CAP (map (λ piece. (P.held piece).part) pieces.items) }
         ensures value { self.new.machine ≡ joined (map (λ piece. (P.held piece).part) pieces.items) }
     {
-        put(&mut self.parts, pieces);
+        let parts = &mut self.parts;
+        parts.crossing.clear();
+        let mut at = 0;
+        for piece in pieces {
+            at = put_one(parts, at, piece.into_part());
+        }
+        parts.crossing.gather();
     }
 
     /// Sets its logs aside, each with room for so many petit cycles, and stands there without events.

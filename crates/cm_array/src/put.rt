@@ -1,13 +1,12 @@
 //! Parts that are put together: they become a machine in their order.
 
-ghost use Rattle.std.specs.Prelude.{◌≡◌, ℕ, ◌+◌, ◌<◌, ◌≤◌, ◌^◌, [], IsTrue, length, map};
+ghost use Rattle.std.specs.Prelude.{◌≡◌, ℕ, ◌+◌, ◌<◌, ◌≤◌, ◌^◌, [], length};
 ghost use Rattle.std.specs.List.{All};
 ghost use Rattle.cm_model.specs.Wiring.{IsWireOf};
 ghost use Rattle.cm_model.specs.Array.{list_at};
 ghost use Rattle.cm_router.specs.Routes.{routing_of};
 ghost use Rattle.cm_petit.specs.Routers.{events_of};
-ghost use Rattle.cm_array.specs.Parts.{machine_of};
-ghost use Rattle.cm_array.specs.Cuts.{joined, AreAsMany, AreOfOneClock, AreOfOneRouting, IsLaid};
+ghost use Rattle.cm_array.specs.Cuts.{IsLaid};
 
 use crate::part::{Part, lay_buffers};
 use crate::parts::Parts;
@@ -35,34 +34,8 @@ impl IntoPart for Part {
     }
 }
 
-/// Puts what these hold into the place of what is kept, one after another.
-pub(crate) fn put<P: IntoPart + Drop>(parts: &mut Parts, pieces: Vec<P>)
-    requires many { AreAsMany parts.old (joined (map (λ piece. (P.held piece).part) pieces.items)) }
-    requires buffers { length parts.old.crossing.buffers ≡ length parts.old.run }
-    requires logs { length parts.old.logs.items ≡ length parts.old.run }
-    requires some { 0 < length parts.old.run }
-    requires few { length parts.old.run ≤ 4096 }
-    requires clocks { AreOfOneClock (map (λ piece. (P.held piece).part) pieces.items) }
-    requires routings { AreOfOneRouting (map (λ piece. (P.held piece).part) pieces.items) }
-    requires wires { All (IsWireOf parts.old.routing.cuts.dims)
-        (joined (map (λ piece. (P.held piece).part) pieces.items)).routing.cuts }
-    ensures value { machine_of parts.new ≡ joined (map (λ piece. (P.held piece).part) pieces.items) }
-    ensures gathered { IsTrue parts.new.crossing.gathered }
-    ensures sent { length parts.new.sent.items ≡ length parts.old.sent.items }
-    ensures incoming { length parts.new.incoming.items ≡ length parts.old.incoming.items }
-    ensures clock { parts.new.clock < 2 ^ 63 }
-    ensures cube { parts.new.routing.cuts.dims ≡ parts.old.routing.cuts.dims }
-{
-    parts.crossing.clear();
-    let mut at = 0;
-    for piece in pieces {
-        at = put_one(parts, at, piece.into_part());
-    }
-    parts.crossing.gather();
-}
-
 /// Puts one part into the place of the chips from `at` on, at which no messages stand, and tells where it ends.
-fn put_one(parts: &mut Parts, at: usize, piece: Part) -> usize
+pub(crate) fn put_one(parts: &mut Parts, at: usize, piece: Part) -> usize
     requires chips { at + length piece.part.chips ≤ length parts.old.run }
     requires buffers { length parts.old.crossing.buffers ≡ length parts.old.run }
     requires logs { length parts.old.logs.items ≡ length parts.old.run }
