@@ -1,4 +1,4 @@
-use Rattle.std.proofs.Common.{◌≡◌, ℕ, ◌+◌, ◌*◌, ◌<◌, ◌≤◌, ◌^◌, List, length, ap, sym, ◌∙◌, refl, subst, arith}
+use Rattle.std.proofs.Common.{ℕ, ◌+◌, ◌*◌, List, length, ap, sym, ◌∙◌, refl, subst, arith}
 use Rattle.std.proofs.lemmas.List.{length-map}
 use Rattle.std.specs.List.{slice_range}
 use Rattle.std.specs.Vec.{with_items}
@@ -6,7 +6,7 @@ use Rattle.cm_blocks.specs.Parts.{cut, part}
 use Rattle.cm_router.specs.Logs.{Log, log_room, log_rooms_of, HaveLogRoom}
 use Rattle.cm_petit.specs.Routers.{events_of}
 use Rattle.cm_array.specs.declared.parts.Parts.{Parts}
-use Rattle.cm_array.specs.Parts.{Kept, AreParts}
+use Rattle.cm_array.specs.Parts.{Kept}
 use Rattle.cm_array.proofs.Lists.{items-lent}
 use Rattle.cm_array.proofs.Rooms.{room_that_can_be}
 use Rattle.cm_array.proofs.Cutting.{within_fifteen, few_buffers, events_of-cut, AreCut, IsKeptPart-cut, part_of-cut}

@@ -1,10 +1,10 @@
-use Rattle.std.proofs.Common.{◌≡◌, [], ◌∷◌, ◌∙◌}
+use Rattle.std.proofs.Common.{[], ◌∷◌, ◌∙◌}
 use Rattle.cm_model.specs.Steps.{Instruct}
 use Rattle.cm_blocks.specs.Counts.{events_in}
 use Rattle.cm_router.proofs.Rooms.{lost_nothing}
 use Rattle.cm_array.specs.Cuts.{KeptPart}
 use Rattle.cm_subcube.proofs.Exchanging.{IsBand-block}
-use Rattle.cm_subcube.proofs.Going.{no_edge, stepped, IsBlock-stepped, HasGone-one}
+use Rattle.cm_subcube.proofs.Going.{no_edge, IsBlock-stepped, HasGone-one}
 use Rattle.cm_subcube.proofs.block.Block.instruct.Goals as goal
 
 pub instruct-requires-clause-band : goal.instruct-requires-clause-band
