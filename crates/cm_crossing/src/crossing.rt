@@ -13,6 +13,7 @@ ghost use Rattle.cm_model.specs.Keeping.{AreSizes};
 ghost use Rattle.cm_model.specs.Wiring.{is_cut, way_of};
 ghost use Rattle.cm_model.specs.Buffers.{leaving_place, without, outgoing, buffer_after_dimension};
 ghost use Rattle.cm_model.specs.OneChip.{taken_here, sent_here, delivered_here, kept_here};
+ghost use Rattle.cm_router.specs.Idle.{IsPassedOver};
 ghost use Rattle.cm_router.specs.Logs.{log_room};
 ghost use Rattle.cm_router.specs.Routes.{routing_of};
 
@@ -23,7 +24,7 @@ use crate::sizes::Sizes;
 use cm_bits::NoMemory;
 use cm_element::Run;
 use cm_message::{Event, Message, Rule};
-use cm_router::{Node, Routing, chip_asks, take_none};
+use cm_router::{Node, Routing, chip_asks, chip_is_acknowledged, take_none};
 use cm_slots::{Slots, Ticket};
 use std::alloc::Global;
 use std::marker::Model;
@@ -271,6 +272,47 @@ impl Crossing {
         ensures within { IsTrue result ↔ All (λ ms. length ms ≤ room) self.now.buffers }
     {
         self.slots.is_within(usize::from(room))
+    }
+
+    /// The first chip from this one on at which an injection may change something; as many as there are, if there is
+    /// none.
+    pub fn next_injecting(&self, sizes: Sizes, run: &Run, from: usize) -> usize
+        requires sizes { AreSizes sizes.dims sizes.room }
+        requires run { length run.now ≡ length self.now.buffers }
+        requires from { from ≤ length self.now.buffers }
+        ensures none { (c : ℕ) → from ≤ c → c < result
+            → IsPassedOver sizes.room (list_at self.now.buffers c) (chip_at run.now c) }
+        ensures from { from ≤ result }
+        ensures most { result ≤ length self.now.buffers }
+    {
+        let chips = self.chips();
+        for chip in from..chips {
+            if !self.is_passed_over(sizes.room, run, chip as u16) {
+                return chip;
+            }
+        }
+        chips
+    }
+
+    /// Whether an injection surely changes nothing at a chip: nobody is acknowledged there, and nobody asks to send or
+    /// no room is left.
+    fn is_passed_over(&self, room: u8, run: &Run, chip: u16) -> bool
+        requires some { 0 < room }
+        requires chip { chip < length self.now.buffers }
+        requires run { length run.now ≡ length self.now.buffers }
+        ensures passed { IsTrue result → IsPassedOver room (list_at self.now.buffers chip) (chip_at run.now chip) }
+    {
+        !chip_is_acknowledged(run, chip)
+            && (!chip_asks(run, chip) || self.is_full(room, usize::from(chip)))
+    }
+
+    /// Whether no room is left at a chip: somebody stands in the last place.
+    fn is_full(&self, room: u8, chip: usize) -> bool
+        requires some { 0 < room }
+        requires chip { chip < length self.now.buffers }
+        ensures full { IsTrue result → room ≤ length (list_at self.now.buffers chip) }
+    {
+        self.slots.ticket(chip, usize::from(room - 1)).is_some()
     }
 
     /// At one chip, takes in messages of the processors that ask to send, by number, at most four and

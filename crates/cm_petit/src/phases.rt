@@ -54,7 +54,7 @@ pub fn cycle(
 }
 
 /// Every router of a run of chips takes in messages of its chip's processors. The run begins at chip `first` of
-/// the machine.
+/// the machine. A chip that this leaves as it is is passed over.
 pub fn inject(
     sizes: Sizes,
     first: u16,
@@ -77,9 +77,11 @@ pub fn inject(
     if is_idle(run) {
         return;
     }
-    for c in 0..logs.len() {
+    let mut c = crossing.next_injecting(sizes, run, 0);
+    while c < logs.len() {
         let chip = c as u16;
         crossing.inject(sizes, run, chip, first + chip, clock, &mut logs[c]);
+        c = crossing.next_injecting(sizes, run, c + 1);
     }
 }
 
