@@ -13,6 +13,7 @@ ghost use Rattle.cm_model.specs.Keeping.{AreSizes};
 ghost use Rattle.cm_model.specs.Wiring.{is_cut, way_of};
 ghost use Rattle.cm_model.specs.Buffers.{leaving_place, without, outgoing, buffer_after_dimension};
 ghost use Rattle.cm_model.specs.OneChip.{taken_here, sent_here, delivered_here, kept_here};
+ghost use Rattle.cm_router.specs.Deliveries.{run_after, AreBefore};
 ghost use Rattle.cm_router.specs.Idle.{IsPassedOver};
 ghost use Rattle.cm_router.specs.Logs.{log_room};
 ghost use Rattle.cm_router.specs.Routes.{routing_of};
@@ -24,7 +25,7 @@ use crate::sizes::Sizes;
 use cm_bits::NoMemory;
 use cm_element::Run;
 use cm_message::{Event, Message, Rule};
-use cm_router::{Node, Routing, chip_asks, chip_is_acknowledged, take_none};
+use cm_router::{Deliveries, Node, Routing, chip_asks, chip_is_acknowledged, take_none};
 use cm_slots::{Slots, Ticket};
 use std::alloc::Global;
 use std::marker::Model;
@@ -494,31 +495,37 @@ impl Crossing {
     }
 
     /// At one chip, delivers what has arrived: each message from the front whose processor can receive,
-    /// at most one to each. The log tells of each. Place and number of the chip are as for `inject`.
+    /// at most one to each. It is written down, and put down at its processor later: so the run is told as it is after
+    /// that. The log tells of each. Place and number of the chip are as for `inject`.
     pub fn deliver(
         &mut self,
         sizes: Sizes,
-        run: &mut Run,
+        run: &Run,
+        deliveries: &mut Deliveries,
         chip: u16,
         here: u16,
         log: &mut Vec<Event>,
     )
         requires sizes { AreSizes sizes.dims sizes.room }
         requires chip { chip < length self.old.buffers }
-        requires run { length run.old ≡ length self.old.buffers }
+        requires run { length run.now ≡ length self.old.buffers }
         requires within { All (λ ms. length ms ≤ sizes.room) self.old.buffers }
+        requires before { AreBefore chip deliveries.old }
+        requires space { length deliveries.old + 15 ≤ 128 }
         requires log_room { sizes.room ≤ log_room log.old }
         ensures value { self.new.buffers ≡ slice_set self.old.buffers chip
-            (kept_here (list_at self.old.buffers chip) (chip_at run.old chip)) }
-        ensures chip { run.new ≡ slice_set run.old chip (chip_after_delivery
-            (delivered_here (list_at self.old.buffers chip) (chip_at run.old chip)) (chip_at run.old chip)) }
+            (kept_here (list_at self.old.buffers chip) (chip_at (run_after deliveries.old run.now) chip)) }
+        ensures chip { run_after deliveries.new run.now ≡ slice_set (run_after deliveries.old run.now) chip
+            (chip_after_delivery (delivered_here (list_at self.old.buffers chip)
+            (chip_at (run_after deliveries.old run.now) chip)) (chip_at (run_after deliveries.old run.now) chip)) }
+        ensures before { AreBefore (chip + 1) deliveries.new }
         ensures log { log.new.items ≡ log.old.items ++ map (λ m. event.Delivered m here)
-            (delivered_here (list_at self.old.buffers chip) (chip_at run.old chip)) }
+            (delivered_here (list_at self.old.buffers chip) (chip_at (run_after deliveries.old run.now) chip)) }
         ensures len { vec_len log.new ≤ vec_len log.old + sizes.room }
         ensures capacity { vec_capacity log.old ≤ vec_capacity log.new }
         ensures within { All (λ ms. length ms ≤ sizes.room) self.new.buffers }
     {
-        give_out(&self.row, &mut self.slots, run, chip, here, log);
+        give_out(&self.row, &mut self.slots, run, deliveries, chip, here, log);
         self.gathered = false;
     }
 }
