@@ -13,6 +13,8 @@ ghost use Rattle.cm_model.specs.Keeping.{AreSizes};
 ghost use Rattle.cm_model.specs.Wiring.{is_cut, way_of};
 ghost use Rattle.cm_model.specs.Buffers.{leaving_place, without, outgoing, buffer_after_dimension};
 ghost use Rattle.cm_model.specs.OneChip.{taken_here, sent_here, delivered_here, kept_here};
+ghost use Rattle.cm_router.specs.Deliveries.{run_after, AreBefore};
+ghost use Rattle.cm_router.specs.Idle.{IsPassedOver};
 ghost use Rattle.cm_router.specs.Logs.{log_room};
 ghost use Rattle.cm_router.specs.Routes.{routing_of};
 
@@ -23,7 +25,7 @@ use crate::sizes::Sizes;
 use cm_bits::NoMemory;
 use cm_element::Run;
 use cm_message::{Event, Message, Rule};
-use cm_router::{Node, Routing, chip_asks, take_none};
+use cm_router::{Deliveries, Node, Routing, chip_asks, chip_is_acknowledged, take_none};
 use cm_slots::{Slots, Ticket};
 use std::alloc::Global;
 use std::marker::Model;
@@ -273,6 +275,47 @@ impl Crossing {
         self.slots.is_within(usize::from(room))
     }
 
+    /// The first chip from this one on at which an injection may change something; as many as there are, if there is
+    /// none.
+    pub fn next_injecting(&self, sizes: Sizes, run: &Run, from: usize) -> usize
+        requires sizes { AreSizes sizes.dims sizes.room }
+        requires run { length run.now ≡ length self.now.buffers }
+        requires from { from ≤ length self.now.buffers }
+        ensures none { (c : ℕ) → from ≤ c → c < result
+            → IsPassedOver sizes.room (list_at self.now.buffers c) (chip_at run.now c) }
+        ensures from { from ≤ result }
+        ensures most { result ≤ length self.now.buffers }
+    {
+        let chips = self.chips();
+        for chip in from..chips {
+            if !self.is_passed_over(sizes.room, run, chip as u16) {
+                return chip;
+            }
+        }
+        chips
+    }
+
+    /// Whether an injection surely changes nothing at a chip: nobody is acknowledged there, and nobody asks to send or
+    /// no room is left.
+    fn is_passed_over(&self, room: u8, run: &Run, chip: u16) -> bool
+        requires some { 0 < room }
+        requires chip { chip < length self.now.buffers }
+        requires run { length run.now ≡ length self.now.buffers }
+        ensures passed { IsTrue result → IsPassedOver room (list_at self.now.buffers chip) (chip_at run.now chip) }
+    {
+        !chip_is_acknowledged(run, chip)
+            && (!chip_asks(run, chip) || self.is_full(room, usize::from(chip)))
+    }
+
+    /// Whether no room is left at a chip: somebody stands in the last place.
+    fn is_full(&self, room: u8, chip: usize) -> bool
+        requires some { 0 < room }
+        requires chip { chip < length self.now.buffers }
+        ensures full { IsTrue result → room ≤ length (list_at self.now.buffers chip) }
+    {
+        self.slots.ticket(chip, usize::from(room - 1)).is_some()
+    }
+
     /// At one chip, takes in messages of the processors that ask to send, by number, at most four and
     /// at most as many as there is room for. The log tells of each. The chip stands at place `chip` here and in
     /// the run; `here` is its number in the machine.
@@ -452,31 +495,37 @@ impl Crossing {
     }
 
     /// At one chip, delivers what has arrived: each message from the front whose processor can receive,
-    /// at most one to each. The log tells of each. Place and number of the chip are as for `inject`.
+    /// at most one to each. It is written down, and put down at its processor later: so the run is told as it is after
+    /// that. The log tells of each. Place and number of the chip are as for `inject`.
     pub fn deliver(
         &mut self,
         sizes: Sizes,
-        run: &mut Run,
+        run: &Run,
+        deliveries: &mut Deliveries,
         chip: u16,
         here: u16,
         log: &mut Vec<Event>,
     )
         requires sizes { AreSizes sizes.dims sizes.room }
         requires chip { chip < length self.old.buffers }
-        requires run { length run.old ≡ length self.old.buffers }
+        requires run { length run.now ≡ length self.old.buffers }
         requires within { All (λ ms. length ms ≤ sizes.room) self.old.buffers }
+        requires before { AreBefore chip deliveries.old }
+        requires space { length deliveries.old + 15 ≤ 128 }
         requires log_room { sizes.room ≤ log_room log.old }
         ensures value { self.new.buffers ≡ slice_set self.old.buffers chip
-            (kept_here (list_at self.old.buffers chip) (chip_at run.old chip)) }
-        ensures chip { run.new ≡ slice_set run.old chip (chip_after_delivery
-            (delivered_here (list_at self.old.buffers chip) (chip_at run.old chip)) (chip_at run.old chip)) }
+            (kept_here (list_at self.old.buffers chip) (chip_at (run_after deliveries.old run.now) chip)) }
+        ensures chip { run_after deliveries.new run.now ≡ slice_set (run_after deliveries.old run.now) chip
+            (chip_after_delivery (delivered_here (list_at self.old.buffers chip)
+            (chip_at (run_after deliveries.old run.now) chip)) (chip_at (run_after deliveries.old run.now) chip)) }
+        ensures before { AreBefore (chip + 1) deliveries.new }
         ensures log { log.new.items ≡ log.old.items ++ map (λ m. event.Delivered m here)
-            (delivered_here (list_at self.old.buffers chip) (chip_at run.old chip)) }
+            (delivered_here (list_at self.old.buffers chip) (chip_at (run_after deliveries.old run.now) chip)) }
         ensures len { vec_len log.new ≤ vec_len log.old + sizes.room }
         ensures capacity { vec_capacity log.old ≤ vec_capacity log.new }
         ensures within { All (λ ms. length ms ≤ sizes.room) self.new.buffers }
     {
-        give_out(&self.row, &mut self.slots, run, chip, here, log);
+        give_out(&self.row, &mut self.slots, run, deliveries, chip, here, log);
         self.gathered = false;
     }
 }

@@ -1,6 +1,6 @@
 //! The row in which messages stay, and the tickets for them.
 
-ghost use Rattle.std.specs.Prelude.{◌≡◌, ◌+◌, ◌*◌, ◌<◌, ◌≤◌, ◌++◌, ◌∷◌, [], length, map, slice_set, vec_len};
+ghost use Rattle.std.specs.Prelude.{◌≡◌, ℕ, ◌+◌, ◌*◌, ◌<◌, ◌≤◌, ◌++◌, ◌∷◌, [], length, map, slice_set, vec_len};
 ghost use Rattle.std.specs.Prelude.{vec_capacity, List, IsFalse, if◌then◌else◌};
 ghost use Rattle.std.specs.List.{All};
 ghost use Rattle.std.specs.Option.{option_map};
@@ -8,16 +8,19 @@ ghost use Rattle.cm_model.specs.declared.message.Event.TheVariants as event;
 ghost use Rattle.cm_model.specs.declared.message.Message.{Message};
 ghost use Rattle.cm_model.specs.Processor.{Processor};
 ghost use Rattle.cm_model.specs.Delivery.{HasGone, HasHandedOver};
-ghost use Rattle.cm_model.specs.Letters.{chip_after_delivery};
-ghost use Rattle.cm_model.specs.Array.{chip_at, list_at};
+ghost use Rattle.cm_model.specs.Chip.{IsPlane};
+ghost use Rattle.cm_model.specs.Letters.{can_receive, chip_after_delivery};
+ghost use Rattle.cm_model.specs.Array.{Chips, chip_at, list_at};
 ghost use Rattle.cm_crossing.specs.Standing.{message_of, standing, all_standing, AreKept, AreTogether};
 ghost use Rattle.cm_model.specs.OneChip.{delivered_here, kept_here};
 ghost use Rattle.cm_crossing.specs.Standing.{IsKept, IsWritten, AreLaidOut};
+ghost use Rattle.cm_router.specs.Deliveries.{chip_handed, run_after, AreBefore};
 ghost use Rattle.cm_router.specs.Logs.{log_room};
 
+use cm_bits::Plane;
 use cm_element::Run;
 use cm_message::{Event, Message};
-use cm_router::{begin, hand_over, who_has_not_arrived_is_kept};
+use cm_router::{Deliveries, who_has_not_arrived_is_kept};
 use cm_slots::{Slots, Ticket};
 
 /// Gives each message a place in the second row, those of a chip side by side, and its ticket tells that.
@@ -133,36 +136,42 @@ pub(crate) fn read_off(row: &[Message], tickets: &[Option<Ticket>], leavers: &mu
     }
 }
 
-/// Delivers to one chip, message by message.
+/// Delivers to one chip, message by message. What is delivered is written down, and put down at its processors later: so
+/// the chip is told as it is after that.
 pub(crate) fn give_out(
     row: &[Message],
     slots: &mut Slots,
-    run: &mut Run,
+    run: &Run,
+    deliveries: &mut Deliveries,
     chip: u16,
     here: u16,
     log: &mut Vec<Event>,
 )
     requires stands { chip < length slots.old }
     requires kept { AreKept (length row.now) (list_at slots.old chip) }
-    requires chip { chip < length run.old }
+    requires chip { chip < length run.now }
+    requires before { AreBefore chip deliveries.old }
+    requires room { length deliveries.old + length (list_at slots.old chip) ≤ 128 }
     requires log_room { length (list_at slots.old chip) ≤ log_room log.old }
     ensures value { standing row.now (list_at slots.new chip)
-        ≡ kept_here (standing row.now (list_at slots.old chip)) (chip_at run.old chip) }
+        ≡ kept_here (standing row.now (list_at slots.old chip)) (chip_at (run_after deliveries.old run.now) chip) }
     ensures kept { AreKept (length row.now) (list_at slots.new chip) }
     ensures fewer { length (list_at slots.new chip) ≤ length (list_at slots.old chip) }
     ensures others { IsWritten chip slots.old slots.new }
-    ensures chip { run.new ≡ slice_set run.old chip (chip_after_delivery
-        (delivered_here (standing row.now (list_at slots.old chip)) (chip_at run.old chip)) (chip_at run.old chip)) }
+    ensures chip { run_after deliveries.new run.now ≡ slice_set (run_after deliveries.old run.now) chip
+        (chip_after_delivery (delivered_here (standing row.now (list_at slots.old chip))
+        (chip_at (run_after deliveries.old run.now) chip)) (chip_at (run_after deliveries.old run.now) chip)) }
+    ensures before { AreBefore (chip + 1) deliveries.new }
     ensures log { log.new.items ≡ log.old.items ++ map (λ m. event.Delivered m here)
-        (delivered_here (standing row.now (list_at slots.old chip)) (chip_at run.old chip)) }
+        (delivered_here (standing row.now (list_at slots.old chip)) (chip_at (run_after deliveries.old run.now) chip)) }
     ensures len { vec_len log.new ≤ vec_len log.old + length (list_at slots.old chip) }
     ensures capacity { vec_capacity log.old ≤ vec_capacity log.new }
 {
-    begin(run, chip);
+    let mut receivers = deliveries.receivers(run, chip);
     let at = chip as usize;
     let mut place = 0;
     while let Some(ticket) = slots.ticket(at, place) {
-        if is_delivered(row, ticket, run, chip, here, log) {
+        if is_delivered(row, ticket, deliveries, &mut receivers, chip, here, log) {
             slots.remove(at, place);
         } else {
             place += 1;
@@ -174,17 +183,25 @@ pub(crate) fn give_out(
 fn is_delivered(
     row: &[Message],
     ticket: Ticket,
-    run: &mut Run,
+    deliveries: &mut Deliveries,
+    receivers: &mut Plane,
     chip: u16,
     here: u16,
     log: &mut Vec<Event>,
 ) -> bool
     requires kept { ticket.number < length row.now }
-    requires chip { chip < length run.old }
+    requires room { length deliveries.old < 128 }
     requires log_room { 0 < log_room log.old }
-    ensures step { (before : List Processor) (seen : List Message) → HasGone before seen (chip_at run.old chip)
-        → HasHandedOver result before seen (message_of row.now ticket) (chip_at run.new chip) }
-    ensures others { run.new ≡ slice_set run.old chip (chip_at run.new chip) }
+    ensures step { (before now : List Processor) (seen : List Message) → HasGone before seen now
+        → IsPlane receivers.old (can_receive now) → HasHandedOver result before seen (message_of row.now ticket)
+        (chip_handed result (message_of row.now ticket) now) }
+    ensures receivers { (before now : List Processor) (seen : List Message) → HasGone before seen now
+        → IsPlane receivers.old (can_receive now)
+        → IsPlane receivers.new (can_receive (chip_handed result (message_of row.now ticket) now)) }
+    ensures later { (run : Chips) → run_after deliveries.new run ≡ slice_set (run_after deliveries.old run) chip
+        (chip_handed result (message_of row.now ticket) (chip_at (run_after deliveries.old run) chip)) }
+    ensures before { (k : ℕ) → chip < k → AreBefore k deliveries.old → AreBefore k deliveries.new }
+    ensures count { length deliveries.new ≡ length deliveries.old + (if result then 1 else 0) }
     ensures log { log.new.items ≡ log.old.items
         ++ (if result then event.Delivered (message_of row.now ticket) here ∷ [] else []) }
     ensures len { vec_len log.new ≤ vec_len log.old + 1 }
@@ -196,7 +213,7 @@ fn is_delivered(
         who_has_not_arrived_is_kept();
         return false;
     }
-    hand_over(run, chip, &message_of(row, ticket), here, log)
+    deliveries.hand_over(receivers, &message_of(row, ticket), chip, here, log)
 }
 
 /// The message that a ticket stands for.

@@ -15,7 +15,7 @@ use Rattle.cm_model.specs.Wiring.{Routing}
 use Rattle.cm_model.specs.Letters.{chip_after_injection, chip_after_delivery, can_receive, has_arrived}
 use Rattle.cm_model.specs.OneChip.{taken_here, sent_here, delivered, kept, delivered_here, kept_here}
 use Rattle.cm_model.proofs.Each.{length-each_from, get_or-each_from}
-use Rattle.cm_router.specs.Idle.{IsIdle}
+use Rattle.cm_router.specs.Idle.{IsIdle, IsPassedOver}
 use Rattle.cm_router.specs.Logs.{Log, log_room, log_rooms_of}
 use Rattle.cm_router.proofs.Rooms.{room_at, room_written, room_of_others}
 use Rattle.cm_petit.specs.Routers.{events_of, part_of}
@@ -157,6 +157,12 @@ made_all {f} {most} {first} {count} {place} {before} {now} routing clock is all 
 pub injecting_nothing : (n room clock c : ℕ) (x : Cell) → IsIdle x.chip → x ≡ injecting n room clock c x
 injecting_nothing n room clock c x idle =
     rw (idle.nobody room (length x.messages), append-nil x.messages, append-nil x.events, ← idle.same) refl
+
+pub injecting_passed : (n room clock c : ℕ) (before after : Cell) → after ≡ before
+    → IsPassedOver room after.messages after.chip → after ≡ injecting n room clock c before
+injecting_passed n room clock c before after is passed =
+    let here : IsPassedOver room before.messages before.chip = rw is at passed in
+    rw (is, here.nobody, append-nil before.messages, append-nil before.events, ← here.same) refl
 
 -- of messages of which none has arrived none is delivered, and all are kept
 nothing_delivered : (receives : ℕ → Bool) (before : List ℕ) (ms : List Message) → list_any has_arrived ms ≡ false

@@ -15,7 +15,7 @@ ghost use Rattle.cm_petit.specs.Routers.{machine_of, part_of, AreRouters};
 use cm_crossing::{Crossing, Sizes};
 use cm_element::Run;
 use cm_message::Event;
-use cm_router::{Routing, is_idle, pass_over};
+use cm_router::{Deliveries, Routing, is_idle, pass_over};
 
 /// One petit cycle: every router takes messages in, they cross each dimension, from the lowest on,
 /// and those that have arrived go to their processors (a dimension at a time: Hillis 1985; the order:
@@ -54,7 +54,7 @@ pub fn cycle(
 }
 
 /// Every router of a run of chips takes in messages of its chip's processors. The run begins at chip `first` of
-/// the machine.
+/// the machine. A chip that this leaves as it is is passed over.
 pub fn inject(
     sizes: Sizes,
     first: u16,
@@ -77,9 +77,11 @@ pub fn inject(
     if is_idle(run) {
         return;
     }
-    for c in 0..logs.len() {
+    let mut c = crossing.next_injecting(sizes, run, 0);
+    while c < logs.len() {
         let chip = c as u16;
         crossing.inject(sizes, run, chip, first + chip, clock, &mut logs[c]);
+        c = crossing.next_injecting(sizes, run, c + 1);
     }
 }
 
@@ -104,10 +106,20 @@ pub fn deliver(
     ensures log_room { LoseAtMost sizes.room (log_rooms_of logs.old) (log_rooms_of logs.new) }
 {
     pass_over(run);
+    let mut deliveries = Deliveries::new();
     let mut c = crossing.next_arrived(sizes, 0);
     while c < logs.len() {
+        deliveries.make_room(run);
         let chip = c as u16;
-        crossing.deliver(sizes, run, chip, first + chip, &mut logs[c]);
+        crossing.deliver(
+            sizes,
+            run,
+            &mut deliveries,
+            chip,
+            first + chip,
+            &mut logs[c],
+        );
         c = crossing.next_arrived(sizes, c + 1);
     }
+    deliveries.put_down(run);
 }

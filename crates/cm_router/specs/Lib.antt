@@ -4,3 +4,4 @@ pub mod Logs
 pub mod Places
 pub mod Cuts
 pub mod Routes
+pub mod Deliveries

@@ -46,6 +46,17 @@ pub fn chip_asks(run: &Run, chip: u16) -> bool
     run.chip_has_flag(chip, FlagNo::SEND)
 }
 
+/// Whether some processor of a chip is acknowledged. Where none is, an injection that takes no message in changes
+/// nothing there.
+#[tactic(auto, using(crate::proofs::Taking::idle))]
+pub fn chip_is_acknowledged(run: &Run, chip: u16) -> bool
+    requires chip { chip < length run.now }
+    ensures value { result ≡ has_flag ACK (chip_at run.now chip) }
+    ensures same { IsFalse result → chip_at run.now chip ≡ chip_after_injection [] (chip_at run.now chip) }
+{
+    run.chip_has_flag(chip, FlagNo::ACK)
+}
+
 /// Flag SEND of all processors of a chip: who asks to send.
 pub fn asking(run: &Run, chip: u16) -> Plane
     requires chip { chip < length run.now }

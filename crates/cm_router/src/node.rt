@@ -12,7 +12,7 @@ ghost use Rattle.cm_model.specs.OneChip.{taken_here, sent_here, delivered_here, 
 ghost use Rattle.cm_router.specs.Buffer.{IsBuffer, holding};
 ghost use Rattle.cm_router.specs.Logs.{log_room};
 
-use crate::delivery::{begin, hand_over};
+use crate::delivery::Deliveries;
 use crate::leaving::chosen_place;
 use crate::letters;
 use crate::letters::{acknowledge, is_one, message_sent, take_none, tell_injected};
@@ -208,16 +208,18 @@ impl Node {
         ensures len { vec_len log.new ≤ vec_len log.old + self.old.room }
         ensures capacity { vec_capacity log.old ≤ vec_capacity log.new }
     {
-        begin(run, chip);
+        let mut deliveries = Deliveries::new();
+        let mut receivers = deliveries.receivers(run, chip);
         let mut place = 0;
         while place < self.messages.len() {
             let message = self.messages[place];
-            if hand_over(run, chip, &message, here, log) {
+            if deliveries.hand_over(&mut receivers, &message, chip, here, log) {
                 self.messages.remove(place);
             } else {
                 place += 1;
             }
         }
+        deliveries.put_down(run);
     }
 }
 

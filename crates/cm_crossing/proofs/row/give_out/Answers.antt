@@ -1,12 +1,17 @@
-use Rattle.std.proofs.Common.{◌≡◌, remove, set, Some, refl, sym, ap, ◌∙◌, arith}
+use Rattle.std.proofs.Common.{◌≡◌, ◌+◌, true, false, [], ◌∷◌, List, remove, set, Some, get_or-set_same, length, sym, ap}
+use Rattle.std.proofs.Common.{◌∙◌, arith, length-set}
 use Rattle.std.proofs.lemmas.Grind.{elements}
 use Rattle.std.proofs.lemmas.List.{length-map, append-nil}
 use Rattle.std.proofs.lemmas.List.Edits.{length-remove}
 use Rattle.std.proofs.lemmas.Option.{slice_get_within}
 use Rattle.std.specs.List.{slice_get}
-use Rattle.cm_model.specs.Array.{list_at}
+use Rattle.cm_model.specs.Processor.{Processor}
+use Rattle.cm_model.specs.Array.{Chips, chip_at, list_at}
+use Rattle.cm_model.specs.Letters.{chip_after_delivery}
 use Rattle.cm_model.proofs.Leaving.{past_none}
-use Rattle.cm_model.proofs.Scan.{scan_ends}
+use Rattle.cm_model.proofs.Scan.{HandsOver, scan_ends}
+use Rattle.cm_router.specs.Deliveries.{run_after}
+use Rattle.cm_crossing.specs.Standing.{message_of}
 use Rattle.cm_crossing.proofs.Carrying.{without_kept}
 use Rattle.cm_crossing.proofs.Keeping.{written_again, scan_taken, scan_passed}
 use Rattle.cm_crossing.proofs.row.give_out.Goals as goal
@@ -15,13 +20,29 @@ pub loop-ticket-preserved-then-is_delivered : goal.loop-ticket-preserved-then-is
 loop-ticket-preserved-then-is_delivered c =
     let was = c.loop-ticket.invariant in
     let step = c.if-is_delivered.ensures in
-    let queue = list_at c.loop-ticket.slots c.args.chip in
+    let run : Chips = c.args.run.now in
+    let place = c.args.chip in
+    let first : Chips = run_after c.args.deliveries.now run in
+    let old : Chips = run_after c.loop-ticket.deliveries run in
+    let m = message_of c.args.row.now c.in-Some.ticket in
+    let chip : List Processor = chip_after_delivery (m ∷ []) (chip_at old place) in
+    let put = step.later run in
+    let now : chip_at (run_after c.is_delivered.new.deliveries run) place ≡ chip =
+    ap (λ (r : Chips). chip_at r place) put ∙ get_or-set_same old place chip [] (omega (arith, was.inside)) in
+    let next : HandsOver true (chip_at first place) m (chip_at old place) chip =
+    λ seen gone. step.step (chip_at first place) (chip_at old place) seen gone was.receivers in
+    let queue = list_at c.loop-ticket.slots place in
     let is : Some c.in-Some.ticket ≡ slice_get queue c.loop-ticket.place = c.in-Some.ensures.value in
     let inside = slice_get_within queue c.loop-ticket.place c.in-Some.ticket (sym is) in
-    let here : list_at c.remove.new.self c.args.chip ≡ remove queue c.loop-ticket.place = grind (arith, elements) in
+    let here : list_at c.remove.new.self place ≡ remove queue c.loop-ticket.place = grind (arith, elements) in
     record {
-      scan = rw (here, step.log) (scan_taken c.args.row.now queue c.in-Some.ticket is was.scan (step.step _));
-      run = written_again c.args.chip c.args.run.now _ _ _ step.others refl was.run;
+      scan = rw (here, step.log, now) (scan_taken c.args.row.now queue c.in-Some.ticket is was.scan next);
+      run = written_again place first old _ chip put now was.run;
+      inside = omega (arith, was.inside, ap length put, length-set old place chip);
+      receivers = rw now (step.receivers (chip_at first place) (chip_at old place) was.scan.seen was.scan.gone
+          was.receivers);
+      before = step.before (place + 1) (omega arith) was.before;
+      room = grind (arith, length-remove, step.count);
       kept = rw here (without_kept _ queue (Some c.loop-ticket.place) was.kept);
       fewer = grind (arith, length-remove);
       others = written_again c.args.chip c.args.slots.now _ _ _ c.remove.ensures.value here was.others;
@@ -33,11 +54,26 @@ pub loop-ticket-preserved : goal.loop-ticket-preserved
 loop-ticket-preserved c =
     let was = c.loop-ticket.invariant in
     let step = c.if-is_delivered.ensures in
-    let queue = list_at c.loop-ticket.slots c.args.chip in
+    let run : Chips = c.args.run.now in
+    let place = c.args.chip in
+    let first : Chips = run_after c.args.deliveries.now run in
+    let old : Chips = run_after c.loop-ticket.deliveries run in
+    let m = message_of c.args.row.now c.in-Some.ticket in
+    let chip : List Processor = chip_at old place in
+    let put = step.later run in
+    let now : chip_at (run_after c.is_delivered.new.deliveries run) place ≡ chip =
+    ap (λ (r : Chips). chip_at r place) put ∙ get_or-set_same old place chip [] (omega (arith, was.inside)) in
+    let next : HandsOver false (chip_at first place) m chip chip =
+    λ seen gone. step.step (chip_at first place) chip seen gone was.receivers in
+    let queue = list_at c.loop-ticket.slots place in
     let is : Some c.in-Some.ticket ≡ slice_get queue c.loop-ticket.place = c.in-Some.ensures.value in
     record {
-      scan = rw (step.log, append-nil) (scan_passed c.args.row.now queue c.in-Some.ticket is was.scan (step.step _));
-      run = written_again c.args.chip c.args.run.now _ _ _ step.others refl was.run;
+      scan = rw (step.log, append-nil, now) (scan_passed c.args.row.now queue c.in-Some.ticket is was.scan next);
+      run = written_again place first old _ chip put now was.run;
+      inside = omega (arith, was.inside, ap length put, length-set old place chip);
+      receivers = rw now (step.receivers (chip_at first place) chip was.scan.seen was.scan.gone was.receivers);
+      before = step.before (place + 1) (omega arith) was.before;
+      room = grind (arith, step.count);
       kept = was.kept;
       fewer = was.fewer;
       others = was.others;
@@ -56,7 +92,8 @@ returns c =
       kept = was.invariant.kept;
       fewer = was.invariant.fewer;
       others = was.invariant.others;
-      chip = was.invariant.run ∙ ap (set c.args.run.now c.args.chip) all.chip_is;
+      chip = was.invariant.run ∙ ap (set (run_after c.args.deliveries.now c.args.run.now) c.args.chip) all.chip_is;
+      before = was.invariant.before;
       log = all.log_is;
       len = omega (arith, was.invariant.len);
       capacity = was.invariant.capacity;

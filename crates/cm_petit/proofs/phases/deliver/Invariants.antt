@@ -1,5 +1,6 @@
-use Rattle.std.proofs.Common.{◌-◌, ◌^◌, ◌≤◌, length}
+use Rattle.std.proofs.Common.{◌≡◌, ◌-◌, ◌^◌, ◌≤◌, length}
 use Rattle.std.specs.List.{All}
+use Rattle.cm_router.specs.Deliveries.{run_after, AreBefore}
 use Rattle.cm_petit.proofs.Making.{AreMade, delivering}
 use Rattle.cm_petit.proofs.phases.deliver.Given as goal
 
@@ -7,7 +8,10 @@ abbrev pub invariant-loop-c : goal.invariant-loop-c
 invariant-loop-c l = record {
   delivered : AreMade delivering l.sizes.room l.first (2 ^ l.sizes.span)
       (record { chips = l.fn.run; buffers = l.fn.crossing.buffers; logs = l.fn.logs })
-      (record { chips = l.run; buffers = l.crossing.buffers; logs = l.logs }) l.c;
+      (record { chips = run_after l.deliveries l.run; buffers = l.crossing.buffers; logs = l.logs }) l.c;
+  chips : length l.run ≡ 2 ^ l.sizes.span;
+  most : l.c ≤ 2 ^ l.sizes.span;
+  before : AreBefore l.c l.deliveries;
   within : All (λ ms. length ms ≤ l.sizes.room) l.crossing.buffers;
 }
 

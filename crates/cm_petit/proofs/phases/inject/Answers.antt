@@ -1,6 +1,7 @@
 use Rattle.std.proofs.Common.{arith, refl, ◌+◌, ◌^◌}
 use Rattle.cm_blocks.specs.Steps.{part_after}
 use Rattle.cm_petit.proofs.Making.{injecting, made_none, made_past, made_more, made_all, injecting_nothing}
+use Rattle.cm_petit.proofs.Making.{injecting_passed}
 use Rattle.cm_petit.proofs.phases.inject.Goals as goal
 
 pub returns-then-is_idle-clause-value : goal.returns-then-is_idle-clause-value
@@ -12,14 +13,28 @@ returns-then-is_idle-clause-value c = λ routing.
     (λ k from l e. injecting_nothing c.args.sizes.dims c.args.sizes.room c.args.clock (c.args.first + k) _
     (c.is_idle.ensures.idle c.if-is_idle.true k (omega (arith, l, are.chip_count))))) (omega arith)
 
+pub loop-c-init : goal.loop-c-init
+loop-c-init c =
+    let routers = c.requires.routers in
+    record {
+      injected = made_past _ (made_none routers.chip_count routers.buffer_count routers.log_count) (omega arith)
+          (λ k from l e. injecting_passed c.args.sizes.dims c.args.sizes.room c.args.clock (c.args.first + k) _ _ e
+          (c.next_injecting-c.ensures.none k from l));
+      within = routers.within;
+    }
+
 pub loop-c-preserved : goal.loop-c-preserved
-loop-c-preserved c = record {
-  injected = rw (c.inject.ensures.chip, c.inject.ensures.value)
-      (made_more _ _ _ c.loop-c.invariant.injected refl
-      (omega (arith, c.loop-c.auto.logs, c.requires.routers.log_count)) c.inject.ensures.log c.inject.ensures.len
-      c.inject.ensures.capacity);
-  within = c.inject.ensures.within;
-}
+loop-c-preserved c =
+    let next = c.next_injecting-c-in-loop-c.ensures in
+    let more = rw (← c.inject.ensures.chip, ← c.inject.ensures.value) at
+    (made_more _ c.index-logs-c.result c.inject.new.log c.loop-c.invariant.injected refl
+    (omega (arith, c.loop-c-test.true, c.loop-c.auto.logs, c.requires.routers.log_count)) c.inject.ensures.log
+    c.inject.ensures.len c.inject.ensures.capacity) in
+    record {
+      injected = made_past _ more next.from (λ k from l e. injecting_passed c.args.sizes.dims c.args.sizes.room
+          c.args.clock (c.args.first + k) _ _ e (next.none k from l));
+      within = c.inject.ensures.within;
+    }
 
 pub returns-clause-value : goal.returns-clause-value
 unfolding part_after

@@ -1,4 +1,4 @@
-use Rattle.std.proofs.Common.{◌^◌, ◌≤◌, length}
+use Rattle.std.proofs.Common.{◌-◌, ◌^◌, ◌≤◌, length}
 use Rattle.std.specs.List.{All}
 use Rattle.cm_petit.proofs.Making.{AreMade, injecting}
 use Rattle.cm_petit.proofs.phases.inject.Given as goal
@@ -10,3 +10,6 @@ invariant-loop-c l = record {
       (record { chips = l.run; buffers = l.crossing.buffers; logs = l.logs }) l.c;
   within : All (λ ms. length ms ≤ l.sizes.room) l.crossing.buffers;
 }
+
+abbrev pub decreases-loop-c : goal.decreases-loop-c
+decreases-loop-c l = length l.logs - l.c

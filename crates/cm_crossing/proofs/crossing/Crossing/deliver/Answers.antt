@@ -4,6 +4,16 @@ use Rattle.std.proofs.lemmas.List.Elements.{All-set}
 use Rattle.cm_crossing.proofs.Carrying.{as_many, few_at, standing_at}
 use Rattle.cm_crossing.proofs.crossing.Crossing.deliver.Goals as goal
 
+pub give_out-requires-clause-room : goal.give_out-requires-clause-room
+give_out-requires-clause-room c =
+    let within = rw (← c.self.view_is) at c.requires.within in
+    omega (
+      arith,
+      c.requires.space,
+      c.requires.sizes.most_room,
+      few_at c.args.sizes.room _ c.self.inside.slots c.args.chip within,
+    )
+
 pub give_out-requires-clause-log_room : goal.give_out-requires-clause-log_room
 give_out-requires-clause-log_room c =
     let within = rw (← c.self.view_is) at c.requires.within in
@@ -21,6 +31,7 @@ returns c =
     record {
       value = rw (← c.self.view_is, given.others, map-set, standing_at, here);
       chip = rw (← c.self.view_is, standing_at) (rw c.deref.ensures.value at given.chip);
+      before = given.before;
       log = rw (← c.self.view_is, standing_at) (rw c.deref.ensures.value at given.log);
       len = omega (arith, given.len, few);
       capacity = given.capacity;
