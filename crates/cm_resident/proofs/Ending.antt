@@ -27,7 +27,8 @@ use Rattle.cm_resident.specs.declared.worker.Worker.{Worker}
 use Rattle.cm_resident.specs.declared.running.Ready.{Ready}
 use Rattle.cm_resident.specs.Lanes.{Run, before, rounds_in}
 use Rattle.cm_resident.specs.Standing.{number}
-use Rattle.cm_resident.specs.Teams.{IsOfTeam, HasWorked}
+use Rattle.cm_resident.specs.Teams.{IsOfTeam, IsTeam, HasWorked, HaveWorked}
+use Rattle.cm_resident.specs.Laws.{TeamsLeaveTheirMachine}
 
 -- ---- the blocks of all workers
 
@@ -53,48 +54,35 @@ first_of (x ∷ xs) some = x
 
 -- ---- a team whose workers have left their shares
 
-module _ (run : Run) (count : ℕ) (team : List Worker) (readies : List Ready) (shares : List (Vec KeptBlock Global))
-    (some : 0 < count) (team_count : length team ≡ count) (ready_count : length readies ≡ length team)
-    (share_count : length shares ≡ length readies)
-    (ids : (w : ℕ) (d : Worker) → w < count → (get_or team w d).id ≡ w)
-    (are : (w : ℕ) (d : Worker) → w < count → IsOfTeam run count (get_or team w d))
-    (ready : (w : ℕ) (d : Ready) (e : Worker) → w < length team → (get_or readies w d).worker ≡ get_or team w e)
-    (have : (w : ℕ) (d : Ready) (e : Vec KeptBlock Global) → w < length readies
-    → HasWorked (get_or readies w d).worker (get_or shares w e).items) where
+module _ (run : Run) (count : ℕ) (team : List Worker) (shares : List (Vec KeptBlock Global)) (some : 0 < count)
+    (is : IsTeam run count team) (have : HaveWorked team shares) where
   many : length shares ≡ count
-  many = share_count ∙ ready_count ∙ team_count
+  many = have.len ∙ is.len
 
   left : (w : ℕ) (e : Vec KeptBlock Global) → w < count → IsLeft run count w (hand shares e w)
   left w e l =
-      let there : w < length readies = omega (arith, l, ready_count, team_count) in
-      let r : Ready = first_of readies (omega (arith, there)) in
-      let same : (get_or readies w r).worker ≡ get_or team w r.worker = ready w r r.worker (omega (arith, l, team_count)) in
-      left_by run count w (get_or team w r.worker) (hand shares e w) (ids w r.worker l) (are w r.worker l)
-      (subst (λ (x : Worker). HasWorked x (hand shares e w)) same (have w r e there))
+      let there : w < length team = (let f = is.len in omega (arith, l, f)) in
+      let d : Worker = first_of team (omega (arith, there)) in
+      left_by run count w (get_or team w d) (hand shares e w) (is.ids w d l) (is.each w d l) (have.each w d e there)
 
-  pub some_left : 0 < length shares
-  some_left = omega (arith, some, many)
+  are_shares : AreShares (length shares) (2 ^ run.k) shares
+  are_shares = subst (λ (m : ℕ). AreShares m (2 ^ run.k) shares) (sym many) (λ w q e l. (left w e l).share q)
 
-  pub shares_left : (total : ℕ) → total ≡ 2 ^ run.k → AreShares (length shares) total shares
-  shares_left total is =
-      subst (λ (t : ℕ). AreShares (length shares) t shares) (sym is)
-      (subst (λ (m : ℕ). AreShares m (2 ^ run.k) shares) (sym many) (λ w q e l. (left w e l).share q))
-
-  pub after_all : (total : ℕ) (blocks : List KeptBlock) → total ≡ 2 ^ run.k → length blocks ≡ total
-      → AreDealt (length shares) blocks shares → AreAfter run.n run.k run.room run.machine run.acts blocks
-  after_all total blocks is full dealt = record {
-    count = full ∙ is;
+  after_all : (blocks : List KeptBlock) → length blocks ≡ 2 ^ run.k → AreDealt (length shares) blocks shares
+      → AreAfter run.n run.k run.room run.machine run.acts blocks
+  after_all blocks full dealt = record {
+    count = full;
     each = λ b x l.
         let q : ℕ = b / count in let w : ℕ = b % count in
         let whole : q * count + w ≡ b = div-add-mod' b count in
         let below : w < count = mod-lt b some in
-        let e : Vec KeptBlock Global = first_of shares some_left in
+        let e : Vec KeptBlock Global = first_of shares (omega (arith, some, many)) in
         let it = left w e below in
         let there : q * count + w < 2 ^ run.k = omega (arith, whole, l) in
         let inside : q < length (hand shares e w) = (it.share q).1 there in
         let as_dealt : AreDealt count blocks shares = subst (λ (m : ℕ). AreDealt m blocks shares) many dealt in
         let read : get_or (hand shares e w) q x ≡ get_or blocks (q * count + w) x =
-        as_dealt.each w q e x below (omega (arith, there, full, is)) in
+        as_dealt.each w q e x below (omega (arith, there, full)) in
         ap (λ (v : ℕ). (get_or blocks v x).kept.part) (sym whole)
         ∙ ap (λ (one : KeptBlock). one.kept.part) (sym read)
         ∙ it.each q x inside
@@ -112,7 +100,7 @@ no_block n k machine = record {
 }
 
 -- blocks after a run are those of the machine after it
-pub after_are : (n cap k : ℕ) (machine : Machine) (acts : List Act) (blocks : List KeptBlock) (one : KeptBlock)
+after_are : (n cap k : ℕ) (machine : Machine) (acts : List Act) (blocks : List KeptBlock) (one : KeptBlock)
     → IsMachine n cap machine
     → AreAfter n k cap machine acts blocks
     → map (λ (b : KeptBlock). b.kept.part) blocks ≡ all_blocks n k (run_of n cap machine acts)
@@ -124,28 +112,38 @@ after_are n cap k machine acts blocks one is after =
     get_or-map (λ (z : KeptBlock). z.kept.part) blocks b one (block n k 0 machine) below ∙ after.each b one l
     ∙ ap (λ (m : Machine). block n k b m) (rounds_end_the_run n cap k machine acts is.buffer_count))
 
-pub parts_after : (n cap dims k : ℕ) (machine : Machine) (acts : List Act) (blocks : List KeptBlock) → dims ≡ n
-    → IsMachine n cap machine
-    → AreAfter dims k cap machine acts blocks
-    → map (λ (b : KeptBlock). b.kept.part) blocks ≡ all_blocks n k (run_of n cap machine acts)
-parts_after n cap dims k machine acts blocks same is after =
-    after_are n cap k machine acts blocks (no_block n k machine) is
-    (subst (λ (d : ℕ). AreAfter d k cap machine acts blocks) same after)
+pub teams_leave_their_machine : TeamsLeaveTheirMachine
+teams_leave_their_machine run count team shares some is_machine is have =
+    let n = run.n in let cap = run.room in let k = run.k in let machine = run.machine in let acts = run.acts in
+    let one : Worker = first_of team (let f = is.len in omega (arith, some, f)) in
+    let within : k ≤ n = (let f = (is.each 0 one some).unused.within in omega (arith, f)) in
+    let ended : IsMachine n cap (run_of n cap machine acts) = IsMachine-run_of n cap machine acts is_machine in
+    record {
+      are_shares = are_shares run count team shares some is have;
+      machine = λ blocks full dealt.
+          let are : map (λ (b : KeptBlock). b.kept.part) blocks ≡ all_blocks n k (run_of n cap machine acts) =
+          after_are n cap k machine acts blocks (no_block n k machine) is_machine
+          (after_all run count team shares some is have blocks full dealt) in record {
+            whole = subst (λ (parts : List Part). AreWhole n cap parts) (sym are)
+                (AreWhole-blocks n cap k (run_of n cap machine acts) within ended);
+            same = ap joined are ∙ joined-blocks n cap k (run_of n cap machine acts) within ended;
+          };
+    }
 
--- they are a whole machine
-pub whole_after : (n cap k : ℕ) (machine : Machine) (acts : List Act) (parts : List Part) → k ≤ n
-    → IsMachine n cap machine
-    → parts ≡ all_blocks n k (run_of n cap machine acts) → AreWhole n cap parts
-whole_after n cap k machine acts parts within is are =
-    subst (λ (s : List Part). AreWhole n cap s) (sym are)
-    (AreWhole-blocks n cap k (run_of n cap machine acts) within (IsMachine-run_of n cap machine acts is))
-
--- and that machine
-pub joined_after : (n cap k : ℕ) (machine : Machine) (acts : List Act) (parts : List Part) → k ≤ n
-    → IsMachine n cap machine
-    → parts ≡ all_blocks n k (run_of n cap machine acts) → joined parts ≡ run_of n cap machine acts
-joined_after n cap k machine acts parts within is are =
-    ap joined are ∙ joined-blocks n cap k (run_of n cap machine acts) within (IsMachine-run_of n cap machine acts is)
+-- what threads promise that were handed a team
+pub have_worked : (team : List Worker) (readies : List Ready) (shares : List (Vec KeptBlock Global))
+    → length readies ≡ length team → length shares ≡ length readies
+    → ((w : ℕ) (d : Ready) (e : Worker) → w < length team → (get_or readies w d).worker ≡ get_or team w e)
+    → ((w : ℕ) (d : Ready) (e : Vec KeptBlock Global) → w < length readies
+    → HasWorked (get_or readies w d).worker (get_or shares w e).items)
+    → HaveWorked team shares
+have_worked team readies shares ready_count share_count ready have = record {
+  len = share_count ∙ ready_count;
+  each = λ w d e l.
+      let there : w < length readies = omega (arith, l, ready_count) in
+      let r : Ready = first_of readies (omega (arith, there)) in
+      subst (λ (x : Worker). HasWorked x (hand shares e w)) (ready w r d l) (have w r e there);
+}
 
 -- the account after a run
 pub account_after : (n cap : ℕ) (before after : Machine) (acts : List Act) → after ≡ run_of n cap before acts

@@ -4,8 +4,9 @@ mod Ends
 mod Going
 mod Absorbing
 mod Working
-mod Dealing
-mod Sharing
+mod Numbered
+mod Opening
+mod Fitting
 mod Starts
 mod Rows
 mod Powers

@@ -4,3 +4,4 @@ pub mod Turns
 pub mod Teams
 pub mod Starting
 pub mod Gathering
+pub mod Laws

@@ -1,15 +1,19 @@
 -- Workers of a team. Ours.
-use Rattle.std.specs.Prelude.{◌≡◌, ℕ, ◌+◌, ◌/◌, ◌%◌, ◌^◌, ◌<◌, List, Option, Some, None, length, get_or, slice_get}
+use Rattle.std.specs.Prelude.{◌≡◌, ◌↔◌, ℕ, ◌+◌, ◌^◌, ◌<◌, List, Some, length, get_or, slice_get, Vec}
+use Rattle.std.specs.declared.alloc.Global.{Global}
 use Rattle.cm_model.specs.declared.act.Act.{Act}
 use Rattle.cm_blocks.specs.Parts.{block}
 use Rattle.cm_blocks.specs.Parcels.{Parcel}
 use Rattle.cm_subcube.specs.declared.round.Round.{Round}
 use Rattle.cm_subcube.specs.Blocks.{KeptBlock}
 use Rattle.cm_board.specs.Courses.{Course}
+use Rattle.cm_workers.specs.Dealing.{hand}
 use Rattle.cm_workers.specs.Gates.{HasSeen}
+use Rattle.cm_resident.specs.declared.outfit.Outfit.{Outfit}
 use Rattle.cm_resident.specs.declared.worker.Worker.{Worker}
 use Rattle.cm_resident.specs.Lanes.{Run, before, rounds_in, ends_each, course, own, givers}
-use Rattle.cm_resident.specs.Standing.{number, IsCut, AreEndsBefore, IsWorkerBefore, IsUnused}
+use Rattle.cm_resident.specs.Standing.{number, IsCut, IsWorkerBefore, IsUnused}
+use Rattle.cm_resident.specs.Gathering.{AreAll, AreFrom}
 
 -- an unused worker of a team of so many for a run
 pub record IsOfTeam (run : Run) (count : ℕ) (worker : Worker) : Type 0 where
@@ -40,34 +44,48 @@ pub record IsBeforeRound (acts : List Act) (k r w : ℕ) (round : Round) (blocks
   pub round_is : slice_get (rounds_in run) r ≡ Some round
   pub at : IsWorkerBefore run r count w blocks sends gets
 
--- what is still there of the ends of all lanes belongs to the lane of its number
-pub record AreLanes (run : Run) (froms tos : List (Option (Course Parcel))) : Type 0 where
-  pub from : (p : ℕ) (e : Course Parcel) → get_or froms p None ≡ Some e
-      → e ≡ course run (p / ends_each run.k) (p % ends_each run.k) 0
-  pub to : (p : ℕ) (e : Course Parcel) → get_or tos p None ≡ Some e
-      → e ≡ course run (p / ends_each run.k) (p % ends_each run.k) 0
+-- an end, not yet used, over which block b sends or gets at place j
+abbrev pub IsEnd : Run → (Run → ℕ → ℕ → ℕ) → ℕ → ℕ → Course Parcel → Type 0
+IsEnd run whose j b end = end ≡ course run (whose run b j) j 0
 
--- the ends of a block stand behind those that were dealt before
-pub record AreDealt (run : Run) (whose : Run → ℕ → ℕ → ℕ) (b many : ℕ) (old new : List (Course Parcel)) : Type 0 where
-  pub len : length new ≡ length old + many
-  pub rest : (p : ℕ) (d : Course Parcel) → p < length old → get_or new p d ≡ get_or old p d
-  pub each : (j : ℕ) (d : Course Parcel) → j < many → get_or new (length old + j) d ≡ course run (whose run b j) j 0
+-- those of all blocks from one on at a place, and at the first m places
+abbrev pub AreAtPlace : Run → (Run → ℕ → ℕ → ℕ) → ℕ → ℕ → Vec (Course Parcel) Global → Type 0
+AreAtPlace run whose from j ends = AreFrom (IsEnd run whose j) from (2 ^ run.k) ends.items
 
--- what is still there of all blocks is the block of its number
-abbrev pub AreCut : Run → List (Option KeptBlock) → Type 0
-AreCut run blocks = (p : ℕ) (one : KeptBlock) → get_or blocks p None ≡ Some one → IsCut run p one
+abbrev pub AreByPlace : Run → (Run → ℕ → ℕ → ℕ) → ℕ → ℕ → List (Vec (Course Parcel) Global) → Type 0
+AreByPlace run whose from m places = AreAll (AreAtPlace run whose from) m places
 
--- a worker has its first blocks, and their ends
-pub record HasDealt (run : Run) (count w : ℕ) (blocks : List KeptBlock) (sends gets : List (Course Parcel)) : Type 0 where
-  pub below : (i : ℕ) → i < length blocks → number count w i < 2 ^ run.k
-  pub each : (i : ℕ) (d : KeptBlock) → i < length blocks → IsCut run (number count w i) (get_or blocks i d)
-  pub sends_are : AreEndsBefore run own 0 count w (length blocks) sends
-  pub gets_are : AreEndsBefore run givers 0 count w (length blocks) gets
+-- those of block b, by place
+abbrev pub HasEnds : Run → (Run → ℕ → ℕ → ℕ) → ℕ → List (Course Parcel) → Type 0
+HasEnds run whose b ends = AreAll (λ j. IsEnd run whose j b) (ends_each run.k) ends
+
+-- block b as it was cut out, and its ends
+pub record IsOutfit (run : Run) (b : ℕ) (one : Outfit) : Type 0 where
+  pub cut : IsCut run b one.block
+  pub sends_are : HasEnds run own b one.sends.items
+  pub gets_are : HasEnds run givers b one.gets.items
+
+-- worker w of so many has those of its blocks
+pub record HasOutfits (run : Run) (count w : ℕ) (outfits : List Outfit) : Type 0 where
+  pub share : (i : ℕ) → (i < length outfits) ↔ (number count w i < 2 ^ run.k)
+  pub each : (i : ℕ) (d : Outfit) → i < length outfits → IsOutfit run (number count w i) (get_or outfits i d)
+
+-- all workers of a team for a run, in order of their numbers
+pub record IsTeam (run : Run) (count : ℕ) (team : List Worker) : Type 0 where
+  pub len : length team ≡ count
+  pub ids : (w : ℕ) (d : Worker) → w < count → (get_or team w d).id ≡ w
+  pub each : (w : ℕ) (d : Worker) → w < count → IsOfTeam run count (get_or team w d)
 
 -- a worker left these blocks: of whatever team it was, they are done
 abbrev pub HasWorked : Worker → List KeptBlock → Type 0
 HasWorked worker blocks =
     (run : Run) (count : ℕ) → IsOfTeam run count worker → AreDone run count worker.id (length worker.blocks.items) blocks
+
+-- each of a team left some
+pub record HaveWorked (team : List Worker) (shares : List (Vec KeptBlock Global)) : Type 0 where
+  pub len : length shares ≡ length team
+  pub each : (w : ℕ) (d : Worker) (e : Vec KeptBlock Global) → w < length team
+      → HasWorked (get_or team w d) (hand shares e w)
 
 -- who looks saw worker w of so many before round r of a run
 abbrev pub HasSeenOf : (ℕ → ℕ → List KeptBlock → Type 0) → Run → ℕ → ℕ → ℕ → Type 0

@@ -1,15 +1,15 @@
-//! What the workers of a team left, in order.
+//! What the workers of a team left, in order, and things that are taken from several lists.
 
 ghost use Rattle.std.specs.Prelude.{◌≡◌, ◌≢◌, ◌↔◌, ℕ, ◌+◌, ◌<◌, ◌≤◌, IfOk, [], drop, get_or, length, vec_capacity};
 ghost use Rattle.cm_workers.specs.Dealing.{hand, AreDealt, AreShares};
-ghost use Rattle.cm_resident.specs.Gathering.{IsRowTaken};
+ghost use Rattle.cm_resident.specs.Gathering.{AreFirsts, IsRowTaken};
 
 use cm_bits::NoMemory;
 use std::alloc::Global;
 
-/// All of so many things in order: hand w of `count` has those whose numbers are w modulo `count`, rising. There is room
-/// for them.
-pub(crate) fn in_order<T: Drop>(hands: Vec<Vec<T>>, total: usize, things: Vec<T>) -> Vec<T>
+/// All of so many things in order: hand w of `count` has those whose numbers are w modulo `count`, rising, as the workers of
+/// a team leave their blocks. There is room for them, and no memory is taken.
+pub fn in_order<T: Drop>(hands: Vec<Vec<T>>, total: usize, things: Vec<T>) -> Vec<T>
     requires some { 0 < length hands.items }
     requires shares { AreShares (length hands.items) total hands.items }
     requires none { things.items ≡ [] }
@@ -52,6 +52,20 @@ fn take_first<T: Drop>(hands: &mut Vec<Vec<T>>, w: usize) -> T
     ensures others { (s : ℕ) (e : _) → s ≢ w → hand hands.new.items e s ≡ hand hands.old.items e s }
 {
     hands[w].remove(0)
+}
+
+/// Takes out the first thing of each hand.
+pub(crate) fn take_firsts<T: Drop>(
+    alloc: Global,
+    hands: &mut Vec<Vec<T>>,
+) -> Result<Vec<T>, NoMemory>
+    requires some { (w : ℕ) (e : _) → w < length hands.old.items → 0 < length (hand hands.old.items e w) }
+    ensures value { IfOk result (λ firsts. AreFirsts hands.old.items hands.new.items firsts.items) }
+{
+    let count = hands.len();
+    let mut firsts = room_for(alloc, count)?;
+    take_row(hands, count, &mut firsts);
+    Ok(firsts)
 }
 
 /// Room for so many things.

@@ -3,6 +3,8 @@
 
 mod gathering;
 mod lanes;
+mod laws;
+mod outfit;
 mod resident;
 mod running;
 mod start;
@@ -11,6 +13,8 @@ mod turn;
 mod worker;
 mod worth;
 
+pub use gathering::in_order;
+pub use laws::teams_leave_their_machine;
 pub use resident::Resident;
 pub use teams::team;
 pub use worker::Worker;

@@ -1,7 +1,8 @@
 //! Which lists of acts are not worth sharing out.
 
-ghost use Rattle.std.specs.Prelude.{◌≡◌, ◌<◌, ◌≤◌, ◌^◌};
+ghost use Rattle.std.specs.Prelude.{◌<◌};
 
+use crate::lanes::power_of_two;
 use cm_array::Machine;
 use cm_bits::{Addr, FlagNo};
 use cm_model::Act;
@@ -76,11 +77,4 @@ fn is_at_rest<const N: usize, const CAP: usize>(machine: &Machine<N, CAP>) -> bo
         }
     }
     true
-}
-
-fn power_of_two(exponent: u8) -> u16
-    requires small { exponent ≤ 12 }
-    ensures value { result ≡ 2 ^ exponent }
-{
-    1 << exponent
 }

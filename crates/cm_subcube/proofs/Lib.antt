@@ -8,3 +8,4 @@ mod Stopping
 mod Going
 mod Acting
 pub mod Sparing
+pub mod FewRounds

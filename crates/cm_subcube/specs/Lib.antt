@@ -3,3 +3,4 @@ pub mod Blocks
 pub mod Parcels
 pub mod Local
 pub mod Laws
+pub mod Few

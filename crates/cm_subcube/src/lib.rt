@@ -4,6 +4,7 @@
 mod block;
 mod copying;
 mod exchange;
+mod few;
 mod laws;
 mod local;
 mod parcel;
@@ -11,6 +12,7 @@ mod round;
 
 pub use block::{Block, SplitFault, join, split};
 pub use copying::copy_by_blocks;
+pub use few::rounds_are_few;
 pub use laws::{blocks_are_joined, cuts_are_spared, logs_have_room, rounds_are_followed};
 pub use parcel::Parcel;
 pub use round::{Kind, Round, rounds};

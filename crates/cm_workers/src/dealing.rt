@@ -7,11 +7,7 @@ use cm_bits::NoMemory;
 use std::alloc::Global;
 
 /// Deals things out to so many hands in turn, as cards.
-pub(crate) fn deal<T: Drop>(
-    alloc: Global,
-    things: Vec<T>,
-    count: usize,
-) -> Result<Vec<Vec<T>>, NoMemory>
+pub fn deal<T: Drop>(alloc: Global, things: Vec<T>, count: usize) -> Result<Vec<Vec<T>>, NoMemory>
     requires some { 0 < count }
     ensures value { IfOk result (λ hands. AreDealt count things.items hands.items) }
 {

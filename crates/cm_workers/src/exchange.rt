@@ -7,7 +7,7 @@ use cm_subcube::Kind;
 
 /// Hands over what stands for each of 2^`k` blocks of a cube of so many dimensions, in order of their numbers: what a
 /// block has then is what its giver had.
-pub(crate) fn hand_over<T: Drop>(things: &mut [T], dims: u8, k: u8, kind: Kind)
+pub fn hand_over<T: Drop>(things: &mut [T], dims: u8, k: u8, kind: Kind)
     requires dimension { dims ≤ 12 }
     requires within { k ≤ dims }
     requires kind { CanBeOver dims k kind }

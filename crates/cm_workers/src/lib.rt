@@ -11,6 +11,8 @@ mod shift;
 mod turn;
 mod want;
 
+pub use dealing::deal;
+pub use exchange::hand_over;
 pub use forked::{ForkFault, Forked};
 pub use gate::{Gate, Passage};
 pub use post::Post;

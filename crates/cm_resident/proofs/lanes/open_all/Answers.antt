@@ -1,26 +1,17 @@
-use Rattle.std.proofs.Common.{◌+◌, ◌/◌, ◌%◌, ℕ, None, length, get_or, ap, sym, ◌∙◌}
-use Rattle.cm_resident.specs.Lanes.{Run, ends_each, course}
-use Rattle.cm_resident.proofs.Dealing.{there_more, length_one}
+use Rattle.std.proofs.Common.{rules}
+use Rattle.cm_resident.specs.Lanes.{Run, own, givers}
+use Rattle.cm_resident.specs.Teams.{AreAtPlace}
+use Rattle.cm_resident.proofs.Numbered.{one_more}
 use Rattle.cm_resident.proofs.lanes.open_all.Goals as goal
 
-pub loop-p-preserved : goal.loop-p-preserved
-loop-p-preserved g c =
+pub loop-place-preserved : goal.loop-place-preserved
+loop-place-preserved g c =
     let run : Run = record { n = g.row.N; k = c.args.k; room = g.row.CAP; machine = c.args.machine.now.machine; acts = c.args.acts.now } in
-    let p = c.loop-p.p in
-    let first = c.push_reserved.ensures.items in let second = c.push_reserved-in-loop-p.ensures.items in
-    let from = c.in_ok-from.ensures.from
-    ∙ ap (λ (v : ℕ). course run (p / v) (p % v) 0) c.ends_each-each.ensures.value
-    ∙ ap (λ (q : ℕ). course run (q / ends_each run.k) (q % ends_each run.k) 0) (sym c.loop-p.invariant.first) in
-    let to = c.in_ok-from.ensures.to
-    ∙ ap (λ (v : ℕ). course run (p / v) (p % v) 0) c.ends_each-each.ensures.value
-    ∙ ap (λ (q : ℕ). course run (q / ends_each run.k) (q % ends_each run.k) 0) (sym c.loop-p.invariant.second) in
-    record {
-      first = ap (λ xs. length xs) first ∙ length_one c.loop-p.froms.items _ ∙ ap (λ (x : ℕ). x + 1) c.loop-p.invariant.first;
-      second = ap (λ xs. length xs) second ∙ length_one c.loop-p.tos.items _ ∙ ap (λ (x : ℕ). x + 1) c.loop-p.invariant.second;
-      lanes = record {
-        from = λ q e at. there_more (λ (q : ℕ). course run (q / ends_each run.k) (q % ends_each run.k) 0) c.loop-p.froms.items
-            c.in_ok-from.from c.loop-p.invariant.lanes.from from q e (ap (λ xs. get_or xs q None) (sym first) ∙ at);
-        to = λ q e at. there_more (λ (q : ℕ). course run (q / ends_each run.k) (q % ends_each run.k) 0) c.loop-p.tos.items
-            c.in_ok-from.to c.loop-p.invariant.lanes.to to q e (ap (λ xs. get_or xs q None) (sym second) ∙ at);
-      };
+    let inv = c.loop-place.invariant in record {
+      first_room = search rules;
+      second_room = search rules;
+      sends_are = one_more (AreAtPlace run own 0) c.loop-place.place c.loop-place.sends.items _ c.in_ok-froms.froms
+          inv.sends_are c.push_reserved.ensures.items c.in_ok-froms.ensures.sends;
+      gets_are = one_more (AreAtPlace run givers 0) c.loop-place.place c.loop-place.gets.items _ c.in_ok-froms.tos
+          inv.gets_are c.push_reserved-in-loop-place.ensures.items c.in_ok-froms.ensures.gets;
     }

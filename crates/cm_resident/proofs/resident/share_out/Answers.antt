@@ -1,11 +1,12 @@
-use Rattle.std.proofs.Common.{rules, ◌≡◌, ◌<◌, ◌∙◌, ◌*◌, ◌%◌, ◌^◌, ℕ, length, get_or, refl, subst, sym, arith, lit<}
+use Rattle.std.proofs.Common.{rules, ◌≡◌, ◌<◌, ◌∙◌, ◌*◌, ◌%◌, ◌^◌, ℕ, length, get_or, subst, sym, arith, lit<}
 use Rattle.std.proofs.lemmas.Nat.{one_shl}
+use Rattle.cm_workers.specs.Dealing.{AreShares}
 use Rattle.cm_resident.specs.declared.worker.Worker.{Worker}
 use Rattle.cm_resident.specs.declared.running.Ready.{Ready}
 use Rattle.cm_resident.specs.Lanes.{Run}
+use Rattle.cm_resident.specs.Laws.{AreMachineAfter, LeaveTheirMachine}
 use Rattle.cm_resident.specs.Teams.{IsOfSome}
-use Rattle.cm_resident.proofs.Ending.{shares_left, after_all, parts_after, whole_after}
-use Rattle.cm_resident.proofs.Ending.{joined_after, account_after}
+use Rattle.cm_resident.proofs.Ending.{teams_leave_their_machine, have_worked, account_after}
 use Rattle.cm_resident.proofs.resident.share_out.Goals as goal
 
 pub work_all-requires-clause-team : goal.work_all-requires-clause-team
@@ -28,9 +29,13 @@ in_order-blocks-requires-clause-shares g c =
     let team = c.in_ok-team in let all = c.in_ok-all in let shares = c.in_ok-shares in
     let total : 1 * 2 ^ c.args.k % 2 ^ 64 ≡ 2 ^ c.args.k =
     one_shl c.args.k 64 (omega (arith, c.requires.within, c.clock-clock.ensures.sizes.dimension)) in
-    shares_left run c.args.workers team.team.items all.all.readies.items shares.shares.items c.requires.some
-    team.ensures.count all.ensures.count shares.ensures.count team.ensures.ids team.ensures.value all.ensures.value
-    shares.ensures.value _ total
+    let left : LeaveTheirMachine run shares.shares.items =
+    teams_leave_their_machine run c.args.workers team.team.items shares.shares.items c.requires.some
+    c.clock-clock.ensures.whole
+    (record { len = team.ensures.count; ids = team.ensures.ids; each = team.ensures.value })
+    (have_worked team.team.items all.all.readies.items shares.shares.items all.ensures.count shares.ensures.count
+    all.ensures.value shares.ensures.value) in
+    subst (λ (t : ℕ). AreShares (length shares.shares.items) t shares.shares.items) (sym total) left.are_shares
 
 pub join-requires : goal.join-requires
 join-requires g c =
@@ -38,15 +43,15 @@ join-requires g c =
     let team = c.in_ok-team in let all = c.in_ok-all in let shares = c.in_ok-shares in
     let total : 1 * 2 ^ c.args.k % 2 ^ 64 ≡ 2 ^ c.args.k =
     one_shl c.args.k 64 (omega (arith, c.requires.within, c.clock-clock.ensures.sizes.dimension)) in
-    let after = after_all run c.args.workers team.team.items all.all.readies.items shares.shares.items c.requires.some
-    team.ensures.count all.ensures.count shares.ensures.count team.ensures.ids team.ensures.value all.ensures.value
-    shares.ensures.value _ c.in_order-blocks.result.items total c.in_order-blocks.ensures.count
-    c.in_order-blocks.ensures.value in (
+    let left : LeaveTheirMachine run shares.shares.items =
+    teams_leave_their_machine run c.args.workers team.team.items shares.shares.items c.requires.some
+    c.clock-clock.ensures.whole
+    (record { len = team.ensures.count; ids = team.ensures.ids; each = team.ensures.value })
+    (have_worked team.team.items all.all.readies.items shares.shares.items all.ensures.count shares.ensures.count
+    all.ensures.value shares.ensures.value) in (
       lit< tt,
-      whole_after g.row.N g.row.CAP c.args.k c.args.machine.now.machine c.args.acts.now _
-          (omega (arith, c.requires.within)) c.clock-clock.ensures.whole
-          (parts_after g.row.N g.row.CAP g.row.N c.args.k c.args.machine.now.machine c.args.acts.now
-          c.in_order-blocks.result.items refl c.clock-clock.ensures.whole after),
+      (left.machine c.in_order-blocks.result.items (c.in_order-blocks.ensures.count ∙ total)
+          c.in_order-blocks.ensures.value).whole,
     )
 
 pub returns-clause-ok : goal.returns-clause-ok
@@ -55,14 +60,15 @@ returns-clause-ok g c =
     let team = c.in_ok-team in let all = c.in_ok-all in let shares = c.in_ok-shares in
     let total : 1 * 2 ^ c.args.k % 2 ^ 64 ≡ 2 ^ c.args.k =
     one_shl c.args.k 64 (omega (arith, c.requires.within, c.clock-clock.ensures.sizes.dimension)) in
-    let after = after_all run c.args.workers team.team.items all.all.readies.items shares.shares.items c.requires.some
-    team.ensures.count all.ensures.count shares.ensures.count team.ensures.ids team.ensures.value all.ensures.value
-    shares.ensures.value _ c.in_order-blocks.result.items total c.in_order-blocks.ensures.count
-    c.in_order-blocks.ensures.value in
-    c.join.ensures.value ∙ joined_after g.row.N g.row.CAP c.args.k c.args.machine.now.machine
-    c.args.acts.now _ (omega (arith, c.requires.within)) c.clock-clock.ensures.whole
-    (parts_after g.row.N g.row.CAP g.row.N c.args.k c.args.machine.now.machine c.args.acts.now
-    c.in_order-blocks.result.items refl c.clock-clock.ensures.whole after)
+    let left : LeaveTheirMachine run shares.shares.items =
+    teams_leave_their_machine run c.args.workers team.team.items shares.shares.items c.requires.some
+    c.clock-clock.ensures.whole
+    (record { len = team.ensures.count; ids = team.ensures.ids; each = team.ensures.value })
+    (have_worked team.team.items all.all.readies.items shares.shares.items all.ensures.count shares.ensures.count
+    all.ensures.value shares.ensures.value) in
+    c.join.ensures.value
+    ∙ (left.machine c.in_order-blocks.result.items (c.in_order-blocks.ensures.count ∙ total)
+    c.in_order-blocks.ensures.value).same
 
 pub returns-clause-account : goal.returns-clause-account
 returns-clause-account g c =

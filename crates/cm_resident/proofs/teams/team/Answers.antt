@@ -1,54 +1,63 @@
-use Rattle.std.proofs.Common.{◌≡◌, ◌+◌, ◌<◌, ◌≤◌, ℕ, List, [], ◌∷◌, ◌++◌, length, get_or, subst, ap, sym, refl, ◌∙◌, arith, ⊎_elim}
-use Rattle.std.proofs.lemmas.Bool.{cases_lt}
+use Rattle.std.proofs.Common.{rules, ◌≡◌, ℕ, ◌<◌, ◌∙◌, refl, subst, sym, ap, arith, lit<}
 use Rattle.cm_subcube.specs.Rounds.{rounds_of}
+use Rattle.cm_workers.specs.Dealing.{AreDealt}
 use Rattle.cm_resident.specs.declared.worker.Worker.{Worker}
 use Rattle.cm_resident.specs.Lanes.{Run}
-use Rattle.cm_resident.specs.Teams.{IsOfTeam}
-use Rattle.cm_resident.proofs.Dealing.{length_one, last_of, before_last}
+use Rattle.cm_resident.specs.Gathering.{AreAll}
+use Rattle.cm_resident.specs.Teams.{HasOutfits, IsOfTeam}
+use Rattle.cm_resident.proofs.Fitting.{are_hands}
+use Rattle.cm_resident.proofs.Numbered.{none_yet, one_more, first_is, rest_are}
+use Rattle.cm_resident.proofs.Opening.{few_rounds, in_time}
 use Rattle.cm_resident.proofs.teams.team.Goals as goal
 
+pub outfits-requires : goal.outfits-requires
+outfits-requires g c = (
+  lit< tt,
+  (
+    c.requires.within,
+    (
+      few_rounds g.row.N c.args.k c.args.acts.now c.dims-dims.ensures.sizes.dimension c.requires.within c.requires.long,
+      (
+        c.in-Ok.ensures.cycles,
+        in_time c.args.machine.now.machine.clock _ c.args.acts.now c.requires.clock c.in-Ok.ensures.cycles,
+      ),
+    ),
+  ),
+)
+
 pub loop-w-init : goal.loop-w-init
-loop-w-init g c = record {
-  count = ap (λ xs. length xs) c.in_ok-team.ensures.items;
-  lanes = c.in_ok-ends.ensures.value;
-  blocks = c.in_ok-blocks.ensures.value c.args.acts.now (sym c.in-Ok.ensures.cycles);
-  ids = λ w d l. absurd (omega (arith, l));
-  each = λ w d l. absurd (omega (arith, l));
-}
+loop-w-init g c =
+    let run : Run = record { n = g.row.N; k = c.args.k; room = g.row.CAP; machine = c.args.machine.now.machine; acts = c.args.acts.now } in
+    record {
+      room = search rules;
+      left = are_hands run c.args.workers c.in_ok-outfits.outfits.items c.in_ok-hands.hands.items
+          c.in_ok-outfits.ensures.value
+          (subst (λ (m : ℕ). AreDealt m c.in_ok-outfits.outfits.items c.in_ok-hands.hands.items) c.from.ensures
+          c.in_ok-hands.ensures.value);
+      team_is = subst (λ (xs : _). AreAll (λ w worker. (worker.id ≡ w) × IsOfTeam run c.args.workers worker) 0 xs)
+          (sym c.in_ok-team.ensures.items)
+          (none_yet (λ (w : ℕ) (worker : Worker). (worker.id ≡ w) × IsOfTeam run c.args.workers worker));
+    }
 
 pub loop-w-preserved : goal.loop-w-preserved
 loop-w-preserved g c =
     let run : Run = record { n = g.row.N; k = c.args.k; room = g.row.CAP; machine = c.args.machine.now.machine; acts = c.args.acts.now } in
-    let n : run.n ≡ c.dims-dims.result = sym c.dims-dims.ensures.value in
     let inv = c.loop-w.invariant in
-    let pushed = c.push_reserved.ensures.items
-    ∙ ap (λ (xs : List Worker). xs ++ c.in_ok-worker.worker ∷ []) c.in_ok-reserve.ensures.items in
+    let w = c.loop-w.w in
+    let below : w < c.args.workers = search rules in
+    let acts_are = c.in_ok-own_acts.ensures.value in
     let rounds_are = c.in_ok-own_rounds.ensures.value ∙ c.deref.ensures.value ∙ c.in_ok-rounds.ensures.value
     ∙ ap (λ (d : ℕ). rounds_of d c.args.k c.args.acts.now) c.dims-dims.ensures.value in
-    let one : IsOfTeam run c.args.workers c.in_ok-worker.worker =
-    subst (λ (v : ℕ). IsOfTeam run v c.in_ok-worker.worker) c.from-in-loop-w.ensures
-    (c.in_ok-worker.ensures.worker run n refl c.in_ok-own_acts.ensures.value rounds_are inv.lanes inv.blocks) in record {
-      count = ap (λ xs. length xs) pushed ∙ length_one c.loop-w.team.items c.in_ok-worker.worker
-          ∙ ap (λ (v : ℕ). v + 1) inv.count;
-      lanes = c.deal_worker.ensures.lanes run n refl inv.lanes;
-      blocks = c.deal_worker.ensures.blocks run inv.blocks;
-      ids = λ w d l. ap (λ (xs : List Worker). (get_or xs w d).id) pushed ∙ ⊎_elim
-          (λ (less : w < c.loop-w.w). ap (λ (v : Worker). v.id)
-          (before_last c.loop-w.team.items c.in_ok-worker.worker d w (let f = inv.count in omega (arith, f, less)))
-          ∙ inv.ids w d less)
-          (λ (no_less : c.loop-w.w ≤ w).
-          let here : w ≡ length c.loop-w.team.items = (let f = inv.count in omega (arith, f, no_less, l)) in
-          ap (λ (v : ℕ). (get_or (c.loop-w.team.items ++ c.in_ok-worker.worker ∷ []) v d).id) here
-          ∙ ap (λ (v : Worker). v.id) (last_of c.loop-w.team.items c.in_ok-worker.worker d)
-          ∙ c.in_ok-worker.ensures.id ∙ sym inv.count ∙ sym here)
-          (cases_lt w c.loop-w.w);
-      each = λ w d l. subst (λ (xs : List Worker). IsOfTeam run c.args.workers (get_or xs w d)) (sym pushed) (⊎_elim
-          (λ (less : w < c.loop-w.w). subst (λ (v : Worker). IsOfTeam run c.args.workers v)
-          (sym (before_last c.loop-w.team.items c.in_ok-worker.worker d w (let f = inv.count in omega (arith, f, less))))
-          (inv.each w d less))
-          (λ (no_less : c.loop-w.w ≤ w). let here : w ≡ length c.loop-w.team.items =
-          (let f = inv.count in omega (arith, f, no_less, l)) in
-          subst (λ (v : ℕ). IsOfTeam run c.args.workers (get_or (c.loop-w.team.items ++ c.in_ok-worker.worker ∷ []) v d)) (sym here)
-          (subst (λ (v : Worker). IsOfTeam run c.args.workers v) (sym (last_of c.loop-w.team.items c.in_ok-worker.worker d)) one))
-          (cases_lt w c.loop-w.w));
+    let own : HasOutfits run c.args.workers w c.remove-own.result.items =
+    first_is (λ v hand. HasOutfits run c.args.workers v hand.items) w c.args.workers c.loop-w.hands.items
+    c.remove-own.result inv.left below c.remove-own.ensures.value in
+    let one : IsOfTeam run c.args.workers c.in_ok-worker_of.field-0 =
+    c.in_ok-worker_of.ensures.worker run c.args.workers refl c.requires.within acts_are rounds_are below
+    (omega (arith, below, c.requires.few)) own in
+    record {
+      room = search rules;
+      left = rest_are (λ v hand. HasOutfits run c.args.workers v hand.items) w c.args.workers c.loop-w.hands.items
+          c.remove-own.new.self.items inv.left below c.remove-own.ensures.by_index.2;
+      team_is = one_more (λ (v : ℕ) (worker : Worker). (worker.id ≡ v) × IsOfTeam run c.args.workers worker) w
+          c.loop-w.team.items _ _ inv.team_is c.push_reserved.ensures.items (c.in_ok-worker_of.ensures.id, one);
     }

@@ -1,0 +1,8 @@
+use Rattle.cm_resident.proofs.Fitting.{just_cut}
+use Rattle.cm_resident.proofs.outfit.cut_up.Goals as goal
+
+pub returns-in-Ok : goal.returns-in-Ok
+returns-in-Ok g c = record {
+  value = λ acts counted. just_cut g.row.N g.row.CAP c.args.k c.args.cycles c.args.machine.now.machine acts
+      _ c.in-Ok.ensures.value c.in-Ok.ensures.fresh counted c.requires.clock;
+}

@@ -1,0 +1,47 @@
+use Rattle.std.proofs.Common.{rules, ◌≡◌, ℕ, ◌<◌, ◌^◌, List, length, refl, subst, sym, arith}
+use Rattle.cm_resident.specs.declared.outfit.Outfit.{Outfit}
+use Rattle.cm_resident.specs.Lanes.{Run, ends_each, own, givers}
+use Rattle.cm_resident.specs.Standing.{IsCut}
+use Rattle.cm_resident.specs.Gathering.{AreAll}
+use Rattle.cm_resident.specs.Teams.{IsOutfit}
+use Rattle.cm_resident.proofs.Numbered.{none_yet, one_more, first_is, rest_are}
+use Rattle.cm_resident.proofs.Opening.{block_ends, ends_left}
+use Rattle.cm_resident.proofs.outfit.outfits.Goals as goal
+
+pub loop-b-init : goal.loop-b-init
+loop-b-init g c =
+    let run : Run = record { n = g.row.N; k = c.args.k; room = g.row.CAP; machine = c.args.machine.now.machine; acts = c.args.acts.now } in
+    record {
+      room = search rules;
+      blocks_left = c.in_ok-blocks.ensures.value c.args.acts.now (sym c.requires.cycles);
+      sends_left = c.in_ok-sends.ensures.sends;
+      gets_left = c.in_ok-sends.ensures.gets;
+      outfits_are = subst (λ (xs : List Outfit). AreAll (IsOutfit run) 0 xs) (sym c.in_ok-outfits.ensures.items)
+          (none_yet (IsOutfit run));
+    }
+
+pub loop-b-preserved : goal.loop-b-preserved
+loop-b-preserved g c =
+    let run : Run = record { n = g.row.N; k = c.args.k; room = g.row.CAP; machine = c.args.machine.now.machine; acts = c.args.acts.now } in
+    let inv = c.loop-b.invariant in let b = c.loop-b._b in let each = ends_each run.k in
+    let cut = c.in_ok-blocks.ensures.value c.args.acts.now (sym c.requires.cycles) in
+    let count : c.len-count.result ≡ length c.in_ok-blocks.blocks.items = search rules in
+    let less : b < c.len-count.result = search rules in
+    let below : b < 2 ^ run.k = (let f = cut.len in omega (arith, f, count, less)) in
+    let from = c.in_ok-take_firsts.ensures.value in let to = c.in_ok-take_firsts-2.ensures.value in record {
+      room = search rules;
+      blocks_left = rest_are (IsCut run) b (2 ^ run.k) c.loop-b.blocks.items c.remove-block.new.self.items
+          inv.blocks_left below c.remove-block.ensures.by_index.2;
+      sends_left = ends_left run own b each c.loop-b.sends.items c.take_firsts.new.hands.items inv.sends_left below _ from;
+      gets_left = ends_left run givers b each c.loop-b.gets.items c.take_firsts-in-loop-b.new.hands.items inv.gets_left
+          below _ to;
+      outfits_are = one_more (IsOutfit run) b c.loop-b.outfits.items _ _ inv.outfits_are c.push_reserved.ensures.items
+          (record {
+            cut = first_is (IsCut run) b (2 ^ run.k) c.loop-b.blocks.items c.remove-block.result inv.blocks_left below
+                c.remove-block.ensures.value;
+            sends_are = block_ends run own b each c.loop-b.sends.items c.take_firsts.new.hands.items inv.sends_left
+                below _ from refl;
+            gets_are = block_ends run givers b each c.loop-b.gets.items c.take_firsts-in-loop-b.new.hands.items
+                inv.gets_left below _ to refl;
+          });
+    }

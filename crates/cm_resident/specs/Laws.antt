@@ -1,0 +1,28 @@
+-- The law of a team, the contract of a function of its name. Ours.
+use Rattle.std.specs.Prelude.{◌≡◌, ℕ, ◌<◌, ◌^◌, List, length, map, Vec}
+use Rattle.std.specs.declared.alloc.Global.{Global}
+use Rattle.cm_model.specs.Machine.{run_of}
+use Rattle.cm_model.specs.Keeping.{IsMachine}
+use Rattle.cm_array.specs.Cuts.{joined, AreWhole}
+use Rattle.cm_subcube.specs.Blocks.{KeptBlock}
+use Rattle.cm_workers.specs.Dealing.{AreDealt, AreShares}
+use Rattle.cm_resident.specs.declared.worker.Worker.{Worker}
+use Rattle.cm_resident.specs.Lanes.{Run}
+use Rattle.cm_resident.specs.Teams.{IsTeam, HaveWorked}
+
+-- blocks in their order are a whole machine, that after a run
+pub record AreMachineAfter (run : Run) (blocks : List KeptBlock) : Type 0 where
+  pub whole : AreWhole run.n run.room (map (λ b. b.kept.part) blocks)
+  pub same : joined (map (λ b. b.kept.part) blocks) ≡ run_of run.n run.room run.machine run.acts
+
+-- what the workers of a team left are shares of the blocks, which in their order are the machine after the run
+pub record LeaveTheirMachine (run : Run) (shares : List (Vec KeptBlock Global)) : Type 0 where
+  pub are_shares : AreShares (length shares) (2 ^ run.k) shares
+  pub machine : (blocks : List KeptBlock) → length blocks ≡ 2 ^ run.k → AreDealt (length shares) blocks shares
+      → AreMachineAfter run blocks
+
+abbrev pub TeamsLeaveTheirMachine : Type 0
+TeamsLeaveTheirMachine =
+    (run : Run) (count : ℕ) (team : List Worker) (shares : List (Vec KeptBlock Global)) → 0 < count
+    → IsMachine run.n run.room run.machine → IsTeam run count team → HaveWorked team shares
+    → LeaveTheirMachine run shares

@@ -1,0 +1,80 @@
+//! What the workers of a team get for each block of a machine.
+
+ghost use Rattle.std.specs.Prelude.{◌≡◌, ℕ, ◌+◌, ◌-◌, ◌/◌, ◌<◌, ◌≤◌, ◌^◌, IfOk, List, length};
+ghost use Rattle.cm_model.specs.declared.act.Act.{Act};
+ghost use Rattle.cm_array.specs.Acts.{cycles_in};
+ghost use Rattle.cm_subcube.specs.Rounds.{rounds_of};
+ghost use Rattle.cm_resident.specs.Lanes.{Run};
+ghost use Rattle.cm_resident.specs.Standing.{IsCut};
+ghost use Rattle.cm_resident.specs.Gathering.{AreAll, AreFrom};
+ghost use Rattle.cm_resident.specs.Teams.{IsOutfit};
+
+use crate::gathering::take_firsts;
+use crate::lanes::{Ends, open_all};
+use cm_array::Machine;
+use cm_bits::NoMemory;
+use cm_board::{FromEnd, ToEnd};
+use cm_model::Act;
+use cm_subcube::{Block, Parcel, SplitFault, split};
+use std::alloc::Global;
+
+/// A block, and its ends by place: those over which it sends, and those over which it gets.
+#[derive(Drop)]
+pub(crate) struct Outfit {
+    pub(crate) block: Block,
+    pub(crate) sends: Vec<FromEnd<Parcel>>,
+    pub(crate) gets: Vec<ToEnd<Parcel>>,
+}
+
+/// The blocks of a machine that is cut into 2^`k`, in their order, with the ends of their lanes for these acts, which have so
+/// many petit cycles.
+pub(crate) fn outfits<const N: usize, const CAP: usize>(
+    alloc: Global,
+    machine: &Machine<N, CAP>,
+    acts: &[Act],
+    k: u8,
+    cycles: usize,
+) -> Result<Vec<Outfit>, NoMemory>
+    requires within { k ≤ N - N / 2 }
+    requires few { length (rounds_of N k acts.now) ≤ 4416 }
+    requires cycles { cycles ≡ cycles_in acts.now }
+    requires clock { machine.now.machine.clock + cycles < 2 ^ 63 }
+    ensures value { IfOk result (λ outfits. AreAll (IsOutfit
+        (record { n = N; k = k; room = CAP; machine = machine.now.machine; acts = acts.now })) (2 ^ k) outfits.items) }
+{
+    let mut blocks = cut_up(alloc, machine, k, cycles)?;
+    let Ends {
+        mut sends,
+        mut gets,
+    } = open_all(alloc, machine, acts, k)?;
+    let count = blocks.len();
+    let mut outfits = Vec::with_capacity(alloc, count)?;
+    for _b in 0..count {
+        let block = blocks.remove(0);
+        outfits.push_reserved(Outfit {
+            block,
+            sends: take_firsts(alloc, &mut sends)?,
+            gets: take_firsts(alloc, &mut gets)?,
+        });
+    }
+    Ok(outfits)
+}
+
+/// The blocks of a machine, with room in their logs for so many petit cycles.
+fn cut_up<const N: usize, const CAP: usize>(
+    alloc: Global,
+    machine: &Machine<N, CAP>,
+    k: u8,
+    cycles: usize,
+) -> Result<Vec<Block>, NoMemory>
+    requires within { k ≤ N - N / 2 }
+    requires clock { machine.now.machine.clock + cycles < 2 ^ 63 }
+    ensures value { IfOk result (λ blocks. (acts : List Act) → cycles_in acts ≡ cycles → AreFrom (IsCut
+        (record { n = N; k = k; room = CAP; machine = machine.now.machine; acts = acts })) 0 (2 ^ k) blocks.items) }
+{
+    match split(alloc, machine, k, cycles) {
+        Ok(blocks) => Ok(blocks),
+        Err(SplitFault::Memory) => Err(NoMemory),
+        Err(SplitFault::Split) => unreachable!(),
+    }
+}
