@@ -7,3 +7,4 @@ pub mod Agreement
 pub mod Programs
 pub mod PlainSources
 pub mod Standing
+pub mod StandardFacts

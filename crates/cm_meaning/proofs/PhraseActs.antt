@@ -1,5 +1,5 @@
 -- The acts of a phrase that is not refused are acts that a program can have.
-use Rattle.std.proofs.Common.{◌≡◌, ℕ, zero, suc, ◌+◌, ◌<◌, ◌≤◌, Bool, true, false, map, None, refl, arith}
+use Rattle.std.proofs.Common.{◌≡◌, ℕ, zero, suc, ◌+◌, ◌<◌, ◌≤◌, Bool, true, false, map, None, eqb, refl, arith}
 use Rattle.std.specs.Prelude.{if◌then◌else◌}
 use Rattle.std.specs.List.{range_with_len}
 use Rattle.std.proofs.lemmas.Bool.Decides.{nat_tests}
@@ -17,8 +17,8 @@ use Rattle.cm_language.proofs.ProgramParts.{HasFlag}
 use Rattle.cm_language.proofs.Instructions.{AreInstructions, as_acts, are-flat_map, is_clear, are_bits}
 use Rattle.cm_language.proofs.Instructions.{AreSmall, small_by_test}
 use Rattle.cm_phrases.specs.declared.phrase.Phrase.{Phrase}
-use Rattle.cm_phrases.specs.declared.phrase.Phrase.TheVariants.{News, Chain, And, Or, Xor, Not, AddNumber}
-use Rattle.cm_phrases.specs.Acts.{nanos, acts_of, fetch_bit, fetch_all, add_bit}
+use Rattle.cm_phrases.specs.declared.phrase.Phrase.TheVariants.{News, Chain, And, Or, Xor, Not, AddNumber, Test, Keep}
+use Rattle.cm_phrases.specs.Acts.{nanos, acts_of, fetch_bit, fetch_all, add_bit, keep_bit}
 use Rattle.cm_phrases.specs.Faults.{misfits, first_fault}
 use Rattle.cm_phrases.specs.Laws.{HasFields}
 use Rattle.cm_phrases.proofs.AllPhrases.{accepted}
@@ -91,6 +91,23 @@ are_sums c d v j (suc n) h within =
       are_sums c d v (j + 1) n h (omega arith),
     )
 
+-- those that keep a flag
+keeps_small : (f : ℕ) (b : Bool) → f < 16 → AreSmall f 8 (if b then 0xaa else 0x00) 0x00
+keeps_small f true h =
+    record { read_flag = h; write_flag = omega arith; memory_table = omega arith; flag_table = omega arith }
+keeps_small f false h =
+    record { read_flag = h; write_flag = omega arith; memory_table = omega arith; flag_table = omega arith }
+
+are_kept : (c : Context) (d : Span) (f j n : ℕ) → HasFlag c → f < 16 → d.at + j + n ≤ 4096
+    → AreInstructions (map (keep_bit c d f) (range_with_len j n))
+are_kept c d f j zero h small within = tt
+are_kept c d f j (suc n) h small within =
+    let inside : d.at + j < 4096 = omega arith in (
+      is_nano c (d.at + j) (d.at + j) f 8 (if eqb j 0 then 0xaa else 0x00) 0x00 North h inside inside
+          (keeps_small f (eqb j 0) small),
+      are_kept c d f (j + 1) n h small (omega arith),
+    )
+
 -- the instructions of each phrase that fits
 are_nanos : (phrase : Phrase) (c : Context) → HasFlag c → HasFields phrase → misfits phrase ≡ false
     → AreInstructions (nanos phrase c)
@@ -104,6 +121,11 @@ are_nanos (Not d) c h fields fits =
     are_bits c d d 8 8 0x0f 0x00 h fields.within fields.within (small_by_test 8 8 0x0f 0x00 refl)
 are_nanos (AddNumber d v) c h fields fits =
     (is_clear c 7 h (omega arith), are_sums c d v 0 d.len h (omega (arith, fields.within)))
+are_nanos (Test f s) c h fields fits =
+    let small : AreSmall f f 0xf0 0xfa =
+    record { read_flag = fields.1; write_flag = fields.1; memory_table = omega arith; flag_table = omega arith } in
+    (is_clear c f h fields.1, are_bits c s s f f 0xf0 0xfa h fields.0.within fields.0.within small)
+are_nanos (Keep d f) c h fields fits = are_kept c d f 0 d.len h fields.1 (omega (arith, fields.0.within))
 
 -- the acts of a phrase that is not refused are acts of programs
 pub acts_of-program : (phrase : Phrase) (c : Context) → HasFlag c → HasFields phrase → first_fault phrase c ≡ None

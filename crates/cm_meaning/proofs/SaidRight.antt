@@ -1,5 +1,5 @@
 -- What a line of a source says is a program's reading again.
-use Rattle.std.proofs.Common.{◌≡◌, ℕ, ◌≤◌, Bool, true, false, Option, None, Some, Result, Ok, Err, List, [], ◌∷◌}
+use Rattle.std.proofs.Common.{◌≡◌, ℕ, ◌<◌, ◌≤◌, Bool, true, false, Option, None, Some, Result, Ok, Err, List, [], ◌∷◌}
 use Rattle.std.proofs.Common.{◌++◌, length, refl, sym, subst, arith}
 use Rattle.std.specs.Prelude.{if◌then◌else◌, nat_lt}
 use Rattle.std.proofs.lemmas.Bool.Decides.{nat_tests}
@@ -10,12 +10,12 @@ use Rattle.cm_model.specs.declared.act.Act.{Act}
 use Rattle.cm_language.specs.declared.fault.AsmKind.{AsmKind}
 use Rattle.cm_language.specs.declared.fault.AsmKind.TheVariants as kind
 use Rattle.cm_language.specs.declared.fault.MacroFault.{MacroFault}
-use Rattle.cm_language.specs.Lines.{◌>>=◌, number_operand, direction_of, field_operand, one_field, two_fields}
+use Rattle.cm_language.specs.Lines.{◌>>=◌, operand_of, number_operand, direction_of, field_operand, one_field, two_fields}
 use Rattle.cm_language.specs.Names.{NamedField}
 use Rattle.cm_language.specs.Program.{MOST_ACTS, Reading, with_acts, after_words, unless_faulty}
 use Rattle.cm_language.specs.Whole.{AreProgramActs}
 use Rattle.cm_language.proofs.ProgramParts.{AreFields, are_fields, acts-append}
-use Rattle.cm_language.proofs.OperandsRead.{if_ok-then, any_ok, field_ok, one_field_ok, two_fields_ok}
+use Rattle.cm_language.proofs.OperandsRead.{if_ok-then, any_ok, operand_ok, field_ok, one_field_ok, two_fields_ok}
 use Rattle.cm_language.proofs.TextsRead.{IsReading, after_lines_ok}
 use Rattle.cm_phrases.specs.declared.phrase.Phrase.{Phrase}
 use Rattle.cm_phrases.specs.declared.phrase.Phrase.TheVariants as phrase
@@ -24,7 +24,7 @@ use Rattle.cm_phrases.specs.Faults.{first_fault}
 use Rattle.cm_phrases.specs.Laws.{HasFields}
 use Rattle.cm_source.specs.declared.verb.PhraseVerb.{PhraseVerb}
 use Rattle.cm_source.specs.declared.verb.PhraseVerb.TheVariants as verb
-use Rattle.cm_source.specs.Says.{news_of, sum_of, phrase_with, phrase_of}
+use Rattle.cm_source.specs.Says.{news_of, sum_of, tested_of, kept_of, phrase_with, phrase_of}
 use Rattle.cm_source.specs.Expansion.{with_phrase}
 use Rattle.cm_meaning.specs.Meaning.{after_phrase, after_said}
 use Rattle.cm_meaning.proofs.PhraseActs.{acts_of-program}
@@ -47,6 +47,22 @@ sum_ok fields (d ∷ v ∷ []) are =
     if_ok-then (number_operand v) _ (λ n. Unit {0}) _ (any_ok (number_operand v)) (λ v' any. fd))
 sum_ok fields _ are = tt
 
+-- those of `test`
+tested_ok : (fields : List NamedField) (words : List (List ℕ)) → AreFields fields
+    → IfOk (tested_of fields words) HasFields
+tested_ok fields (f ∷ s ∷ []) are =
+    if_ok-then (operand_of 16 f) _ (λ n. n < 16) _ (operand_ok 16 f) (λ f' small.
+    if_ok-then (field_operand fields s) _ IsField _ (field_ok fields s are) (λ s' fs. (fs, small)))
+tested_ok fields _ are = tt
+
+-- those of `keep`
+kept_ok : (fields : List NamedField) (words : List (List ℕ)) → AreFields fields
+    → IfOk (kept_of fields words) HasFields
+kept_ok fields (d ∷ f ∷ []) are =
+    if_ok-then (field_operand fields d) _ IsField _ (field_ok fields d are) (λ d' fd.
+    if_ok-then (operand_of 16 f) _ (λ n. n < 16) _ (operand_ok 16 f) (λ f' small. (fd, small)))
+kept_ok fields _ are = tt
+
 -- those of two fields
 by_two : (fields : List NamedField) (words : List (List ℕ)) (f : Span × Span → Phrase) → AreFields fields
     → ((both : Span × Span) → IsField both.0 × IsField both.1 → HasFields (f both))
@@ -66,6 +82,8 @@ phrase_with_ok fields verb.Xor words are = by_two fields words (λ both. phrase.
 phrase_with_ok fields verb.Not words are = if_ok-then (one_field fields words) _ IsField _
     (one_field_ok fields words are) (λ d is. is)
 phrase_with_ok fields verb.AddNumber words are = sum_ok fields words are
+phrase_with_ok fields verb.Test words are = tested_ok fields words are
+phrase_with_ok fields verb.Keep words are = kept_ok fields words are
 
 pub phrase_ok : (fields : List NamedField) (v : PhraseVerb) (words : List (List ℕ)) → AreFields fields
     → IfOk (phrase_of fields v words) HasFields
