@@ -9,7 +9,7 @@ struct Good {
     program: &'static str,
 }
 
-static GOOD: [Good; 22] = [
+static GOOD: [Good; 24] = [
     Good {
         source: "",
         program: "",
@@ -75,6 +75,23 @@ nano 1 3 8 8 8 0 0xc0 0x00 n ; 3
 nano 0 0 8 7 8 0 0xf0 0x00 n ; 2
 nano 0 0 7 7 8 0 0x5a 0xa0 n ; 2
 nano 1 1 7 7 8 0 0xa5 0xfa n ; 2
+",
+    },
+    Good {
+        source: "field x 4 2\nconstant F 9\nunless 3\ntest F x\n",
+        program: "field x 4 2 ; 1
+unless 3 ; 3
+nano 0 0 8 9 3 0 0xf0 0x00 n ; 4
+nano 4 4 9 9 3 0 0xf0 0xfa n ; 4
+nano 5 5 9 9 3 0 0xf0 0xfa n ; 4
+",
+    },
+    Good {
+        source: "field x 4 2\nif 10\nkeep x 10\n",
+        program: "field x 4 2 ; 1
+if 10 ; 2
+nano 4 4 10 8 10 1 0xaa 0x00 n ; 3
+nano 5 5 10 8 10 1 0x00 0x00 n ; 3
 ",
     },
     Good {
@@ -147,7 +164,7 @@ struct Bad {
     kind: SourceKind,
 }
 
-static BAD: [Bad; 44] = [
+static BAD: [Bad; 53] = [
     Bad {
         source: "what",
         line: 1,
@@ -187,6 +204,51 @@ static BAD: [Bad; 44] = [
         source: "field x 0 3\nadd x 0x10000000000000000",
         line: 2,
         kind: SourceKind::Asm(AsmKind::Name),
+    },
+    Bad {
+        source: "test 1 x",
+        line: 1,
+        kind: SourceKind::Asm(AsmKind::Name),
+    },
+    Bad {
+        source: "field x 0 3\ntest 16 x",
+        line: 2,
+        kind: SourceKind::Asm(AsmKind::Number),
+    },
+    Bad {
+        source: "field x 0 3\ntest x 1",
+        line: 2,
+        kind: SourceKind::Asm(AsmKind::Number),
+    },
+    Bad {
+        source: "field x 0 3\ntest 1",
+        line: 2,
+        kind: SourceKind::Asm(AsmKind::Operands),
+    },
+    Bad {
+        source: "field x 0 3\ntest 8 x",
+        line: 2,
+        kind: SourceKind::Asm(AsmKind::Scratch),
+    },
+    Bad {
+        source: "field x 0 3\nif 4\ntest 4 x",
+        line: 3,
+        kind: SourceKind::Asm(AsmKind::Scratch),
+    },
+    Bad {
+        source: "field x 0 3\nkeep y 1",
+        line: 2,
+        kind: SourceKind::Asm(AsmKind::Name),
+    },
+    Bad {
+        source: "field x 0 3\nkeep x 16",
+        line: 2,
+        kind: SourceKind::Asm(AsmKind::Number),
+    },
+    Bad {
+        source: "field x 0 3\nkeep x 1 1",
+        line: 2,
+        kind: SourceKind::Asm(AsmKind::Operands),
     },
     Bad {
         source: "news x x n",

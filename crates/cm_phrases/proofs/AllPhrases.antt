@@ -31,31 +31,33 @@ use Rattle.cm_language.specs.declared.fault.MacroFault.{MacroFault}
 use Rattle.cm_language.specs.declared.fault.MacroFault.TheVariants as fault
 use Rattle.cm_language.specs.Effect.{selected, size, value_of}
 use Rattle.cm_language.specs.Acts.{nano, each_bit}
-use Rattle.cm_language.specs.Faults.{is_partly, lengths_differ}
+use Rattle.cm_language.specs.Faults.{is_partly, lengths_differ, is_fixed}
 use Rattle.cm_language.proofs.Bits.{reads}
 use Rattle.cm_language.proofs.Steps.{run, Free, AllUnder, AllHome, under-each, home-each, run-unselected}
 use Rattle.cm_language.proofs.Loops.{IsBehind}
 use Rattle.cm_language.proofs.Selected.{Whole, Pair}
 use Rattle.cm_language.proofs.Lifting.{each_place, with_chips, lifted}
 use Rattle.cm_phrases.specs.declared.phrase.Phrase.{Phrase}
-use Rattle.cm_phrases.specs.declared.phrase.Phrase.TheVariants.{News, Chain, And, Or, Xor, Not, AddNumber}
+use Rattle.cm_phrases.specs.declared.phrase.Phrase.TheVariants.{News, Chain, And, Or, Xor, Not, AddNumber, Test, Keep}
 use Rattle.cm_phrases.specs.Effect.{sender, one_of, assigned, effect, differ}
-use Rattle.cm_phrases.specs.Acts.{nanos, acts_of, add_bit, fetch_bit}
-use Rattle.cm_phrases.specs.Faults.{overlaps, misfits, writes, writes_condition, first_fault}
+use Rattle.cm_phrases.specs.Acts.{nanos, acts_of, add_bit, keep_bit, fetch_bit}
+use Rattle.cm_phrases.specs.Faults.{overlaps, misfits, writes, writes_condition, names_fixed, first_fault}
 use Rattle.cm_phrases.specs.Laws.{HasFields, machine_after_phrase}
 use Rattle.cm_phrases.proofs.Bitwise.{bitwise, table_and, table_or, table_xor, table_not}
 use Rattle.cm_phrases.proofs.Numbered.{add_number_is}
+use Rattle.cm_phrases.proofs.Flags.{IsSettable, test_is, keep_is}
 use Rattle.cm_phrases.proofs.Fetched.{placed, at_place, same_placed, chips_after, acts_done, AreWhole, IsSender}
 use Rattle.cm_phrases.proofs.Fetched.{TakesIncoming, IsFetching, came, bits_fetched, whole_came, sent_over_news}
 use Rattle.cm_phrases.proofs.Fetched.{sent_along_chain, from_neighbour, from_before}
 
 -- ---- what a phrase that is not refused has
 
--- none of the three causes
+-- none of the causes
 pub record Accepted (phrase : Phrase) (c : Context) : Type 0 where
   pub meets : overlaps phrase ≡ false
   pub fits : misfits phrase ≡ false
   pub condition : writes_condition phrase c ≡ false
+  pub fixed : names_fixed phrase ≡ false
 
 -- the first of the causes that are there
 abbrev chosen_fault : Bool → Bool → Bool → Option MacroFault
@@ -73,11 +75,34 @@ none_is_there false true s h = absurd cc
 none_is_there false false true h = absurd cc
 none_is_there false false false h = record { first = refl; second = refl; third = refl }
 
+or_first : (a b : Bool) → (a || b) ≡ false → a ≡ false
+or_first true b h = absurd cc
+or_first false b h = refl
+
+or_second : (a b : Bool) → (a || b) ≡ false → b ≡ false
+or_second true b h = absurd cc
+or_second false b h = h
+
 pub accepted : (phrase : Phrase) (c : Context) → first_fault phrase c ≡ None → Accepted phrase c
 accepted phrase c h =
-    let all : AllFalse (overlaps phrase) (misfits phrase) (writes_condition phrase c) =
-    none_is_there (overlaps phrase) (misfits phrase) (writes_condition phrase c) h in
-    record { meets = all.first; fits = all.second; condition = all.third }
+    let all : AllFalse (overlaps phrase) (misfits phrase) (writes_condition phrase c || names_fixed phrase) =
+    none_is_there (overlaps phrase) (misfits phrase) (writes_condition phrase c || names_fixed phrase) h in
+    record {
+      meets = all.first;
+      fits = all.second;
+      condition = or_first (writes_condition phrase c) (names_fixed phrase) all.third;
+      fixed = or_second (writes_condition phrase c) (names_fixed phrase) all.third;
+    }
+
+-- a flag that can be set
+pub settable : (f : ℕ) → is_fixed f ≡ false → IsSettable f
+settable f h =
+    let two : (eqb f 8 || eqb f 10) ≡ false = or_first (eqb f 8 || eqb f 10) (eqb f 11) h in
+    record {
+      zero_flag = or_first (eqb f 8) (eqb f 10) two;
+      news = or_second (eqb f 8) (eqb f 10) two;
+      daisy = or_second (eqb f 8 || eqb f 10) (eqb f 11) h;
+    }
 
 -- ---- fields
 
@@ -153,6 +178,8 @@ is_local (Or d s) = true
 is_local (Xor d s) = true
 is_local (Not d) = true
 is_local (AddNumber d v) = true
+is_local (Test f s) = true
+is_local (Keep d f) = true
 
 selected_is : (phrase : Phrase) (c : Context) (from p : Processor) → is_local phrase ≡ true → HasFields phrase
     → Accepted phrase c → Whole c p → run (nanos phrase c) p ≡ assigned phrase from p
@@ -167,6 +194,9 @@ selected_is (Xor d s) c from p e f a h =
 selected_is (Not d) c from p e f a h = bitwise c 0x0f (λ x y. not x) table_not d d p h (itself d f)
 selected_is (AddNumber d v) c from p e f a h =
     add_number_is c d v p h f.within (below_is (size d) v a.fits) (free c (AddNumber d v) 7 (λ g. refl) a.condition)
+selected_is (Test w s) c from p e f a h =
+    test_is c w s p h f.0.within f.1 (settable w a.fixed) (free c (Test w s) w (λ g. refl) a.condition)
+selected_is (Keep d w) c from p e f a h = keep_is c d w p h f.0
 
 under_bits : (c : Context) (x y : Span) (r w tm tf : ℕ) → AllUnder c (each_bit c x y r w tm tf)
 unfolding each_from
@@ -176,6 +206,10 @@ under_number : (c : Context) (d : Span) (v : ℕ) → AllUnder c (each_from 0 d.
 unfolding each_from
 under_number c d v = under-each c (add_bit c d v) (λ i. refl) (λ i. refl) 0 d.len
 
+under_kept : (c : Context) (d : Span) (f : ℕ) → AllUnder c (each_from 0 d.len (keep_bit c d f))
+unfolding each_from
+under_kept c d f = under-each c (keep_bit c d f) (λ i. refl) (λ i. refl) 0 d.len
+
 all_under : (phrase : Phrase) (c : Context) → is_local phrase ≡ true → AllUnder c (nanos phrase c)
 all_under (News d s dir) c e = absurd cc
 all_under (Chain d s) c e = absurd cc
@@ -184,6 +218,8 @@ all_under (Or d s) c e = under_bits c d s 8 8 0xfc 0x00
 all_under (Xor d s) c e = under_bits c d s 8 8 0x3c 0x00
 all_under (Not d) c e = under_bits c d d 8 8 0x0f 0x00
 all_under (AddNumber d v) c e = (refl, (refl, under_number c d v))
+all_under (Test f s) c e = (refl, (refl, under_bits c s s f f 0xf0 0xfa))
+all_under (Keep d f) c e = under_kept c d f
 
 home_bits : (c : Context) (x y : Span) (tm : ℕ) → AllHome (each_bit c x y 8 8 tm 0x00)
 unfolding each_from
@@ -193,14 +229,30 @@ home_number : (c : Context) (d : Span) (v : ℕ) → AllHome (each_from 0 d.len 
 unfolding each_from
 home_number c d v = home-each (add_bit c d v) (λ i. refl) 0 d.len
 
-all_home : (phrase : Phrase) (c : Context) → is_local phrase ≡ true → AllHome (nanos phrase c)
-all_home (News d s dir) c e = absurd cc
-all_home (Chain d s) c e = absurd cc
-all_home (And d s) c e = home_bits c d s 0xc0
-all_home (Or d s) c e = home_bits c d s 0xfc
-all_home (Xor d s) c e = home_bits c d s 0x3c
-all_home (Not d) c e = home_bits c d d 0x0f
-all_home (AddNumber d v) c e = (refl, home_number c d v)
+home_kept : (c : Context) (d : Span) (f : ℕ) → AllHome (each_from 0 d.len (keep_bit c d f))
+unfolding each_from
+home_kept c d f = home-each (keep_bit c d f) (λ i. refl) 0 d.len
+
+-- what writes a flag that can be set takes nothing
+free_of_others : (f : ℕ) → IsSettable f → (eqb f 10 || eqb f 11) ≡ false
+free_of_others f h = rw (h.news, h.daisy) refl
+
+home_tests : (c : Context) (s : Span) (f : ℕ) → IsSettable f → AllHome (each_bit c s s f f 0xf0 0xfa)
+unfolding each_from
+home_tests c s f h =
+    home-each (λ i. nano c (s.at + i) (s.at + i) f f 0xf0 0xfa) (λ i. free_of_others f h) 0 s.len
+
+all_home : (phrase : Phrase) (c : Context) → is_local phrase ≡ true → names_fixed phrase ≡ false
+    → AllHome (nanos phrase c)
+all_home (News d s dir) c e h = absurd cc
+all_home (Chain d s) c e h = absurd cc
+all_home (And d s) c e h = home_bits c d s 0xc0
+all_home (Or d s) c e h = home_bits c d s 0xfc
+all_home (Xor d s) c e h = home_bits c d s 0x3c
+all_home (Not d) c e h = home_bits c d d 0x0f
+all_home (AddNumber d v) c e h = (refl, home_number c d v)
+all_home (Test f s) c e h = (free_of_others f (settable f h), home_tests c s f (settable f h))
+all_home (Keep d f) c e h = home_kept c d f
 
 some_bits : (n : ℕ) (f : ℕ → Nano) → 1 ≤ n → 0 < length (each_from 0 n f)
 some_bits n f h = omega (arith, length-each_from 0 n f)
@@ -213,6 +265,8 @@ some_acts (Or d s) c e f = some_bits d.len _ f.0.some
 some_acts (Xor d s) c e f = some_bits d.len _ f.0.some
 some_acts (Not d) c e f = some_bits d.len _ f.some
 some_acts (AddNumber d v) c e f = omega arith
+some_acts (Test w s) c e f = omega arith
+some_acts (Keep d w) c e f = some_bits d.len _ f.0.some
 
 effect_selected : (phrase : Phrase) (c : Context) (from p q : Processor) → selected c p ≡ true
     → q ≡ assigned phrase from p → q ≡ effect phrase c from p
@@ -250,7 +304,7 @@ local_is_right : (n cap : ℕ) (phrase : Phrase) (c : Context) (machine : Machin
 unfolding each_place
 local_is_right n cap phrase c machine e h f a =
     run_of-acted n cap machine (map act.Nano (nanos phrase c)) h.buffer_count
-    ∙ lifted n cap (nanos phrase c) machine (some_acts phrase c e f) (all_home phrase c e)
+    ∙ lifted n cap (nanos phrase c) machine (some_acts phrase c e f) (all_home phrase c e a.fixed)
     ∙ (λ i. with_chips machine (same_placed n (λ ch p. run (nanos phrase c) (at_place machine.chips ch p))
     (λ ch p. effect phrase c (sender n phrase machine.chips ch p) (at_place machine.chips ch p))
     (λ ch p l k. in_processor phrase c (sender n phrase machine.chips ch p) (at_place machine.chips ch p)
@@ -359,6 +413,8 @@ all_are_right n cap (Or d s) c machine h f a = local_is_right n cap (Or d s) c m
 all_are_right n cap (Xor d s) c machine h f a = local_is_right n cap (Xor d s) c machine refl h f a
 all_are_right n cap (Not d) c machine h f a = local_is_right n cap (Not d) c machine refl h f a
 all_are_right n cap (AddNumber d v) c machine h f a = local_is_right n cap (AddNumber d v) c machine refl h f a
+all_are_right n cap (Test w s) c machine h f a = local_is_right n cap (Test w s) c machine refl h f a
+all_are_right n cap (Keep d w) c machine h f a = local_is_right n cap (Keep d w) c machine refl h f a
 
 pub phrases_are_right : (n cap : ℕ) (phrase : Phrase) (c : Context) (machine : Machine) → IsMachine n cap machine
     → HasFields phrase → first_fault phrase c ≡ None

@@ -20,7 +20,7 @@ use Rattle.cm_language.specs.declared.macros.Context.{Context}
 use Rattle.cm_language.specs.Effect.{selected}
 use Rattle.cm_language.proofs.Bits.{writes-is, get_or-writes}
 use Rattle.cm_phrases.specs.declared.phrase.Phrase.{Phrase}
-use Rattle.cm_phrases.specs.declared.phrase.Phrase.TheVariants.{News, Chain, And, Or, Xor, Not, AddNumber}
+use Rattle.cm_phrases.specs.declared.phrase.Phrase.TheVariants.{News, Chain, And, Or, Xor, Not, AddNumber, Test, Keep}
 use Rattle.cm_phrases.specs.Effect.{sender, assigned, effect}
 use Rattle.cm_phrases.specs.Acts.{acts_of}
 use Rattle.cm_phrases.specs.Faults.{writes, first_fault}
@@ -66,6 +66,8 @@ assigned_memory (Or d s) from p a f wide h = beside_bits d _ p.memory a f.0 wide
 assigned_memory (Xor d s) from p a f wide h = beside_bits d _ p.memory a f.0 wide h
 assigned_memory (Not d) from p a f wide h = beside_bits d _ p.memory a f wide h
 assigned_memory (AddNumber d v) from p a f wide h = beside_number d _ p.memory a f wide h
+assigned_memory (Test g s) from p a f wide h = refl
+assigned_memory (Keep d g) from p a f wide h = beside_number d _ p.memory a f.0 wide h
 
 other_flag : (fs : List Bool) (g f : ℕ) (b : Bool) → eqb f g ≡ false → get_or (set fs g b) f false ≡ get_or fs f false
 other_flag fs g f b h = get_or-set_other fs g f b false (eqb-false f g h)
@@ -79,6 +81,8 @@ assigned_flags (Or d s) from p f h = refl
 assigned_flags (Xor d s) from p f h = refl
 assigned_flags (Not d) from p f h = refl
 assigned_flags (AddNumber d v) from p f h = other_flag p.flags 7 f _ h
+assigned_flags (Test g s) from p f h = other_flag p.flags g f _ h
+assigned_flags (Keep d g) from p f h = refl
 
 -- the same where it may not be carried out
 chosen_memory : (z : Bool) (q p : Processor) (a : ℕ) → memory_bit q a ≡ memory_bit p a

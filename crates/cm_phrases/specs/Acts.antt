@@ -1,5 +1,5 @@
 -- The acts of a phrase, bit by bit: ours.
-use Rattle.std.specs.Prelude.{ℕ, ◌+◌, List, [], ◌∷◌, map, if◌then◌else◌}
+use Rattle.std.specs.Prelude.{ℕ, ◌+◌, ◌==◌, List, [], ◌∷◌, map, if◌then◌else◌}
 use Rattle.std.specs.List.{flat_map, range_with_len}
 use Rattle.cm_bits.specs.Bit.{bit}
 use Rattle.cm_bits.specs.Span.{Span}
@@ -14,7 +14,7 @@ use Rattle.cm_language.specs.declared.macros.Context.{Context}
 use Rattle.cm_language.specs.Effect.{CARRY}
 use Rattle.cm_language.specs.Acts.{TABLE_OF_A, TABLE_OF_F, ALWAYS_0, nano, clear_flag, each_bit}
 use Rattle.cm_phrases.specs.declared.phrase.Phrase.{Phrase}
-use Rattle.cm_phrases.specs.declared.phrase.Phrase.TheVariants.{News, Chain, And, Or, Xor, Not, AddNumber}
+use Rattle.cm_phrases.specs.declared.phrase.Phrase.TheVariants.{News, Chain, And, Or, Xor, Not, AddNumber, Test, Keep}
 
 -- ---- truth tables, by the number of their byte
 
@@ -71,6 +71,17 @@ add_bit context d v i =
     nano context (d.at + i) (d.at + i) CARRY CARRY (if bit v i then SUM_WITH_1 else SUM_WITH_0)
     (if bit v i then CARRY_WITH_1 else CARRY_WITH_0)
 
+-- ---- flags
+
+-- A or F
+abbrev pub A_OR_F : ℕ
+A_OR_F = 0xfa
+
+-- a flag into the lowest bit of a field, 0 into any other
+abbrev pub keep_bit : Context → Span → ℕ → ℕ → Nano
+keep_bit context d flag i =
+    nano context (d.at + i) (d.at + i) flag ZERO (if i == 0 then TABLE_OF_F else ALWAYS_0) ALWAYS_0
+
 -- ---- all
 
 -- the instructions of a phrase
@@ -82,6 +93,8 @@ nanos (Or d s) c = each_bit c d s ZERO ZERO A_OR_B ALWAYS_0
 nanos (Xor d s) c = each_bit c d s ZERO ZERO A_XOR_B ALWAYS_0
 nanos (Not d) c = each_bit c d d ZERO ZERO NOT_A ALWAYS_0
 nanos (AddNumber d v) c = clear_flag c CARRY ∷ each_from 0 d.len (add_bit c d v)
+nanos (Test f s) c = clear_flag c f ∷ each_bit c s s f f TABLE_OF_A A_OR_F
+nanos (Keep d f) c = each_from 0 d.len (keep_bit c d f)
 
 -- the acts of a phrase under a context
 abbrev pub acts_of : Phrase → Context → List Act

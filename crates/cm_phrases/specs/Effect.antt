@@ -1,17 +1,18 @@
 -- What a phrase does in one processor: ours. The grid and the chain are those of Hillis 1985.
-use Rattle.std.specs.Prelude.{ℕ, ◌+◌, ◌-◌, ◌%◌, ◌&&◌, ◌||◌, Bool, not, nat_le, Option, Some, None, List, ◌++◌, take}
+use Rattle.std.specs.Prelude.{ℕ, ◌+◌, ◌-◌, ◌%◌, ◌==◌, ◌&&◌, ◌||◌, Bool, not, nat_le, Option, Some, None, List, ◌++◌, take}
 use Rattle.std.specs.Prelude.{drop, if◌then◌else◌}
 use Rattle.std.specs.Bool.{beq}
+use Rattle.cm_bits.specs.Bit.{bit_number}
 use Rattle.cm_bits.specs.Span.{Span}
 use Rattle.cm_model.specs.Place.{source, predecessor}
-use Rattle.cm_model.specs.Processor.{Processor, NEWS, DAISY, memory_bit}
+use Rattle.cm_model.specs.Processor.{Processor, NEWS, DAISY, memory_bit, flag}
 use Rattle.cm_model.specs.Each.{each_from}
 use Rattle.cm_model.specs.Chip.{processor_at, no_processor}
 use Rattle.cm_model.specs.Array.{Chips, chip_at, processor_of}
 use Rattle.cm_language.specs.declared.macros.Context.{Context}
 use Rattle.cm_language.specs.Effect.{CARRY, selected, value_of, size, with_value, with_flag}
 use Rattle.cm_phrases.specs.declared.phrase.Phrase.{Phrase}
-use Rattle.cm_phrases.specs.declared.phrase.Phrase.TheVariants.{News, Chain, And, Or, Xor, Not, AddNumber}
+use Rattle.cm_phrases.specs.declared.phrase.Phrase.TheVariants.{News, Chain, And, Or, Xor, Not, AddNumber, Test, Keep}
 
 -- the processor of a chip that has a number, or none
 abbrev pub one_of : List Processor → Option ℕ → Processor
@@ -28,6 +29,8 @@ sender n (Or d s) chips c p = no_processor
 sender n (Xor d s) chips c p = no_processor
 sender n (Not d) chips c p = no_processor
 sender n (AddNumber d v) chips c p = no_processor
+sender n (Test f s) chips c p = no_processor
+sender n (Keep d f) chips c p = no_processor
 
 -- the bit of a field at a place in it, the lowest at 0
 abbrev pub bit_of : Processor → Span → ℕ → Bool
@@ -59,6 +62,8 @@ assigned (Xor d s) from p = with_bits d (λ i. differ (bit_of p d i) (bit_of p s
 assigned (Not d) from p = with_bits d (λ i. not (bit_of p d i)) p
 assigned (AddNumber d v) from p =
     with_flag CARRY (nat_le (size d) (value_of p d + v)) (with_value d ((value_of p d + v) % size d) p)
+assigned (Test f s) from p = with_flag f (not (value_of p s == 0)) p
+assigned (Keep d f) from p = with_value d (bit_number (flag p f)) p
 
 -- a processor after a phrase under a context, where this other sends to it
 unfoldable pub effect : Phrase → Context → Processor → Processor → Processor

@@ -10,12 +10,12 @@ use Rattle.cm_model.specs.Keeping.{IsMachine}
 use Rattle.cm_language.specs.declared.macros.Context.{Context}
 use Rattle.cm_language.specs.Effect.{selected}
 use Rattle.cm_phrases.specs.declared.phrase.Phrase.{Phrase}
-use Rattle.cm_phrases.specs.declared.phrase.Phrase.TheVariants.{News, Chain, And, Or, Xor, Not, AddNumber}
+use Rattle.cm_phrases.specs.declared.phrase.Phrase.TheVariants.{News, Chain, And, Or, Xor, Not, AddNumber, Test, Keep}
 use Rattle.cm_phrases.specs.Effect.{sender, effect}
 use Rattle.cm_phrases.specs.Acts.{acts_of}
 use Rattle.cm_phrases.specs.Faults.{writes, first_fault}
 
--- all fields of a phrase are fields
+-- all fields of a phrase are fields, and its flag is one
 abbrev pub HasFields : Phrase → Type 0
 HasFields (News d s dir) = IsField d × IsField s
 HasFields (Chain d s) = IsField d × IsField s
@@ -24,6 +24,8 @@ HasFields (Or d s) = IsField d × IsField s
 HasFields (Xor d s) = IsField d × IsField s
 HasFields (Not d) = IsField d
 HasFields (AddNumber d v) = IsField d
+HasFields (Test f s) = IsField s × (f < 16)
+HasFields (Keep d f) = IsField d × (f < 16)
 
 -- a machine after a phrase: every processor at once, from its old bits and the old bits of the one that sends to it
 unfoldable pub machine_after_phrase : ℕ → Phrase → Context → Machine → Machine
@@ -47,6 +49,8 @@ Stores (Or d s) address = IsIn d address
 Stores (Xor d s) address = IsIn d address
 Stores (Not d) address = IsIn d address
 Stores (AddNumber d v) address = IsIn d address
+Stores (Test f s) address = ⊥
+Stores (Keep d f) address = IsIn d address
 
 -- what a phrase leaves alone in a processor: all of it where the context does not mean it, else every other bit and flag
 pub record IsLeftAlone (phrase : Phrase) (c : Context) (before after : Processor) : Type 0 where

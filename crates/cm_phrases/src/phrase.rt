@@ -1,6 +1,6 @@
 //! Phrases.
 
-use cm_bits::{Dir, Field};
+use cm_bits::{Dir, Field, FlagNo};
 
 /// What a phrase does in each selected processor. Right sides are over old values.
 #[derive(Clone, Copy, Debug, PartialEq, Eq)]
@@ -19,4 +19,8 @@ pub enum Phrase {
     Not(Field),
     /// d := d + the number, cut to the bits of d; flag 7 := the carry out.
     AddNumber(Field, u64),
+    /// flag := 1 where s is not 0, else 0.
+    Test(FlagNo, Field),
+    /// d := 1 where the flag is 1, else 0.
+    Keep(Field, FlagNo),
 }

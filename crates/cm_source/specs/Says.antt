@@ -6,7 +6,7 @@ use Rattle.cm_bits.specs.Text.{number_of}
 use Rattle.cm_language.specs.declared.fault.AsmKind.{AsmKind}
 use Rattle.cm_language.specs.declared.fault.AsmKind.TheVariants.{Operands}
 use Rattle.cm_language.specs.Names.{NamedField}
-use Rattle.cm_language.specs.Lines.{◌>>=◌, number_operand, direction_of, field_operand, one_field, two_fields}
+use Rattle.cm_language.specs.Lines.{◌>>=◌, operand_of, number_operand, direction_of, field_operand, one_field, two_fields}
 use Rattle.cm_phrases.specs.declared.phrase.Phrase.{Phrase}
 use Rattle.cm_phrases.specs.declared.phrase.Phrase.TheVariants as phrase
 use Rattle.cm_source.specs.declared.verb.PhraseVerb.{PhraseVerb}
@@ -27,7 +27,9 @@ verb_with word operands =
     else (if bytes_eq word (codes "xor") then Some verb.Xor
     else (if bytes_eq word (codes "not") then Some verb.Not
     else (if bytes_eq word (codes "add") && adds_number operands then Some verb.AddNumber
-    else None))))))
+    else (if bytes_eq word (codes "test") then Some verb.Test
+    else (if bytes_eq word (codes "keep") then Some verb.Keep
+    else None))))))))
 
 -- what a line asks for that says a phrase
 abbrev pub verb_of : List (List ℕ) → Option PhraseVerb
@@ -47,6 +49,18 @@ sum_of fields (d ∷ v ∷ []) =
     field_operand fields d >>= λ d'. number_operand v >>= λ v'. Ok (phrase.AddNumber d' v')
 sum_of fields _ = Err Operands
 
+-- the operands of `test`
+abbrev pub tested_of : List NamedField → List (List ℕ) → Result Phrase AsmKind
+tested_of fields (f ∷ s ∷ []) =
+    operand_of 16 f >>= λ f'. field_operand fields s >>= λ s'. Ok (phrase.Test f' s')
+tested_of fields _ = Err Operands
+
+-- the operands of `keep`
+abbrev pub kept_of : List NamedField → List (List ℕ) → Result Phrase AsmKind
+kept_of fields (d ∷ f ∷ []) =
+    field_operand fields d >>= λ d'. operand_of 16 f >>= λ f'. Ok (phrase.Keep d' f')
+kept_of fields _ = Err Operands
+
 -- the phrase of a verb and its operands
 abbrev pub phrase_with : List NamedField → PhraseVerb → List (List ℕ) → Result Phrase AsmKind
 phrase_with fields verb.News operands = news_of fields operands
@@ -56,6 +70,8 @@ phrase_with fields verb.Or operands = two_fields fields operands >>= λ both. Ok
 phrase_with fields verb.Xor operands = two_fields fields operands >>= λ both. Ok (phrase.Xor both.0 both.1)
 phrase_with fields verb.Not operands = one_field fields operands >>= λ d. Ok (phrase.Not d)
 phrase_with fields verb.AddNumber operands = sum_of fields operands
+phrase_with fields verb.Test operands = tested_of fields operands
+phrase_with fields verb.Keep operands = kept_of fields operands
 
 -- the phrase of a line, by its words
 abbrev pub phrase_of : List NamedField → PhraseVerb → List (List ℕ) → Result Phrase AsmKind

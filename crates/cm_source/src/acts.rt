@@ -6,8 +6,8 @@ ghost use Rattle.cm_model.specs.Processor.{ZERO, NEWS, DAISY};
 ghost use Rattle.cm_model.specs.Each.{each_from};
 ghost use Rattle.cm_model.specs.declared.act.Act.TheVariants as act;
 ghost use Rattle.cm_language.specs.Effect.{CARRY};
-ghost use Rattle.cm_language.specs.Acts.{ALWAYS_0, clear_flag, each_bit};
-ghost use Rattle.cm_phrases.specs.Acts.{fetch, keep, fetch_all, add_bit, acts_of};
+ghost use Rattle.cm_language.specs.Acts.{TABLE_OF_A, ALWAYS_0, nano, clear_flag, each_bit};
+ghost use Rattle.cm_phrases.specs.Acts.{A_OR_F, fetch, keep, fetch_all, add_bit, keep_bit, acts_of};
 ghost use Rattle.cm_phrases.specs.Faults.{misfits};
 
 use cm_bits::{Addr, Dir, Field, FlagNo, NoMemory};
@@ -51,6 +51,12 @@ const TAKE: Tables = Tables {
     flag: 0x00,
 };
 
+/// A stays; A or F.
+const TEST: Tables = Tables {
+    memory: 0xf0,
+    flag: 0xfa,
+};
+
 /// The acts of a phrase, whose fields are of one length, under a context.
 pub fn acts_of(alloc: Global, wanted: &Phrase, context: &Context) -> Result<Vec<Act>, NoMemory>
     requires fits { misfits wanted.now ≡ false }
@@ -65,6 +71,8 @@ pub fn acts_of(alloc: Global, wanted: &Phrase, context: &Context) -> Result<Vec<
         Phrase::Xor(d, s) => push_bits(&mut acts, context, d, s, XOR)?,
         Phrase::Not(d) => push_bits(&mut acts, context, d, d, NOT)?,
         Phrase::AddNumber(d, number) => push_sum(&mut acts, context, d, number)?,
+        Phrase::Test(flag, s) => push_tested(&mut acts, context, flag, s)?,
+        Phrase::Keep(d, flag) => push_kept(&mut acts, context, d, flag)?,
     }
     Ok(acts)
 }
@@ -131,6 +139,39 @@ fn push_sum(acts: &mut Vec<Act>, context: &Context, d: Field, number: u64) -> Re
     Ok(())
 }
 
+/// Whether a field is not 0, into a flag.
+fn push_tested(
+    acts: &mut Vec<Act>,
+    context: &Context,
+    flag: FlagNo,
+    s: Field,
+) -> Result<(), AllocError>
+    ensures ok { OnOk result (acts.new.items ≡ acts.old.items ++ map act.Nano
+        (clear_flag context.now flag ∷ each_bit context.now s s flag flag TABLE_OF_A A_OR_F)) }
+{
+    acts.push(Act::Nano(clear_flag(context, flag)))?;
+    for i in 0..s.len() {
+        acts.push(Act::Nano(test_bit(context, flag, s, i)))?;
+    }
+    Ok(())
+}
+
+/// A flag into a field.
+fn push_kept(
+    acts: &mut Vec<Act>,
+    context: &Context,
+    d: Field,
+    flag: FlagNo,
+) -> Result<(), AllocError>
+    ensures ok { OnOk result (acts.new.items ≡ acts.old.items ++ map act.Nano
+        (each_from 0 d.len (keep_bit context.now d flag))) }
+{
+    for i in 0..d.len() {
+        acts.push(Act::Nano(keep_bit(context, d, flag, i)))?;
+    }
+    Ok(())
+}
+
 /// Into a flag the bit at this address of the processor that sends here.
 fn fetch(context: &Context, flag: FlagNo, dir: Dir, from: Addr) -> Nano
     ensures value { result ≡ fetch context.now flag dir from }
@@ -162,6 +203,23 @@ fn add_bit(context: &Context, d: Field, number: u64, i: u16) -> Nano
         carry(),
         tables,
     )
+}
+
+/// Bit `i` of a field, or what the flag has already, into a flag.
+fn test_bit(context: &Context, flag: FlagNo, s: Field, i: u16) -> Nano
+    requires { i < s.len }
+    ensures value { result ≡ nano context.now (s.at + i) (s.at + i) flag flag TABLE_OF_A A_OR_F }
+{
+    nano(context, address(s, i), address(s, i), flag, flag, TEST)
+}
+
+/// A flag into bit 0 of a field, 0 into any other bit `i`.
+fn keep_bit(context: &Context, d: Field, flag: FlagNo, i: u16) -> Nano
+    requires { i < d.len }
+    ensures value { result ≡ keep_bit context.now d flag i }
+{
+    let tables = if i == 0 { TAKE } else { Tables::NONE };
+    nano(context, address(d, i), address(d, i), flag, zero(), tables)
 }
 
 /// The flag that a store sends over the grid.

@@ -2,14 +2,16 @@
 
 ghost use Rattle.std.specs.Prelude.{◌≡◌, ◌^◌, not, nat_le};
 ghost use Rattle.cm_bits.specs.Field.{meeting};
-ghost use Rattle.cm_language.specs.Faults.{is_partly, lengths_differ};
-ghost use Rattle.cm_phrases.specs.Faults.{overlaps, misfits, writes, writes_condition, first_fault};
+ghost use Rattle.cm_language.specs.Faults.{is_partly, lengths_differ, is_fixed};
+ghost use Rattle.cm_phrases.specs.Faults.{overlaps, misfits, writes, writes_condition, names_fixed, first_fault};
 
 use cm_bits::{Field, FlagNo, Meets};
 use cm_language::{Context, MacroFault};
 use cm_phrases::Phrase;
 
 const CARRY_FLAG: u8 = 7;
+
+const ZERO_FLAG: u8 = 8;
 
 const NEWS_FLAG: u8 = 10;
 
@@ -23,7 +25,7 @@ pub fn fault_of(wanted: &Phrase, context: &Context) -> Option<MacroFault>
         Some(MacroFault::Overlap)
     } else if misfits(wanted) {
         Some(MacroFault::Lengths)
-    } else if writes_condition(wanted, context) {
+    } else if writes_condition(wanted, context) || names_fixed(wanted) {
         Some(MacroFault::Scratch)
     } else {
         None
@@ -37,6 +39,7 @@ fn overlaps(wanted: &Phrase) -> bool
         Phrase::News(d, s, _) | Phrase::Chain(d, s) => meet_partly(d, s),
         Phrase::And(d, s) | Phrase::Or(d, s) | Phrase::Xor(d, s) => meet_partly(d, s),
         Phrase::Not(_) | Phrase::AddNumber(_, _) => false,
+        Phrase::Test(_, _) | Phrase::Keep(_, _) => false,
     }
 }
 
@@ -47,7 +50,7 @@ fn misfits(wanted: &Phrase) -> bool
         Phrase::News(d, s, _) | Phrase::Chain(d, s) => lengths_differ(d, s),
         Phrase::And(d, s) | Phrase::Or(d, s) | Phrase::Xor(d, s) => lengths_differ(d, s),
         Phrase::AddNumber(d, v) => !holds(d, v),
-        Phrase::Not(_) => false,
+        Phrase::Not(_) | Phrase::Test(_, _) | Phrase::Keep(_, _) => false,
     }
 }
 
@@ -67,8 +70,28 @@ fn writes(wanted: &Phrase, flag: FlagNo) -> bool
         Phrase::News(_, _, _) => flag.get() == NEWS_FLAG,
         Phrase::Chain(_, _) => flag.get() == DAISY_FLAG,
         Phrase::AddNumber(_, _) => flag.get() == CARRY_FLAG,
+        Phrase::Test(set, _) => flag.get() == set.get(),
         Phrase::And(_, _) | Phrase::Or(_, _) | Phrase::Xor(_, _) | Phrase::Not(_) => false,
+        Phrase::Keep(_, _) => false,
     }
+}
+
+fn names_fixed(wanted: &Phrase) -> bool
+    ensures value { result ≡ names_fixed wanted.now }
+{
+    match *wanted {
+        Phrase::Test(flag, _) => is_fixed(flag),
+        Phrase::News(_, _, _) | Phrase::Chain(_, _) | Phrase::AddNumber(_, _) => false,
+        Phrase::And(_, _) | Phrase::Or(_, _) | Phrase::Xor(_, _) | Phrase::Not(_) => false,
+        Phrase::Keep(_, _) => false,
+    }
+}
+
+/// No store puts a bit of its own into the flag.
+fn is_fixed(flag: FlagNo) -> bool
+    ensures value { result ≡ is_fixed flag }
+{
+    flag.get() == ZERO_FLAG || flag.get() == NEWS_FLAG || flag.get() == DAISY_FLAG
 }
 
 fn lengths_differ(a: Field, b: Field) -> bool

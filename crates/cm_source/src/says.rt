@@ -2,12 +2,12 @@
 
 ghost use Rattle.std.specs.Prelude.{◌≡◌};
 ghost use Rattle.cm_bits.specs.Text.{words_left, words_of};
-ghost use Rattle.cm_language.specs.Lines.{field_operand, one_field, two_fields};
-ghost use Rattle.cm_source.specs.Says.{adds_number, verb_of, news_of, sum_of, phrase_with, phrase_of};
+ghost use Rattle.cm_language.specs.Lines.{operand_of, field_operand, one_field, two_fields};
+ghost use Rattle.cm_source.specs.Says.{adds_number, verb_of, news_of, sum_of, tested_of, kept_of, phrase_with, phrase_of};
 
 use crate::verb::PhraseVerb;
 use cm_asm::{Reader, read_direction};
-use cm_bits::{Field, Words, read_number};
+use cm_bits::{Field, FlagNo, Words, read_number};
 use cm_language::AsmKind;
 use cm_phrases::Phrase;
 
@@ -31,6 +31,10 @@ pub fn verb_of(line: &[u8]) -> Option<PhraseVerb>
         Some(PhraseVerb::Not)
     } else if word == b"add".as_slice() && adds_number(words) {
         Some(PhraseVerb::AddNumber)
+    } else if word == b"test".as_slice() {
+        Some(PhraseVerb::Test)
+    } else if word == b"keep".as_slice() {
+        Some(PhraseVerb::Keep)
     } else {
         None
     }
@@ -83,6 +87,8 @@ fn phrase_with(reader: &Reader, asked: PhraseVerb, words: Words) -> Result<Phras
             Ok(Phrase::Not(d))
         }
         PhraseVerb::AddNumber => read_sum(reader, words),
+        PhraseVerb::Test => read_tested(reader, words),
+        PhraseVerb::Keep => read_kept(reader, words),
     }
 }
 
@@ -114,6 +120,30 @@ fn read_sum(reader: &Reader, mut words: Words) -> Result<Phrase, AsmKind>
     Ok(Phrase::AddNumber(d, number))
 }
 
+/// The operands of `test`.
+fn read_tested(reader: &Reader, mut words: Words) -> Result<Phrase, AsmKind>
+    ensures value { result ≡ tested_of reader.now.fields (words_left words.entry) }
+{
+    let (Some(flag), Some(s), None) = (words.next(), words.next(), words.next()) else {
+        return Err(AsmKind::Operands);
+    };
+    let flag = read_flag(flag)?;
+    let s = read_field(reader, s)?;
+    Ok(Phrase::Test(flag, s))
+}
+
+/// The operands of `keep`.
+fn read_kept(reader: &Reader, mut words: Words) -> Result<Phrase, AsmKind>
+    ensures value { result ≡ kept_of reader.now.fields (words_left words.entry) }
+{
+    let (Some(d), Some(flag), None) = (words.next(), words.next(), words.next()) else {
+        return Err(AsmKind::Operands);
+    };
+    let d = read_field(reader, d)?;
+    let flag = read_flag(flag)?;
+    Ok(Phrase::Keep(d, flag))
+}
+
 fn two_fields(reader: &Reader, mut words: Words) -> Result<(Field, Field), AsmKind>
     ensures value { result ≡ two_fields reader.now.fields (words_left words.entry) }
 {
@@ -139,4 +169,17 @@ fn read_field(reader: &Reader, word: &[u8]) -> Result<Field, AsmKind>
     ensures value { result ≡ field_operand reader.now.fields word.now }
 {
     reader.find(word).ok_or(AsmKind::Name)
+}
+
+/// A flag by its number.
+fn read_flag(word: &[u8]) -> Result<FlagNo, AsmKind>
+    ensures value { result ≡ operand_of 16 word.now }
+{
+    match read_number(word) {
+        Some(number) if number < 16 => match FlagNo::new(number as u8) {
+            Some(flag) => Ok(flag),
+            None => Err(AsmKind::Number),
+        },
+        _ => Err(AsmKind::Number),
+    }
 }

@@ -10,4 +10,6 @@ pub enum PhraseVerb {
     Xor,
     Not,
     AddNumber,
+    Test,
+    Keep,
 }

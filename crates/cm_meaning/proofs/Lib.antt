@@ -1,0 +1,10 @@
+pub mod Quiet
+pub mod PlainLines
+pub mod PhraseActs
+pub mod ReadOn
+pub mod SaidRight
+pub mod Agreement
+pub mod Programs
+pub mod PlainSources
+pub mod Standing
+pub mod StandardFacts
