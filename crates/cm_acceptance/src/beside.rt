@@ -290,11 +290,11 @@ fn chips_with_cut_wires_go_by_either_rule_as_the_plain_router_does(rt: HostRunti
 fn many_chips_with_cut_wires_go_by_either_rule_as_the_plain_router_does(rt: HostRuntime) {
     let alloc = rt.alloc();
     let gone = [
-        stays_plain_routed::<8, 1>(alloc, 256, &WAYS[0], 2),
-        stays_plain_routed::<8, 2>(alloc, 256, &WAYS[2], 2),
-        stays_plain_routed::<8, 7>(alloc, 256, &WAYS[4], 2),
+        stay_plain_in_ways::<6>(alloc, 64, 1, 3),
+        stay_plain_in_ways::<7>(alloc, 128, 2, 2),
+        stay_plain_in_ways::<8>(alloc, 256, 4, 2),
     ];
-    assert_eq!(rt; gone, [Some(true); 3]);
+    assert_eq!(rt; gone, [[Some(true); 4]; 3]);
 }
 
 #[test]
@@ -373,6 +373,22 @@ fn stays_plain_in_one_list<const N: usize, const CAP: usize>(
     stays_plain_when_busy(alloc, &mut both, chips)
 }
 
+/// The same, where they are routed so.
+fn stays_plain_in_one_list_routed<const N: usize, const CAP: usize>(
+    alloc: Global,
+    chips: u16,
+    way: &Way,
+) -> Option<bool>
+    requires dimension { N ≤ 12 }
+    requires chips { chips ≡ 2 ^ N }
+    requires some { 0 < chips }
+{
+    let cuts = drawn_cuts(alloc, &mut Draws::new(1), chips, &way.cut)?;
+    let mut both = Both::<N, CAP>::routed(alloc, cuts, way.rule)?;
+    ask_everywhere(&mut both, &mut Draws::new(0), chips);
+    stays_plain_when_busy(alloc, &mut both, chips)
+}
+
 fn stays_plain_when_busy<const N: usize, const CAP: usize>(
     alloc: Global,
     both: &mut Both<N, CAP>,
@@ -391,4 +407,17 @@ fn messages_get_new_places_within_a_list_of_acts(rt: HostRuntime) {
         stays_plain_in_one_list::<2, 7>(rt.alloc(), 4),
     ];
     assert_eq!(rt; sizes, [Some(true); 2]);
+}
+
+#[test]
+fn messages_get_new_places_by_either_rule_and_where_wires_are_cut(rt: HostRuntime) {
+    let alloc = rt.alloc();
+    let sizes = [
+        stays_plain_in_one_list_routed::<2, 7>(alloc, 4, &WAYS[1]),
+        stays_plain_in_one_list_routed::<3, 2>(alloc, 8, &WAYS[1]),
+        stays_plain_in_one_list_routed::<3, 15>(alloc, 8, &WAYS[1]),
+        stays_plain_in_one_list_routed::<4, 1>(alloc, 16, &WAYS[0]),
+        stays_plain_in_one_list_routed::<4, 7>(alloc, 16, &WAYS[2]),
+    ];
+    assert_eq!(rt; sizes, [Some(true); 5]);
 }

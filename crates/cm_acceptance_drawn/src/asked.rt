@@ -22,6 +22,7 @@ pub(crate) enum Kind {
     Buffer,
     Find,
     Events,
+    Rule,
     /// No command.
     Jump,
     /// The operand of a command that has others.
@@ -42,7 +43,7 @@ static KINDS: [Kind; 32] = [
     Kind::Step,
     Kind::Step,
     Kind::Step,
-    Kind::Step,
+    Kind::Rule,
     Kind::Run,
     Kind::Run,
     Kind::Run,
@@ -89,6 +90,7 @@ impl Kind {
             Kind::Buffer => "buf",
             Kind::Find => "find",
             Kind::Events => "events",
+            Kind::Rule => "rule",
             Kind::Jump => "jump",
             Kind::WireUp => "wire up",
         }
@@ -100,7 +102,7 @@ impl Kind {
     {
         match self {
             Kind::Step | Kind::Run | Kind::WireOn | Kind::WireOff | Kind::WireShow => 0,
-            Kind::Jump | Kind::WireUp => 0,
+            Kind::Rule | Kind::Jump | Kind::WireUp => 0,
             Kind::Break | Kind::Clear | Kind::Buffer | Kind::Events => 1,
             Kind::Flag | Kind::Find => 3,
             Kind::Field | Kind::Poke | Kind::PokeFlag => 4,

@@ -4,14 +4,14 @@ ghost use Rattle.std.specs.Prelude.{◌≡◌, ◌<◌, ◌≤◌, ◌^◌};
 
 use crate::draws::Draws;
 use cm_array::{Builder, Machine};
-use cm_bits::{Addr, FlagNo, Proc};
-use cm_message::{Message, Tag};
+use cm_bits::{Addr, Edge, FlagNo, Proc};
+use cm_message::{Message, Rule, Tag};
 use std::alloc::Global;
 
 const LAST: u64 = u64::MAX >> 1;
 
-/// A machine of so many chips with bits, flags and messages at each; in one of four the counter of petit cycles is near
-/// its end.
+/// A machine of so many chips with bits, flags and messages at each, of which one in two goes by the second rule and one in
+/// two has cut wires; in one of four the counter of petit cycles is near its end.
 pub(crate) fn machine<const N: usize, const CAP: usize>(
     alloc: Global,
     draws: &mut Draws,
@@ -30,7 +30,44 @@ pub(crate) fn machine<const N: usize, const CAP: usize>(
         put_bits(&mut builder, draws, chip);
         put_messages(&mut builder, draws, chip, chips);
     }
+    put_routing(&mut builder, draws, chips);
     builder.done().ok()
+}
+
+/// Either rule; and no wire is cut, or about a third of them.
+fn put_routing<const N: usize, const CAP: usize>(
+    builder: &mut Builder<N, CAP>,
+    draws: &mut Draws,
+    chips: u16,
+)
+    requires cube { chips ≡ 2 ^ N }
+    requires dimension { N ≤ 12 }
+{
+    if draws.once_in(2) {
+        builder.rule(Rule::Oldest);
+    }
+    if draws.once_in(2) {
+        for chip in 0..chips {
+            cut_some(builder, draws, chip);
+        }
+    }
+}
+
+/// Of the wires of a chip to higher ones about a third is cut.
+fn cut_some<const N: usize, const CAP: usize>(
+    builder: &mut Builder<N, CAP>,
+    draws: &mut Draws,
+    chip: u16,
+)
+    requires chip { chip < 2 ^ N }
+    requires dimension { N ≤ 12 }
+{
+    for dim in 0..N as u8 {
+        match Edge::new(chip, dim) {
+            Some(edge) if draws.once_in(3) => builder.cut(edge),
+            _ => {}
+        }
+    }
 }
 
 /// Bits of the first fields and of what is sent, and flags.

@@ -7,7 +7,7 @@ use crate::told::Told;
 use cm_array::{Machine, Plain, Runner};
 use cm_bits::{Addr, Field, FlagNo, Proc};
 use cm_message::{Event, Tag};
-use cm_model::{Act, Found};
+use cm_model::{Act, Found, Rule};
 use std::alloc::{AllocError, Global};
 
 const LAST: u64 = u64::MAX >> 1;
@@ -109,6 +109,7 @@ impl<'a, const N: usize, const CAP: usize> Debugger<'a, N, CAP> {
             Kind::Buffer => self.buffer(numbers[0], chips),
             Kind::Find => self.find(numbers, chips),
             Kind::Events => self.events(numbers[0], chips),
+            Kind::Rule => self.rule(),
             Kind::Jump => Err(Undone::Refused(WORD)),
             Kind::WireUp => Err(Undone::Refused(OPERANDS)),
         }
@@ -257,6 +258,14 @@ impl<'a, const N: usize, const CAP: usize> Debugger<'a, N, CAP> {
             self.told.message("msg", message)?;
         }
         Ok(())
+    }
+
+    fn rule(&mut self) -> Result<(), Undone> {
+        let number = match self.machine.rule() {
+            Rule::First => 0,
+            Rule::Oldest => 1,
+        };
+        self.tell("rule", number)
     }
 
     fn find(&mut self, numbers: [u64; 4], chips: u16) -> Result<(), Undone>

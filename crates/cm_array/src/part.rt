@@ -10,6 +10,7 @@ ghost use Rattle.cm_model.specs.Steps.{Cross};
 ghost use Rattle.cm_blocks.specs.Parcels.{Mail, due};
 ghost use Rattle.cm_blocks.specs.Steps.{less, absorbed};
 ghost use Rattle.cm_blocks.specs.Parts.{cut, chip_in, buffer_in, log_in};
+ghost use Rattle.cm_router.specs.Routes.{routing_of};
 ghost use Rattle.cm_array.specs.Cuts.{kept_part, IsKeptPart, IsLaid};
 
 use crate::parts::Parts;
@@ -18,6 +19,7 @@ use cm_crossing::{Crossing, Sizes};
 use cm_element::{ChipView, Run};
 use cm_message::{Event, Message};
 use cm_petit::{leave, take_in};
+use cm_router::Routing;
 use std::alloc::Global;
 use std::marker::Model;
 
@@ -85,6 +87,14 @@ impl Part {
         ensures within { result < 2 ^ 63 }
     {
         self.parts.clock
+    }
+
+    /// How messages go: which wires of the cube are cut, and the rule.
+    pub fn routing(&self) -> &Routing
+        ensures value { routing_of result.now ≡ self.now.part.routing }
+        ensures cube { result.now.cuts.dims ≡ self.now.dims }
+    {
+        &self.parts.routing
     }
 
     /// The chip of that number in the whole, to be read.
