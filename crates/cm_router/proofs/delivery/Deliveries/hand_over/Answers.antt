@@ -1,7 +1,8 @@
 use Rattle.std.proofs.Common.{◌≡◌, true, false, arith}
 use Rattle.std.proofs.lemmas.Bool.Decides.{nat_tests}
 use Rattle.cm_router.proofs.Delivering.{handed_over, still_open, run_after-append, bit-without_one, gone_is_whole}
-use Rattle.cm_router.proofs.delivery.Deliveries.hand_over.Goals.{else-message-eq0-via-then-message-eq0+else-is_one, else-message-eq0-via-else-message-eq0}
+use Rattle.cm_router.proofs.delivery.Deliveries.hand_over.Goals.{else-message-eq0-via-then-message-eq0+else-is_one}
+use Rattle.cm_router.proofs.delivery.Deliveries.hand_over.Goals.{else-message-eq0-via-else-message-eq0}
 use Rattle.cm_router.proofs.delivery.Deliveries.hand_over.Goals as goal
 
 pub returns-then-is_one-clause-step : goal.returns-then-is_one-clause-step
