@@ -17,6 +17,7 @@ pub use four_messages::{cut_in_two_places, four_messages_each, has_one_of_four, 
 pub use growths::{Call, first_not_so};
 pub use looking::{
     are_same, has_full_buffer, have_same_bits, have_same_events, have_same_messages,
+    have_same_routing,
 };
 pub use numbers::{address, flag, processor};
 pub use running::{run_beside_plain, sends_or_stays};

@@ -16,6 +16,16 @@ pub fn are_same<const N: usize, const CAP: usize>(
     have_same_bits(left, right, chips)
         && have_same_messages(left, right, chips)
         && have_same_events(left, right, chips)
+        && have_same_routing(left, right)
+}
+
+/// Whether the same wires of them are cut, and messages leave by the same rule.
+pub fn have_same_routing<const N: usize, const CAP: usize>(
+    left: &Machine<N, CAP>,
+    right: &Machine<N, CAP>,
+) -> bool {
+    let (one, other) = (left.routing(), right.routing());
+    one.rule == other.rule && one.cuts.edges() == other.cuts.edges()
 }
 
 /// Whether they have the same memory bits and flags.
