@@ -11,3 +11,4 @@ mod Weaving
 mod ToTheEnd
 mod Sessions
 mod Begun
+mod Sourcing

@@ -13,6 +13,7 @@ pub mod Sharing
 pub mod Run
 pub mod Deeds
 pub mod Takings
+pub mod Sourced
 pub mod Puttings
 pub mod Files
 pub mod Runs

@@ -19,6 +19,7 @@ mod reports;
 mod running;
 mod session;
 mod sharing;
+mod sourced;
 mod takes;
 mod takings;
 mod text;

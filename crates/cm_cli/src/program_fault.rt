@@ -8,6 +8,7 @@ use crate::fault::ChipFault;
 use crate::outside::PutFault;
 use crate::takes::TakeFault;
 use cm_debug::SessionFault;
+use cm_image::SourceFault;
 use cm_image_format::ImageFault;
 use cm_language::{AsmFault, AsmKind};
 use cm_line::LineFault;
@@ -157,6 +158,21 @@ impl From<ChipFault> for ProgramFault {
             ChipFault::Write(_) => ProgramFault::Write,
             ChipFault::TooMuch => ProgramFault::TooMuch,
             ChipFault::Memory => ProgramFault::Memory,
+        }
+    }
+}
+
+impl From<SourceFault> for ProgramFault {
+    ghost use Rattle.std.specs.Prelude.{◌≡◌};
+    ghost use Rattle.cm_cli.specs.Sourced.{of_source};
+
+    ghost from_gives = { λ fault whole. whole ≡ of_source fault };
+
+    fn from(fault: SourceFault) -> ProgramFault {
+        match fault {
+            SourceFault::Image(own) => ProgramFault::from(own),
+            SourceFault::Read => ProgramFault::Read,
+            SourceFault::TooMuch => ProgramFault::TooMuch,
         }
     }
 }

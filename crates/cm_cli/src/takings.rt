@@ -5,15 +5,13 @@ ghost use Rattle.cm_cli.specs.Sizes.{start_at};
 ghost use Rattle.cm_cli.specs.Deeds.{Did};
 ghost use Rattle.cm_cli.specs.Takings.{OpensImage, ReadsProgram, RefusesImage, RefusesProgram, TakesFile, reads_by};
 
-use crate::opened::{Opened, open_image};
+use crate::opened::Opened;
 use crate::outside::Outside;
 use crate::program_fault::ProgramFault;
+use crate::sourced::open_image_source;
 use crate::takes::{TakeFault, take};
 use cm_asm::{Program, assemble};
 use std::alloc::Global;
-
-/// Most bytes of an image's file.
-const IMAGE_LIMIT: u64 = 134217728;
 
 /// Most bytes of a program's file.
 const PROGRAM_LIMIT: u64 = 16777216;
@@ -29,9 +27,9 @@ pub fn open_image_file<H: Outside>(
     ensures refused { IfErr result (λ fault. Did H.does outside.old outside.new (RefusesImage
         (reads_by H.File.left H.File.has_failed) path.now fault)) }
 {
-    match take_file(alloc, outside, path, IMAGE_LIMIT) {
-        Ok(image) => open_image(alloc, image.as_slice()),
-        Err(fault) => Err(ProgramFault::from(fault)),
+    match outside.open(path) {
+        Ok(mut file) => open_image_source(alloc, &mut file),
+        Err(_) => Err(ProgramFault::Read),
     }
 }
 

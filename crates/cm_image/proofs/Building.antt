@@ -22,7 +22,7 @@ use Rattle.cm_image_format.specs.Whole.{plane_or, plane_at, planes_of, chip_from
 use Rattle.cm_array.specs.Pokes.{machine_with_flag_plane}
 use Rattle.cm_image.specs.Planes.{put_plane}
 use Rattle.cm_image.specs.Chips.{with_chip, with_flags, with_listed, with_message, with_chip_image, IsBlankFrom}
-use Rattle.cm_image.specs.Chips.{blank_at}
+use Rattle.cm_image.specs.Chips.{blank_at, put_chip}
 
 -- ---- a chip of planes
 
@@ -261,10 +261,6 @@ nothing_before k = omega arith
 
 add_one_more : (c k : ℕ) → c + 1 + k ≡ c + suc k
 add_one_more c k = omega arith
-
--- a machine, and how many of its chips are put in
-abbrev pub put_chip : Machine × ℕ → ChipImage → Machine × ℕ
-put_chip s image = (with_chip_image s.1 s.0 image, s.1 + 1)
 
 abbrev filled : Machine → ℕ → List ChipImage → Machine
 filled m c images = record m {

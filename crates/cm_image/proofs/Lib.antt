@@ -1,10 +1,12 @@
 mod Filling
+mod Going
 mod Taking
 mod Cutting
 mod Nearing
 mod Waiting
 mod Building
 mod Loading
+mod Coming
 mod Dumping
 mod Listing
 mod Lengths

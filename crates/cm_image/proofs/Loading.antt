@@ -1,6 +1,6 @@
 -- From the parts of an image to the whole, and from its machine to what is answered.
 use Rattle.std.proofs.Common.{◌≡◌, ℕ, zero, suc, ◌+◌, ◌-◌, ◌<◌, ◌≤◌, ◌^◌, Bool, true, false, List, [], ◌∷◌, ◌++◌, map}
-use Rattle.std.proofs.Common.{fold, set, Result, Ok, Err, IfOk, IfErr, length, refl, sym, ap, ◌∙◌, subst, arith}
+use Rattle.std.proofs.Common.{fold, set, Option, Some, None, Result, Ok, Err, IfOk, IfErr, length, refl, sym, ap, ◌∙◌, subst, arith}
 use Rattle.std.proofs.Common.{if◌then◌else◌}
 use Rattle.std.specs.List.{flat_map}
 use Rattle.std.proofs.lemmas.List.{nil_from_length, length_push}
@@ -8,24 +8,25 @@ use Rattle.cm_model.specs.declared.message.Message.{Message}
 use Rattle.cm_model.specs.Processor.{Processor}
 use Rattle.cm_model.specs.Array.{Chips, list_at}
 use Rattle.cm_model.specs.Wiring.{Routing, plain_routing}
-use Rattle.cm_model.specs.Machine.{Machine}
+use Rattle.cm_model.specs.Machine.{Machine, blank_machine}
 use Rattle.cm_model.specs.Unlogged.{standing_messages, has_tag_twice}
 use Rattle.cm_image_format.specs.declared.fault.ImageFault.{ImageFault}
 use Rattle.cm_image_format.specs.declared.fault.ImageFault.TheVariants.{TagTwice, Extra}
-use Rattle.cm_image_format.specs.Reading.{◌>>=◌, Read, made, many}
+use Rattle.cm_image_format.specs.Reading.{◌>>=◌, Read, made, many, fault_in}
 use Rattle.cm_image_format.specs.Header.{Head, header_part}
 use Rattle.cm_image_format.specs.Cuts.{routing_part}
 use Rattle.cm_image_format.specs.Image.{Listed, ChipImage, flags_part, memory_part, messages_part, chip_part}
 use Rattle.cm_element.specs.Near.{with_near}
 use Rattle.cm_element.specs.Planes.{chip_of}
 use Rattle.cm_image_format.specs.Whole.{planes_of, chip_from, Image, machine_from, messages_in, image_part, ended}
-use Rattle.cm_image_format.specs.Whole.{read_image}
+use Rattle.cm_image_format.specs.Whole.{read_image, image_fault}
 use Rattle.cm_image.specs.Chips.{with_flags, with_listed, with_message, with_chip_image, IsBlankFrom, blank_at}
-use Rattle.cm_image.specs.Chips.{chips_part, machine_of_chips}
+use Rattle.cm_image.specs.Chips.{chips_part, machine_of_chips, put_chip, chips_onto, IsReadTo}
 use Rattle.cm_image.specs.Cuts.{with_routing}
 use Rattle.cm_image.specs.Tile.{with_waiting}
 use Rattle.cm_image.proofs.Filling.{fill, fill_on, fill_err, fill_done, fill_is, many_err}
-use Rattle.cm_image.proofs.Building.{chip_built, blank_from-next, put_chip, machine_built, messages_all}
+use Rattle.cm_image.proofs.Building.{chip_built, blank_from-next, blank_from-blank_at, machine_built, messages_all}
+use Rattle.cm_image.proofs.Waiting.{nothing_waits}
 use Rattle.cm_image.proofs.Nearing.{near_within, near_more}
 
 -- ---- what a value was made of
@@ -55,6 +56,14 @@ pub with_fault : {T : Type 0} (r : Result T ImageFault) (P Q : ImageFault → Ty
     → ((fault : ImageFault) → P fault → Q fault) → IfErr r P → IfErr r Q
 with_fault (Ok x) P Q f h = h
 with_fault (Err fault) P Q f h = f fault h
+
+-- what is read as a fault has that fault
+pub faulty : (n cap : ℕ) (bytes : List ℕ) (fault : ImageFault) → read_image n cap bytes ≡ Err fault
+    → image_fault n cap bytes ≡ Some fault
+faulty n cap bytes fault is = ap fault_in is
+
+pub not_both : {A : Type 0} (o : Option ImageFault) (fault : ImageFault) → o ≡ Some fault → o ≡ None → A
+not_both o fault some none = let wrong : ◌≡◌ {A = Option ImageFault} None (Some fault) = sym none ∙ some in absurd (cc)
 
 -- ---- a chip
 
@@ -161,15 +170,21 @@ same_number i chip = i
 abbrev pub chips_left : ℕ → ℕ → ℕ → ℕ → Machine → List ℕ → Read (Machine × ℕ)
 chips_left n cap clock c m rest = fill same_number (λ i. chip_part n cap clock) put_chip (2 ^ n - c) 0 (m, c) rest
 
-pub chips_on : (n cap clock c : ℕ) (first m whole : Machine) (bytes before after : List ℕ) → c < 2 ^ n
-    → chips_left n cap clock c m before ≡ chips_left n cap clock 0 first bytes
+left_is : (n cap clock c : ℕ) (m : Machine) (rest : List ℕ)
+    → chips_left n cap clock c m rest ≡ chips_onto n cap clock c m rest
+left_is n cap clock c m rest = fill_is same_number (λ i. chip_part n cap clock) put_chip (2 ^ n - c) 0 (m, c) rest
+
+-- a chip is read, and what is left is read on as before
+pub chips_on : (n cap clock c : ℕ) (m whole : Machine) (before after : List ℕ) (all : Read (Machine × ℕ)) → c < 2 ^ n
+    → chips_onto n cap clock c m before ≡ all
     → made (with_chip_image c m) (chip_part n cap clock) before ≡ Ok (whole, after)
-    → chips_left n cap clock (c + 1) whole after ≡ chips_left n cap clock 0 first bytes
-chips_on n cap clock c first m whole bytes before after h same is =
+    → chips_onto n cap clock (c + 1) whole after ≡ all
+chips_on n cap clock c m whole before after all h same is =
     let image = made_of (with_chip_image c m) (chip_part n cap clock) before after whole is in
-    ap (λ (z : Machine). chips_left n cap clock (c + 1) z after) (sym image.2)
-    ∙ (sym (fill_on same_number (λ i. chip_part n cap clock) put_chip (2 ^ n) c 0 (m, c) before after image.0 h
-    image.1) ∙ same)
+    ap (λ (z : Machine). chips_onto n cap clock (c + 1) z after) (sym image.2)
+    ∙ (sym (left_is n cap clock (c + 1) (with_chip_image c m image.0) after)
+    ∙ (sym (fill_on same_number (λ i. chip_part n cap clock) put_chip (2 ^ n) c 0 (m, c) before after image.0 h image.1)
+    ∙ (left_is n cap clock c m before ∙ same)))
 
 -- a chip is put in: those behind it are blank still
 pub blank_on : (n cap clock c : ℕ) (m whole : Machine) (before after : List ℕ)
@@ -186,24 +201,35 @@ blank_on n cap clock c m whole before after is blank time =
 from_nothing : (k : ℕ) → k - 0 ≡ k
 from_nothing k = omega arith
 
-pub chips_wrong : (n cap clock c : ℕ) (first m : Machine) (bytes before : List ℕ) (fault : ImageFault) → c < 2 ^ n
-    → chips_left n cap clock c m before ≡ chips_left n cap clock 0 first bytes
-    → chip_part n cap clock before ≡ Err fault → chips_part n cap clock bytes ≡ Err fault
-chips_wrong n cap clock c first m bytes before fault h same is =
+pub chips_wrong : (n cap clock c : ℕ) (m : Machine) (before : List ℕ) (fault : ImageFault) → c < 2 ^ n
+    → chip_part n cap clock before ≡ Err fault → chips_onto n cap clock c m before ≡ Err fault
+chips_wrong n cap clock c m before fault h is =
+    sym (left_is n cap clock c m before)
+    ∙ fill_err same_number (λ i. chip_part n cap clock) put_chip (2 ^ n) c 0 (m, c) before fault h is
+
+pub chips_done : (n cap clock c : ℕ) (m : Machine) (rest : List ℕ) → 2 ^ n ≤ c
+    → chips_onto n cap clock c m rest ≡ Ok ((m, c), rest)
+chips_done n cap clock c m rest h =
+    sym (left_is n cap clock c m rest)
+    ∙ fill_done same_number (λ i. chip_part n cap clock) put_chip (2 ^ n) c 0 (m, c) rest h
+
+-- all chips, from the first on
+all_wrong : (n cap clock : ℕ) (first : Machine) (bytes : List ℕ) (fault : ImageFault)
+    → chips_onto n cap clock 0 first bytes ≡ Err fault → chips_part n cap clock bytes ≡ Err fault
+all_wrong n cap clock first bytes fault is =
     many_err same_number (λ i. chip_part n cap clock) put_chip (2 ^ n) 0 (first, 0) bytes fault
     (ap (λ (k : ℕ). fill same_number (λ i. chip_part n cap clock) put_chip k 0 (first, 0) bytes)
     (sym (from_nothing (2 ^ n)))
-    ∙ (sym same ∙ fill_err same_number (λ i. chip_part n cap clock) put_chip (2 ^ n) c 0 (m, c) before fault h is))
+    ∙ (left_is n cap clock 0 first bytes ∙ is))
 
-pub chips_read : (n cap clock c : ℕ) (routing : Routing) (m : Machine) (bytes rest : List ℕ) → 2 ^ n ≤ c
-    → chips_left n cap clock c m rest ≡ chips_left n cap clock 0 (blank_at n clock routing) bytes
+all_read : (n cap clock c : ℕ) (routing : Routing) (m : Machine) (bytes rest : List ℕ)
+    → chips_onto n cap clock 0 (blank_at n clock routing) bytes ≡ Ok ((m, c), rest)
     → made (machine_of_chips clock routing) (chips_part n cap clock) bytes ≡ Ok (m, rest)
-chips_read n cap clock c routing m bytes rest h same =
+all_read n cap clock c routing m bytes rest is =
     let one : ℕ → List ℕ → Read ChipImage = λ i. chip_part n cap clock in
     let all : made (λ xs. fold put_chip (blank_at n clock routing, 0) xs) (chips_part n cap clock) bytes ≡ Ok ((m, c), rest) =
-    sym (fill_is same_number one put_chip (2 ^ n) 0 (blank_at n clock routing, 0) bytes)
-    ∙ (ap (λ (k : ℕ). fill same_number one put_chip k 0 (blank_at n clock routing, 0) bytes) (sym (from_nothing (2 ^ n)))
-    ∙ (sym same ∙ fill_done same_number one put_chip (2 ^ n) c 0 (m, c) rest h)) in
+    ap (λ (k : ℕ). made (λ xs. fold put_chip (blank_at n clock routing, 0) xs) (many same_number one k 0) bytes)
+    (sym (from_nothing (2 ^ n))) ∙ is in
     let images = made_of (λ xs. fold put_chip (blank_at n clock routing, 0) xs) (chips_part n cap clock) bytes rest (m, c)
     all in
     let built = sym (machine_built n (record { clock = clock; routing = routing; chips = images.0 })
@@ -316,3 +342,87 @@ pub extra : (n cap : ℕ) (header : Head × ℕ) (bytes after rest : List ℕ) (
 extra n cap header bytes after rest first machine begun chips once some =
     image_told n cap header bytes after rest first machine begun chips
     ∙ ((λ i. told (once i) machine rest) ∙ told_extra machine rest some)
+
+-- ---- what is left of a whole image
+
+-- nothing was read of the chips
+pub read_to_first : (n cap : ℕ) (header : Head × ℕ) (whole chips : List ℕ) (machine : Machine)
+    → IsBegun n cap header whole chips machine × (machine ≡ blank_at n header.1 machine.routing)
+    → IsReadTo n cap header 0 machine chips whole
+read_to_first n cap header whole chips machine begun = record {
+  front = begun.0.front;
+  chips = chips;
+  routing = machine.routing;
+  header_is = begun.0.header_is;
+  routing_is = begun.0.routing_is;
+  same = ap (λ (m : Machine). chips_onto n cap header.1 0 m chips) begun.1;
+}
+
+is_begun : (n cap : ℕ) (header : Head × ℕ) (c : ℕ) (m : Machine) (rest whole : List ℕ)
+    → (to : IsReadTo n cap header c m rest whole)
+    → IsBegun n cap header whole to.chips (blank_at n header.1 to.routing)
+is_begun n cap header c m rest whole to = record {
+  front = to.front;
+  header_is = to.header_is;
+  routing_is = to.routing_is;
+}
+
+pub left_wrong : (n cap : ℕ) (header : Head × ℕ) (c : ℕ) (m : Machine) (rest whole : List ℕ) (fault : ImageFault)
+    → IsReadTo n cap header c m rest whole → chips_onto n cap header.1 c m rest ≡ Err fault
+    → read_image n cap whole ≡ Err fault
+left_wrong n cap header c m rest whole fault to is =
+    chips_fault n cap header whole to.chips (blank_at n header.1 to.routing) fault
+    (is_begun n cap header c m rest whole to)
+    (all_wrong n cap header.1 (blank_at n header.1 to.routing) to.chips fault (sym to.same ∙ is))
+
+pub left_loaded : (n cap : ℕ) (header : Head × ℕ) (c k : ℕ) (m machine : Machine) (rest after whole : List ℕ)
+    → IsReadTo n cap header c m rest whole → chips_onto n cap header.1 c m rest ≡ Ok ((machine, k), after)
+    → has_tag_twice (standing_messages machine) ≡ false → length after ≡ 0 → read_image n cap whole ≡ Ok machine
+left_loaded n cap header c k m machine rest after whole to is once none =
+    loaded n cap header whole to.chips after (blank_at n header.1 to.routing) machine
+    (is_begun n cap header c m rest whole to)
+    (all_read n cap header.1 k to.routing machine to.chips after (sym to.same ∙ is)) once none
+
+pub left_twice : (n cap : ℕ) (header : Head × ℕ) (c k : ℕ) (m machine : Machine) (rest after whole : List ℕ)
+    → IsReadTo n cap header c m rest whole → chips_onto n cap header.1 c m rest ≡ Ok ((machine, k), after)
+    → has_tag_twice (standing_messages machine) ≡ true → read_image n cap whole ≡ Err TagTwice
+left_twice n cap header c k m machine rest after whole to is two =
+    twice n cap header whole to.chips after (blank_at n header.1 to.routing) machine
+    (is_begun n cap header c m rest whole to)
+    (all_read n cap header.1 k to.routing machine to.chips after (sym to.same ∙ is)) two
+
+pub left_extra : (n cap : ℕ) (header : Head × ℕ) (c k : ℕ) (m machine : Machine) (rest after whole : List ℕ)
+    → IsReadTo n cap header c m rest whole → chips_onto n cap header.1 c m rest ≡ Ok ((machine, k), after)
+    → has_tag_twice (standing_messages machine) ≡ false → (length after ≡ 0 → ⊥) → read_image n cap whole ≡ Err Extra
+left_extra n cap header c k m machine rest after whole to is once some =
+    extra n cap header whole to.chips after (blank_at n header.1 to.routing) machine
+    (is_begun n cap header c m rest whole to)
+    (all_read n cap header.1 k to.routing machine to.chips after (sym to.same ∙ is)) once some
+
+-- the machine that was begun routes as the image tells
+pub routed : (n cap : ℕ) (header : Head × ℕ) (bytes behind chips : List ℕ) (first machine : Machine)
+    → header_part n cap bytes ≡ Ok (header, behind) → first ≡ record (blank_machine n) { clock = header.1 }
+    → made (with_routing first) (routing_part n header.0) behind ≡ Ok (machine, chips)
+    → IsBegun n cap header bytes chips machine × (machine ≡ blank_at n header.1 machine.routing)
+unfolding blank_machine
+routed n cap header bytes behind chips first machine is blank routes =
+    begun n cap header bytes behind chips first machine is blank routes
+
+-- nothing waits yet, and every chip is blank
+pub nothing : (n clock : ℕ) (machine : Machine) (waiting : Chips) → waiting ≡ []
+    → machine ≡ blank_at n clock machine.routing → IsBlankFrom n 0 (with_waiting 0 machine waiting)
+nothing n clock machine waiting none blank =
+    subst (λ (m : Machine). IsBlankFrom n 0 m)
+    (sym blank ∙ sym (nothing_waits 0 machine) ∙ ap (λ (chips : Chips). with_waiting 0 machine chips) (sym none))
+    (blank_from-blank_at n clock machine.routing)
+
+-- the whole of an image, of which nothing was put in
+pub of_whole : (n cap : ℕ) (header : Head × ℕ) (bytes behind chips : List ℕ) (first machine : Machine) (waiting : Chips)
+    → header_part n cap bytes ≡ Ok (header, behind) → first ≡ record (blank_machine n) { clock = header.1 }
+    → made (with_routing first) (routing_part n header.0) behind ≡ Ok (machine, chips) → waiting ≡ []
+    → IsReadTo n cap header 0 (with_waiting 0 machine waiting) chips bytes
+of_whole n cap header bytes behind chips first machine waiting is blank routes none =
+    subst (λ (m : Machine). IsReadTo n cap header 0 m chips bytes)
+    (sym (nothing_waits 0 machine) ∙ ap (λ (w : Chips). with_waiting 0 machine w) (sym none))
+    (read_to_first n cap header bytes chips machine
+    (routed n cap header bytes behind chips first machine is blank routes))

@@ -126,7 +126,7 @@ pub record IsStanding (n c clock count i : ℕ) (machine : Machine) (rest : List
   pub standing : length (list_at machine.buffers c) ≡ i
   pub counter : machine.clock ≡ clock
 
-no_more : (cap count : ℕ) → count ≤ cap → must Count (λ k. nat_le k cap) count ≡ None
+pub no_more : (cap count : ℕ) → count ≤ cap → must Count (λ k. nat_le k cap) count ≡ None
 no_more cap count h = rw (le-leb count cap h) refl
 
 pub messages_start : (n c clock count : ℕ) (machine : Machine) (rest : List ℕ) → length machine.buffers ≡ 2 ^ n

@@ -1,5 +1,5 @@
 -- What an image has of chips, put into a machine: ours.
-use Rattle.std.specs.Prelude.{◌≡◌, ℕ, ◌≤◌, ◌<◌, ◌^◌, List, [], length, slice_set, replicate}
+use Rattle.std.specs.Prelude.{◌≡◌, ℕ, ◌+◌, ◌-◌, ◌≤◌, ◌<◌, ◌^◌, List, [], Ok, fold, length, slice_set, replicate}
 use Rattle.cm_model.specs.declared.message.Message.{Message}
 use Rattle.cm_model.specs.Chip.{blank_chip}
 use Rattle.cm_model.specs.Array.{chip_at, list_at}
@@ -7,7 +7,9 @@ use Rattle.cm_model.specs.Wiring.{Routing}
 use Rattle.cm_model.specs.Machine.{Machine, blank_machine}
 use Rattle.cm_element.specs.Planes.{chip_of}
 use Rattle.cm_array.specs.Pokes.{machine_with_plane, machine_with_message}
-use Rattle.cm_image_format.specs.Reading.{Read, many}
+use Rattle.cm_image_format.specs.Reading.{Read, made, many}
+use Rattle.cm_image_format.specs.Header.{Head, header_part}
+use Rattle.cm_image_format.specs.Cuts.{routing_part}
 use Rattle.cm_image_format.specs.Image.{Listed, ChipImage, chip_part}
 use Rattle.cm_image_format.specs.Whole.{chip_from, machine_from}
 
@@ -52,3 +54,22 @@ chips_part n cap clock = many (λ i chip. i) (λ i. chip_part n cap clock) (2 ^ 
 -- the machine of chips that were read behind a counter and a routing
 abbrev pub machine_of_chips : ℕ → Routing → List ChipImage → Machine
 machine_of_chips clock routing chips = machine_from (record { clock = clock; routing = routing; chips = chips })
+
+-- a machine and how many of its chips were put in, with one chip more
+abbrev pub put_chip : Machine × ℕ → ChipImage → Machine × ℕ
+put_chip s image = (with_chip_image s.1 s.0 image, s.1 + 1)
+
+-- a machine that has the chips before this one, with those that bytes have from this one on
+abbrev pub chips_onto : ℕ → ℕ → ℕ → ℕ → Machine → List ℕ → Read (Machine × ℕ)
+chips_onto n cap clock c machine = made (λ chips. fold put_chip (machine, c) chips)
+    (many (λ i chip. i) (λ i. chip_part n cap clock) (2 ^ n - c) 0)
+
+-- of a whole image with this header the rest begins with this chip, and the machine has what stands before
+pub record IsReadTo (n cap : ℕ) (header : Head × ℕ) (c : ℕ) (machine : Machine) (rest whole : List ℕ) : Type 0 where
+  pub front : List ℕ
+  pub chips : List ℕ
+  pub routing : Routing
+  pub header_is : header_part n cap whole ≡ Ok (header, front)
+  pub routing_is : routing_part n header.0 front ≡ Ok (routing, chips)
+  pub same : chips_onto n cap header.1 c machine rest
+      ≡ chips_onto n cap header.1 0 (blank_at n header.1 routing) chips

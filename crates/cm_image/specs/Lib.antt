@@ -2,3 +2,5 @@ pub mod Planes
 pub mod Chips
 pub mod Tile
 pub mod Cuts
+pub mod Pieces
+pub mod Taken

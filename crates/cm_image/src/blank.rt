@@ -39,7 +39,7 @@ pub fn blank_image(alloc: Global, n: u8, room: u8, routing: &Routing) -> Result<
 }
 
 /// So many zero bytes.
-fn push_zeros(text: &mut Vec<u8>, count: usize) -> Result<(), NoMemory>
+pub(crate) fn push_zeros(text: &mut Vec<u8>, count: usize) -> Result<(), NoMemory>
     requires few { count ≤ 1000000 }
     ensures ok { OnOk result (text.new.items ≡ text.old.items ++ replicate count 0) }
 {

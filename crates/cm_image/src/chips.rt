@@ -1,18 +1,20 @@
 //! The chips of an image.
 
-ghost use Rattle.std.specs.Prelude.{◌≡◌, ◌≤◌, ◌<◌, ◌+◌, ◌^◌, ℕ, List, [], IfOk, IfErr, OnOk, Ok, Err, fold, length};
-ghost use Rattle.std.specs.Prelude.{slice_index};
+ghost use Rattle.std.specs.Prelude.{◌≡◌, ◌↔◌, ◌≤◌, ◌<◌, ◌+◌, ◌^◌, ℕ, List, [], IfOk, IfErr, OnOk, Ok, Err, fold, length};
+ghost use Rattle.std.specs.Prelude.{slice_index, IfSome, IsNone, IsErrOf, true, false};
 ghost use Rattle.cm_image_format.specs.Reading.{Gives, made};
 ghost use Rattle.cm_image_format.specs.Image.{flag_part, listed_part, flags_part, memory_part, chip_part};
-ghost use Rattle.cm_image.specs.Chips.{with_listed, with_flags, with_chip_image, IsBlankFrom, blank_at, chips_part};
-ghost use Rattle.cm_image.specs.Chips.{machine_of_chips};
+ghost use Rattle.cm_image.specs.Chips.{with_listed, with_flags, with_chip_image, IsBlankFrom, chips_onto};
+ghost use Rattle.cm_image.specs.Pieces.{IsStopped};
+ghost use Rattle.cm_image.specs.Taken.{IsTakenIn, AreTakenIn};
 ghost use Rattle.cm_image.specs.Tile.{with_waiting};
 
-use crate::messages::take_messages;
+use crate::messages::{are_messages, take_messages};
 use crate::numbers::{chip_count, take_u16};
+use crate::pieces::{SourceFault, Window};
 use crate::tile::{LISTED_LEN, Tile};
 use cm_array::Builder;
-use cm_bits::{Addr, FlagNo, Plane};
+use cm_bits::{Addr, FlagNo, Plane, Source};
 use cm_image_format::ImageFault;
 
 /// The flag planes of a chip, by number.
@@ -160,25 +162,103 @@ fn take_chip<'a, const N: usize, const CAP: usize>(
     take_listed_chip(builder, chip, chips, clock, &flags, rest)
 }
 
-/// Puts what an image has of each chip into it, and gives the bytes after the last.
+/// Puts what an image has of each chip from this one on into it, and gives the bytes after the last. Those before it were
+/// put in, or wait.
 pub(crate) fn take_chips<'a, const N: usize, const CAP: usize>(
     builder: &mut Builder<N, CAP>,
     tile: &mut Tile,
+    first: u16,
     clock: u64,
     bytes: &'a [u8],
 ) -> Result<&'a [u8], ImageFault>
     requires dimension { N ≤ 12 }
-    requires blank { builder.old ≡ blank_at N clock builder.old.routing }
-    requires none { tile.old ≡ [] }
-    ensures ok { IfOk result (λ rest. made (machine_of_chips clock builder.old.routing) (chips_part N CAP clock)
-        bytes.now ≡ Ok (builder.new, rest.now)) }
-    ensures refused { IfErr result (λ fault. chips_part N CAP clock bytes.now ≡ Err fault) }
+    requires first { first ≤ 2 ^ N }
+    requires waiting { length tile.old ≤ first }
+    requires blank { IsBlankFrom N first (with_waiting first builder.old tile.old) }
+    requires clock { builder.old.clock ≡ clock }
+    ensures ok { IfOk result (λ rest. chips_onto N CAP clock first (with_waiting first builder.old tile.old) bytes.now
+        ≡ Ok ((builder.new, 2 ^ N), rest.now)) }
+    ensures refused { IfErr result (λ fault. chips_onto N CAP clock first (with_waiting first builder.old tile.old)
+        bytes.now ≡ Err fault) }
 {
     let chips = chip_count::<N>();
     let mut rest = bytes;
-    for chip in 0..chips {
+    for chip in first..chips {
         rest = take_chip(builder, tile, chip, chips, clock, rest)?;
     }
     tile.put(builder, chips);
     Ok(rest)
+}
+
+/// Takes in a chip whose memory planes are all listed, if all of it stands in these bytes without a fault. How many bytes
+/// come after it.
+fn take_full_chip<const N: usize, const CAP: usize>(
+    builder: &mut Builder<N, CAP>,
+    tile: &mut Tile,
+    chip: u16,
+    chips: u16,
+    clock: u64,
+    bytes: &[u8],
+) -> Option<usize>
+    requires cube { chips ≡ 2 ^ N }
+    requires chip { chip < chips }
+    requires waiting { length tile.old ≤ chip }
+    requires blank { IsBlankFrom N chip (with_waiting chip builder.old tile.old) }
+    requires clock { builder.old.clock ≡ clock }
+    ensures full { IfSome result (λ len. IsTakenIn N CAP clock chip (with_waiting chip builder.old tile.old)
+        (with_waiting (chip + 1) builder.new tile.new) len bytes.now) }
+    ensures waiting { IfSome result (λ len. length tile.new ≤ chip + 1) }
+    ensures other { IsNone result → with_waiting chip builder.new tile.new ≡ with_waiting chip builder.old tile.old }
+    ensures few { IsNone result → length tile.new ≤ chip }
+{
+    let Ok(read) = take_flags(bytes) else {
+        return None;
+    };
+    let (flags, rest) = read;
+    if rest.len() < LISTED_LEN || !are_messages(N, CAP, chips, clock, &rest[LISTED_LEN..]) {
+        return None;
+    }
+    tile.make_room(builder, chip);
+    if !tile.push(&flags, rest) {
+        return None;
+    }
+    match take_messages(builder, chip, chips, clock, &rest[LISTED_LEN..]) {
+        Ok(after) => Some(after.len()),
+        Err(_) => unreachable!(),
+    }
+}
+
+/// Takes in chips whose memory planes are all listed, of bytes and those that a source has behind them, up to the first
+/// that is not so. Which chip that is, and how many bytes may still be read.
+pub(crate) fn take_full_chips<const N: usize, const CAP: usize, I: Source>(
+    builder: &mut Builder<N, CAP>,
+    tile: &mut Tile,
+    clock: u64,
+    window: &mut Window,
+    source: &mut I,
+    most: u64,
+) -> Result<(u16, u64), SourceFault>
+    requires dimension { N ≤ 12 }
+    requires none { tile.old ≡ [] }
+    requires blank { IsBlankFrom N 0 builder.old }
+    requires clock { builder.old.clock ≡ clock }
+    requires working { I.has_failed source.old ≡ false }
+    ensures value { IfOk result (λ x. AreTakenIn N CAP clock x.0 builder.old (with_waiting x.0 builder.new tile.new)
+        window.old window.new (I.left source.old) (I.left source.new) most x.1) }
+    ensures waiting { IfOk result (λ x. length tile.new ≤ x.0) }
+    ensures clock { OnOk result (builder.new.clock ≡ clock) }
+    ensures refused { IfErr result (IsStopped most (I.left source.old) (I.left source.new) (λ fault more. ⊥)) }
+    ensures read { (I.has_failed source.new ≡ true) ↔ IsErrOf result SourceFault.Read }
+{
+    let chips = chip_count::<N>();
+    let mut left = most;
+    for chip in 0..chips {
+        left -= window.fill(source, left)?;
+        let taken = take_full_chip(builder, tile, chip, chips, clock, window.rest());
+        let Some(rest) = taken else {
+            return Ok((chip, left));
+        };
+        window.keep(rest);
+    }
+    Ok((chips, left))
 }

@@ -11,6 +11,8 @@ mod header;
 mod loads;
 mod messages;
 mod numbers;
+mod pieces;
+mod sourced;
 mod tile;
 
 pub use blank::blank_image;
@@ -18,3 +20,5 @@ pub use cm_image_format::ImageFault;
 pub use dumps::dump;
 pub use header::shape;
 pub use loads::load;
+pub use pieces::{SourceFault, take_rest};
+pub use sourced::{load_source, shapes_go_on};

@@ -1,6 +1,6 @@
 //! The messages of a chip of an image.
 
-ghost use Rattle.std.specs.Prelude.{◌≡◌, ◌≤◌, ◌<◌, ◌^◌, [], IfOk, IfErr, Ok, Err, fold, length};
+ghost use Rattle.std.specs.Prelude.{◌≡◌, ◌≤◌, ◌<◌, ◌^◌, [], true, IfOk, IfErr, IsOk, Ok, Err, fold, length};
 ghost use Rattle.cm_model.specs.Array.{list_at};
 ghost use Rattle.cm_image_format.specs.Reading.{Gives, made};
 ghost use Rattle.cm_image_format.specs.Cuts.{chip_number_part};
@@ -111,4 +111,24 @@ pub(crate) fn take_messages<'a, const N: usize, const CAP: usize>(
         }
     }
     Ok(rest)
+}
+
+/// Whether the messages of a chip stand at the front of bytes without a fault.
+pub(crate) fn are_messages(n: usize, cap: usize, chips: u16, clock: u64, bytes: &[u8]) -> bool
+    requires cube { chips ≡ 2 ^ n }
+    ensures value { result ≡ true → IsOk (messages_part n cap clock bytes.now) }
+{
+    let Ok((count, mut rest)) = take_u8(bytes) else {
+        return false;
+    };
+    if usize::from(count) > cap {
+        return false;
+    }
+    for i in 0..count {
+        let Ok((_, after)) = take_message(n, chips, clock, rest) else {
+            return false;
+        };
+        rest = after;
+    }
+    true
 }

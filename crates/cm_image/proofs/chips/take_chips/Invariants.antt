@@ -1,7 +1,6 @@
 use Rattle.std.proofs.Common.{◌≡◌, ◌≤◌, length}
-use Rattle.cm_image.specs.Chips.{IsBlankFrom}
+use Rattle.cm_image.specs.Chips.{IsBlankFrom, chips_onto}
 use Rattle.cm_image.specs.Tile.{with_waiting}
-use Rattle.cm_image.proofs.Loading.{chips_left}
 use Rattle.cm_image.proofs.chips.take_chips.Given as goal
 
 -- the loop from here on gives what it gave at the start, and the chips from here on are blank
@@ -10,6 +9,6 @@ invariant-loop-chip g l = record {
   waiting : length l.tile ≤ l.chip;
   blank : IsBlankFrom g.row.N l.chip (with_waiting l.chip l.builder l.tile);
   clock : l.builder.clock ≡ l.clock;
-  same : chips_left g.row.N g.row.CAP l.clock l.chip (with_waiting l.chip l.builder l.tile) l.rest
-      ≡ chips_left g.row.N g.row.CAP l.clock 0 l.initial.builder l.initial.rest;
+  same : chips_onto g.row.N g.row.CAP l.clock l.chip (with_waiting l.chip l.builder l.tile) l.rest
+      ≡ chips_onto g.row.N g.row.CAP l.clock l.first (with_waiting l.first l.initial.builder l.initial.tile) l.initial.rest;
 }
