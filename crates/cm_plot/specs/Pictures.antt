@@ -1,5 +1,5 @@
 -- The picture of a table, as an SVG. Ours.
-use Rattle.std.specs.Prelude.{ℕ, ◌+◌, ◌*◌, ◌/◌, ◌-◌, Bool, true, false, min, Option, Some, None, Result, Ok, Err, List, [], ◌∷◌, ◌++◌, codes}
+use Rattle.std.specs.Prelude.{ℕ, ◌+◌, ◌*◌, ◌-◌, Bool, true, false, min, Option, Some, None, Result, Ok, Err, List, [], ◌∷◌, ◌++◌, codes}
 use Rattle.cm_bits.specs.Text.{lines_of}
 use Rattle.cm_plot.specs.declared.panels.Frame.{Frame}
 use Rattle.cm_plot.specs.declared.panels.Panel.{Panel}
@@ -12,17 +12,12 @@ use Rattle.cm_plot.specs.declared.points.PlotFault.TheVariants.{Unknown, Nothing
 use Rattle.cm_plot.specs.Axes.{axis_of, highest, leftmost, rightmost}
 use Rattle.cm_plot.specs.Bins.{bins}
 use Rattle.cm_plot.specs.Cells.{width_of}
-use Rattle.cm_plot.specs.Panels.{first_of, count_of, unit_of, panel_text}
-use Rattle.cm_plot.specs.Pieces.{piece}
+use Rattle.cm_plot.specs.Heads.{head_text}
+use Rattle.cm_plot.specs.Panels.{panel_text}
 use Rattle.cm_plot.specs.Points.{kind_of, points_after}
+use Rattle.cm_plot.specs.Shown.{first_of, count_of, unit_of}
 
 -- ---- words
-
-abbrev pub title_of : Kind → List ℕ
-title_of Cycles = codes "What the router does in each petit cycle"
-title_of Messages = codes "How long messages took"
-title_of Loads = codes "Latency and throughput against load"
-title_of Compared = codes "Loads compared"
 
 -- what stands to the right
 abbrev pub across_of : Kind → List ℕ
@@ -71,25 +66,6 @@ panel_count Cycles = 2
 panel_count Messages = 1
 panel_count Loads = 2
 panel_count Compared = 1
-
--- how large a picture is
-unfoldable pub size_text : ℕ → List ℕ
-size_text height =
-    piece (codes "<svg xmlns='http://www.w3.org/2000/svg' version='1.1' width='830' height='") (height / 10)
-    ++ piece (codes "' viewBox='0 0 8300 ") height
-
--- how its words are set, and its ground
-unfoldable pub ground_text : ℕ → List ℕ
-ground_text height =
-    codes "' font-family='sans-serif' font-size='150' text-anchor='middle'>\n"
-    ++ piece (codes "<rect width='8300' fill='white' height='") height ++ codes "'/>\n"
-
-unfoldable pub title_text : List ℕ → List ℕ
-title_text title = codes "<text x='3800' y='370' font-size='200'>" ++ title ++ codes "</text>\n"
-
--- what stands before the panels of a picture of this height
-unfoldable pub head_text : Kind → ℕ → List ℕ
-head_text kind height = size_text height ++ ground_text height ++ title_text (title_of kind)
 
 -- a picture of these points, of which the first stands here to the right
 unfoldable pub drawing : Kind → List ℕ → ℕ → List Point → List ℕ

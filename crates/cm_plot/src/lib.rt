@@ -4,10 +4,12 @@
 mod axes;
 mod bins;
 mod cells;
+mod lines;
 mod panels;
 mod pictures;
 mod pieces;
 mod points;
+mod ticks;
 
 pub use pictures::plot;
 pub use points::PlotFault;

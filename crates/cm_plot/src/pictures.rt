@@ -2,11 +2,11 @@
 
 ghost use Rattle.std.specs.Prelude.{◌≡◌, ◌≢◌, ◌++◌, ◌<◌, ◌≤◌, Some, Ok, Err, IfOk, IfErr, OnOk};
 ghost use Rattle.cm_bits.specs.Text.{lines_left};
-ghost use Rattle.cm_plot.specs.Panels.{count_of, CanBeDrawn};
+ghost use Rattle.cm_plot.specs.Heads.{title_of, size_text, ground_text, title_text, head_text};
 ghost use Rattle.cm_plot.specs.Points.{kind_of};
-ghost use Rattle.cm_plot.specs.Pictures.{title_of, across_of, right_unit, has_stems, frame_of, shown, panels_text, panel_count};
-ghost use Rattle.cm_plot.specs.Pictures.{size_text, ground_text, title_text, head_text, drawing, start_of};
-ghost use Rattle.cm_plot.specs.Pictures.{drawn_points, of_points, of_kind, picture_of};
+ghost use Rattle.cm_plot.specs.Pictures.{across_of, right_unit, has_stems, frame_of, shown, panels_text, panel_count};
+ghost use Rattle.cm_plot.specs.Pictures.{drawing, start_of, drawn_points, of_points, of_kind, picture_of};
+ghost use Rattle.cm_plot.specs.Shown.{count_of, CanBeDrawn};
 
 use crate::axes::{axis_of, highest, leftmost, rightmost};
 use crate::bins::bins;
@@ -146,7 +146,7 @@ fn panel_count(kind: Kind) -> u32
 }
 
 /// What stands before the panels of a picture of this height.
-#[tactic(auto, unfolding(crate::specs::Pictures::head_text))]
+#[tactic(auto, unfolding(crate::specs::Heads::head_text))]
 fn push_head(text: &mut Vec<u8>, kind: Kind, height: u32) -> Result<(), NoMemory>
     ensures ok { OnOk result (text.new.items ≡ text.old.items ++ head_text kind height) }
 {

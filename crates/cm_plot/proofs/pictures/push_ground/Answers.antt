@@ -1,5 +1,5 @@
 use Rattle.std.proofs.Common.{◌++◌, codes}
-use Rattle.cm_plot.specs.Pictures.{ground_text}
+use Rattle.cm_plot.specs.Heads.{ground_text}
 use Rattle.cm_plot.specs.Pieces.{piece}
 use Rattle.cm_plot.proofs.Joining.{behind, behind-ok}
 use Rattle.cm_plot.proofs.pictures.push_ground.Goals as goal

@@ -1,5 +1,5 @@
 use Rattle.std.proofs.Common.{codes, ◌/◌}
-use Rattle.cm_plot.specs.Pictures.{size_text}
+use Rattle.cm_plot.specs.Heads.{size_text}
 use Rattle.cm_plot.specs.Pieces.{piece}
 use Rattle.cm_plot.proofs.Joining.{behind-ok}
 use Rattle.cm_plot.proofs.pictures.push_size.Goals as goal

@@ -1,5 +1,5 @@
 use Rattle.std.proofs.Common.{◌++◌, codes}
-use Rattle.cm_plot.specs.Pictures.{title_text}
+use Rattle.cm_plot.specs.Heads.{title_text}
 use Rattle.cm_plot.proofs.Joining.{behind, behind-ok}
 use Rattle.cm_plot.proofs.pictures.push_title.Goals as goal
 

@@ -1,6 +1,6 @@
-use Rattle.cm_plot.specs.Panels.{up_tick}
+use Rattle.cm_plot.specs.Ticks.{up_tick}
 use Rattle.cm_plot.proofs.Growing.{next-more}
-use Rattle.cm_plot.proofs.panels.push_up_ticks.Goals as goal
+use Rattle.cm_plot.proofs.ticks.push_up_ticks.Goals as goal
 
 pub loop-k-preserved : goal.loop-k-preserved
 loop-k-preserved c =

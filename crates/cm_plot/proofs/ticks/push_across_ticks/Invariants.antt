@@ -1,7 +1,7 @@
 use Rattle.std.proofs.Common.{◌≡◌, ◌++◌}
 use Rattle.std.specs.List.{flat_map, range_with_len}
-use Rattle.cm_plot.specs.Panels.{across_tick}
-use Rattle.cm_plot.proofs.panels.push_across_ticks.Given as goal
+use Rattle.cm_plot.specs.Ticks.{across_tick}
+use Rattle.cm_plot.proofs.ticks.push_across_ticks.Given as goal
 
 -- so many ticks
 abbrev pub invariant-loop-k : goal.invariant-loop-k

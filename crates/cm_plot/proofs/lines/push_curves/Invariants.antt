@@ -1,7 +1,7 @@
 use Rattle.std.proofs.Common.{◌≡◌, ◌++◌}
 use Rattle.std.specs.List.{flat_map, range_with_len}
-use Rattle.cm_plot.specs.Panels.{curve_text}
-use Rattle.cm_plot.proofs.panels.push_curves.Given as goal
+use Rattle.cm_plot.specs.Lines.{curve_text}
+use Rattle.cm_plot.proofs.lines.push_curves.Given as goal
 
 -- so many lines
 abbrev pub invariant-loop-k : goal.invariant-loop-k

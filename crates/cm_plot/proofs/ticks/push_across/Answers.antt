@@ -1,8 +1,8 @@
 use Rattle.std.proofs.Common.{◌++◌, codes}
-use Rattle.cm_plot.specs.Panels.{across_text}
+use Rattle.cm_plot.specs.Ticks.{across_text}
 use Rattle.cm_plot.specs.Pieces.{piece}
 use Rattle.cm_plot.proofs.Joining.{behind, behind-ok}
-use Rattle.cm_plot.proofs.panels.push_across.Goals as goal
+use Rattle.cm_plot.proofs.ticks.push_across.Goals as goal
 
 pub returns : goal.returns
 unfolding across_text

@@ -1,8 +1,8 @@
 use Rattle.std.proofs.Common.{◌++◌, codes}
-use Rattle.cm_plot.specs.Panels.{circle}
+use Rattle.cm_plot.specs.Lines.{circle}
 use Rattle.cm_plot.specs.Pieces.{piece}
 use Rattle.cm_plot.proofs.Joining.{behind, behind-ok}
-use Rattle.cm_plot.proofs.panels.push_circle.Goals as goal
+use Rattle.cm_plot.proofs.lines.push_circle.Goals as goal
 
 pub returns : goal.returns
 unfolding circle

@@ -1,6 +1,6 @@
-use Rattle.cm_plot.specs.Panels.{across_tick}
+use Rattle.cm_plot.specs.Ticks.{across_tick}
 use Rattle.cm_plot.proofs.Growing.{next-more}
-use Rattle.cm_plot.proofs.panels.push_across_ticks.Goals as goal
+use Rattle.cm_plot.proofs.ticks.push_across_ticks.Goals as goal
 
 pub loop-k-preserved : goal.loop-k-preserved
 loop-k-preserved c =

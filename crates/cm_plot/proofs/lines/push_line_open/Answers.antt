@@ -1,7 +1,7 @@
 use Rattle.std.proofs.Common.{◌++◌, codes}
-use Rattle.cm_plot.specs.Panels.{line_open}
+use Rattle.cm_plot.specs.Lines.{line_open}
 use Rattle.cm_plot.proofs.Joining.{behind, behind-ok}
-use Rattle.cm_plot.proofs.panels.push_line_open.Goals as goal
+use Rattle.cm_plot.proofs.lines.push_line_open.Goals as goal
 
 pub returns : goal.returns
 unfolding line_open

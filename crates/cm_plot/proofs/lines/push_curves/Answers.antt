@@ -1,6 +1,6 @@
-use Rattle.cm_plot.specs.Panels.{curve_text}
+use Rattle.cm_plot.specs.Lines.{curve_text}
 use Rattle.cm_plot.proofs.Growing.{next-more}
-use Rattle.cm_plot.proofs.panels.push_curves.Goals as goal
+use Rattle.cm_plot.proofs.lines.push_curves.Goals as goal
 
 pub loop-k-preserved : goal.loop-k-preserved
 loop-k-preserved c =

@@ -1,8 +1,8 @@
 use Rattle.std.proofs.Common.{◌++◌, codes, ◌+◌}
-use Rattle.cm_plot.specs.Panels.{name_open}
+use Rattle.cm_plot.specs.Lines.{name_open}
 use Rattle.cm_plot.specs.Pieces.{piece}
 use Rattle.cm_plot.proofs.Joining.{behind, behind-ok}
-use Rattle.cm_plot.proofs.panels.push_name_open.Goals as goal
+use Rattle.cm_plot.proofs.lines.push_name_open.Goals as goal
 
 pub returns : goal.returns
 unfolding name_open
