@@ -6,6 +6,7 @@ use cm_fresh::FreshFault;
 use cm_front::{FrontFault, ImageFault, SessionFault};
 use cm_lab::{LabFault, NumbersFault};
 use cm_load::LoadFault;
+use cm_plot::PlotFault;
 use cm_source::{AsmKind, SourceFault, SourceKind};
 use std::alloc::Global;
 use std::io;
@@ -52,6 +53,8 @@ pub enum Fault {
     Machine { path: String, fault: ImageFault },
     #[error("cm1lab: {path}: {fault}")]
     Source { path: String, fault: SourceFault },
+    #[error("cm1lab: {path}: {fault}")]
+    Plot { path: String, fault: PlotFault },
     #[error("cm1lab: standard input: {0}")]
     Numbers(NumbersFault),
     #[error("cm1lab: standard input {0}")]
@@ -134,6 +137,17 @@ impl Fault {
         }
         match String::from_str(alloc, path) {
             Ok(path) => Fault::Source { path, fault },
+            Err(_) => Fault::Memory,
+        }
+    }
+
+    /// Why a text has no picture.
+    pub fn plot(alloc: Global, path: &str, fault: PlotFault) -> Fault {
+        if fault == PlotFault::Memory {
+            return Fault::Memory;
+        }
+        match String::from_str(alloc, path) {
+            Ok(path) => Fault::Plot { path, fault },
             Err(_) => Fault::Memory,
         }
     }

@@ -1,6 +1,6 @@
 //! The laboratory: data and pictures of all processors, out of a machine's image and into it, studies of its router, a
-//! front end, the programs of sources, blank machines, and loads. This is its words, its files, its standard input and
-//! output; what it does is in cm_lab, cm_front, cm_source, cm_fresh and cm_load.
+//! front end, the programs of sources, blank machines, loads, and pictures of tables. This is its words, its files, its
+//! standard input and output; what it does is in cm_lab, cm_front, cm_source, cm_fresh, cm_load and cm_plot.
 #![tactic(auto)]
 
 mod fault;
@@ -17,6 +17,7 @@ use cm_cli::{TakeFault, take};
 use cm_fresh::{FreshFault, fresh};
 use cm_front::front_image;
 use cm_lab::{LabFault, RouteFault, perform};
+use cm_plot::plot;
 use cm_source::expand;
 use std::alloc::Global;
 use std::io::Write;
@@ -35,6 +36,9 @@ const PICTURE_LIMIT: u64 = 16777216;
 
 /// Most bytes of a program's text.
 const PROGRAM_LIMIT: u64 = 16777216;
+
+/// Most bytes of a table.
+const TABLE_LIMIT: u64 = 16777216;
 
 /// Most bytes of a source.
 const SOURCE_LIMIT: u64 = 16777216;
@@ -78,6 +82,34 @@ fn run<R: Input + Print + Eprint + Env + Files + Clock + AllocGlobal>(
         Wanted::Expand { source } => unfold(rt, alloc, source),
         Wanted::Fresh(blank) => begin(rt, alloc, &blank),
         Wanted::Load(loads) => load(rt, alloc, &loads),
+        Wanted::Plot { file } => draw(rt, alloc, file),
+    }
+}
+
+/// The picture of a table.
+fn draw<R: Input + Print + Files>(rt: &R, alloc: Global, file: Option<&str>) -> Result<(), Fault> {
+    let table = read_table(rt, alloc, file)?;
+    match plot(alloc, table.as_slice()) {
+        Ok(picture) => show(rt, picture.as_slice()),
+        Err(fault) => Err(Fault::plot(alloc, file.unwrap_or("standard input"), fault)),
+    }
+}
+
+/// The bytes of a table.
+fn read_table<R: Input + Files>(
+    rt: &R,
+    alloc: Global,
+    file: Option<&str>,
+) -> Result<Vec<u8>, Fault> {
+    match file {
+        Some(path) => read_file(
+            rt,
+            alloc,
+            path,
+            TABLE_LIMIT,
+            "has too many bytes for a table",
+        ),
+        None => read_input(rt, alloc),
     }
 }
 

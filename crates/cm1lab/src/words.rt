@@ -56,6 +56,11 @@ cm1lab load N CAP RATE[,RATE].. CYCLES [--rule R] [--pattern P] [--until T] [--s
     how many petit cycles that took; P is uniform, transpose, reversal or hotspot; with
     --until only the first T petit cycles offer; S draws others
 
+cm1lab plot [FILE] > PICTURE
+    tells a picture, an SVG, of a table that cm1lab study, cm1lab study --messages or cm1lab
+    load told, which is in FILE or on standard input: lines over petit cycles, over how long
+    messages took, or over the rate
+
 ADDRESS is that of the field's lowest bit, 0 to 4095, and LENGTH how many bits it has, 1 to 64.
 IMAGE is a file that cm1 fresh, cm1 run --out or cm1lab wrote, PROGRAM a text as for cm1 run.";
 
@@ -99,6 +104,10 @@ pub enum Wanted<'a> {
     Fresh(Blank<'a>),
     /// Loads of the router.
     Load(Loads),
+    /// The picture of a table, which is in this file or on standard input.
+    Plot {
+        file: Option<&'a str>,
+    },
 }
 
 /// A task: of which image, with what is given beside it, and into which file, if the machine changes.
@@ -129,6 +138,8 @@ pub fn read_words<'a>(alloc: Global, words: &[&'a str]) -> Result<Wanted<'a>, Fa
             let loads = read_loads(alloc, n, room, rates, cycles, options)?;
             Ok(Wanted::Load(loads))
         }
+        [_, "plot"] => Ok(Wanted::Plot { file: None }),
+        [_, "plot", file] => Ok(Wanted::Plot { file: Some(file) }),
         _ => {
             let asked = read_task(alloc, words)?;
             Ok(Wanted::Task(asked))

@@ -1,0 +1,11 @@
+pub mod Axes
+pub mod Bins
+pub mod Cells
+pub mod Heads
+pub mod Lines
+pub mod Panels
+pub mod Pictures
+pub mod Pieces
+pub mod Points
+pub mod Shown
+pub mod Ticks
