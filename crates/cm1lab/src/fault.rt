@@ -1,6 +1,6 @@
 //! Why the program ends with a status other than 0, and what it tells then.
 
-use crate::words::HELP;
+use crate::words::{HELP, Operand};
 use cm_bits::FieldFault;
 use cm_fresh::FreshFault;
 use cm_front::{FrontFault, ImageFault, SessionFault};
@@ -20,30 +20,29 @@ pub enum Fault {
     Help,
     #[error("cm1lab: what is to be done? cm1lab --help tells what can be")]
     Words,
-    /// A word that is to be a number is none.
-    #[error("cm1lab: {word} is no number of an address or a length")]
-    Number { word: String },
-    /// A word that is to be a flag is none.
-    #[error("cm1lab: {word} is no number of a flag, 0 to 15")]
-    Flag { word: String },
-    /// A word that is to be a processor is none.
-    #[error("cm1lab: {word} is no number of a processor, 0 to 15")]
-    Processor { word: String },
-    /// A word that is to be a petit cycle is none.
-    #[error("cm1lab: {word} is no number of a petit cycle")]
-    Cycle { word: String },
-    /// A word that is to be any other number is none.
-    #[error("cm1lab: {word} is no number from 0 to 65535")]
-    Count { word: String },
-    /// A word that is to be something else is not.
-    #[error("cm1lab: {word} is no {what}")]
-    Word { word: String, what: &'static str },
+    /// No command has this name.
+    #[error("cm1lab: unknown command `{word}`; cm1lab --help tells all")]
+    UnknownCommand { word: String },
+    /// A command has no option of this name. Its words are those that help tells.
+    #[error("cm1lab: unknown option `{word}`; wanted is cm1lab {usage}")]
+    UnknownOption { word: String, usage: String },
+    #[error("cm1lab: {word} is given twice")]
+    Twice { word: String },
+    /// A command has other words. They are those that help tells.
+    #[error("cm1lab: wanted is cm1lab {usage}")]
+    Usage { usage: String },
+    /// A word that is not what is wanted in its place, which help has by this name.
+    #[error("cm1lab: {name} is {wanted}, not `{word}`", name = .operand.name, wanted = .operand.wanted)]
+    Operand { operand: Operand, word: String },
     #[error("cm1lab: {0}")]
     Field(FieldFault),
     #[error("cm1lab: {0}")]
     Fresh(FreshFault),
     #[error("cm1lab: {0}")]
     Load(LoadFault),
+    /// A rate that is too large.
+    #[error("cm1lab: a chip offers at most 16 messages in a petit cycle, not {whole}.{hundredths:02}")]
+    Rate { whole: u16, hundredths: u16 },
     /// What is wrong with a file.
     #[error("cm1lab: {path}: {what}")]
     File { path: String, what: &'static str },
@@ -66,50 +65,34 @@ pub enum Fault {
 }
 
 impl Fault {
-    /// A word that is no number.
-    pub fn number(alloc: Global, word: &str) -> Fault {
+    /// A word that names no command.
+    pub fn command(alloc: Global, word: &str) -> Fault {
         match String::from_str(alloc, word) {
-            Ok(word) => Fault::Number { word },
+            Ok(word) => Fault::UnknownCommand { word },
             Err(_) => Fault::Memory,
         }
     }
 
-    /// A word that is no flag.
-    pub fn flag(alloc: Global, word: &str) -> Fault {
+    /// A word that is no option of a command of these words.
+    pub fn option(alloc: Global, word: &str, usage: String) -> Fault {
         match String::from_str(alloc, word) {
-            Ok(word) => Fault::Flag { word },
+            Ok(word) => Fault::UnknownOption { word, usage },
             Err(_) => Fault::Memory,
         }
     }
 
-    /// A word that is no processor.
-    pub fn processor(alloc: Global, word: &str) -> Fault {
+    /// An option that is given twice.
+    pub fn twice(alloc: Global, word: &str) -> Fault {
         match String::from_str(alloc, word) {
-            Ok(word) => Fault::Processor { word },
+            Ok(word) => Fault::Twice { word },
             Err(_) => Fault::Memory,
         }
     }
 
-    /// A word that is no petit cycle.
-    pub fn cycle(alloc: Global, word: &str) -> Fault {
+    /// A word that is not what is wanted in its place.
+    pub fn operand(alloc: Global, operand: Operand, word: &str) -> Fault {
         match String::from_str(alloc, word) {
-            Ok(word) => Fault::Cycle { word },
-            Err(_) => Fault::Memory,
-        }
-    }
-
-    /// A word that is no number of a dimension, a room, a chip or a rule.
-    pub fn count(alloc: Global, word: &str) -> Fault {
-        match String::from_str(alloc, word) {
-            Ok(word) => Fault::Count { word },
-            Err(_) => Fault::Memory,
-        }
-    }
-
-    /// A word that is not what it is to be.
-    pub fn word(alloc: Global, word: &str, what: &'static str) -> Fault {
-        match String::from_str(alloc, word) {
-            Ok(word) => Fault::Word { word, what },
+            Ok(word) => Fault::Operand { operand, word },
             Err(_) => Fault::Memory,
         }
     }
@@ -175,12 +158,11 @@ impl Fault {
         match self {
             Fault::Help => 0,
             Fault::Words
-            | Fault::Number { .. }
-            | Fault::Flag { .. }
-            | Fault::Processor { .. }
-            | Fault::Cycle { .. }
-            | Fault::Count { .. }
-            | Fault::Word { .. } => 2,
+            | Fault::UnknownCommand { .. }
+            | Fault::UnknownOption { .. }
+            | Fault::Twice { .. }
+            | Fault::Usage { .. }
+            | Fault::Operand { .. } => 2,
             Fault::Memory => 3,
             Fault::File { .. } | Fault::Input(_) | Fault::Output => 4,
             _ => 1,

@@ -1,15 +1,36 @@
 //! Loads of the router: their words, and how one after another is measured.
 
 use crate::fault::Fault;
-use crate::words::count;
+use crate::words::{CAP, N, Operand, RULE, number};
 use cm_load::{Figures, LoadFault, Pattern, Trial, table};
 use std::alloc::Global;
 use std::rt::Clock;
 use std::time::Instant;
 
-/// What a rate is.
-const RATE: &str =
-    "rate: messages that a chip offers in a petit cycle, as 1 or 0.25, with a comma between two";
+const RATE: Operand = Operand {
+    name: "RATE",
+    wanted: "0 to 16 with at most two digits behind a point, as 0.25, or some with commas between",
+};
+
+const CYCLES: Operand = Operand {
+    name: "CYCLES",
+    wanted: "a decimal number from 1 to 1000000",
+};
+
+const PATTERN: Operand = Operand {
+    name: "P",
+    wanted: "uniform, transpose, reversal or hotspot",
+};
+
+const UNTIL: Operand = Operand {
+    name: "T",
+    wanted: "a decimal number from 0 to 4294967295",
+};
+
+const SEED: Operand = Operand {
+    name: "S",
+    wanted: "a decimal number from 0 to 18446744073709551615",
+};
 
 /// Loads of one pattern on one machine, at these rates.
 #[derive(Drop)]
@@ -28,10 +49,10 @@ pub fn read_loads(
     cycles: &str,
     options: &[&str],
 ) -> Result<Loads, Fault> {
-    let n = count(alloc, n)?;
-    let room = count(alloc, room)?;
+    let n = number(alloc, N, n)?;
+    let room = number(alloc, CAP, room)?;
     let rates = read_rates(alloc, rates)?;
-    let cycles = cycle_count(alloc, cycles)?;
+    let cycles = cycle_count(alloc, CYCLES, cycles)?;
     let trial = Trial {
         n,
         room,
@@ -45,27 +66,27 @@ pub fn read_loads(
     Ok(Loads { trial, rates })
 }
 
-/// Takes what the options say, of one that is given twice the last.
+/// Takes what the options say.
 fn with_options(alloc: Global, plain: Trial, options: &[&str]) -> Result<Trial, Fault> {
     let mut trial = plain;
     let mut rest = options;
     for _ in 0..options.len() {
         match rest {
             [] => return Ok(trial),
-            ["--rule", number, after @ ..] => {
-                trial.rule = count(alloc, number)?;
+            ["--rule", word, after @ ..] => {
+                trial.rule = number(alloc, RULE, word)?;
                 rest = after;
             }
             ["--pattern", word, after @ ..] => {
                 trial.pattern = pattern(alloc, word)?;
                 rest = after;
             }
-            ["--until", number, after @ ..] => {
-                trial.until = cycle_count(alloc, number)?;
+            ["--until", word, after @ ..] => {
+                trial.until = cycle_count(alloc, UNTIL, word)?;
                 rest = after;
             }
-            ["--seed", number, after @ ..] => {
-                trial.seed = seed(alloc, number)?;
+            ["--seed", word, after @ ..] => {
+                trial.seed = seed(alloc, word)?;
                 rest = after;
             }
             _ => return Err(Fault::Words),
@@ -84,7 +105,7 @@ fn read_rates(alloc: Global, word: &str) -> Result<Vec<u16>, Fault> {
                     return Err(Fault::Memory);
                 }
             }
-            None => return Err(Fault::word(alloc, part, RATE)),
+            None => return Err(Fault::operand(alloc, RATE, part)),
         }
     }
     Ok(rates)
@@ -121,25 +142,21 @@ fn pattern(alloc: Global, word: &str) -> Result<Pattern, Fault> {
         "transpose" => Ok(Pattern::Transpose),
         "reversal" => Ok(Pattern::Reversal),
         "hotspot" => Ok(Pattern::HotSpot),
-        _ => Err(Fault::word(
-            alloc,
-            word,
-            "pattern: uniform, transpose, reversal or hotspot",
-        )),
+        _ => Err(Fault::operand(alloc, PATTERN, word)),
     }
 }
 
-fn cycle_count(alloc: Global, word: &str) -> Result<u32, Fault> {
+fn cycle_count(alloc: Global, operand: Operand, word: &str) -> Result<u32, Fault> {
     match word.parse::<u32>() {
         Ok(number) => Ok(number),
-        Err(_) => Err(Fault::word(alloc, word, "number of petit cycles")),
+        Err(_) => Err(Fault::operand(alloc, operand, word)),
     }
 }
 
 fn seed(alloc: Global, word: &str) -> Result<u64, Fault> {
     match word.parse::<u64>() {
         Ok(number) => Ok(number),
-        Err(_) => Err(Fault::word(alloc, word, "seed: 0 to 18446744073709551615")),
+        Err(_) => Err(Fault::operand(alloc, SEED, word)),
     }
 }
 
@@ -175,6 +192,10 @@ pub fn measure_all<R: Eprint + Clock>(
 fn told(fault: LoadFault) -> Fault {
     match fault {
         LoadFault::Memory => Fault::Memory,
+        LoadFault::Rate(rate) => Fault::Rate {
+            whole: rate / 100,
+            hundredths: rate % 100,
+        },
         fault => Fault::Load(fault),
     }
 }

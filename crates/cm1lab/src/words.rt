@@ -4,7 +4,7 @@ use crate::fault::Fault;
 use crate::loads::{Loads, read_loads};
 use cm_bits::{Field, FlagNo, Proc};
 use cm_fresh::WireEnd;
-use cm_lab::{Form, Order, Shown, Table, Tag, Task};
+use cm_lab::{Form, Format, Order, Shown, Table, Tag, Task};
 use std::alloc::Global;
 
 /// What help tells.
@@ -12,18 +12,21 @@ pub const HELP: &str = "\
 Data and pictures of all processors, out of the image of a machine and into it
 
 cm1lab get IMAGE ADDRESS LENGTH
-    tells the number that each processor has in a memory field, a line for each chip
+cm1lab get IMAGE flag NUMBER
+    tells the number that each processor has in a memory field, or its flag, a line for each chip
 cm1lab rows IMAGE ADDRESS LENGTH
+cm1lab rows IMAGE flag NUMBER
     tells the same, a line for each row of the grid, the north row first
 cm1lab put [--rows] IMAGE ADDRESS LENGTH OUT < NUMBERS
     puts a number into the field of each processor, and the image into the file OUT;
     they come chip by chip, with --rows row by row of the grid
-cm1lab picture [--plain] IMAGE flag NUMBER
-cm1lab picture [--plain] IMAGE ADDRESS LENGTH
-cm1lab picture [--plain] IMAGE buffers
+cm1lab picture [--plain | --png] IMAGE flag NUMBER
+cm1lab picture [--plain | --png] IMAGE ADDRESS LENGTH
+cm1lab picture [--plain | --png] IMAGE buffers
     tells a picture, the north row above, with a dot for each processor: its flag, or its
     number in a memory field; or with a dot for each chip: how many messages stand there;
-    PBM (1 is black) where a dot has one bit, else PGM (0 is black), with --plain as a text
+    PBM (1 is black) where a dot has one bit, else PGM (0 is black), with --plain as a text;
+    with --png a PNG in the same black and white
 cm1lab paint IMAGE PICTURE ADDRESS OUT
     puts the dots of the file PICTURE, a PBM or a PGM, into a field of each processor that
     begins at ADDRESS and has as many bits as a dot, and the image into the file OUT
@@ -63,6 +66,63 @@ cm1lab plot [FILE] > PICTURE
 
 ADDRESS is that of the field's lowest bit, 0 to 4095, and LENGTH how many bits it has, 1 to 64.
 IMAGE is a file that cm1 fresh, cm1 run --out or cm1lab wrote, PROGRAM a text as for cm1 run.";
+
+/// A word that a command takes: its name in the help, and what it is.
+#[derive(Clone, Copy, Debug)]
+pub struct Operand {
+    pub name: &'static str,
+    pub wanted: &'static str,
+}
+
+const ADDRESS: Operand = Operand {
+    name: "ADDRESS",
+    wanted: "a decimal number from 0 to 4095",
+};
+
+const LENGTH: Operand = Operand {
+    name: "LENGTH",
+    wanted: "a decimal number from 1 to 64",
+};
+
+const FLAG: Operand = Operand {
+    name: "NUMBER",
+    wanted: "a decimal number from 0 to 15",
+};
+
+const PROC: Operand = Operand {
+    name: "PROC",
+    wanted: "a decimal number from 0 to 15",
+};
+
+const CYCLE: Operand = Operand {
+    name: "CYCLE",
+    wanted: "the decimal number of a petit cycle",
+};
+
+const CHIP: Operand = Operand {
+    name: "CHIP",
+    wanted: "a decimal number from 0 to 4095",
+};
+
+const DIM: Operand = Operand {
+    name: "DIM",
+    wanted: "a decimal number from 0 to 11",
+};
+
+pub const N: Operand = Operand {
+    name: "N",
+    wanted: "a decimal number from 0 to 12",
+};
+
+pub const CAP: Operand = Operand {
+    name: "CAP",
+    wanted: "a decimal number from 1 to 15",
+};
+
+pub const RULE: Operand = Operand {
+    name: "R",
+    wanted: "0 or 1",
+};
 
 /// Where that is what a task is given beside the image.
 #[derive(Clone, Copy)]
@@ -121,6 +181,66 @@ pub struct Asked<'a> {
 
 /// Reads the words, of which the first is the program's name.
 pub fn read_words<'a>(alloc: Global, words: &[&'a str]) -> Result<Wanted<'a>, Fault> {
+    if let Some(option) = given_twice(words) {
+        return Err(Fault::twice(alloc, option));
+    }
+    match read_wanted(alloc, words) {
+        Err(Fault::Words) => Err(why_not(alloc, words)),
+        read => read,
+    }
+}
+
+/// The first option that is given a second time. Cut wires may be several.
+fn given_twice<'a>(words: &[&'a str]) -> Option<&'a str> {
+    for (place, word) in words.iter().enumerate() {
+        if word.starts_with("--") && *word != "--cut" && words[..place].contains(word) {
+            return Some(*word);
+        }
+    }
+    None
+}
+
+/// Why words ask for nothing.
+fn why_not(alloc: Global, words: &[&str]) -> Fault {
+    let [_, command, rest @ ..] = words else {
+        return Fault::Words;
+    };
+    if rest.contains(&"--help") {
+        return Fault::Help;
+    }
+    let usage = match usage_of(alloc, command) {
+        Ok(usage) => usage,
+        Err(fault) => return fault,
+    };
+    if usage.is_empty() {
+        return Fault::command(alloc, command);
+    }
+    for word in rest {
+        if word.starts_with("--") && !usage.contains(*word) {
+            return Fault::option(alloc, word, usage);
+        }
+    }
+    Fault::Usage { usage }
+}
+
+/// The words of a command as help tells them; nothing where it tells of none of this name.
+fn usage_of(alloc: Global, command: &str) -> Result<String, Fault> {
+    let mut usage = String::new(alloc);
+    for line in HELP.lines() {
+        let Some(words) = line.strip_prefix("cm1lab ") else {
+            continue;
+        };
+        if words.split(' ').next() == Some(command) {
+            let between = if usage.is_empty() { "" } else { ", or " };
+            if usage.push_str(between).is_err() || usage.push_str(words).is_err() {
+                return Err(Fault::Memory);
+            }
+        }
+    }
+    Ok(usage)
+}
+
+fn read_wanted<'a>(alloc: Global, words: &[&'a str]) -> Result<Wanted<'a>, Fault> {
     match words {
         [_, "front", image] => Ok(Wanted::Front { image, out: None }),
         [_, "front", image, "--out", out] | [_, "front", "--out", out, image] => {
@@ -155,24 +275,24 @@ fn read_blank<'a>(
     words: &[&'a str],
 ) -> Result<Blank<'a>, Fault> {
     let mut cuts = Vec::new(alloc);
-    let n = count(alloc, n)?;
-    let room = count(alloc, room)?;
+    let n = number(alloc, N, n)?;
+    let room = number(alloc, CAP, room)?;
     let mut rule = 0;
     let mut rest = words;
     for _ in 0..words.len() {
         match rest {
             ["--cut", chip, dim, after @ ..] => {
                 let end = WireEnd {
-                    chip: count(alloc, chip)?,
-                    dim: count(alloc, dim)?,
+                    chip: number(alloc, CHIP, chip)?,
+                    dim: number(alloc, DIM, dim)?,
                 };
                 if cuts.push(end).is_err() {
                     return Err(Fault::Memory);
                 }
                 rest = after;
             }
-            ["--rule", number, after @ ..] => {
-                rule = count(alloc, number)?;
+            ["--rule", word, after @ ..] => {
+                rule = number(alloc, RULE, word)?;
                 rest = after;
             }
             [out] => {
@@ -193,14 +313,19 @@ fn read_blank<'a>(
 /// The words of a task.
 fn read_task<'a>(alloc: Global, words: &[&'a str]) -> Result<Asked<'a>, Fault> {
     match words {
+        [_, "get", image, "flag", number] => flagged(alloc, Order::Chips, image, number),
+        [_, "rows", image, "flag", number] => flagged(alloc, Order::Rows, image, number),
         [_, "get", image, at, len] => shown(alloc, Order::Chips, image, at, len),
         [_, "rows", image, at, len] => shown(alloc, Order::Rows, image, at, len),
         [_, "put", image, at, len, out] => filled(alloc, Order::Chips, image, at, len, out),
         [_, "put", "--rows", image, at, len, out] => {
             filled(alloc, Order::Rows, image, at, len, out)
         }
-        [_, "picture", "--plain", rest @ ..] => pictured(alloc, Form::Plain, rest),
-        [_, "picture", rest @ ..] => pictured(alloc, Form::Raw, rest),
+        [_, "picture", "--plain", rest @ ..] => {
+            pictured(alloc, Format::Netpbm(Form::Plain), rest)
+        }
+        [_, "picture", "--png", rest @ ..] => pictured(alloc, Format::Png, rest),
+        [_, "picture", rest @ ..] => pictured(alloc, Format::Netpbm(Form::Raw), rest),
         [_, "paint", image, picture, at, out] => painted(alloc, image, picture, at, out),
         [_, "study", "--messages", image, program] => Ok(studied(Table::Messages, image, program)),
         [_, "study", image, program] => Ok(studied(Table::Cycles, image, program)),
@@ -228,6 +353,20 @@ fn shown<'a>(
     })
 }
 
+fn flagged<'a>(
+    alloc: Global,
+    order: Order,
+    image: &'a str,
+    number: &str,
+) -> Result<Asked<'a>, Fault> {
+    Ok(Asked {
+        task: Task::Flags(order, flag(alloc, number)?),
+        image,
+        given: Given::Nothing,
+        out: None,
+    })
+}
+
 fn filled<'a>(
     alloc: Global,
     order: Order,
@@ -245,7 +384,7 @@ fn filled<'a>(
 }
 
 /// What is shown is told by the words behind `picture`.
-fn pictured<'a>(alloc: Global, form: Form, words: &[&'a str]) -> Result<Asked<'a>, Fault> {
+fn pictured<'a>(alloc: Global, format: Format, words: &[&'a str]) -> Result<Asked<'a>, Fault> {
     let (image, shown) = match words {
         [image, "buffers"] => (*image, Shown::Buffers),
         [image, "flag", number] => (*image, Shown::Flag(flag(alloc, number)?)),
@@ -253,7 +392,7 @@ fn pictured<'a>(alloc: Global, form: Form, words: &[&'a str]) -> Result<Asked<'a
         _ => return Err(Fault::Words),
     };
     Ok(Asked {
-        task: Task::Show(shown, form),
+        task: Task::Show(shown, format),
         image,
         given: Given::Nothing,
         out: None,
@@ -268,7 +407,7 @@ fn painted<'a>(
     out: &'a str,
 ) -> Result<Asked<'a>, Fault> {
     Ok(Asked {
-        task: Task::Paint(number(alloc, at)?),
+        task: Task::Paint(number(alloc, ADDRESS, at)?),
         image,
         given: Given::Picture(picture),
         out: Some(out),
@@ -296,7 +435,7 @@ fn routed<'a>(tag: Tag, image: &'a str, program: &'a str) -> Asked<'a> {
 /// The tag of a message: the chip and the processor that sent it, and the petit cycle in which it was taken in.
 fn sent(alloc: Global, chip: &str, proc: &str, birth: &str) -> Result<Tag, Fault> {
     Ok(Tag {
-        chip: count(alloc, chip)?,
+        chip: number(alloc, CHIP, chip)?,
         proc: processor(alloc, proc)?,
         birth: cycle(alloc, birth)?,
     })
@@ -306,14 +445,14 @@ fn processor(alloc: Global, word: &str) -> Result<Proc, Fault> {
     let number = word.parse::<u8>().ok().and_then(|number| Proc::new(number));
     match number {
         Some(number) => Ok(number),
-        None => Err(Fault::processor(alloc, word)),
+        None => Err(Fault::operand(alloc, PROC, word)),
     }
 }
 
 fn cycle(alloc: Global, word: &str) -> Result<u64, Fault> {
     match word.parse::<u64>() {
         Ok(number) => Ok(number),
-        Err(_) => Err(Fault::cycle(alloc, word)),
+        Err(_) => Err(Fault::operand(alloc, CYCLE, word)),
     }
 }
 
@@ -324,29 +463,22 @@ fn flag(alloc: Global, word: &str) -> Result<FlagNo, Fault> {
         .and_then(|number| FlagNo::new(number));
     match number {
         Some(number) => Ok(number),
-        None => Err(Fault::flag(alloc, word)),
+        None => Err(Fault::operand(alloc, FLAG, word)),
     }
 }
 
 /// The field of an address and a length.
 fn field(alloc: Global, at: &str, len: &str) -> Result<Field, Fault> {
-    match Field::new(number(alloc, at)?, number(alloc, len)?) {
+    match Field::new(number(alloc, ADDRESS, at)?, number(alloc, LENGTH, len)?) {
         Ok(field) => Ok(field),
         Err(fault) => Err(Fault::Field(fault)),
     }
 }
 
-fn number(alloc: Global, word: &str) -> Result<u16, Fault> {
+/// The number of an operand.
+pub fn number(alloc: Global, operand: Operand, word: &str) -> Result<u16, Fault> {
     match word.parse::<u16>() {
         Ok(number) => Ok(number),
-        Err(_) => Err(Fault::number(alloc, word)),
-    }
-}
-
-/// A number of a dimension, a room, a chip or a rule.
-pub fn count(alloc: Global, word: &str) -> Result<u16, Fault> {
-    match word.parse::<u16>() {
-        Ok(number) => Ok(number),
-        Err(_) => Err(Fault::count(alloc, word)),
+        Err(_) => Err(Fault::operand(alloc, operand, word)),
     }
 }

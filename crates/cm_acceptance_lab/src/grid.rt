@@ -5,9 +5,9 @@ ghost use Rattle.std.specs.Prelude.{◌≡◌, ◌^◌, ◌<◌};
 
 use crate::drawn::image;
 use cm_array::Machine;
-use cm_bits::Field;
+use cm_bits::{Field, FlagNo};
 use cm_image::load;
-use cm_lab::{Order, Task, get, perform};
+use cm_lab::{Order, Task, flags, get, perform, write_numbers};
 use std::alloc::Global;
 use std::test::Fail;
 
@@ -81,7 +81,23 @@ fn machine_is_in_its_places<const N: usize, const CAP: usize>(
     let field = Field::new(21, 17).ok()?;
     let by_chips = get(alloc, machine, Order::Chips, field).ok()?;
     let by_rows = get(alloc, machine, Order::Rows, field).ok()?;
-    Some(are_in_their_places(&by_chips, &by_rows, across))
+    let number = FlagNo::new(3)?;
+    let flags_by_chips = flags(alloc, machine, Order::Chips, number).ok()?;
+    let flags_by_rows = flags(alloc, machine, Order::Rows, number).ok()?;
+    Some(
+        are_in_their_places(&by_chips, &by_rows, across)
+            && are_in_their_places(&flags_by_chips, &flags_by_rows, across),
+    )
+}
+
+/// Whether the flags of a drawn machine of four chips are told row by row.
+fn are_flags_told(alloc: Global) -> Option<bool> {
+    let image = image::<2, 7>(alloc, 4, 17)?;
+    let machine = load::<2, 7>(alloc, &image).ok()?;
+    let number = FlagNo::new(12)?;
+    let text = write_numbers(alloc, &flags(alloc, &machine, Order::Rows, number).ok()?, 8).ok()?;
+    let told = perform(alloc, Task::Flags(Order::Rows, number), &image, &[]).ok()?;
+    Some(told == text)
 }
 
 /// The same of a drawn machine.
@@ -109,6 +125,12 @@ fn rows_are_those_of_the_grid(rt: HostRuntime) -> Result<(), Fail> {
         is_in_its_places::<7, 1>(alloc, 128, 8),
     ];
     assert_eq!(rt; sizes, [Some(true); 6]);
+    Ok(())
+}
+
+#[test]
+fn flags_are_told_in_lines(rt: HostRuntime) -> Result<(), Fail> {
+    assert_eq!(rt; are_flags_told(rt.alloc()), Some(true));
     Ok(())
 }
 

@@ -6,7 +6,8 @@ use cm_bits::{Field, NoMemory};
 use cm_draws::{Call, first_not_so};
 use cm_front::{FrontFault, ImageFault, SessionFault, front_image};
 use cm_lab::{
-    Form, LabFault, NumbersFault, Order, Shown, Table, Task, perform, read_numbers, write_numbers,
+    Form, Format, LabFault, NumbersFault, Order, Shown, Table, Task, perform, read_numbers,
+    write_numbers,
 };
 use cm_source::{AsmKind, SourceKind, expand};
 use std::alloc::Global;
@@ -20,6 +21,14 @@ static BLANK: [u8; 51] = [
 static NUMBERS: &str = "1 2 3 4 5 6 7 0 1 2 3 4 5 6 7 0\n";
 
 static PICTURE: &str = "P1\n4 4\n1 0 0 0\n0 1 0 0\n0 0 1 0\n1 1 1 1\n";
+
+/// The same machine in dots of memory bit 0.
+static PNG: &[u8] = b"\x89PNG\r\n\x1a\n\
+    \0\0\0\rIHDR\0\0\0\x04\0\0\0\x04\x01\0\0\0\0\x81\x8a\xa3\xd3\
+    \0\0\0\x02IDATx\x01\xec\x1a~\xd2\
+    \0\0\0\rIDAT\x01\x08\0\xf7\xff\0\xff\0\xff\0\xff\0\xff\xe9z,\xf6\
+    \0\0\0\x04IDAT\x0f\xf8\x03\xfd\xe1\xb6\x08[\
+    \0\0\0\0IEND\xaeB`\x82";
 
 /// All processors ask to send to processor 0 of their chip.
 static ALL_SEND: &str = "set 12\ncycle\n";
@@ -48,16 +57,18 @@ enum Grown {
     Read,
     Numbers,
     Picture,
+    Png,
     Cycles,
     Messages,
     Source,
     Front,
 }
 
-static GROWN: [Grown; 7] = [
+static GROWN: [Grown; 8] = [
     Grown::Read,
     Grown::Numbers,
     Grown::Picture,
+    Grown::Png,
     Grown::Cycles,
     Grown::Messages,
     Grown::Source,
@@ -70,6 +81,7 @@ impl Call for Grown {
             Grown::Read => are_written(alloc),
             Grown::Numbers => come_back(alloc),
             Grown::Picture => is_shown(alloc),
+            Grown::Png => is_a_png(alloc),
             Grown::Cycles => Some(tells(alloc, Table::Cycles, CYCLES)),
             Grown::Messages => Some(tells(alloc, Table::Messages, MESSAGES)),
             Grown::Source => Some(is_expanded(alloc)),
@@ -139,9 +151,17 @@ fn is_shown(alloc: Global) -> Option<bool> {
     Some(comes_out(
         alloc,
         &Task::Paint(7),
-        &Task::Show(shown, Form::Plain),
+        &Task::Show(shown, Format::Netpbm(Form::Plain)),
         PICTURE,
     ))
+}
+
+fn is_a_png(alloc: Global) -> Option<bool> {
+    let shown = Shown::Number(Field::new(0, 1).ok()?);
+    match made(alloc, &Task::Show(shown, Format::Png), &BLANK, "") {
+        Ok(bytes) => Some(bytes.as_slice() == PNG),
+        Err(_) => Some(false),
+    }
 }
 
 fn tells(alloc: Global, table: Table, wanted: &str) -> bool {

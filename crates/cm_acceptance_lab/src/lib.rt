@@ -24,6 +24,8 @@ mod performed;
 #[cfg(test)]
 mod pictures;
 #[cfg(test)]
+mod pngs;
+#[cfg(test)]
 mod routes;
 #[cfg(test)]
 mod shown;

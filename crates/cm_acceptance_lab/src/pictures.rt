@@ -1,6 +1,6 @@
 //! Pictures byte by byte, in each form; texts of pictures at their limits, and each fault of one.
 
-use cm_lab::{Form, Picture, PictureFault, read_picture, write_picture};
+use cm_lab::{Form, Format, Picture, PictureFault, read_picture, write_in};
 use std::alloc::Global;
 use std::test::Fail;
 
@@ -287,7 +287,7 @@ fn is_written(alloc: Global, picture: &Picture, form: Form, text: &[u8]) -> bool
     if picture.width == 0 || picture.dots.len() != count {
         return false;
     }
-    match write_picture(alloc, picture, form) {
+    match write_in(alloc, picture, Format::Netpbm(form)) {
         Ok(written) => written.as_slice() == text,
         Err(_) => false,
     }

@@ -6,7 +6,7 @@ use crate::drawn::image;
 use cm_array::Machine;
 use cm_bits::{Field, FlagNo, Proc};
 use cm_image::load;
-use cm_lab::{Form, LabFault, Shown, Task, perform, show};
+use cm_lab::{Form, Format, LabFault, Shown, Task, perform, show};
 use std::alloc::Global;
 use std::test::Fail;
 
@@ -145,10 +145,11 @@ fn shows<const N: usize, const CAP: usize>(
 
 /// Whether the picture of a field, painted into another, is shown of it again.
 fn is_painted(alloc: Global, image: &[u8], len: u16, form: Form) -> Option<bool> {
+    let format = Format::Netpbm(form);
     let (from, to) = (Field::new(20, len).ok()?, Field::new(120, len).ok()?);
-    let picture = perform(alloc, Task::Show(Shown::Number(from), form), image, &[]).ok()?;
+    let picture = perform(alloc, Task::Show(Shown::Number(from), format), image, &[]).ok()?;
     let left = perform(alloc, Task::Paint(120), image, &picture).ok()?;
-    let again = perform(alloc, Task::Show(Shown::Number(to), form), &left, &[]).ok()?;
+    let again = perform(alloc, Task::Show(Shown::Number(to), format), &left, &[]).ok()?;
     Some(again == picture)
 }
 
@@ -188,7 +189,7 @@ fn refusals(alloc: Global) -> Option<[Option<LabFault>; 4]> {
         return None;
     }
     Some([
-        refused(alloc, Task::Show(wide, Form::Raw), &[]),
+        refused(alloc, Task::Show(wide, Format::Png), &[]),
         refused(alloc, Task::Paint(0), of_hundred),
         refused(alloc, Task::Paint(4093), of_seven),
         refused(alloc, Task::Paint(0), of_seven),

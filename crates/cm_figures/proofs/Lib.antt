@@ -1,5 +1,8 @@
 pub mod Blanks
 pub mod Counting
 pub mod Dots
+pub mod Framing
 pub mod Growing
+mod StandardFacts
+pub mod Summing
 pub mod Texts

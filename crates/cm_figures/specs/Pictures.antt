@@ -1,5 +1,5 @@
 -- Pictures: dots in rows, and their texts in Netpbm's forms PBM (one bit) and PGM. The forms are Netpbm's.
-use Rattle.std.specs.Prelude.{ℕ, ◌+◌, ◌-◌, ◌*◌, ◌/◌, ◌%◌, ◌==◌, nat_lt, if◌then◌else◌, min, List, [], ◌∷◌, ◌++◌, map}
+use Rattle.std.specs.Prelude.{ℕ, ◌+◌, ◌*◌, ◌/◌, ◌%◌, ◌==◌, nat_lt, if◌then◌else◌, min, List, [], ◌∷◌, ◌++◌, map}
 use Rattle.std.specs.Prelude.{slice_index, decimal}
 use Rattle.std.specs.List.{flat_map, range_with_len}
 use Rattle.cm_figures.specs.declared.picture.Picture.{Picture}

@@ -111,7 +111,7 @@ fn push_packed(text: &mut Vec<u8>, picture: &Picture) -> Result<(), NoMemory>
 }
 
 /// Eight dots of a row from a column on.
-fn eight_dots(picture: &Picture, y: usize, x: usize) -> u8
+pub(crate) fn eight_dots(picture: &Picture, y: usize, x: usize) -> u8
     requires row { y < picture.now.height }
     requires column { x ≤ 65536 }
     requires dots { length picture.now.dots.items ≡ picture.now.height * picture.now.width }

@@ -18,8 +18,8 @@ use Rattle.cm_model.proofs.Torus.{chips_in_rows}
 use Rattle.cm_figures.specs.Pictures.{Dots}
 use Rattle.cm_lab.specs.declared.order.Order.TheVariants.{Rows as by_rows}
 use Rattle.cm_lab.specs.declared.pictures.Shown.TheVariants.{Flag, Number, Buffers}
-use Rattle.cm_lab.specs.Data.{processors, place_in, numbers_of, machine_with_numbers}
-use Rattle.cm_lab.specs.Pictures.{chip_rows, flags_of, buffered, greatest_of, picture_of, bits_from, bits_of}
+use Rattle.cm_lab.specs.Data.{processors, place_in, numbers_of, flags_of, machine_with_numbers}
+use Rattle.cm_lab.specs.Pictures.{chip_rows, buffered, greatest_of, picture_of, bits_from, bits_of}
 use Rattle.cm_lab.specs.PictureLaws.{AreDotsOfPlaces}
 use Rattle.cm_lab.proofs.Orders.{grid_size}
 use Rattle.cm_lab.proofs.ReadingBack.{numbers_read_back}

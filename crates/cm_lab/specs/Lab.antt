@@ -16,16 +16,17 @@ use Rattle.cm_image_format.specs.declared.fault.ImageFault.{ImageFault}
 use Rattle.cm_image_format.specs.Whole.{read_shape, read_image, text_of}
 use Rattle.cm_figures.specs.declared.numbers.NumbersFault.{NumbersFault}
 use Rattle.cm_lab.specs.declared.lab.Task.{Task}
-use Rattle.cm_lab.specs.declared.lab.Task.TheVariants.{Get, Put, Show, Paint, Study, Route}
+use Rattle.cm_lab.specs.declared.lab.Task.TheVariants.{Get, Flags, Put, Show, Paint, Study, Route}
 use Rattle.cm_lab.specs.declared.lab.LabFault.{LabFault}
 use Rattle.cm_lab.specs.declared.lab.LabFault.TheVariants.{Image, Room, Numbers, Wide, Picture, Greatest, Field}
 use Rattle.cm_lab.specs.declared.lab.LabFault.TheVariants.{Program, Clock, NoRoute, Memory}
 use Rattle.cm_lab.specs.declared.order.Order.TheVariants.{Rows as by_rows}
-use Rattle.cm_lab.specs.Data.{processors, width_in, numbers_of, machine_with_numbers}
+use Rattle.cm_lab.specs.Data.{processors, width_in, numbers_of, flags_of, machine_with_numbers}
 use Rattle.cm_lab.specs.Pictures.{is_narrow, picture_of, bits_of}
 use Rattle.cm_figures.specs.declared.picture_reading.PictureFault.{PictureFault}
 use Rattle.cm_figures.specs.Numbers.{numbers_in, numbers_text}
-use Rattle.cm_figures.specs.Pictures.{Dots, picture_text}
+use Rattle.cm_figures.specs.Pictures.{Dots}
+use Rattle.cm_figures.specs.Formats.{picture_bytes}
 use Rattle.cm_figures.specs.PictureReading.{picture_in}
 
 -- what is made of numbers, if they are those that are wanted
@@ -75,11 +76,13 @@ of_program made (Err fault) = Err (Program fault)
 abbrev pub work_of : ℕ → ℕ → Task → List ℕ → Machine → Result (List ℕ) LabFault
 work_of n cap (Get order field) given machine =
     Ok (numbers_text (width_in n order) 0 (numbers_of n order field.at field.len machine.chips))
+work_of n cap (Flags order number) given machine =
+    Ok (numbers_text (width_in n order) 0 (flags_of n order number machine.chips))
 work_of n cap (Put order field) given machine =
     of_numbers (λ numbers. text_of n cap (machine_with_numbers n order field.at field.len numbers machine))
     (numbers_in field.len (processors n) given)
-work_of n cap (Show shown form) given machine =
-    if is_narrow shown then Ok (picture_text form (picture_of n cap shown machine)) else Err Wide
+work_of n cap (Show shown format) given machine =
+    if is_narrow shown then Ok (picture_bytes format (picture_of n cap shown machine)) else Err Wide
 work_of n cap (Paint at) given machine = of_picture n cap at machine (picture_in (columns n) (rows n) given)
 work_of n cap (Study table) given machine =
     of_program (λ acts. of_table (table_of n cap table machine acts)) (program_of given)

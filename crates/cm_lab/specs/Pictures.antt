@@ -1,18 +1,14 @@
 -- Pictures of machines: a dot for each processor of the grid, or for each chip. Ours.
 use Rattle.std.specs.Prelude.{◌≡◌, ℕ, suc, zero, ◌+◌, ◌-◌, ◌*◌, ◌/◌, ◌%◌, ◌^◌, ◌<◌, ◌==◌, Bool, true, nat_lt, if◌then◌else◌}
 use Rattle.std.specs.Prelude.{Option, Some, None, List, length}
-use Rattle.cm_bits.specs.Bit.{bit_number}
-use Rattle.cm_bits.specs.declared.place.Place.{Place}
-use Rattle.cm_model.specs.Place.{chip_columns, rows, columns, place_at}
-use Rattle.cm_model.specs.Processor.{flag}
-use Rattle.cm_model.specs.Each.{each_from}
-use Rattle.cm_model.specs.Array.{Chips, each_chip, list_at, processor_of}
+use Rattle.cm_model.specs.Place.{chip_columns, rows, columns}
+use Rattle.cm_model.specs.Array.{each_chip, list_at}
 use Rattle.cm_model.specs.Machine.{Machine}
 use Rattle.cm_figures.specs.Pictures.{Dots}
 use Rattle.cm_lab.specs.declared.order.Order.TheVariants.{Rows as by_rows}
 use Rattle.cm_lab.specs.declared.pictures.Shown.{Shown}
 use Rattle.cm_lab.specs.declared.pictures.Shown.TheVariants.{Flag, Number, Buffers}
-use Rattle.cm_lab.specs.Data.{processors, place_in, numbers_of}
+use Rattle.cm_lab.specs.Data.{numbers_of, flags_of}
 
 -- its numbers have at most 16 bits
 abbrev pub is_narrow : Shown → Bool
@@ -28,11 +24,6 @@ greatest_of len = 2 ^ len - 1
 abbrev pub chip_rows : ℕ → ℕ
 chip_rows n = 2 ^ (n - n / 2)
 
--- a flag of each processor, row by row
-unfoldable pub flags_of : ℕ → ℕ → Chips → List ℕ
-flags_of n number chips =
-    each_from 0 (processors n) (λ i. bit_number (flag (processor_of chips (place_in n by_rows i)) number))
-
 -- how many messages stand at each chip
 unfoldable pub buffered : ℕ → Machine → List ℕ
 buffered n machine = each_chip n (λ c. length (list_at machine.buffers c))
@@ -43,7 +34,7 @@ grid_picture n greatest dots = record { width = columns n; height = rows n; grea
 
 -- the picture of a machine on a cube of n dimensions whose routers have room for cap messages each
 abbrev pub picture_of : ℕ → ℕ → Shown → Machine → Dots
-picture_of n cap (Flag number) machine = grid_picture n 1 (flags_of n number machine.chips)
+picture_of n cap (Flag number) machine = grid_picture n 1 (flags_of n by_rows number machine.chips)
 picture_of n cap (Number field) machine =
     grid_picture n (greatest_of field.len) (numbers_of n by_rows field.at field.len machine.chips)
 picture_of n cap Buffers machine = record {

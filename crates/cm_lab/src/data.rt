@@ -1,15 +1,15 @@
 //! One number for each processor: how they come into a field of all, and out of it.
 
 ghost use Rattle.std.specs.Prelude.{◌≡◌, ◌<◌, ◌≤◌, ◌^◌, length, slice_index, slice_set, IfOk};
-ghost use Rattle.cm_bits.specs.Bit.{bit};
+ghost use Rattle.cm_bits.specs.Bit.{bit, bit_number};
 ghost use Rattle.cm_model.specs.Array.{chip_at};
 ghost use Rattle.cm_model.specs.Keeping.{IsMachine};
 ghost use Rattle.cm_element.specs.Wide.{with_memory_field};
-ghost use Rattle.cm_lab.specs.Data.{processors, numbers_of, chip_with_numbers, machine_with_numbers};
+ghost use Rattle.cm_lab.specs.Data.{processors, numbers_of, flags_of, chip_with_numbers, machine_with_numbers};
 
 use crate::order::{Order, processors};
 use cm_array::{Machine, pokes_keep_machines};
-use cm_bits::{Addr, Field, NoMemory, Place, Proc};
+use cm_bits::{Addr, Field, FlagNo, NoMemory, Place, Proc};
 use std::alloc::Global;
 
 const PROCESSORS: u8 = 16;
@@ -36,6 +36,35 @@ pub fn get<const N: usize, const CAP: usize>(
         };
     }
     Ok(numbers)
+}
+
+/// The flag of this number that each processor has, as 0 or 1, in this order.
+pub fn flags<const N: usize, const CAP: usize>(
+    alloc: Global,
+    machine: &Machine<N, CAP>,
+    order: Order,
+    number: FlagNo,
+) -> Result<Vec<u64>, NoMemory>
+    ensures value { IfOk result (λ flags. flags.items ≡ flags_of N order number machine.now.machine.chips) }
+    ensures count { IfOk result (λ flags. length flags.items ≡ processors N) }
+{
+    let _dims = machine.dims();
+    let count = processors::<N>();
+    let mut flags = Vec::with_capacity(alloc, count)?;
+    for index in 0..count {
+        let here = order.place_in::<N>(index);
+        let bit = machine.chip(here.chip).flag(here.proc, number);
+        let Ok(()) = flags.push(bit_number(bit)) else {
+            return Err(NoMemory);
+        };
+    }
+    Ok(flags)
+}
+
+fn bit_number(bit: bool) -> u64
+    ensures value { result ≡ bit_number bit }
+{
+    if bit { 1 } else { 0 }
 }
 
 /// Puts a number into a memory field of each processor: they come in this order, and of each the lowest bits go there.

@@ -2,22 +2,23 @@
 
 ghost use Rattle.std.specs.Prelude.{◌≡◌, ◌≢◌, ◌≤◌, ◌<◌, ◌*◌, true, [], Ok, Err, IfOk, IfErr, length};
 ghost use Rattle.cm_model.specs.Place.{rows, columns};
-ghost use Rattle.cm_figures.specs.Pictures.{seen, picture_text};
+ghost use Rattle.cm_figures.specs.Pictures.{seen};
+ghost use Rattle.cm_figures.specs.Formats.{picture_bytes};
 ghost use Rattle.cm_figures.specs.PictureReading.{picture_in};
 ghost use Rattle.cm_lab.specs.Data.{processors};
 ghost use Rattle.cm_image_format.specs.Whole.{read_shape, read_image};
 ghost use Rattle.cm_lab.specs.declared.lab.Task.TheVariants as task;
 ghost use Rattle.cm_lab.specs.Lab.{is_own_room, work_of, done_with, IsRefused, IsNoPicture};
 
-use crate::data::{get, put};
+use crate::data::{flags, get, put};
 use crate::order::{Order, columns, processors, rows};
 use crate::pictures::{ShowFault, Shown, bits_of, show};
 use cm_array::Machine;
 use cm_asm::assemble;
-use cm_bits::{Field, FieldFault};
+use cm_bits::{Field, FieldFault, FlagNo};
 use cm_figures::{
-    Form, NumbersFault, Picture, PictureFault, read_numbers, read_picture, write_numbers,
-    write_picture,
+    Format, NumbersFault, Picture, PictureFault, read_numbers, read_picture, write_in,
+    write_numbers,
 };
 use cm_image::{ImageFault, dump, load, shape};
 use cm_language::{AsmFault, AsmKind};
@@ -31,10 +32,12 @@ use thiserror::Error;
 pub enum Task {
     /// The number that each processor has in a field is told.
     Get(Order, Field),
+    /// The flag of this number that each processor has is told, as 0 or 1.
+    Flags(Order, FlagNo),
     /// The numbers that are given are put into a field of all processors.
     Put(Order, Field),
     /// The picture of it is told.
-    Show(Shown, Form),
+    Show(Shown, Format),
     /// The dots of the picture that is given are put into a field of all processors, which begins at this address.
     Paint(u16),
     /// The program that is given is run, and a table of it is told.
@@ -160,8 +163,9 @@ fn work<const N: usize, const CAP: usize>(
 {
     match task {
         Task::Get(order, field) => told(alloc, machine, order, field),
+        Task::Flags(order, number) => flagged(alloc, machine, order, number),
         Task::Put(order, field) => filled(alloc, machine, order, field, given),
-        Task::Show(shown, form) => pictured(alloc, machine, shown, form),
+        Task::Show(shown, format) => pictured(alloc, machine, shown, format),
         Task::Paint(at) => painted(alloc, machine, at, given),
         Task::Study(table) => studied(alloc, machine, table, given),
         Task::Route(tag) => routed(alloc, machine, tag, given),
@@ -214,6 +218,27 @@ fn told<const N: usize, const CAP: usize>(
     }
 }
 
+/// The text of the flags that the processors of a machine have.
+fn flagged<const N: usize, const CAP: usize>(
+    alloc: Global,
+    machine: &Machine<N, CAP>,
+    order: Order,
+    number: FlagNo,
+) -> Result<Vec<u8>, LabFault>
+    ensures value { IfOk result
+        (λ text. work_of N CAP (task.Flags order number) [] machine.now.machine ≡ Ok text.items) }
+    ensures memory { IfErr result (λ fault. fault ≡ LabFault.Memory) }
+{
+    let _clock = machine.clock();
+    let Ok(flags) = flags(alloc, machine, order, number) else {
+        return Err(LabFault::Memory);
+    };
+    match write_numbers(alloc, &flags, order.width::<N>()) {
+        Ok(text) => Ok(text),
+        Err(_) => Err(LabFault::Memory),
+    }
+}
+
 /// The image of a machine into which the numbers of a text were put.
 fn filled<const N: usize, const CAP: usize>(
     alloc: Global,
@@ -245,28 +270,28 @@ fn pictured<const N: usize, const CAP: usize>(
     alloc: Global,
     machine: &Machine<N, CAP>,
     shown: Shown,
-    form: Form,
+    format: Format,
 ) -> Result<Vec<u8>, LabFault>
     ensures value { IfOk result
-        (λ text. work_of N CAP (task.Show shown form) [] machine.now.machine ≡ Ok text.items) }
+        (λ text. work_of N CAP (task.Show shown format) [] machine.now.machine ≡ Ok text.items) }
     ensures refused { IfErr result (λ fault. fault ≢ LabFault.Memory
-        → work_of N CAP (task.Show shown form) [] machine.now.machine ≡ Err fault) }
+        → work_of N CAP (task.Show shown format) [] machine.now.machine ≡ Err fault) }
 {
     match show(alloc, machine, shown) {
-        Ok(picture) => drawn(alloc, &picture, form),
+        Ok(picture) => drawn(alloc, &picture, format),
         Err(ShowFault::Wide) => Err(LabFault::Wide),
         Err(ShowFault::Memory) => Err(LabFault::Memory),
     }
 }
 
-/// The text of a picture.
-fn drawn(alloc: Global, picture: &Picture, form: Form) -> Result<Vec<u8>, LabFault>
+/// A picture in a format.
+fn drawn(alloc: Global, picture: &Picture, format: Format) -> Result<Vec<u8>, LabFault>
     requires some { 0 < picture.now.width }
     requires dots { length picture.now.dots.items ≡ picture.now.height * picture.now.width }
-    ensures value { IfOk result (λ text. text.items ≡ picture_text form (seen picture.now)) }
+    ensures value { IfOk result (λ text. text.items ≡ picture_bytes format (seen picture.now)) }
     ensures memory { IfErr result (λ fault. fault ≡ LabFault.Memory) }
 {
-    match write_picture(alloc, picture, form) {
+    match write_in(alloc, picture, format) {
         Ok(text) => Ok(text),
         Err(_) => Err(LabFault::Memory),
     }

@@ -9,12 +9,12 @@ mod picture_laws;
 mod pictures;
 
 pub use cm_figures::{
-    Form, NumbersFault, Picture, PictureFault, read_numbers, read_picture, write_numbers,
-    write_picture,
+    Form, Format, NumbersFault, Picture, PictureFault, read_numbers, read_picture, write_in,
+    write_numbers,
 };
 pub use cm_model::Tag;
 pub use cm_study::{RouteFault, Table};
-pub use data::{get, put};
+pub use data::{flags, get, put};
 pub use data_laws::{each_processor_comes_once, numbers_read_back};
 pub use lab::{LabFault, Task, perform};
 pub use order::Order;

@@ -1,13 +1,12 @@
 //! Pictures of machines: a dot for each processor of the grid, or for each chip.
 
 ghost use Rattle.std.specs.Prelude.{◌≡◌, ◌≢◌, ◌*◌, ◌<◌, ◌≤◌, true, false, length, IfOk, IfErr, OnOk};
-ghost use Rattle.cm_bits.specs.Bit.{bit_number};
 ghost use Rattle.cm_model.specs.Place.{chip_columns, columns, rows};
 ghost use Rattle.cm_figures.specs.Pictures.{seen};
 ghost use Rattle.cm_lab.specs.Data.{processors};
-ghost use Rattle.cm_lab.specs.Pictures.{chip_rows, is_narrow, greatest_of, flags_of, buffered, picture_of, bits_of};
+ghost use Rattle.cm_lab.specs.Pictures.{chip_rows, is_narrow, greatest_of, buffered, picture_of, bits_of};
 
-use crate::data::get;
+use crate::data::{flags, get};
 use crate::order::{Order, chip_columns, chip_rows, columns, processors, rows};
 use cm_array::Machine;
 use cm_bits::{Field, FlagNo, NoMemory};
@@ -62,7 +61,7 @@ pub fn show<const N: usize, const CAP: usize>(
     let _clock = machine.clock();
     match shown {
         Shown::Flag(number) => {
-            let dots = flags(alloc, machine, number)?;
+            let dots = flags(alloc, machine, Order::Rows, number)?;
             Ok(of_grid::<N>(1, dots))
         }
         Shown::Number(field) => {
@@ -109,34 +108,6 @@ fn greatest_of(len: u16) -> u16
     ensures value { result ≡ greatest_of len }
 {
     ((1u32 << len) - 1) as u16
-}
-
-/// A flag of each processor, row by row.
-fn flags<const N: usize, const CAP: usize>(
-    alloc: Global,
-    machine: &Machine<N, CAP>,
-    number: FlagNo,
-) -> Result<Vec<u64>, NoMemory>
-    requires dimension { N ≤ 12 }
-    ensures value { IfOk result (λ dots. dots.items ≡ flags_of N number machine.now.machine.chips) }
-    ensures count { IfOk result (λ dots. length dots.items ≡ processors N) }
-{
-    let count = processors::<N>();
-    let mut dots = Vec::with_capacity(alloc, count)?;
-    for index in 0..count {
-        let place = Order::Rows.place_in::<N>(index);
-        let bit = machine.chip(place.chip).flag(place.proc, number);
-        let Ok(()) = dots.push(bit_number(bit)) else {
-            return Err(NoMemory);
-        };
-    }
-    Ok(dots)
-}
-
-fn bit_number(bit: bool) -> u64
-    ensures value { result ≡ bit_number bit }
-{
-    if bit { 1 } else { 0 }
 }
 
 /// How many messages stand at each chip, by number.

@@ -1,5 +1,5 @@
 use Rattle.std.proofs.Common.{◌≡◌, ℕ, Option, Ok, Err, sym, ap, ◌∙◌}
-use Rattle.cm_bits.specs.Text.{words_left, words_of, number_of}
+use Rattle.cm_bits.specs.Text.{words_left, number_of}
 use Rattle.cm_figures.specs.Numbers.{one_more, after_words}
 use Rattle.cm_figures.proofs.Texts.{after_one_word}
 use Rattle.cm_figures.proofs.numbers.push_words.Goals as goal

@@ -1,7 +1,6 @@
-use Rattle.std.proofs.Common.{◌≡◌, ℕ, ◌+◌, ◌==◌, Bool, Ok, Err, length, refl, sym, ap, ◌∙◌, arith, eq-eqb, ne_eqb}
+use Rattle.std.proofs.Common.{◌≡◌, ℕ, ◌+◌, Bool, Ok, Err, length, refl, sym, ap, ◌∙◌, arith, eq-eqb, ne_eqb}
 use Rattle.std.proofs.Common.{if◌then◌else◌}
-use Rattle.cm_bits.specs.Text.{lines_left, lines_of, words_of}
-use Rattle.cm_figures.specs.declared.numbers.NumbersFault.{NumbersFault}
+use Rattle.cm_bits.specs.Text.{lines_left, lines_of}
 use Rattle.cm_figures.specs.declared.numbers.NumbersFault.TheVariants.{TooFew}
 use Rattle.cm_figures.specs.Numbers.{after_lines}
 use Rattle.cm_figures.proofs.Counting.{few_lines}

@@ -1,4 +1,4 @@
-use Rattle.std.proofs.Common.{◌≡◌, ℕ, [], ◌∷◌, ◌++◌, length, get_or, decimal, ap, ◌∙◌, arith}
+use Rattle.std.proofs.Common.{ℕ, [], ◌∷◌, ◌++◌, get_or, decimal, ap, ◌∙◌, arith}
 use Rattle.cm_figures.proofs.Texts.{one_more_written, all_written}
 use Rattle.cm_figures.proofs.numbers.write_numbers.Goals as goal
 

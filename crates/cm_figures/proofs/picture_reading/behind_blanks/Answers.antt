@@ -1,4 +1,4 @@
-use Rattle.std.proofs.Common.{◌≡◌, ℕ, ◌+◌, ◌<◌, ◌≤◌, Bool, length, drop, get_or, sym, ap, ◌∙◌, arith, eq-eqb, ne_eqb}
+use Rattle.std.proofs.Common.{◌+◌, Bool, drop, get_or, sym, ap, ◌∙◌, arith, eq-eqb, ne_eqb}
 use Rattle.cm_figures.specs.PictureReading.{behind_blanks}
 use Rattle.cm_figures.proofs.Blanks.{whole_rest, blanks_in_comment, blanks_at_comment, blanks_at_space, blanks_end}
 use Rattle.cm_figures.proofs.Blanks.{blanks_none}

@@ -1,4 +1,4 @@
-use Rattle.std.proofs.Common.{◌≡◌, ℕ, ◌/◌, ◌%◌, ◌<◌, Bool, nat_lt, Ok, Err, length, get_or, sym, ap, ◌∙◌, arith, lt-ltb, le-ltb}
+use Rattle.std.proofs.Common.{◌≡◌, ◌/◌, ◌%◌, ◌<◌, Bool, nat_lt, Ok, Err, length, get_or, ap, ◌∙◌, arith, lt-ltb, le-ltb}
 use Rattle.std.proofs.Common.{if◌then◌else◌}
 use Rattle.std.proofs.lemmas.List.Sums.{position_or_len_is}
 use Rattle.cm_figures.specs.declared.picture_reading.PictureFault.TheVariants.{TooLarge}

@@ -1,4 +1,4 @@
-use Rattle.std.proofs.Common.{◌≡◌, ℕ, ◌+◌, ◌-◌, List, ◌∷◌, ◌++◌, [], Bool, Ok, Err, length, sym, ap, ◌∙◌, arith, length-append}
+use Rattle.std.proofs.Common.{ℕ, ◌+◌, ◌-◌, List, ◌∷◌, [], Bool, Ok, Err, length, sym, ap, ◌∙◌, arith, length-append}
 use Rattle.std.proofs.Common.{if◌then◌else◌}
 use Rattle.cm_figures.specs.declared.picture_reading.PictureFault.TheVariants.{TooMany}
 use Rattle.cm_figures.specs.PictureReading.{after_dots}

@@ -1,4 +1,4 @@
-use Rattle.std.proofs.Common.{◌≡◌, ℕ, ◌==◌, ◌&&◌, Bool, true, List, Result, Ok, Err, sym, ap, ◌∙◌, subst, eq-eqb, if◌then◌else◌}
+use Rattle.std.proofs.Common.{◌≡◌, ℕ, ◌==◌, ◌&&◌, Bool, true, List, Result, Err, sym, ap, ◌∙◌, subst, eq-eqb, if◌then◌else◌}
 use Rattle.cm_figures.specs.declared.picture_reading.PictureFault.{PictureFault}
 use Rattle.cm_figures.specs.declared.picture_reading.PictureFault.TheVariants.{Size}
 use Rattle.cm_figures.specs.PictureReading.{Gives, ◌>>=◌, number_part, greatest_part, sized_part, sizes_part}

@@ -5,26 +5,24 @@ use Rattle.cm_model.specs.Each.{each_from}
 use Rattle.cm_model.specs.Processor.{flag}
 use Rattle.cm_model.specs.Chip.{processor_at}
 use Rattle.cm_model.specs.Array.{processor_of}
-use Rattle.cm_lab.specs.declared.order.Order.TheVariants.{Rows as by_rows}
 use Rattle.cm_model.proofs.Each.{length-each_from}
-use Rattle.cm_lab.specs.Data.{processors, place_in}
-use Rattle.cm_lab.specs.Pictures.{flags_of}
+use Rattle.cm_lab.specs.Data.{processors, place_in, flags_of}
 use Rattle.cm_lab.proofs.Filling.{each_from-more}
-use Rattle.cm_lab.proofs.pictures.flags.Goals as goal
+use Rattle.cm_lab.proofs.data.flags.Goals as goal
 
 pub loop-index-init : goal.loop-index-init
 unfolding each_from
-loop-index-init g c = c.in_ok-dots.ensures.items
+loop-index-init g c = c.in_ok-flags.ensures.items
 
 pub loop-index-preserved : goal.loop-index-preserved
 loop-index-preserved g c =
     let number = c.args.number in
     let chips = c.args.machine.now.machine.chips in
-    let read = λ (i : ℕ). bit_number (flag (processor_of chips (place_in g.row.N by_rows i)) number) in
-    let bit : c.flag-bit.result ≡ flag (processor_of chips (place_in g.row.N by_rows c.loop-index.index)) number =
+    let read = λ (i : ℕ). bit_number (flag (processor_of chips (place_in g.row.N c.args.order i)) number) in
+    let bit : c.flag-bit.result ≡ flag (processor_of chips (place_in g.row.N c.args.order c.loop-index.index)) number =
     c.flag-bit.ensures.value
-    ∙ (λ j. flag (processor_at (c.chip.ensures.value j) c.place_in-place.result.proc) number)
-    ∙ ap (λ (place : Place). flag (processor_of chips place) number) c.place_in-place.ensures.value in
+    ∙ (λ j. flag (processor_at (c.chip.ensures.value j) c.place_in-here.result.proc) number)
+    ∙ ap (λ (place : Place). flag (processor_of chips place) number) c.place_in-here.ensures.value in
     c.in-Ok.ensures.items
     ∙ (λ j. c.loop-index.invariant j ++ c.bit_number.ensures.value j ∷ [])
     ∙ ap (λ (b : Bool). each_from 0 c.loop-index.index read ++ bit_number b ∷ []) bit
@@ -34,13 +32,13 @@ pub returns : goal.returns
 unfolding flags_of
 returns g c =
     let read = λ (i : ℕ).
-    bit_number (flag (processor_of c.args.machine.now.machine.chips (place_in g.row.N by_rows i)) c.args.number) in
+    bit_number (flag (processor_of c.args.machine.now.machine.chips (place_in g.row.N c.args.order i)) c.args.number) in
     let all : c.loop-index.index ≡ processors g.row.N = omega (
       arith,
       c.loop-index-test.false,
       c.loop-index.auto.index-end,
       c.processors-count.ensures.value,
     ) in
-    let value : c.loop-index.dots.items ≡ each_from 0 (processors g.row.N) read =
+    let value : c.loop-index.flags.items ≡ each_from 0 (processors g.row.N) read =
     c.loop-index.invariant ∙ ap (λ (count : ℕ). each_from 0 count read) all in
     record { value = value; count = ap length value ∙ length-each_from 0 (processors g.row.N) read }

@@ -1,0 +1,11 @@
+-- In which formats pictures are written.
+use Rattle.std.specs.Prelude.{ℕ, List}
+use Rattle.cm_figures.specs.declared.formats.Format.{Format}
+use Rattle.cm_figures.specs.declared.formats.Format.TheVariants.{Netpbm, Png}
+use Rattle.cm_figures.specs.Pictures.{Dots, picture_text}
+use Rattle.cm_figures.specs.Png.{png_of}
+
+-- a picture in a format
+abbrev pub picture_bytes : Format → Dots → List ℕ
+picture_bytes (Netpbm form) picture = picture_text form picture
+picture_bytes Png picture = png_of picture

@@ -1,0 +1,30 @@
+//! In which formats pictures are written.
+
+ghost use Rattle.std.specs.Prelude.{◌≡◌, ◌*◌, ◌<◌, length, IfOk};
+ghost use Rattle.cm_figures.specs.Pictures.{seen};
+ghost use Rattle.cm_figures.specs.Formats.{picture_bytes};
+
+use crate::picture::{Form, Picture, write_picture};
+use crate::png::write_png;
+use cm_bits::NoMemory;
+use std::alloc::Global;
+
+/// What the file of a picture is.
+#[derive(Clone, Copy, Debug, PartialEq, Eq)]
+pub enum Format {
+    /// A PBM or a PGM.
+    Netpbm(Form),
+    Png,
+}
+
+/// A picture in a format.
+pub fn write_in(alloc: Global, picture: &Picture, format: Format) -> Result<Vec<u8>, NoMemory>
+    requires some { 0 < picture.now.width }
+    requires dots { length picture.now.dots.items ≡ picture.now.height * picture.now.width }
+    ensures value { IfOk result (λ bytes. bytes.items ≡ picture_bytes format (seen picture.now)) }
+{
+    match format {
+        Format::Netpbm(form) => write_picture(alloc, picture, form),
+        Format::Png => write_png(alloc, picture),
+    }
+}
