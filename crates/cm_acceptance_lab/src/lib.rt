@@ -24,6 +24,8 @@ mod performed;
 #[cfg(test)]
 mod pictures;
 #[cfg(test)]
+mod plots;
+#[cfg(test)]
 mod pngs;
 #[cfg(test)]
 mod routes;
