@@ -58,7 +58,6 @@ cm1lab load N CAP RATE[,RATE].. CYCLES [--rule R] [--pattern P] [--until T] [--s
     petit cycle, as 0.5: what was offered, taken in and delivered on such a blank machine, and
     how many petit cycles that took; P is uniform, transpose, reversal or hotspot; with
     --until only the first T petit cycles offer; S draws others
-
 cm1lab plot [FILE] > PICTURE
     tells a picture, an SVG, of a table that cm1lab study, cm1lab study --messages or cm1lab
     load told, which is in FILE or on standard input: lines over petit cycles, over how long
