@@ -6,6 +6,7 @@ mod Lanes
 mod Laying
 mod Planes
 mod Poking
+mod Putting
 mod Spreading
 mod Filling
 mod Stepping

@@ -97,7 +97,8 @@ impl Run {
             ≡ slice_set self.old chip (with_memory_field (chip_at self.old chip) proc field.at field.len value) }
     {
         let at = usize::from(field.at());
-        for i in 0..usize::from(field.len()) {
+        let put = self.put_field(chip, proc, field, value);
+        for i in put..usize::from(field.len()) {
             self.put_bit(chip, proc, at + i, bit_of(value, i));
         }
     }
@@ -143,6 +144,17 @@ impl Run {
     {
         self.memory
             .put(usize::from(at.get()), self.stride, chip, plane);
+    }
+
+    /// Puts the lowest bits of a number into a memory field of one processor, as far as the rows that are
+    /// in use take them, and says how many.
+    fn put_field(&mut self, chip: u16, proc: Proc, field: Field, value: u64) -> usize
+        requires chip { chip < length self.old }
+        ensures value { self.new
+            ≡ slice_set self.old chip (with_memory_field (chip_at self.old chip) proc field.at result value) }
+        ensures within { result ≤ field.len }
+    {
+        self.memory.put_field(self.stride, chip, proc, field, value)
     }
 
     /// Puts a bit into the memory of one processor.

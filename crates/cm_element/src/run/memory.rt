@@ -1,17 +1,21 @@
 //! The rows of memory of a run, of which only those that are in use are kept.
 
-ghost use Rattle.std.specs.Prelude.{◌≡◌, ℕ, ◌+◌, ◌*◌, ◌<◌, ◌≤◌, ◌^◌, false, length, slice_index, slice_set, replicate};
-ghost use Rattle.std.specs.Prelude.{IfOk, vec_capacity};
+ghost use Rattle.std.specs.Prelude.{◌≡◌, ℕ, ◌+◌, ◌*◌, ◌<◌, ◌≤◌, ◌^◌, false, List, length, slice_index, slice_set};
+ghost use Rattle.std.specs.Prelude.{IfOk, replicate, vec_capacity};
+ghost use Rattle.cm_model.specs.Array.{chip_at};
 ghost use Rattle.cm_element.specs.Laid.{AreLaidRows, AreTurnedRows, IsRowLaid, IsRowTurned};
+ghost use Rattle.cm_element.specs.Runs.{chips_of, AreRows};
 ghost use Rattle.cm_element.specs.Sparse.{spread, AreSlots};
 ghost use Rattle.cm_element.specs.Steps.{ArePlaces, IsStored};
+ghost use Rattle.cm_element.specs.Wide.{with_memory_field};
 ghost use Rattle.cm_rows.specs.Rows.{IsComputed};
 
 use crate::run::lay::{Band, turn_row, write_row};
 use crate::run::outputs::store_row;
 use crate::run::rows::put_row;
 use crate::run::{ADDRESSES, PITCH};
-use cm_bits::{NoMemory, Plane};
+use crate::word::{bit_of, with_bit};
+use cm_bits::{Field, NoMemory, Plane, Proc};
 use cm_model::Nano;
 use cm_rows::{Places, compute, compute_memory};
 use std::alloc::Global;
@@ -137,6 +141,35 @@ impl MemoryRows {
         self.used = own(&mut self.words, &mut self.slots, self.used, self.stride, at);
         let here = start(&self.words, &self.slots, self.used, self.stride, at) + usize::from(place);
         self.words[here] = word;
+    }
+
+    /// Puts the lowest bits of a number into a field of one processor of the chip that has this place in
+    /// each row, and says how many: all before the first 1 at an address that has no row yet.
+    pub(crate) fn put_field(
+        &mut self,
+        stride: usize,
+        place: u16,
+        proc: Proc,
+        field: Field,
+        value: u64,
+    ) -> usize
+        requires words { length self.old ≡ 4096 * stride }
+        requires place { place < stride }
+        ensures value { (flags : List ℕ) → (chips : ℕ) → AreRows self.old flags stride chips → place < chips
+            → chips_of self.new flags stride chips ≡ slice_set (chips_of self.old flags stride chips) place
+            (with_memory_field (chip_at (chips_of self.old flags stride chips) place) proc field.at result value) }
+        ensures within { result ≤ field.len }
+        ensures words { length self.new ≡ length self.old }
+    {
+        put_bits(
+            &mut self.words,
+            &self.slots,
+            self.stride,
+            place,
+            proc,
+            field,
+            value,
+        )
     }
 
     /// Both tables of an instruction over the rows of its addresses and flags, at so many words of each.
@@ -361,4 +394,47 @@ fn own(words: &mut Vec<Plane>, slots: &mut Vec<u16>, used: usize, stride: usize,
     words.resize((used + 1) * stride, 0).unwrap();
     slots[at] = used as u16;
     used + 1
+}
+
+/// Puts the bits of a field, as far as `put_field` says. It is given slices, so that no word that it writes
+/// can be one that tells where the words lie: nothing is looked up again for each bit.
+fn put_bits(
+    words: &mut [Plane],
+    slots: &[u16],
+    stride: usize,
+    place: u16,
+    proc: Proc,
+    field: Field,
+    value: u64,
+) -> usize
+    requires slots { length slots.now ≡ 4096 }
+    requires few { stride < 2 ^ 20 }
+    requires rows { (i : ℕ) → i < 4096 → slice_index slots.now i * stride + stride ≤ length words.old }
+    requires place { place < stride }
+    ensures kept { (capacity used : ℕ) → AreSlots words.old capacity slots.now used stride
+        → AreSlots words.new capacity slots.now used stride }
+    ensures value { (capacity used : ℕ) → AreSlots words.old capacity slots.now used stride
+        → (flags : List ℕ) → (chips : ℕ) → AreRows (spread words.old slots.now stride) flags stride chips → place < chips
+        → chips_of (spread words.new slots.now stride) flags stride chips
+        ≡ slice_set (chips_of (spread words.old slots.now stride) flags stride chips) place (with_memory_field
+        (chip_at (chips_of (spread words.old slots.now stride) flags stride chips) place) proc field.at result value) }
+    ensures within { result ≤ field.len }
+    ensures words { length words.new ≡ length words.old }
+{
+    let at = usize::from(field.at());
+    let len = usize::from(field.len());
+    let mut rest = value;
+    for i in 0..len {
+        let bit = bit_of(rest, 0);
+        rest >>= 1;
+        let slot = usize::from(slots[at + i]);
+        let here = slot * stride + usize::from(place);
+        let word = with_bit(words[here], proc, bit);
+        if slot != 0 {
+            words[here] = word;
+        } else if bit {
+            return i;
+        }
+    }
+    len
 }

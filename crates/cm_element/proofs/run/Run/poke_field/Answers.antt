@@ -1,14 +1,14 @@
 use Rattle.std.proofs.Common.{◌+◌, [], set, get_or, sym, ap, ◌∙◌, arith}
-use Rattle.std.proofs.lemmas.List.{set-get_or}
 use Rattle.cm_model.specs.Chip.{with_memory_bit}
-use Rattle.cm_element.proofs.Replacing.{no_bits_yet, one_more_in_run}
+use Rattle.cm_element.specs.Wide.{with_memory_field}
+use Rattle.cm_element.proofs.Replacing.{one_more_in_run}
 use Rattle.cm_element.proofs.run.Run.poke_field.Goals as goal
 
 pub loop-i-init : goal.loop-i-init
 loop-i-init c =
-    sym (ap (set c.args.self.now c.args.chip)
-    (no_bits_yet (get_or c.args.self.now c.args.chip []) c.args.proc c.from-at.result c.args.value)
-    ∙ set-get_or c.args.self.now c.args.chip [])
+    c.put_field-put.ensures.value
+    ∙ ap (λ n. set c.args.self.now c.args.chip (with_memory_field (get_or c.args.self.now c.args.chip []) c.args.proc n
+    c.put_field-put.result c.args.value)) (sym (c.from-at.ensures ∙ c.at.ensures.value))
 
 pub loop-i-preserved : goal.loop-i-preserved
 loop-i-preserved c =

@@ -1,0 +1,184 @@
+-- One more bit of a number that goes into a field of a processor, where the rows are kept in slots.
+use Rattle.std.proofs.Common.{◌≡◌, ◌≢◌, ℕ, ◌+◌, ◌*◌, ◌/◌, ◌%◌, ◌^◌, ◌<◌, ◌==◌, Bool, true, false, if◌then◌else◌, List, [], length, get_or, set}
+use Rattle.std.proofs.Common.{sym, ap, ◌∙◌, arith, length-set, refl, subst, get_or-set_other}
+use Rattle.std.proofs.lemmas.List.{set-get_or}
+use Rattle.std.proofs.Common.{div-one, add-one, pow-suc}
+use Rattle.std.proofs.Math.Nat.{div-div-eq-div-mul}
+use Rattle.cm_bits.specs.Bit.{bit}
+use Rattle.cm_model.proofs.Bits.{bit-zero}
+use Rattle.cm_model.specs.Processor.{Processor}
+use Rattle.cm_model.specs.Chip.{IsPlane, with_memory_bit}
+use Rattle.cm_element.specs.Runs.{column, chips_of, AreRows}
+use Rattle.cm_element.specs.Sparse.{spread, AreSlots}
+use Rattle.cm_element.specs.Wide.{with_memory_field}
+use Rattle.cm_element.proofs.Columns.{length-chips_of, get_or-column, chip_at-chips_of, chip_is_whole}
+use Rattle.cm_element.proofs.Poking.{put_memory}
+use Rattle.cm_element.proofs.Replacing.{memory_set, no_bits_yet, one_more_in_run}
+use Rattle.cm_element.proofs.Spreading.{length-spread, get_or-spread, spread-set, spread-zero, zero_read}
+use Rattle.cm_element.proofs.Spreading.{slots_kept, IsChangedAt}
+
+-- one bit in the rows of memory
+pub memory_bit_put : (memory flags : List ℕ) (stride chips c p a word : ℕ) (b : Bool) → AreRows memory flags stride chips
+    → c < chips → a < 4096 → p < 16
+    → IsPlane word (λ q. if q == p then b else bit (get_or memory (a * stride + c) 0) q)
+    → chips_of (set memory (a * stride + c) word) flags stride chips
+    ≡ set (chips_of memory flags stride chips) c (with_memory_bit (get_or (chips_of memory flags stride chips) c []) p a b)
+memory_bit_put memory flags stride chips c p a word b rows here below p_below is =
+    let old : get_or memory (a * stride + c) 0 ≡ get_or (column memory stride 4096 c) a 0 =
+    sym (get_or-column memory stride 4096 c a below) in
+    memory_set memory flags stride chips c a word (with_memory_bit (get_or (chips_of memory flags stride chips) c []) p a b)
+    rows here below
+    (put_memory (column memory stride 4096 c) (column flags stride 16 c) p a word b p_below
+    (λ q h. is q h ∙ ap (λ (w : ℕ). if q == p then b else bit w q) old)
+    ∙ ap (λ v. with_memory_bit v p a b) (sym (chip_at-chips_of memory flags stride chips c here)))
+
+-- one bit where an address has a row of its own
+pub slot_bit_put : (words slots flags : List ℕ) (capacity used stride chips c p a index word : ℕ) (b : Bool)
+    → AreSlots words capacity slots used stride → AreRows (spread words slots stride) flags stride chips
+    → c < chips → a < 4096 → 0 < get_or slots a 0 → p < 16 → c < stride
+    → index ≡ get_or slots a 0 * stride + c
+    → IsPlane word (λ q. if q == p then b else bit (get_or words index 0) q)
+    → chips_of (spread (set words index word) slots stride) flags stride chips
+    ≡ set (chips_of (spread words slots stride) flags stride chips) c
+    (with_memory_bit (get_or (chips_of (spread words slots stride) flags stride chips) c []) p a b)
+slot_bit_put words slots flags capacity used stride chips c p a index word b are rows here below own p_below inside
+    place is =
+    let old : get_or words index 0 ≡ get_or (spread words slots stride) (a * stride + c) 0 =
+    ap (λ (n : ℕ). get_or words n 0) place ∙ sym (get_or-spread words slots stride a c below inside) in
+    ap (λ (n : ℕ). chips_of (spread (set words n word) slots stride) flags stride chips) place
+    ∙ ap (λ m. chips_of m flags stride chips) (spread-set words slots capacity used stride a c word are below own inside)
+    ∙ memory_bit_put (spread words slots stride) flags stride chips c p a word b rows here below p_below
+    (λ q h. is q h ∙ ap (λ (w : ℕ). if q == p then b else bit w q) old)
+
+-- a 0 where it has none: all is as it was
+pub none_bit_put : (words slots flags : List ℕ) (capacity used stride chips c p a : ℕ)
+    → AreSlots words capacity slots used stride → AreRows (spread words slots stride) flags stride chips
+    → c < chips → a < 4096 → get_or slots a 0 ≡ 0 → p < 16 → c < stride
+    → chips_of (spread words slots stride) flags stride chips
+    ≡ set (chips_of (spread words slots stride) flags stride chips) c
+    (with_memory_bit (get_or (chips_of (spread words slots stride) flags stride chips) c []) p a false)
+none_bit_put words slots flags capacity used stride chips c p a are rows here below none p_below inside =
+    let old : get_or (spread words slots stride) (a * stride + c) 0 ≡ 0 =
+    zero_read words slots capacity used stride stride a c are below none inside refl in
+    ap (λ m. chips_of m flags stride chips) (spread-zero words slots capacity used stride a c are below none inside)
+    ∙ memory_bit_put (spread words slots stride) flags stride chips c p a 0 false rows here below p_below
+    (λ q h. bit-zero q ∙ sym (zeros (q == p) q) ∙ ap (λ (w : ℕ). if q == p then false else bit w q) (sym old)) where
+      zeros : (b : Bool) (q : ℕ) → (if b then false else bit 0 q) ≡ false
+      zeros true q = refl
+      zeros false q = bit-zero q
+
+-- the rows of memory have a word for each chip whatever the words are
+pub still_rows : (words new slots flags : List ℕ) (stride chips : ℕ) → AreRows (spread words slots stride) flags stride chips
+    → AreRows (spread new slots stride) flags stride chips
+still_rows words new slots flags stride chips rows = record {
+  memory_words = length-spread new slots stride;
+  flag_words = rows.flag_words;
+  within = rows.within;
+  few = rows.few;
+  zero = rows.zero;
+}
+
+-- so many bits of a number stand in a field, once these rows are kept as they should be
+pub record ArePut (words slots : List ℕ) (stride c p at i number : ℕ) (new : List ℕ) : Type 0 where
+  pub kept : (capacity used : ℕ) → AreSlots words capacity slots used stride → AreSlots new capacity slots used stride
+  pub value : (capacity used : ℕ) → AreSlots words capacity slots used stride
+      → (flags : List ℕ) (chips : ℕ) → AreRows (spread words slots stride) flags stride chips → c < chips
+      → chips_of (spread new slots stride) flags stride chips
+      ≡ set (chips_of (spread words slots stride) flags stride chips) c
+      (with_memory_field (get_or (chips_of (spread words slots stride) flags stride chips) c []) p at i number)
+  pub long : length new ≡ length words
+
+pub none_put : (words slots : List ℕ) (stride c p at number : ℕ) → ArePut words slots stride c p at 0 number words
+none_put words slots stride c p at number = record {
+  kept = λ capacity used are. are;
+  value = λ capacity used are flags chips rows here.
+      let old : List (List Processor) = chips_of (spread words slots stride) flags stride chips in
+      sym (ap (set old c) (no_bits_yet (get_or old c []) p at number) ∙ set-get_or old c []);
+  long = refl;
+}
+
+-- one more
+pub one_more : (words slots : List ℕ) (stride c p at i number : ℕ) (now new : List ℕ)
+    → ArePut words slots stride c p at i number now
+    → p < 16 → at + i < 4096
+    → ((capacity used : ℕ) → AreSlots now capacity slots used stride → AreSlots new capacity slots used stride)
+    → ((capacity used : ℕ) → AreSlots now capacity slots used stride
+    → (flags : List ℕ) (chips : ℕ) → AreRows (spread now slots stride) flags stride chips → c < chips
+    → chips_of (spread new slots stride) flags stride chips
+    ≡ set (chips_of (spread now slots stride) flags stride chips) c
+    (with_memory_bit (get_or (chips_of (spread now slots stride) flags stride chips) c []) p (at + i) (bit number i)))
+    → length new ≡ length now
+    → ArePut words slots stride c p at (i + 1) number new
+one_more words slots stride c p at i number now new put p_below below kept value long = record {
+  kept = λ capacity used are. kept capacity used (put.kept capacity used are);
+  value = λ capacity used are flags chips rows here.
+      let old : List (List Processor) = chips_of (spread words slots stride) flags stride chips in
+      let so_far : List (List Processor) = chips_of (spread now slots stride) flags stride chips in
+      let rows_then : AreRows (spread now slots stride) flags stride chips =
+      still_rows words now slots flags stride chips rows in
+      let inside : c < length old =
+      omega (arith, here, length-chips_of (spread words slots stride) flags stride chips) in
+      let inside_then : c < length so_far =
+      omega (arith, here, length-chips_of (spread now slots stride) flags stride chips) in
+      value capacity used (put.kept capacity used are) flags chips rows_then here
+      ∙ one_more_in_run old c p at i number so_far inside (put.value capacity used are flags chips rows here)
+      (chip_is_whole (spread now slots stride) flags stride chips c rows_then inside_then) p_below below;
+  long = long ∙ put.long;
+}
+
+-- a word in a row of its own
+pub slot_put : (words slots : List ℕ) (stride c p at i number : ℕ) (now : List ℕ) (index word : ℕ)
+    → ArePut words slots stride c p at i number now
+    → p < 16 → at + i < 4096 → c < stride → 0 < get_or slots (at + i) 0
+    → index ≡ get_or slots (at + i) 0 * stride + c
+    → IsPlane word (λ q. if q == p then bit number i else bit (get_or now index 0) q)
+    → ArePut words slots stride c p at (i + 1) number (set now index word)
+slot_put words slots stride c p at i number now index word put p_below below inside own place is =
+    one_more words slots stride c p at i number now (set now index word) put p_below below
+    (λ capacity used are. slots_kept now slots capacity used stride (at + i) c (c + 1) (set now index word) capacity
+    are (omega arith) below own changed (length-set now index word) (omega arith))
+    (λ capacity used are flags chips rows here.
+    slot_bit_put now slots flags capacity used stride chips c p (at + i) index word (bit number i) are rows here below
+    own p_below inside place is)
+    (length-set now index word) where
+      changed : IsChangedAt (get_or slots (at + i) 0 * stride) c (c + 1) now (set now index word)
+      changed = record {
+        below = λ n h. let other : n ≢ index = omega (arith, h, place) in get_or-set_other now index n word 0 other;
+        above = λ n h. let other : n ≢ index = omega (arith, h, place) in get_or-set_other now index n word 0 other;
+      }
+
+-- a 0 where there is none
+pub zero_put : (words slots : List ℕ) (stride c p at i number : ℕ) (now : List ℕ)
+    → ArePut words slots stride c p at i number now
+    → p < 16 → at + i < 4096 → c < stride → get_or slots (at + i) 0 ≡ 0 → bit number i ≡ false
+    → ArePut words slots stride c p at (i + 1) number now
+zero_put words slots stride c p at i number now put p_below below inside none is =
+    one_more words slots stride c p at i number now now put p_below below
+    (λ capacity used are. are)
+    (λ capacity used are flags chips rows here.
+    none_bit_put now slots flags capacity used stride chips c p (at + i) are rows here below none p_below inside
+    ∙ ap (λ b. set (chips_of (spread now slots stride) flags stride chips) c
+    (with_memory_bit (get_or (chips_of (spread now slots stride) flags stride chips) c []) p (at + i) b)) (sym is))
+    refl
+
+-- the same by other names of the address and the count
+pub retold_put : (words slots : List ℕ) (stride c p at there i count number : ℕ) (now : List ℕ)
+    → ArePut words slots stride c p at i number now → at ≡ there → i ≡ count
+    → ArePut words slots stride c p there count number now
+retold_put words slots stride c p at there i count number now put at_is i_is =
+    subst (λ (n : ℕ). ArePut words slots stride c p there n number now) i_is
+    (subst (λ (n : ℕ). ArePut words slots stride c p n i number now) at_is put)
+
+-- all rows before and after so many bits of a number went into a field
+abbrev pub IsFieldPut : List ℕ → List ℕ → ℕ → ℕ → ℕ → ℕ → ℕ → ℕ → Type 0
+IsFieldPut old new stride c p at count number = (flags : List ℕ) (chips : ℕ) → AreRows old flags stride chips → c < chips
+    → chips_of new flags stride chips ≡ set (chips_of old flags stride chips) c
+    (with_memory_field (get_or (chips_of old flags stride chips) c []) p at count number)
+
+-- the next bit of a number is the lowest of what is left of it
+pub next_bit : (number i rest : ℕ) → rest ≡ number / 2 ^ i → bit rest 0 ≡ bit number i
+next_bit number i rest is = ap (λ (n : ℕ). n % 2 == 1) (div-one rest ∙ is)
+
+pub rest_left : (number i rest : ℕ) → rest ≡ number / 2 ^ i → rest / 2 ≡ number / 2 ^ (i + 1)
+rest_left number i rest is =
+    ap (λ (n : ℕ). n / 2) is ∙ rw (add-one, pow-suc) (div-div-eq-div-mul number (2 ^ i) 2)
