@@ -1,5 +1,6 @@
 -- One more bit of a number that goes into a field of a processor, where the rows are kept in slots.
-use Rattle.std.proofs.Common.{◌≡◌, ◌≢◌, ℕ, ◌+◌, ◌*◌, ◌/◌, ◌%◌, ◌^◌, ◌<◌, ◌==◌, Bool, true, false, if◌then◌else◌, List, [], length, get_or, set}
+use Rattle.std.proofs.Common.{◌≡◌, ◌≢◌, ℕ, ◌+◌, ◌*◌, ◌/◌, ◌%◌, ◌^◌, ◌<◌}
+use Rattle.std.proofs.Common.{◌==◌, Bool, true, false, if◌then◌else◌, List, [], length, get_or, set}
 use Rattle.std.proofs.Common.{sym, ap, ◌∙◌, arith, length-set, refl, subst, get_or-set_other}
 use Rattle.std.proofs.lemmas.List.{set-get_or}
 use Rattle.std.proofs.Common.{div-one, add-one, pow-suc}

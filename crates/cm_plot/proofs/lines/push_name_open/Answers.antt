@@ -17,11 +17,14 @@ returns c =
     told-2 c.in_ok-push_piece.ensures.ok in
     let told-4 = behind c.args.text.now.items
     (codes "<path stroke-width='25' stroke='" ++ c.args.paint.now ++ piece (codes "' d='M5750 ") c.args.y)
-    (piece (codes "h300'/><text text-anchor='start' x='6130' y='") (c.args.y + 50)) c.push_piece.new.text.items c.push_piece-2.new.text.items
+    (piece (codes "h300'/><text text-anchor='start' x='6130' y='") (c.args.y + 50))
+    c.push_piece.new.text.items c.push_piece-2.new.text.items
     told-3 c.in_ok-push_piece-2.ensures.ok in
     record {
       ok = behind-ok c.push_words-3.result c.args.text.now.items
-          (codes "<path stroke-width='25' stroke='" ++ c.args.paint.now ++ piece (codes "' d='M5750 ") c.args.y ++ piece (codes "h300'/><text text-anchor='start' x='6130' y='") (c.args.y + 50))
+          (codes "<path stroke-width='25' stroke='" ++ c.args.paint.now
+          ++ piece (codes "' d='M5750 ") c.args.y
+          ++ piece (codes "h300'/><text text-anchor='start' x='6130' y='") (c.args.y + 50))
           (codes "'>") c.push_piece-2.new.text.items c.push_words-3.new.text.items
           told-4 c.push_words-3.ensures.ok;
     }

@@ -13,7 +13,8 @@ returns c =
     c.in_ok-push_words.ensures.ok c.in_ok-push_piece.ensures.ok in
     record {
       ok = behind-ok c.push_words-2.result c.args.text.now.items
-          (codes "' font-family='sans-serif' font-size='150' text-anchor='middle'>\n" ++ piece (codes "<rect width='8300' fill='white' height='") c.args.height)
+          (codes "' font-family='sans-serif' font-size='150' text-anchor='middle'>\n"
+          ++ piece (codes "<rect width='8300' fill='white' height='") c.args.height)
           (codes "'/>\n") c.push_piece.new.text.items c.push_words-2.new.text.items
           told-2 c.push_words-2.ensures.ok;
     }

@@ -13,7 +13,8 @@ returns c =
     c.in_ok-push_piece.ensures.ok c.in_ok-push_piece-2.ensures.ok in
     record {
       ok = behind-ok c.push_words.result c.args.text.now.items
-          (piece (codes "<path stroke='#ddd' stroke-width='8' d='M0 ") c.args.y ++ piece (codes "h5600'/><text text-anchor='end' x='-80' y='") (c.args.y + 50))
+          (piece (codes "<path stroke='#ddd' stroke-width='8' d='M0 ") c.args.y
+          ++ piece (codes "h5600'/><text text-anchor='end' x='-80' y='") (c.args.y + 50))
           (codes "'>") c.push_piece-2.new.text.items c.push_words.new.text.items
           told-2 c.push_words.ensures.ok;
     }
