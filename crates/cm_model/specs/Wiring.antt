@@ -33,7 +33,7 @@ abbrev pub rule_number : Rule → ℕ
 rule_number First = 0
 rule_number Oldest = 1
 
--- no wire is cut, and who came first goes first: so the engine routes as yet
+-- no wire is cut, and who came first goes first: so a blank machine routes
 abbrev pub plain_routing : Routing
 plain_routing = record { cuts = []; rule = First }
 
