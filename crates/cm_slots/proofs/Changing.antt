@@ -103,7 +103,7 @@ chip_changed chip numbers tickets old tile inside whole step told =
 
 -- ---- what is read of a chip
 
-taken_in : (slots : ℕ → ℕ) (xs : List ℕ) → AreSlots slots xs → (j : ℕ) → slots j ≢ 0 → is_taken (slots j) ≡ true
+pub taken_in : (slots : ℕ → ℕ) (xs : List ℕ) → AreSlots slots xs → (j : ℕ) → slots j ≢ 0 → is_taken (slots j) ≡ true
 taken_in slots xs are j some = grind (arith, are.taken j, get_or_past)
 
 ticket_of_slot : (slots : ℕ → ℕ) (xs : List ℕ) → AreSlots slots xs → (j : ℕ)

@@ -6,3 +6,4 @@ pub mod Changing
 pub mod Arriving
 pub mod Runs
 pub mod Views
+pub mod Moves

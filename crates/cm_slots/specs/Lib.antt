@@ -4,3 +4,4 @@ pub mod Slots
 pub mod Choice
 pub mod Tiles
 pub mod Runs
+pub mod Moves

@@ -3,6 +3,7 @@
 ghost use Rattle.std.specs.Prelude.{◌≡◌, ℕ, ◌%◌, ◌^◌, ◌<◌, length, slice_index, bit_xor, IfSome};
 ghost use Rattle.cm_slots.specs.Slots.{slot_across, leaver_at};
 ghost use Rattle.cm_slots.specs.Runs.{tile_across, place_across};
+ghost use Rattle.cm_slots.specs.Moves.{slot_over};
 
 use crate::rows::{Row, WIDTH};
 
@@ -40,6 +41,25 @@ pub(crate) fn arrivals(leavers: &Option<Row>, dim: u8) -> Row
     match leavers {
         Some(row) => moved(row, dim),
         None => [0; WIDTH],
+    }
+}
+
+/// Puts down who leaves as they arrive across the dimensions d of which bit d is set.
+#[inline(never)]
+pub(crate) fn put_over(lanes: &mut Row, row: &Row, dims: u16)
+    requires long { length row.now ≡ 64 }
+    requires wide { length lanes.old ≡ 64 }
+    ensures value { (i : ℕ) → i < 64
+        → slice_index lanes.new i ≡ slot_over dims (slice_index row.now (bit_xor i (dims % 64))) }
+    ensures wide { length lanes.new ≡ 64 }
+{
+    for i in 0..WIDTH {
+        let slot = row[i ^ usize::from(dims) % WIDTH];
+        lanes[i] = if slot == 0 {
+            0
+        } else {
+            slot ^ u32::from(dims) * 65536
+        };
     }
 }
 

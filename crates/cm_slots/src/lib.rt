@@ -6,12 +6,14 @@ mod chips;
 mod choice;
 mod departing;
 pub mod laws;
+mod moving;
 mod order;
 mod passes;
 mod rows;
 mod slots;
 mod ticket;
 mod tile;
+mod tiles;
 
 pub use slots::Slots;
 pub use ticket::Ticket;

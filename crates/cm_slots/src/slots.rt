@@ -6,74 +6,58 @@ ghost use Rattle.std.specs.Prelude.{map, remove, slice_set};
 ghost use Rattle.std.specs.List.{All, list_any, slice_get};
 ghost use Rattle.cm_model.specs.Each.{each_from};
 ghost use Rattle.cm_model.specs.Array.{each_chip, list_at};
-ghost use Rattle.cm_slots.specs.Runs.{AreEmpty};
 ghost use Rattle.cm_slots.specs.Queues.{stayers_of};
 ghost use Rattle.cm_slots.specs.Tickets.{has_to_go, has_come, ticket_going, exchanged};
 ghost use Rattle.cm_slots.specs.Choice.{exchanged_by_number};
+ghost use Rattle.cm_slots.specs.Moves.{ticket_over, queues_over, AreMovable};
 
-use crate::chips;
-use crate::departing::{take_out, write_down};
-use crate::order::Order;
-use crate::passes::cross;
-use crate::rows::{Row, WIDTH};
 use crate::ticket::Ticket;
-use crate::tile::Tile;
+use crate::tiles::Tiles;
 use cm_bits::NoMemory;
 use std::alloc::Global;
 use std::marker::Model;
 
-/// The tickets of a run of chips, slot by slot: 64 chips that stand side by side make a tile, in which a
-/// step does the same at each of them. Behind the last chip the last tile may have places that are never
-/// read as chips.
+/// The tickets of a run of chips. Where there is room for one at each chip, whoever stands there leaves it in every
+/// dimension: such dimensions are noted, and the tickets move over all of them at once when one is to be changed.
 #[derive(Debug, Drop)]
 pub struct Slots {
-    /// How many chips there are.
-    chips: usize,
-    /// Chip c stands at place c % 64 of tile c / 64.
-    tiles: Vec<Tile>,
-    /// Between the two passes of a dimension, who leaves each tile; else anything.
-    leaving: Vec<Option<Row>>,
+    /// The tickets, each where it stood before it crossed what is noted.
+    tiles: Tiles,
+    /// Bit d is set where all have crossed dimension d and have not been moved.
+    noted: u16,
 }
 
 impl Model for Slots {
     ghost use Rattle.std.specs.Prelude.{List};
     ghost use Rattle.cm_slots.specs.declared.ticket.Ticket.{Ticket};
-    ghost use Rattle.cm_slots.specs.Runs.{queues_in, AreTiles};
+    ghost use Rattle.cm_slots.specs.Moves.{queues_over, AreMovable};
 
     ghost Value = { List (List Ticket) };
 
-    ghost view = { λ slots. queues_in slots.chips slots.tiles.items };
+    ghost view = { λ slots. queues_over slots.noted slots.tiles };
 
-    ghost invariant = { λ slots. AreTiles slots.chips slots.tiles.items slots.leaving.items };
+    ghost invariant = { λ slots. AreMovable slots.noted slots.tiles };
 }
 
-#[tactic(auto, using(crate::proofs::Views::seen))]
+#[tactic(auto, using(crate::proofs::Moves::seen))]
 impl Slots {
     /// Slots for so many chips, at which no ticket stands.
     pub fn new(alloc: Global, chips: usize) -> Result<Slots, NoMemory>
         requires few { chips ≤ 4096 }
         ensures value { IfOk result (λ slots. slots ≡ each_from 0 chips (λ c. [])) }
     {
-        let count = (chips + 63) / WIDTH;
-        let tiles = empty_tiles(alloc, count)?;
-        let leaving = no_leavers(alloc, count)?;
-        Ok(Slots {
-            chips,
-            tiles,
-            leaving,
-        })
+        let tiles = Tiles::new(alloc, chips)?;
+        Ok(Slots { tiles, noted: 0 })
     }
 
     /// A second one, with the tickets of this one.
     pub fn copy(&self, alloc: Global) -> Result<Slots, NoMemory>
         ensures value { IfOk result (λ slots. slots ≡ self.now) }
     {
-        let tiles = copied_tiles(alloc, &self.tiles)?;
-        let leaving = no_leavers(alloc, self.tiles.len())?;
+        let tiles = self.tiles.copy(alloc)?;
         Ok(Slots {
-            chips: self.chips,
             tiles,
-            leaving,
+            noted: self.noted,
         })
     }
 
@@ -82,7 +66,7 @@ impl Slots {
         ensures value { result ≡ length self.now }
         ensures few { result ≤ 4096 }
     {
-        self.chips
+        self.tiles.chips()
     }
 
     /// How many tickets stand at a chip.
@@ -91,7 +75,7 @@ impl Slots {
         ensures value { result ≡ length (list_at self.now chip) }
         ensures most { result ≤ 15 }
     {
-        chips::len(&self.tiles, chip)
+        self.tiles.len(chip ^ usize::from(self.noted))
     }
 
     /// The ticket at a place of a chip, if one stands there; at place 0 the first that came.
@@ -100,7 +84,10 @@ impl Slots {
         ensures value { result ≡ slice_get (list_at self.now chip) place }
         ensures most { IfSome result (λ t. place < 15) }
     {
-        chips::ticket(&self.tiles, chip, place)
+        match self.tiles.ticket(chip ^ usize::from(self.noted), place) {
+            Some(ticket) => Some(over(ticket, self.noted)),
+            None => None,
+        }
     }
 
     /// Takes in a ticket at a chip, where it stands last.
@@ -110,7 +97,8 @@ impl Slots {
         requires room { length (list_at self.old chip) < 15 }
         ensures value { self.new ≡ slice_set self.old chip (list_at self.old chip ++ ticket ∷ []) }
     {
-        chips::arrive(&mut self.tiles, chip, ticket);
+        settle(&mut self.tiles, &mut self.noted);
+        self.tiles.arrive(chip, ticket);
     }
 
     /// Puts a ticket in the place of one of a chip.
@@ -120,7 +108,8 @@ impl Slots {
         requires place { place < length (list_at self.old chip) }
         ensures value { self.new ≡ slice_set self.old chip (slice_set (list_at self.old chip) place ticket) }
     {
-        chips::replace(&mut self.tiles, chip, place, ticket);
+        settle(&mut self.tiles, &mut self.noted);
+        self.tiles.replace(chip, place, ticket);
     }
 
     /// Takes out the ticket at a place of a chip; the later ones stand one place nearer the front.
@@ -129,7 +118,8 @@ impl Slots {
         requires place { place < length (list_at self.old chip) }
         ensures value { self.new ≡ slice_set self.old chip (remove (list_at self.old chip) place) }
     {
-        chips::remove(&mut self.tiles, chip, place);
+        settle(&mut self.tiles, &mut self.noted);
+        self.tiles.remove(chip, place);
     }
 
     /// The first chip from this one on at which a ticket stands whose message has arrived; as many as there are, if
@@ -143,22 +133,56 @@ impl Slots {
         ensures most { result ≤ length self.now }
         ensures arrived { result < length self.now → list_any has_come (list_at self.now result) ≡ true }
     {
-        self.chips
-            .min(chips::next_arrived(&self.tiles, from, usize::from(room)))
+        if self.noted == 0 {
+            self.tiles.next_arrived(from, room)
+        } else {
+            self.next_that_moved(from)
+        }
+    }
+
+    /// The same chip by chip, where one ticket at most stands at each.
+    fn next_that_moved(&self, from: usize) -> usize
+        requires from { from ≤ length self.now }
+        requires few { All (λ ts. length ts ≤ 1) self.now }
+        ensures none { (c : ℕ) → from ≤ c → c < result → list_any has_come (list_at self.now c) ≡ false }
+        ensures from { from ≤ result }
+        ensures most { result ≤ length self.now }
+        ensures arrived { result < length self.now → list_any has_come (list_at self.now result) ≡ true }
+    {
+        let chips = self.chips();
+        for chip in from..chips {
+            if self.has_arrival(chip) {
+                return chip;
+            }
+        }
+        chips
+    }
+
+    /// Whether the ticket of a chip, of which it has one at most, is that of a message that has arrived.
+    fn has_arrival(&self, chip: usize) -> bool
+        requires chip { chip < length self.now }
+        requires few { length (list_at self.now chip) ≤ 1 }
+        ensures value { result ≡ list_any has_come (list_at self.now chip) }
+    {
+        match self.ticket(chip, 0) {
+            Some(ticket) => ticket.rel == 0,
+            None => false,
+        }
     }
 
     /// Takes out all tickets.
     pub fn clear(&mut self)
         ensures value { self.new ≡ each_from 0 (length self.old) (λ c. []) }
     {
-        empty_all(&mut self.tiles);
+        self.tiles.clear();
+        self.noted = 0;
     }
 
     /// Whether no chip has more tickets than this; with 0, whether none stands anywhere.
     pub fn is_within(&self, room: usize) -> bool
         ensures within { IsTrue result ↔ All (λ ts. length ts ≤ room) self.now }
     {
-        chips::are_within(&self.tiles, room)
+        self.tiles.is_within(room)
     }
 
     /// The tickets of chips that span so many dimensions, with room for so many at each, cross one of them: all
@@ -174,13 +198,12 @@ impl Slots {
             (λ c. exchanged room dim (list_at self.old c) (list_at self.old (bit_xor c (2 ^ dim)))) }
         ensures within { All (λ ts. length ts ≤ room) self.new }
     {
-        cross(
-            &mut self.tiles,
-            &mut self.leaving,
-            usize::from(room),
-            dim,
-            Order::Arrival,
-        );
+        if room == 1 {
+            self.note(span, dim);
+        } else {
+            settle(&mut self.tiles, &mut self.noted);
+            self.tiles.cross(span, room, dim);
+        }
     }
 
     /// The same, where of those that have to cross the lowest number goes first: at each chip it leaves, or where none
@@ -196,13 +219,23 @@ impl Slots {
             (list_at self.old c) (list_at self.old (bit_xor c (2 ^ dim)))) }
         ensures within { All (λ ts. length ts ≤ room) self.new }
     {
-        cross(
-            &mut self.tiles,
-            &mut self.leaving,
-            usize::from(room),
-            dim,
-            Order::Number,
-        );
+        if room == 1 {
+            self.note(span, dim);
+        } else {
+            settle(&mut self.tiles, &mut self.noted);
+            self.tiles.cross_by_number(span, room, dim);
+        }
+    }
+
+    /// All tickets, of which one at most stands at each chip, cross a dimension, which is noted.
+    fn note(&mut self, span: u8, dim: u8)
+        requires dimension { span ≤ 12 }
+        requires dim { dim < span }
+        requires count { length self.old ≡ 2 ^ span }
+        requires few { All (λ ts. length ts ≤ 1) self.old }
+        ensures value { self.new ≡ queues_over (2 ^ dim) self.old }
+    {
+        self.noted ^= 1 << dim;
     }
 
     /// The first half of a dimension by itself: who leaves each chip is taken out, and written down as it
@@ -217,40 +250,29 @@ impl Slots {
         ensures going { leavers.new ≡ map (λ ts. ticket_going room dim ts) self.old }
         ensures space { All (λ ts. length ts < room) self.new }
     {
-        take_out(&mut self.tiles, &mut self.leaving, usize::from(room), dim);
-        write_down(&self.leaving, leavers);
+        settle(&mut self.tiles, &mut self.noted);
+        self.tiles.leave(room, dim, leavers);
     }
 }
 
-/// So many tiles, at which no ticket stands.
-fn empty_tiles(alloc: Global, count: usize) -> Result<Vec<Tile>, NoMemory>
-    ensures value { IfOk result (λ tiles. AreEmpty count tiles.items) }
+/// Moves all tickets over the dimensions that were noted, and notes none.
+fn settle(tiles: &mut Tiles, noted: &mut u16)
+    requires movable { AreMovable noted.old tiles.old }
+    ensures value { tiles.new ≡ queues_over noted.old tiles.old }
+    ensures none { noted.new ≡ 0 }
 {
-    let mut tiles = Vec::with_capacity(alloc, count)?;
-    for _t in 0..count {
-        tiles.push_reserved(Tile::new());
-    }
-    Ok(tiles)
-}
-
-/// Puts an empty tile in the place of each.
-fn empty_all(tiles: &mut [Tile])
-    ensures value { AreEmpty (length tiles.old) tiles.new }
-{
-    for tile in tiles.iter_mut() {
-        *tile = Tile::new();
+    if *noted != 0 {
+        tiles.move_over(*noted);
+        *noted = 0;
     }
 }
 
-fn copied_tiles(alloc: Global, tiles: &[Tile]) -> Result<Vec<Tile>, NoMemory>
-    ensures value { IfOk result (λ copies. copies.items ≡ tiles.now) }
+/// A ticket that crosses the dimensions d of which bit d is set.
+fn over(ticket: Ticket, dims: u16) -> Ticket
+    ensures value { result ≡ ticket_over dims ticket }
 {
-    Ok(tiles.iter().map(|tile| tile.copy()).collect(alloc)?)
-}
-
-/// Room for who leaves so many tiles.
-fn no_leavers(alloc: Global, count: usize) -> Result<Vec<Option<Row>>, NoMemory>
-    ensures count { IfOk result (λ leaving. length leaving.items ≡ count) }
-{
-    Ok(vec![in alloc; None; count]?)
+    Ticket {
+        rel: ticket.rel ^ dims,
+        ..ticket
+    }
 }

@@ -1,14 +1,15 @@
 //! Tiles of chips.
 
 ghost use Rattle.std.specs.Prelude.{◌≡◌, ◌↔◌, ◌≢◌, ℕ, ◌<◌, ◌≤◌, ◌++◌, [], ◌∷◌, IsFalse, IsTrue, true, length, remove};
-ghost use Rattle.std.specs.Prelude.{List, slice_index, slice_set, None, false};
+ghost use Rattle.std.specs.Prelude.{List, slice_index, slice_set, None, false, IfSome};
 ghost use Rattle.std.specs.List.{list_any};
 ghost use Rattle.cm_slots.specs.declared.order.Order.TheVariants.{Arrival, Number};
-ghost use Rattle.cm_slots.specs.Slots.{is_taken, is_arrival, slot_behind, AreSlots, IsBlank, AreTaken};
+ghost use Rattle.cm_slots.specs.Slots.{is_taken, is_arrival, leaver_at, slot_behind, AreSlots, IsBlank, AreTaken};
 ghost use Rattle.cm_slots.specs.Tiles.{slots_of, standing_at, IsShaped, IsQuiet, IsTile, HasLeft, HasTakenIn, IsPut};
 ghost use Rattle.cm_slots.specs.Tiles.{HasChanged};
+ghost use Rattle.cm_slots.specs.Moves.{AreFirst, HasMoved};
 
-use crate::across::flipped;
+use crate::across::{flipped, put_over};
 use crate::choice::{leave_from, places};
 use crate::order::Order;
 use crate::rows::{ROOM, Row, WIDTH, has_arrival, is_blank, leave, take_in};
@@ -134,6 +135,38 @@ impl Tile {
         if !is_blank(coming) || !is_blank(&self.rest[0]) {
             let reach = self.reach_behind(room);
             take_in(&mut self.first, &mut self.rest[..], reach - 1);
+        }
+    }
+
+    /// Writes down who stands in the first slots, if anybody stands there.
+    pub fn lift(&self, first: &mut Option<Row>)
+        requires whole { IsTile self.now }
+        ensures value { AreFirst self.now first.new }
+    {
+        if self.is_quiet() {
+            forget(first);
+        } else {
+            *first = Some(self.first);
+        }
+    }
+
+    /// Puts down at each chip who stood in the first slot across these dimensions, and nobody else.
+    pub fn put_down(&mut self, first: &Option<Row>, dims: u16)
+        requires whole { IsTile self.old }
+        requires few { (i : ℕ) → i < 64 → length (standing_at self.old i) ≤ 1 }
+        requires long { IfSome first.now (λ row. length row ≡ 64) }
+        requires taken { (i : ℕ) → i < 64 → leaver_at first.now i ≢ 0 → is_taken (leaver_at first.now i) ≡ true }
+        ensures value { HasMoved dims first.now self.new }
+    {
+        match first {
+            Some(row) => {
+                put_over(&mut self.first, row, dims);
+                self.awake = true;
+            }
+            None => {
+                self.first = [0; WIDTH];
+                self.awake = false;
+            }
         }
     }
 

@@ -1,13 +1,12 @@
-use Rattle.std.proofs.Common.{arith}
-use Rattle.cm_slots.proofs.Views.{within_view, within_everywhere}
+use Rattle.cm_slots.proofs.Moves.{within_is}
 use Rattle.cm_slots.proofs.slots.Slots.is_within.Goals as goal
 
 pub returns : goal.returns
-returns c = record {
-  within = (
-    λ yes. rw c.self.view_is at (within_view c.self.inside.chips c.self.inside.tiles.items c.args.room
-        (omega (arith, c.self.invariant.count)) (rw c.deref.ensures.value at (c.are_within.ensures.within.0 yes))),
-    λ few. c.are_within.ensures.within.1 (rw c.deref.ensures.value
-        (within_everywhere c.self.invariant c.self.view_is c.args.room few)),
-  );
-}
+returns c =
+    let same = within_is c.self.inside.noted c.self.inside.tiles c.self.view_is c.args.room c.self.invariant.inside in
+    record {
+      within = (
+        λ yes. same.0 (c.is_within.ensures.within.0 yes),
+        λ few. c.is_within.ensures.within.1 (same.1 few),
+      );
+    }

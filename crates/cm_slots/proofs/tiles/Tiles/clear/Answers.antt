@@ -2,7 +2,7 @@ use Rattle.std.proofs.Common.{length, ◌/◌, refl}
 use Rattle.cm_slots.specs.Runs.{AreEmpty}
 use Rattle.cm_slots.proofs.Views.{empty_quiet, empty_whole, empty_queues, quiet_tickets, as_many, tiles_kept}
 use Rattle.cm_slots.proofs.Views.{items-lent}
-use Rattle.cm_slots.proofs.slots.Slots.clear.Goals as goal
+use Rattle.cm_slots.proofs.tiles.Tiles.clear.Goals as goal
 
 pub invariant_of-self : goal.invariant_of-self
 invariant_of-self c =

@@ -1,6 +1,6 @@
 use Rattle.std.proofs.Common.{slice_set}
 use Rattle.cm_slots.proofs.Views.{lent_changed}
-use Rattle.cm_slots.proofs.slots.Slots.replace.Goals as goal
+use Rattle.cm_slots.proofs.tiles.Tiles.replace.Goals as goal
 
 pub invariant_of-self : goal.invariant_of-self
 invariant_of-self c = (lent_changed c.self.inside.tiles c.self.invariant c.self.view_is c.deref_mut.ensures.value

@@ -1,6 +1,6 @@
 use Rattle.std.proofs.Common.{◌≡◌, ◌≤◌, vec_len, vec_capacity}
 use Rattle.cm_slots.specs.Runs.{AreEmpty}
-use Rattle.cm_slots.proofs.slots.empty_tiles.Given as goal
+use Rattle.cm_slots.proofs.tiles.empty_tiles.Given as goal
 
 abbrev pub invariant-loop-t : goal.invariant-loop-t
 invariant-loop-t l = record {

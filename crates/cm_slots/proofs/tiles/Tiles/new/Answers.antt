@@ -1,6 +1,6 @@
 use Rattle.std.proofs.Common.{◌/◌, sym, ◌∙◌, arith}
 use Rattle.cm_slots.proofs.Views.{empty_quiet, empty_whole, empty_queues, quiet_tickets}
-use Rattle.cm_slots.proofs.slots.Slots.new.Goals as goal
+use Rattle.cm_slots.proofs.tiles.Tiles.new.Goals as goal
 
 pub invariant_of-result : goal.invariant_of-result
 invariant_of-result c =

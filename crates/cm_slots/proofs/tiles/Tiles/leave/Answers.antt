@@ -4,7 +4,7 @@ use Rattle.cm_slots.specs.Tickets.{has_to_go, ticket_going}
 use Rattle.cm_slots.specs.Runs.{tickets_of, ticket_leaving}
 use Rattle.cm_slots.proofs.Views.{as_many, tiles_kept, mapped, within_view, within_everywhere}
 use Rattle.cm_slots.proofs.Views.{items-lent, place_of_leaver-nobody}
-use Rattle.cm_slots.proofs.slots.Slots.leave.Goals as goal
+use Rattle.cm_slots.proofs.tiles.Tiles.leave.Goals as goal
 
 pub take_out-requires-clause-within : goal.take_out-requires-clause-within
 take_out-requires-clause-within c =

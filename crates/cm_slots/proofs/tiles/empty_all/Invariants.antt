@@ -1,7 +1,7 @@
 use Rattle.std.proofs.Common.{◌≡◌, ℕ, ◌<◌}
 use Rattle.cm_slots.specs.Tiles.{slots_of, IsShaped}
 use Rattle.cm_slots.specs.Runs.{tile_at}
-use Rattle.cm_slots.proofs.slots.empty_all.Given as goal
+use Rattle.cm_slots.proofs.tiles.empty_all.Given as goal
 
 abbrev pub invariant-loop-tile : goal.invariant-loop-tile
 invariant-loop-tile l = record {

@@ -1,0 +1,268 @@
+//! The tickets of a run of chips in tiles, where each stands at its chip.
+
+ghost use Rattle.std.specs.Prelude.{◌≡◌, ◌↔◌, ◌≢◌, ℕ, ◌^◌, ◌<◌, ◌≤◌, ◌++◌, [], ◌∷◌, IfOk, IfSome};
+ghost use Rattle.std.specs.Prelude.{IsTrue, bit_xor, length, true, false};
+ghost use Rattle.std.specs.Prelude.{map, remove, slice_set};
+ghost use Rattle.std.specs.List.{All, list_any, slice_get};
+ghost use Rattle.cm_model.specs.Each.{each_from};
+ghost use Rattle.cm_model.specs.Array.{each_chip, list_at};
+ghost use Rattle.cm_slots.specs.Runs.{AreEmpty};
+ghost use Rattle.cm_slots.specs.Queues.{stayers_of};
+ghost use Rattle.cm_slots.specs.Tickets.{has_to_go, has_come, ticket_going, exchanged};
+ghost use Rattle.cm_slots.specs.Choice.{exchanged_by_number};
+ghost use Rattle.cm_slots.specs.Moves.{queues_over, AreMovable};
+
+use crate::chips;
+use crate::departing::{take_out, write_down};
+use crate::moving::move_over;
+use crate::order::Order;
+use crate::passes::cross;
+use crate::rows::{Row, WIDTH};
+use crate::ticket::Ticket;
+use crate::tile::Tile;
+use cm_bits::NoMemory;
+use std::alloc::Global;
+use std::marker::Model;
+
+/// The tickets of a run of chips, slot by slot: 64 chips that stand side by side make a tile, in which a
+/// step does the same at each of them. Behind the last chip the last tile may have places that are never
+/// read as chips.
+#[derive(Debug, Drop)]
+pub(crate) struct Tiles {
+    /// How many chips there are.
+    chips: usize,
+    /// Chip c stands at place c % 64 of tile c / 64.
+    tiles: Vec<Tile>,
+    /// Between the two passes of a dimension, who leaves each tile; else anything.
+    leaving: Vec<Option<Row>>,
+}
+
+impl Model for Tiles {
+    ghost use Rattle.std.specs.Prelude.{List};
+    ghost use Rattle.cm_slots.specs.declared.ticket.Ticket.{Ticket};
+    ghost use Rattle.cm_slots.specs.Runs.{queues_in, AreTiles};
+
+    ghost Value = { List (List Ticket) };
+
+    ghost view = { λ slots. queues_in slots.chips slots.tiles.items };
+
+    ghost invariant = { λ slots. AreTiles slots.chips slots.tiles.items slots.leaving.items };
+}
+
+#[tactic(auto, using(crate::proofs::Views::seen))]
+impl Tiles {
+    /// Tiles for so many chips, at which no ticket stands.
+    pub fn new(alloc: Global, chips: usize) -> Result<Tiles, NoMemory>
+        requires few { chips ≤ 4096 }
+        ensures value { IfOk result (λ slots. slots ≡ each_from 0 chips (λ c. [])) }
+    {
+        let count = (chips + 63) / WIDTH;
+        let tiles = empty_tiles(alloc, count)?;
+        let leaving = no_leavers(alloc, count)?;
+        Ok(Tiles {
+            chips,
+            tiles,
+            leaving,
+        })
+    }
+
+    /// A second one, with the tickets of this one.
+    pub fn copy(&self, alloc: Global) -> Result<Tiles, NoMemory>
+        ensures value { IfOk result (λ slots. slots ≡ self.now) }
+    {
+        let tiles = copied_tiles(alloc, &self.tiles)?;
+        let leaving = no_leavers(alloc, self.tiles.len())?;
+        Ok(Tiles {
+            chips: self.chips,
+            tiles,
+            leaving,
+        })
+    }
+
+    /// How many chips there are.
+    pub fn chips(&self) -> usize
+        ensures value { result ≡ length self.now }
+        ensures few { result ≤ 4096 }
+    {
+        self.chips
+    }
+
+    /// How many tickets stand at a chip.
+    pub fn len(&self, chip: usize) -> usize
+        requires chip { chip < length self.now }
+        ensures value { result ≡ length (list_at self.now chip) }
+        ensures most { result ≤ 15 }
+    {
+        chips::len(&self.tiles, chip)
+    }
+
+    /// The ticket at a place of a chip, if one stands there; at place 0 the first that came.
+    pub fn ticket(&self, chip: usize, place: usize) -> Option<Ticket>
+        requires chip { chip < length self.now }
+        ensures value { result ≡ slice_get (list_at self.now chip) place }
+        ensures most { IfSome result (λ t. place < 15) }
+    {
+        chips::ticket(&self.tiles, chip, place)
+    }
+
+    /// Takes in a ticket at a chip, where it stands last.
+    pub fn arrive(&mut self, chip: usize, ticket: Ticket)
+        requires chip { chip < length self.old }
+        requires number { ticket.number < 65535 }
+        requires room { length (list_at self.old chip) < 15 }
+        ensures value { self.new ≡ slice_set self.old chip (list_at self.old chip ++ ticket ∷ []) }
+    {
+        chips::arrive(&mut self.tiles, chip, ticket);
+    }
+
+    /// Puts a ticket in the place of one of a chip.
+    pub fn replace(&mut self, chip: usize, place: usize, ticket: Ticket)
+        requires chip { chip < length self.old }
+        requires number { ticket.number < 65535 }
+        requires place { place < length (list_at self.old chip) }
+        ensures value { self.new ≡ slice_set self.old chip (slice_set (list_at self.old chip) place ticket) }
+    {
+        chips::replace(&mut self.tiles, chip, place, ticket);
+    }
+
+    /// Takes out the ticket at a place of a chip; the later ones stand one place nearer the front.
+    pub fn remove(&mut self, chip: usize, place: usize)
+        requires chip { chip < length self.old }
+        requires place { place < length (list_at self.old chip) }
+        ensures value { self.new ≡ slice_set self.old chip (remove (list_at self.old chip) place) }
+    {
+        chips::remove(&mut self.tiles, chip, place);
+    }
+
+    /// The first chip from this one on at which a ticket stands whose message has arrived; as many as there are, if
+    /// there is none. Nowhere stand more tickets than there is room for.
+    pub fn next_arrived(&self, from: usize, room: u8) -> usize
+        requires from { from ≤ length self.now }
+        requires most { room ≤ 15 }
+        requires within { All (λ ts. length ts ≤ room) self.now }
+        ensures none { (c : ℕ) → from ≤ c → c < result → list_any has_come (list_at self.now c) ≡ false }
+        ensures from { from ≤ result }
+        ensures most { result ≤ length self.now }
+        ensures arrived { result < length self.now → list_any has_come (list_at self.now result) ≡ true }
+    {
+        self.chips
+            .min(chips::next_arrived(&self.tiles, from, usize::from(room)))
+    }
+
+    /// Takes out all tickets.
+    pub fn clear(&mut self)
+        ensures value { self.new ≡ each_from 0 (length self.old) (λ c. []) }
+    {
+        empty_all(&mut self.tiles);
+    }
+
+    /// Whether no chip has more tickets than this; with 0, whether none stands anywhere.
+    pub fn is_within(&self, room: usize) -> bool
+        ensures within { IsTrue result ↔ All (λ ts. length ts ≤ room) self.now }
+    {
+        chips::are_within(&self.tiles, room)
+    }
+
+    /// The tickets of chips that span so many dimensions, with room for so many at each, cross one of them: all
+    /// leave before any comes.
+    pub fn cross(&mut self, span: u8, room: u8, dim: u8)
+        requires dimension { span ≤ 12 }
+        requires dim { dim < span }
+        requires some { 0 < room }
+        requires most { room ≤ 15 }
+        requires count { length self.old ≡ 2 ^ span }
+        requires within { All (λ ts. length ts ≤ room) self.old }
+        ensures value { self.new ≡ each_chip span
+            (λ c. exchanged room dim (list_at self.old c) (list_at self.old (bit_xor c (2 ^ dim)))) }
+        ensures within { All (λ ts. length ts ≤ room) self.new }
+    {
+        cross(
+            &mut self.tiles,
+            &mut self.leaving,
+            usize::from(room),
+            dim,
+            Order::Arrival,
+        );
+    }
+
+    /// The same, where of those that have to cross the lowest number goes first: at each chip it leaves, or where none
+    /// has to and no room is left, the highest.
+    pub fn cross_by_number(&mut self, span: u8, room: u8, dim: u8)
+        requires dimension { span ≤ 12 }
+        requires dim { dim < span }
+        requires some { 0 < room }
+        requires most { room ≤ 15 }
+        requires count { length self.old ≡ 2 ^ span }
+        requires within { All (λ ts. length ts ≤ room) self.old }
+        ensures value { self.new ≡ each_chip span (λ c. exchanged_by_number room dim
+            (list_at self.old c) (list_at self.old (bit_xor c (2 ^ dim)))) }
+        ensures within { All (λ ts. length ts ≤ room) self.new }
+    {
+        cross(
+            &mut self.tiles,
+            &mut self.leaving,
+            usize::from(room),
+            dim,
+            Order::Number,
+        );
+    }
+
+    /// The tickets, of which one at most stands at each chip, cross the dimensions d of which bit d is set, each to the
+    /// chip across all of them.
+    pub fn move_over(&mut self, dims: u16)
+        requires movable { AreMovable dims self.old }
+        requires few { All (λ ts. length ts ≤ 1) self.old }
+        ensures value { self.new ≡ queues_over dims self.old }
+    {
+        move_over(&mut self.tiles, &mut self.leaving, dims);
+    }
+
+    /// The first half of a dimension by itself: who leaves each chip is taken out, and written down as it
+    /// arrives across.
+    pub fn leave(&mut self, room: u8, dim: u8, leavers: &mut [Option<Ticket>])
+        requires dim { dim < 12 }
+        requires some { 0 < room }
+        requires most { room ≤ 15 }
+        requires count { length leavers.old ≡ length self.old }
+        requires within { All (λ ts. length ts ≤ room) self.old }
+        ensures value { self.new ≡ map (λ ts. stayers_of (has_to_go dim) room ts) self.old }
+        ensures going { leavers.new ≡ map (λ ts. ticket_going room dim ts) self.old }
+        ensures space { All (λ ts. length ts < room) self.new }
+    {
+        take_out(&mut self.tiles, &mut self.leaving, usize::from(room), dim);
+        write_down(&self.leaving, leavers);
+    }
+}
+
+/// So many tiles, at which no ticket stands.
+fn empty_tiles(alloc: Global, count: usize) -> Result<Vec<Tile>, NoMemory>
+    ensures value { IfOk result (λ tiles. AreEmpty count tiles.items) }
+{
+    let mut tiles = Vec::with_capacity(alloc, count)?;
+    for _t in 0..count {
+        tiles.push_reserved(Tile::new());
+    }
+    Ok(tiles)
+}
+
+/// Puts an empty tile in the place of each.
+fn empty_all(tiles: &mut [Tile])
+    ensures value { AreEmpty (length tiles.old) tiles.new }
+{
+    for tile in tiles.iter_mut() {
+        *tile = Tile::new();
+    }
+}
+
+fn copied_tiles(alloc: Global, tiles: &[Tile]) -> Result<Vec<Tile>, NoMemory>
+    ensures value { IfOk result (λ copies. copies.items ≡ tiles.now) }
+{
+    Ok(tiles.iter().map(|tile| tile.copy()).collect(alloc)?)
+}
+
+/// Room for who leaves so many tiles.
+fn no_leavers(alloc: Global, count: usize) -> Result<Vec<Option<Row>>, NoMemory>
+    ensures count { IfOk result (λ leaving. length leaving.items ≡ count) }
+{
+    Ok(vec![in alloc; None; count]?)
+}
