@@ -103,21 +103,26 @@ impl Tile {
         *leavers = Some(flipped(&self.first, dim));
     }
 
-    /// How much room is enough to find who leaves: where one ticket at most stands at each chip, that for two, since
+    /// How much room is enough to find who leaves: where no chip is full, that for one more than stand at any, since
     /// then nobody is the last of a full chip.
     fn reach(&self, room: usize) -> usize
         requires some { 0 < room }
+        requires most { room ≤ 15 }
         requires whole { IsTile self.now }
         ensures some { 0 < result }
         ensures most { result ≤ room }
         ensures few { (i : ℕ) → i < 64 → length (standing_at self.now i) ≤ room
             → (length (standing_at self.now i) ≤ result) × (length (standing_at self.now i) ≡ result → result ≡ room) }
     {
-        if room > 2 && self.is_within(1) {
-            2
-        } else {
-            room
+        if !self.is_within(room - 1) {
+            return room;
         }
+        for most in 1..room - 1 {
+            if self.is_within(most) {
+                return most + 1;
+            }
+        }
+        room
     }
 
     /// Takes in at each chip who comes.
@@ -132,10 +137,8 @@ impl Tile {
     {
         self.first = *coming;
         self.awake = true;
-        if !is_blank(coming) || !is_blank(&self.rest[0]) {
-            let reach = self.reach_behind(room);
-            take_in(&mut self.first, &mut self.rest[..], reach - 1);
-        }
+        let reach = self.reach_behind(room);
+        take_in(&mut self.first, &mut self.rest[..], reach - 1);
     }
 
     /// Writes down who stands in the first slots, if anybody stands there.
@@ -170,21 +173,26 @@ impl Tile {
         }
     }
 
-    /// How much room is enough to take in who comes: where one ticket at most stands behind the first slot of each
-    /// chip, that for two.
+    /// How much room is enough to take in who comes: where no chip is full but for him, that for one more than stand
+    /// behind the first slot of any.
     fn reach_behind(&self, room: usize) -> usize
         requires some { 0 < room }
+        requires most { room ≤ 15 }
         requires shape { IsShaped self.now }
         ensures some { 0 < result }
         ensures most { result ≤ room }
         ensures few { (i : ℕ) (numbers : List ℕ) → i < 64 → length numbers < room
             → AreSlots (slot_behind self.now.rest i) numbers → length numbers < result }
     {
-        if room > 2 && is_blank(&self.rest[1]) {
-            2
-        } else {
-            room
+        if room > 1 && !is_blank(&self.rest[room - 2]) {
+            return room;
         }
+        for behind in 0..room - 1 {
+            if is_blank(&self.rest[behind]) {
+                return behind + 1;
+            }
+        }
+        room
     }
 
     /// Whether no ticket stands there: the slots are filled from the first on.
