@@ -1,7 +1,9 @@
 -- Rows that are rewritten lane by lane, and one chip's slots as a pass goes from row to row.
 use Rattle.std.proofs.Common.{◌≡◌, ◌≢◌, ℕ, zero, suc, ◌<◌, ◌≤◌, ◌==◌, ◌++◌, Bool, true, false, if◌then◌else◌, List, []}
-use Rattle.std.proofs.Common.{◌∷◌, length, get_or, min, refl, arith}
-use Rattle.std.proofs.lemmas.List.{length-append, get_or_append_left, get_or_push, get_or_past}
+use Rattle.std.proofs.Common.{◌∷◌, length, get_or, min, refl, arith, ◌+◌, ◌*◌, set, ◌∙◌, ⊎_elim}
+use Rattle.std.proofs.lemmas.Bool.{cases_eq}
+use Rattle.std.proofs.lemmas.List.{length-append, get_or_append_left, get_or_push, get_or_past, length-set, get_or-set_same}
+use Rattle.std.proofs.lemmas.List.{get_or-set_other}
 use Rattle.cm_slots.specs.Slots.{crosses, comers, is_taken, first_of, leaver_in, IsCarried, AreSlots}
 
 -- the first so many lanes hold what they are to hold, the others what they held
@@ -9,6 +11,31 @@ pub record AreDone (to_hold : ℕ → ℕ) (old now : List ℕ) (count : ℕ) : 
   pub long : length now ≡ length old
   pub done : (i : ℕ) → i < count → get_or now i 0 ≡ to_hold i
   pub ahead : (i : ℕ) → count ≤ i → get_or now i 0 ≡ get_or old i 0
+
+-- one lane more
+one_more_lane : (to_hold : ℕ → ℕ) (old now : List ℕ) (count next value : ℕ) → next ≡ suc count → count < length old
+    → value ≡ to_hold count → AreDone to_hold old now count → AreDone to_hold old (set now count value) next
+one_more_lane to_hold old now count next value one inside is was = record {
+  long = length-set now count value ∙ was.long;
+  done = λ i h. ⊎_elim
+      (λ (e : i ≡ count). rw (e, get_or-set_same now count value 0 (omega (arith, was.long))) is)
+      (λ (e : i ≢ count). rw (get_or-set_other now count i value 0 e) (was.done i (omega (arith, e, one))))
+      (cases_eq i count);
+  ahead = λ i h. get_or-set_other now count i value 0 (omega (arith, one)) ∙ was.ahead i (omega (arith, one));
+}
+
+-- four lanes more
+pub four_more_lanes : (to_hold : ℕ → ℕ) (old now : List ℕ) (k a b c d : ℕ) → k * 4 + 3 < length old
+    → a ≡ to_hold (k * 4) → b ≡ to_hold (k * 4 + 1) → c ≡ to_hold (k * 4 + 2) → d ≡ to_hold (k * 4 + 3)
+    → AreDone to_hold old now (k * 4)
+    → AreDone to_hold old (set (set (set (set now (k * 4) a) (k * 4 + 1) b) (k * 4 + 2) c) (k * 4 + 3) d) ((k + 1) * 4)
+four_more_lanes to_hold old now k a b c d inside first second third fourth was =
+    one_more_lane to_hold old (set (set (set now (k * 4) a) (k * 4 + 1) b) (k * 4 + 2) c) (k * 4 + 3) ((k + 1) * 4) d
+    (omega arith) inside fourth
+    (one_more_lane to_hold old (set (set now (k * 4) a) (k * 4 + 1) b) (k * 4 + 2) (k * 4 + 3) c (omega arith)
+    (omega (arith, inside)) third
+    (one_more_lane to_hold old (set now (k * 4) a) (k * 4 + 1) (k * 4 + 2) b (omega arith) (omega (arith, inside)) second
+    (one_more_lane to_hold old now (k * 4) (k * 4 + 1) a (omega arith) (omega (arith, inside)) first was)))
 
 -- ---- the first of which something is true
 

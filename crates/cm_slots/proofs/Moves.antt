@@ -12,7 +12,7 @@ use Rattle.std.proofs.lemmas.List.{length-map, map-id, get_or_past}
 use Rattle.std.proofs.lemmas.Simd.{map-map}
 use Rattle.std.proofs.lemmas.Option.{slice_get-map}
 use Rattle.std.specs.Option.{option_map}
-use Rattle.std.proofs.lemmas.Nat.{xor_shr, xor_mod, xor_lt, xor_comm, pow_below, shl-shr}
+use Rattle.std.proofs.lemmas.Nat.{xor_block, xor_shr, xor_mod, xor_lt, xor_comm, pow_below, shl-shr}
 use Rattle.cm_model.specs.Each.{each_from}
 use Rattle.cm_model.specs.Array.{each_chip, list_at}
 use Rattle.cm_model.proofs.Each.{same_each_below, is_each, length-each_from, get_or-each_below}
@@ -353,3 +353,19 @@ told_by_one t (u ∷ s ∷ ts) few is = absurd (omega (arith, few))
 pub told_by_nobody : (ts : List Ticket) → None ≡ slice_get ts 0 → list_any has_come ts ≡ false
 told_by_nobody [] is = refl
 told_by_nobody (u ∷ ts) is = absurd (cc is)
+
+-- ---- of four lanes side by side
+
+-- where the lane of the four comes from
+pub lane_of_four : (dims k j low : ℕ) → dims % 4 ≡ low → j < 4
+    → bit_xor k (dims % 64 / 4) * 4 + bit_xor low j ≡ bit_xor (k * 4 + j) (dims % 64)
+lane_of_four dims k j low is below =
+    let whole : dims % 64 / 4 * 2 ^ 2 + low ≡ dims % 64 = omega arith in
+    rw (xor_comm low j) (sym (rw whole at (xor_block 2 k (dims % 64 / 4) j low below (omega arith))))
+
+pub first_of_four : (dims k low : ℕ) → dims % 4 ≡ low
+    → bit_xor k (dims % 64 / 4) * 4 + low ≡ bit_xor (k * 4) (dims % 64)
+first_of_four dims k low is =
+    let at : k * 4 + 0 ≡ k * 4 = omega arith in
+    let none : bit_xor low 0 ≡ low = xor_zero_r low in
+    rw (at, none) at (lane_of_four dims k 0 low is (omega arith))

@@ -45,7 +45,6 @@ pub(crate) fn arrivals(leavers: &Option<Row>, dim: u8) -> Row
 }
 
 /// Puts down who leaves as they arrive across the dimensions d of which bit d is set.
-#[inline(never)]
 pub(crate) fn put_over(lanes: &mut Row, row: &Row, dims: u16)
     requires long { length row.now ≡ 64 }
     requires wide { length lanes.old ≡ 64 }
@@ -53,13 +52,46 @@ pub(crate) fn put_over(lanes: &mut Row, row: &Row, dims: u16)
         → slice_index lanes.new i ≡ slot_over dims (slice_index row.now (bit_xor i (dims % 64))) }
     ensures wide { length lanes.new ≡ 64 }
 {
-    for i in 0..WIDTH {
-        let slot = row[i ^ usize::from(dims) % WIDTH];
-        lanes[i] = if slot == 0 {
-            0
-        } else {
-            slot ^ u32::from(dims) * 65536
-        };
+    match dims % 4 {
+        0 => put_fours_over::<0>(lanes, row, dims),
+        1 => put_fours_over::<1>(lanes, row, dims),
+        2 => put_fours_over::<2>(lanes, row, dims),
+        _ => put_fours_over::<3>(lanes, row, dims),
+    }
+}
+
+/// The same where the lowest two of the bits are known. Four lanes that stand side by side come from four that do, so that
+/// they are moved at once.
+#[inline(never)]
+fn put_fours_over<const LOW: usize>(lanes: &mut Row, row: &Row, dims: u16)
+    requires low { dims % 4 ≡ LOW }
+    requires long { length row.now ≡ 64 }
+    requires wide { length lanes.old ≡ 64 }
+    ensures value { (i : ℕ) → i < 64
+        → slice_index lanes.new i ≡ slot_over dims (slice_index row.now (bit_xor i (dims % 64))) }
+    ensures wide { length lanes.new ≡ 64 }
+{
+    for k in 0..WIDTH / 4 {
+        let from = (k ^ usize::from(dims) % WIDTH / 4) * 4;
+        let first = over(row[from + LOW], dims);
+        let second = over(row[from + (LOW ^ 1)], dims);
+        let third = over(row[from + (LOW ^ 2)], dims);
+        let fourth = over(row[from + (LOW ^ 3)], dims);
+        lanes[k * 4] = first;
+        lanes[k * 4 + 1] = second;
+        lanes[k * 4 + 2] = third;
+        lanes[k * 4 + 3] = fourth;
+    }
+}
+
+/// What arrives at a slot across these dimensions.
+fn over(slot: u32, dims: u16) -> u32
+    ensures value { result ≡ slot_over dims slot }
+{
+    if slot == 0 {
+        0
+    } else {
+        slot ^ u32::from(dims) * 65536
     }
 }
 

@@ -1,9 +1,0 @@
-use Rattle.std.proofs.Common.{slice_index, ◌%◌}
-use Rattle.std.specs.Prelude.{bit_xor}
-use Rattle.cm_slots.specs.Moves.{slot_over}
-use Rattle.cm_slots.proofs.Carrying.{AreDone}
-use Rattle.cm_slots.proofs.across.put_over.Given as goal
-
-abbrev pub invariant-loop-i : goal.invariant-loop-i
-invariant-loop-i l =
-    AreDone (λ i. slot_over l.dims (slice_index l.row (bit_xor i (l.dims % 64)))) l.initial.lanes l.lanes l.i
