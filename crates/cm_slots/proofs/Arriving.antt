@@ -33,7 +33,7 @@ first_below k slots xs are above low = ⊎_elim
     rw blank (sym (none_arrived slots xs are (λ j l. high (slots j) (above j (omega arith))))))
     (cases_lt k (length xs))
 
-same_test : (slot : ℕ) → is_taken slot ≡ true → has_come (ticket_of slot) ≡ is_arrival slot
+pub same_test : (slot : ℕ) → is_taken slot ≡ true → has_come (ticket_of slot) ≡ is_arrival slot
 same_test slot taken = ⊎_elim
     (λ (low : slot < 65536).
     let some : slot ≢ 0 = grind arith in

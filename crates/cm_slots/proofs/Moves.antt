@@ -24,12 +24,13 @@ use Rattle.cm_slots.specs.Queues.{place_of_leaver}
 use Rattle.cm_slots.specs.Tickets.{has_to_go, has_come, ticket_across, ticket_of, exchanged}
 use Rattle.cm_slots.specs.Choice.{place_by, exchanged_by, exchanged_by_number}
 use Rattle.cm_slots.specs.declared.tile.Tile.{Tile}
-use Rattle.cm_slots.specs.Slots.{is_taken, leaver_at, comers, AreSlots}
+use Rattle.cm_slots.specs.Slots.{is_taken, is_arrival, leaver_at, comers, AreSlots}
 use Rattle.cm_slots.specs.Tiles.{slots_of, standing_at, IsTile, IsQuiet}
 use Rattle.cm_slots.specs.Runs.{no_tile, tile_at, leavers_at, numbers_at, tickets_of, queues_in, AreTiles, AreWithin}
 use Rattle.cm_slots.specs.Moves.{ticket_over, queues_over, AreMovable, slot_over, AreFirst, HasMoved}
 use Rattle.cm_slots.proofs.Standing.{standing_is, stands}
 use Rattle.cm_slots.proofs.Changing.{taken_in}
+use Rattle.cm_slots.proofs.Arriving.{same_test}
 use Rattle.cm_slots.proofs.Views.{as_many, ticket_list, tiles_kept}
 
 -- ---- of lists of queues
@@ -210,7 +211,26 @@ has_moved dims first old new whole few taken same long asleep each =
       each = λ i h. standing_is new i (comers (comes i)) (are i h);
     }
 
+-- whether the message of who comes has arrived
+told_of_comers : (x : ℕ) → (x ≢ 0 → is_taken x ≡ true) → is_arrival x ≡ false
+    → list_any has_come (map ticket_of (comers x)) ≡ false
+told_of_comers x taken none = ⊎_elim (λ (e : x ≡ 0). rw e refl)
+    (λ (e : x ≢ 0). let told : has_come (ticket_of x) ≡ false = same_test x (taken e) ∙ none in
+    rw (ne_eqb x 0 e, told) refl) (cases_eq x 0)
+
 -- ---- of all tiles
+
+pub told_over : (dims : ℕ) (tiles : List Tile) (c : ℕ) → c / 64 < length tiles → All IsTile tiles → AreWithin 1 tiles
+    → is_arrival (slot_over dims (slots_of (tile_at tiles (c / 64)) (c % 64) 0)) ≡ false
+    → list_any has_come (map (ticket_over dims) (tickets_of tiles c)) ≡ false
+told_over dims tiles c h whole few none =
+    let slots : ℕ → ℕ = slots_of (tile_at tiles (c / 64)) (c % 64) in
+    let stand = (whole (c / 64) no_tile h).queues (c % 64) (omega arith) in
+    let taken = taken_in slots (numbers_at tiles c) stand 0 in
+    let alone : numbers_at tiles c ≡ comers (slots 0) =
+    alone_is slots (numbers_at tiles c) stand (few (c / 64) (c % 64) h (omega arith)) in
+    rw (alone, ← map-comers-over dims (slots 0) taken)
+    (told_of_comers (slot_over dims (slots 0)) (slot_over_taken dims (slots 0) taken) none)
 
 module _ (tiles : List Tile) (firsts : List (Option (List ℕ))) (whole : All IsTile tiles)
     (are : (t : ℕ) → t < length tiles → AreFirst (tile_at tiles t) (leavers_at firsts t)) where
@@ -291,6 +311,10 @@ module _ (dims : ℕ) (tiles : List (List Ticket)) {q : List (List Ticket)} (vie
 
     pub length_at : length (list_at tiles (bit_xor c dims)) ≡ length (list_at q c)
     length_at = sym (length-map (list_at tiles (bit_xor c dims)) (ticket_over dims)) ∙ ap length queue_at
+
+    pub none_at : ((k : ℕ) → k < length tiles → list_any has_come (map (ticket_over dims) (list_at tiles k)) ≡ false)
+        → bit_xor c dims < length tiles → list_any has_come (list_at q c) ≡ false
+    none_at none there = rw (← queue_at) (none (bit_xor c dims) there)
 
     pub place_at : (place : ℕ)
         → option_map (ticket_over dims) (slice_get (list_at tiles (bit_xor c dims)) place) ≡ slice_get (list_at q c) place

@@ -1,11 +1,11 @@
 //! What crosses a dimension, from a tile to the one across.
 
-ghost use Rattle.std.specs.Prelude.{◌≡◌, ℕ, ◌%◌, ◌^◌, ◌<◌, length, slice_index, bit_xor, IfSome};
-ghost use Rattle.cm_slots.specs.Slots.{slot_across, leaver_at};
+ghost use Rattle.std.specs.Prelude.{◌≡◌, ℕ, ◌%◌, ◌^◌, ◌<◌, length, slice_index, bit_xor, IfSome, IsFalse, false};
+ghost use Rattle.cm_slots.specs.Slots.{slot_across, leaver_at, is_arrival};
 ghost use Rattle.cm_slots.specs.Runs.{tile_across, place_across};
 ghost use Rattle.cm_slots.specs.Moves.{slot_over};
 
-use crate::rows::{Row, WIDTH};
+use crate::rows::{Row, WIDTH, is_arrival};
 
 /// The tile across a dimension: the same one, where the chips across stand in the same tile.
 pub(crate) fn tile_across(tile: usize, dim: u8) -> usize
@@ -82,6 +82,20 @@ fn put_fours_over<const LOW: usize>(lanes: &mut Row, row: &Row, dims: u16)
         lanes[k * 4 + 2] = third;
         lanes[k * 4 + 3] = fourth;
     }
+}
+
+/// Whether in some lane of a row a ticket stands whose message arrives across these dimensions. All lanes are looked at,
+/// many at once.
+#[inline(never)]
+pub(crate) fn has_arrival_over(row: &Row, dims: u16) -> bool
+    requires long { length row.now ≡ 64 }
+    ensures none { IsFalse result → (i : ℕ) → i < 64 → is_arrival (slot_over dims (slice_index row.now i)) ≡ false }
+{
+    let mut seen = false;
+    for i in 0..WIDTH {
+        seen |= is_arrival(over(row[i], dims));
+    }
+    seen
 }
 
 /// What arrives at a slot across these dimensions.

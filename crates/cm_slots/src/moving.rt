@@ -1,7 +1,8 @@
 //! Tickets of which one at most stands at each chip move over several dimensions at once.
 
-ghost use Rattle.std.specs.Prelude.{◌≡◌, ℕ, ◌/◌, ◌<◌, length, map, bit_xor};
-ghost use Rattle.std.specs.List.{All};
+ghost use Rattle.std.specs.Prelude.{◌≡◌, ℕ, ◌/◌, ◌<◌, length, map, bit_xor, IsFalse, false};
+ghost use Rattle.std.specs.List.{All, list_any};
+ghost use Rattle.cm_slots.specs.Tickets.{has_come};
 ghost use Rattle.cm_slots.specs.Tiles.{IsTile};
 ghost use Rattle.cm_slots.specs.Runs.{tile_at, leavers_at, tickets_of, AreWithin};
 ghost use Rattle.cm_slots.specs.Moves.{ticket_over, AreFirst, HasMoved};
@@ -47,4 +48,20 @@ fn put_down(tiles: &mut [Tile], firsts: &[Option<Row>], dims: u16)
     for t in 0..tiles.len() {
         tiles[t].put_down(&firsts[t ^ usize::from(dims) / WIDTH], dims);
     }
+}
+
+/// Whether of all tickets, of which one at most stands at each chip, that of a message stands somewhere that arrives across
+/// these dimensions.
+pub(crate) fn have_arrival_over(tiles: &[Tile], dims: u16) -> bool
+    requires whole { All IsTile tiles.now }
+    requires few { AreWithin 1 tiles.now }
+    ensures none { IsFalse result → (c : ℕ) → c / 64 < length tiles.now
+        → list_any has_come (map (ticket_over dims) (tickets_of tiles.now c)) ≡ false }
+{
+    for tile in tiles {
+        if tile.has_arrival_over(dims) {
+            return true;
+        }
+    }
+    false
 }

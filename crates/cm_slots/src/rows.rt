@@ -115,7 +115,7 @@ pub(crate) fn has_arrival(row: &Row) -> bool
 }
 
 /// Whether a ticket stands in a slot whose message has arrived.
-fn is_arrival(slot: u32) -> bool
+pub(crate) fn is_arrival(slot: u32) -> bool
     ensures value { result ≡ is_arrival slot }
 {
     slot != 0 && slot < 65536

@@ -135,8 +135,10 @@ impl Slots {
     {
         if self.noted == 0 {
             self.tiles.next_arrived(from, room)
-        } else {
+        } else if self.tiles.has_arrival_over(self.noted) {
             self.next_that_moved(from)
+        } else {
+            self.chips()
         }
     }
 

@@ -7,9 +7,9 @@ ghost use Rattle.cm_slots.specs.declared.order.Order.TheVariants.{Arrival, Numbe
 ghost use Rattle.cm_slots.specs.Slots.{is_taken, is_arrival, leaver_at, slot_behind, AreSlots, IsBlank, AreTaken};
 ghost use Rattle.cm_slots.specs.Tiles.{slots_of, standing_at, IsShaped, IsQuiet, IsTile, HasLeft, HasTakenIn, IsPut};
 ghost use Rattle.cm_slots.specs.Tiles.{HasChanged};
-ghost use Rattle.cm_slots.specs.Moves.{AreFirst, HasMoved};
+ghost use Rattle.cm_slots.specs.Moves.{AreFirst, HasMoved, slot_over};
 
-use crate::across::{flipped, put_over};
+use crate::across::{flipped, has_arrival_over, put_over};
 use crate::choice::{leave_from, places};
 use crate::order::Order;
 use crate::rows::{ROOM, Row, WIDTH, has_arrival, is_blank, leave, take_in};
@@ -218,6 +218,15 @@ impl Tile {
             }
         }
         has_arrival(&self.first)
+    }
+
+    /// Whether at some chip the first ticket is one whose message arrives across these dimensions.
+    pub fn has_arrival_over(&self, dims: u16) -> bool
+        requires whole { IsTile self.now }
+        ensures none { IsFalse result
+            → (i : ℕ) → i < 64 → is_arrival (slot_over dims (slots_of self.now i 0)) ≡ false }
+    {
+        has_arrival_over(&self.first, dims)
     }
 
     /// Whether at a chip a ticket stands whose message has arrived.

@@ -1,7 +1,7 @@
 //! The tickets of a run of chips in tiles, where each stands at its chip.
 
 ghost use Rattle.std.specs.Prelude.{◌≡◌, ◌↔◌, ◌≢◌, ℕ, ◌^◌, ◌<◌, ◌≤◌, ◌++◌, [], ◌∷◌, IfOk, IfSome};
-ghost use Rattle.std.specs.Prelude.{IsTrue, bit_xor, length, true, false};
+ghost use Rattle.std.specs.Prelude.{IsTrue, IsFalse, bit_xor, length, true, false};
 ghost use Rattle.std.specs.Prelude.{map, remove, slice_set};
 ghost use Rattle.std.specs.List.{All, list_any, slice_get};
 ghost use Rattle.cm_model.specs.Each.{each_from};
@@ -10,11 +10,11 @@ ghost use Rattle.cm_slots.specs.Runs.{AreEmpty};
 ghost use Rattle.cm_slots.specs.Queues.{stayers_of};
 ghost use Rattle.cm_slots.specs.Tickets.{has_to_go, has_come, ticket_going, exchanged};
 ghost use Rattle.cm_slots.specs.Choice.{exchanged_by_number};
-ghost use Rattle.cm_slots.specs.Moves.{queues_over, AreMovable};
+ghost use Rattle.cm_slots.specs.Moves.{ticket_over, queues_over, AreMovable};
 
 use crate::chips;
 use crate::departing::{take_out, write_down};
-use crate::moving::move_over;
+use crate::moving::{have_arrival_over, move_over};
 use crate::order::Order;
 use crate::passes::cross;
 use crate::rows::{Row, WIDTH};
@@ -215,6 +215,16 @@ impl Tiles {
         ensures value { self.new ≡ queues_over dims self.old }
     {
         move_over(&mut self.tiles, &mut self.leaving, dims);
+    }
+
+    /// Whether of all tickets, of which one at most stands at each chip, that of a message stands somewhere that arrives
+    /// across the dimensions d of which bit d is set.
+    pub fn has_arrival_over(&self, dims: u16) -> bool
+        requires few { All (λ ts. length ts ≤ 1) self.now }
+        ensures none { IsFalse result → (c : ℕ) → c < length self.now
+            → list_any has_come (map (ticket_over dims) (list_at self.now c)) ≡ false }
+    {
+        have_arrival_over(&self.tiles, dims)
     }
 
     /// The first half of a dimension by itself: who leaves each chip is taken out, and written down as it
