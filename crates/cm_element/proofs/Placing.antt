@@ -2,7 +2,7 @@
 use Rattle.std.proofs.Common.{◌≡◌, ◌≢◌, ◌⊎◌, inl, inr, ℕ, ◌+◌, ◌-◌, ◌*◌, ◌<◌, ◌≤◌, Bool, true, false, cond, List, []}
 use Rattle.std.proofs.Common.{◌++◌, length, map, get_or, set, take, drop, refl, sym, ap, ◌∙◌, ⊎_elim, arith, ext_get_or}
 use Rattle.std.proofs.Common.{length-append, length-drop, if◌then◌else◌, nat_lt, subst}
-use Rattle.std.proofs.lemmas.Bool.{cases_lt, cases_Bool}
+use Rattle.std.proofs.lemmas.Bool.{cases_lt}
 use Rattle.std.proofs.lemmas.List.{get_or-take, get_or-drop, get_or_past, get_or_append_left, get_or-append_right}
 use Rattle.std.proofs.lemmas.List.{length-map, length-take-le}
 use Rattle.cm_bits.specs.Bit.{bit}

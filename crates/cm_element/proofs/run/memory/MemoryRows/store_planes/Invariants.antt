@@ -1,4 +1,4 @@
-use Rattle.std.proofs.Common.{◌≡◌, ℕ, ◌*◌, length}
+use Rattle.std.proofs.Common.{◌≡◌, ◌*◌, length}
 use Rattle.cm_element.specs.Laid.{ArePlanesStored}
 use Rattle.cm_element.proofs.run.memory.MemoryRows.store_planes.Given as goal
 
