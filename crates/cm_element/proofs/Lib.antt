@@ -4,6 +4,7 @@ mod Flagged
 mod Halves
 mod Lanes
 mod Laying
+mod Placing
 mod Planes
 mod Poking
 mod Putting

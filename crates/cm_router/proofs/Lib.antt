@@ -1,4 +1,5 @@
 pub mod Delivering
+pub mod Telling
 pub mod Taking
 pub mod Rooms
 pub mod Oldest

@@ -5,3 +5,4 @@ pub mod Places
 pub mod Cuts
 pub mod Routes
 pub mod Deliveries
+pub mod Tiles
