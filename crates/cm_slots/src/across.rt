@@ -60,8 +60,8 @@ pub(crate) fn put_over(lanes: &mut Row, row: &Row, dims: u16)
     }
 }
 
-/// The same where the lowest two of the bits are known. Four lanes that stand side by side come from four that do, so that
-/// they are moved at once.
+/// The same where the lowest two of the bits are known. Four lanes that stand side by side come from four that do, so
+/// that they are moved at once.
 #[inline(never)]
 fn put_fours_over<const LOW: usize>(lanes: &mut Row, row: &Row, dims: u16)
     requires low { dims % 4 ≡ LOW }
@@ -84,8 +84,8 @@ fn put_fours_over<const LOW: usize>(lanes: &mut Row, row: &Row, dims: u16)
     }
 }
 
-/// Whether in some lane of a row a ticket stands whose message arrives across these dimensions. All lanes are looked at,
-/// many at once.
+/// Whether in some lane of a row a ticket stands whose message arrives across these dimensions. All lanes are looked
+/// at, many at once.
 #[inline(never)]
 pub(crate) fn has_arrival_over(row: &Row, dims: u16) -> bool
     requires long { length row.now ≡ 64 }

@@ -50,8 +50,8 @@ fn put_down(tiles: &mut [Tile], firsts: &[Option<Row>], dims: u16)
     }
 }
 
-/// Whether of all tickets, of which one at most stands at each chip, that of a message stands somewhere that arrives across
-/// these dimensions.
+/// Whether of all tickets, of which one at most stands at each chip, one is that of a message that arrives across these
+/// dimensions.
 pub(crate) fn have_arrival_over(tiles: &[Tile], dims: u16) -> bool
     requires whole { All IsTile tiles.now }
     requires few { AreWithin 1 tiles.now }
