@@ -23,8 +23,8 @@ const BITS: usize = 32;
 /// Words of all planes of a payload.
 const WORDS: usize = 2048;
 
-/// Messages that are delivered to 64 chips side by side, at most one to each processor: for each chip a plane of who gets
-/// one, and a plane for each bit of the payload.
+/// Messages that are delivered to 64 chips side by side, at most one to each processor: for each chip a plane of who
+/// gets one, and a plane for each bit of the payload.
 #[derive(Debug, Drop)]
 pub(crate) struct Tile {
     /// The place of the first chip.
