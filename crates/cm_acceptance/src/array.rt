@@ -2,11 +2,10 @@
 
 ghost use Rattle.std.specs.Prelude.{◌≡◌, ◌<◌};
 
-use crate::machines::poke_field;
 use crate::steps::{Step, go_by, plays};
 use cm_array::{Machine, MachineFault, Plain, RunFault};
 use cm_bits::{Dir, Field};
-use cm_draws::{address, flag, processor};
+use cm_draws::{address, flag, poke_field, processor};
 use cm_model::{Act, Nano};
 use std::alloc::{AllocError, Global};
 use std::fmt::Display;

@@ -3,10 +3,10 @@
 
 ghost use Rattle.std.specs.Prelude.{◌≡◌, ◌+◌, ◌<◌, ◌≤◌, ◌^◌};
 
-use crate::machines::{SEND, ask};
+use crate::machines::SEND;
 use cm_array::{Builder, Machine, Plain, Runner};
 use cm_bits::{Edge, FlagNo, Plane, Proc};
-use cm_draws::{address, flag, processor};
+use cm_draws::{address, ask, flag, processor};
 use cm_element::ZeroFlag;
 use cm_message::Message;
 use cm_model::{Act, Rule};

@@ -14,6 +14,8 @@ mod refused;
 #[cfg(test)]
 mod rounds_of_runs;
 #[cfg(test)]
+mod routes;
+#[cfg(test)]
 mod rows;
 #[cfg(test)]
 mod shares;

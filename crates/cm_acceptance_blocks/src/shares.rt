@@ -129,8 +129,10 @@ fn machines_of_32_to_256_chips_go_by_workers_as_on_one_thread(rt: HostRuntime) {
     assert_eq!(rt; gone, [Some(true); 4]);
 }
 
-static SHARES: [Share; 5] = [
+pub(crate) static SHARES: [Share; 7] = [
     Share { k: 0, workers: 1 },
+    Share { k: 1, workers: 1 },
+    Share { k: 1, workers: 2 },
     Share { k: 2, workers: 1 },
     Share { k: 2, workers: 2 },
     Share { k: 2, workers: 3 },

@@ -76,7 +76,7 @@ pub(crate) struct Cut {
 }
 
 /// Four blocks of four chips.
-const FOUR: Cut = Cut {
+pub(crate) const FOUR: Cut = Cut {
     blocks: 4,
     chips: 4,
 };

@@ -2,9 +2,12 @@
 
 ghost use Rattle.std.specs.Thread.{IsSync};
 
-use crate::meeting::{Cut, Meeting, Notes, Waits, no_notes};
+use crate::meeting::{Cut, FOUR, Meeting, Notes, Waits, no_notes};
 use cm_bits::doubles::{Bytes, Room};
 use cm_cli::{Sharing, fresh, open_run, run_alone, run_shared};
+use cm_draws::cut_in_two_places;
+use cm_image::dump;
+use cm_model::Rule;
 use cm_workers::Passage;
 use std::alloc::Global;
 use std::sync::{Arc, Wait};
@@ -16,11 +19,25 @@ const OVER_FOUR: &[u8] = b"field rel 3968 16\nconst rel 15\nset 12\ncycle\n";
 
 const OVER_TWELVE: &[u8] = b"field rel 3968 16\nconst rel 4095\nset 12\ncycle\n";
 
-const ASKS: &[u8] = b"run\n";
+const TWICE_OVER_FOUR: &[u8] = b"field rel 3968 16\nconst rel 15\nset 12\ncycle\ncycle\n";
 
-/// A session on a machine of 2^n chips that is shared out.
+const ASKS: &[u8] = b"rule\nrun\nbuf 15\nevents 15\n";
+
+/// With which a session begins: of blank chips, whose routers have room for seven messages.
+#[derive(Clone, Copy)]
+enum Image {
+    /// 2^n of them.
+    Blank(u8),
+    /// Sixteen, of which two wires are cut and messages leave by this rule.
+    Cut(Rule),
+}
+
+/// The image that a session leaves, and its answers.
+type Left = (Vec<u8>, Vec<u8>);
+
+/// A session on a machine that is shared out.
 struct Shared {
-    n: u8,
+    image: Image,
     text: &'static [u8],
     sharing: Sharing,
     cut: Cut,
@@ -28,22 +45,22 @@ struct Shared {
     came: u64,
 }
 
-static SHARED: [Shared; 2] = [
+/// Four blocks, and a worker for each.
+const BY_FOUR: Sharing = Sharing {
+    split: 2,
+    workers: 4,
+};
+
+static SHARED: [Shared; 4] = [
     Shared {
-        n: 4,
+        image: Image::Blank(4),
         text: OVER_FOUR,
-        sharing: Sharing {
-            split: 2,
-            workers: 4,
-        },
-        cut: Cut {
-            blocks: 4,
-            chips: 4,
-        },
+        sharing: BY_FOUR,
+        cut: FOUR,
         came: 8,
     },
     Shared {
-        n: 12,
+        image: Image::Blank(12),
         text: OVER_TWELVE,
         sharing: Sharing {
             split: 6,
@@ -55,27 +72,51 @@ static SHARED: [Shared; 2] = [
         },
         came: 384,
     },
+    Shared {
+        image: Image::Cut(Rule::First),
+        text: TWICE_OVER_FOUR,
+        sharing: BY_FOUR,
+        cut: FOUR,
+        came: 16,
+    },
+    Shared {
+        image: Image::Cut(Rule::Oldest),
+        text: TWICE_OVER_FOUR,
+        sharing: BY_FOUR,
+        cut: FOUR,
+        came: 16,
+    },
 ];
 
-/// The image that one worker leaves.
-fn left_alone(alloc: Global, row: &Shared) -> Option<Vec<u8>> {
-    let mut commands = Bytes::new(ASKS, 7);
-    let Ok(mut answers) = Room::new(alloc, 100, 10) else {
-        return None;
-    };
-    let image = fresh(alloc, row.n, 7).ok()?;
-    let text = row.text.to_vec(alloc).ok()?;
-    let (machine, program) = open_run(alloc, image, Ok(text), row.sharing).ok()?;
-    run_alone(alloc, machine, &program, &mut commands, &mut answers, true).ok()?
+impl Image {
+    fn bytes(self, alloc: Global) -> Option<Vec<u8>> {
+        match self {
+            Image::Blank(n) => fresh(alloc, n, 7).ok(),
+            Image::Cut(rule) => dump(alloc, &cut_in_two_places(alloc, rule)?).ok(),
+        }
+    }
 }
 
-/// The image that several leave, who wait for one another.
+/// What one worker leaves.
+fn left_alone(alloc: Global, row: &Shared) -> Option<Left> {
+    let mut commands = Bytes::new(ASKS, 7);
+    let Ok(mut answers) = Room::new(alloc, 1000, 10) else {
+        return None;
+    };
+    let image = row.image.bytes(alloc)?;
+    let text = row.text.to_vec(alloc).ok()?;
+    let (machine, program) = open_run(alloc, image, Ok(text), row.sharing).ok()?;
+    let kept = run_alone(alloc, machine, &program, &mut commands, &mut answers, true).ok()??;
+    Some((kept, answers.taken().to_vec(alloc).ok()?))
+}
+
+/// What several leave, who wait for one another.
 fn left_shared<R: Threads + Wait + Sync>(
     rt: &R,
     alloc: Global,
     row: &Shared,
     notes: &Arc<Notes, Global>,
-) -> Option<Vec<u8>>
+) -> Option<Left>
     requires threads { IsSync R.row }
 {
     let workers = u16::from(row.sharing.workers);
@@ -87,13 +128,13 @@ fn left_shared<R: Threads + Wait + Sync>(
     };
     let passage = Passage::Gated(Box::new(alloc, gate).ok()?);
     let mut commands = Bytes::new(ASKS, 7);
-    let Ok(mut answers) = Room::new(alloc, 100, 10) else {
+    let Ok(mut answers) = Room::new(alloc, 1000, 10) else {
         return None;
     };
-    let image = fresh(alloc, row.n, 7).ok()?;
+    let image = row.image.bytes(alloc)?;
     let text = row.text.to_vec(alloc).ok()?;
     let (machine, program) = open_run(alloc, image, Ok(text), row.sharing).ok()?;
-    run_shared(
+    let kept = run_shared(
         rt,
         alloc,
         machine,
@@ -104,7 +145,8 @@ fn left_shared<R: Threads + Wait + Sync>(
         &mut answers,
         true,
     )
-    .ok()?
+    .ok()??;
+    Some((kept, answers.taken().to_vec(alloc).ok()?))
 }
 
 /// What all noted, and whether the machine is as one worker leaves it.

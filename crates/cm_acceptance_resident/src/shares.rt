@@ -7,8 +7,9 @@ ghost use Rattle.cm_workers.specs.Gates.{ComesBy};
 
 use cm_array::Machine;
 use cm_draws::{
-    Draws, ask_again, asking_machine, cut_in_two_places, four_messages_each, has_one_of_four,
-    run_beside_plain,
+    Draws, OF_FOUR_CHIPS, OF_TWO_CHIPS, OF_TWO_CHIPS_WITH_ROOM_FOR_SEVEN,
+    OF_TWO_CHIPS_WITH_ROOM_FOR_TWO, ask_again, asking_machine, cut_in_two_places, first_wrong,
+    four_messages_each, has_one_of_four, run_beside_plain,
 };
 use cm_model::{Act, Rule};
 use cm_resident::Resident;
@@ -156,8 +157,10 @@ fn machines_of_128_and_256_chips_go_by_workers_as_on_one_thread(rt: HostRuntime)
     assert_eq!(rt; gone, [Some(true); 2]);
 }
 
-static SHARES: [Share; 5] = [
+static SHARES: [Share; 7] = [
     Share { k: 0, workers: 1 },
+    Share { k: 1, workers: 1 },
+    Share { k: 1, workers: 2 },
     Share { k: 2, workers: 1 },
     Share { k: 2, workers: 2 },
     Share { k: 2, workers: 3 },
@@ -211,6 +214,34 @@ fn workers_send_them_round_cut_wires_by_either_rule(rt: HostRuntime) -> Result<(
             sent_round(&rt, rt.alloc(), *share, Rule::Oldest),
         ];
         assert_eq!(rt; alike, [Some(true); 2], "{share:?}");
+    }
+    Ok(())
+}
+
+/// The first route that so many workers do not go as they should; they are those of a runner for sixteen chips.
+fn wrong_route<R: Threads + Wait + Sync>(
+    rt: &R,
+    alloc: Global,
+    share: Share,
+) -> Result<Option<&'static str>, Fail>
+    requires threads { IsSync R.row }
+{
+    let passage = Passage::Gated(Box::new(alloc, Anyone)?);
+    let mut resident = Resident::new::<4>(rt, alloc, share.k, share.workers, passage)?;
+    Ok(
+        first_wrong::<1, 1, _>(&mut resident, alloc, &OF_TWO_CHIPS, 2)
+            .or(first_wrong::<2, 1, _>(&mut resident, alloc, &OF_FOUR_CHIPS, 4))
+            .or(first_wrong::<1, 2, _>(&mut resident, alloc, &OF_TWO_CHIPS_WITH_ROOM_FOR_TWO, 2))
+            .or(first_wrong::<1, 7, _>(&mut resident, alloc, &OF_TWO_CHIPS_WITH_ROOM_FOR_SEVEN, 2)),
+    )
+}
+
+#[test]
+fn messages_of_a_few_chips_stop_at_cut_wires_or_go_round_them_by_either_rule(
+    rt: HostRuntime,
+) -> Result<(), Fail> {
+    for share in &SHARES {
+        assert_eq!(rt; wrong_route(&rt, rt.alloc(), *share)?, None, "{share:?}");
     }
     Ok(())
 }

@@ -1,11 +1,11 @@
 //! Parts of machines, drawn.
 
-ghost use Rattle.std.specs.Prelude.{◌≡◌, ◌<◌, ◌≤◌, ◌^◌};
+ghost use Rattle.std.specs.Prelude.{◌≡◌, ◌+◌, ◌<◌, ◌≤◌, ◌^◌};
 
 use crate::drawing::Draws;
-use crate::numbers::{flag, processor};
+use crate::numbers::{address, flag, processor};
 use cm_array::{Builder, Machine};
-use cm_bits::{Addr, Edge, FlagNo, Plane};
+use cm_bits::{Addr, Edge, FlagNo, Plane, Proc};
 use cm_message::{Message, Tag};
 use cm_model::Rule;
 use std::alloc::Global;
@@ -150,6 +150,36 @@ pub fn poke_plane<const N: usize, const CAP: usize>(
     for p in 0u8..16 {
         let _ = machine.poke_flag(chip, processor(p), number, plane >> p & 1 == 1);
     }
+}
+
+/// Puts a number into a field of one processor, the lowest bit first.
+pub fn poke_field<const N: usize, const CAP: usize>(
+    machine: &mut Machine<N, CAP>,
+    chip: u16,
+    proc: Proc,
+    at: u16,
+    len: u16,
+    number: u32,
+)
+    requires chip { chip < 2 ^ N }
+    requires at { at + len ≤ 4096 }
+    requires len { len ≤ 32 }
+{
+    for place in 0..len {
+        machine.poke(chip, proc, address(at + place), number >> place & 1 == 1);
+    }
+}
+
+/// Makes the processor from which a message comes ask that it be sent; its birth does not count.
+pub fn ask<const N: usize, const CAP: usize>(machine: &mut Machine<N, CAP>, message: &Message)
+    requires chip { message.now.tag.chip < 2 ^ N }
+{
+    let chip = message.tag.chip;
+    let proc = message.tag.proc;
+    poke_field(machine, chip, proc, 3968, 16, u32::from(message.rel));
+    poke_field(machine, chip, proc, 3984, 4, u32::from(message.proc.get()));
+    poke_field(machine, chip, proc, 3988, 32, message.payload);
+    let _ = machine.poke_flag(chip, proc, FlagNo::SEND, true);
 }
 
 /// Drawn processors of each chip ask to send again, and all can receive.

@@ -4,6 +4,7 @@ ghost use Rattle.std.specs.Prelude.{◌≡◌, ◌<◌, ◌^◌};
 
 use crate::numbers::{address, flag};
 use cm_array::Machine;
+use cm_router::Routing;
 
 /// Whether two machines of so many chips read the same everywhere.
 pub fn are_same<const N: usize, const CAP: usize>(
@@ -24,8 +25,12 @@ pub fn have_same_routing<const N: usize, const CAP: usize>(
     left: &Machine<N, CAP>,
     right: &Machine<N, CAP>,
 ) -> bool {
-    let (one, other) = (left.routing(), right.routing());
-    one.rule == other.rule && one.cuts.edges() == other.cuts.edges()
+    route_alike(left.routing(), right.routing())
+}
+
+/// Whether messages go in the same way by both.
+pub fn route_alike(left: &Routing, right: &Routing) -> bool {
+    left.rule == right.rule && left.cuts.edges() == right.cuts.edges()
 }
 
 /// Whether they have the same memory bits and flags.
