@@ -4,3 +4,4 @@ pub mod Told
 pub mod Ending
 pub mod Running
 pub mod Alike
+pub mod Refusing

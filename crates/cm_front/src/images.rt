@@ -1,8 +1,8 @@
 //! A front end over the machine of an image.
 
-ghost use Rattle.std.specs.Prelude.{◌≡◌, ◌≤◌, false, Ok, IfErr, IfOk};
+ghost use Rattle.std.specs.Prelude.{◌≡◌, ◌≤◌, false, true, Ok, IfErr, IfOk};
 ghost use Rattle.cm_image_format.specs.Whole.{read_shape};
-ghost use Rattle.cm_front.specs.Images.{HasEnded, HasFailed};
+ghost use Rattle.cm_front.specs.Images.{is_own_room, HasEnded, HasFailed};
 
 use crate::talk::front;
 use cm_array::Plain;
@@ -64,6 +64,7 @@ fn front_sized<const CAP: usize, I: Source, O: Sink>(
 ) -> Result<Vec<u8>, FrontFault>
     requires dimension { n ≤ 12 }
     requires shape { read_shape image.now ≡ Ok (n, CAP) }
+    requires own { is_own_room CAP ≡ true }
     requires reader { I.has_failed commands.old ≡ false }
     requires writer { O.has_failed out.old ≡ false }
     ensures ok { IfOk result (λ text. HasEnded image.now (I.left commands.old) (I.left commands.new)
@@ -96,6 +97,7 @@ fn front_on<const N: usize, const CAP: usize, I: Source, O: Sink>(
     out: &mut O,
 ) -> Result<Vec<u8>, FrontFault>
     requires shape { read_shape image.now ≡ Ok (N, CAP) }
+    requires own { is_own_room CAP ≡ true }
     requires reader { I.has_failed commands.old ≡ false }
     requires writer { O.has_failed out.old ≡ false }
     ensures ok { IfOk result (λ text. HasEnded image.now (I.left commands.old) (I.left commands.new)

@@ -7,10 +7,11 @@ use Rattle.cm_plot.specs.declared.points.Point.{Point}
 
 -- ---- what there is to show
 
--- the greatest number upward so far, of the points of so many columns from one on
+-- a column is one of so many from the first on
 abbrev pub in_columns : ℕ → ℕ → ℕ → Bool
 in_columns first count c = nat_le first c && nat_lt c (first + count)
 
+-- the greatest number upward so far, of the points of these columns
 abbrev pub higher : ℕ → ℕ → ℕ → Point → ℕ
 higher first count g point = if in_columns first count point.column then max g point.y else g
 

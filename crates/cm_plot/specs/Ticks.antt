@@ -36,7 +36,7 @@ across_tick axis k =
     then across_text (tick_at axis 5600 k) ++ number_text (axis.low + k * axis.step) ++ codes "</text>\n"
     else []
 
--- all ticks: there are at most eleven
+-- all ticks: there are at most twelve
 unfoldable pub ticks_text : Frame → List ℕ
 ticks_text frame =
     flat_map (up_tick frame.up) (range_with_len 0 12) ++ flat_map (across_tick frame.across) (range_with_len 0 12)
