@@ -138,6 +138,9 @@ impl Fault {
     /// Why a front end did not begin, or ended.
     pub fn front(alloc: Global, path: &str, fault: FrontFault) -> Fault {
         match fault {
+            FrontFault::Image(ImageFault::Memory)
+            | FrontFault::Ended(SessionFault::Memory | SessionFault::NoThread)
+            | FrontFault::Memory => Fault::Memory,
             FrontFault::Image(fault) => match String::from_str(alloc, path) {
                 Ok(path) => Fault::Machine { path, fault },
                 Err(_) => Fault::Memory,
@@ -148,8 +151,6 @@ impl Fault {
                 "has more than 16777216 bytes",
             ),
             FrontFault::Ended(SessionFault::Write(_)) => Fault::Output,
-            FrontFault::Ended(SessionFault::Memory | SessionFault::NoThread) | FrontFault::Memory =>
-                Fault::Memory,
         }
     }
 
