@@ -1,5 +1,5 @@
 -- The rule of a start word, and what each step tells its seat. Ours.
-use Rattle.std.specs.Prelude.{◌≡◌, ◌⊎◌, ℕ, ◌≤◌, Bool, List, [], ◌∷◌, if◌then◌else◌}
+use Rattle.std.specs.Prelude.{◌≡◌, ◌⊎◌, ℕ, ◌≤◌, Bool, [], ◌∷◌, if◌then◌else◌}
 use Rattle.atomic_table.specs.Table.{State, Me}
 use Rattle.cm_resident.specs.declared.start.Sight.{Sight}
 use Rattle.cm_resident.specs.declared.start.Place.TheVariants.{Alone, Starts, Waits}
@@ -15,6 +15,17 @@ starter word = record { place = Starts; word = word }
 -- that of a worker, who saw this word last
 abbrev pub waiter : ℕ → Sight
 waiter word = record { place = Waits; word = word }
+
+-- the words that a starter tells: to begin, or not to
+abbrev pub begin : ℕ
+begin = 1
+
+abbrev pub cancel : ℕ
+cancel = 2
+
+-- the word for a team, all of whose threads were started or not
+abbrev pub word_for : Bool → ℕ
+word_for are_started = if are_started then begin else cancel
 
 -- before the seats are dealt
 abbrev pub starting : State ℕ Sight

@@ -1,8 +1,10 @@
 //! A team at work, each worker in a thread of its own.
 
-ghost use Rattle.std.specs.Prelude.{◌≡◌, ℕ, ◌<◌, ◌≤◌, IfOk, IfSome, IsErrOf, OnOk, [], get_or, length, Some};
-ghost use Rattle.std.specs.Prelude.{vec_capacity};
+ghost use Rattle.std.specs.Prelude.{◌≡◌, ◌≢◌, ◌↔◌, ℕ, ◌<◌, ◌≤◌, IfOk, IfSome, IsErrOf, IsSome, OnErr, OnOk, Some};
+ghost use Rattle.std.specs.Prelude.{[], get_or, length, vec_capacity};
+ghost use Rattle.std.specs.List.{All};
 ghost use Rattle.std.specs.Thread.{IsSync};
+ghost use Rattle.cm_resident.specs.Starting.{begin, cancel, word_for};
 ghost use Rattle.cm_resident.specs.Teams.{HasWorked, IsOfSome};
 ghost use Rattle.cm_resident.specs.Gathering.{AreEmpty, HaveRoom};
 
@@ -37,18 +39,28 @@ pub(crate) struct Ready {
     pub(crate) waiter: Waiter,
 }
 
+/// What a worker leaves: its blocks if it was let begin, and the word that it saw.
+#[derive(Drop)]
+struct Left {
+    blocks: Option<Vec<Block>>,
+    waiter: Waiter,
+}
+
 impl Ready {
     /// Waits, and then works if it is let begin.
-    fn go<R: Wait>(self, rt: &R, passage: &Passage) -> Option<Vec<Block>>
+    fn go<R: Wait>(self, rt: &R, passage: &Passage) -> Left
         requires team { IsOfSome self.worker }
-        ensures value { IfSome result (λ blocks. HasWorked self.worker blocks.items) }
+        ensures told { result.waiter ≢ 0 }
+        ensures begun { IsSome result.blocks ↔ (result.waiter ≡ begin) }
+        ensures value { IfSome result.blocks (λ blocks. HasWorked self.worker blocks.items) }
     {
-        let Ready { worker, waiter } = self;
-        if waiter.is_let_begin(rt) {
+        let Ready { worker, mut waiter } = self;
+        let blocks = if waiter.is_let_begin(rt) {
             Some(worker.work(rt, passage))
         } else {
             None
-        }
+        };
+        Left { blocks, waiter }
     }
 }
 
@@ -65,6 +77,8 @@ pub(crate) struct Lineup {
 /// Gives each worker of a team its start word, and makes room for what its thread leaves.
 pub(crate) fn line_up(alloc: Global, team: Vec<Worker>) -> Result<Lineup, NoMemory>
     ensures count { IfOk result (λ all. length all.readies.items ≡ length team.items) }
+    ensures starters { IfOk result (λ all. length all.starters.items ≡ length team.items) }
+    ensures untold { IfOk result (λ all. All (λ word. word ≡ 0) all.starters.items) }
     ensures none { IfOk result (λ all. AreEmpty all.handles.items all.left.items all.shares.items) }
     ensures room { IfOk result (λ all. HaveRoom (length team.items)
         (vec_capacity all.handles) (vec_capacity all.left) (vec_capacity all.shares)) }
@@ -107,7 +121,10 @@ fn start<'s, E, R: Wait + Sync>(
         move || -> Option<Vec<Block>>
             requires { IsOfSome ready.worker }
             ensures { IfSome result (λ blocks. HasWorked ready.worker blocks.items) }
-        { ready.go(rt, passage) },
+        {
+            let Left { blocks, waiter: _ } = ready.go(rt, passage);
+            blocks
+        },
     );
     match started {
         Ok(handle) => Ok(handle),
@@ -129,6 +146,7 @@ fn start_all<'s, E, R: Wait + Sync>(
     ensures memory { ¬ IsErrOf result Want.Memory }
     ensures few { length handles.new.items ≤ length readies.items }
     ensures count { OnOk result (length handles.new.items ≡ length readies.items) }
+    ensures refused { OnErr result (length handles.new.items < length readies.items) }
     ensures value { (w : ℕ) (d : _) (e : _) → w < length handles.new.items
         → (get_or handles.new.items w d).promise.was.value ≡ (get_or readies.items w e).worker }
 {
@@ -140,15 +158,45 @@ fn start_all<'s, E, R: Wait + Sync>(
     Ok(())
 }
 
-/// Lets all workers begin, or cancels them.
-fn tell_all(starters: Vec<Starter>, are_started: bool) {
-    for starter in starters {
+/// Lets all workers begin, or tells them that nobody begins.
+fn tell_all(starters: &mut Vec<Starter>, are_started: bool)
+    requires untold { All (λ word. word ≡ 0) starters.old.items }
+    ensures told { All (λ word. word ≡ word_for are_started) starters.new.items }
+{
+    for i in 0..starters.len() {
         if are_started {
-            starter.release();
+            starters[i].release();
         } else {
-            starter.cancel();
+            starters[i].cancel();
         }
     }
+}
+
+/// Starts the threads of all, and lets their workers begin if all were started; else it tells them that nobody begins.
+fn start_team<'s, E, R: Wait + Sync>(
+    scope: &Scope<'s, E>,
+    rt: &'s R,
+    passage: &'s Passage,
+    readies: Vec<Ready>,
+    starters: &mut Vec<Starter>,
+    handles: &mut Vec<PromisedHandle<Option<Vec<Block>>, WillWork>>,
+) -> Result<(), Want>
+    requires team { (w : ℕ) (d : _) → w < length readies.items → IsOfSome (get_or readies.items w d).worker }
+    requires none { handles.old.items ≡ [] }
+    requires room { length readies.items ≤ vec_capacity handles.old }
+    requires untold { All (λ word. word ≡ 0) starters.old.items }
+    ensures memory { ¬ IsErrOf result Want.Memory }
+    ensures few { length handles.new.items ≤ length readies.items }
+    ensures count { OnOk result (length handles.new.items ≡ length readies.items) }
+    ensures begin { OnOk result (All (λ word. word ≡ begin) starters.new.items) }
+    ensures cancel { OnErr result (All (λ word. word ≡ cancel) starters.new.items) }
+    ensures refused { OnErr result (length handles.new.items < length readies.items) }
+    ensures value { (w : ℕ) (d : _) (e : _) → w < length handles.new.items
+        → (get_or handles.new.items w d).promise.was.value ≡ (get_or readies.items w e).worker }
+{
+    let started = start_all(scope, rt, passage, readies, handles);
+    tell_all(starters, started.is_ok());
+    started
 }
 
 /// Waits for all threads, and keeps what each leaves.
@@ -191,7 +239,7 @@ fn all_there<T: Drop>(left: Vec<Option<T>>, shares: Vec<T>) -> Result<Vec<T>, Wa
     Ok(shares)
 }
 
-/// Starts all threads, lets their workers begin if all were started, and waits for them.
+/// Starts a team, waits for all its threads, and tells what each left.
 fn start_and_join<'s, E, R: Threads + Wait + Sync>(
     scope: &Scope<'s, E>,
     rt: &'s R,
@@ -202,6 +250,7 @@ fn start_and_join<'s, E, R: Threads + Wait + Sync>(
     requires none { AreEmpty all.handles.items all.left.items all.shares.items }
     requires room { HaveRoom (length all.readies.items)
         (vec_capacity all.handles) (vec_capacity all.left) (vec_capacity all.shares) }
+    requires untold { All (λ word. word ≡ 0) all.starters.items }
     ensures memory { ¬ IsErrOf result Want.Memory }
     ensures count { IfOk result (λ shares. length shares.items ≡ length all.readies.items) }
     ensures value { IfOk result (λ shares. (w : ℕ) (d : _) (e : _) → w < length all.readies.items
@@ -209,13 +258,12 @@ fn start_and_join<'s, E, R: Threads + Wait + Sync>(
 {
     let Lineup {
         readies,
-        starters,
+        mut starters,
         mut handles,
         mut left,
         shares,
     } = all;
-    let started = start_all(scope, rt, passage, readies, &mut handles);
-    tell_all(starters, started.is_ok());
+    let started = start_team(scope, rt, passage, readies, &mut starters, &mut handles);
     join_all(rt, handles, &mut left);
     started?;
     let there = all_there(left, shares)?;
@@ -233,6 +281,7 @@ pub(crate) fn work_all<R: Threads + Wait + Sync>(
     requires none { AreEmpty all.handles.items all.left.items all.shares.items }
     requires room { HaveRoom (length all.readies.items)
         (vec_capacity all.handles) (vec_capacity all.left) (vec_capacity all.shares) }
+    requires untold { All (λ word. word ≡ 0) all.starters.items }
     ensures memory { ¬ IsErrOf result Want.Memory }
     ensures count { IfOk result (λ shares. length shares.items ≡ length all.readies.items) }
     ensures value { IfOk result (λ shares. (w : ℕ) (d : _) (e : _) → w < length all.readies.items
@@ -246,7 +295,8 @@ pub(crate) fn work_all<R: Threads + Wait + Sync>(
                 × ((w : ℕ) (d : _) → w < length all.readies.items → IsOfSome (get_or all.readies.items w d).worker)
                 × AreEmpty all.handles.items all.left.items all.shares.items
                 × HaveRoom (length all.readies.items)
-                (vec_capacity all.handles) (vec_capacity all.left) (vec_capacity all.shares) }
+                (vec_capacity all.handles) (vec_capacity all.left) (vec_capacity all.shares)
+                × All (λ word. word ≡ 0) all.starters.items }
             ensures { (¬ IsErrOf result Want.Memory)
                 × IfOk result (λ shares. length shares.items ≡ length all.readies.items)
                 × IfOk result (λ shares. (w : ℕ) (d : _) (e : _) → w < length all.readies.items

@@ -1,11 +1,11 @@
 //! Start words: a worker waits at one until it is told to begin, or not to.
-ghost use Rattle.std.specs.Prelude.{◌≡◌, ◌≤◌, []};
-ghost use Rattle.std.specs.Arc.{arc_value};
-ghost use Rattle.cm_resident.specs.Starting.{alone, starter, waiter, looked, told};
+ghost use Rattle.std.specs.Prelude.{◌≡◌, ◌≢◌, ◌↔◌, ◌≤◌, IfOk, IsTrue};
+ghost use Rattle.cm_resident.specs.Starting.{alone, starter, waiter, looked, told, begin, cancel};
 
 use atomic_table::{Play, Seat, Split, Table, TableRule};
 use cm_bits::NoMemory;
 use std::alloc::Global;
+use std::marker::Model;
 use std::sync::{Arc, Wait};
 
 /// The word of who is to begin, and of who is not.
@@ -66,28 +66,55 @@ impl Play<u8, Sight> for Tell {
     ghost then = { λ step. told step.second };
 }
 
-/// Who tells a worker whether it may begin, and has not told it yet.
+/// Who tells a worker whether it may begin. Contracts see the word that it told, 0 before it tells one.
 #[derive(Drop)]
 pub(crate) struct Starter {
     table: Arc<StartTable, Global>,
     seat: StartSeat,
-    ghost seated: { seat.table_id ≡ (arc_value table).shared.table_id },
-    ghost one: { seat.table_id.words ≡ 1 },
-    ghost knows: { seat.me ≡ (starter 0, []) },
 }
 
-/// A worker that was not told yet.
+impl Model for Starter {
+    ghost use Rattle.std.specs.Prelude.{ℕ};
+
+    ghost Value = { ℕ };
+
+    ghost view = { λ end. end.seat.me.0.word };
+
+    ghost use Rattle.std.specs.Prelude.{◌≡◌, []};
+    ghost use Rattle.std.specs.Arc.{arc_value};
+    ghost use Rattle.cm_resident.specs.Starting.{starter};
+
+    ghost invariant = { λ end. (end.seat.table_id ≡ (arc_value end.table).shared.table_id)
+        × (end.seat.table_id.words ≡ 1) × (end.seat.me ≡ (starter end.seat.me.0.word, [])) };
+}
+
+/// A worker that waits to be told. Contracts see the word that it saw last, 0 before it saw any.
 #[derive(Drop)]
 pub(crate) struct Waiter {
     table: Arc<StartTable, Global>,
     seat: StartSeat,
-    ghost seated: { seat.table_id ≡ (arc_value table).shared.table_id },
-    ghost one: { seat.table_id.words ≡ 1 },
-    ghost knows: { seat.me ≡ (waiter 0, []) },
 }
 
-/// The two ends of a start word.
-pub(crate) fn start_word(alloc: Global) -> Result<(Starter, Waiter), NoMemory> {
+impl Model for Waiter {
+    ghost use Rattle.std.specs.Prelude.{ℕ};
+
+    ghost Value = { ℕ };
+
+    ghost view = { λ end. end.seat.me.0.word };
+
+    ghost use Rattle.std.specs.Prelude.{◌≡◌, []};
+    ghost use Rattle.std.specs.Arc.{arc_value};
+    ghost use Rattle.cm_resident.specs.Starting.{waiter};
+
+    ghost invariant = { λ end. (end.seat.table_id ≡ (arc_value end.table).shared.table_id)
+        × (end.seat.table_id.words ≡ 1) × (end.seat.me ≡ (waiter end.seat.me.0.word, [])) };
+}
+
+/// The two ends of a start word, of which neither has told or seen one.
+pub(crate) fn start_word(alloc: Global) -> Result<(Starter, Waiter), NoMemory>
+    ensures starter { IfOk result (λ ends. ends.0 ≡ 0) }
+    ensures waiter { IfOk result (λ ends. ends.1 ≡ 0) }
+{
     let (table, mut seat) = StartTable::of_words(alloc, &[0], &0)?;
     let other = table.shared.split_seat::<Deal>(&mut seat);
     let Ok(table) = Arc::new(alloc, table) else {
@@ -107,35 +134,52 @@ pub(crate) fn start_word(alloc: Global) -> Result<(Starter, Waiter), NoMemory> {
 
 impl Starter {
     /// Lets the worker begin.
-    pub(crate) fn release(self) {
+    pub(crate) fn release(&mut self)
+        requires new { self.old ≡ 0 }
+        ensures told { self.new ≡ begin }
+    {
         self.tell(BEGIN);
     }
 
     /// Tells the worker that nobody begins.
-    pub(crate) fn cancel(self) {
+    pub(crate) fn cancel(&mut self)
+        requires new { self.old ≡ 0 }
+        ensures told { self.new ≡ cancel }
+    {
         self.tell(CANCEL);
     }
 
-    fn tell(self, word: u64)
+    fn tell(&mut self, word: u64)
+        requires new { self.old ≡ 0 }
         requires word { word ≤ 2 }
+        ensures told { self.new ≡ word }
     {
-        let Starter { table, mut seat } = self;
-        table.shared.compare_exchange::<Tell>(&mut seat, 0, 0, word);
-        table.shared.wake_one(0);
+        self.table
+            .shared
+            .compare_exchange::<Tell>(&mut self.seat, 0, 0, word);
+        self.table.shared.wake_one(0);
     }
 }
 
 impl Waiter {
     /// Waits until it is told, and answers whether it may begin.
-    pub(crate) fn is_let_begin<R: Wait>(self, rt: &R) -> bool {
-        let Waiter { table, mut seat } = self;
+    pub(crate) fn is_let_begin<R: Wait>(&mut self, rt: &R) -> bool
+        ensures told { self.new ≢ 0 }
+        ensures value { IsTrue result ↔ (self.new ≡ begin) }
+    {
         for _look in rt.forever() {
-            let found = table.shared.load::<Look>(&mut seat, 0);
+            let found = self.look();
             if found != 0 {
                 return found == BEGIN;
             }
-            table.shared.park(rt, 0, 0);
+            self.table.shared.park(rt, 0, 0);
         }
         unreachable!()
+    }
+
+    fn look(&mut self) -> u64
+        ensures seen { self.new ≡ result }
+    {
+        self.table.shared.load::<Look>(&mut self.seat, 0)
     }
 }

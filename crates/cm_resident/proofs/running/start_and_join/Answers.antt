@@ -7,7 +7,7 @@ use Rattle.cm_resident.proofs.running.start_and_join.Goals as goal
 
 pub returns-clause-value : goal.returns-clause-value
 returns-clause-value g c =
-    let started = c.start_all-started in
+    let started = c.start_team-started in
     let handles = started.new.handles.items in
     let count : length handles ≡ length c.args.all.readies.items = search rules in
     λ w d e below.
