@@ -1,11 +1,11 @@
 //! Texts of numbers: reading and writing them.
 
-ghost use Rattle.std.specs.Prelude.{◌≡◌, ◌≢◌, ◌<◌, ◌≤◌, ◌++◌, ◌∷◌, [], ◌^◌, nat_lt, decimal, Ok, Err, IfOk, IfErr, OnOk, length};
+ghost use Rattle.std.specs.Prelude.{◌≡◌, ◌≢◌, ◌<◌, ◌≤◌, ◌++◌, ◌∷◌, [], ◌^◌, nat_lt, Ok, Err, IfOk, IfErr, OnOk, length};
 ghost use Rattle.cm_bits.specs.Text.{words_of};
 ghost use Rattle.cm_figures.specs.Numbers.{after_words, one_more, numbers_in, numbers_text, behind};
 
 use cm_bits::{Lines, NoMemory, Words, read_number};
-use itoa::Buffer;
+use cm_digits::push_number;
 use std::alloc::Global;
 use thiserror::Error;
 
@@ -79,7 +79,7 @@ fn push_words(
         → after_words len count line numbers.old.items (words_of bytes.now) ≡ Err fault) }
 {
     for word in Words::new(bytes) {
-        match push_number(numbers, read_number(word), len, count, line) {
+        match push_one(numbers, read_number(word), len, count, line) {
             Ok(()) => {}
             Err(fault) => return Err(fault),
         }
@@ -88,7 +88,7 @@ fn push_words(
 }
 
 /// One number more, if it is one.
-fn push_number(
+fn push_one(
     numbers: &mut Vec<u64>,
     number: Option<u64>,
     len: u16,
@@ -133,20 +133,9 @@ pub fn write_numbers(alloc: Global, numbers: &[u64], width: usize) -> Result<Vec
 {
     let mut text = Vec::new(alloc);
     for index in 0..numbers.len() {
-        push_decimal(&mut text, numbers[index], behind(width, index))?;
+        push_number(&mut text, numbers[index], behind(width, index))?;
     }
     Ok(text)
-}
-
-/// A number, and a byte behind it.
-pub(crate) fn push_decimal(text: &mut Vec<u8>, number: u64, behind: u8) -> Result<(), NoMemory>
-    ensures ok { OnOk result (text.new.items ≡ (text.old.items ++ decimal number) ++ behind ∷ []) }
-{
-    text.extend_from_slice(Buffer::new().format(number).as_bytes())?;
-    match text.push(behind) {
-        Ok(()) => Ok(()),
-        Err(_) => Err(NoMemory),
-    }
 }
 
 /// What stands behind a number, where so many stand before it.

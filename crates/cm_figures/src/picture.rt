@@ -5,8 +5,9 @@ ghost use Rattle.cm_figures.specs.Pictures.{seen, digit_of, header_text, greates
 ghost use Rattle.cm_figures.specs.Pictures.{bit_at, eight_dots, packed_text, bytes_text, raster_text, picture_text};
 ghost use Rattle.cm_figures.specs.Numbers.{numbers_text};
 
-use crate::numbers::{push_decimal, write_numbers};
+use crate::numbers::write_numbers;
 use cm_bits::NoMemory;
+use cm_digits::push_number;
 use std::alloc::Global;
 
 /// How the dots of a picture are written.
@@ -49,10 +50,10 @@ fn header(alloc: Global, picture: &Picture, form: Form) -> Result<Vec<u8>, NoMem
 {
     let mut text = Vec::new(alloc);
     text.extend_from_slice(&[b'P', digit_of(form, picture.greatest), b'\n'])?;
-    push_decimal(&mut text, u64::from(picture.width), b' ')?;
-    push_decimal(&mut text, u64::from(picture.height), b'\n')?;
+    push_number(&mut text, picture.width, b' ')?;
+    push_number(&mut text, picture.height, b'\n')?;
     if picture.greatest != 1 {
-        push_decimal(&mut text, u64::from(picture.greatest), b'\n')?;
+        push_number(&mut text, picture.greatest, b'\n')?;
     }
     Ok(text)
 }

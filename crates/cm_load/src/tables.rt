@@ -6,7 +6,7 @@ ghost use Rattle.cm_load.specs.Tables.{header, offer_columns, message_columns, l
 
 use crate::figures::Figures;
 use cm_bits::NoMemory;
-use itoa::Buffer;
+use cm_digits::{push_byte, push_number, push_piece};
 use std::alloc::Global;
 
 /// The table of these loads: a line of names, and a line for each load.
@@ -39,7 +39,7 @@ fn push_line(text: &mut Vec<u8>, figures: &Figures) -> Result<(), NoMemory>
     push_offers(text, figures)?;
     push_messages(text, figures)?;
     push_latencies(text, figures)?;
-    push_number(text, u128::from(figures.deepest), b'\n')
+    push_number(text, figures.deepest, b'\n')
 }
 
 /// What was offered.
@@ -47,7 +47,7 @@ fn push_offers(text: &mut Vec<u8>, figures: &Figures) -> Result<(), NoMemory>
     ensures ok { OnOk result (text.new.items ≡ text.old.items ++ offer_columns figures.now) }
 {
     push_hundredths(text, u128::from(figures.rate))?;
-    push_number(text, u128::from(figures.offered), b',')
+    push_number(text, figures.offered, b',')
 }
 
 /// What became of it.
@@ -55,7 +55,7 @@ fn push_messages(text: &mut Vec<u8>, figures: &Figures) -> Result<(), NoMemory>
     ensures ok { OnOk result (text.new.items ≡ text.old.items ++ message_columns figures.now) }
 {
     push_number(text, figures.taken, b',')?;
-    push_number(text, figures.delivered as u128, b',')?;
+    push_number(text, figures.delivered, b',')?;
     push_thousandths(text, figures.throughput)
 }
 
@@ -65,7 +65,7 @@ fn push_latencies(text: &mut Vec<u8>, figures: &Figures) -> Result<(), NoMemory>
 {
     push_hundredths(text, figures.mean)?;
     push_if(text, figures.most)?;
-    push_number(text, u128::from(figures.greatest), b',')
+    push_number(text, figures.greatest, b',')
 }
 
 /// A number with a comma behind it, or the comma alone.
@@ -74,7 +74,7 @@ fn push_if(text: &mut Vec<u8>, number: Option<u32>) -> Result<(), NoMemory>
 {
     match number {
         None => push_byte(text, b','),
-        Some(number) => push_number(text, u128::from(number), b','),
+        Some(number) => push_number(text, number, b','),
     }
 }
 
@@ -109,23 +109,5 @@ fn push_last_two(text: &mut Vec<u8>, number: u128) -> Result<(), NoMemory>
 fn push_last_digit(text: &mut Vec<u8>, number: u128) -> Result<(), NoMemory>
     ensures ok { OnOk result (text.new.items ≡ text.old.items ++ last_digit number) }
 {
-    text.extend_from_slice(Buffer::new().format(number % 10).as_bytes())?;
-    Ok(())
-}
-
-/// A number, and a byte behind it.
-fn push_number(text: &mut Vec<u8>, number: u128, behind: u8) -> Result<(), NoMemory>
-    ensures ok { OnOk result (text.new.items ≡ text.old.items ++ (decimal number ++ behind ∷ [])) }
-{
-    text.extend_from_slice(Buffer::new().format(number).as_bytes())?;
-    push_byte(text, behind)
-}
-
-fn push_byte(text: &mut Vec<u8>, byte: u8) -> Result<(), NoMemory>
-    ensures ok { OnOk result (text.new.items ≡ text.old.items ++ byte ∷ []) }
-{
-    match text.push(byte) {
-        Ok(()) => Ok(()),
-        Err(_) => Err(NoMemory),
-    }
+    push_piece(text, b"", number % 10)
 }

@@ -1,6 +1,6 @@
 -- The cells of a table's line, and their numbers, which are counted in thousandths. Ours.
-use Rattle.std.specs.Prelude.{ℕ, ◌+◌, ◌*◌, ◌^◌, ◌==◌, ◌&&◌, ◌||◌, not, Bool, nat_lt, if◌then◌else◌, Option, Some, None}
-use Rattle.std.specs.Prelude.{List, [], ◌∷◌, length, is_some, codes}
+use Rattle.std.specs.Prelude.{ℕ, ◌+◌, ◌-◌, ◌*◌, ◌^◌, ◌==◌, ◌&&◌, ◌||◌, not, Bool, nat_le, nat_lt, if◌then◌else◌, Option, Some, None}
+use Rattle.std.specs.Prelude.{List, [], ◌∷◌, ◌++◌, take, length, is_some, codes}
 use Rattle.std.specs.List.{flat_map, list_all, slice_get, slice_split, before_first, after_first}
 use Rattle.cm_bits.specs.Text.{has_bytes, number_of}
 
@@ -73,6 +73,11 @@ escaped_byte byte =
 -- a name
 unfoldable pub escaped : List ℕ → List ℕ
 escaped bytes = flat_map escaped_byte bytes
+
+-- a name of which so many letters are shown at the most: of a longer one all but the last of these, and an ellipsis
+abbrev pub shortened : ℕ → List ℕ → List ℕ
+shortened most bytes =
+    if nat_le (length bytes) most then escaped bytes else escaped (take (most - 1) bytes) ++ codes "&#8230;"
 
 abbrev pub is_colon : ℕ → Bool
 is_colon byte = byte == 58

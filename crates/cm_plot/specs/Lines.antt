@@ -5,7 +5,7 @@ use Rattle.cm_plot.specs.declared.panels.Frame.{Frame}
 use Rattle.cm_plot.specs.declared.panels.Panel.{Panel}
 use Rattle.cm_plot.specs.declared.points.Point.{Point}
 use Rattle.cm_plot.specs.Axes.{along}
-use Rattle.cm_plot.specs.Cells.{cell, escaped}
+use Rattle.cm_plot.specs.Cells.{cell, shortened}
 use Rattle.cm_plot.specs.Pieces.{piece}
 use Rattle.cm_plot.specs.Shown.{first_of}
 
@@ -75,9 +75,9 @@ name_open paint y =
     codes "<path stroke-width='25' stroke='" ++ paint ++ piece (codes "' d='M5750 ") y
     ++ piece (codes "h300'/><text text-anchor='start' x='6130' y='") (y + 50) ++ codes "'>"
 
--- the name of a line, which is that of its column
+-- the name of a line, which is that of its column; there is room for fifteen letters
 unfoldable pub name_text : List ℕ → ℕ → ℕ → List ℕ
-name_text header c k = name_open (colour k) (100 + 250 * k) ++ escaped (cell header c) ++ codes "</text>\n"
+name_text header c k = name_open (colour k) (100 + 250 * k) ++ shortened 15 (cell header c) ++ codes "</text>\n"
 
 -- the k-th line of a panel
 unfoldable pub curve_text : Frame → List ℕ → List Point → Panel → ℕ → List ℕ

@@ -12,7 +12,7 @@ use Rattle.cm_plot.specs.declared.points.PlotFault.TheVariants.{Unknown, Nothing
 use Rattle.cm_plot.specs.Axes.{axis_of, highest, leftmost, rightmost}
 use Rattle.cm_plot.specs.Bins.{bins}
 use Rattle.cm_plot.specs.Cells.{width_of}
-use Rattle.cm_plot.specs.Heads.{head_text}
+use Rattle.cm_plot.specs.Heads.{head_text, title_of}
 use Rattle.cm_plot.specs.Panels.{panel_text}
 use Rattle.cm_plot.specs.Points.{kind_of, points_after}
 use Rattle.cm_plot.specs.Shown.{first_of, count_of, unit_of}
@@ -70,7 +70,7 @@ panel_count Compared = 1
 -- a picture of these points, of which the first stands here to the right
 unfoldable pub drawing : Kind → List ℕ → ℕ → List Point → List ℕ
 drawing kind header x points =
-    head_text kind (600 + 3300 * panel_count kind) ++ panels_text kind header x points ++ codes "</svg>\n"
+    head_text (title_of kind) (600 + 3300 * panel_count kind) ++ panels_text kind header x points ++ codes "</svg>\n"
 
 -- where the axis to the right begins at the latest: at the first point, or at 0
 abbrev pub start_of : Kind → ℕ → ℕ

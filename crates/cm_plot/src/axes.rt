@@ -8,7 +8,7 @@ use crate::points::Point;
 
 /// An axis. Its numbers are in thousandths.
 #[derive(Clone, Copy)]
-pub(crate) struct Axis {
+pub struct Axis {
     /// The number at which it begins.
     pub low: u64,
     /// The distance of two ticks.
@@ -121,9 +121,9 @@ fn whole_steps(step: u64, range: u64) -> u128
     }
 }
 
-/// An axis over the numbers from one to another.
+/// An axis over the numbers from one to another, all in thousandths, with ticks at multiples of a unit.
 #[tactic(auto, unfolding(crate::specs::Axes::axis_of))]
-pub(crate) fn axis_of(unit: u64, least: u64, most: u64) -> Axis
+pub fn axis_of(unit: u64, least: u64, most: u64) -> Axis
     requires some { 0 < unit }
     ensures value { result ≡ axis_of unit least most }
     ensures some { 0 < result.span }
@@ -138,7 +138,7 @@ pub(crate) fn axis_of(unit: u64, least: u64, most: u64) -> Axis
 }
 
 /// The place of a number along an axis that is drawn so long.
-pub(crate) fn along(axis: Axis, number: u128, length: u32) -> u128
+pub fn along(axis: Axis, number: u128, length: u32) -> u128
     requires some { 0 < axis.span }
     requires low { number < 2 ^ 80 }
     ensures value { result ≡ along axis number length }

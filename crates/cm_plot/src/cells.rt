@@ -3,10 +3,10 @@
 ghost use Rattle.std.specs.Prelude.{◌≡◌, ◌<◌, ◌≤◌, ◌^◌, ◌++◌, ◌==◌, IfSome, OnOk, length};
 ghost use Rattle.std.specs.List.{position_or_len, after_first};
 ghost use Rattle.cm_plot.specs.Cells.{is_decimal, cell, digits_of, scaled, part_of, joined, number_in};
-ghost use Rattle.cm_plot.specs.Cells.{is_cell, width_of, is_row, escaped, escaped_byte};
+ghost use Rattle.cm_plot.specs.Cells.{is_cell, width_of, is_row, escaped, escaped_byte, shortened};
 
-use crate::pieces::push_words;
 use cm_bits::{NoMemory, read_number};
+use cm_digits::push_words;
 use memchr::memchr;
 
 /// How many cells a line has.
@@ -23,8 +23,8 @@ pub(crate) fn is_row(columns: usize, line: &[u8]) -> bool
     width(line) == columns && line.split(|byte| *byte == b',').all(|cell| is_cell(cell))
 }
 
-/// What stands in a column, counted from 0.
-pub(crate) fn cell(line: &[u8], column: usize) -> &[u8]
+/// What stands in a column of a line, counted from 0; nothing where it has no such.
+pub fn cell(line: &[u8], column: usize) -> &[u8]
     ensures value { result.now ≡ cell line.now column }
 {
     match line.split(|byte| *byte == b',').nth(column) {
@@ -61,7 +61,7 @@ fn number(bytes: &[u8]) -> Option<u64>
 }
 
 /// The place of the first such byte, or the length.
-fn place(byte: u8, bytes: &[u8]) -> usize
+pub fn place(byte: u8, bytes: &[u8]) -> usize
     ensures place { result ≡ position_or_len (λ other. other == byte) bytes.now }
     ensures within { result ≤ length bytes.now }
 {
@@ -72,7 +72,7 @@ fn place(byte: u8, bytes: &[u8]) -> usize
 }
 
 /// What stands behind the first such byte.
-pub(crate) fn behind(byte: u8, bytes: &[u8]) -> &[u8]
+pub fn behind(byte: u8, bytes: &[u8]) -> &[u8]
     ensures value { result.now ≡ after_first (λ other. other == byte) bytes.now }
 {
     let at = place(byte, bytes);
@@ -140,13 +140,25 @@ fn is_decimal(byte: u8) -> bool
 
 /// A name, as XML has it.
 #[tactic(auto, unfolding(crate::specs::Cells::escaped))]
-pub(crate) fn push_escaped(text: &mut Vec<u8>, bytes: &[u8]) -> Result<(), NoMemory>
+fn push_escaped(text: &mut Vec<u8>, bytes: &[u8]) -> Result<(), NoMemory>
     ensures ok { OnOk result (text.new.items ≡ text.old.items ++ escaped bytes.now) }
 {
     for byte in bytes {
         push_escaped_byte(text, *byte)?;
     }
     Ok(())
+}
+
+/// A name of which so many letters are shown at the most: of a longer one all but the last of these, and an ellipsis.
+pub(crate) fn push_shortened(text: &mut Vec<u8>, most: usize, bytes: &[u8]) -> Result<(), NoMemory>
+    requires some { 0 < most }
+    ensures ok { OnOk result (text.new.items ≡ text.old.items ++ shortened most bytes.now) }
+{
+    if bytes.len() <= most {
+        return push_escaped(text, bytes);
+    }
+    push_escaped(text, &bytes[..most - 1])?;
+    push_words(text, b"&#8230;")
 }
 
 fn push_escaped_byte(text: &mut Vec<u8>, byte: u8) -> Result<(), NoMemory>

@@ -1,4 +1,5 @@
-//! Pictures of the laboratory's tables: lines over petit cycles, over loads, over how long messages took, as SVG.
+//! Pictures of the laboratory's tables: lines over petit cycles, over loads, over how long messages took, as SVG; and
+//! the pieces that they have, of which other pictures are made.
 #![tactic(auto)]
 
 mod axes;
@@ -11,5 +12,10 @@ mod pieces;
 mod points;
 mod ticks;
 
-pub use pictures::plot;
+pub use axes::{Axis, along, axis_of};
+pub use cells::{behind, cell, place};
+pub use lines::{colour, push_circle, push_line_open, push_name};
+pub use panels::{push_place, push_sides};
+pub use pictures::{plot, push_head};
 pub use points::PlotFault;
+pub use ticks::{push_across_ticks, push_up};

@@ -7,11 +7,11 @@ ghost use Rattle.cm_plot.specs.Lines.{dots_text, name_open, name_text, curve_tex
 ghost use Rattle.cm_plot.specs.Shown.{count_of, CanBeDrawn};
 
 use crate::axes::along;
-use crate::cells::{cell, push_escaped};
+use crate::cells::{cell, push_shortened};
 use crate::panels::{Frame, Panel};
-use crate::pieces::{push_piece, push_words};
 use crate::points::Point;
 use cm_bits::NoMemory;
+use cm_digits::{push_piece, push_words};
 
 /// The lines of a panel.
 pub(crate) fn push_curves(
@@ -70,8 +70,8 @@ fn push_line(
     push_words(text, b"'/>\n")
 }
 
-/// How a line begins.
-fn push_line_open(text: &mut Vec<u8>, paint: &[u8]) -> Result<(), NoMemory>
+/// How a line of this colour begins; its points come behind it, and then its end.
+pub fn push_line_open(text: &mut Vec<u8>, paint: &[u8]) -> Result<(), NoMemory>
     ensures ok { OnOk result (text.new.items ≡ text.old.items ++ line_open paint.now) }
 {
     push_words(
@@ -193,8 +193,8 @@ fn push_dot(
     )
 }
 
-/// A dot here.
-fn push_circle(text: &mut Vec<u8>, x: u128, y: u128, paint: &[u8]) -> Result<(), NoMemory>
+/// A dot of this colour here, in tenths of a dot of the screen from the left and from above.
+pub fn push_circle(text: &mut Vec<u8>, x: u128, y: u128, paint: &[u8]) -> Result<(), NoMemory>
     ensures ok { OnOk result (text.new.items ≡ text.old.items ++ circle x y paint.now) }
 {
     push_piece(text, b"<circle r='40' cx='", x)?;
@@ -226,14 +226,14 @@ fn place_y(frame: Frame, point: &Point) -> u128
     2400u128.saturating_sub(along(frame.up, u128::from(point.y), 2400))
 }
 
-/// The name of a line beside the frame.
+/// The name of a column beside the frame, which is that of its k-th line.
 #[tactic(auto, unfolding(crate::specs::Lines::name_text))]
-fn push_name(text: &mut Vec<u8>, header: &[u8], column: usize, k: usize) -> Result<(), NoMemory>
+pub fn push_name(text: &mut Vec<u8>, header: &[u8], column: usize, k: usize) -> Result<(), NoMemory>
     requires few { k < 9 }
     ensures ok { OnOk result (text.new.items ≡ text.old.items ++ name_text header.now column k) }
 {
     push_name_open(text, colour(k), 100 + 250 * k as u128)?;
-    push_escaped(text, cell(header, column))?;
+    push_shortened(text, 15, cell(header, column))?;
     push_words(text, b"</text>\n")
 }
 
@@ -254,7 +254,7 @@ fn push_name_open(text: &mut Vec<u8>, paint: &[u8], y: u128) -> Result<(), NoMem
 }
 
 /// The colour of the k-th line.
-fn colour(k: usize) -> &'static [u8]
+pub fn colour(k: usize) -> &'static [u8]
     ensures value { result.now ≡ colour k }
 {
     match k {

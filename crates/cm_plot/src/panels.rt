@@ -5,12 +5,12 @@ ghost use Rattle.cm_plot.specs.Panels.{box_text, below_text, left_text, sides_te
 ghost use Rattle.cm_plot.specs.Shown.{label_of, first_of, count_of, unit_of, CanBeDrawn};
 
 use crate::axes::Axis;
-use crate::cells::{behind, cell, push_escaped};
+use crate::cells::{behind, cell, push_shortened};
 use crate::lines::push_curves;
-use crate::pieces::{push_piece, push_words};
 use crate::points::Point;
 use crate::ticks::push_ticks;
 use cm_bits::NoMemory;
+use cm_digits::{push_piece, push_words};
 
 /// The axes of a panel.
 #[derive(Clone, Copy)]
@@ -104,33 +104,28 @@ pub(crate) fn push_panel(
 {
     push_place(text, u128::from(top))?;
     push_ticks(text, frame)?;
-    push_sides(text, across, header, panel)?;
+    push_sides(text, across, panel.label(header))?;
     push_curves(text, frame, header, points, panel)?;
     push_words(text, b"</g>\n")
 }
 
-/// A place at this height of a picture.
+/// How a panel at this height of a picture begins.
 #[tactic(auto, unfolding(crate::specs::Panels::place_text))]
-fn push_place(text: &mut Vec<u8>, top: u128) -> Result<(), NoMemory>
+pub fn push_place(text: &mut Vec<u8>, top: u128) -> Result<(), NoMemory>
     ensures ok { OnOk result (text.new.items ≡ text.old.items ++ place_text top) }
 {
     push_piece(text, b"<g transform='translate(1000,", top)?;
     push_words(text, b")'>\n")
 }
 
-/// What is written along the sides.
+/// The sides of a panel, and what is written along them: to the right, and upward.
 #[tactic(auto, unfolding(crate::specs::Panels::sides_text))]
-fn push_sides(
-    text: &mut Vec<u8>,
-    across: &[u8],
-    header: &[u8],
-    panel: Panel,
-) -> Result<(), NoMemory>
-    ensures ok { OnOk result (text.new.items ≡ text.old.items ++ sides_text across.now header.now panel) }
+pub fn push_sides(text: &mut Vec<u8>, across: &[u8], label: &[u8]) -> Result<(), NoMemory>
+    ensures ok { OnOk result (text.new.items ≡ text.old.items ++ sides_text across.now label.now) }
 {
     push_box(text)?;
     push_below(text, across)?;
-    push_left(text, panel.label(header))
+    push_left(text, label)
 }
 
 #[tactic(auto, unfolding(crate::specs::Panels::box_text))]
@@ -157,6 +152,6 @@ fn push_left(text: &mut Vec<u8>, label: &[u8]) -> Result<(), NoMemory>
     ensures ok { OnOk result (text.new.items ≡ text.old.items ++ left_text label.now) }
 {
     push_words(text, b"<text transform='translate(-750,1200)rotate(-90)'>")?;
-    push_escaped(text, label)?;
+    push_shortened(text, 32, label)?;
     push_words(text, b"</text>\n")
 }

@@ -12,9 +12,9 @@ use crate::axes::{axis_of, highest, leftmost, rightmost};
 use crate::bins::bins;
 use crate::cells::width;
 use crate::panels::{Frame, Panel, push_panel};
-use crate::pieces::{push_piece, push_words};
 use crate::points::{Kind, PlotFault, Point, kind_of, read_points};
 use cm_bits::{Lines, NoMemory};
+use cm_digits::{push_piece, push_words};
 use std::alloc::Global;
 
 /// The picture of a table of `cm1lab study`, `cm1lab study --messages` or `cm1lab load`, as an SVG.
@@ -111,7 +111,7 @@ fn drawing(
     ensures value { IfOk result (λ text. text.items ≡ drawing kind header.now start points.now) }
 {
     let mut text = Vec::new(alloc);
-    push_head(&mut text, kind, 600 + 3300 * panel_count(kind))?;
+    push_head(&mut text, title_of(kind), 600 + 3300 * panel_count(kind))?;
     match kind {
         Kind::Cycles => {
             push_shown(&mut text, kind, header, start, points, Panel::Moved, 0)?;
@@ -145,14 +145,14 @@ fn panel_count(kind: Kind) -> u32
     }
 }
 
-/// What stands before the panels of a picture of this height.
+/// What stands before the panels of a picture of this title and height.
 #[tactic(auto, unfolding(crate::specs::Heads::head_text))]
-fn push_head(text: &mut Vec<u8>, kind: Kind, height: u32) -> Result<(), NoMemory>
-    ensures ok { OnOk result (text.new.items ≡ text.old.items ++ head_text kind height) }
+pub fn push_head(text: &mut Vec<u8>, title: &[u8], height: u32) -> Result<(), NoMemory>
+    ensures ok { OnOk result (text.new.items ≡ text.old.items ++ head_text title.now height) }
 {
     push_size(text, u128::from(height))?;
     push_ground(text, u128::from(height))?;
-    push_title(text, title_of(kind))
+    push_title(text, title)
 }
 
 /// How large a picture is.

@@ -14,12 +14,15 @@ use thiserror::Error;
 /// Why a text has no picture. Lines are counted from 1.
 #[derive(Clone, Copy, Debug, PartialEq, Eq, Error)]
 pub enum PlotFault {
-    #[error("line 1: no table of cm1lab study, cm1lab study --messages or cm1lab load, nor a line that begins with rate")]
+    #[error("line 1: no table of cm1lab study or load, no route of cm1lab route, nor a line that begins with rate")]
     Unknown,
+    /// A line that is none of a route.
+    #[error("line {0}: no line of a route, as cm1lab route tells it")]
+    Route(u64),
     /// A line that is no row, and how many columns the table has.
     #[error("line {0}: not {1} numbers with commas between them, as the first line has names")]
     Row(u64, usize),
-    #[error("nothing to plot: behind its first line stand no numbers, or messages of which none was delivered")]
+    #[error("nothing to plot: no number behind the first line, no message that was delivered, no petit cycle of a route")]
     Nothing,
     #[error("out of memory")]
     Memory,

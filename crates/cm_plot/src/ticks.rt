@@ -7,8 +7,9 @@ ghost use Rattle.cm_plot.specs.Ticks.{tick_at, up_text, up_tick, across_text, ac
 
 use crate::axes::{Axis, along};
 use crate::panels::Frame;
-use crate::pieces::{push_number, push_piece, push_words};
+use crate::pieces::push_thousandths;
 use cm_bits::NoMemory;
+use cm_digits::{push_piece, push_words};
 
 /// All ticks.
 #[tactic(auto, unfolding(crate::specs::Ticks::ticks_text))]
@@ -42,12 +43,12 @@ fn push_up_tick(text: &mut Vec<u8>, axis: Axis, k: u8) -> Result<(), NoMemory>
     }
     let number = u128::from(axis.low) + from;
     push_up(text, 2400u128.saturating_sub(along(axis, number, 2400)))?;
-    push_number(text, number)?;
+    push_thousandths(text, number)?;
     push_words(text, b"</text>\n")
 }
 
-/// A line at this height, and the beginning of its number.
-fn push_up(text: &mut Vec<u8>, y: u128) -> Result<(), NoMemory>
+/// A line at this height, and the beginning of its number, behind which the end of a text is wanted.
+pub fn push_up(text: &mut Vec<u8>, y: u128) -> Result<(), NoMemory>
     requires within { y ≤ 2400 }
     ensures ok { OnOk result (text.new.items ≡ text.old.items ++ up_text y) }
 {
@@ -56,7 +57,8 @@ fn push_up(text: &mut Vec<u8>, y: u128) -> Result<(), NoMemory>
     push_words(text, b"'>")
 }
 
-fn push_across_ticks(text: &mut Vec<u8>, axis: Axis) -> Result<(), NoMemory>
+/// Ticks to the right and their numbers.
+pub fn push_across_ticks(text: &mut Vec<u8>, axis: Axis) -> Result<(), NoMemory>
     requires some { 0 < axis.span }
     ensures ok { OnOk result (text.new.items ≡ text.old.items ++ flat_map (across_tick axis) (range_with_len 0 12)) }
 {
@@ -78,7 +80,7 @@ fn push_across_tick(text: &mut Vec<u8>, axis: Axis, k: u8) -> Result<(), NoMemor
     }
     let number = u128::from(axis.low) + from;
     push_across(text, along(axis, number, 5600))?;
-    push_number(text, number)?;
+    push_thousandths(text, number)?;
     push_words(text, b"</text>\n")
 }
 

@@ -8,8 +8,8 @@ ghost use Rattle.cm_study.specs.RouteLines.{stay_text, way_text, stand_line, del
 
 use crate::whereabouts::Stand;
 use cm_bits::{NoMemory, Place};
+use cm_digits::{push_piece, push_words};
 use cm_model::Message;
-use itoa::Buffer;
 
 /// The line of a petit cycle at this count, which led a message from a chip to where it stands.
 #[tactic(auto, unfolding(crate::specs::RouteLines::stand_line))]
@@ -26,8 +26,8 @@ pub(crate) fn push_stand(
     push_way(text, dims, clock, from, stand.chip)?;
     push_stay(text, from, stand.chip)?;
     push_referrals(text, dims, from, stand.chip, stand.message.rel)?;
-    push_number(text, b", place ", stand.place as u64)?;
-    push_number(text, b" of ", stand.count as u64)?;
+    push_piece(text, b", place ", stand.place)?;
+    push_piece(text, b" of ", stand.count)?;
     push_words(text, b"\n")
 }
 
@@ -44,11 +44,7 @@ pub(crate) fn push_delivery(
     ensures ok { OnOk result (text.new.items ≡ text.old.items ++ delivery_line dims clock from place) }
 {
     push_way(text, dims, clock, from, place.chip)?;
-    push_number(
-        text,
-        b", delivered to processor ",
-        u64::from(place.proc.get()),
-    )?;
+    push_piece(text, b", delivered to processor ", place.proc.get())?;
     push_words(text, b"\n")
 }
 
@@ -57,7 +53,7 @@ pub(crate) fn push_delivery(
 pub(crate) fn push_end(text: &mut Vec<u8>, stand: &Stand) -> Result<(), NoMemory>
     ensures ok { OnOk result (text.new.items ≡ text.old.items ++ end_line stand.now) }
 {
-    push_number(text, b"stands at ", u64::from(stand.chip))?;
+    push_piece(text, b"stands at ", stand.chip)?;
     push_target(text, stand.chip, &stand.message)?;
     push_words(text, b"\n")
 }
@@ -67,8 +63,8 @@ pub(crate) fn push_end(text: &mut Vec<u8>, stand: &Stand) -> Result<(), NoMemory
 fn push_target(text: &mut Vec<u8>, chip: u16, message: &Message) -> Result<(), NoMemory>
     ensures ok { OnOk result (text.new.items ≡ text.old.items ++ target_text chip message.now) }
 {
-    push_number(text, b", for processor ", u64::from(message.proc.get()))?;
-    push_number(text, b" of chip ", u64::from(chip ^ message.rel))?;
+    push_piece(text, b", for processor ", message.proc.get())?;
+    push_piece(text, b" of chip ", chip ^ message.rel)?;
     Ok(())
 }
 
@@ -77,7 +73,7 @@ fn push_way(text: &mut Vec<u8>, dims: u8, clock: u64, from: u16, to: u16) -> Res
     requires dims { dims ≤ 12 }
     ensures ok { OnOk result (text.new.items ≡ text.old.items ++ way_text dims clock from to) }
 {
-    push_number(text, b"cycle ", clock)?;
+    push_piece(text, b"cycle ", clock)?;
     push_words(text, b": ")?;
     push_chips(text, dims, from, to)
 }
@@ -87,7 +83,7 @@ fn push_chips(text: &mut Vec<u8>, dims: u8, from: u16, to: u16) -> Result<(), No
     requires dims { dims ≤ 12 }
     ensures ok { OnOk result (text.new.items ≡ text.old.items ++ chips_text dims from to) }
 {
-    push_number(text, b"", u64::from(from))?;
+    push_piece(text, b"", from)?;
     for dim in 0..dims {
         push_step(text, from, to, dim)?;
     }
@@ -100,7 +96,7 @@ fn push_step(text: &mut Vec<u8>, from: u16, to: u16, dim: u8) -> Result<(), NoMe
     ensures ok { OnOk result (text.new.items ≡ text.old.items ++ step_text from to dim) }
 {
     if is_crossed(from, to, dim) {
-        push_number(text, b" -> ", u64::from(chip_behind(from, to, dim)))
+        push_piece(text, b" -> ", chip_behind(from, to, dim))
     } else {
         Ok(())
     }
@@ -140,7 +136,7 @@ fn push_referral(text: &mut Vec<u8>, from: u16, to: u16, rel: u16, dim: u8) -> R
     ensures ok { OnOk result (text.new.items ≡ text.old.items ++ referral_text from to rel dim) }
 {
     if is_crossed(from, to, dim) && has_bit(rel, dim) {
-        push_number(text, b", referred in ", u64::from(dim))
+        push_piece(text, b", referred in ", dim)
     } else {
         Ok(())
     }
@@ -167,20 +163,4 @@ fn chip_behind(from: u16, to: u16, dim: u8) -> u16
     ensures value { result ≡ chip_behind from to dim }
 {
     from ^ (from ^ to) % (1 << (dim + 1))
-}
-
-/// Words, and a number behind them.
-fn push_number(text: &mut Vec<u8>, words: &[u8], number: u64) -> Result<(), NoMemory>
-    ensures ok { OnOk result (text.new.items ≡ text.old.items ++ (words.now ++ decimal number)) }
-{
-    text.extend_from_slice(words)?;
-    text.extend_from_slice(Buffer::new().format(number).as_bytes())?;
-    Ok(())
-}
-
-fn push_words(text: &mut Vec<u8>, words: &[u8]) -> Result<(), NoMemory>
-    ensures ok { OnOk result (text.new.items ≡ text.old.items ++ words.now) }
-{
-    text.extend_from_slice(words)?;
-    Ok(())
 }

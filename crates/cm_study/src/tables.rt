@@ -13,8 +13,8 @@ use crate::trace::Trace;
 use crate::ways::Ways;
 use cm_array::Machine;
 use cm_bits::NoMemory;
+use cm_digits::{push_byte, push_number};
 use cm_model::{Event, Message};
-use itoa::Buffer;
 
 /// The line of a petit cycle.
 #[tactic(auto, unfolding(crate::specs::Tables::cycle_line))]
@@ -151,8 +151,8 @@ fn push_standing_line(
 fn push_bound(text: &mut Vec<u8>, chip: u16, message: &Message) -> Result<(), NoMemory>
     ensures ok { OnOk result (text.new.items ≡ text.old.items ++ bound_columns chip message.now) }
 {
-    push_number(text, u128::from(chip ^ message.rel), b',')?;
-    push_number(text, u128::from(message.proc.get()), b',')?;
+    push_number(text, chip ^ message.rel, b',')?;
+    push_number(text, message.proc.get(), b',')?;
     push_byte(text, b',')
 }
 
@@ -173,8 +173,8 @@ fn push_tag(text: &mut Vec<u8>, trace: &Trace) -> Result<(), NoMemory>
 fn push_way(text: &mut Vec<u8>, trace: &Trace) -> Result<(), NoMemory>
     ensures ok { OnOk result (text.new.items ≡ text.old.items ++ way_columns trace.now) }
 {
-    push_number(text, u128::from(trace.crossed), b',')?;
-    push_number(text, u128::from(trace.referred), b'\n')
+    push_number(text, trace.crossed, b',')?;
+    push_number(text, trace.referred, b'\n')
 }
 
 /// Three numbers, each with a comma behind it.
@@ -184,21 +184,4 @@ fn push_columns(text: &mut Vec<u8>, x: u128, y: u128, z: u128) -> Result<(), NoM
     push_number(text, x, b',')?;
     push_number(text, y, b',')?;
     push_number(text, z, b',')
-}
-
-/// A number, and a byte behind it.
-fn push_number(text: &mut Vec<u8>, number: u128, behind: u8) -> Result<(), NoMemory>
-    ensures ok { OnOk result (text.new.items ≡ text.old.items ++ (decimal number ++ behind ∷ [])) }
-{
-    text.extend_from_slice(Buffer::new().format(number).as_bytes())?;
-    push_byte(text, behind)
-}
-
-fn push_byte(text: &mut Vec<u8>, byte: u8) -> Result<(), NoMemory>
-    ensures ok { OnOk result (text.new.items ≡ text.old.items ++ byte ∷ []) }
-{
-    match text.push(byte) {
-        Ok(()) => Ok(()),
-        Err(_) => Err(NoMemory),
-    }
 }

@@ -8,11 +8,11 @@ pub loop-word-preserved : goal.loop-word-preserved
 loop-word-preserved c =
     let before = c.loop-word.numbers.items in
     let step : one_more c.args.len c.args.count c.args.line before (number_of c.in-Some.word.now)
-    ≡ Ok c.push_number.new.numbers.items =
+    ≡ Ok c.push_one.new.numbers.items =
     ap (λ (o : Option ℕ). one_more c.args.len c.args.count c.args.line before o) (sym c.read_number.ensures)
     ∙ c.in-Ok.ensures.ok in
     sym (after_one_word c.args.len c.args.count c.args.line before c.in-Some.word.now (words_left c.next.new.self)
-    (Ok c.push_number.new.numbers.items) step)
+    (Ok c.push_one.new.numbers.items) step)
     ∙ (rw c.in-Some.ensures.steps at c.loop-word.invariant)
 
 pub returns-in-Err-clause-err : goal.returns-in-Err-clause-err

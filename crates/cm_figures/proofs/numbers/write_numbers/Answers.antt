@@ -1,14 +1,16 @@
-use Rattle.std.proofs.Common.{ℕ, [], ◌∷◌, ◌++◌, get_or, decimal, ap, ◌∙◌, arith}
+use Rattle.std.proofs.Common.{ℕ, [], ◌∷◌, ◌++◌, get_or, decimal, ap, sym, ◌∙◌, append_assoc, arith}
+use Rattle.cm_figures.specs.Numbers.{behind}
 use Rattle.cm_figures.proofs.Texts.{one_more_written, all_written}
 use Rattle.cm_figures.proofs.numbers.write_numbers.Goals as goal
 
 pub loop-index-preserved : goal.loop-index-preserved
 loop-index-preserved c =
-    one_more_written c.args.width c.args.numbers.now c.loop-index.text.items c.push_decimal.new.text.items c.loop-index.index
+    let before = c.loop-index.text.items in
+    let number = decimal (get_or c.args.numbers.now c.loop-index.index 0) in
+    one_more_written c.args.width c.args.numbers.now before c.push_number.new.text.items c.loop-index.index
     c.loop-index-test.true c.loop-index.invariant
-    (c.in_ok-push_decimal.ensures.ok
-    ∙ ap (λ (b : ℕ). (c.loop-index.text.items ++ decimal (get_or c.args.numbers.now c.loop-index.index 0)) ++ b ∷ [])
-    c.behind.ensures.value)
+    (c.in_ok-push_number.ensures.ok ∙ ap (λ (b : ℕ). before ++ (number ++ b ∷ [])) c.behind.ensures.value
+    ∙ sym (append_assoc before number (behind c.args.width c.loop-index.index ∷ [])))
 
 pub returns : goal.returns
 returns c = record {

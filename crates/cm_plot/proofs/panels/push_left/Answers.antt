@@ -1,6 +1,6 @@
 use Rattle.std.proofs.Common.{◌++◌, codes}
 use Rattle.cm_plot.specs.Panels.{left_text}
-use Rattle.cm_plot.specs.Cells.{escaped}
+use Rattle.cm_plot.specs.Cells.{shortened}
 use Rattle.cm_plot.proofs.Joining.{behind, behind-ok}
 use Rattle.cm_plot.proofs.panels.push_left.Goals as goal
 
@@ -9,11 +9,11 @@ unfolding left_text
 returns c =
     let told-2 = behind c.args.text.now.items
     (codes "<text transform='translate(-750,1200)rotate(-90)'>")
-    (escaped c.args.label.now) c.push_words.new.text.items c.push_escaped.new.text.items
-    c.in_ok-push_words.ensures.ok c.in_ok-push_escaped.ensures.ok in
+    (shortened 32 c.args.label.now) c.push_words.new.text.items c.push_shortened.new.text.items
+    c.in_ok-push_words.ensures.ok c.in_ok-push_shortened.ensures.ok in
     record {
       ok = behind-ok c.push_words-2.result c.args.text.now.items
-          (codes "<text transform='translate(-750,1200)rotate(-90)'>" ++ escaped c.args.label.now)
-          (codes "</text>\n") c.push_escaped.new.text.items c.push_words-2.new.text.items
+          (codes "<text transform='translate(-750,1200)rotate(-90)'>" ++ shortened 32 c.args.label.now)
+          (codes "</text>\n") c.push_shortened.new.text.items c.push_words-2.new.text.items
           told-2 c.push_words-2.ensures.ok;
     }

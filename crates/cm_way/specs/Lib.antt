@@ -1,0 +1,3 @@
+pub mod Drawing
+pub mod Legs
+pub mod Rows

@@ -1,0 +1,9 @@
+//! Pictures of routes: the way of one message over chips and petit cycles, as SVG. Of all else cm_plot makes the
+//! picture.
+#![tactic(auto)]
+
+mod drawing;
+mod legs;
+mod rows;
+
+pub use drawing::plot;
