@@ -4,7 +4,6 @@ ghost use Rattle.std.specs.Prelude.{◌≡◌, ◌+◌, ◌-◌, ◌*◌, ◌/�
 ghost use Rattle.std.specs.Prelude.{map, vec_len, vec_capacity};
 ghost use Rattle.std.specs.List.{All};
 ghost use Rattle.cm_blocks.specs.Parts.{block, chip_in, buffer_in, log_in};
-ghost use Rattle.cm_router.specs.Routes.{routing_of};
 ghost use Rattle.cm_array.specs.Cuts.{joined, AreWhole};
 ghost use Rattle.cm_subcube.specs.Blocks.{IsBlock, IsFresh};
 ghost use Rattle.cm_subcube.specs.Laws.{all_blocks};
@@ -13,7 +12,6 @@ use cm_array::{IntoPart, Machine, Part};
 use cm_bits::NoMemory;
 use cm_element::ChipView;
 use cm_message::{Event, Message};
-use cm_router::Routing;
 use std::alloc::Global;
 use std::marker::Model;
 use thiserror::Error;
@@ -79,14 +77,6 @@ impl Block {
         ensures within { result < 2 ^ 63 }
     {
         self.part.clock()
-    }
-
-    /// How messages go: which wires of the cube are cut, and the rule.
-    pub fn routing(&self) -> &Routing
-        ensures value { routing_of result.now ≡ self.now.kept.part.routing }
-        ensures cube { result.now.cuts.dims ≡ self.now.kept.dims }
-    {
-        self.part.routing()
     }
 
     /// The chip of that number in the whole, to be read.
