@@ -144,41 +144,6 @@ row_stored words slots new holds planes capacity used stride address are below o
   others = spread_changed words slots capacity used stride address 0 (length planes) new are few below own
       (stored_changed (get_or slots address 0 * stride) holds planes words new stored)
 
--- words of one row alone were stored, from a place on
-pub part_changed : (start first : ℕ) (holds planes words new : List ℕ) → IsStored (start + first) holds planes words new
-    → IsChangedAt start first (first + length planes) words new
-part_changed start first holds planes words new stored = record {
-  below = stored.below;
-  above = λ i h. stored.above i (omega arith);
-}
-
--- planes that were stored in the row of an address, from a place on
-pub part_stored : (words slots new holds planes : List ℕ) (capacity used stride address first : ℕ)
-    → AreSlots words capacity slots used stride → address < 4096 → 0 < get_or slots address 0
-    → first + length planes ≤ stride → IsStored (get_or slots address 0 * stride + first) holds planes words new
-    → IsStored (address * stride + first) holds planes (spread words slots stride) (spread new slots stride)
-part_stored words slots new holds planes capacity used stride address first are below own few stored = record {
-  each = λ k h p. let inside : first + k < stride = omega (arith, few) in
-      let there : address * stride + first + k ≡ address * stride + (first + k) = omega arith in
-      let slot : get_or slots address 0 * stride + (first + k) ≡ get_or slots address 0 * stride + first + k =
-      omega arith in
-      ap (λ (n : ℕ). bit (get_or (spread new slots stride) n 0) p) there
-      ∙ ap (λ (w : ℕ). bit w p) (get_or-spread new slots stride address (first + k) below inside)
-      ∙ ap (λ (n : ℕ). bit (get_or new n 0) p) slot
-      ∙ stored.each k h p
-      ∙ ap (λ (n : ℕ). cond (bit (get_or holds k 0) p) (bit (get_or planes k 0) p) (bit (get_or words n 0) p)) (sym slot)
-      ∙ ap (λ (w : ℕ). cond (bit (get_or holds k 0) p) (bit (get_or planes k 0) p) (bit w p))
-      (sym (get_or-spread words slots stride address (first + k) below inside))
-      ∙ ap (λ (n : ℕ). cond (bit (get_or holds k 0) p) (bit (get_or planes k 0) p)
-      (bit (get_or (spread words slots stride) n 0) p)) (sym there);
-  below = λ i h. others i (inl h);
-  above = λ i h. others i (inr (omega arith));
-} where
-  others : (k : ℕ) → (k < address * stride + first) ⊎ (address * stride + (first + length planes) ≤ k)
-      → get_or (spread new slots stride) k 0 ≡ get_or (spread words slots stride) k 0
-  others = spread_changed words slots capacity used stride address first (first + length planes) new are few below own
-      (part_changed (get_or slots address 0 * stride) first holds planes words new stored)
-
 -- words that were put into the row of an address
 pub row_put : (words slots new : List ℕ) (word : ℕ → ℕ) (capacity used stride address first count place : ℕ)
     → AreSlots words capacity slots used stride → address < 4096 → 0 < get_or slots address 0

@@ -4,7 +4,6 @@ mod Flagged
 mod Halves
 mod Lanes
 mod Laying
-mod Placing
 mod Planes
 mod Poking
 mod Putting

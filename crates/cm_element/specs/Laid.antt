@@ -1,6 +1,5 @@
 -- Chips of one run copied into another: ours.
-use Rattle.std.specs.Prelude.{◌≡◌, ◌⊎◌, ℕ, ◌+◌, ◌*◌, ◌<◌, ◌≤◌, List, cond, length, slice_index}
-use Rattle.cm_bits.specs.Bit.{bit}
+use Rattle.std.specs.Prelude.{◌≡◌, ◌⊎◌, ℕ, ◌+◌, ◌*◌, ◌<◌, ◌≤◌, List, length, slice_index}
 use Rattle.cm_model.specs.Array.{Chips, chip_at}
 use Rattle.cm_element.specs.declared.run.lay.Band.{Band}
 
@@ -41,15 +40,3 @@ IsRowLaid at source count from old new = IsRowPut at count (λ c. slice_index fr
 abbrev pub IsRowTurned : ℕ → ℕ → ℕ → ℕ → List ℕ → List ℕ → List ℕ → Type 0
 IsRowTurned at source pitch count from old new =
     IsRowPut at count (λ c. slice_index from (c * pitch + source)) old new
-
--- at each of so many addresses from one on a plane was stored where bits are chosen, from a place of the row on; the
--- planes lie 64 words apart, and the rows are else as they were
-pub record ArePlanesStored (at count : ℕ) (here : Band) (chosen planes old new : List ℕ) : Type 0 where
-  pub each : (k c : ℕ) → k < count → here.first + c < here.stride → (p : ℕ)
-      → bit (slice_index new ((at + k) * here.stride + (here.first + c))) p
-      ≡ cond (bit (slice_index chosen c) p) (bit (slice_index planes (64 * k + c)) p)
-      (bit (slice_index old ((at + k) * here.stride + (here.first + c))) p)
-  pub before : (a c : ℕ) → c < here.first
-      → slice_index new (a * here.stride + c) ≡ slice_index old (a * here.stride + c)
-  pub others : (a c : ℕ) → c < here.stride → (a < at) ⊎ (at + count ≤ a)
-      → slice_index new (a * here.stride + c) ≡ slice_index old (a * here.stride + c)

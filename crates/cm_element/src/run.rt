@@ -11,7 +11,6 @@ ghost use Rattle.cm_model.specs.Whole.{IsChip};
 ghost use Rattle.cm_element.specs.Steps.{AreSent, along_chain};
 
 mod bits;
-mod fields;
 mod flags;
 mod lay;
 mod memory;
@@ -40,9 +39,6 @@ const PADDING: usize = 32;
 
 /// So many words lie the planes of two chips apart where they lie chip by chip, and for the same reason.
 pub const PITCH: usize = 4128;
-
-/// So many words lie the planes of a memory field apart that are put into the rows at once.
-pub const APART: usize = 64;
 
 /// Chips with consecutive numbers, kept as one row of planes for each address and for each flag.
 ///

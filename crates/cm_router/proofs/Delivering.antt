@@ -1,11 +1,11 @@
 -- Delivery on one chip, message by message: what has been delivered and kept when one more was gone through.
-use Rattle.std.proofs.Common.{◌≡◌, ℕ, ◌<◌, ◌==◌, ◌&&◌, ◌||◌, Bool, true, false, not, if◌then◌else◌, List, []}
-use Rattle.std.proofs.Common.{◌∷◌, ◌++◌, length, None, refl, sym, ◌∙◌, arith}
+use Rattle.std.proofs.Common.{◌≡◌, ℕ, ◌<◌, ◌==◌, ◌&&◌, ◌||◌, Bool, true, false, not, cond, if◌then◌else◌, List, []}
+use Rattle.std.proofs.Common.{◌∷◌, ◌++◌, length, Option, Some, None, refl, sym, ◌∙◌, arith}
 use Rattle.std.proofs.Common.{get_or-set_same, get_or-set_other, length-set, set, ap, ◌-◌, ◌*◌, ◌%◌, ◌^◌, ◌≢◌, bit_and, lit<, mod-lt}
 use Rattle.std.proofs.Math.Bool.{and-true}
 use Rattle.std.proofs.lemmas.Bool.{and_parts, eqb-true}
 use Rattle.std.proofs.lemmas.Bool.Decides.{nat_tests}
-use Rattle.std.proofs.lemmas.List.{append-nil}
+use Rattle.std.proofs.lemmas.List.{append-nil, set-set}
 use Rattle.std.proofs.lemmas.List.Elements.{All-tail}
 use Rattle.std.proofs.lemmas.Nat.{one_shl}
 use Rattle.std.proofs.lemmas.Nat.Bits.{bit_at-pow_same, bit_at-pow_other}
@@ -13,9 +13,10 @@ use Rattle.cm_bits.specs.Bit.{bit}
 use Rattle.cm_model.specs.Array.{Chips, chip_at}
 use Rattle.std.proofs.lemmas.List.Folds.{find-append}
 use Rattle.std.specs.List.{find}
+use Rattle.cm_model.specs.declared.letters.TheConstants.{RECEIVED_PAYLOAD}
 use Rattle.cm_model.specs.declared.message.Message.{Message}
-use Rattle.cm_model.specs.Processor.{Processor}
-use Rattle.cm_model.specs.Chip.{processor_at, no_processor}
+use Rattle.cm_model.specs.Processor.{Processor, RECV}
+use Rattle.cm_model.specs.Chip.{processor_at, no_processor, with_flag}
 use Rattle.cm_model.specs.Whole.{IsChip}
 use Rattle.cm_model.specs.Letters.{can_receive, has_arrived, is_for, is_among, processor_after_delivery}
 use Rattle.cm_model.specs.Letters.{chip_after_delivery}
@@ -25,6 +26,7 @@ use Rattle.cm_model.proofs.Each.{is_each, same_each_below, get_or-each_below}
 use Rattle.cm_model.proofs.Bits.{bit-bit_and, bit-bit_not}
 use Rattle.cm_model.proofs.Scan.{out_of}
 use Rattle.cm_model.proofs.Wholes.{IsChip-after_delivery}
+use Rattle.cm_element.specs.Wide.{with_memory_field}
 use Rattle.cm_router.specs.declared.delivery.Delivery.{Delivery}
 use Rattle.cm_router.specs.Deliveries.{chip_handed, run_after, AreBefore}
 
@@ -105,6 +107,17 @@ handed_over b before seen m chip gone is known =
       kept_is = kept-more (can_receive before) [] seen m ∙ rw accepted refl;
     }
 
+-- a chip of which one processor was changed
+ruleset chip_set = (length-set, get_or-set_same, get_or-set_other)
+
+-- a payload put into the field and a 1 into the flag, one after the other, are what delivery leaves
+pub received_is : (m : Message) (chip : List Processor) → length chip ≡ 16 → m.proc < 16
+    → with_flag (with_memory_field chip m.proc RECEIVED_PAYLOAD 32 m.payload) m.proc RECV true
+    ≡ chip_after_delivery (m ∷ []) chip
+unfolding with_flag with_memory_field chip_after_delivery
+received_is m chip long there =
+    is_each no_processor 16 _ _ (grind (arith, chip_set)) (λ p h. grind (arith, nat_tests, chip_set))
+
 pub nobody_yet : (chip : List Processor) → IsChip chip → chip ≡ chip_after_delivery [] chip
 unfolding chip_after_delivery
 nobody_yet chip whole = is_each no_processor 16 (λ p. processor_at chip p) chip whole.count (λ p h. refl)
@@ -116,6 +129,8 @@ nothing_seen chip whole = record {
   chip_is = nobody_yet chip whole;
   «open» = λ p h. sym (and-true (can_receive chip p));
 }
+
+pub ruleset received = (received_is, get_or-set_same, set-set)
 
 -- ---- deliveries that are put down later
 

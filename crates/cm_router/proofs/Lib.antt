@@ -1,5 +1,4 @@
 pub mod Delivering
-pub mod Telling
 pub mod Taking
 pub mod Rooms
 pub mod Oldest

@@ -5,4 +5,3 @@ pub mod Places
 pub mod Cuts
 pub mod Routes
 pub mod Deliveries
-pub mod Tiles

@@ -12,10 +12,8 @@ ghost use Rattle.cm_model.specs.Letters.{has_arrived, can_receive, chip_after_de
 ghost use Rattle.cm_model.specs.Delivery.{HasGone, HasHandedOver};
 ghost use Rattle.cm_router.specs.Logs.{log_room};
 ghost use Rattle.cm_router.specs.Deliveries.{chip_handed, run_after, AreBefore};
-ghost use Rattle.cm_router.specs.Tiles.{run_told, AreWhole, IsTile};
 
-use crate::letters::{is_one, received, tell_delivered};
-use crate::tile::Tile;
+use crate::letters::{is_one, receive, received, tell_delivered};
 use arrayvec::ArrayVec;
 use cm_bits::{FlagNo, Plane};
 use cm_element::Run;
@@ -145,44 +143,25 @@ impl Deliveries {
     }
 }
 
-/// Those for chips that stand near each other are put into their memory at once.
 fn put_all_down(deliveries: &[Delivery], run: &mut Run)
     requires within { AreBefore (length run.old) deliveries.now }
     ensures value { run.new ≡ run_after deliveries.now run.old }
     ensures chips { length run.new ≡ length run.old }
 {
-    if deliveries.is_empty() {
-        return;
-    }
-    let mut tile = Tile::blank(deliveries[0].place);
-    // Looked at for what it tells: every chip is whole.
-    let _ = run.flag_row(FlagNo::RECV);
     for delivery in deliveries {
-        write_down(&mut tile, delivery, run);
+        put_one_down(delivery, run);
     }
-    tile.put_down(run);
 }
 
-/// Writes one delivery down in a tile, which is put down before if it has no room for it.
-fn write_down(tile: &mut Tile, delivery: &Delivery, run: &mut Run)
-    requires tile { IsTile tile.old }
-    requires within { tile.old.first + tile.old.span ≤ length run.old }
-    requires whole { AreWhole run.old }
+/// The payload of a message stands at its processor then, and RECV is 1.
+fn put_one_down(delivery: &Delivery, run: &mut Run)
     requires place { delivery.now.place < length run.old }
-    ensures tile { IsTile tile.new }
-    ensures within { tile.new.first + tile.new.span ≤ length run.new }
-    ensures whole { AreWhole run.new }
-    ensures value { run_told tile.new run.new ≡ slice_set (run_told tile.old run.old) delivery.now.place
-        (chip_after_delivery (delivery.now.message ∷ []) (chip_at (run_told tile.old run.old) delivery.now.place)) }
-    ensures chips { length run.new ≡ length run.old }
+    ensures value { run.new ≡ slice_set run.old delivery.now.place
+        (chip_after_delivery (delivery.now.message ∷ []) (chip_at run.old delivery.now.place)) }
 {
-    if tile.takes(delivery) {
-        tile.write(delivery);
-        return;
-    }
-    tile.put_down(run);
-    *tile = Tile::blank(delivery.place);
-    tile.write(delivery);
+    // Looked at for what it tells of the chip and of the processor's number.
+    let _ = is_one(received(run, delivery.place), delivery.message.proc);
+    receive(run, delivery.place, &delivery.message);
 }
 
 /// Nothing is done: a chip to which nothing is delivered stays as it is.

@@ -10,7 +10,7 @@ ghost use Rattle.cm_model.specs.Chip.{IsPlane, processor_at};
 ghost use Rattle.cm_model.specs.Array.{chip_at};
 ghost use Rattle.cm_model.specs.Whole.{IsChip};
 ghost use Rattle.cm_model.specs.Letters.{senders_taken, is_among, message_sent};
-ghost use Rattle.cm_model.specs.Letters.{chip_after_injection};
+ghost use Rattle.cm_model.specs.Letters.{chip_after_injection, chip_after_delivery};
 ghost use Rattle.cm_router.specs.Idle.{IsIdle};
 ghost use Rattle.cm_router.specs.Logs.{log_room};
 
@@ -118,6 +118,24 @@ pub(crate) fn received(run: &Run, chip: u16) -> Plane
     ensures whole { IsChip (chip_at run.now chip) }
 {
     run.flag_plane(chip, FlagNo::RECV)
+}
+
+/// Leaves the payload at the processor that the message is for.
+#[tactic(auto, using(crate::proofs::Delivering::received))]
+pub(crate) fn receive(run: &mut Run, chip: u16, message: &Message)
+    requires chip { chip < length run.old }
+    requires whole { IsChip (chip_at run.old chip) }
+    requires there { message.now.proc < 16 }
+    ensures value { run.new ≡ slice_set run.old chip (chip_after_delivery (message.now ∷ []) (chip_at run.old chip)) }
+{
+    run.poke_field(
+        chip,
+        message.proc,
+        payload_field(),
+        u64::from(message.payload),
+    );
+    run.poke_flag(chip, message.proc, FlagNo::RECV, true)
+        .unwrap();
 }
 
 /// Whether the bit of a processor is 1 in a plane.

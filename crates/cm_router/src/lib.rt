@@ -7,7 +7,6 @@ mod leaving;
 mod letters;
 mod node;
 mod routing;
-mod tile;
 
 pub use cm_message::{Event, Message, Rule, Tag};
 pub use cuts::Cuts;

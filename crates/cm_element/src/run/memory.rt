@@ -1,9 +1,9 @@
 //! The rows of memory of a run, of which only those that are in use are kept.
 
 ghost use Rattle.std.specs.Prelude.{◌≡◌, ℕ, ◌+◌, ◌*◌, ◌<◌, ◌≤◌, ◌^◌, false, List, length, slice_index, slice_set};
-ghost use Rattle.std.specs.Prelude.{IfOk, IsTrue, replicate, vec_capacity};
+ghost use Rattle.std.specs.Prelude.{IfOk, replicate, vec_capacity};
 ghost use Rattle.cm_model.specs.Array.{chip_at};
-ghost use Rattle.cm_element.specs.Laid.{AreLaidRows, ArePlanesStored, AreTurnedRows, IsRowLaid, IsRowTurned};
+ghost use Rattle.cm_element.specs.Laid.{AreLaidRows, AreTurnedRows, IsRowLaid, IsRowTurned};
 ghost use Rattle.cm_element.specs.Runs.{chips_of, AreRows};
 ghost use Rattle.cm_element.specs.Sparse.{spread, AreSlots};
 ghost use Rattle.cm_element.specs.Steps.{ArePlaces, IsStored};
@@ -13,7 +13,7 @@ ghost use Rattle.cm_rows.specs.Rows.{IsComputed};
 use crate::run::lay::{Band, turn_row, write_row};
 use crate::run::outputs::store_row;
 use crate::run::rows::put_row;
-use crate::run::{ADDRESSES, APART, PITCH};
+use crate::run::{ADDRESSES, PITCH};
 use crate::word::{bit_of, with_bit};
 use cm_bits::{Field, NoMemory, Plane, Proc};
 use cm_model::Nano;
@@ -268,47 +268,6 @@ impl MemoryRows {
         store_row(&mut self.words, here, holds, planes);
     }
 
-    /// Stores planes, which lie `APART` words apart, at addresses that follow each other, where bits are chosen: from a
-    /// place of each row on.
-    pub(crate) fn store_planes(
-        &mut self,
-        at: usize,
-        count: usize,
-        here: Band,
-        chosen: &[Plane],
-        planes: &[Plane],
-    )
-        requires at { at + count ≤ 4096 }
-        requires words { length self.old ≡ 4096 * here.stride }
-        requires chosen { length chosen.now ≤ 64 }
-        requires here { here.first + length chosen.now ≤ here.stride }
-        requires planes { 64 * count ≤ length planes.now }
-        ensures value { ArePlanesStored at count here chosen.now planes.now self.old self.new }
-        ensures words { length self.new ≡ length self.old }
-    {
-        for i in 0..count {
-            let first = APART * i;
-            self.store_plane(at + i, here, chosen, &planes[first..first + chosen.len()]);
-        }
-    }
-
-    /// Stores one of them. Where its address has no row yet, zeros need none.
-    fn store_plane(&mut self, at: usize, here: Band, chosen: &[Plane], plane: &[Plane])
-        requires at { at < 4096 }
-        requires words { length self.old ≡ 4096 * here.stride }
-        requires chosen { length chosen.now ≡ length plane.now }
-        requires here { here.first + length plane.now ≤ here.stride }
-        ensures value { IsStored (at * here.stride + here.first) chosen.now plane.now self.old self.new }
-        ensures words { length self.new ≡ length self.old }
-    {
-        if self.slots[at] == 0 && is_blank(plane) {
-            return;
-        }
-        self.used = own(&mut self.words, &mut self.slots, self.used, self.stride, at);
-        let place = start(&self.words, &self.slots, self.used, self.stride, at) + here.first;
-        store_row(&mut self.words, place, chosen, plane);
-    }
-
     /// Copies so many words of each row of others. Where no row is in use, zeros need no copy.
     pub(crate) fn lay(&mut self, here: Band, from: &MemoryRows, there: Band, count: usize)
         requires to { length self.old ≡ 4096 * here.stride }
@@ -409,18 +368,6 @@ impl MemoryRows {
         let place = start(&self.words, &self.slots, self.used, self.stride, row) + here.first;
         put_row(&mut self.words, place, words);
     }
-}
-
-/// Whether all words are 0.
-fn is_blank(words: &[Plane]) -> bool
-    ensures blank { IsTrue result → (i : ℕ) → slice_index words.now i ≡ 0 }
-{
-    for word in words {
-        if *word != 0 {
-            return false;
-        }
-    }
-    true
 }
 
 /// Where the row of an address begins, or that of zeros, which it shares.
