@@ -16,7 +16,7 @@ use cm_cli::{TakeFault, take};
 use cm_fresh::{FreshFault, fresh};
 use cm_front::front_image;
 use cm_lab::{LabFault, RouteFault, perform};
-use cm_lab_line::{Asked, Blank, Command, Given, Loads, command};
+use cm_lab_line::{Asked, Blank, Command, Given, Loads, read_words};
 use cm_source::expand;
 use cm_way::plot;
 use std::alloc::Global;
@@ -76,7 +76,7 @@ fn run<R: Input + Print + Eprint + Env + Files + Clock + AllocGlobal>(
             return Err(Fault::Memory);
         }
     }
-    match command(alloc, words.as_slice()) {
+    match read_words(alloc, words.as_slice()) {
         Ok(command) => obey(rt, alloc, command),
         Err(fault) => Err(Fault::command(fault)),
     }

@@ -1,6 +1,6 @@
 //! Command lines of the laboratory: what is told of words that ask for nothing, and that others are taken.
 
-use cm_lab_line::{Command, CommandFault, Loads, command};
+use cm_lab_line::{Command, CommandFault, Loads, read_words};
 use cm_load::Pattern;
 use std::alloc::Global;
 
@@ -167,7 +167,7 @@ fn read<'a>(alloc: Global, text: &'a str) -> Result<Command<'a>, CommandFault> {
             return Err(CommandFault::Memory);
         }
     }
-    command(alloc, &words)
+    read_words(alloc, &words)
 }
 
 /// Whether these words are told to ask for nothing.

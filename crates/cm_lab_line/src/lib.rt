@@ -12,4 +12,4 @@ pub use fault::CommandFault;
 pub use help::HELP;
 pub use loads::Loads;
 pub use operands::Operand;
-pub use reading::{Asked, Blank, Command, Given, command};
+pub use reading::{Asked, Blank, Command, Given, read_words};

@@ -65,7 +65,7 @@ pub struct Asked<'a> {
 }
 
 /// Reads the words, of which the first is the program's name.
-pub fn command<'a>(alloc: Global, words: &[&'a str]) -> Result<Command<'a>, CommandFault> {
+pub fn read_words<'a>(alloc: Global, words: &[&'a str]) -> Result<Command<'a>, CommandFault> {
     if let Some(option) = given_twice(words) {
         return Err(CommandFault::twice(alloc, option));
     }
