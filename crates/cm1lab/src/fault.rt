@@ -1,10 +1,9 @@
 //! Why the program ends with a status other than 0, and what it tells then.
 
-use crate::words::{HELP, Operand};
-use cm_bits::FieldFault;
 use cm_fresh::FreshFault;
 use cm_front::{FrontFault, ImageFault, SessionFault};
 use cm_lab::{LabFault, NumbersFault};
+use cm_lab_line::{CommandFault, HELP};
 use cm_load::LoadFault;
 use cm_plot::PlotFault;
 use cm_source::{AsmKind, SourceFault, SourceKind};
@@ -15,27 +14,9 @@ use thiserror::Error;
 /// A fault of the whole program.
 #[derive(Debug, Drop, Error)]
 pub enum Fault {
-    /// The words ask for help, which is no fault.
-    #[error("help")]
-    Help,
-    #[error("cm1lab: what is to be done? cm1lab --help tells what can be")]
-    Words,
-    /// No command has this name.
-    #[error("cm1lab: unknown command `{word}`; cm1lab --help tells all")]
-    UnknownCommand { word: String },
-    /// A command has no option of this name. Its words are those that help tells.
-    #[error("cm1lab: unknown option `{word}`; wanted is cm1lab {usage}")]
-    UnknownOption { word: String, usage: String },
-    #[error("cm1lab: {word} is given twice")]
-    Twice { word: String },
-    /// A command has other words. They are those that help tells.
-    #[error("cm1lab: wanted is cm1lab {usage}")]
-    Usage { usage: String },
-    /// A word that is not what is wanted in its place, which help has by this name.
-    #[error("cm1lab: {name} is {wanted}, not `{word}`", name = .operand.name, wanted = .operand.wanted)]
-    Operand { operand: Operand, word: String },
+    /// The words ask for nothing, or for help.
     #[error("cm1lab: {0}")]
-    Field(FieldFault),
+    Command(CommandFault),
     #[error("cm1lab: {0}")]
     Fresh(FreshFault),
     #[error("cm1lab: {0}")]
@@ -65,35 +46,11 @@ pub enum Fault {
 }
 
 impl Fault {
-    /// A word that names no command.
-    pub fn command(alloc: Global, word: &str) -> Fault {
-        match String::from_str(alloc, word) {
-            Ok(word) => Fault::UnknownCommand { word },
-            Err(_) => Fault::Memory,
-        }
-    }
-
-    /// A word that is no option of a command of these words.
-    pub fn option(alloc: Global, word: &str, usage: String) -> Fault {
-        match String::from_str(alloc, word) {
-            Ok(word) => Fault::UnknownOption { word, usage },
-            Err(_) => Fault::Memory,
-        }
-    }
-
-    /// An option that is given twice.
-    pub fn twice(alloc: Global, word: &str) -> Fault {
-        match String::from_str(alloc, word) {
-            Ok(word) => Fault::Twice { word },
-            Err(_) => Fault::Memory,
-        }
-    }
-
-    /// A word that is not what is wanted in its place.
-    pub fn operand(alloc: Global, operand: Operand, word: &str) -> Fault {
-        match String::from_str(alloc, word) {
-            Ok(word) => Fault::Operand { operand, word },
-            Err(_) => Fault::Memory,
+    /// Why the words of the command line ask for nothing.
+    pub fn command(fault: CommandFault) -> Fault {
+        match fault {
+            CommandFault::Memory => Fault::Memory,
+            fault => Fault::Command(fault),
         }
     }
 
@@ -157,13 +114,9 @@ impl Fault {
     /// The exit status: 2 for words that ask for nothing, 3 for want of memory, 4 for a file, else 1. Help is no fault.
     pub fn status(&self) -> u8 {
         match self {
-            Fault::Help => 0,
-            Fault::Words
-            | Fault::UnknownCommand { .. }
-            | Fault::UnknownOption { .. }
-            | Fault::Twice { .. }
-            | Fault::Usage { .. }
-            | Fault::Operand { .. } => 2,
+            Fault::Command(CommandFault::Help) => 0,
+            Fault::Command(CommandFault::Field(_)) => 1,
+            Fault::Command(_) => 2,
             Fault::Memory => 3,
             Fault::File { .. } | Fault::Input(_) | Fault::Output => 4,
             _ => 1,
@@ -173,7 +126,7 @@ impl Fault {
     /// Tells it on standard error; help goes to standard output.
     pub fn tell<R: Print + Eprint>(&self, rt: &R) -> io::Result<()> {
         match self {
-            Fault::Help => rt.println(HELP),
+            Fault::Command(CommandFault::Help) => rt.println(HELP),
             fault => rt.eprintln(fault),
         }
     }

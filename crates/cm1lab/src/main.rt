@@ -1,24 +1,24 @@
 //! The laboratory: data and pictures of all processors, out of a machine's image and into it, studies of its router, a
-//! front end, the programs of sources, blank machines, loads, and pictures of tables. This is its words, its files, its
-//! standard input and output; what it does is in cm_lab, cm_front, cm_source, cm_fresh, cm_load and cm_plot.
+//! front end, the programs of sources, blank machines, loads, and pictures of tables and routes. This is its files, its
+//! standard input and output; its words are in cm_lab_line, what it does in cm_lab, cm_front, cm_source, cm_fresh,
+//! cm_load and cm_way.
 #![tactic(auto)]
 
 mod fault;
 mod files;
 mod loads;
-mod words;
 
 use crate::fault::Fault;
 use crate::files::{read_file, write_file};
-use crate::loads::{Loads, measure_all};
-use crate::words::{Asked, Blank, Given, Wanted, read_words};
+use crate::loads::measure_all;
 use cm_bits::{Std, write_all};
 use cm_cli::{TakeFault, take};
 use cm_fresh::{FreshFault, fresh};
 use cm_front::front_image;
 use cm_lab::{LabFault, RouteFault, perform};
-use cm_plot::plot;
+use cm_lab_line::{Asked, Blank, Command, Given, Loads, read_words};
 use cm_source::expand;
+use cm_way::plot;
 use std::alloc::Global;
 use std::io::Write;
 use std::process::ExitCode;
@@ -76,17 +76,29 @@ fn run<R: Input + Print + Eprint + Env + Files + Clock + AllocGlobal>(
             return Err(Fault::Memory);
         }
     }
-    match read_words(alloc, words.as_slice())? {
-        Wanted::Task(asked) => work(rt, alloc, &asked),
-        Wanted::Front { image, out } => converse(rt, alloc, image, out),
-        Wanted::Expand { source } => unfold(rt, alloc, source),
-        Wanted::Fresh(blank) => begin(rt, alloc, &blank),
-        Wanted::Load(loads) => load(rt, alloc, &loads),
-        Wanted::Plot { file } => draw(rt, alloc, file),
+    match read_words(alloc, words.as_slice()) {
+        Ok(command) => obey(rt, alloc, command),
+        Err(fault) => Err(Fault::command(fault)),
     }
 }
 
-/// The picture of a table.
+/// Does a command.
+fn obey<R: Input + Print + Eprint + Files + Clock + AllocGlobal>(
+    rt: &R,
+    alloc: Global,
+    command: Command<'_>,
+) -> Result<(), Fault> {
+    match command {
+        Command::Task(asked) => work(rt, alloc, &asked),
+        Command::Front { image, out } => converse(rt, alloc, image, out),
+        Command::Expand { source } => unfold(rt, alloc, source),
+        Command::Fresh(blank) => begin(rt, alloc, &blank),
+        Command::Load(loads) => load(rt, alloc, &loads),
+        Command::Plot { file } => draw(rt, alloc, file),
+    }
+}
+
+/// The picture of a table or a route.
 fn draw<R: Input + Print + Files>(rt: &R, alloc: Global, file: Option<&str>) -> Result<(), Fault> {
     let table = read_table(rt, alloc, file)?;
     match plot(alloc, table.as_slice()) {

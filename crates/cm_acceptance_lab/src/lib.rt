@@ -18,6 +18,8 @@ mod grid;
 #[cfg(test)]
 mod growths;
 #[cfg(test)]
+mod lines;
+#[cfg(test)]
 mod loads;
 #[cfg(test)]
 mod performed;

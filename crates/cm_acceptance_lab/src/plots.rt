@@ -1,7 +1,8 @@
-//! Pictures of tables: what stands in them, and which fault of a text is told.
+//! Pictures of tables and routes: what stands in them, and which fault of a text is told.
 
 use cm_draws::{Call, first_not_so};
-use cm_plot::{PlotFault, plot};
+use cm_plot::PlotFault;
+use cm_way::plot;
 use std::alloc::Global;
 
 /// A table, and texts that its picture has, one behind another.
@@ -12,7 +13,7 @@ struct Row {
 }
 
 // Places are counted by hand: a panel is 5600 wide and 2400 high, and a tick is 1, 2 or 5 with zeros behind.
-static ROWS: [Row; 5] = [
+static ROWS: [Row; 9] = [
     // Petit cycles 10 to 14, a tick for each; up to 4 messages, a tick for each.
     Row {
         table: "cycle,taken,delivered,referred,standing,full,asking
@@ -105,6 +106,64 @@ static ROWS: [Row; 5] = [
             "</svg>\n",
         ],
     },
+    // A name of fifteen letters, and one of sixteen; what is written upward has 33.
+    Row {
+        table: "rate:what is written upward, 33 letter,fifteen letters,sixteen letters!\n1,1,2\n",
+        parts: &[
+            "rotate(-90)'>what is written upward, 33 lett&#8230;</text>\n",
+            ">fifteen letters</text>\n",
+            ">sixteen letter&#8230;</text>\n</g>\n</svg>\n",
+        ],
+    },
+    // Petit cycles 8 and 9, two dimensions in each; four rows, of the chips 0, 1, 3 and 2.
+    Row {
+        table: "cycle 8: 0 -> 1 -> 3, referred in 0, place 1 of 1
+cycle 9: 3 -> 2 -> 0, referred in 1, place 1 of 1
+stands at 0, for processor 3 of chip 2
+",
+        parts: &[
+            " height='390' viewBox='0 0 8300 3900' ",
+            ">The way of a message</text>\n",
+            "<g transform='translate(1000,600)'>\n",
+            "d='M0 0v2400'/><text y='2600' x='0'>8</text>\n",
+            "d='M5600 0v2400'/><text y='2600' x='5600'>10</text>\n",
+            "d='M0 300h5600'/><text text-anchor='end' x='-80' y='350'>0</text>\n",
+            "d='M0 900h5600'/><text text-anchor='end' x='-80' y='950'>1</text>\n",
+            "d='M0 1500h5600'/><text text-anchor='end' x='-80' y='1550'>3</text>\n",
+            "d='M0 2100h5600'/><text text-anchor='end' x='-80' y='2150'>2</text>\n",
+            ">petit cycle</text>\n",
+            ">chip</text>\n",
+            "stroke='#0072b2' points=' 0,300 0,300 0,300 1400,900 1400,900 2800,1500 2800,1500 2800,1500",
+            " 2800,1500 2800,1500 2800,1500 4200,2100 4200,2100 5600,300 5600,300 5600,300'/>\n",
+            "stroke='#d55e00' points='0,300 1400,900'/>\n",
+            "stroke='#d55e00' points='4200,2100 5600,300'/>\n",
+            "<circle r='40' cx='0' cy='300' fill='#009e73'/>\n",
+            ">way</text>\n",
+            ">referred</text>\n",
+            ">begins</text>\n",
+            ">delivered</text>\n</g>\n</svg>\n",
+        ],
+    },
+    // One dimension; delivered at the end of the petit cycle.
+    Row {
+        table: "cycle 0: 0 -> 1, delivered to processor 5\n",
+        parts: &[
+            "points=' 0,600 0,600 0,600 5600,1800 5600,1800 5600,1800'/>\n",
+            "<circle r='40' cx='5600' cy='1800' fill='#cc79a7'/>\n",
+            "<circle r='40' cx='0' cy='600' fill='#009e73'/>\n",
+            ">delivered</text>\n</g>\n</svg>\n",
+        ],
+    },
+    // One that stays.
+    Row {
+        table: "cycle 2: 8, stays, place 2 of 3\nstands at 8, for processor 0 of chip 0\n",
+        parts: &[
+            "d='M0 1200h5600'/><text text-anchor='end' x='-80' y='1250'>8</text>\n",
+            "points=' 0,1200 0,1200 5600,1200 5600,1200'/>\n",
+            "<circle r='40' cx='0' cy='1200' fill='#009e73'/>\n",
+            "</svg>\n",
+        ],
+    },
 ];
 
 /// Whether a text has these parts, one behind another, and ends with the last.
@@ -137,7 +196,7 @@ struct Refused {
     fault: PlotFault,
 }
 
-static REFUSED: [Refused; 11] = [
+static REFUSED: [Refused; 14] = [
     Refused {
         text: "",
         fault: PlotFault::Unknown,
@@ -182,6 +241,18 @@ static REFUSED: [Refused; 11] = [
         text: "rate,N\n1,-1\n",
         fault: PlotFault::Row(2, 2),
     },
+    Refused {
+        text: "stands at 3, for processor 3 of chip 2\n",
+        fault: PlotFault::Nothing,
+    },
+    Refused {
+        text: "cycle 0: 0 -> 1, place 1 of 1\ncycle x: 1, stays, place 1 of 1\n",
+        fault: PlotFault::Route(2),
+    },
+    Refused {
+        text: "cycle 1125899906842624: 0, stays, place 1 of 1\n",
+        fault: PlotFault::Route(1),
+    },
 ];
 
 /// The place of the first that is not refused so.
@@ -190,7 +261,7 @@ fn first_not_refused(alloc: Global) -> Option<usize> {
 }
 
 #[test]
-fn the_first_fault_of_a_table_is_told(rt: HostRuntime) {
+fn the_first_fault_of_a_table_or_a_route_is_told(rt: HostRuntime) {
     assert_eq!(rt; first_not_refused(rt.alloc()), None);
 }
 

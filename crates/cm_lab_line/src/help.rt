@@ -1,0 +1,82 @@
+//! What help tells, and of it the words of one command.
+
+use crate::fault::CommandFault;
+use std::alloc::Global;
+
+/// What help tells.
+pub const HELP: &str = "\
+Data and pictures of all processors, out of the image of a machine and into it
+
+cm1lab get IMAGE ADDRESS LENGTH
+cm1lab get IMAGE flag NUMBER
+    tells the number that each processor has in a memory field, or its flag, a line for each chip
+cm1lab rows IMAGE ADDRESS LENGTH
+cm1lab rows IMAGE flag NUMBER
+    tells the same, a line for each row of the grid, the north row first
+cm1lab put [--rows] IMAGE ADDRESS LENGTH OUT < NUMBERS
+    puts a number into the field of each processor, and the image into the file OUT;
+    they come chip by chip, with --rows row by row of the grid
+cm1lab picture [--plain | --png] IMAGE flag NUMBER
+cm1lab picture [--plain | --png] IMAGE ADDRESS LENGTH
+cm1lab picture [--plain | --png] IMAGE buffers
+    tells a picture, the north row above, with a dot for each processor: its flag, or its
+    number in a memory field; or with a dot for each chip: how many messages stand there;
+    PBM (1 is black) where a dot has one bit, else PGM (0 is black), with --plain as a text;
+    with --png a PNG in the same black and white
+cm1lab paint IMAGE PICTURE ADDRESS OUT
+    puts the dots of the file PICTURE, a PBM or a PGM, into a field of each processor that
+    begins at ADDRESS and has as many bits as a dot, and the image into the file OUT
+cm1lab study IMAGE PROGRAM
+    runs the program and tells a table, a line for each petit cycle: messages that were
+    taken in, delivered, referred, that stand in routers then, full routers, and
+    processors that still ask to send
+cm1lab study --messages IMAGE PROGRAM
+    tells a line for each message: who sent it and in which petit cycle, where it is
+    bound for, when it was delivered, how many dimensions it crossed, how often it was
+    referred
+cm1lab route IMAGE PROGRAM CHIP PROC CYCLE
+    runs the program and tells the way of the message that processor PROC of CHIP sent and
+    that was taken in in petit cycle CYCLE: a line for each petit cycle with the chips on its
+    way, the dimensions in which it was referred, and its place in the router where it stands
+cm1lab front IMAGE [--out FILE]
+    takes the place of the front end: each line of standard input is one of a program, whose
+    acts are run at once and which is answered ok, sense by the wire as it is, or a question
+    as to cm1 run; at the end the image of the machine goes into FILE
+cm1lab expand SOURCE > PROGRAM
+    tells the program of a source, which has constants, lines that are repeated, and lines
+    for a field from a neighbour or along the chain, for bits, and for a number added
+cm1lab fresh N CAP [--cut CHIP DIM].. [--rule R] FILE
+    puts the image of a blank machine of 2^N chips with room for CAP messages in each router,
+    1 to 15, into FILE; the wire of CHIP over dimension DIM is cut, by whichever end it is
+    named; rule 0, who came first goes first, or rule 1, the oldest
+cm1lab load N CAP RATE[,RATE].. CYCLES [--rule R] [--pattern P] [--until T] [--seed S]
+    tells a table, a line for each RATE of messages that the processors of a chip offer in a
+    petit cycle, as 0.5: what was offered, taken in and delivered on such a blank machine, and
+    how many petit cycles that took; P is uniform, transpose, reversal or hotspot; with
+    --until only the first T petit cycles offer; S draws others
+cm1lab plot [FILE] > PICTURE
+    tells a picture, an SVG, of a table that cm1lab study, cm1lab study --messages or cm1lab
+    load told, or of what cm1lab route told, which is in FILE or on standard input: lines over
+    petit cycles, over how long messages took, or over the rate, or the way of the message;
+    also of a table that compares loads: its first line begins with rate and has at most nine
+    names more, with commas between, and each line behind it has their numbers
+
+ADDRESS is that of the field's lowest bit, 0 to 4095, and LENGTH how many bits it has, 1 to 64.
+IMAGE is a file that cm1 fresh, cm1 run --out or cm1lab wrote, PROGRAM a text as for cm1 run.";
+
+/// The words of a command as help tells them; nothing where it tells of none of this name.
+pub(crate) fn usage_of(alloc: Global, command: &str) -> Result<String, CommandFault> {
+    let mut usage = String::new(alloc);
+    for line in HELP.lines() {
+        let Some(words) = line.strip_prefix("cm1lab ") else {
+            continue;
+        };
+        if words.split(' ').next() == Some(command) {
+            let between = if usage.is_empty() { "" } else { ", or " };
+            if usage.push_str(between).is_err() || usage.push_str(words).is_err() {
+                return Err(CommandFault::Memory);
+            }
+        }
+    }
+    Ok(usage)
+}
