@@ -201,7 +201,7 @@ fn has_all_options(loads: &Loads) -> bool {
         && trial.until == 7
         && trial.seed == 9
         && trial.cycles == 1000000
-        && loads.rates.as_slice() == &[0, 50, 1600]
+        && loads.rates.as_slice() == [0, 50, 1600].as_slice()
 }
 
 fn takes_all_options(alloc: Global) -> bool {
