@@ -108,9 +108,9 @@ static ROWS: [Row; 9] = [
     },
     // A name of fifteen letters, and one of sixteen; what is written upward has 33.
     Row {
-        table: "rate:what is written upward, 33 letter,fifteen letters,sixteen letters!\n1,1,2\n",
+        table: "rate:what is written upward; 33 letter,fifteen letters,sixteen letters!\n1,1,2\n",
         parts: &[
-            "rotate(-90)'>what is written upward, 33 lett&#8230;</text>\n",
+            "rotate(-90)'>what is written upward; 33 lett&#8230;</text>\n",
             ">fifteen letters</text>\n",
             ">sixteen letter&#8230;</text>\n</g>\n</svg>\n",
         ],
