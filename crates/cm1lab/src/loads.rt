@@ -1,6 +1,7 @@
 //! Loads of the router: how one after another is measured.
 
 use crate::fault::Fault;
+use crate::progress::seconds_since;
 use cm_lab_line::Loads;
 use cm_load::{Figures, LoadFault, table};
 use std::alloc::Global;
@@ -26,7 +27,7 @@ pub fn measure_all<R: Eprint + Clock>(
         if measured.push(figures).is_err() {
             return Err(Fault::Memory);
         }
-        if takes_long(rt, began) {
+        if seconds_since(rt, began) >= 1 {
             tell_progress(rt, &figures, measured.len(), loads.rates.len());
         }
     }
@@ -44,17 +45,6 @@ fn told(fault: LoadFault) -> Fault {
             hundredths: rate % 100,
         },
         fault => Fault::Load(fault),
-    }
-}
-
-/// Whether a second has passed since then.
-fn takes_long<R: Clock>(rt: &R, began: Option<Instant>) -> bool {
-    let Some(began) = began else {
-        return false;
-    };
-    match began.elapsed(rt) {
-        Ok(passed) => passed.as_secs() >= 1,
-        Err(_) => false,
     }
 }
 

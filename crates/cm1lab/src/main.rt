@@ -7,15 +7,17 @@
 mod fault;
 mod files;
 mod loads;
+mod progress;
 
 use crate::fault::Fault;
 use crate::files::{read_file, write_file};
 use crate::loads::measure_all;
+use crate::progress::Progress;
 use cm_bits::{Std, write_all};
 use cm_cli::{TakeFault, take};
 use cm_fresh::{FreshFault, fresh};
 use cm_front::front_image;
-use cm_lab::{LabFault, RouteFault, perform};
+use cm_lab::{LabFault, RouteFault, perform_watched};
 use cm_lab_line::{Asked, Blank, Command, Given, Loads, read_words};
 use cm_source::expand;
 use cm_way::plot;
@@ -141,14 +143,14 @@ fn begin<R: Files + AllocGlobal>(rt: &R, alloc: Global, blank: &Blank<'_>) -> Re
 }
 
 /// Does a task.
-fn work<R: Input + Print + Files + AllocGlobal>(
+fn work<R: Input + Print + Eprint + Files + Clock + AllocGlobal>(
     rt: &R,
     alloc: Global,
     asked: &Asked<'_>,
 ) -> Result<(), Fault> {
     let image = read_image(rt, alloc, asked.image)?;
     let given = read_given(rt, alloc, asked.given)?;
-    let made = performed(alloc, asked, image.as_slice(), given.as_slice())?;
+    let made = performed(rt, alloc, asked, image.as_slice(), given.as_slice())?;
     match asked.out {
         None => show(rt, made.as_slice()),
         Some(out) => write_file(rt, out, made.as_slice()),
@@ -251,13 +253,14 @@ fn read_input<R: Input>(rt: &R, alloc: Global) -> Result<Vec<u8>, Fault> {
 }
 
 /// What cm_lab makes of the image and of what is given.
-fn performed(
+fn performed<R: Eprint + Clock>(
+    rt: &R,
     alloc: Global,
     asked: &Asked<'_>,
     image: &[u8],
     given: &[u8],
 ) -> Result<Vec<u8>, Fault> {
-    match perform(alloc, asked.task, image, given) {
+    match perform_watched(alloc, asked.task, image, given, &mut Progress::new(rt)) {
         Ok(made) => Ok(made),
         Err(LabFault::Memory) => Err(Fault::Memory),
         Err(LabFault::Numbers(fault)) => Err(Fault::Numbers(fault)),

@@ -1,7 +1,7 @@
 //! A text of numbers that comes in from an end that fails after so many bytes, and what is told goes out to one that
 //! does.
 
-use crate::drawn::image;
+use crate::growths::BLANK;
 use cm_bits::doubles::{Bytes, Room};
 use cm_bits::{Field, write_all};
 use cm_cli::{TakeFault, take};
@@ -21,18 +21,17 @@ fn fault_after(alloc: Global, good: usize) -> Option<TakeFault> {
 }
 
 /// What is made of the numbers of which only so many bytes are there.
-fn made_of_front(alloc: Global, image: &[u8], front: usize) -> Option<LabFault> {
+fn made_of_front(alloc: Global, front: usize) -> Option<LabFault> {
     let field = Field::new(9, 3).ok()?;
     let given = NUMBERS.as_bytes().get(..front).unwrap_or(&[]);
-    perform(alloc, Task::Put(Order::Chips, field), image, given).err()
+    perform(alloc, Task::Put(Order::Chips, field), &BLANK, given).err()
 }
 
 /// The image with the numbers.
 fn filled(alloc: Global) -> Option<Vec<u8>> {
-    let image = image::<0, 7>(alloc, 1, 12)?;
     let field = Field::new(9, 3).ok()?;
     let given = take(alloc, &mut Bytes::new(NUMBERS.as_bytes(), 7), 100).ok()?;
-    perform(alloc, Task::Put(Order::Chips, field), &image, &given).ok()
+    perform(alloc, Task::Put(Order::Chips, field), &BLANK, &given).ok()
 }
 
 /// Whether of what is told exactly the first bytes go out to an end with room for so many.
@@ -62,11 +61,10 @@ fn first_wrong_room(alloc: Global) -> Option<usize> {
 
 /// The first number of bytes after which another fault is told.
 fn first_wrong_front(alloc: Global) -> Option<usize> {
-    let image = image::<0, 1>(alloc, 1, 12)?;
     for good in 0..32 {
         let count = (good as u64 + 1) / 2;
         let wanted = LabFault::Numbers(NumbersFault::TooFew(count));
-        let of_front = made_of_front(alloc, &image, good);
+        let of_front = made_of_front(alloc, good);
         if fault_after(alloc, good) != Some(TakeFault::Read)
             || of_front != if count < 16 { Some(wanted) } else { None }
         {

@@ -1,19 +1,21 @@
-//! Growths of memory that are refused: while numbers, pictures and studies are made, a source is expanded, and at a front
-//! end.
+//! Growths of memory that are refused: while numbers, pictures, studies, blank machines and loads are made, a source is
+//! expanded, and at a front end.
 
 use cm_bits::doubles::{Bytes, Room};
 use cm_bits::{Field, NoMemory};
 use cm_draws::{Call, first_not_so};
+use cm_fresh::{FreshFault, WireEnd, fresh};
 use cm_front::{FrontFault, ImageFault, SessionFault, front_image};
 use cm_lab::{
     Form, Format, LabFault, NumbersFault, Order, Shown, Table, Task, perform, read_numbers,
     write_numbers,
 };
+use cm_load::{Figures, LoadFault, Pattern, Trial, table};
 use cm_source::{AsmKind, SourceKind, expand};
 use std::alloc::Global;
 
 /// One chip, room for seven messages, nothing in it.
-static BLANK: [u8; 51] = [
+pub(crate) static BLANK: [u8; 51] = [
     0x43, 0x4d, 0x31, 0x49, 1, 0, 7, 0, 0, 0, 0, 0, 0, 0, 0, 0, 0, 0, 0, 0, 0, 0, 0, 0, 0, 0, 0, 0,
     0, 0, 0, 0, 0, 0, 0, 0, 0, 0, 0, 0, 0, 0, 0, 0, 0, 0, 0, 0, 0, 0, 0,
 ];
@@ -47,6 +49,25 @@ nano 0 0 8 8 8 0 0x0f 0x00 n ; 4
 add x x ; 5
 ";
 
+/// All processors of four chips send to those of chip 0, who fetch what they receive.
+static TRIAL: Trial = Trial {
+    n: 2,
+    room: 15,
+    rule: 0,
+    pattern: Pattern::HotSpot,
+    until: 40,
+    seed: 9,
+    cycles: 40,
+};
+
+static LOAD: &str =
+    "rate,offered,taken,delivered,throughput,mean,p95,greatest,deepest\n2.00,332,201,158,0.987,7.60,21,31,8\n";
+
+/// The bytes before those of the chips of a blank machine of two chips, whose wire is cut.
+static CUT: [u8; 21] = [
+    0x43, 0x4d, 0x31, 0x49, 2, 1, 15, 0, 0, 0, 0, 0, 0, 0, 0, 0, 0, 1, 0, 0, 0,
+];
+
 static SENT: &str = "field x 0 8\nconst x 100\nfield 0 5 0 8\ncycle\nbuf 0\n";
 
 static TOLD: &str = "ok\nok\nfield 100\nok\nbuf 0\n";
@@ -61,10 +82,12 @@ enum Grown {
     Cycles,
     Messages,
     Source,
+    Load,
+    Blank,
     Front,
 }
 
-static GROWN: [Grown; 8] = [
+static GROWN: [Grown; 10] = [
     Grown::Read,
     Grown::Numbers,
     Grown::Picture,
@@ -72,6 +95,8 @@ static GROWN: [Grown; 8] = [
     Grown::Cycles,
     Grown::Messages,
     Grown::Source,
+    Grown::Load,
+    Grown::Blank,
     Grown::Front,
 ];
 
@@ -85,6 +110,8 @@ impl Call for Grown {
             Grown::Cycles => Some(tells(alloc, Table::Cycles, CYCLES)),
             Grown::Messages => Some(tells(alloc, Table::Messages, MESSAGES)),
             Grown::Source => Some(is_expanded(alloc)),
+            Grown::Load => is_measured(alloc),
+            Grown::Blank => is_blank(alloc),
             Grown::Front => is_answered(alloc),
         }
     }
@@ -180,6 +207,33 @@ fn is_expanded(alloc: Global) -> bool {
         Ok(program) => program.as_slice() == PROGRAM.as_bytes(),
         Err(_) => false,
     }
+}
+
+// ---- loads and blank machines
+
+/// Whether a load has its line.
+fn is_measured(alloc: Global) -> Option<bool> {
+    let figures = match TRIAL.figures(alloc, 200) {
+        Err(LoadFault::Memory) => TRIAL.figures(alloc, 200).ok()?,
+        figures => figures.ok()?,
+    };
+    let loads: [Figures; 1] = [figures];
+    let told = match table(alloc, &loads) {
+        Err(NoMemory) => table(alloc, &loads).ok()?,
+        Ok(told) => told,
+    };
+    Some(told.as_slice() == LOAD.as_bytes())
+}
+
+/// Whether a blank machine has its bytes, and 35 zero bytes for each chip.
+fn is_blank(alloc: Global) -> Option<bool> {
+    let wire = [WireEnd { chip: 1, dim: 0 }];
+    let image = match fresh(alloc, 1, 15, &wire, 0) {
+        Err(FreshFault::Memory) => fresh(alloc, 1, 15, &wire, 0).ok()?,
+        image => image.ok()?,
+    };
+    let chips = image.strip_prefix(&CUT)?;
+    Some(chips.len() == 70 && chips.iter().all(|byte| *byte == 0))
 }
 
 // ---- a front end

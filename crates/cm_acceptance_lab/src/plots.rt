@@ -1,4 +1,4 @@
-//! Pictures of tables and routes: what stands in them, and which fault of a text is told.
+//! Pictures of tables and routes: what stands in them.
 
 use cm_draws::{Call, first_not_so};
 use cm_plot::PlotFault;
@@ -188,81 +188,6 @@ impl Call for Row {
         let text = str::from_utf8(&picture).ok()?;
         Some(has_parts(text, self.parts))
     }
-}
-
-/// A text that has no picture, and why.
-struct Refused {
-    text: &'static str,
-    fault: PlotFault,
-}
-
-static REFUSED: [Refused; 14] = [
-    Refused {
-        text: "",
-        fault: PlotFault::Unknown,
-    },
-    Refused {
-        text: "cycle,taken,delivered\n0,1,1\n",
-        fault: PlotFault::Unknown,
-    },
-    Refused {
-        text: "rate,a,b,c,d,e,f,g,h,i,j\n",
-        fault: PlotFault::Unknown,
-    },
-    Refused {
-        text: "cycle,taken,delivered,referred,standing,full,asking\n",
-        fault: PlotFault::Nothing,
-    },
-    Refused {
-        text: "chip,processor,taken,to chip,to processor,delivered,crossed,referred\n1,0,0,0,1,,0,0\n",
-        fault: PlotFault::Nothing,
-    },
-    Refused {
-        text: "cycle,taken,delivered,referred,standing,full,asking\n0,1,1,0,0,0,0\n1,1,1,0,0,0\n2,x",
-        fault: PlotFault::Row(3, 7),
-    },
-    Refused {
-        text: "cycle,taken,delivered,referred,standing,full,asking\n0,1,1,0,0,0,0\n\n",
-        fault: PlotFault::Row(3, 7),
-    },
-    Refused {
-        text: "cycle,taken,delivered,referred,standing,full,asking\n0,1,1,0,0x1,0,0\n",
-        fault: PlotFault::Row(2, 7),
-    },
-    Refused {
-        text: "rate,N\n1,1.2345\n",
-        fault: PlotFault::Row(2, 2),
-    },
-    Refused {
-        text: "rate,N\n1,9223372036854776\n",
-        fault: PlotFault::Row(2, 2),
-    },
-    Refused {
-        text: "rate,N\n1,-1\n",
-        fault: PlotFault::Row(2, 2),
-    },
-    Refused {
-        text: "stands at 3, for processor 3 of chip 2\n",
-        fault: PlotFault::Nothing,
-    },
-    Refused {
-        text: "cycle 0: 0 -> 1, place 1 of 1\ncycle x: 1, stays, place 1 of 1\n",
-        fault: PlotFault::Route(2),
-    },
-    Refused {
-        text: "cycle 1125899906842624: 0, stays, place 1 of 1\n",
-        fault: PlotFault::Route(1),
-    },
-];
-
-/// The place of the first that is not refused so.
-fn first_not_refused(alloc: Global) -> Option<usize> {
-    REFUSED.iter().position(|row| { plot(alloc, row.text.as_bytes()).err() != Some(row.fault) })
-}
-
-#[test]
-fn the_first_fault_of_a_table_or_a_route_is_told(rt: HostRuntime) {
-    assert_eq!(rt; first_not_refused(rt.alloc()), None);
 }
 
 // `.ci/refusals` refuses each growth in turn.

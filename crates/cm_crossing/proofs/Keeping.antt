@@ -1,12 +1,12 @@
 -- Tickets and the row of messages that they stand for: a chip's are laid out side by side, and given out.
-use Rattle.std.proofs.Common.{◌≡◌, ℕ, ◌+◌, ◌-◌, ◌<◌, ◌++◌, false, true, Some, List, [], ◌∷◌, length, remove}
-use Rattle.std.proofs.Common.{map, get_or, set, refl, sym, ap, ◌∙◌, arith}
+use Rattle.std.proofs.Common.{◌≡◌, ℕ, zero, suc, ◌+◌, ◌-◌, ◌<◌, ◌≤◌, ◌++◌, false, true, Some, List, [], ◌∷◌, length}
+use Rattle.std.proofs.Common.{remove, map, get_or, set, refl, sym, ap, ◌∙◌, arith}
 use Rattle.std.specs.List.{All, slice_get, slice_range}
 use Rattle.std.specs.Option.{option_map}
 use Rattle.std.proofs.lemmas.List.{length-map, length-append, append_assoc, ext_get_or, get_or-map, set-set}
 use Rattle.std.proofs.lemmas.List.{get_or_append_left, get_or-append-add, get_or_default, drop_at, take_at}
 use Rattle.std.proofs.lemmas.List.Elements.{All-tail}
-use Rattle.std.proofs.lemmas.Option.{slice_get-map, slice_get_within, get_or_from_slice_get}
+use Rattle.std.proofs.lemmas.Option.{slice_get-map, slice_get-get_or, slice_get_within, get_or_from_slice_get}
 use Rattle.cm_model.specs.declared.message.Message.{Message}
 use Rattle.cm_model.specs.declared.message.Event.{Event}
 use Rattle.cm_model.specs.declared.message.Event.TheVariants.{Delivered}
@@ -114,3 +114,30 @@ module _ {before chip : List Processor} {old : List Message} {told events : List
   pub scan_passed : {after : List Processor} → HandsOver false before (message_of row t) chip after
       → Scan before old told here after (standing row queue) (place + 1) events
   scan_passed step = scan_keeps _ _ _ _ _ _ _ _ _ (message_of row t) scan inside there step
+
+-- messages that are kept, one behind the other, and with them the scan goes on
+scan_goes_on : {before chip : List Processor} {old : List Message} {told events : List Event} {here : ℕ} (n place : ℕ)
+    (row : List Message) (queue : List Ticket) → place + n ≤ length queue
+    → ((j : ℕ) (t : Ticket) → place ≤ j → j < place + n → Some t ≡ slice_get queue j
+    → HandsOver false before (message_of row t) chip chip)
+    → Scan before old told here chip (standing row queue) place events
+    → Scan before old told here chip (standing row queue) (place + n) events
+scan_goes_on zero place row queue within kept scan = let none : place + 0 ≡ place = omega arith in rw none scan
+scan_goes_on (suc n) place row queue within kept scan =
+    let t : Ticket = get_or queue place no_ticket in
+    let is : Some t ≡ slice_get queue place = sym (slice_get-get_or queue place no_ticket (omega (arith, within))) in
+    let more : place + 1 + n ≡ place + suc n = omega arith in
+    rw more at (scan_goes_on n (place + 1) row queue (omega (arith, within))
+    (λ j u from below at. kept j u (omega (arith, from)) (omega (arith, below)) at)
+    (scan_passed row queue t is scan (kept place t (omega arith) (omega arith) is)))
+
+pub scan_to : {before chip : List Processor} {old : List Message} {told events : List Event} {here : ℕ}
+    (place next : ℕ) (row : List Message) (queue : List Ticket) → place ≤ next → next ≤ length queue
+    → ((j : ℕ) (t : Ticket) → place ≤ j → j < next → Some t ≡ slice_get queue j
+    → HandsOver false before (message_of row t) chip chip)
+    → Scan before old told here chip (standing row queue) place events
+    → Scan before old told here chip (standing row queue) next events
+scan_to place next row queue order within kept scan =
+    let is : place + (next - place) ≡ next = omega (arith, order) in
+    rw is at (scan_goes_on (next - place) place row queue (omega (arith, order, within))
+    (λ j t from below at. kept j t from (omega (arith, order, below)) at) scan)

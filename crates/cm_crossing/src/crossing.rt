@@ -286,19 +286,19 @@ impl Crossing {
         ensures from { from ≤ result }
         ensures most { result ≤ length self.now.buffers }
     {
-        let chips = self.chips();
-        for chip in from..chips {
-            if !self.is_passed_over(sizes.room, run, chip as u16) {
-                return chip;
-            }
+        let chips = self.chips() as u16;
+        let mut chip = from as u16;
+        while chip < chips && self.is_passed_over(sizes.room, run, chip) {
+            chip += 1;
         }
-        chips
+        usize::from(chip)
     }
 
     /// Whether an injection surely changes nothing at a chip: nobody is acknowledged there, and nobody asks to send or
     /// no room is left.
     fn is_passed_over(&self, room: u8, run: &Run, chip: u16) -> bool
         requires some { 0 < room }
+        requires most { room ≤ 15 }
         requires chip { chip < length self.now.buffers }
         requires run { length run.now ≡ length self.now.buffers }
         ensures passed { IsTrue result → IsPassedOver room (list_at self.now.buffers chip) (chip_at run.now chip) }
@@ -310,19 +310,21 @@ impl Crossing {
     /// Whether no room is left at a chip: somebody stands in the last place.
     fn is_full(&self, room: u8, chip: usize) -> bool
         requires some { 0 < room }
+        requires most { room ≤ 15 }
         requires chip { chip < length self.now.buffers }
         ensures full { IsTrue result → room ≤ length (list_at self.now.buffers chip) }
     {
-        self.slots.ticket(chip, usize::from(room - 1)).is_some()
+        self.slots.is_taken(chip, usize::from(room - 1))
     }
 
     /// At one chip, takes in messages of the processors that ask to send, by number, at most four and
     /// at most as many as there is room for. The log tells of each. The chip stands at place `chip` here and in
-    /// the run; `here` is its number in the machine.
+    /// the run; `here` is its number in the machine. What the node held is gone: it holds those messages then.
     pub fn inject(
         &mut self,
         sizes: Sizes,
         run: &mut Run,
+        taken: &mut Node,
         chip: u16,
         here: u16,
         clock: u64,
@@ -348,7 +350,7 @@ impl Crossing {
             take_none(run, chip);
             return;
         }
-        let mut taken = Node::new(room as u8);
+        taken.clear_for(room as u8);
         taken.inject(run, chip, here, sizes.dims, clock, log);
         self.stand(usize::from(chip), taken.messages());
     }

@@ -1,8 +1,8 @@
 //! The row in which messages stay, and the tickets for them.
 
 ghost use Rattle.std.specs.Prelude.{◌≡◌, ℕ, ◌+◌, ◌*◌, ◌<◌, ◌≤◌, ◌++◌, ◌∷◌, [], length, map, slice_set, vec_len};
-ghost use Rattle.std.specs.Prelude.{vec_capacity, List, IsFalse, if◌then◌else◌};
-ghost use Rattle.std.specs.List.{All};
+ghost use Rattle.std.specs.Prelude.{vec_capacity, List, Some, false, IsFalse, if◌then◌else◌};
+ghost use Rattle.std.specs.List.{All, slice_get};
 ghost use Rattle.std.specs.Option.{option_map};
 ghost use Rattle.cm_model.specs.declared.message.Event.TheVariants as event;
 ghost use Rattle.cm_model.specs.declared.message.Message.{Message};
@@ -16,11 +16,12 @@ ghost use Rattle.cm_model.specs.OneChip.{delivered_here, kept_here};
 ghost use Rattle.cm_crossing.specs.Standing.{IsKept, IsWritten, AreLaidOut};
 ghost use Rattle.cm_router.specs.Deliveries.{chip_handed, run_after, AreBefore};
 ghost use Rattle.cm_router.specs.Logs.{log_room};
+ghost use Rattle.cm_slots.specs.declared.ticket.Ticket.{Ticket};
 
 use cm_bits::Plane;
 use cm_element::Run;
 use cm_message::{Event, Message};
-use cm_router::{Deliveries, who_has_not_arrived_is_kept};
+use cm_router::{Deliveries, receives, who_has_not_arrived_is_kept};
 use cm_slots::{Slots, Ticket};
 
 /// Gives each message a place in the second row, those of a chip side by side, and its ticket tells that.
@@ -173,10 +174,48 @@ pub(crate) fn give_out(
     while let Some(ticket) = slots.ticket(at, place) {
         if is_delivered(row, ticket, deliveries, &mut receivers, chip, here, log) {
             slots.remove(at, place);
+            place = next_given(row, slots, at, place, receivers);
         } else {
-            place += 1;
+            place = next_given(row, slots, at, place + 1, receivers);
         }
     }
+}
+
+/// The first place of a chip, from this one on, of a ticket whose message is delivered to one of these receivers; as
+/// many as stand there, if there is none. Nothing is written meanwhile, so that where its slots lie is found once.
+fn next_given(row: &[Message], slots: &Slots, here: usize, from: usize, receivers: Plane) -> usize
+    requires stands { here < length slots.now }
+    requires kept { AreKept (length row.now) (list_at slots.now here) }
+    requires from { from ≤ length (list_at slots.now here) }
+    ensures passed { (j : ℕ) (t : Ticket) → from ≤ j → j < result → Some t ≡ slice_get (list_at slots.now here) j
+        → (before chip : List Processor) → IsPlane receivers (can_receive chip) → (seen : List Message)
+        → HasGone before seen chip → HasHandedOver false before seen (message_of row.now t) chip }
+    ensures from { from ≤ result }
+    ensures within { result ≤ length (list_at slots.now here) }
+{
+    let mut place = from;
+    while let Some(ticket) = slots.ticket(here, place) {
+        if is_given(row, ticket, receivers) {
+            return place;
+        }
+        place += 1;
+    }
+    place
+}
+
+/// Whether the message of a ticket is delivered to one of these receivers.
+fn is_given(row: &[Message], ticket: Ticket, receivers: Plane) -> bool
+    requires kept { ticket.number < length row.now }
+    ensures kept { IsFalse result → (before chip : List Processor) → IsPlane receivers (can_receive chip)
+        → (seen : List Message) → HasGone before seen chip
+        → HasHandedOver false before seen (message_of row.now ticket) chip }
+{
+    // Only a message that has arrived is read: where it is kept lies far from the others.
+    if ticket.rel != 0 {
+        who_has_not_arrived_is_kept();
+        return false;
+    }
+    receives(receivers, row[usize::from(ticket.number)].proc)
 }
 
 /// Delivers the message of a ticket, if it has arrived and its processor can receive.

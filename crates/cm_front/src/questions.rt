@@ -61,6 +61,7 @@ fn is_of_acts(word: &[u8]) -> bool
 pub fn own_number(kind: AsmKind) -> Option<u64>
     ensures value { IfSome result (λ number. number ≡ kind_number kind) }
     ensures own { IfSome result (λ _. IsOwnFault kind) }
+    ensures none { result ≡ None → kind ≡ AsmKind.Memory }
 {
     match kind {
         AsmKind::Width => Some(1),

@@ -42,6 +42,7 @@ pub fn front<const N: usize, const CAP: usize, R: Runner<N, CAP>, I: Source, O: 
     ensures thread { OnOk result (R.threads_lacked runner.new ≡ R.threads_lacked runner.old) }
     ensures no_thread { IsErrOf result SessionFault.NoThread
         → R.threads_lacked runner.new ≡ one_more_lacked (R.threads_lacked runner.old) }
+    ensures memory { IsErrOf result SessionFault.Memory → R.threads_lacked runner.new ≡ R.threads_lacked runner.old }
 {
     let mut front = FrontEnd::new(alloc);
     let mut answers = Gathered::new(alloc);
@@ -130,6 +131,7 @@ fn tell_line<const N: usize, const CAP: usize, R: Runner<N, CAP>, O: Sink>(
     ensures thread { OnOk result (R.threads_lacked runner.new ≡ R.threads_lacked runner.old) }
     ensures no_thread { IsErrOf result SessionFault.NoThread
         → R.threads_lacked runner.new ≡ one_more_lacked (R.threads_lacked runner.old) }
+    ensures memory { IsErrOf result SessionFault.Memory → R.threads_lacked runner.new ≡ R.threads_lacked runner.old }
 {
     match front.tell(alloc, machine, runner, line, &mut answers.line) {
         Ok(()) => match answers.add_line(out) {
@@ -148,6 +150,7 @@ fn give_up<O: Sink>(answers: &mut Gathered, want: Want, out: &mut O) -> SessionF
         result }
     ensures failed { O.has_failed out.new ≡ is_write (Err result) }
     ensures thread { is_no_thread result ≡ true → is_thread want ≡ true }
+    ensures memory { result ≡ SessionFault.Memory → is_thread want ≡ false }
 {
     match answers.send(out) {
         Ok(()) => {}

@@ -23,7 +23,7 @@ use cm_figures::{
 use cm_image::{ImageFault, dump, load, shape};
 use cm_language::{AsmFault, AsmKind};
 use cm_model::Tag;
-use cm_study::{RouteFault, StudyFault, Table, route, study};
+use cm_study::{RouteFault, StudyFault, Table, Unwatched, Watch, route, study};
 use std::alloc::Global;
 use thiserror::Error;
 
@@ -89,24 +89,39 @@ pub fn perform(alloc: Global, task: Task, image: &[u8], given: &[u8]) -> Result<
     ensures value { IfOk result (λ text. done_with task given.now image.now ≡ Ok text.items) }
     ensures refused { IfErr result (λ fault. fault ≢ LabFault.Memory → done_with task given.now image.now ≡ Err fault) }
 {
+    perform_watched(alloc, task, image, given, &mut Unwatched)
+}
+
+/// The same, where a watcher is told how far the program of a study or a route is.
+pub fn perform_watched<W: Watch>(
+    alloc: Global,
+    task: Task,
+    image: &[u8],
+    given: &[u8],
+    watch: &mut W,
+) -> Result<Vec<u8>, LabFault>
+    ensures value { IfOk result (λ text. done_with task given.now image.now ≡ Ok text.items) }
+    ensures refused { IfErr result (λ fault. fault ≢ LabFault.Memory → done_with task given.now image.now ≡ Err fault) }
+{
     let (n, cap) = match shape(image) {
         Ok(sizes) => sizes,
         Err(fault) => return Err(LabFault::Image(fault)),
     };
     match cap {
-        1 => perform_sized::<1>(alloc, n, task, image, given),
-        7 => perform_sized::<7>(alloc, n, task, image, given),
+        1 => perform_sized::<1, W>(alloc, n, task, image, given, watch),
+        7 => perform_sized::<7, W>(alloc, n, task, image, given, watch),
         _ => Err(LabFault::Room),
     }
 }
 
 /// The same, where routers have this room.
-fn perform_sized<const CAP: usize>(
+fn perform_sized<const CAP: usize, W: Watch>(
     alloc: Global,
     n: u8,
     task: Task,
     image: &[u8],
     given: &[u8],
+    watch: &mut W,
 ) -> Result<Vec<u8>, LabFault>
     requires dimension { n ≤ 12 }
     requires shape { read_shape image.now ≡ Ok (n, CAP) }
@@ -115,28 +130,29 @@ fn perform_sized<const CAP: usize>(
     ensures refused { IfErr result (λ fault. fault ≢ LabFault.Memory → done_with task given.now image.now ≡ Err fault) }
 {
     match n {
-        0 => perform_on::<0, CAP>(alloc, task, image, given),
-        1 => perform_on::<1, CAP>(alloc, task, image, given),
-        2 => perform_on::<2, CAP>(alloc, task, image, given),
-        3 => perform_on::<3, CAP>(alloc, task, image, given),
-        4 => perform_on::<4, CAP>(alloc, task, image, given),
-        5 => perform_on::<5, CAP>(alloc, task, image, given),
-        6 => perform_on::<6, CAP>(alloc, task, image, given),
-        7 => perform_on::<7, CAP>(alloc, task, image, given),
-        8 => perform_on::<8, CAP>(alloc, task, image, given),
-        9 => perform_on::<9, CAP>(alloc, task, image, given),
-        10 => perform_on::<10, CAP>(alloc, task, image, given),
-        11 => perform_on::<11, CAP>(alloc, task, image, given),
-        _ => perform_on::<12, CAP>(alloc, task, image, given),
+        0 => perform_on::<0, CAP, W>(alloc, task, image, given, watch),
+        1 => perform_on::<1, CAP, W>(alloc, task, image, given, watch),
+        2 => perform_on::<2, CAP, W>(alloc, task, image, given, watch),
+        3 => perform_on::<3, CAP, W>(alloc, task, image, given, watch),
+        4 => perform_on::<4, CAP, W>(alloc, task, image, given, watch),
+        5 => perform_on::<5, CAP, W>(alloc, task, image, given, watch),
+        6 => perform_on::<6, CAP, W>(alloc, task, image, given, watch),
+        7 => perform_on::<7, CAP, W>(alloc, task, image, given, watch),
+        8 => perform_on::<8, CAP, W>(alloc, task, image, given, watch),
+        9 => perform_on::<9, CAP, W>(alloc, task, image, given, watch),
+        10 => perform_on::<10, CAP, W>(alloc, task, image, given, watch),
+        11 => perform_on::<11, CAP, W>(alloc, task, image, given, watch),
+        _ => perform_on::<12, CAP, W>(alloc, task, image, given, watch),
     }
 }
 
 /// The same, on a machine of these sizes.
-fn perform_on<const N: usize, const CAP: usize>(
+fn perform_on<const N: usize, const CAP: usize, W: Watch>(
     alloc: Global,
     task: Task,
     image: &[u8],
     given: &[u8],
+    watch: &mut W,
 ) -> Result<Vec<u8>, LabFault>
     requires shape { read_shape image.now ≡ Ok (N, CAP) }
     requires own { is_own_room CAP ≡ true }
@@ -147,15 +163,16 @@ fn perform_on<const N: usize, const CAP: usize>(
         Ok(machine) => machine,
         Err(fault) => return Err(fault),
     };
-    work(alloc, &mut machine, task, given)
+    work(alloc, &mut machine, task, given, watch)
 }
 
 /// Does with a machine what is asked.
-fn work<const N: usize, const CAP: usize>(
+fn work<const N: usize, const CAP: usize, W: Watch>(
     alloc: Global,
     machine: &mut Machine<N, CAP>,
     task: Task,
     given: &[u8],
+    watch: &mut W,
 ) -> Result<Vec<u8>, LabFault>
     ensures value { IfOk result (λ text. work_of N CAP task given.now machine.old.machine ≡ Ok text.items) }
     ensures refused { IfErr result (λ fault. fault ≢ LabFault.Memory
@@ -167,8 +184,8 @@ fn work<const N: usize, const CAP: usize>(
         Task::Put(order, field) => filled(alloc, machine, order, field, given),
         Task::Show(shown, format) => pictured(alloc, machine, shown, format),
         Task::Paint(at) => painted(alloc, machine, at, given),
-        Task::Study(table) => studied(alloc, machine, table, given),
-        Task::Route(tag) => routed(alloc, machine, tag, given),
+        Task::Study(table) => studied(alloc, machine, table, given, watch),
+        Task::Route(tag) => routed(alloc, machine, tag, given, watch),
     }
 }
 
@@ -344,11 +361,12 @@ fn read_grid<const N: usize>(alloc: Global, given: &[u8]) -> Result<Picture, Lab
 }
 
 /// The table of a program that a machine runs.
-fn studied<const N: usize, const CAP: usize>(
+fn studied<const N: usize, const CAP: usize, W: Watch>(
     alloc: Global,
     machine: &mut Machine<N, CAP>,
     table: Table,
     given: &[u8],
+    watch: &mut W,
 ) -> Result<Vec<u8>, LabFault>
     ensures value { IfOk result
         (λ text. work_of N CAP (task.Study table) given.now machine.old.machine ≡ Ok text.items) }
@@ -359,7 +377,7 @@ fn studied<const N: usize, const CAP: usize>(
         Ok(program) => program,
         Err(fault) => return Err(of_program(fault)),
     };
-    match study(alloc, machine, program.acts(), table) {
+    match study(alloc, machine, program.acts(), table, watch) {
         Ok(text) => Ok(text),
         Err(StudyFault::Clock) => Err(LabFault::Clock),
         Err(StudyFault::Memory) => Err(LabFault::Memory),
@@ -367,11 +385,12 @@ fn studied<const N: usize, const CAP: usize>(
 }
 
 /// The route of a message of a program that a machine runs.
-fn routed<const N: usize, const CAP: usize>(
+fn routed<const N: usize, const CAP: usize, W: Watch>(
     alloc: Global,
     machine: &mut Machine<N, CAP>,
     tag: Tag,
     given: &[u8],
+    watch: &mut W,
 ) -> Result<Vec<u8>, LabFault>
     ensures value { IfOk result
         (λ text. work_of N CAP (task.Route tag) given.now machine.old.machine ≡ Ok text.items) }
@@ -382,7 +401,7 @@ fn routed<const N: usize, const CAP: usize>(
         Ok(program) => program,
         Err(fault) => return Err(of_program(fault)),
     };
-    match route(alloc, machine, program.acts(), tag) {
+    match route(alloc, machine, program.acts(), tag, watch) {
         Ok(text) => Ok(text),
         Err(RouteFault::Memory) => Err(LabFault::Memory),
         Err(fault) => Err(LabFault::NoRoute(fault)),

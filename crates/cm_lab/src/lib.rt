@@ -13,10 +13,10 @@ pub use cm_figures::{
     write_numbers,
 };
 pub use cm_model::Tag;
-pub use cm_study::{RouteFault, Table};
+pub use cm_study::{RouteFault, Table, Watch};
 pub use data::{flags, get, put};
 pub use data_laws::{each_processor_comes_once, numbers_read_back};
-pub use lab::{LabFault, Task, perform};
+pub use lab::{LabFault, Task, perform, perform_watched};
 pub use order::Order;
 pub use picture_laws::{dots_are_places, pictures_read_back};
 pub use pictures::{ShowFault, Shown, show};

@@ -1,5 +1,8 @@
 //! Why words ask for nothing.
 
+ghost use Rattle.std.specs.Prelude.{◌≡◌, ◌⊎◌, string_bytes};
+ghost use Rattle.cm_lab_line.specs.Refusals.{told, Memory, Twice, UnknownCommand, UnknownOption, Wanted};
+
 use crate::operands::Operand;
 use cm_bits::FieldFault;
 use std::alloc::Global;
@@ -26,7 +29,7 @@ pub enum CommandFault {
     #[error("wanted is cm1lab {usage}")]
     Usage { usage: String },
     /// A word that is not what is wanted in its place, which help has by this name.
-    #[error("{name} is {wanted}, not `{word}`", name = .operand.name, wanted = .operand.wanted)]
+    #[error("{name} is {wanted}, not `{word}`", name = .operand.name(), wanted = .operand.wanted())]
     Operand { operand: Operand, word: String },
     /// An address and a length that no field has.
     #[error("{0}")]
@@ -37,7 +40,9 @@ pub enum CommandFault {
 
 impl CommandFault {
     /// A word that names no command.
-    pub(crate) fn command(alloc: Global, word: &str) -> CommandFault {
+    pub(crate) fn command(alloc: Global, word: &str) -> CommandFault
+        ensures { (told result ≡ Memory) ⊎ (told result ≡ UnknownCommand word.now) }
+    {
         match String::from_str(alloc, word) {
             Ok(word) => CommandFault::UnknownCommand { word },
             Err(_) => CommandFault::Memory,
@@ -45,7 +50,9 @@ impl CommandFault {
     }
 
     /// A word that is no option of a command of these words.
-    pub(crate) fn option(alloc: Global, word: &str, usage: String) -> CommandFault {
+    pub(crate) fn option(alloc: Global, word: &str, usage: String) -> CommandFault
+        ensures { (told result ≡ Memory) ⊎ (told result ≡ UnknownOption word.now (string_bytes usage)) }
+    {
         match String::from_str(alloc, word) {
             Ok(word) => CommandFault::UnknownOption { word, usage },
             Err(_) => CommandFault::Memory,
@@ -53,7 +60,9 @@ impl CommandFault {
     }
 
     /// An option that is given twice.
-    pub(crate) fn twice(alloc: Global, word: &str) -> CommandFault {
+    pub(crate) fn twice(alloc: Global, word: &str) -> CommandFault
+        ensures { (told result ≡ Memory) ⊎ (told result ≡ Twice word.now) }
+    {
         match String::from_str(alloc, word) {
             Ok(word) => CommandFault::Twice { word },
             Err(_) => CommandFault::Memory,
@@ -61,7 +70,9 @@ impl CommandFault {
     }
 
     /// A word that is not what is wanted in its place.
-    pub(crate) fn operand(alloc: Global, operand: Operand, word: &str) -> CommandFault {
+    pub(crate) fn operand(alloc: Global, operand: Operand, word: &str) -> CommandFault
+        ensures { (told result ≡ Memory) ⊎ (told result ≡ Wanted operand word.now) }
+    {
         match String::from_str(alloc, word) {
             Ok(word) => CommandFault::Operand { operand, word },
             Err(_) => CommandFault::Memory,

@@ -1,6 +1,10 @@
 //! What help tells, and of it the words of one command.
 
-use crate::fault::CommandFault;
+ghost use Rattle.std.specs.Prelude.{◌≡◌, MatchOption, None, Some};
+ghost use Rattle.cm_lab_line.specs.Words.{texts};
+ghost use Rattle.cm_lab_line.specs.Commands.{is_command, is_load_option, is_option, is_option_of, unknown_option};
+
+use cm_bits::NoMemory;
 use std::alloc::Global;
 
 /// What help tells.
@@ -62,10 +66,11 @@ cm1lab plot [FILE] > PICTURE
     names more, with commas between, and each line behind it has their numbers
 
 ADDRESS is that of the field's lowest bit, 0 to 4095, and LENGTH how many bits it has, 1 to 64.
-IMAGE is a file that cm1 fresh, cm1 run --out or cm1lab wrote, PROGRAM a text as for cm1 run.";
+IMAGE is a file that cm1 fresh, cm1 run --out or cm1lab wrote, PROGRAM a text as for cm1 run.
+Where study, route or load take longer than a second, standard error tells how far they are.";
 
 /// The words of a command as help tells them; nothing where it tells of none of this name.
-pub(crate) fn usage_of(alloc: Global, command: &str) -> Result<String, CommandFault> {
+pub(crate) fn usage_of(alloc: Global, command: &str) -> Result<String, NoMemory> {
     let mut usage = String::new(alloc);
     for line in HELP.lines() {
         let Some(words) = line.strip_prefix("cm1lab ") else {
@@ -74,9 +79,71 @@ pub(crate) fn usage_of(alloc: Global, command: &str) -> Result<String, CommandFa
         if words.split(' ').next() == Some(command) {
             let between = if usage.is_empty() { "" } else { ", or " };
             if usage.push_str(between).is_err() || usage.push_str(words).is_err() {
-                return Err(CommandFault::Memory);
+                return Err(NoMemory);
             }
         }
     }
     Ok(usage)
+}
+
+/// Whether a command has this name.
+pub(crate) fn is_command(name: &str) -> bool
+    ensures { result ≡ is_command name.now }
+{
+    matches!(
+        name,
+        "get"
+            | "rows"
+            | "put"
+            | "picture"
+            | "paint"
+            | "study"
+            | "route"
+            | "front"
+            | "expand"
+            | "fresh"
+            | "load"
+            | "plot"
+    )
+}
+
+/// The first option among words that a command has not.
+pub(crate) fn unknown_option<'a>(command: &str, words: &[&'a str]) -> Option<&'a str>
+    ensures { MatchOption result (unknown_option command.now (texts words.now) ≡ None)
+        (λ word. unknown_option command.now (texts words.now) ≡ Some word.now) }
+{
+    for word in words {
+        if is_option(word) && !is_option_of(command, word) {
+            return Some(*word);
+        }
+    }
+    None
+}
+
+/// Whether a word begins with two dashes.
+pub(crate) fn is_option(word: &str) -> bool
+    ensures { result ≡ is_option word.now }
+{
+    matches!(word.as_bytes(), [b'-', b'-', ..])
+}
+
+/// Whether a command has this option.
+fn is_option_of(command: &str, word: &str) -> bool
+    ensures { result ≡ is_option_of command.now word.now }
+{
+    match command {
+        "put" => word == "--rows",
+        "picture" => word == "--plain" || word == "--png",
+        "study" => word == "--messages",
+        "front" => word == "--out",
+        "fresh" => word == "--cut" || word == "--rule",
+        "load" => is_load_option(word),
+        _ => false,
+    }
+}
+
+fn is_load_option(word: &str) -> bool
+    ensures { result ≡ is_load_option word.now }
+{
+    word == "--rule" || word == "--pattern" || word == "--until" || word == "--seed"
 }

@@ -1,199 +1,165 @@
 //! The words that commands take, by the names that help has for them, and what they say.
 
+ghost use Rattle.std.specs.Prelude.{◌≡◌, ◌^◌, IfOk, IfErr, Ok};
+ghost use Rattle.cm_lab_line.specs.Refusals.{Tells};
+ghost use Rattle.cm_lab_line.specs.Operands.{field, number, number_below, of_sixteen, pattern_named};
+
 use crate::fault::CommandFault;
 use cm_bits::{Field, FlagNo, Proc};
 use cm_load::Pattern;
 use std::alloc::Global;
 
-/// A word that a command takes: its name in the help, and what it is.
+/// A word that a command takes.
 #[derive(Clone, Copy, Debug, PartialEq, Eq)]
-pub struct Operand {
-    pub name: &'static str,
-    pub wanted: &'static str,
+pub enum Operand {
+    Address,
+    Length,
+    Flag,
+    Proc,
+    Cycle,
+    Chip,
+    Dim,
+    N,
+    Cap,
+    Rule,
+    Rate,
+    Cycles,
+    Pattern,
+    Until,
+    Seed,
 }
 
-pub(crate) const ADDRESS: Operand = Operand {
-    name: "ADDRESS",
-    wanted: "a decimal number from 0 to 4095",
-};
+impl Operand {
+    /// Its name in the help.
+    pub fn name(self) -> &'static str {
+        match self {
+            Operand::Address => "ADDRESS",
+            Operand::Length => "LENGTH",
+            Operand::Flag => "NUMBER",
+            Operand::Proc => "PROC",
+            Operand::Cycle => "CYCLE",
+            Operand::Chip => "CHIP",
+            Operand::Dim => "DIM",
+            Operand::N => "N",
+            Operand::Cap => "CAP",
+            Operand::Rule => "R",
+            Operand::Rate => "RATE",
+            Operand::Cycles => "CYCLES",
+            Operand::Pattern => "P",
+            Operand::Until => "T",
+            Operand::Seed => "S",
+        }
+    }
 
-pub(crate) const LENGTH: Operand = Operand {
-    name: "LENGTH",
-    wanted: "a decimal number from 1 to 64",
-};
+    /// What is wanted in its place.
+    pub fn wanted(self) -> &'static str {
+        match self {
+            Operand::Address | Operand::Chip => "a decimal number from 0 to 4095",
+            Operand::Length => "a decimal number from 1 to 64",
+            Operand::Flag | Operand::Proc => "a decimal number from 0 to 15",
+            Operand::Cycle => "the decimal number of a petit cycle",
+            Operand::Dim => "a decimal number from 0 to 11",
+            Operand::N => "a decimal number from 0 to 12",
+            Operand::Cap => "a decimal number from 1 to 15",
+            Operand::Rule => "0 or 1",
+            Operand::Rate =>
+                "0 to 16 with at most two digits behind a point, as 0.25, or some with commas between",
+            Operand::Cycles => "a decimal number from 1 to 1000000",
+            Operand::Pattern => "uniform, transpose, reversal or hotspot",
+            Operand::Until => "a decimal number from 0 to 4294967295",
+            Operand::Seed => "a decimal number from 0 to 18446744073709551615",
+        }
+    }
+}
 
-pub(crate) const FLAG: Operand = Operand {
-    name: "NUMBER",
-    wanted: "a decimal number from 0 to 15",
-};
+/// One of sixteen.
+fn of_sixteen(alloc: Global, operand: Operand, word: &str) -> Result<u8, CommandFault>
+    ensures value { IfOk result (λ number. number_below 16 operand word.now ≡ Ok number) }
+    ensures refused { IfErr result (Tells (number_below 16 operand word.now)) }
+{
+    match word.parse::<u8>() {
+        Ok(number) if number < 16 => Ok(number),
+        _ => Err(CommandFault::operand(alloc, operand, word)),
+    }
+}
 
-pub(crate) const PROC: Operand = Operand {
-    name: "PROC",
-    wanted: "a decimal number from 0 to 15",
-};
-
-pub(crate) const CYCLE: Operand = Operand {
-    name: "CYCLE",
-    wanted: "the decimal number of a petit cycle",
-};
-
-pub(crate) const CHIP: Operand = Operand {
-    name: "CHIP",
-    wanted: "a decimal number from 0 to 4095",
-};
-
-pub(crate) const DIM: Operand = Operand {
-    name: "DIM",
-    wanted: "a decimal number from 0 to 11",
-};
-
-pub(crate) const N: Operand = Operand {
-    name: "N",
-    wanted: "a decimal number from 0 to 12",
-};
-
-pub(crate) const CAP: Operand = Operand {
-    name: "CAP",
-    wanted: "a decimal number from 1 to 15",
-};
-
-pub(crate) const RULE: Operand = Operand {
-    name: "R",
-    wanted: "0 or 1",
-};
-
-pub(crate) const RATE: Operand = Operand {
-    name: "RATE",
-    wanted: "0 to 16 with at most two digits behind a point, as 0.25, or some with commas between",
-};
-
-pub(crate) const CYCLES: Operand = Operand {
-    name: "CYCLES",
-    wanted: "a decimal number from 1 to 1000000",
-};
-
-pub(crate) const PATTERN: Operand = Operand {
-    name: "P",
-    wanted: "uniform, transpose, reversal or hotspot",
-};
-
-pub(crate) const UNTIL: Operand = Operand {
-    name: "T",
-    wanted: "a decimal number from 0 to 4294967295",
-};
-
-pub(crate) const SEED: Operand = Operand {
-    name: "S",
-    wanted: "a decimal number from 0 to 18446744073709551615",
-};
-
-pub(crate) fn processor(alloc: Global, word: &str) -> Result<Proc, CommandFault> {
-    let number = word.parse::<u8>().ok().and_then(|number| Proc::new(number));
-    match number {
+pub(crate) fn processor(alloc: Global, word: &str) -> Result<Proc, CommandFault>
+    ensures value { IfOk result (λ number. number_below 16 Operand.Proc word.now ≡ Ok number) }
+    ensures refused { IfErr result (Tells (number_below 16 Operand.Proc word.now)) }
+{
+    let number = of_sixteen(alloc, Operand::Proc, word)?;
+    match Proc::new(number) {
         Some(number) => Ok(number),
-        None => Err(CommandFault::operand(alloc, PROC, word)),
+        None => Err(CommandFault::operand(alloc, Operand::Proc, word)),
     }
 }
 
-pub(crate) fn cycle(alloc: Global, word: &str) -> Result<u64, CommandFault> {
-    match word.parse::<u64>() {
-        Ok(number) => Ok(number),
-        Err(_) => Err(CommandFault::operand(alloc, CYCLE, word)),
-    }
-}
-
-pub(crate) fn flag(alloc: Global, word: &str) -> Result<FlagNo, CommandFault> {
-    let number = word
-        .parse::<u8>()
-        .ok()
-        .and_then(|number| FlagNo::new(number));
-    match number {
+pub(crate) fn flag(alloc: Global, word: &str) -> Result<FlagNo, CommandFault>
+    ensures value { IfOk result (λ number. number_below 16 Operand.Flag word.now ≡ Ok number) }
+    ensures refused { IfErr result (Tells (number_below 16 Operand.Flag word.now)) }
+{
+    let number = of_sixteen(alloc, Operand::Flag, word)?;
+    match FlagNo::new(number) {
         Some(number) => Ok(number),
-        None => Err(CommandFault::operand(alloc, FLAG, word)),
+        None => Err(CommandFault::operand(alloc, Operand::Flag, word)),
     }
 }
 
-/// The field of an address and a length.
-pub(crate) fn field(alloc: Global, at: &str, len: &str) -> Result<Field, CommandFault> {
-    match Field::new(number(alloc, ADDRESS, at)?, number(alloc, LENGTH, len)?) {
-        Ok(field) => Ok(field),
-        Err(fault) => Err(CommandFault::Field(fault)),
-    }
-}
-
-/// The number of an operand.
-pub(crate) fn number(alloc: Global, operand: Operand, word: &str) -> Result<u16, CommandFault> {
+/// The number of an operand, of which another crate tells where it is too large.
+pub(crate) fn number(alloc: Global, operand: Operand, word: &str) -> Result<u16, CommandFault>
+    ensures value { IfOk result (λ number. number_below (2 ^ 16) operand word.now ≡ Ok number) }
+    ensures refused { IfErr result (Tells (number_below (2 ^ 16) operand word.now)) }
+{
     match word.parse::<u16>() {
         Ok(number) => Ok(number),
         Err(_) => Err(CommandFault::operand(alloc, operand, word)),
     }
 }
 
-/// Rates with a comma between two.
-pub(crate) fn read_rates(alloc: Global, word: &str) -> Result<Vec<u16>, CommandFault> {
-    let mut rates = Vec::new(alloc);
-    for part in word.split(',') {
-        match rate(part) {
-            Some(rate) => {
-                if rates.push(rate).is_err() {
-                    return Err(CommandFault::Memory);
-                }
-            }
-            None => return Err(CommandFault::operand(alloc, RATE, part)),
-        }
-    }
-    Ok(rates)
-}
-
-/// The hundredths of a number with at most two digits behind its point.
-fn rate(word: &str) -> Option<u16> {
-    let (whole, part) = word.split_once('.').unwrap_or((word, "0"));
-    digits(whole)?
-        .checked_mul(100)?
-        .checked_add(hundredths(part)?)
-}
-
-/// So many hundredths are these one or two digits behind a point.
-fn hundredths(part: &str) -> Option<u16> {
-    let number = digits(part)?;
-    match part.len() {
-        1 => number.checked_mul(10),
-        2 => Some(number),
-        _ => None,
-    }
-}
-
-fn digits(word: &str) -> Option<u16> {
-    if !word.bytes().all(|byte| byte.is_ascii_digit()) {
-        return None;
-    }
-    word.parse::<u16>().ok()
-}
-
-pub(crate) fn pattern(alloc: Global, word: &str) -> Result<Pattern, CommandFault> {
-    match word {
-        "uniform" => Ok(Pattern::Uniform),
-        "transpose" => Ok(Pattern::Transpose),
-        "reversal" => Ok(Pattern::Reversal),
-        "hotspot" => Ok(Pattern::HotSpot),
-        _ => Err(CommandFault::operand(alloc, PATTERN, word)),
-    }
-}
-
-pub(crate) fn cycle_count(
-    alloc: Global,
-    operand: Operand,
-    word: &str,
-) -> Result<u32, CommandFault> {
+/// A number of petit cycles.
+pub(crate) fn cycle_count(alloc: Global, operand: Operand, word: &str) -> Result<u32, CommandFault>
+    ensures value { IfOk result (λ number. number_below (2 ^ 32) operand word.now ≡ Ok number) }
+    ensures refused { IfErr result (Tells (number_below (2 ^ 32) operand word.now)) }
+{
     match word.parse::<u32>() {
         Ok(number) => Ok(number),
         Err(_) => Err(CommandFault::operand(alloc, operand, word)),
     }
 }
 
-pub(crate) fn seed(alloc: Global, word: &str) -> Result<u64, CommandFault> {
+/// A petit cycle, or a seed.
+pub(crate) fn long_number(alloc: Global, operand: Operand, word: &str) -> Result<u64, CommandFault>
+    ensures value { IfOk result (λ number. number_below (2 ^ 64) operand word.now ≡ Ok number) }
+    ensures refused { IfErr result (Tells (number_below (2 ^ 64) operand word.now)) }
+{
     match word.parse::<u64>() {
         Ok(number) => Ok(number),
-        Err(_) => Err(CommandFault::operand(alloc, SEED, word)),
+        Err(_) => Err(CommandFault::operand(alloc, operand, word)),
+    }
+}
+
+/// The field of an address and a length.
+pub(crate) fn field(alloc: Global, at: &str, len: &str) -> Result<Field, CommandFault>
+    ensures value { IfOk result (λ span. field at.now len.now ≡ Ok span) }
+    ensures refused { IfErr result (Tells (field at.now len.now)) }
+{
+    let at = number(alloc, Operand::Address, at)?;
+    let len = number(alloc, Operand::Length, len)?;
+    match Field::new(at, len) {
+        Ok(field) => Ok(field),
+        Err(fault) => Err(CommandFault::Field(fault)),
+    }
+}
+
+pub(crate) fn pattern(alloc: Global, word: &str) -> Result<Pattern, CommandFault>
+    ensures value { IfOk result (λ pattern. pattern_named word.now ≡ Ok pattern) }
+    ensures refused { IfErr result (Tells (pattern_named word.now)) }
+{
+    match word {
+        "uniform" => Ok(Pattern::Uniform),
+        "transpose" => Ok(Pattern::Transpose),
+        "reversal" => Ok(Pattern::Reversal),
+        "hotspot" => Ok(Pattern::HotSpot),
+        _ => Err(CommandFault::operand(alloc, Operand::Pattern, word)),
     }
 }

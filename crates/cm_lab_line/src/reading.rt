@@ -1,11 +1,19 @@
 //! What the words of a command line ask for.
 
+ghost use Rattle.std.specs.Prelude.{◌≡◌, ◌⊎◌, IfOk, IfErr, MatchOption, None, Ok, Some, bytes_eq};
+ghost use Rattle.std.specs.List.{list_any};
+ghost use Rattle.cm_lab_line.specs.Words.{texts};
+ghost use Rattle.cm_lab_line.specs.Refusals.{Memory, Tells, told};
+ghost use Rattle.cm_lab_line.specs.Requests.{requested};
+ghost use Rattle.cm_lab_line.specs.Commands.{Explains, IsExplained, Refuses, expanding, freshening, fronting};
+ghost use Rattle.cm_lab_line.specs.Commands.{given_twice, helping, is_single};
+ghost use Rattle.cm_lab_line.specs.Commands.{loading, named, plotting, request_of};
+
+use crate::blanks::{Blank, read_blank};
 use crate::fault::CommandFault;
-use crate::help::usage_of;
+use crate::help::{is_command, is_option, unknown_option, usage_of};
 use crate::loads::{Loads, read_loads};
-use crate::operands::{CAP, CHIP, DIM, N, RULE, number};
 use crate::tasks::read_task;
-use cm_fresh::WireEnd;
 use cm_lab::Task;
 use std::alloc::Global;
 
@@ -19,16 +27,6 @@ pub enum Given<'a> {
     Picture(&'a str),
     /// That of a program.
     Program(&'a str),
-}
-
-/// A blank machine, and the file into which its image goes.
-#[derive(Drop)]
-pub struct Blank<'a> {
-    pub n: u16,
-    pub room: u16,
-    pub cuts: Vec<WireEnd>,
-    pub rule: u16,
-    pub out: &'a str,
 }
 
 /// What the words ask for.
@@ -65,121 +63,194 @@ pub struct Asked<'a> {
 }
 
 /// Reads the words, of which the first is the program's name.
-pub fn read_words<'a>(alloc: Global, words: &[&'a str]) -> Result<Command<'a>, CommandFault> {
+pub fn read_words<'a>(alloc: Global, words: &[&'a str]) -> Result<Command<'a>, CommandFault>
+    ensures once { IfOk result (λ command. given_twice (texts words.now) ≡ None) }
+    ensures value { IfOk result (λ command. request_of (texts words.now) ≡ Ok (requested command)) }
+    ensures refused { IfErr result (λ fault. Refuses (texts words.now) (told fault)) }
+{
     if let Some(option) = given_twice(words) {
         return Err(CommandFault::twice(alloc, option));
     }
     match read_command(alloc, words) {
+        Ok(command) => Ok(command),
         Err(CommandFault::Words) => Err(why_not(alloc, words)),
-        read => read,
+        Err(fault) => Err(fault),
+    }
+}
+
+/// Why words ask for nothing.
+fn why_not(alloc: Global, words: &[&str]) -> CommandFault
+    ensures { (told result ≡ Memory) ⊎ Explains (texts words.now) (told result) }
+{
+    match words {
+        [_, command, rest @ ..] => {
+            if stands_in("--help", rest) {
+                CommandFault::Help
+            } else {
+                not_of(alloc, command, rest)
+            }
+        }
+        _ => CommandFault::Words,
+    }
+}
+
+/// Why a command does not take these words.
+fn not_of(alloc: Global, command: &str, words: &[&str]) -> CommandFault
+    ensures { (told result ≡ Memory) ⊎ IsExplained command.now (texts words.now) (told result) }
+{
+    if !is_command(command) {
+        return CommandFault::command(alloc, command);
+    }
+    let usage = match usage_of(alloc, command) {
+        Ok(usage) => usage,
+        Err(_) => return CommandFault::Memory,
+    };
+    match unknown_option(command, words) {
+        Some(option) => CommandFault::option(alloc, option, usage),
+        None => CommandFault::Usage { usage },
     }
 }
 
 /// The first option that is given a second time. Cut wires may be several.
-fn given_twice<'a>(words: &[&'a str]) -> Option<&'a str> {
+fn given_twice<'a>(words: &[&'a str]) -> Option<&'a str>
+    ensures { MatchOption result (given_twice (texts words.now) ≡ None)
+        (λ word. given_twice (texts words.now) ≡ Some word.now) }
+{
     for (place, word) in words.iter().enumerate() {
-        if word.starts_with("--") && *word != "--cut" && words[..place].contains(word) {
+        if is_single(word) && stands_in(word, &words[..place]) {
             return Some(*word);
         }
     }
     None
 }
 
-/// Why words ask for nothing.
-fn why_not(alloc: Global, words: &[&str]) -> CommandFault {
-    let [_, command, rest @ ..] = words else {
-        return CommandFault::Words;
-    };
-    if rest.contains(&"--help") {
-        return CommandFault::Help;
-    }
-    let usage = match usage_of(alloc, command) {
-        Ok(usage) => usage,
-        Err(fault) => return fault,
-    };
-    if usage.is_empty() {
-        return CommandFault::command(alloc, command);
-    }
-    for word in rest {
-        if word.starts_with("--") && !usage.split(' ').any(|part| names(part, word)) {
-            return CommandFault::option(alloc, word, usage);
-        }
-    }
-    CommandFault::Usage { usage }
+fn stands_in(word: &str, words: &[&str]) -> bool
+    ensures { result ≡ list_any (λ other. bytes_eq other word.now) (texts words.now) }
+{
+    words.contains(&word)
 }
 
-/// Whether a part of the words of a command is this option, maybe in brackets.
-fn names(part: &str, option: &str) -> bool {
-    let part = part.strip_prefix('[').unwrap_or(part);
-    part.strip_suffix(']').unwrap_or(part) == option
+fn is_single(word: &str) -> bool
+    ensures { result ≡ is_single word.now }
+{
+    is_option(word) && word != "--cut"
 }
 
-fn read_command<'a>(alloc: Global, words: &[&'a str]) -> Result<Command<'a>, CommandFault> {
+fn read_command<'a>(alloc: Global, words: &[&'a str]) -> Result<Command<'a>, CommandFault>
+    ensures value { IfOk result (λ command. request_of (texts words.now) ≡ Ok (requested command)) }
+    ensures refused { IfErr result (Tells (request_of (texts words.now))) }
+{
     match words {
-        [_, "front", image] => Ok(Command::Front { image, out: None }),
-        [_, "front", image, "--out", out] | [_, "front", "--out", out, image] => {
-            Ok(Command::Front {
-                image,
-                out: Some(out),
-            })
-        }
-        [_, "expand", source] => Ok(Command::Expand { source }),
-        [_, "fresh", n, room, rest @ ..] => {
-            let blank = read_blank(alloc, n, room, rest)?;
-            Ok(Command::Fresh(blank))
-        }
-        [_, "load", n, room, rates, cycles, options @ ..] => {
-            let loads = read_loads(alloc, n, room, rates, cycles, options)?;
-            Ok(Command::Load(loads))
-        }
-        [_, "plot"] => Ok(Command::Plot { file: None }),
-        [_, "plot", file] => Ok(Command::Plot { file: Some(file) }),
+        [_, command, rest @ ..] => read_named(alloc, command, rest),
+        _ => Err(CommandFault::Words),
+    }
+}
+
+/// What the words behind the name of a command ask for.
+fn read_named<'a>(
+    alloc: Global,
+    command: &str,
+    words: &[&'a str],
+) -> Result<Command<'a>, CommandFault>
+    ensures value { IfOk result (λ found. named command.now (texts words.now) ≡ Ok (requested found)) }
+    ensures refused { IfErr result (Tells (named command.now (texts words.now))) }
+{
+    match command {
+        "front" => read_fronting(words),
+        "expand" => read_expanding(words),
+        "fresh" => read_freshening(alloc, words),
+        "load" => read_loading(alloc, words),
+        "plot" => read_plotting(words),
+        "--help" => read_helping(words),
+        "-h" => read_helping(words),
+        "help" => read_helping(words),
         _ => {
-            let asked = read_task(alloc, words)?;
+            let asked = read_task(alloc, command, words)?;
             Ok(Command::Task(asked))
         }
     }
 }
 
-/// A blank machine: its dimensions, its room, and the words behind these, of which the last is the file.
-fn read_blank<'a>(
-    alloc: Global,
-    n: &str,
-    room: &str,
-    words: &[&'a str],
-) -> Result<Blank<'a>, CommandFault> {
-    let mut cuts = Vec::new(alloc);
-    let n = number(alloc, N, n)?;
-    let room = number(alloc, CAP, room)?;
-    let mut rule = 0;
-    let mut rest = words;
-    for _ in 0..words.len() {
-        match rest {
-            ["--cut", chip, dim, after @ ..] => {
-                let end = WireEnd {
-                    chip: number(alloc, CHIP, chip)?,
-                    dim: number(alloc, DIM, dim)?,
-                };
-                if cuts.push(end).is_err() {
-                    return Err(CommandFault::Memory);
-                }
-                rest = after;
+fn read_fronting<'a>(words: &[&'a str]) -> Result<Command<'a>, CommandFault>
+    ensures value { IfOk result (λ command. fronting (texts words.now) ≡ Ok (requested command)) }
+    ensures refused { IfErr result (Tells (fronting (texts words.now))) }
+{
+    match words {
+        [image] => Ok(Command::Front { image, out: None }),
+        [first, second, third] => {
+            if *second == "--out" {
+                Ok(Command::Front {
+                    image: first,
+                    out: Some(third),
+                })
+            } else if *first == "--out" {
+                Ok(Command::Front {
+                    image: third,
+                    out: Some(second),
+                })
+            } else {
+                Err(CommandFault::Words)
             }
-            ["--rule", word, after @ ..] => {
-                rule = number(alloc, RULE, word)?;
-                rest = after;
-            }
-            [out] => {
-                return Ok(Blank {
-                    n,
-                    room,
-                    cuts,
-                    rule,
-                    out,
-                });
-            }
-            _ => return Err(CommandFault::Words),
         }
+        _ => Err(CommandFault::Words),
     }
-    Err(CommandFault::Words)
+}
+
+fn read_expanding<'a>(words: &[&'a str]) -> Result<Command<'a>, CommandFault>
+    ensures value { IfOk result (λ command. expanding (texts words.now) ≡ Ok (requested command)) }
+    ensures refused { IfErr result (Tells (expanding (texts words.now))) }
+{
+    match words {
+        [source] => Ok(Command::Expand { source }),
+        _ => Err(CommandFault::Words),
+    }
+}
+
+fn read_freshening<'a>(alloc: Global, words: &[&'a str]) -> Result<Command<'a>, CommandFault>
+    ensures value { IfOk result (λ command. freshening (texts words.now) ≡ Ok (requested command)) }
+    ensures refused { IfErr result (Tells (freshening (texts words.now))) }
+{
+    match words {
+        [n, room, rest @ ..] => match read_blank(alloc, n, room, rest) {
+            Ok(blank) => Ok(Command::Fresh(blank)),
+            Err(fault) => Err(fault),
+        },
+        _ => Err(CommandFault::Words),
+    }
+}
+
+fn read_loading<'a>(alloc: Global, words: &[&'a str]) -> Result<Command<'a>, CommandFault>
+    ensures value { IfOk result (λ command. loading (texts words.now) ≡ Ok (requested command)) }
+    ensures refused { IfErr result (Tells (loading (texts words.now))) }
+{
+    match words {
+        [n, room, rates, cycles, options @ ..] => {
+            let loads = read_loads(alloc, n, room, rates, cycles, options)?;
+            Ok(Command::Load(loads))
+        }
+        _ => Err(CommandFault::Words),
+    }
+}
+
+fn read_plotting<'a>(words: &[&'a str]) -> Result<Command<'a>, CommandFault>
+    ensures value { IfOk result (λ command. plotting (texts words.now) ≡ Ok (requested command)) }
+    ensures refused { IfErr result (Tells (plotting (texts words.now))) }
+{
+    match words {
+        [] => Ok(Command::Plot { file: None }),
+        [file] => Ok(Command::Plot { file: Some(file) }),
+        _ => Err(CommandFault::Words),
+    }
+}
+
+/// Help is asked for by one word.
+fn read_helping<'a>(words: &[&'a str]) -> Result<Command<'a>, CommandFault>
+    ensures value { IfOk result (λ command. helping (texts words.now) ≡ Ok (requested command)) }
+    ensures refused { IfErr result (Tells (helping (texts words.now))) }
+{
+    if words.is_empty() {
+        Err(CommandFault::Help)
+    } else {
+        Err(CommandFault::Words)
+    }
 }

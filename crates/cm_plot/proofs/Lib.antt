@@ -1,3 +1,4 @@
 pub mod Growing
 pub mod Joining
 pub mod Reading
+pub mod Standing

@@ -8,4 +8,5 @@ pub mod Pictures
 pub mod Pieces
 pub mod Points
 pub mod Shown
+pub mod Standing
 pub mod Ticks

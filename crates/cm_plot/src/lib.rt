@@ -5,6 +5,7 @@
 mod axes;
 mod bins;
 mod cells;
+mod laws;
 mod lines;
 mod panels;
 mod pictures;
@@ -14,6 +15,7 @@ mod ticks;
 
 pub use axes::{Axis, along, axis_of};
 pub use cells::{behind, cell, place};
+pub use laws::{axes_join_their_numbers, points_stand_on_their_panels};
 pub use lines::{colour, push_circle, push_line_open, push_name};
 pub use panels::{push_place, push_sides};
 pub use pictures::{plot, push_head};

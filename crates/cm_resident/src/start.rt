@@ -7,6 +7,11 @@ use cm_bits::NoMemory;
 use std::alloc::Global;
 use std::marker::Model;
 use std::sync::{Arc, Wait};
+use std::thread::yield_now;
+
+/// How often a worker looks before it parks: about as long as threads take to be started. One that was parked may be woken
+/// where another runs, and then waits for its end.
+const LOOKS: u32 = 1000;
 
 /// The word of who is to begin, and of who is not.
 const BEGIN: u64 = 1;
@@ -167,6 +172,7 @@ impl Waiter {
         ensures told { self.new ≢ 0 }
         ensures value { IsTrue result ↔ (self.new ≡ begin) }
     {
+        self.await_word();
         for _look in rt.forever() {
             let found = self.look();
             if found != 0 {
@@ -175,6 +181,16 @@ impl Waiter {
             self.table.shared.park(rt, 0, 0);
         }
         unreachable!()
+    }
+
+    /// Looks until it is told, but so many times at most, and lets other threads run between two looks.
+    fn await_word(&self) {
+        for _look in 0..LOOKS {
+            if self.table.shared.peek(0) != 0 {
+                return;
+            }
+            yield_now();
+        }
     }
 
     fn look(&mut self) -> u64

@@ -17,7 +17,7 @@ const ROW: usize = 4;
 /// So many before the parcels of a round are filled and taken in.
 const PARCELS: usize = 40;
 
-/// As many go through them in a petit cycle, and again for each message that a router has room for.
+/// As many go through them in a petit cycle for each message that a router has room for.
 const MESSAGE: usize = 64;
 
 /// So many before threads are started and joined, however many chips there are.
@@ -41,7 +41,7 @@ pub(crate) fn is_soon_done<const N: usize, const CAP: usize>(
     if matches!(passage, Passage::Gated(_)) {
         return false;
     }
-    let cycle = MESSAGE.saturating_mul(CAP.saturating_add(1));
+    let cycle = MESSAGE.saturating_mul(CAP);
     let alone = cycles.saturating_mul(cycle).saturating_add(acts.len());
     let spared = alone - alone / usize::from(workers);
     let cut = CUT.saturating_add(rounds.saturating_mul(PARCELS));

@@ -54,6 +54,10 @@ ahead_passed zero chip i below quiet = refl
 ahead_passed (suc left) chip i below quiet =
     let more : 16 - i ≡ suc (16 - (i + 1)) = omega arith in rw (more, quiet (omega arith)) refl
 
+pub ahead_none : (left : ℕ) (chip : List Processor) (i : ℕ) → left ≡ 0 → ahead left chip i ≡ []
+unfolding ahead
+ahead_none left chip i none = rw none refl
+
 pub ahead_ends : (left : ℕ) (chip : List Processor) (i : ℕ) → 16 ≤ i → ahead left chip i ≡ []
 unfolding ahead
 ahead_ends left chip i past = let none : 16 - i ≡ 0 = omega arith in rw none (take-nil left)

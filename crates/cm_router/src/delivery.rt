@@ -15,7 +15,7 @@ ghost use Rattle.cm_router.specs.Deliveries.{chip_handed, run_after, AreBefore};
 
 use crate::letters::{is_one, receive, received, tell_delivered};
 use arrayvec::ArrayVec;
-use cm_bits::{FlagNo, Plane};
+use cm_bits::{FlagNo, Plane, Proc};
 use cm_element::Run;
 use cm_message::{Event, Message};
 use std::marker::Model;
@@ -171,6 +171,14 @@ pub fn pass_over(run: &Run)
         → chip_at run.now c ≡ chip_after_delivery [] (chip_at run.now c) }
 {
     let _ = run.flag_row(FlagNo::RECV);
+}
+
+/// Whether a processor can receive, of those that can. Where it cannot, a message for it is kept.
+pub fn receives(receivers: Plane, proc: Proc) -> bool
+    ensures kept { IsFalse result → (before chip : List Processor) (seen : List Message) (m : Message) → m.proc ≡ proc
+        → IsPlane receivers (can_receive chip) → HasGone before seen chip → HasHandedOver false before seen m chip }
+{
+    is_one(receivers, proc)
 }
 
 /// A message that has not arrived is kept, whoever can receive.

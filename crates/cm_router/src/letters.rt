@@ -168,6 +168,7 @@ pub(crate) fn tell_delivered(log: &mut Vec<Event>, message: &Message, here: u16)
     .unwrap();
 }
 
+#[inline(always)]
 #[tactic(auto, using(crate::proofs::Taking::fields))]
 fn field_value(chip: &ChipView<'_>, proc: Proc, at: u16, len: u16) -> u64
     requires some { 1 ≤ len }

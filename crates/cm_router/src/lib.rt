@@ -10,7 +10,7 @@ mod routing;
 
 pub use cm_message::{Event, Message, Rule, Tag};
 pub use cuts::Cuts;
-pub use delivery::{Deliveries, Delivery, pass_over, who_has_not_arrived_is_kept};
+pub use delivery::{Deliveries, Delivery, pass_over, receives, who_has_not_arrived_is_kept};
 pub use leaving::is_older;
 pub use letters::{
     acknowledge, asking, chip_asks, chip_is_acknowledged, is_idle, may_ask, message_sent, take_none,

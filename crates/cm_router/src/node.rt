@@ -88,6 +88,16 @@ impl Node {
         self.messages.clear();
     }
 
+    /// Takes all messages away, and makes room for so many.
+    pub fn clear_for(&mut self, room: u8)
+        requires some { 0 < room }
+        requires most { room ≤ 15 }
+        ensures value { self.new ≡ record { room = room; messages = [] } }
+    {
+        self.clear();
+        self.room = room;
+    }
+
     /// Whether there is no room left.
     pub fn is_full(&self) -> bool
         ensures value { result ≡ (length self.now.messages == self.now.room) }
@@ -182,8 +192,11 @@ impl Node {
         let mut left = 4.min(usize::from(self.room) - self.messages.len());
         let mut taken: Plane = 0;
         for number in 0u8..16 {
+            if left == 0 {
+                return taken;
+            }
             let proc = Proc::new(number).unwrap();
-            if left > 0 && is_one(asking, proc) {
+            if is_one(asking, proc) {
                 let sent = message_sent(chip, proc, here, dims, clock);
                 tell_injected(log, &sent);
                 self.messages.push(sent);

@@ -4,13 +4,21 @@ use Rattle.std.proofs.Common.{◌∷◌, length, get_or, min, refl, arith, ◌+�
 use Rattle.std.proofs.lemmas.Bool.{cases_eq}
 use Rattle.std.proofs.lemmas.List.{length-append, get_or_append_left, get_or_push, get_or_past, length-set, get_or-set_same}
 use Rattle.std.proofs.lemmas.List.{get_or-set_other}
-use Rattle.cm_slots.specs.Slots.{crosses, comers, is_taken, first_of, leaver_in, IsCarried, AreSlots}
+use Rattle.cm_slots.specs.Slots.{crosses, comers, is_taken, first_of, slot_in, slot_behind, leaver_in, IsCarried}
+use Rattle.cm_slots.specs.Slots.{AreSlots}
 
 -- the first so many lanes hold what they are to hold, the others what they held
 pub record AreDone (to_hold : ℕ → ℕ) (old now : List ℕ) (count : ℕ) : Type 0 where
   pub long : length now ≡ length old
   pub done : (i : ℕ) → i < count → get_or now i 0 ≡ to_hold i
   pub ahead : (i : ℕ) → count ≤ i → get_or now i 0 ≡ get_or old i 0
+
+-- so many lanes from one on hold what they are to hold, the others what they held
+pub record AreDoneFrom (at : ℕ) (to_hold : ℕ → ℕ) (old now : List ℕ) (count : ℕ) : Type 0 where
+  pub long : length now ≡ length old
+  pub done : (j : ℕ) → j < count → get_or now (at + j) 0 ≡ to_hold j
+  pub before : (i : ℕ) → i < at → get_or now i 0 ≡ get_or old i 0
+  pub behind : (i : ℕ) → at + count ≤ i → get_or now i 0 ≡ get_or old i 0
 
 -- one lane more
 one_more_lane : (to_hold : ℕ → ℕ) (old now : List ℕ) (count next value : ℕ) → next ≡ suc count → count < length old
@@ -36,6 +44,32 @@ four_more_lanes to_hold old now k a b c d inside first second third fourth was =
     (omega (arith, inside)) third
     (one_more_lane to_hold old (set now (k * 4) a) (k * 4 + 1) (k * 4 + 2) b (omega arith) (omega (arith, inside)) second
     (one_more_lane to_hold old now (k * 4) (k * 4 + 1) a (omega arith) (omega (arith, inside)) first was)))
+
+-- ---- one chip's slots, when rows are changed elsewhere
+
+-- a row in which a chip's slot is as it was
+pub row_changed : (rest : List (List ℕ)) (k : ℕ) (row : List ℕ) (i j : ℕ) → k < length rest
+    → get_or row i 0 ≡ slot_behind rest i k → slot_behind (set rest k row) i j ≡ slot_behind rest i j
+row_changed rest k row i j inside same = ⊎_elim
+    (λ (e : j ≡ k). rw (e, get_or-set_same rest k row [] inside) same)
+    (λ (e : j ≢ k). rw (get_or-set_other rest k j row [] e) refl)
+    (cases_eq j k)
+
+-- the first slot is as it was, and so are the others
+pub same_lane : (first : List ℕ) (rest : List (List ℕ)) (old_first : List ℕ) (old_rest : List (List ℕ)) (i : ℕ)
+    → get_or first i 0 ≡ get_or old_first i 0 → ((j : ℕ) → slot_behind rest i j ≡ slot_behind old_rest i j) → (j : ℕ)
+    → slot_in first rest i j ≡ slot_in old_first old_rest i j
+same_lane first rest old_first old_rest i same behind zero = same
+same_lane first rest old_first old_rest i same behind (suc j) = behind j
+
+-- who is carried, and the slots, are as they were
+pub same_carried : (p : ℕ) (old : ℕ → ℕ) (was now : ℕ) (before after : ℕ → ℕ) → now ≡ was
+    → ((j : ℕ) → after j ≡ before j) → IsCarried p old was before → IsCarried p old now after
+same_carried p old was now before after same each carried = record {
+  here = same ∙ carried.here;
+  earlier = λ j h. each j ∙ carried.earlier j h;
+  later = λ j h. each j ∙ carried.later j h;
+}
 
 -- ---- the first of which something is true
 

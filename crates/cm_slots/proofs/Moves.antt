@@ -1,6 +1,6 @@
 -- Tickets that cross several dimensions at once: in a queue, in slots, in all tiles, and as contracts see them.
-use Rattle.std.proofs.Common.{◌≡◌, ◌≢◌, ℕ, zero, suc, ◌+◌, ◌-◌, ◌*◌, ◌/◌, ◌%◌, ◌^◌, ◌<◌, ◌≤◌, ◌==◌, ◌++◌, ◌↔◌}
-use Rattle.std.proofs.Common.{Bool, true, false, List, [], ◌∷◌, length, map, Option, Some, None, refl, sym, ◌∙◌, ap}
+use Rattle.std.proofs.Common.{◌≡◌, ◌≢◌, ℕ, zero, suc, ◌+◌, ◌-◌, ◌*◌, ◌/◌, ◌%◌, ◌^◌, ◌<◌, ◌≤◌, ◌↔◌}
+use Rattle.std.proofs.Common.{true, false, List, [], ◌∷◌, length, map, Option, Some, None, refl, sym, ◌∙◌, ap}
 use Rattle.std.proofs.Common.{⊎_elim, arith, slice_index}
 use Rattle.std.specs.Prelude.{bit_xor}
 use Rattle.std.specs.Int.Bits.{xor_zero_r, xor_assoc}
@@ -12,7 +12,7 @@ use Rattle.std.proofs.lemmas.List.{length-map, map-id, get_or_past}
 use Rattle.std.proofs.lemmas.Simd.{map-map}
 use Rattle.std.proofs.lemmas.Option.{slice_get-map}
 use Rattle.std.specs.Option.{option_map}
-use Rattle.std.proofs.lemmas.Nat.{xor_block, xor_shr, xor_mod, xor_lt, xor_comm, pow_below, shl-shr}
+use Rattle.std.proofs.lemmas.Nat.{xor_block, xor_shr, xor_mod, xor_lt, xor_comm, shl-shr}
 use Rattle.cm_model.specs.Each.{each_from}
 use Rattle.cm_model.specs.Array.{each_chip, list_at}
 use Rattle.cm_model.proofs.Each.{same_each_below, is_each, length-each_from, get_or-each_below}
@@ -21,17 +21,17 @@ use Rattle.cm_slots.specs.declared.ticket.Ticket.{Ticket}
 use Rattle.cm_slots.specs.declared.order.Order.{Order}
 use Rattle.cm_slots.specs.declared.order.Order.TheVariants.{Arrival, Number}
 use Rattle.cm_slots.specs.Queues.{place_of_leaver}
-use Rattle.cm_slots.specs.Tickets.{has_to_go, has_come, ticket_across, ticket_of, exchanged}
-use Rattle.cm_slots.specs.Choice.{place_by, exchanged_by, exchanged_by_number}
+use Rattle.cm_slots.specs.Tickets.{has_to_go, has_come, ticket_of}
+use Rattle.cm_slots.specs.Choice.{place_by, exchanged_by}
 use Rattle.cm_slots.specs.declared.tile.Tile.{Tile}
 use Rattle.cm_slots.specs.Slots.{is_taken, is_arrival, leaver_at, comers, AreSlots}
-use Rattle.cm_slots.specs.Tiles.{slots_of, standing_at, IsTile, IsQuiet}
+use Rattle.cm_slots.specs.Tiles.{slots_of, standing_at, IsTile}
 use Rattle.cm_slots.specs.Runs.{no_tile, tile_at, leavers_at, numbers_at, tickets_of, queues_in, AreTiles, AreWithin}
 use Rattle.cm_slots.specs.Moves.{ticket_over, queues_over, AreMovable, slot_over, AreFirst, HasMoved}
 use Rattle.cm_slots.proofs.Standing.{standing_is, stands}
 use Rattle.cm_slots.proofs.Changing.{taken_in}
 use Rattle.cm_slots.proofs.Arriving.{same_test}
-use Rattle.cm_slots.proofs.Views.{as_many, ticket_list, tiles_kept}
+use Rattle.cm_slots.proofs.Views.{as_many, ticket_list}
 
 -- ---- of lists of queues
 

@@ -8,7 +8,6 @@ use Rattle.cm_slots.specs.declared.ticket.Ticket.{Ticket}
 use Rattle.cm_slots.specs.declared.tile.Tile.{Tile}
 use Rattle.cm_slots.specs.Slots.{leaver_at, comers}
 use Rattle.cm_slots.specs.Tiles.{slots_of, standing_at, IsTile}
-use Rattle.cm_slots.specs.Runs.{tile_at, leavers_at}
 
 -- a ticket that crosses all dimensions d of which bit d is set: these bits flip
 abbrev pub ticket_over : ℕ → Ticket → Ticket

@@ -1,6 +1,7 @@
 //! What crosses a dimension, from a tile to the one across.
 
-ghost use Rattle.std.specs.Prelude.{◌≡◌, ℕ, ◌%◌, ◌^◌, ◌<◌, length, slice_index, bit_xor, IfSome, IsFalse, false};
+ghost use Rattle.std.specs.Prelude.{◌≡◌, ◌≢◌, ℕ, ◌%◌, ◌^◌, ◌<◌, length, slice_index, bit_xor, IfSome, IsFalse, false};
+ghost use Rattle.std.specs.Prelude.{None};
 ghost use Rattle.cm_slots.specs.Slots.{slot_across, leaver_at, is_arrival};
 ghost use Rattle.cm_slots.specs.Runs.{tile_across, place_across};
 ghost use Rattle.cm_slots.specs.Moves.{slot_over};
@@ -15,32 +16,55 @@ pub(crate) fn tile_across(tile: usize, dim: u8) -> usize
     tile ^ (1 << dim) / WIDTH
 }
 
-/// Who leaves, as they arrive: the bit that is crossed has flipped.
-#[inline(never)]
-pub(crate) fn flipped(row: &Row, dim: u8) -> Row
+/// Puts down who leaves, as they arrive: the bit that is crossed has flipped. A row that lies there is written over.
+pub(crate) fn put_leavers(leavers: &mut Option<Row>, row: &Row, dim: u8)
+    requires dimension { dim < 12 }
+    requires long { length row.now ≡ 64 }
+    ensures value { (i : ℕ) → i < 64 → leaver_at leavers.new i ≡ slot_across dim (slice_index row.now i) }
+    ensures long { IfSome leavers.new (λ row. length row ≡ 64) }
+    ensures some { leavers.new ≢ None }
+{
+    match leavers {
+        Some(going) => flip(going, row, dim),
+        None => *leavers = Some(flipped(row, dim)),
+    }
+}
+
+fn flipped(row: &Row, dim: u8) -> Row
     requires dimension { dim < 12 }
     requires long { length row.now ≡ 64 }
     ensures value { (i : ℕ) → i < 64 → slice_index result i ≡ slot_across dim (slice_index row.now i) }
     ensures long { length result ≡ 64 }
 {
     let mut going = [0; WIDTH];
+    flip(&mut going, row, dim);
+    going
+}
+
+#[inline(never)]
+fn flip(going: &mut Row, row: &Row, dim: u8)
+    requires dimension { dim < 12 }
+    requires long { length row.now ≡ 64 }
+    ensures value { (i : ℕ) → i < 64 → slice_index going.new i ≡ slot_across dim (slice_index row.now i) }
+    ensures long { length going.new ≡ 64 }
+{
     for i in 0..WIDTH {
         let slot = row[i];
         going[i] = if slot == 0 { 0 } else { slot ^ 1 << (16 + dim) };
     }
-    going
 }
 
-/// What arrives at a tile, of what leaves the one across.
-pub(crate) fn arrivals(leavers: &Option<Row>, dim: u8) -> Row
+/// Puts down what arrives at a tile, of what leaves the one across.
+pub(crate) fn put_arrivals(lanes: &mut Row, leavers: &Option<Row>, dim: u8)
     requires dimension { dim < 12 }
     requires long { IfSome leavers.now (λ row. length row ≡ 64) }
-    ensures value { (i : ℕ) → i < 64 → slice_index result i ≡ leaver_at leavers.now (place_across dim i) }
-    ensures long { length result ≡ 64 }
+    requires wide { length lanes.old ≡ 64 }
+    ensures value { (i : ℕ) → i < 64 → slice_index lanes.new i ≡ leaver_at leavers.now (place_across dim i) }
+    ensures wide { length lanes.new ≡ 64 }
 {
     match leavers {
-        Some(row) => moved(row, dim),
-        None => [0; WIDTH],
+        Some(row) => put_across(lanes, row, dim),
+        None => *lanes = [0; WIDTH],
     }
 }
 
@@ -109,35 +133,44 @@ fn over(slot: u32, dims: u16) -> u32
     }
 }
 
-/// A row of which each lane stands at the place across.
-fn moved(row: &Row, dim: u8) -> Row
+/// Puts down a row of which each lane stands at the place across.
+fn put_across(lanes: &mut Row, row: &Row, dim: u8)
     requires dimension { dim < 12 }
     requires long { length row.now ≡ 64 }
-    ensures value { (i : ℕ) → i < 64 → slice_index result i ≡ slice_index row.now (place_across dim i) }
-    ensures long { length result ≡ 64 }
+    requires wide { length lanes.old ≡ 64 }
+    ensures value { (i : ℕ) → i < 64 → slice_index lanes.new i ≡ slice_index row.now (place_across dim i) }
+    ensures wide { length lanes.new ≡ 64 }
 {
     match dim {
-        0 => swapped::<1>(row),
-        1 => swapped::<2>(row),
-        2 => swapped::<4>(row),
-        3 => swapped::<8>(row),
-        4 => swapped::<16>(row),
-        5 => swapped::<32>(row),
-        _ => *row,
+        0 => put_swapped::<1>(lanes, row),
+        1 => put_swapped::<2>(lanes, row),
+        2 => put_swapped::<4>(lanes, row),
+        3 => put_swapped::<8>(lanes, row),
+        4 => put_swapped::<16>(lanes, row),
+        5 => put_swapped::<32>(lanes, row),
+        _ => *lanes = *row,
     }
 }
 
-/// A row of which the lanes whose numbers differ in this bit have changed places.
+/// Puts down a row of which the lanes whose numbers differ in this bit have changed places: four that stand side by
+/// side come from four that do.
 #[inline(never)]
-fn swapped<const BIT: usize>(row: &Row) -> Row
+fn put_swapped<const BIT: usize>(lanes: &mut Row, row: &Row)
     requires bit { BIT < 64 }
     requires long { length row.now ≡ 64 }
-    ensures value { (i : ℕ) → i < 64 → slice_index result i ≡ slice_index row.now (bit_xor i BIT) }
-    ensures long { length result ≡ 64 }
+    requires wide { length lanes.old ≡ 64 }
+    ensures value { (i : ℕ) → i < 64 → slice_index lanes.new i ≡ slice_index row.now (bit_xor i BIT) }
+    ensures wide { length lanes.new ≡ 64 }
 {
-    let mut lanes = [0; WIDTH];
-    for i in 0..WIDTH {
-        lanes[i] = row[i ^ BIT];
+    for k in 0..WIDTH / 4 {
+        let from = (k ^ BIT / 4) * 4;
+        let first = row[from + BIT % 4];
+        let second = row[from + (BIT % 4 ^ 1)];
+        let third = row[from + (BIT % 4 ^ 2)];
+        let fourth = row[from + (BIT % 4 ^ 3)];
+        lanes[k * 4] = first;
+        lanes[k * 4 + 1] = second;
+        lanes[k * 4 + 2] = third;
+        lanes[k * 4 + 3] = fourth;
     }
-    lanes
 }

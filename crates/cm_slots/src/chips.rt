@@ -35,6 +35,16 @@ pub(crate) fn ticket(tiles: &[Tile], chip: usize, place: usize) -> Option<Ticket
     ticket_in(slot)
 }
 
+/// Whether a ticket stands at a place of a chip.
+pub(crate) fn is_taken(tiles: &[Tile], chip: usize, place: usize) -> bool
+    requires chip { chip / 64 < length tiles.now }
+    requires place { place < 15 }
+    requires whole { All IsTile tiles.now }
+    ensures taken { IsTrue result ↔ place < length (tickets_of tiles.now chip) }
+{
+    tiles[chip / WIDTH].is_taken(chip % WIDTH, place)
+}
+
 /// Takes in a ticket at a chip, where it stands last.
 pub(crate) fn arrive(tiles: &mut [Tile], chip: usize, ticket: Ticket)
     requires chip { chip / 64 < length tiles.old }

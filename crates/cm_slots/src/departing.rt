@@ -47,7 +47,7 @@ fn close_up(tiles: &mut [Tile], leaving: &[Option<Row>], room: usize)
 {
     for t in 0..tiles.len() {
         if leaving[t].is_some() {
-            tiles[t].take_in(room, &[0; WIDTH]);
+            tiles[t].close_up(room);
         }
     }
 }

@@ -9,7 +9,7 @@ ghost use Rattle.cm_slots.specs.Tiles.{IsShaped, IsQuiet, IsTile};
 ghost use Rattle.cm_slots.specs.Runs.{HaveLeft, HaveTakenIn, tile_at, leavers_at, tile_across, arriving, tickets_of};
 ghost use Rattle.cm_slots.specs.Runs.{AreWithin};
 
-use crate::across::{arrivals, tile_across};
+use crate::across::tile_across;
 use crate::order::Order;
 use crate::rows::Row;
 use crate::tile::Tile;
@@ -78,8 +78,7 @@ fn take_in(tiles: &mut [Tile], leaving: &[Option<Row>], room: usize, dim: u8)
     for t in 0..tiles.len() {
         let across = tile_across(t, dim);
         if !are_idle(leaving, t, across) {
-            let coming = arrivals(&leaving[across], dim);
-            tiles[t].take_in(room, &coming);
+            tiles[t].take_in(&leaving[across], room, dim);
         }
     }
 }

@@ -90,6 +90,15 @@ impl Slots {
         }
     }
 
+    /// Whether a ticket stands at a place of a chip.
+    pub fn is_taken(&self, chip: usize, place: usize) -> bool
+        requires chip { chip < length self.now }
+        requires place { place < 15 }
+        ensures taken { IsTrue result ↔ place < length (list_at self.now chip) }
+    {
+        self.tiles.is_taken(chip ^ usize::from(self.noted), place)
+    }
+
     /// Takes in a ticket at a chip, where it stands last.
     pub fn arrive(&mut self, chip: usize, ticket: Ticket)
         requires chip { chip < length self.old }

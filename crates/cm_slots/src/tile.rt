@@ -7,9 +7,10 @@ ghost use Rattle.cm_slots.specs.declared.order.Order.TheVariants.{Arrival, Numbe
 ghost use Rattle.cm_slots.specs.Slots.{is_taken, is_arrival, leaver_at, slot_behind, AreSlots, IsBlank, AreTaken};
 ghost use Rattle.cm_slots.specs.Tiles.{slots_of, standing_at, IsShaped, IsQuiet, IsTile, HasLeft, HasTakenIn, IsPut};
 ghost use Rattle.cm_slots.specs.Tiles.{HasChanged};
+ghost use Rattle.cm_slots.specs.Runs.{place_across};
 ghost use Rattle.cm_slots.specs.Moves.{AreFirst, HasMoved, slot_over};
 
-use crate::across::{flipped, has_arrival_over, put_over};
+use crate::across::{has_arrival_over, put_arrivals, put_leavers, put_over};
 use crate::choice::{leave_from, places};
 use crate::order::Order;
 use crate::rows::{ROOM, Row, WIDTH, has_arrival, is_blank, leave, take_in};
@@ -84,7 +85,7 @@ impl Tile {
     {
         let reach = self.reach(room);
         leave(&mut self.first, &mut self.rest[..], reach - 1, dim);
-        *leavers = Some(flipped(&self.first, dim));
+        put_leavers(leavers, &self.first, dim);
     }
 
     /// The same by number.
@@ -100,7 +101,7 @@ impl Tile {
         let reach = self.reach(room);
         let places = places(&self.first, &self.rest[..], reach - 1, dim);
         leave_from(&mut self.first, &mut self.rest[..], reach - 1, &places);
-        *leavers = Some(flipped(&self.first, dim));
+        put_leavers(leavers, &self.first, dim);
     }
 
     /// How much room is enough to find who leaves: where no chip is full, that for one more than stand at any, since
@@ -125,17 +126,40 @@ impl Tile {
         room
     }
 
-    /// Takes in at each chip who comes.
-    pub fn take_in(&mut self, room: usize, coming: &Row)
+    /// Takes in at each chip who comes across a dimension, of those who leave the tile there.
+    pub fn take_in(&mut self, leavers: &Option<Row>, room: usize, dim: u8)
+        requires dimension { dim < 12 }
         requires some { 0 < room }
         requires most { room ≤ 15 }
         requires shape { IsShaped self.old }
-        requires long { length coming.now ≡ 64 }
-        requires taken { AreTaken coming.now }
-        ensures value { (comes : ℕ → ℕ) → ((i : ℕ) → i < 64 → slice_index coming.now i ≡ comes i)
-            → HasTakenIn room comes self.old self.new }
+        requires long { IfSome leavers.now (λ row. length row ≡ 64) }
+        requires taken { (i : ℕ) → i < 64 → leaver_at leavers.now (place_across dim i) ≢ 0
+            → is_taken (leaver_at leavers.now (place_across dim i)) ≡ true }
+        ensures value { HasTakenIn room (λ i. leaver_at leavers.now (place_across dim i)) self.old self.new }
     {
-        self.first = *coming;
+        put_arrivals(&mut self.first, leavers, dim);
+        self.take_in_first(room);
+    }
+
+    /// Lets those who stay at each chip close up: nobody comes.
+    pub fn close_up(&mut self, room: usize)
+        requires some { 0 < room }
+        requires most { room ≤ 15 }
+        requires shape { IsShaped self.old }
+        ensures value { HasTakenIn room (λ i. 0) self.old self.new }
+    {
+        self.first = [0; WIDTH];
+        self.take_in_first(room);
+    }
+
+    /// Takes in at each chip who has been put down in the first slot.
+    fn take_in_first(&mut self, room: usize)
+        requires some { 0 < room }
+        requires most { room ≤ 15 }
+        requires shape { IsShaped self.old }
+        requires taken { AreTaken self.old.first }
+        ensures value { HasTakenIn room (λ i. slice_index self.old.first i) self.old self.new }
+    {
         self.awake = true;
         let reach = self.reach_behind(room);
         take_in(&mut self.first, &mut self.rest[..], reach - 1);
@@ -270,6 +294,16 @@ impl Tile {
             len += 1;
         }
         len
+    }
+
+    /// Whether a ticket stands in a slot of a chip.
+    pub fn is_taken(&self, place: usize, slot: usize) -> bool
+        requires place { place < 64 }
+        requires slot { slot < 15 }
+        requires whole { IsTile self.now }
+        ensures taken { IsTrue result ↔ slot < length (standing_at self.now place) }
+    {
+        self.slot(place, slot) != 0
     }
 
     /// What is in a slot of a chip.

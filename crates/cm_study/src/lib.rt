@@ -10,6 +10,7 @@ mod studies;
 mod study_laws;
 mod tables;
 mod trace;
+mod watch;
 mod ways;
 mod whereabouts;
 
@@ -18,3 +19,4 @@ pub use routes::{RouteFault, route};
 pub use studies::{StudyFault, Table, study};
 pub use study_laws::counts_agree_with_the_account;
 pub use trace::Trace;
+pub use watch::{Unwatched, Watch};

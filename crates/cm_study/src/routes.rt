@@ -10,6 +10,7 @@ use crate::counting::{chip_count, log_lengths};
 use crate::known::go_on;
 use crate::route_lines::{push_delivery, push_end, push_stand};
 use crate::studies::lacks_room;
+use crate::watch::Watch;
 use crate::whereabouts::{Stand, delivery_in, stand_in};
 use cm_array::Machine;
 use cm_bits::{NoMemory, Place};
@@ -47,11 +48,12 @@ impl From<NoMemory> for RouteFault {
 }
 
 /// Has a machine run a program's acts, until the message of a tag is delivered, and tells the route of that message.
-pub fn route<const N: usize, const CAP: usize>(
+pub fn route<const N: usize, const CAP: usize, W: Watch>(
     alloc: Global,
     machine: &mut Machine<N, CAP>,
     acts: &[Act],
     tag: Tag,
+    watch: &mut W,
 ) -> Result<Vec<u8>, RouteFault>
     ensures value { IfOk result (λ text. route_of N CAP tag machine.old.machine acts.now ≡ Ok text.items) }
     ensures refused { IfErr result (λ fault. fault ≢ RouteFault.Memory
@@ -63,11 +65,12 @@ pub fn route<const N: usize, const CAP: usize>(
         return Err(RouteFault::Chip(chips - 1));
     }
     let mut text = Vec::new(alloc);
-    for act in acts {
+    for (done, act) in acts.iter().enumerate() {
         if lacks_room(machine.clock(), act) {
             return Err(RouteFault::Clock);
         }
         let over = follow(alloc, machine, act, &tag, &mut text)?;
+        watch.see(done + 1, acts.len());
         if over {
             return Ok(text);
         }

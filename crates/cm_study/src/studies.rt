@@ -4,6 +4,7 @@ ghost use Rattle.std.specs.Prelude.{◌≡◌, ◌≢◌, ◌^◌, ◌-◌, Ok, 
 ghost use Rattle.cm_study.specs.Study.{header, lacks_room, table_of};
 
 use crate::known::Known;
+use crate::watch::Watch;
 use cm_array::Machine;
 use cm_bits::NoMemory;
 use cm_model::Act;
@@ -42,11 +43,12 @@ impl From<NoMemory> for StudyFault {
 }
 
 /// Has a machine run a program's acts, and tells the table of them.
-pub fn study<const N: usize, const CAP: usize>(
+pub fn study<const N: usize, const CAP: usize, W: Watch>(
     alloc: Global,
     machine: &mut Machine<N, CAP>,
     acts: &[Act],
     table: Table,
+    watch: &mut W,
 ) -> Result<Vec<u8>, StudyFault>
     ensures value { IfOk result (λ text. table_of N CAP table machine.old.machine acts.now ≡ Ok text.items) }
     ensures refused { IfErr result (λ fault. fault ≢ StudyFault.Memory
@@ -54,11 +56,12 @@ pub fn study<const N: usize, const CAP: usize>(
 {
     let mut text = opening_text(alloc, table)?;
     let mut known = Known::opening(alloc, machine)?;
-    for act in acts {
+    for (done, act) in acts.iter().enumerate() {
         if lacks_room(machine.clock(), act) {
             return Err(StudyFault::Clock);
         }
         known.follow(alloc, machine, act, table, &mut text)?;
+        watch.see(done + 1, acts.len());
     }
     known.tell_end(machine, table, &mut text)?;
     Ok(text)

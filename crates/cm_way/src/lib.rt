@@ -3,7 +3,9 @@
 #![tactic(auto)]
 
 mod drawing;
+mod laws;
 mod legs;
 mod rows;
 
 pub use drawing::plot;
+pub use laws::routes_are_drawn_so;

@@ -29,7 +29,9 @@ impl Run {
         is_one(self.plane(chip, at), proc)
     }
 
-    /// The value of a memory field: bit 0 lies at the field's address.
+    /// The value of a memory field: bit 0 lies at the field's address. It stands in its callers, most of which know the
+    /// field.
+    #[inline(always)]
     pub fn field(&self, chip: u16, proc: Proc, field: Field) -> u64
         requires chip { chip < length self.now }
         ensures value { result ≡ field_value (processor_at (chip_at self.now chip) proc) field.at field.len }

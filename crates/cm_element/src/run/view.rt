@@ -57,6 +57,7 @@ impl<'a> ChipView<'a> {
     }
 
     /// The value of a memory field: bit 0 lies at the field's address.
+    #[inline(always)]
     pub fn field(&self, proc: Proc, field: Field) -> u64
         ensures value { result ≡ field_value (processor_at self.now proc) field.at field.len }
     {

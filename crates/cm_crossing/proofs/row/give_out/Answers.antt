@@ -13,8 +13,38 @@ use Rattle.cm_model.proofs.Scan.{HandsOver, scan_ends}
 use Rattle.cm_router.specs.Deliveries.{run_after}
 use Rattle.cm_crossing.specs.Standing.{message_of}
 use Rattle.cm_crossing.proofs.Carrying.{without_kept}
-use Rattle.cm_crossing.proofs.Keeping.{written_again, scan_taken, scan_passed}
+use Rattle.cm_crossing.proofs.Keeping.{written_again, scan_taken, scan_passed, scan_to}
+use Rattle.cm_model.specs.Chip.{IsPlane}
+use Rattle.cm_model.specs.Letters.{can_receive}
 use Rattle.cm_crossing.proofs.row.give_out.Goals as goal
+
+pub next_given-place-requires-clause-kept : goal.next_given-place-requires-clause-kept
+next_given-place-requires-clause-kept c =
+    let queue = list_at c.loop-ticket.slots c.args.chip in
+    let here : list_at c.remove.new.self c.args.chip ≡ remove queue c.loop-ticket.place = grind (arith, elements) in
+    rw here (without_kept _ queue (Some c.loop-ticket.place) c.loop-ticket.invariant.kept)
+
+pub next_given-place-requires-clause-from : goal.next_given-place-requires-clause-from
+next_given-place-requires-clause-from c =
+    let queue = list_at c.loop-ticket.slots c.args.chip in
+    let here : list_at c.remove.new.self c.args.chip ≡ remove queue c.loop-ticket.place = grind (arith, elements) in
+    let inside = slice_get_within queue c.loop-ticket.place c.in-Some.ticket (sym c.in-Some.ensures.value) in
+    rw here (grind (arith, length-remove, inside))
+
+pub loop-ticket-smaller-then-is_delivered : goal.loop-ticket-smaller-then-is_delivered
+loop-ticket-smaller-then-is_delivered c =
+    let queue = list_at c.loop-ticket.slots c.args.chip in
+    let here : list_at c.remove.new.self c.args.chip ≡ remove queue c.loop-ticket.place = grind (arith, elements) in
+    let inside = slice_get_within queue c.loop-ticket.place c.in-Some.ticket (sym c.in-Some.ensures.value) in
+    let long : length (list_at c.remove.new.self c.args.chip) + 1 ≡ length queue =
+    rw here (grind (arith, length-remove, inside)) in
+    omega (arith, long, c.next_given-place.ensures.from)
+
+pub next_given-place-requires-else-is_delivered-clause-from
+    : goal.next_given-place-requires-else-is_delivered-clause-from
+next_given-place-requires-else-is_delivered-clause-from c =
+    let queue = list_at c.loop-ticket.slots c.args.chip in
+    omega (arith, slice_get_within queue c.loop-ticket.place c.in-Some.ticket (sym c.in-Some.ensures.value))
 
 pub loop-ticket-preserved-then-is_delivered : goal.loop-ticket-preserved-then-is_delivered
 loop-ticket-preserved-then-is_delivered c =
@@ -35,12 +65,18 @@ loop-ticket-preserved-then-is_delivered c =
     let is : Some c.in-Some.ticket ≡ slice_get queue c.loop-ticket.place = c.in-Some.ensures.value in
     let inside = slice_get_within queue c.loop-ticket.place c.in-Some.ticket (sym is) in
     let here : list_at c.remove.new.self place ≡ remove queue c.loop-ticket.place = grind (arith, elements) in
+    let passing = c.next_given-place.ensures in
+    let able : IsPlane c.is_delivered.new.receivers
+    (can_receive (chip_at (run_after c.is_delivered.new.deliveries run) place)) =
+    rw now (step.receivers (chip_at first place) (chip_at old place) was.scan.seen was.scan.gone was.receivers) in
     record {
-      scan = rw (here, step.log, now) (scan_taken c.args.row.now queue c.in-Some.ticket is was.scan next);
+      scan = scan_to c.loop-ticket.place c.next_given-place.result c.args.row.now (list_at c.remove.new.self place)
+          passing.from passing.within
+          (λ j t from below at. passing.passed j t from below at (chip_at first place) _ able)
+          (rw (here, step.log, now) (scan_taken c.args.row.now queue c.in-Some.ticket is was.scan next));
       run = written_again place first old _ chip put now was.run;
       inside = omega (arith, was.inside, ap length put, length-set old place chip);
-      receivers = rw now (step.receivers (chip_at first place) (chip_at old place) was.scan.seen was.scan.gone
-          was.receivers);
+      receivers = able;
       before = step.before (place + 1) (omega arith) was.before;
       room = grind (arith, length-remove, step.count);
       kept = rw here (without_kept _ queue (Some c.loop-ticket.place) was.kept);
@@ -67,11 +103,18 @@ loop-ticket-preserved c =
     λ seen gone. step.step (chip_at first place) chip seen gone was.receivers in
     let queue = list_at c.loop-ticket.slots place in
     let is : Some c.in-Some.ticket ≡ slice_get queue c.loop-ticket.place = c.in-Some.ensures.value in
+    let passing = c.next_given-place-else-is_delivered.ensures in
+    let able : IsPlane c.is_delivered.new.receivers
+    (can_receive (chip_at (run_after c.is_delivered.new.deliveries run) place)) =
+    rw now (step.receivers (chip_at first place) chip was.scan.seen was.scan.gone was.receivers) in
     record {
-      scan = rw (step.log, append-nil, now) (scan_passed c.args.row.now queue c.in-Some.ticket is was.scan next);
+      scan = scan_to (c.loop-ticket.place + 1) c.next_given-place-else-is_delivered.result c.args.row.now queue
+          passing.from passing.within
+          (λ j t from below at. passing.passed j t from below at (chip_at first place) _ able)
+          (rw (step.log, append-nil, now) (scan_passed c.args.row.now queue c.in-Some.ticket is was.scan next));
       run = written_again place first old _ chip put now was.run;
       inside = omega (arith, was.inside, ap length put, length-set old place chip);
-      receivers = rw now (step.receivers (chip_at first place) chip was.scan.seen was.scan.gone was.receivers);
+      receivers = able;
       before = step.before (place + 1) (omega arith) was.before;
       room = grind (arith, step.count);
       kept = was.kept;

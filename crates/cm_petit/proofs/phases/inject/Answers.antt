@@ -1,7 +1,7 @@
-use Rattle.std.proofs.Common.{arith, refl, ◌+◌, ◌^◌}
+use Rattle.std.proofs.Common.{arith, refl, ◌+◌, ◌^◌, ◌<◌, length}
 use Rattle.cm_blocks.specs.Steps.{part_after}
 use Rattle.cm_petit.proofs.Making.{injecting, made_none, made_past, made_more, made_all, injecting_nothing}
-use Rattle.cm_petit.proofs.Making.{injecting_passed}
+use Rattle.cm_petit.proofs.Making.{injecting_passed, room_is}
 use Rattle.cm_petit.proofs.phases.inject.Goals as goal
 
 pub returns-then-is_idle-clause-value : goal.returns-then-is_idle-clause-value
@@ -12,6 +12,20 @@ returns-then-is_idle-clause-value c = λ routing.
     (made_past (2 ^ c.args.sizes.span) (made_none are.chip_count are.buffer_count are.log_count) (omega arith)
     (λ k from l e. injecting_nothing c.args.sizes.dims c.args.sizes.room c.args.clock (c.args.first + k) _
     (c.is_idle.ensures.idle c.if-is_idle.true k (omega (arith, l, are.chip_count))))) (omega arith)
+
+pub inject-requires-clause-log_room : goal.inject-requires-clause-log_room
+inject-requires-clause-log_room c =
+    let here = c.loop-c.c in
+    let log = c.index-logs-c.result in
+    let was = c.loop-c.invariant.injected in
+    let inside : here < length c.loop-c.logs = c.loop-c-test.true in
+    let there : here < length c.args.logs.now = omega (arith, was.log_count, c.requires.routers.log_count) in
+    omega (
+      arith,
+      (room_is c.loop-c.logs here log inside).1,
+      was.spared here (omega arith),
+      c.requires.log_room here (room_is c.args.logs.now here log there).2,
+    )
 
 pub loop-c-init : goal.loop-c-init
 loop-c-init c =

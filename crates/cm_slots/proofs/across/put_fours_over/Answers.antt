@@ -1,4 +1,4 @@
-use Rattle.std.proofs.Common.{◌≡◌, ℕ, ◌+◌, ◌*◌, ◌/◌, ◌%◌, ◌<◌, slice_index, ap, ◌∙◌, arith}
+use Rattle.std.proofs.Common.{ℕ, ◌/◌, ◌%◌, slice_index, ap, ◌∙◌, arith}
 use Rattle.std.specs.Prelude.{bit_xor}
 use Rattle.std.proofs.lemmas.Nat.{xor_lt}
 use Rattle.cm_slots.specs.Moves.{slot_over}

@@ -1,4 +1,4 @@
-use Rattle.std.proofs.Common.{◌/◌, ◌<◌, ℕ, length, arith, ◌∙◌}
+use Rattle.std.proofs.Common.{◌/◌, arith}
 use Rattle.std.proofs.lemmas.List.Elements.{All-from_get_or}
 use Rattle.std.proofs.lemmas.Nat.{xor_shr}
 use Rattle.cm_slots.specs.Tiles.{IsTile}

@@ -1,4 +1,4 @@
-use Rattle.std.proofs.Common.{◌/◌, ◌<◌, ℕ, length, arith}
+use Rattle.std.proofs.Common.{◌/◌, ℕ}
 use Rattle.std.specs.Prelude.{bit_xor}
 use Rattle.cm_slots.specs.declared.tile.Tile.{Tile}
 use Rattle.cm_slots.specs.Runs.{leavers_at}

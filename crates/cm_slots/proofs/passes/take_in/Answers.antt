@@ -16,8 +16,7 @@ loop-t-preserved c =
     elim c.if-not-are_idle.branch [
       | then-not-are_idle w ↦ rw w.tiles-is
           (one_more_done step step c.args.tiles.now c.loop-t.tiles t w.take_in.new.self inside (λ s old new h has. has)
-          (w.take_in.ensures.value (coming t)
-          (λ i h. rw c.tile_across-across.ensures.value at (w.arrivals-coming.ensures.value i h)))
+          (rw c.tile_across-across.ensures.value at w.take_in.ensures.value)
           c.loop-t.invariant)
       | else-not-are_idle w ↦ rw w.tiles-is
           (let none = c.are_idle.ensures.none w.if-not-are_idle.false in

@@ -1,25 +1,24 @@
-use Rattle.std.proofs.Common.{◌≡◌, set, add-one, rules, arith}
-use Rattle.std.proofs.lemmas.Grind.{common_steps}
-use Rattle.cm_slots.specs.Slots.{slot_in, slot_behind}
-use Rattle.cm_slots.proofs.Carrying.{none_carried, one_more_carried}
+use Rattle.std.proofs.Common.{◌≡◌, ◌+◌, ◌-◌, ◌*◌, ◌<◌, ◌≤◌, ◌∙◌, suc, ⊎_elim, arith}
+use Rattle.std.proofs.Math.Path.{fun_ext}
+use Rattle.std.proofs.lemmas.Bool.{cases_lt}
+use Rattle.cm_slots.proofs.Carrying.{same_carried}
 use Rattle.cm_slots.proofs.rows.leave.Goals as goal
 
-pub loop-k-init : goal.loop-k-init
-loop-k-init c = record {
-  shape = c.requires.shape;
-  value = λ i h. none_carried c.args.dim (slot_in c.args.first.now c.args.rest.now i);
-}
-
-pub loop-k-preserved : goal.loop-k-preserved
-loop-k-preserved c = record {
-  shape = search (rules, common_steps, c.loop-k.invariant.shape);
-  value = λ i h. rw add-one (one_more_carried c.args.dim c.loop-k.k (slot_in c.args.first.now c.args.rest.now i)
-      (slot_behind c.loop-k.rest i) (slot_behind (set c.loop-k.rest c.loop-k.k c.pass_on.new.row) i) _ _
-      (c.pass_on.ensures.carried i h) (grind (arith, common_steps, c.pass_on.ensures.row i h))
-      (λ j e. grind (arith, common_steps)) (c.loop-k.invariant.value i h));
-}
+pub loop-b-preserved : goal.loop-b-preserved
+loop-b-preserved c =
+    let at = c.loop-b.b * 16 in
+    let was = c.loop-b.invariant in
+    let now = c.leave_lanes.ensures in
+    record {
+      shape = now.shape;
+      value = λ i h. ⊎_elim
+          (λ (l : i < at). same_carried _ _ _ _ _ _ (now.before i 0 l) (λ j. now.before i (suc j) l) (was.value i l))
+          (λ (l : at ≤ i).
+          let is : at + (i - at) ≡ i = omega arith in
+          rw (fun_ext (λ j. was.ahead i j l)) at (rw is at (now.value (i - at) (omega arith))))
+          (cases_lt i at);
+      ahead = λ i j h. now.behind i j (omega (arith, h)) ∙ was.ahead i j (omega (arith, h));
+    }
 
 pub returns-clause-value : goal.returns-clause-value
-returns-clause-value c =
-    let last : c.loop-k.k ≡ c.args.count = omega (arith, c.loop-k.auto.k-end, c.loop-k-test.false) in
-    λ i h. rw last at (c.loop-k.invariant.value i h)
+returns-clause-value c = λ i h. c.loop-b.invariant.value i (omega (arith, c.loop-b.auto.b-end, c.loop-b-test.false))

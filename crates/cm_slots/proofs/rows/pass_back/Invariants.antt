@@ -1,11 +1,11 @@
-use Rattle.std.proofs.Common.{slice_index, if◌then◌else◌, ◌==◌}
-use Rattle.cm_slots.proofs.Carrying.{AreDone}
+use Rattle.std.proofs.Common.{◌+◌, ◌==◌, slice_index, if◌then◌else◌}
+use Rattle.cm_slots.proofs.Carrying.{AreDone, AreDoneFrom}
 use Rattle.cm_slots.proofs.rows.pass_back.Given as goal
 
-abbrev pub invariant-loop-i : goal.invariant-loop-i
-invariant-loop-i l = record {
-  carried : AreDone (λ i. if slice_index l.initial.row i == 0 then slice_index l.initial.carried i else slice_index
-      l.initial.row i) l.initial.carried l.carried l.i;
-  row : AreDone (λ i. if slice_index l.initial.row i == 0 then 0 else slice_index l.initial.carried i) l.initial.row
-      l.row l.i;
+abbrev pub invariant-loop-j : goal.invariant-loop-j
+invariant-loop-j l = record {
+  carried : AreDone (λ j. if slice_index l.initial.row (l.at + j) == 0 then slice_index l.initial.carried j else
+      slice_index l.initial.row (l.at + j)) l.initial.carried l.carried l.j;
+  row : AreDoneFrom l.at (λ j. if slice_index l.initial.row (l.at + j) == 0 then 0 else slice_index l.initial.carried j)
+      l.initial.row l.row l.j;
 }

@@ -1,12 +1,12 @@
-use Rattle.std.proofs.Common.{slice_index, if◌then◌else◌}
+use Rattle.std.proofs.Common.{◌+◌, slice_index, if◌then◌else◌}
 use Rattle.cm_slots.specs.Slots.{crosses}
-use Rattle.cm_slots.proofs.Carrying.{AreDone}
+use Rattle.cm_slots.proofs.Carrying.{AreDone, AreDoneFrom}
 use Rattle.cm_slots.proofs.rows.pass_on.Given as goal
 
-abbrev pub invariant-loop-i : goal.invariant-loop-i
-invariant-loop-i l = record {
-  carried : AreDone (λ i. if crosses l.dim (slice_index l.initial.carried i) then slice_index l.initial.carried i
-      else slice_index l.initial.row i) l.initial.carried l.carried l.i;
-  row : AreDone (λ i. if crosses l.dim (slice_index l.initial.carried i) then slice_index l.initial.row i else
-      slice_index l.initial.carried i) l.initial.row l.row l.i;
+abbrev pub invariant-loop-j : goal.invariant-loop-j
+invariant-loop-j l = record {
+  carried : AreDone (λ j. if crosses l.dim (slice_index l.initial.carried j) then slice_index l.initial.carried j
+      else slice_index l.initial.row (l.at + j)) l.initial.carried l.carried l.j;
+  row : AreDoneFrom l.at (λ j. if crosses l.dim (slice_index l.initial.carried j) then slice_index l.initial.row
+      (l.at + j) else slice_index l.initial.carried j) l.initial.row l.row l.j;
 }

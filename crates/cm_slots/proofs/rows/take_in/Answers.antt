@@ -1,24 +1,31 @@
-use Rattle.std.proofs.Common.{◌≡◌, ◌-◌, suc, set, rules, arith}
-use Rattle.std.proofs.lemmas.Grind.{common_steps}
-use Rattle.cm_slots.specs.Slots.{slot_in, slot_behind}
-use Rattle.cm_slots.proofs.Carrying.{one_more_brought, has_come}
+use Rattle.std.proofs.Common.{◌≡◌, ◌+◌, ◌-◌, ◌*◌, ◌<◌, ◌≤◌, ◌∙◌, suc, ⊎_elim, arith}
+use Rattle.std.proofs.Math.Path.{fun_ext}
+use Rattle.std.proofs.lemmas.Bool.{cases_lt}
 use Rattle.cm_slots.proofs.rows.take_in.Goals as goal
 
-pub loop-k-preserved : goal.loop-k-preserved
-loop-k-preserved c =
-    let k = c.loop-k.k in
-    let last : k ≡ suc (k - 1) = omega (arith, c.loop-k-test.true) in
+pub take_in_lanes-requires-clause-taken : goal.take_in_lanes-requires-clause-taken
+take_in_lanes-requires-clause-taken c = λ j h.
+    let at = c.loop-b.b * 16 in
+    rw (c.loop-b.invariant.ahead (at + j) 0 (omega arith))
+    (c.requires.taken (at + j) (omega (arith, c.loop-b-test.true)))
+
+pub loop-b-preserved : goal.loop-b-preserved
+loop-b-preserved c =
+    let at = c.loop-b.b * 16 in
+    let was = c.loop-b.invariant in
+    let now = c.take_in_lanes.ensures in
     record {
-      shape = search (rules, common_steps, c.loop-k.invariant.shape);
-      value = λ i xs h few are. one_more_brought (k - 1) _ xs (slot_behind c.args.rest.now i)
-          (slot_behind c.loop-k.rest i) (slot_behind (set c.loop-k.rest (k - 1) c.pass_back.new.row) i) _ _ are
-          (c.pass_back.ensures.carried i h) (grind (arith, common_steps, c.pass_back.ensures.row i h))
-          (λ j e. grind (arith, common_steps)) (rw last at (c.loop-k.invariant.value i xs h few are));
+      shape = now.shape;
+      value = λ i xs h few most are. ⊎_elim
+          (λ (l : i < at). rw (fun_ext (λ j. now.before i j l)) (was.value i xs l few most are))
+          (λ (l : at ≤ i).
+          let is : at + (i - at) ≡ i = omega arith in
+          rw (← was.ahead i 0 l) (rw is at (now.value (i - at) xs (omega arith) few most
+          (rw (is, fun_ext (λ j. was.ahead i (suc j) l)) are))))
+          (cases_lt i at);
+      ahead = λ i j h. now.behind i j (omega (arith, h)) ∙ was.ahead i j (omega (arith, h));
     }
 
 pub returns-clause-value : goal.returns-clause-value
-returns-clause-value c =
-    let last : c.loop-k.k ≡ 0 = omega (arith, c.loop-k-test.false) in
-    λ i xs h few most are. has_come xs _ (slot_in c.loop-k.first c.loop-k.rest i)
-    (slot_behind c.args.rest.now i) most (c.requires.taken i h) are
-    (rw last at (c.loop-k.invariant.value i xs h few are))
+returns-clause-value c = λ i xs h. c.loop-b.invariant.value i xs
+    (omega (arith, c.loop-b.auto.b-end, c.loop-b-test.false))

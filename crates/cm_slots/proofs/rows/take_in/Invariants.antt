@@ -1,11 +1,12 @@
-use Rattle.std.proofs.Common.{◌<◌, ◌≤◌, ℕ, List, length, slice_index}
-use Rattle.cm_slots.specs.Slots.{AreRows, slot_behind, AreSlots}
-use Rattle.cm_slots.proofs.Carrying.{IsBrought}
+use Rattle.std.proofs.Common.{◌≡◌, ◌*◌, ◌<◌, ◌≤◌, ◌++◌, ℕ, List, length, slice_index}
+use Rattle.cm_slots.specs.Slots.{AreRows, slot_in, slot_behind, comers, AreSlots}
 use Rattle.cm_slots.proofs.rows.take_in.Given as goal
 
-abbrev pub invariant-loop-k : goal.invariant-loop-k
-invariant-loop-k l = record {
+abbrev pub invariant-loop-b : goal.invariant-loop-b
+invariant-loop-b l = record {
   shape : AreRows l.first l.rest;
-  value : (i : ℕ) (xs : List ℕ) → i < 64 → length xs ≤ l.count → AreSlots (slot_behind l.initial.rest i) xs
-      → IsBrought l.k xs (slice_index l.initial.first i) (slice_index l.first i) (slot_behind l.rest i);
+  value : (i : ℕ) (xs : List ℕ) → i < l.b * 16 → length xs ≤ l.count → length xs < 15
+      → AreSlots (slot_behind l.initial.rest i) xs
+      → AreSlots (slot_in l.first l.rest i) (xs ++ comers (slice_index l.initial.first i));
+  ahead : (i j : ℕ) → l.b * 16 ≤ i → slot_in l.first l.rest i j ≡ slot_in l.initial.first l.initial.rest i j;
 }

@@ -19,9 +19,9 @@ returns-then-tag-chips-clause-refused g c = λ other.
     else Err (Chip (2 ^ n - 1))) (le-ltb tag.chip (2 ^ n) past)
     ∙ ap (λ (k : ℕ). Err (Chip (k - 1))) (sym c.chip_count-chips.ensures.value)
 
-pub loop-act-init : goal.loop-act-init
+pub loop-done-init : goal.loop-done-init
 unfolding route_of
-loop-act-init g c =
+loop-done-init g c =
     let n = g.row.N in
     let tag = c.args.tag in
     let route = route_from n g.row.CAP tag c.args.machine.now.machine c.args.acts.now in
@@ -32,46 +32,46 @@ loop-act-init g c =
 pub returns-then-lacks_room-clause-refused : goal.returns-then-lacks_room-clause-refused
 returns-then-lacks_room-clause-refused g c = λ other.
     let acts = c.args.acts.now in
-    let i = c.loop-act.act-index in
-    let act = c.act-item.result in
-    let machine = c.loop-act.machine.machine in
-    c.loop-act.invariant
-    ∙ ap (λ left. behind c.loop-act.text.items (route_from g.row.N g.row.CAP c.args.tag machine left))
-    (next_act acts i act c.loop-act-test.true c.act-item.is)
-    ∙ no_act_told g.row.N g.row.CAP c.args.tag machine act (drop (i + 1) acts) c.loop-act.text.items
+    let i = c.loop-done.done in
+    let act = c.index-acts-done.result in
+    let machine = c.loop-done.machine.machine in
+    c.loop-done.invariant
+    ∙ ap (λ left. behind c.loop-done.text.items (route_from g.row.N g.row.CAP c.args.tag machine left))
+    (next_act acts i act c.loop-done-test.true c.index-acts-done.is)
+    ∙ no_act_told g.row.N g.row.CAP c.args.tag machine act (drop (i + 1) acts) c.loop-done.text.items
     (ap (λ clock. lacks_room clock act) (sym c.clock.ensures.value) ∙ sym c.lacks_room.ensures.value
     ∙ c.if-lacks_room.true)
 
 pub returns-then-over-clause-value : goal.returns-then-over-clause-value
 returns-then-over-clause-value g c =
     let acts = c.args.acts.now in
-    let i = c.loop-act.act-index in
-    let act = c.act-item.result in
-    let machine = c.loop-act.machine.machine in
+    let i = c.loop-done.done in
+    let act = c.index-acts-done.result in
+    let machine = c.loop-done.machine.machine in
     let after = c.follow.new.machine.machine in
     let rest = route_from g.row.N g.row.CAP c.args.tag after (drop (i + 1) acts) in
-    c.loop-act.invariant
-    ∙ ap (λ left. behind c.loop-act.text.items (route_from g.row.N g.row.CAP c.args.tag machine left))
-    (next_act acts i act c.loop-act-test.true c.act-item.is)
-    ∙ one_act_told g.row.N g.row.CAP c.args.tag machine after act (drop (i + 1) acts) c.loop-act.text.items
+    c.loop-done.invariant
+    ∙ ap (λ left. behind c.loop-done.text.items (route_from g.row.N g.row.CAP c.args.tag machine left))
+    (next_act acts i act c.loop-done-test.true c.index-acts-done.is)
+    ∙ one_act_told g.row.N g.row.CAP c.args.tag machine after act (drop (i + 1) acts) c.loop-done.text.items
     (ap (λ clock. lacks_room clock act) (sym c.clock.ensures.value) ∙ sym c.lacks_room.ensures.value
     ∙ c.if-lacks_room.false)
     c.in_ok-over.ensures.machine
     ∙ c.in_ok-over.ensures.text rest
     ∙ ap (λ (b : Bool). if b then Ok c.follow.new.text.items else behind c.follow.new.text.items rest) c.if-over.true
 
-pub loop-act-preserved : goal.loop-act-preserved
-loop-act-preserved g c =
+pub loop-done-preserved : goal.loop-done-preserved
+loop-done-preserved g c =
     let acts = c.args.acts.now in
-    let i = c.loop-act.act-index in
-    let act = c.act-item.result in
-    let machine = c.loop-act.machine.machine in
+    let i = c.loop-done.done in
+    let act = c.index-acts-done.result in
+    let machine = c.loop-done.machine.machine in
     let after = c.follow.new.machine.machine in
     let rest = route_from g.row.N g.row.CAP c.args.tag after (drop (i + 1) acts) in
-    c.loop-act.invariant
-    ∙ ap (λ left. behind c.loop-act.text.items (route_from g.row.N g.row.CAP c.args.tag machine left))
-    (next_act acts i act c.loop-act-test.true c.act-item.is)
-    ∙ one_act_told g.row.N g.row.CAP c.args.tag machine after act (drop (i + 1) acts) c.loop-act.text.items
+    c.loop-done.invariant
+    ∙ ap (λ left. behind c.loop-done.text.items (route_from g.row.N g.row.CAP c.args.tag machine left))
+    (next_act acts i act c.loop-done-test.true c.index-acts-done.is)
+    ∙ one_act_told g.row.N g.row.CAP c.args.tag machine after act (drop (i + 1) acts) c.loop-done.text.items
     (ap (λ clock. lacks_room clock act) (sym c.clock.ensures.value) ∙ sym c.lacks_room.ensures.value
     ∙ c.if-lacks_room.false)
     c.in_ok-over.ensures.machine
@@ -80,16 +80,16 @@ loop-act-preserved g c =
 
 pub returns-in-Ok-clause-value : goal.returns-in-Ok-clause-value
 returns-in-Ok-clause-value g c =
-    let i = c.loop-act.act-index in
-    c.loop-act.invariant
-    ∙ end_told g.row.N g.row.CAP c.args.tag c.loop-act.machine.machine (drop i c.args.acts.now) c.loop-act.text.items
-    (drop_all i c.args.acts.now c.loop-act-test.false)
+    let i = c.loop-done.done in
+    c.loop-done.invariant
+    ∙ end_told g.row.N g.row.CAP c.args.tag c.loop-done.machine.machine (drop i c.args.acts.now) c.loop-done.text.items
+    (drop_all i c.args.acts.now c.loop-done-test.false)
     ∙ c.in-Ok.ensures.ok
 
 pub returns-in-Err-clause-refused : goal.returns-in-Err-clause-refused
 returns-in-Err-clause-refused g c = λ other.
-    let i = c.loop-act.act-index in
-    c.loop-act.invariant
-    ∙ end_told g.row.N g.row.CAP c.args.tag c.loop-act.machine.machine (drop i c.args.acts.now) c.loop-act.text.items
-    (drop_all i c.args.acts.now c.loop-act-test.false)
+    let i = c.loop-done.done in
+    c.loop-done.invariant
+    ∙ end_told g.row.N g.row.CAP c.args.tag c.loop-done.machine.machine (drop i c.args.acts.now) c.loop-done.text.items
+    (drop_all i c.args.acts.now c.loop-done-test.false)
     ∙ c.in-Err.ensures.refused other

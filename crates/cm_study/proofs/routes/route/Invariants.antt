@@ -3,7 +3,7 @@ use Rattle.cm_study.specs.Routes.{behind, route_from, route_of}
 use Rattle.cm_study.proofs.routes.route.Given as goal
 
 -- what was told, and what the acts that are left tell, are the route
-abbrev pub invariant-loop-act : goal.invariant-loop-act
-invariant-loop-act g l =
+abbrev pub invariant-loop-done : goal.invariant-loop-done
+invariant-loop-done g l =
     route_of g.row.N g.row.CAP l.tag l.initial.machine.machine l.acts
-    ≡ behind l.text.items (route_from g.row.N g.row.CAP l.tag l.machine.machine (drop l.act-index l.acts))
+    ≡ behind l.text.items (route_from g.row.N g.row.CAP l.tag l.machine.machine (drop l.done l.acts))

@@ -4,34 +4,34 @@ use Rattle.cm_study.specs.Study.{studied, preceded_by, lacks_room, told_of, tabl
 use Rattle.cm_study.proofs.Going.{next_act, one_act_more, no_act_more, no_acts}
 use Rattle.cm_study.proofs.studies.study.Goals as goal
 
-pub loop-act-init : goal.loop-act-init
+pub loop-done-init : goal.loop-done-init
 unfolding table_of
-loop-act-init g c = λ j. preceded_by (sym c.in_ok-text.ensures.value j)
+loop-done-init g c = λ j. preceded_by (sym c.in_ok-text.ensures.value j)
     (told_of g.row.N g.row.CAP c.args.table (sym c.in_ok-known.ensures.value j) c.args.acts.now)
 
 pub returns-then-lacks_room-clause-refused : goal.returns-then-lacks_room-clause-refused
 returns-then-lacks_room-clause-refused g c = λ other.
     let acts = c.args.acts.now in
-    let i = c.loop-act.act-index in
-    let act = c.act-item.result in
-    let before = studied c.loop-act.machine.machine c.loop-act.known in
-    c.loop-act.invariant
-    ∙ ap (λ left. preceded_by c.loop-act.text.items (told_of g.row.N g.row.CAP c.args.table before left))
-    (next_act acts i act c.loop-act-test.true c.act-item.is)
-    ∙ no_act_more g.row.N g.row.CAP c.args.table before act (drop (i + 1) acts) c.loop-act.text.items
+    let i = c.loop-done.done in
+    let act = c.index-acts-done.result in
+    let before = studied c.loop-done.machine.machine c.loop-done.known in
+    c.loop-done.invariant
+    ∙ ap (λ left. preceded_by c.loop-done.text.items (told_of g.row.N g.row.CAP c.args.table before left))
+    (next_act acts i act c.loop-done-test.true c.index-acts-done.is)
+    ∙ no_act_more g.row.N g.row.CAP c.args.table before act (drop (i + 1) acts) c.loop-done.text.items
     (ap (λ clock. lacks_room clock act) (sym c.clock.ensures.value) ∙ sym c.lacks_room.ensures.value
     ∙ c.if-lacks_room.true)
 
-pub loop-act-preserved : goal.loop-act-preserved
-loop-act-preserved g c =
+pub loop-done-preserved : goal.loop-done-preserved
+loop-done-preserved g c =
     let acts = c.args.acts.now in
-    let i = c.loop-act.act-index in
-    let act = c.act-item.result in
-    let before = studied c.loop-act.machine.machine c.loop-act.known in
-    c.loop-act.invariant
-    ∙ ap (λ left. preceded_by c.loop-act.text.items (told_of g.row.N g.row.CAP c.args.table before left))
-    (next_act acts i act c.loop-act-test.true c.act-item.is)
-    ∙ one_act_more g.row.N g.row.CAP c.args.table before act (drop (i + 1) acts) c.loop-act.text.items
+    let i = c.loop-done.done in
+    let act = c.index-acts-done.result in
+    let before = studied c.loop-done.machine.machine c.loop-done.known in
+    c.loop-done.invariant
+    ∙ ap (λ left. preceded_by c.loop-done.text.items (told_of g.row.N g.row.CAP c.args.table before left))
+    (next_act acts i act c.loop-done-test.true c.index-acts-done.is)
+    ∙ one_act_more g.row.N g.row.CAP c.args.table before act (drop (i + 1) acts) c.loop-done.text.items
     (ap (λ clock. lacks_room clock act) (sym c.clock.ensures.value) ∙ sym c.lacks_room.ensures.value
     ∙ c.if-lacks_room.false)
     ∙ (λ j. preceded_by (sym c.in_ok-follow.ensures.text j)
@@ -40,8 +40,8 @@ loop-act-preserved g c =
 pub returns-clause-value : goal.returns-clause-value
 returns-clause-value g c =
     let acts = c.args.acts.now in
-    let i = c.loop-act.act-index in
-    c.loop-act.invariant
-    ∙ no_acts g.row.N g.row.CAP c.args.table (studied c.loop-act.machine.machine c.loop-act.known) (drop i acts)
-    c.loop-act.text.items (drop_all i acts c.loop-act-test.false)
+    let i = c.loop-done.done in
+    c.loop-done.invariant
+    ∙ no_acts g.row.N g.row.CAP c.args.table (studied c.loop-done.machine.machine c.loop-done.known) (drop i acts)
+    c.loop-done.text.items (drop_all i acts c.loop-done-test.false)
     ∙ ap (λ text. Ok text) (sym c.in_ok-tell_end.ensures.ok)

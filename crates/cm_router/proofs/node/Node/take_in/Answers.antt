@@ -4,9 +4,10 @@ use Rattle.std.proofs.lemmas.List.{append-nil}
 use Rattle.std.proofs.lemmas.Grind.{common_steps}
 use Rattle.cm_model.proofs.Bits.{bit-zero}
 use Rattle.cm_model.specs.Letters.{message_sent}
-use Rattle.cm_router.proofs.Taking.{asks, ahead_begins, ahead_ends, ahead_passed, ahead_asked, bit-with_one}
+use Rattle.cm_router.proofs.Taking.{asks, ahead_begins, ahead_ends, ahead_passed, ahead_asked, ahead_none}
+use Rattle.cm_router.proofs.Taking.{bit-with_one}
 use Rattle.cm_router.proofs.node.Node.take_in.Goals as goal
-use Rattle.cm_router.proofs.node.Node.take_in.Goals.{then-left-gt0+then-is_one, else-left-gt0}
+use Rattle.cm_router.proofs.node.Node.take_in.Goals.{then-is_one, else-is_one}
 
 pub loop-number-init : goal.loop-number-init
 loop-number-init c = grind (arith, common_steps, ahead_begins, bit-zero)
@@ -16,10 +17,11 @@ loop-number-preserved c =
     let here = c.loop-number in
     let chip = c.args.chip.now in
     let proc_is = rw c.unwrap-proc.ensures at c.new.ensures.value in
-    elim c.if-left-gt0.branch [
-      | then-left-gt0+then-is_one w ↦
+    elim c.if-is_one.branch [
+      | then-is_one w ↦
           let asking : asks chip here.number ≡ true = grind arith in
-          let asked = ahead_asked here.left chip here.number (omega arith) w.if-left-gt0.true asking in
+          let some : 0 < here.left = omega (arith, c.if-left-eq0.false) in
+          let asked = ahead_asked here.left chip here.number (omega arith) some asking in
           let sent = w.message_sent-sent.ensures.value
           ∙ ap (message_sent c.args.dims c.args.clock c.args.here chip) proc_is in
           rw (w.self-inside-is, w.log-is, w.left-is, w.taken-is) (record {
@@ -29,10 +31,13 @@ loop-number-preserved c =
             log = rw (w.tell_injected.ensures.items, append_assoc, sent) (rw asked at here.invariant.log);
             numbers = omega (arith, w.push.ensures.len, w.tell_injected.ensures);
           })
-      | else-left-gt0 w ↦
+      | else-is_one w ↦
           let passed = ahead_passed here.left chip here.number (omega arith) (λ (some : 0 < here.left). grind arith) in
           rw (w.self-inside-is, w.log-is, w.left-is, w.taken-is, ← passed) here.invariant
     ]
+
+pub returns-then-left-eq0 : goal.returns-then-left-eq0
+returns-then-left-eq0 c = grind (arith, common_steps, ahead_none, append-nil)
 
 pub returns : goal.returns
 returns c = grind (arith, common_steps, ahead_ends, append-nil)

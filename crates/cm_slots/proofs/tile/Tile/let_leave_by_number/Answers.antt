@@ -5,12 +5,12 @@ pub returns : goal.returns
 returns c = record {
   value = record {
     shape = c.leave_from.ensures.shape;
-    long = c.flipped.ensures.long;
+    long = c.put_leavers.ensures.long;
     gone = λ i h.
         let few = c.reach-reach.ensures.few i h (c.requires.within i h) in
         has_gone_by_number c.args.dim c.args.room c.reach-reach.result _ _ (c.requires.whole.queues i h)
         c.reach-reach.ensures.some c.reach-reach.ensures.most c.requires.most (few.0) (few.1) _ _ _ _
-        (c.places-places.ensures.value i h) (c.leave_from.ensures.value i h) (c.flipped.ensures.value i h);
-    quiet = λ none. absurd (cc none);
+        (c.places-places.ensures.value i h) (c.leave_from.ensures.value i h) (c.put_leavers.ensures.value i h);
+    quiet = λ none. absurd (c.put_leavers.ensures.some none);
   };
 }

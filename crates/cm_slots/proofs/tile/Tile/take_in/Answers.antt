@@ -1,13 +1,12 @@
-use Rattle.std.proofs.Common.{arith}
 use Rattle.cm_slots.proofs.tile.Tile.take_in.Goals as goal
 
 pub returns : goal.returns
-returns c = record {
-  value = λ comes same. record {
-    shape = c.take_in.ensures.shape;
-    came = λ i numbers h few are.
-        let near = c.reach_behind-reach.ensures.few i numbers h few are in
-        rw (← same i h) (c.take_in.ensures.value i numbers h (omega arith) (omega arith) are);
-    quiet = λ asleep. absurd (cc asleep);
-  };
-}
+returns c =
+    let came = c.take_in_first.ensures.value in
+    record {
+      value = record {
+        shape = came.shape;
+        came = λ i numbers h few are. rw (c.put_arrivals.ensures.value i h) at (came.came i numbers h few are);
+        quiet = came.quiet;
+      };
+    }

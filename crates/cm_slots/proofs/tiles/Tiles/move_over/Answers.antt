@@ -1,4 +1,4 @@
-use Rattle.std.proofs.Common.{length, ap, ◌∙◌, refl, arith}
+use Rattle.std.proofs.Common.{length, ap, ◌∙◌}
 use Rattle.cm_slots.proofs.Views.{tiles_kept, within_everywhere, items-lent}
 use Rattle.cm_slots.proofs.Moves.{tile_inside, moved_queues, moved_past}
 use Rattle.cm_slots.proofs.tiles.Tiles.move_over.Goals as goal

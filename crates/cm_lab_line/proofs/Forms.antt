@@ -1,0 +1,59 @@
+-- Words that are too few or too many.
+use Rattle.std.proofs.Common.{◌≡◌, ℕ, ◌<◌, ◌≤◌, ◌⊎◌, List, [], ◌∷◌, Err, length, refl, arith}
+use Rattle.std.specs.Borrow.{Bor}
+use Rattle.cm_figures.specs.declared.formats.Format.{Format}
+use Rattle.cm_lab.specs.declared.order.Order.{Order}
+use Rattle.cm_lab_line.specs.Words.{texts}
+use Rattle.cm_lab_line.specs.Refusals.{Words}
+use Rattle.cm_lab_line.specs.Commands.{freshening, loading}
+use Rattle.cm_lab_line.specs.Tasks.{filling_in, picture_in, routing, sender, telling}
+
+pub few_or_many_of_sender : (words : List (Bor (List ℕ))) → (length words < 3) ⊎ (4 ≤ length words)
+    → sender (texts words) ≡ Err Words
+few_or_many_of_sender [] h = refl
+few_or_many_of_sender (a ∷ []) h = refl
+few_or_many_of_sender (a ∷ b ∷ []) h = refl
+few_or_many_of_sender (a ∷ b ∷ c ∷ []) h = absurd (omega arith)
+few_or_many_of_sender (a ∷ b ∷ c ∷ d ∷ rest) h = refl
+
+pub few_or_many_of_telling : (order : Order) (words : List (Bor (List ℕ)))
+    → (length words < 3) ⊎ (4 ≤ length words) → telling order (texts words) ≡ Err Words
+few_or_many_of_telling order [] h = refl
+few_or_many_of_telling order (a ∷ []) h = refl
+few_or_many_of_telling order (a ∷ b ∷ []) h = refl
+few_or_many_of_telling order (a ∷ b ∷ c ∷ []) h = absurd (omega arith)
+few_or_many_of_telling order (a ∷ b ∷ c ∷ d ∷ rest) h = refl
+
+pub few_or_many_of_filling : (order : Order) (words : List (Bor (List ℕ)))
+    → (length words < 4) ⊎ (5 ≤ length words) → filling_in order (texts words) ≡ Err Words
+few_or_many_of_filling order [] h = refl
+few_or_many_of_filling order (a ∷ []) h = refl
+few_or_many_of_filling order (a ∷ b ∷ []) h = refl
+few_or_many_of_filling order (a ∷ b ∷ c ∷ []) h = refl
+few_or_many_of_filling order (a ∷ b ∷ c ∷ d ∷ []) h = absurd (omega arith)
+few_or_many_of_filling order (a ∷ b ∷ c ∷ d ∷ e ∷ rest) h = refl
+
+pub few_or_many_of_picture : (format : Format) (words : List (Bor (List ℕ)))
+    → (length words < 2) ⊎ (4 ≤ length words) → picture_in format (texts words) ≡ Err Words
+few_or_many_of_picture format [] h = refl
+few_or_many_of_picture format (a ∷ []) h = refl
+few_or_many_of_picture format (a ∷ b ∷ []) h = absurd (omega arith)
+few_or_many_of_picture format (a ∷ b ∷ c ∷ []) h = absurd (omega arith)
+few_or_many_of_picture format (a ∷ b ∷ c ∷ d ∷ rest) h = refl
+
+pub few_of_routing : (words : List (Bor (List ℕ))) → length words < 2 → routing (texts words) ≡ Err Words
+few_of_routing [] h = refl
+few_of_routing (a ∷ []) h = refl
+few_of_routing (a ∷ b ∷ rest) h = absurd (omega arith)
+
+pub few_of_freshening : (words : List (Bor (List ℕ))) → length words < 2 → freshening (texts words) ≡ Err Words
+few_of_freshening [] h = refl
+few_of_freshening (a ∷ []) h = refl
+few_of_freshening (a ∷ b ∷ rest) h = absurd (omega arith)
+
+pub few_of_loading : (words : List (Bor (List ℕ))) → length words < 4 → loading (texts words) ≡ Err Words
+few_of_loading [] h = refl
+few_of_loading (a ∷ []) h = refl
+few_of_loading (a ∷ b ∷ []) h = refl
+few_of_loading (a ∷ b ∷ c ∷ []) h = refl
+few_of_loading (a ∷ b ∷ c ∷ d ∷ rest) h = absurd (omega arith)

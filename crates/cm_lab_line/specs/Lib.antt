@@ -1,0 +1,9 @@
+pub mod Words
+pub mod Refusals
+pub mod Operands
+pub mod Requests
+pub mod Tasks
+pub mod Blanks
+pub mod Loads
+pub mod Rates
+pub mod Commands

@@ -1,0 +1,44 @@
+-- Why words ask for nothing, and what is told of them: ours.
+use Rattle.std.specs.Prelude.{◌≡◌, ◌⊎◌, ℕ, Result, Ok, Err, List, string_bytes}
+use Rattle.cm_bits.specs.declared.field.FieldFault.{FieldFault}
+use Rattle.cm_lab_line.specs.declared.operands.Operand.{Operand}
+use Rattle.cm_lab_line.specs.declared.fault.CommandFault.{CommandFault}
+use Rattle.cm_lab_line.specs.declared.fault.CommandFault.TheVariants as fault
+
+-- a word, or what is told of it, by its bytes
+abbrev pub Text : Type 0
+Text = List ℕ
+
+-- why words ask for nothing
+pub data Refusal : Type 0 where
+  Help : Refusal
+  Words : Refusal
+  UnknownCommand : Text → Refusal
+  UnknownOption : Text → Text → Refusal
+  Twice : Text → Refusal
+  Usage : Text → Refusal
+  Wanted : Operand → Text → Refusal
+  Field : FieldFault → Refusal
+  Memory : Refusal
+
+-- what a fault tells
+abbrev pub told : CommandFault → Refusal
+told fault.Help = Help
+told fault.Words = Words
+told (fault.UnknownCommand word) = UnknownCommand (string_bytes word)
+told (fault.UnknownOption word usage) = UnknownOption (string_bytes word) (string_bytes usage)
+told (fault.Twice word) = Twice (string_bytes word)
+told (fault.Usage usage) = Usage (string_bytes usage)
+told (fault.Operand operand word) = Wanted operand (string_bytes word)
+told (fault.Field fault) = Field fault
+told fault.Memory = Memory
+
+-- a fault is this refusal, or want of memory
+abbrev pub Tells : {A : Type 0} → Result A Refusal → CommandFault → Type 0
+Tells reading fault = (told fault ≡ Memory) ⊎ (reading ≡ Err (told fault))
+
+-- what comes after, unless a refusal came before
+infixl 10 ◌>>=◌
+abbrev pub ◌>>=◌ : {A B : Type 0} → Result A Refusal → (A → Result B Refusal) → Result B Refusal
+(Ok x) >>= next = next x
+(Err refusal) >>= next = Err refusal

@@ -1,0 +1,34 @@
+//! A law of pictures of routes: what some lines tell, and where it stands.
+
+ghost use Rattle.std.specs.Prelude.{◌≡◌, [], ◌∷◌, codes, false, None, Some};
+ghost use Rattle.cm_way.specs.declared.legs.Step.TheVariants as step;
+ghost use Rattle.cm_way.specs.Legs.{chip_in, is_told, line_legs};
+ghost use Rattle.cm_way.specs.Rows.{most_dims, place_x, place_y, rows_of};
+
+/// A law: these lines tell these legs, and these legs stand in these rows and places.
+#[tactic(auto, unfolding(crate::specs::Legs::legs_from))]
+pub fn routes_are_drawn_so()
+    ensures stayed { line_legs (codes "cycle 2: 8, stays, place 2 of 3")
+        ≡ record { cycle = 2; start = 0; end = 0; from = 8; to = 8; step = step.Wanted }
+        ∷ record { cycle = 3; start = 0; end = 0; from = 8; to = 8; step = step.Wanted } ∷ [] }
+    ensures delivered { line_legs (codes "cycle 4: 0, delivered to processor 15")
+        ≡ record { cycle = 4; start = 0; end = 0; from = 0; to = 0; step = step.Wanted }
+        ∷ record { cycle = 5; start = 0; end = 0; from = 0; to = 0; step = step.Delivered } ∷ [] }
+    ensures stands { line_legs (codes "stands at 3, for processor 3 of chip 0") ≡ [] }
+    ensures no_cycle { is_told (codes "cycle x: 1, place 1 of 1") ≡ false }
+    ensures no_route { is_told (codes "cycles 1: 1, place 1 of 1") ≡ false }
+    ensures last_chip { chip_in (codes "4095") ≡ Some 4095 }
+    ensures no_chip { chip_in (codes "4096") ≡ None }
+    ensures rows { rows_of (
+        record { cycle = 1; start = 0; end = 0; from = 12; to = 12; step = step.Wanted }
+        ∷ record { cycle = 1; start = 2; end = 3; from = 12; to = 8; step = step.Wanted }
+        ∷ record { cycle = 1; start = 2; end = 3; from = 8; to = 12; step = step.Referred } ∷ []) ≡ 12 ∷ 8 ∷ [] }
+    ensures dims { most_dims (
+        record { cycle = 1; start = 0; end = 0; from = 12; to = 12; step = step.Wanted }
+        ∷ record { cycle = 1; start = 2; end = 3; from = 12; to = 8; step = step.Wanted } ∷ []) ≡ 3 }
+    ensures no_dims { most_dims [] ≡ 1 }
+    ensures above { place_y (12 ∷ 8 ∷ 0 ∷ []) 12 ≡ 400 }
+    ensures middle { place_y (12 ∷ 8 ∷ 0 ∷ []) 8 ≡ 1200 }
+    ensures across { place_x
+        (record { rows = []; dims = 4; across = record { low = 2000; step = 1000; span = 8000 } }) 6 2 ≡ 3150 }
+{}
