@@ -1,76 +1,130 @@
-//! Machines that go through runs by blocks, step by step on one thread.
+//! Drawn machines whose blocks go through lists of acts by drawn steps, most of which cannot be taken, beside a plain
+//! world and beside one thread.
 
 ghost use Rattle.std.specs.Prelude.{◌≡◌, ◌<◌, ◌^◌};
 
-use crate::machines::sent_on;
+use crate::lists::{ROUND_TRIP, TO_AND_FRO, acts_of};
+use crate::machines::{copied, drawn};
+use crate::plain::PlainWorld;
 use crate::trial::Trial;
 use cm_array::{Machine, Plain, Runner};
-use cm_bits::{Dir, FlagNo, Plane};
-use cm_draws::{
-    Draws, are_same, ask_again, asking_machine, flag, four_messages_each, has_full_buffer,
-    has_one_of_four, poke_plane,
-};
+use cm_draws::{Draws, ask_again, has_full_buffer};
+use cm_exchange::Step;
 use cm_model::Act;
-use std::alloc::Global;
-use std::test::Fail;
+use std::alloc::{AllocError, Global};
 
 /// How many lists of acts each machine goes through.
-const LISTS: u8 = 4;
+const LISTS: u8 = 6;
 
-/// More steps than any of these exchanges has.
-const MOST_STEPS: u16 = 10000;
+/// How many steps are drawn at most in an exchange.
+const MOST_STEPS: u16 = 20000;
 
-/// The machine after the acts, by 2^`k` blocks, each step being the one that comes by itself.
-fn after<const N: usize, const CAP: usize>(
-    alloc: Global,
-    machine: Machine<N, CAP>,
-    acts: &[Act],
-    k: u8,
-) -> Option<Machine<N, CAP>> {
-    let mut world = Trial::new(alloc, machine, acts, k)?;
-    for _step in 0..MOST_STEPS {
-        match world.next() {
-            Some(step) => {
-                let _ = world.takes(step);
+/// A world, and the plain one beside it.
+#[derive(Drop)]
+struct Both<const N: usize, const CAP: usize> {
+    world: Trial<N, CAP>,
+    plain: PlainWorld,
+}
+
+impl<const N: usize, const CAP: usize> Both<N, CAP> {
+    fn of(alloc: Global, machine: &Machine<N, CAP>, acts: &[Act], k: u8) -> Option<Both<N, CAP>> {
+        let plain = PlainWorld::new(alloc, machine.dims(), k, acts).ok()?;
+        let world = Trial::of(alloc, machine, acts, k)?;
+        Some(Both { world, plain })
+    }
+
+    /// Whether the same step comes by itself, and a step is answered as in the plain world; and the world has no machine
+    /// before that.
+    fn goes_alike(&mut self, step: Step) -> bool {
+        !self.world.finish()
+            && self.world.next() == self.plain.next()
+            && self.world.takes(step) == self.plain.takes(step)
+    }
+
+    /// Whether drawn steps are answered alike, half of them those that come by themselves, until none is left.
+    fn ends_alike(&mut self, draws: &mut Draws) -> bool {
+        for _step in 0..MOST_STEPS {
+            let Some(own) = self.plain.next() else {
+                return self.world.next().is_none();
+            };
+            let step = if draws.once_in(2) {
+                own
+            } else {
+                drawn_step(draws, self.plain.blocks())
+            };
+            if !self.goes_alike(step) {
+                return false;
             }
-            None => break,
         }
+        false
     }
-    world.finish()
 }
 
-/// The machine after the acts, by 2^`k` blocks, where one thread leaves the same.
-fn after_both<const N: usize, const CAP: usize>(
+/// A drawn step of one of so many blocks, or of one that there is not.
+fn drawn_step(draws: &mut Draws, blocks: u16) -> Step {
+    let b = draws.below(blocks.saturating_add(1));
+    Step::at(b, draws.below(4) as u8)
+}
+
+/// Whether 2^`k` blocks of a machine go through the acts as the plain world does, and leave this machine.
+fn ends_as<const N: usize, const CAP: usize>(
     alloc: Global,
-    machine: Machine<N, CAP>,
+    machine: &Machine<N, CAP>,
     acts: &[Act],
     k: u8,
+    wanted: &mut Machine<N, CAP>,
+    draws: &mut Draws,
     chips: u16,
-) -> Option<Machine<N, CAP>>
+) -> Option<bool>
     requires chips { chips ≡ 2 ^ N }
 {
-    let mut plain = machine.copy(alloc).ok()?;
-    Plain.go(&mut plain, acts).ok()?;
-    let woven = after(alloc, machine, acts, k)?;
-    if are_same(&woven, &plain, chips) {
-        Some(woven)
-    } else {
-        None
+    let mut both = Both::of(alloc, machine, acts, k)?;
+    Some(both.ends_alike(draws) && both.world.leaves(wanted, chips))
+}
+
+/// Whether they leave what one thread does; the machine is theirs then.
+fn goes<const N: usize, const CAP: usize>(
+    alloc: Global,
+    machine: &mut Machine<N, CAP>,
+    acts: &[Act],
+    k: u8,
+    draws: &mut Draws,
+    chips: u16,
+) -> Option<bool>
+    requires chips { chips ≡ 2 ^ N }
+{
+    let before = copied(alloc, machine)?;
+    Plain.go(machine, acts).ok()?;
+    ends_as(alloc, before.first()?, acts, k, machine, draws, chips)
+}
+
+/// The acts of a list.
+fn listed(alloc: Global, list: u8, draws: &mut Draws) -> Result<Vec<Act>, AllocError> {
+    match list {
+        0 => acts_of(alloc, &TO_AND_FRO),
+        1 => acts_of(alloc, &ROUND_TRIP),
+        _ => draws.acts(alloc, 24),
     }
 }
 
-/// Whether a drawn machine goes by 2^`k` blocks as it does on one thread, and a buffer was full after some list of acts.
-fn goes<const N: usize, const CAP: usize>(alloc: Global, chips: u16, k: u8) -> Option<bool>
+/// Whether a drawn machine goes by 2^`k` blocks through all lists, and a buffer was full after some list.
+fn goes_on<const N: usize, const CAP: usize>(
+    alloc: Global,
+    machine: &mut Machine<N, CAP>,
+    k: u8,
+    draws: &mut Draws,
+    chips: u16,
+) -> Option<bool>
     requires chips { chips ≡ 2 ^ N }
 {
-    let mut draws = Draws::new(u32::from(k));
-    let mut machine = asking_machine::<N, CAP>(alloc, &mut draws, chips)?;
     let mut was_full = false;
-    for _list in 0..LISTS {
-        let acts = draws.acts(alloc, 24).ok()?;
-        machine = after_both(alloc, machine, &acts, k, chips)?;
-        was_full |= has_full_buffer(&machine, chips);
-        ask_again(&mut machine, &mut draws, chips);
+    for list in 0..LISTS {
+        let acts = listed(alloc, list, draws).ok()?;
+        if !goes(alloc, machine, &acts, k, draws, chips)? {
+            return None;
+        }
+        was_full |= has_full_buffer(machine, chips);
+        ask_again(machine, draws, chips);
     }
     Some(was_full)
 }
@@ -80,16 +134,17 @@ fn go<const N: usize, const CAP: usize>(alloc: Global, chips: u16, most: u8) -> 
     requires chips { chips ≡ 2 ^ N }
     requires most { most < 7 }
 {
+    let mut were_full = true;
     for k in 0..=most {
-        if !goes::<N, CAP>(alloc, chips, k)? {
-            return Some(false);
-        }
+        let mut draws = Draws::new(u32::from(k));
+        let mut machines = drawn::<N, CAP>(alloc, &mut draws, chips)?;
+        were_full &= goes_on(alloc, machines.first_mut()?, k, &mut draws, chips)?;
     }
-    Some(true)
+    Some(were_full)
 }
 
 #[test]
-fn machines_of_two_to_sixteen_chips_go_by_blocks_as_on_one_thread(rt: HostRuntime) {
+fn drawn_steps_are_answered_as_by_a_plain_world_and_leave_what_one_thread_does(rt: HostRuntime) {
     let alloc = rt.alloc();
     let gone = [
         go::<1, 1>(alloc, 2, 1),
@@ -100,100 +155,44 @@ fn machines_of_two_to_sixteen_chips_go_by_blocks_as_on_one_thread(rt: HostRuntim
         go::<3, 2>(alloc, 8, 2),
         go::<4, 1>(alloc, 16, 2),
         go::<4, 4>(alloc, 16, 2),
-    ];
-    assert_eq!(rt; gone, [Some(true); 8]);
-}
-
-#[test]
-fn machines_of_32_and_64_chips_go_by_blocks_as_on_one_thread(rt: HostRuntime) {
-    let alloc = rt.alloc();
-    let gone = [
         go::<5, 1>(alloc, 32, 3),
         go::<5, 5>(alloc, 32, 3),
         go::<6, 1>(alloc, 64, 3),
         go::<6, 2>(alloc, 64, 3),
     ];
-    assert_eq!(rt; gone, [Some(true); 4]);
+    assert_eq!(rt; gone, [Some(true); 12]);
 }
 
-/// What each processor has in flag 0 goes north and south in turn, from one place further each time.
-static TO_AND_FRO: [Dir; 6] = [
-    Dir::North,
-    Dir::South,
-    Dir::North,
-    Dir::North,
-    Dir::South,
-    Dir::South,
-];
-
-/// Whether a drawn machine of two blocks goes through them, one by one and with a petit cycle behind each.
-fn goes_to_and_fro<const N: usize>(alloc: Global, chips: u16) -> Option<bool>
-    requires chips { chips ≡ 2 ^ N }
-{
-    let machine = asking_machine::<N, 2>(alloc, &mut Draws::new(99), chips)?;
-    let mut acts = Vec::new(alloc);
-    for dir in &TO_AND_FRO {
-        acts.push(sent_on(*dir)).ok()?;
-        acts.push(sent_on(*dir)).ok()?;
-        acts.push(Act::Cycle).ok()?;
+/// How many of so many drawn orders of four blocks are answered as in the plain world and leave this machine.
+fn alike(
+    alloc: Global,
+    machine: &Machine<4, 1>,
+    acts: &[Act],
+    wanted: &mut Machine<4, 1>,
+    count: u16,
+) -> Option<u16> {
+    let mut draws = Draws::new(5);
+    let mut same = 0u16;
+    for _order in 0..count {
+        if ends_as(alloc, machine, acts, 2, wanted, &mut draws, 16)? {
+            same = same.wrapping_add(1);
+        }
     }
-    Some(after_both(alloc, machine, &acts, 1, chips).is_some())
+    Some(same)
+}
+
+/// How many leave what one thread does of a drawn machine.
+fn ordered(alloc: Global, count: u16) -> Option<u16> {
+    let machines = drawn::<4, 1>(alloc, &mut Draws::new(3), 16)?;
+    let machine = machines.first()?;
+    let acts = acts_of(alloc, &ROUND_TRIP).ok()?;
+    let mut wanted = copied(alloc, machine)?;
+    let wanted = wanted.first_mut()?;
+    Plain.go(wanted, &acts).ok()?;
+    alike(alloc, machine, &acts, wanted, count)
 }
 
 #[test]
-fn two_blocks_tell_the_way_north_from_the_way_south(rt: HostRuntime) {
-    let alloc = rt.alloc();
-    let gone = [
-        goes_to_and_fro::<1>(alloc, 2),
-        goes_to_and_fro::<4>(alloc, 16),
-        goes_to_and_fro::<5>(alloc, 32),
-    ];
-    assert_eq!(rt; gone, [Some(true); 3]);
-}
-
-/// Where flag 0 goes, its planes on two chips, and those of flag NEWS that are left.
-static ROWS: [(Dir, [Plane; 2], [Plane; 2]); 3] = [
-    (Dir::South, [0xf000, 0x1000], [0x0001, 0x000f]),
-    (Dir::North, [0x0001, 0x000f], [0xf000, 0x1000]),
-    (Dir::North, [0xf000, 0x1000], [0x0f00, 0x0100]),
-];
-
-/// What is left where two chips, a block each, send flag 0.
-fn left(alloc: Global, dir: Dir, planes: [Plane; 2]) -> Option<[Plane; 2]> {
-    let mut machine = Machine::<1, 7>::blank(alloc).ok()?;
-    poke_plane(&mut machine, 0, flag(0), planes[0]);
-    poke_plane(&mut machine, 1, flag(0), planes[1]);
-    let machine = after(alloc, machine, &[sent_on(dir)], 1)?;
-    Some([
-        machine.chip(0).flag_plane(FlagNo::NEWS),
-        machine.chip(1).flag_plane(FlagNo::NEWS),
-    ])
-}
-
-#[test]
-fn two_chips_of_a_block_each_send_their_last_and_first_rows_to_each_other(
-    rt: HostRuntime,
-) -> Result<(), Fail> {
-    for row in &ROWS {
-        let (dir, planes, wanted) = *row;
-        assert_eq!(rt; left(rt.alloc(), dir, planes), Some(wanted));
-    }
-    Ok(())
-}
-
-/// How many acts the program of messages has, and whether 2^`k` blocks go through it as one thread and the messages are
-/// where they should be then.
-fn told(alloc: Global, k: u8) -> Option<(usize, bool)> {
-    let acts = four_messages_each(alloc).ok()?;
-    let machine = Machine::<4, 7>::blank(alloc).ok()?;
-    let machine = after_both(alloc, machine, &acts, k, 16)?;
-    Some((acts.len(), has_one_of_four(&machine)))
-}
-
-#[test]
-fn four_messages_of_each_of_sixteen_chips_go_across_the_cube(rt: HostRuntime) -> Result<(), Fail> {
-    for k in 0u8..3 {
-        assert_eq!(rt; told(rt.alloc(), k), Some((121, true)));
-    }
-    Ok(())
+fn a_thousand_orders_of_four_blocks_end_alike(rt: HostRuntime) {
+    assert_eq!(rt; ordered(rt.alloc(), 1000), Some(1000));
 }

@@ -2,11 +2,11 @@
 #![tactic(auto)]
 
 #[cfg(test)]
-mod beside;
-#[cfg(test)]
 mod drawn;
 #[cfg(test)]
 mod growths;
+#[cfg(test)]
+mod lists;
 #[cfg(test)]
 mod machines;
 #[cfg(test)]
@@ -17,9 +17,5 @@ mod orders;
 mod plain;
 #[cfg(test)]
 mod refused;
-#[cfg(test)]
-mod rows;
-#[cfg(test)]
-mod texts;
 #[cfg(test)]
 mod trial;

@@ -105,14 +105,25 @@ static ORDERS: [(&[Part], usize, bool); 4] = [
     (&[(b"\n; none\n\n", 0), (b"", 0)], 1, false),
 ];
 
+/// Two chips in a petit cycle, a block each.
+fn two_blocks(alloc: Global) -> Option<World<1, 1>> {
+    let machine = Machine::<1, 1>::blank(alloc).ok()?;
+    World::new(alloc, machine, &[Act::Cycle], 1).ok()
+}
+
+/// Whether their exchange is finished behind these steps.
+fn is_finished(alloc: Global, steps: &mut Asking, answers: &mut Counting) -> Option<bool> {
+    let world = two_blocks(alloc)?;
+    Some(weave_session(alloc, world, steps, answers).is_ok())
+}
+
 /// Whether what these parts are answered comes in time, and the exchange is finished or not as it should be.
 fn comes_in_time(
     alloc: Global,
-    world: World<1, 1>,
     parts: &'static [Part],
     finished: bool,
     written: &Written,
-) -> bool {
+) -> Option<bool> {
     let mut steps = Asking {
         parts,
         next: 0,
@@ -120,8 +131,8 @@ fn comes_in_time(
         written,
     };
     let mut answers = Counting { written };
-    let end = weave_session(alloc, world, &mut steps, &mut answers);
-    end.is_ok() == finished && steps.in_time && steps.next == parts.len()
+    let end = is_finished(alloc, &mut steps, &mut answers)?;
+    Some(end == finished && steps.in_time && steps.next == parts.len())
 }
 
 /// And in so many calls.
@@ -131,13 +142,11 @@ fn is_in_order(
     calls: usize,
     finished: bool,
 ) -> Option<bool> {
-    let machine = Machine::<1, 1>::blank(alloc).ok()?;
-    let world = World::new(alloc, machine, &[Act::Cycle], 1).ok()?;
     let written = Written {
         calls: Cell::new(0),
         bytes: Cell::new(0),
     };
-    let in_time = comes_in_time(alloc, world, parts, finished, &written);
+    let in_time = comes_in_time(alloc, parts, finished, &written)?;
     Some(in_time && written.calls.get() == calls)
 }
 

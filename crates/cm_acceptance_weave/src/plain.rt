@@ -1,27 +1,25 @@
-//! A plain world, of numbers alone: what each round goes over, where each block stands, and the word of each lane.
+//! A plain world, of numbers alone: what each round goes over, and how many steps each block took.
 
 use cm_bits::{Dir, FlagNo};
 use cm_exchange::Step;
 use cm_model::Act;
 use std::alloc::{AllocError, Global};
 
-/// Where a block stands: its round, and how many of its four steps it took in it.
-#[derive(Clone, Copy)]
-struct Place {
-    round: usize,
-    stage: u32,
+/// Over what a round goes; across a dimension to the block whose number differs in this bit.
+#[derive(Clone, Copy, PartialEq, Eq)]
+enum Way {
+    North,
+    South,
+    Across(u16),
 }
-
-/// Over what a round goes: 0 is north, 1 south, 2 and more the last dimensions of the cube in turn.
-type Way = u16;
 
 #[derive(Drop)]
 pub(crate) struct PlainWorld {
     blocks: u16,
+    /// By round.
     ways: Vec<Way>,
-    places: Vec<Place>,
-    /// By way, and then by sender.
-    words: Vec<Vec<u32>>,
+    /// By block, how many steps it took, four of them in a round.
+    taken: Vec<usize>,
 }
 
 /// What each round goes over that 2^`k` blocks of 2^`dims` chips go through.
@@ -30,13 +28,13 @@ fn ways_of(alloc: Global, dims: u8, k: u8, acts: &[Act]) -> Result<Vec<Way>, All
     for act in acts {
         match act {
             Act::Nano(nano) if nano.write == FlagNo::NEWS => match nano.dir {
-                Dir::North => ways.push(0)?,
-                Dir::South => ways.push(1)?,
+                Dir::North => ways.push(Way::North)?,
+                Dir::South => ways.push(Way::South)?,
                 Dir::East | Dir::West => {}
             },
             Act::Cycle => {
-                for place in 0..u16::from(k.min(dims)) {
-                    ways.push(place.wrapping_add(2))?;
+                for place in 0..u32::from(k.min(dims)) {
+                    ways.push(Way::Across(1u16.wrapping_shl(place)))?;
                 }
             }
             _ => {}
@@ -52,106 +50,87 @@ impl PlainWorld {
         k: u8,
         acts: &[Act],
     ) -> Result<PlainWorld, AllocError> {
-        let blocks = 1u16.checked_shl(u32::from(k)).unwrap_or(0);
-        let first = Place { round: 0, stage: 0 };
-        let mut words = Vec::new(alloc);
-        for _way in 0..u16::from(k).wrapping_add(2) {
-            words.push(vec![in alloc; 0u32; usize::from(blocks)]?)?;
-        }
+        let blocks = 1u16.wrapping_shl(u32::from(k));
+        let ways = if k == 0 {
+            Vec::new(alloc)
+        } else {
+            ways_of(alloc, dims, k, acts)?
+        };
         Ok(PlainWorld {
             blocks,
-            ways: ways_of(alloc, dims, k, acts)?,
-            places: vec![in alloc; first; usize::from(blocks)]?,
-            words,
+            ways,
+            taken: vec![in alloc; 0usize; usize::from(blocks)]?,
         })
     }
 
-    /// Who sends over the lane of a way that a block moves by a step.
-    fn sender(&self, way: Way, step: Step) -> u16 {
-        let b = step.block();
-        if let Step::Grip(_) | Step::File(_) = step {
-            return b;
-        }
+    pub(crate) fn blocks(&self) -> u16 {
+        self.blocks
+    }
+
+    /// Who sends to a block over a way.
+    fn giver(&self, way: Way, b: u16) -> u16 {
         let last = self.blocks.wrapping_sub(1);
         match way {
-            0 => b.wrapping_add(1) & last,
-            1 => b.wrapping_sub(1) & last,
-            _ => b
-                ^ 1u16
-                    .checked_shl(u32::from(way.wrapping_sub(2)))
-                    .unwrap_or(0),
+            Way::North => b.wrapping_add(1) & last,
+            Way::South => b.wrapping_sub(1) & last,
+            Way::Across(bit) => b ^ bit,
         }
     }
 
-    /// How many rounds went over a way before a round.
-    fn uses(&self, way: Way, round: usize) -> u32 {
-        let mut uses = 0u32;
-        for earlier in self.ways.iter().take(round) {
-            if *earlier == way {
-                uses = uses.wrapping_add(1);
-            }
+    /// Who gets from a block over a way.
+    fn receiver(&self, way: Way, b: u16) -> u16 {
+        match way {
+            Way::North => self.giver(Way::South, b),
+            Way::South => self.giver(Way::North, b),
+            Way::Across(_) => self.giver(way, b),
         }
-        uses
     }
 
-    /// The lane that a step moves, if it can be taken: way and sender.
-    fn lane(&self, step: Step) -> Option<(Way, u16)> {
-        let place = self.places.get(usize::from(step.block()))?;
-        let stage = u32::from(step.stage());
-        if place.stage != stage {
-            return None;
+    fn taken(&self, b: u16) -> usize {
+        self.taken.get(usize::from(b)).copied().unwrap_or(0)
+    }
+
+    /// Whether a block has cleared what came over a way in all rounds before one.
+    fn has_cleared(&self, b: u16, way: Way, round: usize) -> bool {
+        let through = self.taken(b) / 4;
+        self.ways
+            .iter()
+            .take(round)
+            .skip(through)
+            .all(|earlier| *earlier != way)
+    }
+
+    fn can(&self, step: Step) -> bool {
+        let b = step.block();
+        let taken = self.taken(b);
+        let Some(way) = self.ways.get(taken / 4) else {
+            return false;
+        };
+        if b >= self.blocks || taken % 4 != usize::from(step.stage()) {
+            return false;
         }
-        let way = *self.ways.get(place.round)?;
-        let sender = self.sender(way, step);
-        let word = self.words.get(usize::from(way))?.get(usize::from(sender))?;
-        let before = self.uses(way, place.round).wrapping_mul(4);
-        if *word == before.wrapping_add(stage) {
-            Some((way, sender))
-        } else {
-            None
+        match step {
+            Step::Grip(_) => self.has_cleared(self.receiver(*way, b), *way, taken / 4),
+            Step::Draw(_) => self.taken(self.giver(*way, b)) >= taken,
+            Step::File(_) | Step::Clear(_) => true,
         }
     }
 
     /// Takes a step, if it can be taken; tells whether it was.
     pub(crate) fn takes(&mut self, step: Step) -> bool {
-        match self.lane(step) {
-            Some((way, sender)) => {
-                self.raise(way, sender);
-                self.go_on(step.block());
-                true
-            }
-            None => false,
+        if !self.can(step) {
+            return false;
         }
-    }
-
-    fn raise(&mut self, way: Way, sender: u16) {
-        if let Some(words) = self.words.get_mut(usize::from(way)) {
-            if let Some(word) = words.get_mut(usize::from(sender)) {
-                *word = word.wrapping_add(1);
-            }
+        if let Some(taken) = self.taken.get_mut(usize::from(step.block())) {
+            *taken = taken.wrapping_add(1);
         }
-    }
-
-    fn go_on(&mut self, b: u16) {
-        if let Some(place) = self.places.get_mut(usize::from(b)) {
-            place.stage = place.stage.wrapping_add(1);
-            if place.stage == 4 {
-                place.stage = 0;
-                place.round = place.round.wrapping_add(1);
-            }
-        }
+        true
     }
 
     /// The step of the lowest block that can take one.
     pub(crate) fn next(&self) -> Option<Step> {
-        for b in 0..self.blocks {
-            for stage in 0u8..4 {
-                let step = Step::at(b, stage);
-                if self.lane(step).is_some() {
-                    return Some(step);
-                }
-            }
-        }
-        None
+        (0..self.blocks)
+            .map(|b| Step::at(b, (self.taken(b) % 4) as u8))
+            .find(|step| self.can(*step))
     }
 }
