@@ -11,6 +11,7 @@ ghost use Rattle.cm_array.specs.Faults.{is_no_thread, one_more_lacked};
 ghost use Rattle.cm_workers.specs.Forks.{fork_fault, most_blocks, most_workers, of_want};
 
 use crate::gathering::{in_order, room_for};
+use crate::lanes::power_of_two;
 use crate::running::{line_up, work_all};
 use crate::teams::team;
 use crate::worth::is_soon_done;
@@ -194,12 +195,21 @@ fn run<const N: usize, const CAP: usize, R: Threads + Wait + Sync>(
     if is_soon_done(passage, machine, acts, workers, rounds.len(), cycles) {
         return run_alone(machine, acts);
     }
-    match passage {
-        Passage::Gated(_) => share_out(rt, alloc, k, workers, passage, machine, acts),
-        Passage::Open => {
-            share_out_without_logs(rt, alloc, k, workers, passage, machine, acts, cycles)
+    if matches!(passage, Passage::Open) && has_events(machine) {
+        share_out_without_logs(rt, alloc, k, workers, passage, machine, acts, cycles)
+    } else {
+        share_out(rt, alloc, k, workers, passage, machine, acts)
+    }
+}
+
+/// Whether a machine has told any event. Where it has none there is none to copy, and what its blocks tell becomes its logs.
+fn has_events<const N: usize, const CAP: usize>(machine: &Machine<N, CAP>) -> bool {
+    for chip in 0..power_of_two(machine.dims()) {
+        if !machine.log(chip).is_empty() {
+            return true;
         }
     }
+    false
 }
 
 /// A machine goes through a run in the thread of the caller.
