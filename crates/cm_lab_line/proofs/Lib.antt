@@ -5,3 +5,4 @@ pub mod EndLemmas
 pub mod RateLemmas
 pub mod TwiceLemmas
 pub mod HelpLemmas
+pub mod UsageLemmas

@@ -10,6 +10,7 @@ use Rattle.cm_lab_line.specs.Requests.{Do, Expand, Fresh, Front, Load, Plot, Req
 use Rattle.cm_lab_line.specs.Tasks.{task_of}
 use Rattle.cm_lab_line.specs.Blanks.{blank}
 use Rattle.cm_lab_line.specs.Loads.{load}
+use Rattle.cm_lab_line.specs.Usage.{usage_of}
 
 -- `front`: IMAGE, before or behind which `--out FILE` may stand
 abbrev pub fronting : List Text → Result Request Refusal
@@ -112,20 +113,13 @@ unknown_option command [] = None
 unknown_option command (word ∷ words) =
     if is_option word && not (is_option_of command word) then Some word else unknown_option command words
 
--- the words that a command takes are told
-abbrev pub TellsUsage : Refusal → Type 0
-TellsUsage refusal = (usage : Text) × (refusal ≡ Usage usage)
-
--- and an option that it has not
-abbrev pub TellsOption : Refusal → Text → Type 0
-TellsOption refusal word = (usage : Text) × (refusal ≡ UnknownOption word usage)
-
--- what is told of words that a command does not take: that there is none of its name, an option that it has not, or
--- else which words it takes
+-- what is told of words that a command does not take: that there is none of its name, or which words it takes, with
+-- the first option that it has not
 abbrev pub IsExplained : Text → List Text → Refusal → Type 0
 IsExplained command words refusal =
     MatchBool (is_command command)
-    (MatchOption (unknown_option command words) (TellsUsage refusal) (TellsOption refusal))
+    (MatchOption (unknown_option command words) (refusal ≡ Usage (usage_of command))
+    (λ word. refusal ≡ UnknownOption word (usage_of command)))
     (refusal ≡ UnknownCommand command)
 
 -- what is told of words that ask for nothing: they may ask for help beside

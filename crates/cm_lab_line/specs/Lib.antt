@@ -6,4 +6,5 @@ pub mod Tasks
 pub mod Blanks
 pub mod Loads
 pub mod Rates
+pub mod Usage
 pub mod Commands

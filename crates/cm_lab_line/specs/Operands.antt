@@ -1,5 +1,5 @@
 -- What the words say that commands take: ours.
-use Rattle.std.specs.Prelude.{ℕ, ◌^◌, ◌&&◌, nat_lt, if◌then◌else◌, Option, Some, None, Result, Ok, Err, codes, bytes_eq}
+use Rattle.std.specs.Prelude.{ℕ, ◌^◌, ◌&&◌, nat_lt, if◌then◌else◌, Option, Some, None, Result, Ok, Err, ◌++◌, codes, bytes_eq}
 use Rattle.std.specs.List.{list_all}
 use Rattle.std.specs.Char.{is_digit}
 use Rattle.std.specs.Option.{ok_or}
@@ -13,6 +13,50 @@ use Rattle.cm_load.specs.declared.offers.Pattern.TheVariants as pattern
 use Rattle.cm_lab_line.specs.declared.operands.Operand.{Operand}
 use Rattle.cm_lab_line.specs.declared.operands.Operand.TheVariants as operand
 use Rattle.cm_lab_line.specs.Refusals.{Text, Refusal, Wanted, Field, ◌>>=◌}
+
+-- ---- how they are told of
+
+-- the name of an operand in the help
+abbrev pub name_of : Operand → Text
+name_of operand.Address = codes "ADDRESS"
+name_of operand.Length = codes "LENGTH"
+name_of operand.Flag = codes "NUMBER"
+name_of operand.Proc = codes "PROC"
+name_of operand.Cycle = codes "CYCLE"
+name_of operand.Chip = codes "CHIP"
+name_of operand.Dim = codes "DIM"
+name_of operand.N = codes "N"
+name_of operand.Cap = codes "CAP"
+name_of operand.Rule = codes "R"
+name_of operand.Rate = codes "RATE"
+name_of operand.Cycles = codes "CYCLES"
+name_of operand.Pattern = codes "P"
+name_of operand.Until = codes "T"
+name_of operand.Seed = codes "S"
+
+-- a number of a range
+abbrev pub from_to : Text → Text → Text
+from_to least most = codes "a decimal number from " ++ least ++ codes " to " ++ most
+
+-- what is wanted in its place
+abbrev pub wanted_of : Operand → Text
+wanted_of operand.Address = from_to (codes "0") (codes "4095")
+wanted_of operand.Length = from_to (codes "1") (codes "64")
+wanted_of operand.Flag = from_to (codes "0") (codes "15")
+wanted_of operand.Proc = from_to (codes "0") (codes "15")
+wanted_of operand.Cycle = codes "the decimal number of a petit cycle"
+wanted_of operand.Chip = from_to (codes "0") (codes "4095")
+wanted_of operand.Dim = from_to (codes "0") (codes "11")
+wanted_of operand.N = from_to (codes "0") (codes "12")
+wanted_of operand.Cap = from_to (codes "1") (codes "15")
+wanted_of operand.Rule = codes "0 or 1"
+wanted_of operand.Rate = codes "0 to 16 with at most two digits behind a point, as 0.25, or some with commas between"
+wanted_of operand.Cycles = from_to (codes "1") (codes "1000000")
+wanted_of operand.Pattern = codes "uniform, transpose, reversal or hotspot"
+wanted_of operand.Until = from_to (codes "0") (codes "4294967295")
+wanted_of operand.Seed = from_to (codes "0") (codes "18446744073709551615")
+
+-- ---- what they say
 
 -- the number that decimal digits write, where it is below a limit
 abbrev pub digits_below : ℕ → Text → Option ℕ

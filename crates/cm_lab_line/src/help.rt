@@ -1,7 +1,8 @@
 //! What help tells, and of it the words of one command.
 
-ghost use Rattle.std.specs.Prelude.{◌≡◌, MatchOption, None, Some};
+ghost use Rattle.std.specs.Prelude.{◌≡◌, ◌++◌, IfOk, MatchOption, None, OnOk, Some, string_bytes};
 ghost use Rattle.cm_lab_line.specs.Words.{texts};
+ghost use Rattle.cm_lab_line.specs.Usage.{behind_word, first_word, usage_of, with_usage};
 ghost use Rattle.cm_lab_line.specs.Commands.{is_command, is_load_option, is_option, is_option_of, unknown_option};
 
 use cm_bits::NoMemory;
@@ -70,20 +71,57 @@ IMAGE is a file that cm1 fresh, cm1 run --out or cm1lab wrote, PROGRAM a text as
 Where study, route or load take longer than a second, standard error tells how far they are.";
 
 /// The words of a command as help tells them; nothing where it tells of none of this name.
-pub(crate) fn usage_of(alloc: Global, command: &str) -> Result<String, NoMemory> {
+pub(crate) fn usage_of(alloc: Global, command: &str) -> Result<String, NoMemory>
+    ensures value { IfOk result (λ usage. string_bytes usage ≡ usage_of command.now) }
+{
     let mut usage = String::new(alloc);
     for line in HELP.lines() {
-        let Some(words) = line.strip_prefix("cm1lab ") else {
-            continue;
-        };
-        if words.split(' ').next() == Some(command) {
-            let between = if usage.is_empty() { "" } else { ", or " };
-            if usage.push_str(between).is_err() || usage.push_str(words).is_err() {
-                return Err(NoMemory);
-            }
-        }
+        push_usage(&mut usage, command, line)?;
     }
     Ok(usage)
+}
+
+/// The words of a line of help, if it has those of this command.
+fn push_usage(usage: &mut String, command: &str, line: &str) -> Result<(), NoMemory>
+    ensures ok { OnOk result (string_bytes usage.new ≡ with_usage command.now (string_bytes usage.old) line.now) }
+{
+    let words = behind_word(line);
+    if first_word(line) != "cm1lab" || first_word(words) != command {
+        return Ok(());
+    }
+    if !usage.is_empty() {
+        push_words(usage, ", or ")?;
+    }
+    push_words(usage, words)
+}
+
+fn push_words(usage: &mut String, words: &str) -> Result<(), NoMemory>
+    ensures ok { OnOk result (string_bytes usage.new ≡ string_bytes usage.old ++ words.now) }
+{
+    match usage.push_str(words) {
+        Ok(()) => Ok(()),
+        Err(_) => Err(NoMemory),
+    }
+}
+
+/// What stands before the first space.
+fn first_word(line: &str) -> &str
+    ensures { result.now ≡ first_word line.now }
+{
+    match line.split_once(' ') {
+        Some((word, _)) => word,
+        None => line,
+    }
+}
+
+/// What stands behind it.
+fn behind_word(line: &str) -> &str
+    ensures { result.now ≡ behind_word line.now }
+{
+    match line.split_once(' ') {
+        Some((_, words)) => words,
+        None => "",
+    }
 }
 
 /// Whether a command has this name.

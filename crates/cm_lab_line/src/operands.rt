@@ -2,7 +2,7 @@
 
 ghost use Rattle.std.specs.Prelude.{◌≡◌, ◌^◌, IfOk, IfErr, Ok};
 ghost use Rattle.cm_lab_line.specs.Refusals.{Tells};
-ghost use Rattle.cm_lab_line.specs.Operands.{field, number, number_below, of_sixteen, pattern_named};
+ghost use Rattle.cm_lab_line.specs.Operands.{field, name_of, number, number_below, of_sixteen, pattern_named, wanted_of};
 
 use crate::fault::CommandFault;
 use cm_bits::{Field, FlagNo, Proc};
@@ -31,7 +31,9 @@ pub enum Operand {
 
 impl Operand {
     /// Its name in the help.
-    pub fn name(self) -> &'static str {
+    pub fn name(self) -> &'static str
+        ensures { result.now ≡ name_of self }
+    {
         match self {
             Operand::Address => "ADDRESS",
             Operand::Length => "LENGTH",
@@ -52,7 +54,9 @@ impl Operand {
     }
 
     /// What is wanted in its place.
-    pub fn wanted(self) -> &'static str {
+    pub fn wanted(self) -> &'static str
+        ensures { result.now ≡ wanted_of self }
+    {
         match self {
             Operand::Address | Operand::Chip => "a decimal number from 0 to 4095",
             Operand::Length => "a decimal number from 1 to 64",

@@ -5,6 +5,7 @@ mod asking;
 mod cycles;
 mod draws;
 mod figures;
+mod laws;
 mod logs;
 mod offers;
 mod sources;
@@ -14,6 +15,7 @@ mod trials;
 
 pub use cm_message::Rule;
 pub use figures::{Figures, measure};
+pub use laws::{draws_are_published_ones, loads_are_told_so, patterns_aim_so};
 pub use offers::{Load, Pattern};
 pub use tables::table;
 pub use trials::{LoadFault, Trial};

@@ -15,7 +15,10 @@ mod ticks;
 
 pub use axes::{Axis, along, axis_of};
 pub use cells::{behind, cell, place};
-pub use laws::{axes_join_their_numbers, points_stand_on_their_panels};
+pub use laws::{
+    axes_have_round_ticks, axes_join_their_numbers, names_are_shown_so,
+    points_stand_on_their_panels, rows_tell_points,
+};
 pub use lines::{colour, push_circle, push_line_open, push_name};
 pub use panels::{push_place, push_sides};
 pub use pictures::{plot, push_head};

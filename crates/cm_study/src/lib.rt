@@ -17,6 +17,6 @@ mod whereabouts;
 pub use counts::Counts;
 pub use routes::{RouteFault, route};
 pub use studies::{StudyFault, Table, study};
-pub use study_laws::counts_agree_with_the_account;
+pub use study_laws::{counts_agree_with_the_account, ways_are_told_so};
 pub use trace::Trace;
 pub use watch::{Unwatched, Watch};

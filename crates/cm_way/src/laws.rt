@@ -14,6 +14,11 @@ pub fn routes_are_drawn_so()
     ensures delivered { line_legs (codes "cycle 4: 0, delivered to processor 15")
         ≡ record { cycle = 4; start = 0; end = 0; from = 0; to = 0; step = step.Wanted }
         ∷ record { cycle = 5; start = 0; end = 0; from = 0; to = 0; step = step.Delivered } ∷ [] }
+    ensures crossed { line_legs (codes "cycle 0: 15 -> 14 -> 10, referred in 2, place 1 of 1")
+        ≡ record { cycle = 0; start = 0; end = 0; from = 15; to = 15; step = step.Wanted }
+        ∷ record { cycle = 0; start = 0; end = 1; from = 15; to = 14; step = step.Wanted }
+        ∷ record { cycle = 0; start = 2; end = 3; from = 14; to = 10; step = step.Referred }
+        ∷ record { cycle = 1; start = 0; end = 0; from = 10; to = 10; step = step.Wanted } ∷ [] }
     ensures stands { line_legs (codes "stands at 3, for processor 3 of chip 0") ≡ [] }
     ensures no_cycle { is_told (codes "cycle x: 1, place 1 of 1") ≡ false }
     ensures no_route { is_told (codes "cycles 1: 1, place 1 of 1") ≡ false }
