@@ -9,11 +9,10 @@ use cm_model::Act;
 use cm_subcube::{SplitFault, copy_by_blocks};
 use std::alloc::Global;
 
-/// A machine whose processors all asked to send, to other chips and processors each, two petit cycles later.
-fn busy<const N: usize, const CAP: usize>(alloc: Global, chips: u16) -> Option<Machine<N, CAP>>
+/// All processors ask to send, to other chips and processors each.
+fn ask_all<const N: usize, const CAP: usize>(machine: &mut Machine<N, CAP>, chips: u16)
     requires chips { chips ≡ 2 ^ N }
 {
-    let mut machine = Machine::<N, CAP>::blank(alloc).ok()?;
     for c in 0..chips {
         for p in 0u8..16 {
             let proc = processor(p);
@@ -25,6 +24,14 @@ fn busy<const N: usize, const CAP: usize>(alloc: Global, chips: u16) -> Option<M
             let _ = machine.poke_flag(c, proc, FlagNo::SEND, true);
         }
     }
+}
+
+/// A machine whose processors all did, two petit cycles later.
+fn busy<const N: usize, const CAP: usize>(alloc: Global, chips: u16) -> Option<Machine<N, CAP>>
+    requires chips { chips ≡ 2 ^ N }
+{
+    let mut machine = Machine::<N, CAP>::blank(alloc).ok()?;
+    ask_all(&mut machine, chips);
     Plain.go(&mut machine, &[Act::Cycle, Act::Cycle]).ok()?;
     Some(machine)
 }
@@ -41,15 +48,40 @@ fn has_events<const N: usize, const CAP: usize>(machine: &Machine<N, CAP>, chips
     false
 }
 
-/// Whether a busy machine comes back from 2^`k` blocks, into one that was busy otherwise.
+/// Whether a machine comes back from 2^`k` blocks, into another that goes through a petit cycle before.
+fn comes_back_into<const N: usize, const CAP: usize>(
+    alloc: Global,
+    machine: &Machine<N, CAP>,
+    k: u8,
+    other: &mut Machine<N, CAP>,
+    chips: u16,
+) -> Option<bool>
+    requires chips { chips ≡ 2 ^ N }
+{
+    Plain.go(other, &[Act::Cycle]).ok()?;
+    copy_by_blocks(alloc, machine, k, other).ok()?;
+    Some(has_events(machine, chips) && are_same(machine, other, chips))
+}
+
+/// Whether it does into one that was busy otherwise.
+fn is_brought_back<const N: usize, const CAP: usize>(
+    alloc: Global,
+    machine: &Machine<N, CAP>,
+    k: u8,
+    chips: u16,
+) -> Option<bool>
+    requires chips { chips ≡ 2 ^ N }
+{
+    let mut other = busy::<N, CAP>(alloc, chips)?;
+    comes_back_into(alloc, machine, k, &mut other, chips)
+}
+
+/// Whether a busy machine does.
 fn comes_back<const N: usize, const CAP: usize>(alloc: Global, chips: u16, k: u8) -> Option<bool>
     requires chips { chips ≡ 2 ^ N }
 {
     let machine = busy::<N, CAP>(alloc, chips)?;
-    let mut other = busy::<N, CAP>(alloc, chips)?;
-    Plain.go(&mut other, &[Act::Cycle]).ok()?;
-    copy_by_blocks(alloc, &machine, k, &mut other).ok()?;
-    Some(has_events(&machine, chips) && are_same(&machine, &other, chips))
+    is_brought_back(alloc, &machine, k, chips)
 }
 
 #[test]
@@ -65,11 +97,16 @@ fn a_machine_comes_back_from_its_blocks(rt: HostRuntime) {
     assert_eq!(rt; back, [Some(true); 5]);
 }
 
-/// Why sixteen chips are not cut into blocks of two.
+/// Why such a machine is not cut into blocks of two chips.
+fn fault_of(alloc: Global, machine: &Machine<4, 7>) -> Option<SplitFault> {
+    let mut other = Machine::<4, 7>::blank(alloc).ok()?;
+    copy_by_blocks(alloc, machine, 3, &mut other).err()
+}
+
+/// Why sixteen chips are not.
 fn refused(alloc: Global) -> Option<SplitFault> {
     let machine = Machine::<4, 7>::blank(alloc).ok()?;
-    let mut other = Machine::<4, 7>::blank(alloc).ok()?;
-    copy_by_blocks(alloc, &machine, 3, &mut other).err()
+    fault_of(alloc, &machine)
 }
 
 #[test]

@@ -64,19 +64,39 @@ fn busy(alloc: Global) -> Option<Machine<4, 7>> {
 }
 
 /// Whether a machine that is split into four blocks comes back from them; or else that into which it was to come stays as
-/// it was.
-fn comes_back(alloc: Global) -> Option<bool> {
-    let machine = busy(alloc)?;
-    let blank = Machine::<4, 7>::blank(alloc).ok()?;
-    let mut other = Machine::<4, 7>::blank(alloc).ok()?;
-    let is_right = match copy_by_blocks(alloc, &machine, 2, &mut other) {
+/// it was, and it comes back when it is asked again.
+fn comes_back_into(
+    alloc: Global,
+    machine: &Machine<4, 7>,
+    blank: &Machine<4, 7>,
+    other: &mut Machine<4, 7>,
+) -> bool {
+    let is_right = match copy_by_blocks(alloc, machine, 2, other) {
         Ok(()) => true,
         Err(fault) => {
-            let is_kept = fault == SplitFault::Memory && are_same(&other, &blank, 16);
-            is_kept && copy_by_blocks(alloc, &machine, 2, &mut other).is_ok()
+            let is_kept = fault == SplitFault::Memory && are_same(other, blank, 16);
+            is_kept && copy_by_blocks(alloc, machine, 2, other).is_ok()
         }
     };
-    Some(is_right && are_same(&other, &machine, 16))
+    is_right && are_same(other, machine, 16)
+}
+
+/// Whether it does into a blank one, like this.
+fn comes_back_like(alloc: Global, machine: &Machine<4, 7>, blank: &Machine<4, 7>) -> Option<bool> {
+    let mut other = Machine::<4, 7>::blank(alloc).ok()?;
+    Some(comes_back_into(alloc, machine, blank, &mut other))
+}
+
+/// Whether it does into a blank one.
+fn is_brought_back(alloc: Global, machine: &Machine<4, 7>) -> Option<bool> {
+    let blank = Machine::<4, 7>::blank(alloc).ok()?;
+    comes_back_like(alloc, machine, &blank)
+}
+
+/// Whether a busy machine does.
+fn comes_back(alloc: Global) -> Option<bool> {
+    let machine = busy(alloc)?;
+    is_brought_back(alloc, &machine)
 }
 
 /// Whether two workers go through the program of messages as one thread does, or else leave the machine as it was.

@@ -44,7 +44,29 @@ fn runs_as_plain<const N: usize, const CAP: usize, R: Threads + Wait>(
     Some(ran == (None, true))
 }
 
-/// Whether a drawn machine goes as on one thread, where it is shared out so.
+/// Whether a machine goes through drawn lists of acts as on one thread, where it is shared out so.
+fn goes_on<const N: usize, const CAP: usize, R: Threads + Wait>(
+    rt: &R,
+    alloc: Global,
+    machine: &mut Machine<N, CAP>,
+    draws: &mut Draws,
+    chips: u16,
+    share: Share,
+) -> Option<bool>
+    requires chips { chips ≡ 2 ^ N }
+    requires threads { IsSync R.row }
+{
+    for _list in 0..LISTS {
+        let acts = draws.acts(alloc, 16).ok()?;
+        if !runs_as_plain(rt, alloc, machine, &acts, share, chips)? {
+            return Some(false);
+        }
+        ask_again(machine, draws, chips);
+    }
+    Some(true)
+}
+
+/// Whether a drawn machine does.
 fn goes<const N: usize, const CAP: usize, R: Threads + Wait>(
     rt: &R,
     alloc: Global,
@@ -56,14 +78,7 @@ fn goes<const N: usize, const CAP: usize, R: Threads + Wait>(
 {
     let mut draws = Draws::new(u32::from(share.workers));
     let mut machine = asking_machine::<N, CAP>(alloc, &mut draws, chips)?;
-    for _list in 0..LISTS {
-        let acts = draws.acts(alloc, 16).ok()?;
-        if !runs_as_plain(rt, alloc, &mut machine, &acts, share, chips)? {
-            return Some(false);
-        }
-        ask_again(&mut machine, &mut draws, chips);
-    }
-    Some(true)
+    goes_on(rt, alloc, &mut machine, &mut draws, chips, share)
 }
 
 /// Whether drawn machines do by 2^`k` blocks: with 1, 2, 3 and as many workers as blocks, where there are so many.
