@@ -36,5 +36,8 @@ with front.Machine(*sys.argv[1:3]) as machine:
         quiet = 0 if machine.wire() else quiet + 1
     print(cycles, "petit cycles", file=sys.stderr)
     counts = machine.ask("\n".join(f"field {16 * grey} 0 96 16" for grey in range(256)))
-for grey, count in enumerate(counts):
-    print(grey, count.removeprefix("field "))
+numbers = [int(count.removeprefix("field ")) for count in counts]
+for grey, number in enumerate(numbers):
+    print(grey, number)
+if sum(numbers) != 65536:
+    sys.exit(f"{sum(numbers)} of 65536 were counted: has each processor its own number at 80?")
