@@ -5,8 +5,8 @@ use Rattle.cm_figures.specs.declared.formats.Format.{Format}
 use Rattle.cm_lab.specs.declared.order.Order.{Order}
 use Rattle.cm_lab_line.specs.Words.{texts}
 use Rattle.cm_lab_line.specs.Refusals.{Words}
-use Rattle.cm_lab_line.specs.Commands.{freshening, loading}
-use Rattle.cm_lab_line.specs.Tasks.{filling_in, picture_in, routing, sender, telling}
+use Rattle.cm_lab_line.specs.Commands.{freshening, loading, request_of}
+use Rattle.cm_lab_line.specs.Tasks.{filling_in, painting, picture_in, routing, sender, telling}
 
 pub few_or_many_of_sender : (words : List (Bor (List ℕ))) → (length words < 3) ⊎ (4 ≤ length words)
     → sender (texts words) ≡ Err Words
@@ -33,6 +33,15 @@ few_or_many_of_filling order (a ∷ b ∷ c ∷ []) h = refl
 few_or_many_of_filling order (a ∷ b ∷ c ∷ d ∷ []) h = absurd (omega arith)
 few_or_many_of_filling order (a ∷ b ∷ c ∷ d ∷ e ∷ rest) h = refl
 
+pub few_or_many_of_painting : (words : List (Bor (List ℕ))) → (length words < 4) ⊎ (5 ≤ length words)
+    → painting (texts words) ≡ Err Words
+few_or_many_of_painting [] h = refl
+few_or_many_of_painting (a ∷ []) h = refl
+few_or_many_of_painting (a ∷ b ∷ []) h = refl
+few_or_many_of_painting (a ∷ b ∷ c ∷ []) h = refl
+few_or_many_of_painting (a ∷ b ∷ c ∷ d ∷ []) h = absurd (omega arith)
+few_or_many_of_painting (a ∷ b ∷ c ∷ d ∷ e ∷ rest) h = refl
+
 pub few_or_many_of_picture : (format : Format) (words : List (Bor (List ℕ)))
     → (length words < 2) ⊎ (4 ≤ length words) → picture_in format (texts words) ≡ Err Words
 few_or_many_of_picture format [] h = refl
@@ -57,3 +66,8 @@ few_of_loading (a ∷ []) h = refl
 few_of_loading (a ∷ b ∷ []) h = refl
 few_of_loading (a ∷ b ∷ c ∷ []) h = refl
 few_of_loading (a ∷ b ∷ c ∷ d ∷ rest) h = absurd (omega arith)
+
+pub few_words : (words : List (Bor (List ℕ))) → length words < 2 → request_of (texts words) ≡ Err Words
+few_words [] h = refl
+few_words (a ∷ []) h = refl
+few_words (a ∷ b ∷ rest) h = absurd (omega arith)

@@ -2,7 +2,7 @@
 use Rattle.std.specs.Prelude.{◌^◌, if◌then◌else◌, Result, Ok, Err, List, [], ◌∷◌, ◌++◌, codes, bytes_eq}
 use Rattle.cm_lab_line.specs.declared.operands.Operand.TheVariants as operand
 use Rattle.cm_lab_line.specs.Refusals.{Text, Refusal, Words, ◌>>=◌}
-use Rattle.cm_lab_line.specs.Operands.{number_below}
+use Rattle.cm_lab_line.specs.Operands.{file_named, number_below}
 use Rattle.cm_lab_line.specs.Requests.{BlankAsked}
 
 -- the machine with this rule
@@ -18,7 +18,7 @@ with_cut machine chip dim =
 -- the machine with what the options say, `--rule R` and `--cut CHIP DIM`, and the file behind them
 abbrev pub with_ends : BlankAsked → List Text → Result BlankAsked Refusal
 with_ends machine [] = Err Words
-with_ends machine (out ∷ []) = Ok (record machine { out = out })
+with_ends machine (out ∷ []) = file_named out >>= λ file. Ok (record machine { out = file })
 with_ends machine (option ∷ word ∷ []) =
     if bytes_eq option (codes "--rule") then with_rule machine word >>= (λ ruled. Err Words) else Err Words
 with_ends machine (option ∷ word ∷ next ∷ after) =

@@ -7,6 +7,7 @@ use Rattle.std.specs.Bool.{MatchBool}
 use Rattle.cm_lab_line.specs.Refusals.{Text, Refusal, Help, Memory, Twice, UnknownCommand, UnknownOption, Usage}
 use Rattle.cm_lab_line.specs.Refusals.{Words, ◌>>=◌}
 use Rattle.cm_lab_line.specs.Requests.{Do, Expand, Fresh, Front, Load, Plot, Request}
+use Rattle.cm_lab_line.specs.Operands.{file_named, is_option}
 use Rattle.cm_lab_line.specs.Tasks.{task_of}
 use Rattle.cm_lab_line.specs.Blanks.{blank}
 use Rattle.cm_lab_line.specs.Loads.{load}
@@ -16,8 +17,8 @@ use Rattle.cm_lab_line.specs.Usage.{usage_of}
 abbrev pub fronting : List Text → Result Request Refusal
 fronting (image ∷ []) = Ok (Front image None)
 fronting (first ∷ second ∷ third ∷ []) =
-    if bytes_eq second (codes "--out") then Ok (Front first (Some third))
-    else (if bytes_eq first (codes "--out") then Ok (Front third (Some second))
+    if bytes_eq second (codes "--out") then file_named third >>= (λ out. Ok (Front first (Some out)))
+    else (if bytes_eq first (codes "--out") then file_named second >>= (λ out. Ok (Front third (Some out)))
     else Err Words)
 fronting _ = Err Words
 
@@ -64,10 +65,6 @@ named command words =
 abbrev pub request_of : List Text → Result Request Refusal
 request_of (program ∷ command ∷ words) = named command words
 request_of _ = Err Words
-
--- a word that begins with two dashes
-abbrev pub is_option : Text → Bool
-is_option word = slice_index word 0 == 45 && slice_index word 1 == 45
 
 -- an option that may be given once: wires that are cut may be several
 abbrev pub is_single : Text → Bool

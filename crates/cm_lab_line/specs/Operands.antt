@@ -1,5 +1,5 @@
 -- What the words say that commands take: ours.
-use Rattle.std.specs.Prelude.{ℕ, ◌^◌, ◌&&◌, nat_lt, if◌then◌else◌, Option, Some, None, Result, Ok, Err, ◌++◌, codes, bytes_eq}
+use Rattle.std.specs.Prelude.{ℕ, ◌^◌, ◌==◌, ◌&&◌, Bool, slice_index, nat_lt, if◌then◌else◌, Option, Some, None, Result, Ok, Err, ◌++◌, codes, bytes_eq}
 use Rattle.std.specs.List.{list_all}
 use Rattle.std.specs.Char.{is_digit}
 use Rattle.std.specs.Option.{ok_or}
@@ -12,7 +12,7 @@ use Rattle.cm_load.specs.declared.offers.Pattern.{Pattern}
 use Rattle.cm_load.specs.declared.offers.Pattern.TheVariants as pattern
 use Rattle.cm_lab_line.specs.declared.operands.Operand.{Operand}
 use Rattle.cm_lab_line.specs.declared.operands.Operand.TheVariants as operand
-use Rattle.cm_lab_line.specs.Refusals.{Text, Refusal, Wanted, Field, ◌>>=◌}
+use Rattle.cm_lab_line.specs.Refusals.{Text, Refusal, Wanted, Words, Field, ◌>>=◌}
 
 -- ---- how they are told of
 
@@ -57,6 +57,14 @@ wanted_of operand.Until = from_to (codes "0") (codes "4294967295")
 wanted_of operand.Seed = from_to (codes "0") (codes "18446744073709551615")
 
 -- ---- what they say
+
+-- a word that begins with two dashes
+abbrev pub is_option : Text → Bool
+is_option word = slice_index word 0 == 45 && slice_index word 1 == 45
+
+-- the name of a file that is written, which no option is: one that stands in a wrong place shall make no file
+abbrev pub file_named : Text → Result Text Refusal
+file_named word = if is_option word then Err Words else Ok word
 
 -- the number that decimal digits write, where it is below a limit
 abbrev pub digits_below : ℕ → Text → Option ℕ

@@ -13,7 +13,7 @@ use Rattle.cm_lab.specs.declared.order.Order.TheVariants.{Chips, Rows}
 use Rattle.cm_lab.specs.declared.pictures.Shown.TheVariants as seen
 use Rattle.cm_lab_line.specs.declared.operands.Operand.TheVariants as operand
 use Rattle.cm_lab_line.specs.Refusals.{Text, Refusal, Words, ◌>>=◌}
-use Rattle.cm_lab_line.specs.Operands.{field, number_below}
+use Rattle.cm_lab_line.specs.Operands.{field, file_named, number_below}
 use Rattle.cm_lab_line.specs.Requests.{Beside, Nothing, Numbers, Picture, Program, TaskAsked}
 
 -- a task that tells
@@ -41,7 +41,8 @@ telling order _ = Err Words
 
 -- a field is filled with numbers
 abbrev pub filled : Order → Text → Text → Text → Text → Result TaskAsked Refusal
-filled order image at len out = field at len >>= λ span. Ok (left_by (Put order span) image Numbers out)
+filled order image at len out =
+    field at len >>= λ span. file_named out >>= λ file. Ok (left_by (Put order span) image Numbers file)
 
 -- IMAGE ADDRESS LENGTH OUT
 abbrev pub filling_in : Order → List Text → Result TaskAsked Refusal
@@ -83,7 +84,8 @@ picturing (first ∷ rest) =
 -- a picture is painted
 abbrev pub painted : Text → Text → Text → Text → Result TaskAsked Refusal
 painted image picture at out =
-    number_below (2 ^ 16) operand.Address at >>= λ at'. Ok (left_by (Paint at') image (Picture picture) out)
+    number_below (2 ^ 16) operand.Address at >>= λ at'. file_named out >>= λ file.
+    Ok (left_by (Paint at') image (Picture picture) file)
 
 -- `paint`: IMAGE PICTURE ADDRESS OUT
 abbrev pub painting : List Text → Result TaskAsked Refusal

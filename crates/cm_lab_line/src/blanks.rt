@@ -7,7 +7,7 @@ ghost use Rattle.cm_lab_line.specs.Requests.{blank_asked};
 ghost use Rattle.cm_lab_line.specs.Blanks.{blank, with_cut, with_ends, with_rule};
 
 use crate::fault::CommandFault;
-use crate::operands::{Operand, number};
+use crate::operands::{Operand, file_named, number};
 use cm_fresh::WireEnd;
 use std::alloc::Global;
 
@@ -55,7 +55,10 @@ fn with_ends<'a>(
 {
     match words {
         [] => Err(CommandFault::Words),
-        [out] => Ok(Blank { out, ..machine }),
+        [out] => {
+            let out = file_named(out)?;
+            Ok(Blank { out, ..machine })
+        }
         [option, word, after @ ..] => {
             if *option == "--rule" {
                 let ruled = with_rule(alloc, machine, word)?;

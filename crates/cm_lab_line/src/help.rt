@@ -3,8 +3,9 @@
 ghost use Rattle.std.specs.Prelude.{◌≡◌, ◌++◌, IfOk, MatchOption, None, OnOk, Some, string_bytes};
 ghost use Rattle.cm_lab_line.specs.Words.{texts};
 ghost use Rattle.cm_lab_line.specs.Usage.{behind_word, first_word, usage_of, with_usage};
-ghost use Rattle.cm_lab_line.specs.Commands.{is_command, is_load_option, is_option, is_option_of, unknown_option};
+ghost use Rattle.cm_lab_line.specs.Commands.{is_command, is_load_option, is_option_of, unknown_option};
 
+use crate::operands::is_option;
 use cm_bits::NoMemory;
 use std::alloc::Global;
 
@@ -156,13 +157,6 @@ pub(crate) fn unknown_option<'a>(command: &str, words: &[&'a str]) -> Option<&'a
         }
     }
     None
-}
-
-/// Whether a word begins with two dashes.
-pub(crate) fn is_option(word: &str) -> bool
-    ensures { result ≡ is_option word.now }
-{
-    matches!(word.as_bytes(), [b'-', b'-', ..])
 }
 
 /// Whether a command has this option.

@@ -115,6 +115,10 @@ pub fn lines_are_refused()
     ensures short_help { request_of (codes "cm1lab" ∷ codes "-h" ∷ []) ≡ Err Help }
     ensures help_and_more { request_of (codes "cm1lab" ∷ codes "help" ∷ codes "get" ∷ []) ≡ Err Words }
     ensures few { request_of (codes "cm1lab" ∷ codes "get" ∷ codes "a.image" ∷ codes "0" ∷ []) ≡ Err Words }
+    ensures option_for_a_file { request_of
+        (codes "cm1lab" ∷ codes "fresh" ∷ codes "4" ∷ codes "7" ∷ codes "--rule" ∷ []) ≡ Err Words }
+    ensures option_for_an_image { request_of
+        (codes "cm1lab" ∷ codes "put" ∷ codes "a.image" ∷ codes "0" ∷ codes "8" ∷ codes "--rows" ∷ []) ≡ Err Words }
     ensures rows_without_image { request_of
         (codes "cm1lab" ∷ codes "put" ∷ codes "--rows" ∷ codes "0" ∷ codes "8" ∷ codes "b.image" ∷ []) ≡ Err Words }
     ensures messages_without_program { request_of

@@ -2,7 +2,7 @@
 
 ghost use Rattle.std.specs.Prelude.{◌≡◌, ◌^◌, IfOk, IfErr, Ok};
 ghost use Rattle.cm_lab_line.specs.Refusals.{Tells};
-ghost use Rattle.cm_lab_line.specs.Operands.{field, name_of, number, number_below, of_sixteen, pattern_named, wanted_of};
+ghost use Rattle.cm_lab_line.specs.Operands.{field, file_named, is_option, name_of, number, number_below, of_sixteen, pattern_named, wanted_of};
 
 use crate::fault::CommandFault;
 use cm_bits::{Field, FlagNo, Proc};
@@ -74,6 +74,24 @@ impl Operand {
             Operand::Seed => "a decimal number from 0 to 18446744073709551615",
         }
     }
+}
+
+/// Whether a word begins with two dashes.
+pub(crate) fn is_option(word: &str) -> bool
+    ensures { result ≡ is_option word.now }
+{
+    matches!(word.as_bytes(), [b'-', b'-', ..])
+}
+
+/// The name of a file that is written: no option, which may stand in a wrong place.
+pub(crate) fn file_named<'a>(word: &'a str) -> Result<&'a str, CommandFault>
+    ensures value { IfOk result (λ file. file_named word.now ≡ Ok file.now) }
+    ensures refused { IfErr result (Tells (file_named word.now)) }
+{
+    if is_option(word) {
+        return Err(CommandFault::Words);
+    }
+    Ok(word)
 }
 
 /// One of sixteen.

@@ -11,8 +11,9 @@ ghost use Rattle.cm_lab_line.specs.Commands.{loading, named, plotting, request_o
 
 use crate::blanks::{Blank, read_blank};
 use crate::fault::CommandFault;
-use crate::help::{is_command, is_option, unknown_option, usage_of};
+use crate::help::{is_command, unknown_option, usage_of};
 use crate::loads::{Loads, read_loads};
+use crate::operands::{file_named, is_option};
 use crate::tasks::read_task;
 use cm_lab::Task;
 use std::alloc::Global;
@@ -179,14 +180,16 @@ fn read_fronting<'a>(words: &[&'a str]) -> Result<Command<'a>, CommandFault>
         [image] => Ok(Command::Front { image, out: None }),
         [first, second, third] => {
             if *second == "--out" {
+                let out = file_named(third)?;
                 Ok(Command::Front {
                     image: first,
-                    out: Some(third),
+                    out: Some(out),
                 })
             } else if *first == "--out" {
+                let out = file_named(second)?;
                 Ok(Command::Front {
                     image: third,
-                    out: Some(second),
+                    out: Some(out),
                 })
             } else {
                 Err(CommandFault::Words)

@@ -9,7 +9,7 @@ ghost use Rattle.cm_lab_line.specs.Tasks.{painting, picture_in, picturing, route
 ghost use Rattle.cm_lab_line.specs.Tasks.{studying_in, tag, task_of, telling, told_of};
 
 use crate::fault::CommandFault;
-use crate::operands::{Operand, field, flag, long_number, number, processor};
+use crate::operands::{Operand, field, file_named, flag, long_number, number, processor};
 use crate::reading::{Asked, Given};
 use cm_lab::{Form, Format, Order, Shown, Table, Tag, Task};
 use std::alloc::Global;
@@ -133,6 +133,7 @@ fn read_filled<'a>(
     ensures refused { IfErr result (Tells (filled order image.now at.now len.now out.now)) }
 {
     let field = field(alloc, at, len)?;
+    let out = file_named(out)?;
     Ok(Asked {
         task: Task::Put(order, field),
         image,
@@ -243,6 +244,7 @@ fn read_painted<'a>(
     ensures refused { IfErr result (Tells (painted image.now picture.now at.now out.now)) }
 {
     let at = number(alloc, Operand::Address, at)?;
+    let out = file_named(out)?;
     Ok(Asked {
         task: Task::Paint(at),
         image,
