@@ -61,7 +61,7 @@ behind-step n cap earlier machine Inject = λ i. record (machine_after_injection
 }
 behind-step n cap earlier machine (Cross d) = refl
 behind-step n cap earlier machine Deliver = λ i. record (machine_after_delivery n machine) {
-  logs = told_behind n earlier machine.logs (λ c. map (λ m. Delivered m c) (delivered_in machine c)) i;
+  logs = told_behind n earlier machine.logs (λ c. map (λ m. Delivered c m) (delivered_in machine c)) i;
 }
 
 behind-steps : (n cap : ℕ) (earlier : List (List Event)) (machine : Machine) (steps : List Step)
@@ -188,12 +188,12 @@ told_at_delivery : (n cap c : ℕ) (machine : Machine) → c < 2 ^ n → HasRoom
 unfolding machine_after_delivery told
 told_at_delivery n cap c machine l room =
     let is = ap length (get_or-each_below (2 ^ n)
-    (λ b. list_at machine.logs b ++ map (λ m. Delivered m b) (delivered_in machine b)) c [] l) in
+    (λ b. list_at machine.logs b ++ map (λ m. Delivered b m) (delivered_in machine b)) c [] l) in
     omega (
       arith,
       is,
-      length-append (list_at machine.logs c) (map (λ m. Delivered m c) (delivered_in machine c)),
-      length-map (delivered_in machine c) (λ m. Delivered m c),
+      length-append (list_at machine.logs c) (map (λ m. Delivered c m) (delivered_in machine c)),
+      length-map (delivered_in machine c) (λ m. Delivered c m),
       length-delivered (can_receive (chip_at machine.chips c)) [] (list_at machine.buffers c),
       room c l,
     )

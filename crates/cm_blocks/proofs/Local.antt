@@ -88,9 +88,9 @@ part-delivery n cap first count machine parcel h =
     (λ c. kept (can_receive (chip_in s c)) [] (buffer_in s c)) h
     (λ i l. λ j. kept (can_receive (sym (chip i l) j)) [] (sym (here i l) j)) in
     let logs = cut-same [] first count (2 ^ n)
-    (λ c. list_at machine.logs c ++ map (λ m. Delivered m c) (delivered_in machine c))
-    (λ c. log_in s c ++ map (λ m. Delivered m c) (delivered_of s c)) h
-    (λ i l. λ j. sym (told i l) j ++ map (λ m. Delivered m (first + i))
+    (λ c. list_at machine.logs c ++ map (λ m. Delivered c m) (delivered_in machine c))
+    (λ c. log_in s c ++ map (λ m. Delivered c m) (delivered_of s c)) h
+    (λ i l. λ j. sym (told i l) j ++ map (λ m. Delivered (first + i) m)
     (delivered (can_receive (sym (chip i l) j)) [] (sym (here i l) j))) in
     λ j. record {
       first = first;

@@ -66,7 +66,7 @@ part_after n cap (Cross d) parcel s = record s {
 part_after n cap Deliver parcel s = record s {
   chips = each_from s.first s.count (λ c. chip_after_delivery (delivered_of s c) (chip_in s c));
   buffers = each_from s.first s.count (λ c. kept_here (buffer_in s c) (chip_in s c));
-  logs = each_from s.first s.count (λ c. log_in s c ++ map (λ m. Delivered m c) (delivered_of s c));
+  logs = each_from s.first s.count (λ c. log_in s c ++ map (λ m. Delivered c m) (delivered_of s c));
   clock = s.clock + 1;
 }
 

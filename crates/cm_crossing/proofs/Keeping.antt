@@ -106,7 +106,7 @@ module _ {before chip : List Processor} {old : List Message} {told events : List
 
   pub scan_taken : {after : List Processor} → HandsOver true before (message_of row t) chip after
       → Scan before old told here after (standing row (remove queue place)) place
-      (events ++ Delivered (message_of row t) here ∷ [])
+      (events ++ Delivered here (message_of row t) ∷ [])
   scan_taken step =
       rw (map-without (message_of row) queue (Some place))
       (scan_accepts _ _ _ _ _ _ _ _ _ (message_of row t) scan inside there step)

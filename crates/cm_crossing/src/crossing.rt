@@ -521,7 +521,7 @@ impl Crossing {
             (chip_after_delivery (delivered_here (list_at self.old.buffers chip)
             (chip_at (run_after deliveries.old run.now) chip)) (chip_at (run_after deliveries.old run.now) chip)) }
         ensures before { AreBefore (chip + 1) deliveries.new }
-        ensures log { log.new.items ≡ log.old.items ++ map (λ m. event.Delivered m here)
+        ensures log { log.new.items ≡ log.old.items ++ map (λ m. event.Delivered here m)
             (delivered_here (list_at self.old.buffers chip) (chip_at (run_after deliveries.old run.now) chip)) }
         ensures len { vec_len log.new ≤ vec_len log.old + sizes.room }
         ensures capacity { vec_capacity log.old ≤ vec_capacity log.new }

@@ -163,7 +163,7 @@ pub(crate) fn give_out(
         (chip_after_delivery (delivered_here (standing row.now (list_at slots.old chip))
         (chip_at (run_after deliveries.old run.now) chip)) (chip_at (run_after deliveries.old run.now) chip)) }
     ensures before { AreBefore (chip + 1) deliveries.new }
-    ensures log { log.new.items ≡ log.old.items ++ map (λ m. event.Delivered m here)
+    ensures log { log.new.items ≡ log.old.items ++ map (λ m. event.Delivered here m)
         (delivered_here (standing row.now (list_at slots.old chip)) (chip_at (run_after deliveries.old run.now) chip)) }
     ensures len { vec_len log.new ≤ vec_len log.old + length (list_at slots.old chip) }
     ensures capacity { vec_capacity log.old ≤ vec_capacity log.new }
@@ -242,7 +242,7 @@ fn is_delivered(
     ensures before { (k : ℕ) → chip < k → AreBefore k deliveries.old → AreBefore k deliveries.new }
     ensures count { length deliveries.new ≡ length deliveries.old + (if result then 1 else 0) }
     ensures log { log.new.items ≡ log.old.items
-        ++ (if result then event.Delivered (message_of row.now ticket) here ∷ [] else []) }
+        ++ (if result then event.Delivered here (message_of row.now ticket) ∷ [] else []) }
     ensures len { vec_len log.new ≤ vec_len log.old + 1 }
     ensures quiet { IsFalse result → vec_len log.new ≡ vec_len log.old }
     ensures capacity { vec_capacity log.old ≤ vec_capacity log.new }

@@ -49,16 +49,16 @@ IsBornLine clock triple = triple.tag.birth < clock
 -- what an event tells was delivered was born before this count of petit cycles
 abbrev IsOfBorn : ℕ → Event → Type 0
 IsOfBorn clock (Injected m) = Unit {0}
-IsOfBorn clock (Delivered m c) = m.tag.birth < clock
+IsOfBorn clock (Delivered c m) = m.tag.birth < clock
 
 born_events : (clock : ℕ) (events : List Event) → All (IsBornLine clock) (filter_map delivered_triple events)
     → All (IsOfBorn clock) events
 born_events clock [] all = All-nil (IsOfBorn clock)
 born_events clock (Injected m ∷ events) all =
     All-cons (IsOfBorn clock) (Injected m) events tt (born_events clock events all)
-born_events clock (Delivered m c ∷ events) all =
+born_events clock (Delivered c m ∷ events) all =
     let line : Triple = record { tag = m.tag; target = record { chip = c; proc = m.proc }; payload = m.payload } in
-    All-cons (IsOfBorn clock) (Delivered m c) events
+    All-cons (IsOfBorn clock) (Delivered c m) events
     (All-head (IsBornLine clock) line (filter_map delivered_triple events) all)
     (born_events clock events (All-tail (IsBornLine clock) line (filter_map delivered_triple events) all))
 
@@ -77,7 +77,7 @@ born_in_log n machine c born inside =
 delivered_born : (clock : ℕ) (tag : Tag) (event : Event) (place : Place) → IsOfBorn clock event
     → delivery_place tag event ≡ Some place → tag.birth < clock
 delivered_born clock tag (Injected m) place born gives = absurd cc
-delivered_born clock tag (Delivered m c) place born gives = by (same_tag m.tag tag) refl gives where
+delivered_born clock tag (Delivered c m) place born gives = by (same_tag m.tag tag) refl gives where
   by : (b : Bool) → same_tag m.tag tag ≡ b
       → cond b (Some (record { chip = c; proc = m.proc })) None ≡ Some place → tag.birth < clock
   by true same gives' = subst (λ (t : Tag). t.birth < clock) (same_tag-true m.tag tag same) born

@@ -7,7 +7,7 @@ use Rattle.cm_model.specs.declared.message.Event.TheVariants.{Injected, Delivere
 
 abbrev pub is_injection : Event → Bool
 is_injection (Injected m) = true
-is_injection (Delivered m c) = false
+is_injection (Delivered c m) = false
 
 -- how many messages were taken in
 abbrev pub taken_in : List (List Event) → ℕ
@@ -20,7 +20,7 @@ latency t m = t + 1 - m.payload
 -- what an event of petit cycle t tells of it
 abbrev pub latency_told : ℕ → Event → List ℕ
 latency_told t (Injected m) = []
-latency_told t (Delivered m c) = latency t m ∷ []
+latency_told t (Delivered c m) = latency t m ∷ []
 
 -- those of all messages that were delivered in petit cycle t
 abbrev pub latencies_in : ℕ → List (List Event) → List ℕ

@@ -152,9 +152,9 @@ after_delivery_follows n state h = record {
   cube = AllInCube-filter n (λ r. not (is_delivered state.chips state.standing r)) state.standing h;
   balance = λ p. omega (arith, amount-after_delivery p n state h, injected-after_delivery p n state);
   grows = λ c l. (
-    map (λ m. Delivered m c) (delivered_at state.chips state.standing c),
+    map (λ m. Delivered c m) (delivered_at state.chips state.standing c),
     get_or-each_below (2 ^ n)
-        (λ b. list_at state.logs b ++ map (λ m. Delivered m b) (delivered_at state.chips state.standing b)) c [] l,
+        (λ b. list_at state.logs b ++ map (λ m. Delivered b m) (delivered_at state.chips state.standing b)) c [] l,
   );
 }
 

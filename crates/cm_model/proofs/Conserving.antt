@@ -108,11 +108,11 @@ injections n clock c chip (p ∷ ps) =
     ap (λ z. standing_triple c (message_sent n clock c chip p) ∷ z) (injections n clock c chip ps)
 
 pub deliveries : (c : ℕ) (ms : List Message)
-    → filter_map delivered_triple (map (λ m. Delivered m c) ms) ≡ map (done_triple c) ms
+    → filter_map delivered_triple (map (λ m. Delivered c m) ms) ≡ map (done_triple c) ms
 deliveries c [] = refl
 deliveries c (m ∷ ms) = ap (λ z. done_triple c m ∷ z) (deliveries c ms)
 
-pub no_injection : (b : ℕ) (ms : List Message) → filter_map injected_triple (map (λ m. Delivered m b) ms) ≡ []
+pub no_injection : (b : ℕ) (ms : List Message) → filter_map injected_triple (map (λ m. Delivered b m) ms) ≡ []
 no_injection b [] = refl
 no_injection b (m ∷ ms) = no_injection b ms
 
@@ -262,7 +262,7 @@ done_is_bound chips set r e =
     }
 
 done_at : (p : Triple → Bool) (chips : Chips) (set : List Standing) (c : ℕ) →
-    count_by p (filter_map delivered_triple (map (λ m. Delivered m c) (delivered_at chips set c)))
+    count_by p (filter_map delivered_triple (map (λ m. Delivered c m) (delivered_at chips set c)))
     ≡ sum_by (λ r. one p (done_triple c r.message)) (standing_at c (filter (is_delivered chips set) set))
 unfolding delivered_at
 done_at p chips set c =
@@ -275,10 +275,10 @@ done_at p chips set c =
 
 -- what is delivered, over all chips
 done_count : (p : Triple → Bool) (n : ℕ) (chips : Chips) (set : List Standing) → AllInCube n set →
-    sum_by (λ c. count_by p (filter_map delivered_triple (map (λ m. Delivered m c) (delivered_at chips set c))))
+    sum_by (λ c. count_by p (filter_map delivered_triple (map (λ m. Delivered c m) (delivered_at chips set c))))
     (chips_of n) ≡ standing_count p (filter (is_delivered chips set) set)
 done_count p n chips set h =
-    sum_by-same (λ c. count_by p (filter_map delivered_triple (map (λ m. Delivered m c) (delivered_at chips set c))))
+    sum_by-same (λ c. count_by p (filter_map delivered_triple (map (λ m. Delivered c m) (delivered_at chips set c))))
     (λ c. sum_by (λ r. one p (done_triple c r.message)) (standing_at c (filter (is_delivered chips set) set)))
     (chips_of n) (done_at p chips set)
     ∙ (sum_by_chips n (λ c r. one p (done_triple c r.message)) (filter (is_delivered chips set) set)
@@ -293,7 +293,7 @@ amount-after_delivery p n state h =
     omega (
       arith,
       more_events p n (λ c. delivered_triple) state.logs
-          (λ c. map (λ m. Delivered m c) (delivered_at state.chips state.standing c)),
+          (λ c. map (λ m. Delivered c m) (delivered_at state.chips state.standing c)),
       done_count p n state.chips state.standing h,
       sum_by-filter_both (is_delivered state.chips state.standing)
           (λ r. not (is_delivered state.chips state.standing r)) (λ r. refl) (λ r. one p (triple_of r)) state.standing,
@@ -306,9 +306,9 @@ injected-after_delivery p n state =
     omega (
       arith,
       more_events p n (λ c. injected_triple) state.logs
-          (λ c. map (λ m. Delivered m c) (delivered_at state.chips state.standing c)),
+          (λ c. map (λ m. Delivered c m) (delivered_at state.chips state.standing c)),
       sum_by-none (λ c. count_by p
-          (filter_map injected_triple (map (λ m. Delivered m c) (delivered_at state.chips state.standing c))))
+          (filter_map injected_triple (map (λ m. Delivered c m) (delivered_at state.chips state.standing c))))
           (chips_of n)
           (λ c. ap (count_by p) (no_injection c (delivered_at state.chips state.standing c))),
     )

@@ -89,15 +89,15 @@ delivered_are_received n cap machine c m l h inside =
     let chips : chip_at (machine_after_delivery n machine).chips c ≡ chip_after_delivery out chip =
     get_or-each_below (2 ^ n) (λ b. chip_after_delivery (delivered_in machine b) (chip_at machine.chips b)) c [] l in
     let logs : list_at (machine_after_delivery n machine).logs c
-    ≡ list_at machine.logs c ++ map (λ q. Delivered q c) out =
+    ≡ list_at machine.logs c ++ map (λ q. Delivered c q) out =
     get_or-each_below (2 ^ n)
-    (λ b. list_at machine.logs b ++ map (λ q. Delivered q b) (delivered_in machine b)) c [] l in
+    (λ b. list_at machine.logs b ++ map (λ q. Delivered b q) (delivered_in machine b)) c [] l in
     record {
       stood = stands;
       arrived = eqb-true m.rel 0 home;
       received = subst (λ (z : List Processor). HasReceived m (processor_at z m.proc)) (sym chips)
           (payloads_are_received chip out m.proc m (h.whole c l) good.proc good.payload mine);
-      told = subst (λ (z : List Event). Contains z (Delivered m c)) (sym logs)
-          (Contains-append_right (list_at machine.logs c) (map (λ q. Delivered q c) out) (Delivered m c)
-          (holds_image (λ q. Delivered q c) out m inside));
+      told = subst (λ (z : List Event). Contains z (Delivered c m)) (sym logs)
+          (Contains-append_right (list_at machine.logs c) (map (λ q. Delivered c q) out) (Delivered c m)
+          (holds_image (λ q. Delivered c q) out m inside));
     }

@@ -120,7 +120,7 @@ sound-delivery n cap machine h =
     let chips : ℕ → List Processor = λ c. chip_after_delivery (delivered_in machine c) (chip_at machine.chips c) in
     let buffers : ℕ → List Message =
     λ c. kept (can_receive (chip_at machine.chips c)) [] (list_at machine.buffers c) in
-    let logs : ℕ → List Event = λ c. list_at machine.logs c ++ map (λ m. Delivered m c) (delivered_in machine c) in
+    let logs : ℕ → List Event = λ c. list_at machine.logs c ++ map (λ m. Delivered c m) (delivered_in machine c) in
     record {
       chip_count = length-each_from 0 (2 ^ n) chips;
       buffer_count = length-each_from 0 (2 ^ n) buffers;
@@ -134,7 +134,7 @@ sound-delivery n cap machine h =
       routing = h.routing;
       events = made_events n logs
           (λ c l. All-append (IsEventOf n c) (list_at machine.logs c)
-          (map (λ m. Delivered m c) (delivered_in machine c)) (h.events c l)
+          (map (λ m. Delivered c m) (delivered_in machine c)) (h.events c l)
           (AllEvents-delivered n c (can_receive (chip_at machine.chips c)) [] (list_at machine.buffers c)
           (h.messages c l)));
     }

@@ -135,17 +135,17 @@ AllMessages-kept n receives before (m ∷ ms) h =
 
 -- the events that tell of what is delivered are of its chip
 pub AllEvents-delivered : (n c : ℕ) (receives : ℕ → Bool) (before : List ℕ) (ms : List Message) → All (IsMessage n) ms
-    → All (IsEventOf n c) (map (λ m. Delivered m c) (delivered receives before ms))
+    → All (IsEventOf n c) (map (λ m. Delivered c m) (delivered receives before ms))
 AllEvents-delivered n c receives before [] h = All-nil (IsEventOf n c)
 AllEvents-delivered n c receives before (m ∷ ms) h =
-    let ih : All (IsEventOf n c) (map (λ m. Delivered m c) (delivered receives (arrived_for before m) ms)) =
+    let ih : All (IsEventOf n c) (map (λ m. Delivered c m) (delivered receives (arrived_for before m) ms)) =
     AllEvents-delivered n c receives (arrived_for before m) ms (All-tail (IsMessage n) m ms h) in
     ⊎_elim
     (λ (e : is_accepted receives before m ≡ true).
     let home : has_arrived m ≡ true =
     (and_parts (has_arrived m) (receives m.proc && not (is_among m.proc before)) e).0 in
-    rw e (All-cons (IsEventOf n c) (Delivered m c)
-    (map (λ m. Delivered m c) (delivered receives (arrived_for before m) ms))
+    rw e (All-cons (IsEventOf n c) (Delivered c m)
+    (map (λ m. Delivered c m) (delivered receives (arrived_for before m) ms))
     (record { message = All-head (IsMessage n) m ms h; arrived = eqb-true m.rel 0 home; here = refl }) ih))
     (λ (e : is_accepted receives before m ≡ false). rw e ih)
     (cases_Bool (is_accepted receives before m))

@@ -36,7 +36,7 @@ added n cap machine c (Instruct nano) = []
 added n cap machine c Look = []
 added n cap machine c Inject = map Injected (sent_in n cap machine c)
 added n cap machine c (Cross d) = []
-added n cap machine c Deliver = map (λ m. Delivered m c) (delivered_in machine c)
+added n cap machine c Deliver = map (λ m. Delivered c m) (delivered_in machine c)
 
 log_after : (n cap : ℕ) (machine : Machine) (step : Step) (c : ℕ) → c < 2 ^ n
     → list_at (after_step n cap machine step).logs c ≡ list_at machine.logs c ++ added n cap machine c step
@@ -47,7 +47,7 @@ log_after n cap machine Inject c l =
     get_or-each_below (2 ^ n) (λ b. list_at machine.logs b ++ map Injected (sent_in n cap machine b)) c [] l
 log_after n cap machine (Cross d) c l = sym (append-nil (list_at machine.logs c))
 log_after n cap machine Deliver c l =
-    get_or-each_below (2 ^ n) (λ b. list_at machine.logs b ++ map (λ m. Delivered m b) (delivered_in machine b)) c [] l
+    get_or-each_below (2 ^ n) (λ b. list_at machine.logs b ++ map (λ m. Delivered b m) (delivered_in machine b)) c [] l
 
 log_after_all : (n cap : ℕ) (machine : Machine) (steps : List Step) (c : ℕ) → c < 2 ^ n
     → Extends (list_at machine.logs c) (list_at (after_steps n cap machine steps).logs c)
@@ -61,7 +61,7 @@ log_after_all n cap machine (step ∷ steps) c l =
 
 -- ---- a delivery among what a step adds
 
-not_injected : (ms : List Message) (m : Message) (d : ℕ) → Contains (map Injected ms) (Delivered m d) → ⊥
+not_injected : (ms : List Message) (m : Message) (d : ℕ) → Contains (map Injected ms) (Delivered d m) → ⊥
 not_injected [] m d h = omega (arith, h.1)
 not_injected (q ∷ ms) m d (zero, l, e) = search (rules, e)
 not_injected (q ∷ ms) m d (suc k, l, e) = not_injected ms m d (k, omega arith, e)
@@ -73,13 +73,13 @@ record IsOneOf (c d : ℕ) (ms : List Message) (m : Message) : Type 0 where
 
 message_told : Event → Message → Message
 message_told (Injected m) q = q
-message_told (Delivered m c) q = m
+message_told (Delivered c m) q = m
 
 chip_told : Event → ℕ → ℕ
 chip_told (Injected m) b = b
-chip_told (Delivered m c) b = c
+chip_told (Delivered c m) b = c
 
-is_one_of : (c d : ℕ) (ms : List Message) (m : Message) → Contains (map (λ q. Delivered q c) ms) (Delivered m d)
+is_one_of : (c d : ℕ) (ms : List Message) (m : Message) → Contains (map (λ q. Delivered c q) ms) (Delivered d m)
     → IsOneOf c d ms m
 unfolding message_told chip_told
 is_one_of c d [] m h = absurd (omega (arith, h.1))
@@ -111,15 +111,15 @@ record HasMoment (n cap : ℕ) (machine : Machine) (steps : List Step) (c i d : 
 
 delivery_here : (n cap : ℕ) (machine : Machine) (steps : List Step) (c i d : ℕ) (m : Message) → IsSound n cap machine
     → c < 2 ^ n → length (list_at machine.logs c) ≤ i
-    → IsAt (list_at (machine_after_delivery n machine).logs c) i (Delivered m d)
+    → IsAt (list_at (machine_after_delivery n machine).logs c) i (Delivered d m)
     → HasMoment n cap machine (Deliver ∷ steps) c i d m
 delivery_here n cap machine steps c i d m h l old there =
     let log : List Event = list_at machine.logs c in
     let out : List Message = delivered_in machine c in
-    let told : IsAt (log ++ map (λ q. Delivered q c) out) i (Delivered m d) =
-    subst (λ (events : List Event). IsAt events i (Delivered m d)) (log_after n cap machine Deliver c l) there in
+    let told : IsAt (log ++ map (λ q. Delivered c q) out) i (Delivered d m) =
+    subst (λ (events : List Event). IsAt events i (Delivered d m)) (log_after n cap machine Deliver c l) there in
     let one : IsOneOf c d out m = is_one_of c d out m
-    (added_here log (map (λ q. Delivered q c) out) i (Delivered m d) old told) in
+    (added_here log (map (λ q. Delivered c q) out) i (Delivered d m) old told) in
     record {
       here = one.here;
       count = 0;
@@ -131,14 +131,14 @@ delivery_here n cap machine steps c i d m h l old there =
             one.inside;
         received = delivered_are_received n cap machine c m l h one.inside;
         untold = old;
-        told = subst (λ (b : ℕ). IsAt (list_at (machine_after_delivery n machine).logs c) i (Delivered m b))
+        told = subst (λ (b : ℕ). IsAt (list_at (machine_after_delivery n machine).logs c) i (Delivered b m))
             one.here there;
       };
     }
 
 moment_first : (n cap : ℕ) (machine : Machine) (step : Step) (steps : List Step) (c i d : ℕ) (m : Message)
     → IsSound n cap machine → c < 2 ^ n → length (list_at machine.logs c) ≤ i
-    → IsAt (list_at (after_step n cap machine step).logs c) i (Delivered m d)
+    → IsAt (list_at (after_step n cap machine step).logs c) i (Delivered d m)
     → HasMoment n cap machine (step ∷ steps) c i d m
 unfolding machine_after_dimension
 moment_first n cap machine (Instruct nano) steps c i d m h l old there = absurd (omega (arith, there.0, old))
@@ -146,8 +146,8 @@ moment_first n cap machine Look steps c i d m h l old there = absurd (omega (ari
 moment_first n cap machine Inject steps c i d m h l old there =
     let log : List Event = list_at machine.logs c in
     let more : List Event = map Injected (sent_in n cap machine c) in
-    absurd (not_injected (sent_in n cap machine c) m d (added_here log more i (Delivered m d) old
-    (subst (λ (events : List Event). IsAt events i (Delivered m d)) (log_after n cap machine Inject c l) there)))
+    absurd (not_injected (sent_in n cap machine c) m d (added_here log more i (Delivered d m) old
+    (subst (λ (events : List Event). IsAt events i (Delivered d m)) (log_after n cap machine Inject c l) there)))
 moment_first n cap machine (Cross e) steps c i d m h l old there = absurd (omega (arith, there.0, old))
 moment_first n cap machine Deliver steps c i d m h l old there = delivery_here n cap machine steps c i d m h l old there
 
@@ -162,7 +162,7 @@ moment_later n cap machine step steps c i d m it = record {
 
 moments : (n cap : ℕ) (machine : Machine) (steps : List Step) (c i d : ℕ) (m : Message) → AreSteps n steps
     → IsSound n cap machine → c < 2 ^ n → length (list_at machine.logs c) ≤ i
-    → IsAt (list_at (after_steps n cap machine steps).logs c) i (Delivered m d)
+    → IsAt (list_at (after_steps n cap machine steps).logs c) i (Delivered d m)
     → HasMoment n cap machine steps c i d m
 moments n cap machine [] c i d m s h l old there = absurd (omega (arith, there.0, old))
 moments n cap machine (step ∷ steps) c i d m s h l old there =
@@ -171,10 +171,10 @@ moments n cap machine (step ∷ steps) c i d m s h l old there =
     let grown = log_after_all n cap next steps c l in
     ⊎_elim
     (λ (now : i < length log).
-    let same : IsAt (log ++ grown.0) i (Delivered m d) =
-    subst (λ (events : List Event). IsAt events i (Delivered m d)) grown.1 there in
+    let same : IsAt (log ++ grown.0) i (Delivered d m) =
+    subst (λ (events : List Event). IsAt events i (Delivered d m)) grown.1 there in
     moment_first n cap machine step steps c i d m h l old
-    (now, sym (get_or_append_left log grown.0 (Delivered m d) i now) ∙ same.1))
+    (now, sym (get_or_append_left log grown.0 (Delivered d m) i now) ∙ same.1))
     (λ (after : length log ≤ i).
     moment_later n cap machine step steps c i d m
     (moments n cap next steps c i d m s.1 (sound-step n cap machine step s.0 h) l after there))
@@ -193,7 +193,7 @@ grown_length n first machine follows c l =
 
 pub deliveries_of : (n cap : ℕ) (first machine : Machine) (acts : List Act) (c i d : ℕ) (m : Message)
     → Follows n first machine → IsMachine n cap machine → c < 2 ^ n → length (list_at machine.logs c) ≤ i
-    → IsAt (list_at (run_of n cap machine acts).logs c) i (Delivered m d)
+    → IsAt (list_at (run_of n cap machine acts).logs c) i (Delivered d m)
     → IsDeliveryOf n cap first machine acts c i d m
 deliveries_of n cap first machine acts c i d m follows h l old there =
     let steps : List Step = all_steps n acts in
@@ -202,7 +202,7 @@ deliveries_of n cap first machine acts c i d m follows h l old there =
     let told : (count : ℕ) → machine_at n cap machine acts count ≡ after_steps n cap machine (take count steps) =
     λ count. steps_are_told n cap machine acts count h.buffer_count in
     let it : HasMoment n cap machine steps c i d m = moments n cap machine steps c i d m all sound l old
-    (subst (λ (z : Machine). IsAt (list_at z.logs c) i (Delivered m d))
+    (subst (λ (z : Machine). IsAt (list_at z.logs c) i (Delivered d m))
     (run_of-acted n cap machine acts h.buffer_count ∙ after_acts-steps n cap machine acts) there) in
     let before : Machine = machine_at n cap machine acts it.count in
     let after : Machine = machine_at n cap machine acts (it.count + 1) in

@@ -65,15 +65,15 @@ injected-counted_all n machine line events it =
 -- an event that tells the line of a delivery is one
 record IsOfDelivery (c : ℕ) (line : Triple) (event : Event) : Type 0 where
   pub message : Message
-  pub is : event ≡ Delivered message c
+  pub is : event ≡ Delivered c message
   pub same : line_delivered c message ≡ line
 
 is_delivery : (n c : ℕ) (line : Triple) (event : Event) → IsEventOf n c event → (told : Triple)
     → delivered_triple event ≡ Some told → is_line line told ≡ true → IsOfDelivery c line event
 is_delivery n c line (Injected m) of told e same = absurd (search rules)
-is_delivery n c line (Delivered m d) of told e same = record {
+is_delivery n c line (Delivered d m) of told e same = record {
   message = m;
-  is = ap (λ b. Delivered m b) of.here;
+  is = ap (λ b. Delivered b m) of.here;
   same = ap (λ b. line_delivered b m) (sym of.here) ∙ (Some-same e ∙ sym (is_one line told same));
 }
 
@@ -92,7 +92,7 @@ delivered-counted n machine line events h =
       chip = at.0;
       within = omega (arith, at.1);
       message = is.message;
-      told = subst (λ (event : Event). Contains log event) {y = Delivered is.message at.0} is.is it.inside;
+      told = subst (λ (event : Event). Contains log event) {y = Delivered at.0 is.message} is.is it.inside;
       same = is.same;
     }
 

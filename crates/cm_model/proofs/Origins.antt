@@ -170,14 +170,14 @@ new_event log k i event h there =
     )
 
 delivery_counted : (p : Triple → Bool) (n : ℕ) (before after : Machine) (c i : ℕ) (m : Message) → c < 2 ^ n
-    → length (list_at before.logs c) ≤ i → IsAt (list_at after.logs c) i (Delivered m c)
+    → length (list_at before.logs c) ≤ i → IsAt (list_at after.logs c) i (Delivered c m)
     → p (line_delivered c m) ≡ true → 1 ≤ count_by p (newly_delivered n before after)
 unfolding newly_delivered
 delivery_counted p n before after c i m l old there passes =
     chip_counted p (λ b. filter_map delivered_triple (new_events before after b)) c 0 (2 ^ n) (omega arith)
     (omega (arith, l))
-    (told_counted p delivered_triple (new_events before after c) (Delivered m c) (line_delivered c m)
-    (new_event (list_at after.logs c) (length (list_at before.logs c)) i (Delivered m c) old there) refl passes)
+    (told_counted p delivered_triple (new_events before after c) (Delivered c m) (line_delivered c m)
+    (new_event (list_at after.logs c) (length (list_at before.logs c)) i (Delivered c m) old there) refl passes)
 
 -- ---- origins
 
@@ -206,7 +206,7 @@ is_injection : (n c : ℕ) (line : Triple) (event : Event) → IsEventOf n c eve
     → (m : Message) × (event ≡ Injected m) × (standing_triple c m ≡ line)
 is_injection n c line (Injected m) of told e same =
     (m, refl, ap (λ b. standing_triple b m) (sym of.here) ∙ (Some-same e ∙ sym (is_one line told same)))
-is_injection n c line (Delivered m d) of told e same = absurd (search rules)
+is_injection n c line (Delivered d m) of told e same = absurd (search rules)
 
 injected-counted : (n : ℕ) (before after : Machine) (line : Triple) → HasEvents n after
     → 1 ≤ count_by (is_line line) (newly_injected n before after) → WasInjected n before after line
@@ -235,15 +235,15 @@ unfolding machine_after_delivery
 delivery_injects_nothing p n machine =
     omega (
       arith,
-      more_events p n (λ c. injected_triple) machine.logs (λ c. map (λ m. Delivered m c) (delivered_in machine c)),
-      sum_by-none (λ c. count_by p (filter_map injected_triple (map (λ m. Delivered m c) (delivered_in machine c))))
+      more_events p n (λ c. injected_triple) machine.logs (λ c. map (λ m. Delivered c m) (delivered_in machine c)),
+      sum_by-none (λ c. count_by p (filter_map injected_triple (map (λ m. Delivered c m) (delivered_in machine c))))
           (chips_of n) (λ c. ap (count_by p) (no_injection c (delivered_in machine c))),
     )
 
 -- where a message that was delivered in a step came from
 pub origin : (n : ℕ) (before here after : Machine) (c i : ℕ) (m : Message) → Follows n before here
     → Follows n before after → after ≡ machine_after_delivery n here → HasEvents n here → c < 2 ^ n
-    → length (list_at before.logs c) ≤ i → IsAt (list_at after.logs c) i (Delivered m c) →
+    → length (list_at before.logs c) ≤ i → IsAt (list_at after.logs c) i (Delivered c m) →
     Stands n before (line_delivered c m) ⊎ WasInjected n before here (line_delivered c m)
 origin n before here after c i m h k next events l old there =
     let line : Triple = line_delivered c m in

@@ -73,8 +73,8 @@ unfolding each_from leaver after_dimension queue senders chip_after_injection wi
     after_injection delivered_at after_delivery opened closed run_of quiet_chip
 full_nodes_refer = refl
 
-full_nodes_deliver : (run_of 1 1 full_nodes (cycles 2)).logs ≡ (Delivered (message_to 0 0 1 (tag_of 0 0 0)) 0 ∷ [])
-    ∷ ((Delivered (message_to 0 0 2 (tag_of 1 0 0)) 1 ∷ []) ∷ [])
+full_nodes_deliver : (run_of 1 1 full_nodes (cycles 2)).logs ≡ (Delivered 0 (message_to 0 0 1 (tag_of 0 0 0)) ∷ [])
+    ∷ ((Delivered 1 (message_to 0 0 2 (tag_of 1 0 0)) ∷ []) ∷ [])
 unfolding each_from leaver after_dimension queue senders chip_after_injection with_field chip_after_delivery
     after_injection delivered_at after_delivery opened closed run_of quiet_chip
 full_nodes_deliver = refl
@@ -127,8 +127,8 @@ two_for_two = record {
   routing = plain_routing;
 }
 
-both_are_told_in_order : (run_of 1 4 two_for_two (cycles 1)).logs ≡ (Delivered (message_to 0 5 1 (tag_of 0 7 0)) 0
-    ∷ (Delivered (message_to 0 3 2 (tag_of 0 2 0)) 0 ∷ [])) ∷ ([] ∷ [])
+both_are_told_in_order : (run_of 1 4 two_for_two (cycles 1)).logs ≡ (Delivered 0 (message_to 0 5 1 (tag_of 0 7 0))
+    ∷ (Delivered 0 (message_to 0 3 2 (tag_of 0 2 0)) ∷ [])) ∷ ([] ∷ [])
 unfolding each_from leaver after_dimension queue senders chip_after_injection with_field chip_after_delivery
     after_injection delivered_at after_delivery opened closed run_of quiet_chip
 both_are_told_in_order = refl
@@ -207,7 +207,7 @@ letter_box = record {
 
 letter_is_logged : (run_of 1 1 letter_box (cycles 1)).logs
     ≡ (Injected (message_to 1 5 3735928559 (tag_of 0 0 0)) ∷ [])
-    ∷ ((Delivered (message_to 0 5 3735928559 (tag_of 0 0 0)) 1 ∷ []) ∷ [])
+    ∷ ((Delivered 1 (message_to 0 5 3735928559 (tag_of 0 0 0)) ∷ []) ∷ [])
 unfolding each_from leaver after_dimension queue senders field_value sender sending_chip one_letter
     chip_after_injection with_field chip_after_delivery after_injection delivered_at after_delivery opened closed run_of
 letter_is_logged = refl
@@ -274,7 +274,7 @@ last_are_acknowledged = refl
 -- where there is room for two, two are taken
 room_for_two : (run_of 0 2 (many_senders 6) (cycles 1)).logs
     ≡ (Injected (message_to 0 9 0 (tag_of 0 0 0))
-    ∷ (Injected (message_to 0 9 1 (tag_of 0 1 0)) ∷ (Delivered (message_to 0 9 0 (tag_of 0 0 0)) 0 ∷ []))) ∷ []
+    ∷ (Injected (message_to 0 9 1 (tag_of 0 1 0)) ∷ (Delivered 0 (message_to 0 9 0 (tag_of 0 0 0)) ∷ []))) ∷ []
 unfolding each_from leaver after_dimension queue senders field_value sender sending_chip chip_after_injection
     with_field chip_after_delivery after_injection delivered_at after_delivery opened closed run_of
 room_for_two = refl

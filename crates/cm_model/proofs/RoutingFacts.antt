@@ -47,7 +47,7 @@ unfolding each_from leaver after_dimension queue senders chip_after_injection wi
 nobody_goes = refl
 
 nobody_is_referred : (run_of 1 1 (two_chips (one_cut 0) (message_to 0 5 1 (tag_of 0 0 0) ∷ []) []) (cycles 1)).logs
-    ≡ (Delivered (message_to 0 5 1 (tag_of 0 0 0)) 0 ∷ []) ∷ ([] ∷ [])
+    ≡ (Delivered 0 (message_to 0 5 1 (tag_of 0 0 0)) ∷ []) ∷ ([] ∷ [])
 unfolding each_from leaver after_dimension queue senders chip_after_injection with_field chip_after_delivery
     after_injection delivered_at after_delivery opened closed run_of quiet_chip
 nobody_is_referred = refl
@@ -109,7 +109,7 @@ the_first_of_one_tag_goes = refl
 -- who does not have to cross stays, though none is older
 the_oldest_at_home_stays : (run_of 1 7 (two_chips (by Oldest)
     (message_to 0 1 1 (tag_of 0 0 1) ∷ (message_to 1 2 2 (tag_of 0 1 4) ∷ [])) []) (cycles 1)).logs
-    ≡ (Delivered (message_to 0 1 1 (tag_of 0 0 1)) 0 ∷ []) ∷ ((Delivered (message_to 0 2 2 (tag_of 0 1 4)) 1 ∷ []) ∷ [])
+    ≡ (Delivered 0 (message_to 0 1 1 (tag_of 0 0 1)) ∷ []) ∷ ((Delivered 1 (message_to 0 2 2 (tag_of 0 1 4)) ∷ []) ∷ [])
 unfolding each_from leaver after_dimension queue senders chip_after_injection with_field chip_after_delivery
     after_injection delivered_at after_delivery opened closed run_of quiet_chip
 the_oldest_at_home_stays = refl

@@ -116,9 +116,9 @@ closed-after_delivery n top state h =
     (λ c l. buffer-undelivered state.chips state.standing c (h.rising c)
     ∙ ap (kept (can_receive (chip_at state.chips c)) []) (sym (list_at-closed n state c l))) in
     let logs = same_each_below [] (2 ^ n)
-    (λ c. list_at state.logs c ++ map (λ m. Delivered m c) (delivered_at state.chips state.standing c))
-    (λ c. list_at state.logs c ++ map (λ m. Delivered m c) (delivered_in (closed n state) c))
-    (λ c l. ap (λ ms. list_at state.logs c ++ map (λ m. Delivered m c) ms) (out c l)) in
+    (λ c. list_at state.logs c ++ map (λ m. Delivered c m) (delivered_at state.chips state.standing c))
+    (λ c. list_at state.logs c ++ map (λ m. Delivered c m) (delivered_in (closed n state) c))
+    (λ c l. ap (λ ms. list_at state.logs c ++ map (λ m. Delivered c m) ms) (out c l)) in
     λ i. record { chips = chips i; buffers = buffers i; logs = logs i; clock = state.clock + 1; routing = state.routing }
 
 -- ---- lists of steps

@@ -20,7 +20,7 @@ staying_of before ms = kept (can_receive before) [] ms
 
 -- the events of these deliveries
 abbrev pub delivery_events : ℕ → List Message → List Event
-delivery_events here ds = map (λ m. Delivered m here) ds
+delivery_events here ds = map (λ m. Delivered here m) ds
 
 -- how far a scan has come: the messages are those kept of the ones seen, and then the rest
 pub record Scan (before : List Processor) (old : List Message) (told : List Event) (here : ℕ) (chip : List Processor)
@@ -64,7 +64,7 @@ accepted_at : (before : List Processor) (old : List Message) (told : List Event)
     (m : Message) (seen rest : List Message) → HasHandedOver true before seen m after → seen ++ rest ≡ old
     → now ≡ staying_of before seen ++ rest → length (staying_of before seen) ≡ place
     → events ≡ told ++ delivery_events here (out_of before seen) → place < length now → get_or now place m ≡ m
-    → Scan before old told here after (remove now place) place (events ++ Delivered m here ∷ [])
+    → Scan before old told here after (remove now place) place (events ++ Delivered here m ∷ [])
 accepted_at before old told here after now place events m seen [] step all stay at log_is inside is =
     absurd (omega (arith, ap length stay, length-append (staying_of before seen) []))
 accepted_at before old told here after now place events m seen (x ∷ rest) step all stay at log_is inside is =
@@ -80,8 +80,8 @@ accepted_at before old told here after now place events m seen (x ∷ rest) step
           ∙ rw (← at) (next_removed (staying_of before seen) x rest)
           ∙ ap (λ (ms : List Message). ms ++ rest) (sym same);
       at = ap length same ∙ at;
-      log_is = rw (log_is, step.delivered_is, map-append (λ d. Delivered d here) (out_of before seen) (m ∷ []))
-          (append_assoc told (delivery_events here (out_of before seen)) (Delivered m here ∷ []));
+      log_is = rw (log_is, step.delivered_is, map-append (λ d. Delivered here d) (out_of before seen) (m ∷ []))
+          (append_assoc told (delivery_events here (out_of before seen)) (Delivered here m ∷ []));
     }
 
 -- the message at the place is delivered, and taken out
@@ -89,7 +89,7 @@ pub scan_accepts : (before : List Processor) (old : List Message) (told : List E
     (chip after : List Processor) (now : List Message) (place : ℕ) (events : List Event)
     (m : Message) → Scan before old told here chip now place events → place < length now → get_or now place m ≡ m
     → HandsOver true before m chip after
-    → Scan before old told here after (remove now place) place (events ++ Delivered m here ∷ [])
+    → Scan before old told here after (remove now place) place (events ++ Delivered here m ∷ [])
 scan_accepts before old told here chip after now place events m scan inside is step =
     accepted_at before old told here after now place events m scan.seen scan.rest (step scan.seen scan.gone) scan.all
     scan.stay scan.at scan.log_is inside is

@@ -23,13 +23,13 @@ standing_triple c m = record { tag = m.tag; target = target_from c m; payload = 
 -- of an event, if it tells of a delivery
 abbrev pub delivered_triple : Event → Option Triple
 delivered_triple (Injected m) = None
-delivered_triple (Delivered m c) =
+delivered_triple (Delivered c m) =
     Some (record { tag = m.tag; target = record { chip = c; proc = m.proc }; payload = m.payload })
 
 -- of an event, if it tells of an injection, which was at the chip that the tag names
 abbrev pub injected_triple : Event → Option Triple
 injected_triple (Injected m) = Some (standing_triple m.tag.chip m)
-injected_triple (Delivered m d) = None
+injected_triple (Delivered d m) = None
 
 -- the lines of one chip: of all that stands there, and of all that was delivered there
 abbrev pub account_at : Machine → ℕ → List Triple

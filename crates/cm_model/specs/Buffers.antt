@@ -131,7 +131,7 @@ unfoldable pub machine_after_delivery : ℕ → Machine → Machine
 machine_after_delivery n machine = record {
   chips = each_chip n (λ c. chip_after_delivery (delivered_in machine c) (chip_at machine.chips c));
   buffers = each_chip n (λ c. kept_here (list_at machine.buffers c) (chip_at machine.chips c));
-  logs = each_chip n (λ c. list_at machine.logs c ++ map (λ m. Delivered m c) (delivered_in machine c));
+  logs = each_chip n (λ c. list_at machine.logs c ++ map (λ m. Delivered c m) (delivered_in machine c));
   clock = machine.clock + 1;
   routing = machine.routing;
 }

@@ -77,7 +77,7 @@ after_delivery n state = record {
   chips = each_chip n (λ c. chip_after_delivery (delivered_at state.chips state.standing c) (chip_at state.chips c));
   standing = filter (λ r. not (is_delivered state.chips state.standing r)) state.standing;
   logs = each_chip n (λ c. list_at state.logs c
-      ++ map (λ m. Delivered m c) (delivered_at state.chips state.standing c));
+      ++ map (λ m. Delivered c m) (delivered_at state.chips state.standing c));
   clock = state.clock + 1;
   cycle = state.cycle + 1;
   routing = state.routing;

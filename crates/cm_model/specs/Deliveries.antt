@@ -58,7 +58,7 @@ pub record WasDelivered (n : ℕ) (machine : Machine) (line : Triple) : Type 0 w
   pub chip : ℕ
   pub within : chip < 2 ^ n
   pub message : Message
-  pub told : Contains (list_at machine.logs chip) (Delivered message chip)
+  pub told : Contains (list_at machine.logs chip) (Delivered chip message)
   pub same : line_delivered chip message ≡ line
 
 -- events of a chip tell that it was injected: a message with this tag and payload, bound for this place
@@ -105,7 +105,7 @@ pub record IsMoment (n : ℕ) (before after : Machine) (c i : ℕ) (m : Message)
   pub receives : can_receive (chip_at before.chips c) m.proc ≡ true
   pub received : IsReceived before after c m
   pub untold : length (list_at before.logs c) ≤ i
-  pub told : IsAt (list_at after.logs c) i (Delivered m c)
+  pub told : IsAt (list_at after.logs c) i (Delivered c m)
 
 -- event i of chip c's log, which tells of a delivery of m at d in these acts: it was there, in the delivery of one of
 -- their petit cycles; and the message stood in a router when the acts began, or was injected before this delivery
@@ -123,5 +123,5 @@ pub record IsDeliveryOf (n cap : ℕ) (first machine : Machine) (acts : List Act
 abbrev pub DeliveriesAreOfMessages : Type 0
 DeliveriesAreOfMessages = (n cap : ℕ) (machine : Machine) (acts : List Act) (c i d : ℕ) (m : Message)
     → IsMachine n cap machine → c < 2 ^ n → length (list_at machine.logs c) ≤ i
-    → IsAt (list_at (run_of n cap machine acts).logs c) i (Delivered m d) →
+    → IsAt (list_at (run_of n cap machine acts).logs c) i (Delivered d m) →
     IsDeliveryOf n cap machine machine acts c i d m

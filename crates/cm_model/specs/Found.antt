@@ -23,7 +23,7 @@ router_of n machine tag =
 -- the place of an event, if it tells that a message of this tag was delivered
 abbrev pub delivery_place : Tag → Event → Option Place
 delivery_place tag (Injected m) = None
-delivery_place tag (Delivered m c) = if same_tag m.tag tag then Some (record { chip = c; proc = m.proc }) else None
+delivery_place tag (Delivered c m) = if same_tag m.tag tag then Some (record { chip = c; proc = m.proc }) else None
 
 -- where messages of this tag were delivered
 abbrev pub delivery_places : ℕ → Machine → Tag → List Place

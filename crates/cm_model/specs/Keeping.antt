@@ -40,7 +40,7 @@ pub record IsDelivery (n c d : ℕ) (m : Message) : Type 0 where
 -- an event of chip c
 abbrev pub IsEventOf : ℕ → ℕ → Event → Type 0
 IsEventOf n c (Injected m) = IsInjection n c m
-IsEventOf n c (Delivered m d) = IsDelivery n c d m
+IsEventOf n c (Delivered d m) = IsDelivery n c d m
 
 -- all events in its logs are of the chip whose log it is
 abbrev pub HasEvents : ℕ → Machine → Type 0

@@ -48,7 +48,7 @@ pub record IsReceived (before after : Machine) (c : ℕ) (m : Message) : Type 0 
   pub stood : Contains (list_at before.buffers c) m
   pub arrived : m.rel ≡ 0
   pub received : HasReceived m (processor_at (chip_at after.chips c) m.proc)
-  pub told : Contains (list_at after.logs c) (Delivered m c)
+  pub told : Contains (list_at after.logs c) (Delivered c m)
 
 -- each message that a sound machine delivers is received by the processor that it is for, unaltered
 abbrev pub DeliveredAreReceived : Type 0

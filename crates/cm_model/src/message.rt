@@ -25,5 +25,5 @@ pub struct Message {
 #[derive(Clone, Copy, Debug, PartialEq, Eq)]
 pub enum Event {
     Injected(Message),
-    Delivered { message: Message, chip: u16 },
+    Delivered { chip: u16, message: Message },
 }

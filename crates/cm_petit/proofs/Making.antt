@@ -65,7 +65,7 @@ abbrev pub delivering : ℕ → Cell → Cell
 delivering c x = record {
   chip = chip_after_delivery (delivered_here x.messages x.chip) x.chip;
   messages = kept_here x.messages x.chip;
-  events = x.events ++ map (λ m. Delivered m c) (delivered_here x.messages x.chip);
+  events = x.events ++ map (λ m. Delivered c m) (delivered_here x.messages x.chip);
 }
 
 -- of so many chips, numbered from the first on, those behind a place are what the phase makes of them, and those ahead

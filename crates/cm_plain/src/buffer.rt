@@ -182,7 +182,7 @@ impl PlainLog {
         received: &[Message],
         chip: u16,
     ) -> Result<PlainLog, NoMemory>
-        ensures value { IfOk result (λ log. log ≡ self.now ++ map (λ m. Delivered m chip) received.now) }
+        ensures value { IfOk result (λ log. log ≡ self.now ++ map (λ m. Delivered chip m) received.now) }
     {
         let mut events = self.events.to_vec(alloc)?;
         for message in received {

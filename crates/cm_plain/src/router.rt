@@ -417,7 +417,7 @@ impl<const N: usize, const CAP: usize> PlainRouter<N, CAP> {
 
     fn logs_after_delivery(&self, alloc: Global) -> Result<Vec<PlainLog>, NoMemory>
         ensures value { IfOk result (λ logs. logs.items ≡
-            each_chip N (λ c. list_at self.now.logs c ++ map (λ m. Delivered m c) (delivered_in self.now c))) }
+            each_chip N (λ c. list_at self.now.logs c ++ map (λ m. Delivered c m) (delivered_in self.now c))) }
     {
         let _ = &self.logs;
         let mut logs = Vec::new(alloc);

@@ -101,7 +101,7 @@ impl Deliveries {
         ensures before { (k : ℕ) → place < k → AreBefore k self.old → AreBefore k self.new }
         ensures count { length self.new ≡ length self.old + (if result then 1 else 0) }
         ensures log { log.new.items
-            ≡ log.old.items ++ (if result then Event.Delivered message.now here ∷ [] else []) }
+            ≡ log.old.items ++ (if result then Event.Delivered here message.now ∷ [] else []) }
         ensures len { vec_len log.new ≤ vec_len log.old + 1 }
         ensures quiet { IsFalse result → vec_len log.new ≡ vec_len log.old }
         ensures capacity { vec_capacity log.old ≤ vec_capacity log.new }

@@ -157,7 +157,7 @@ pub(crate) fn tell_injected(log: &mut Vec<Event>, message: &Message)
 
 pub(crate) fn tell_delivered(log: &mut Vec<Event>, message: &Message, here: u16)
     requires log_room { 0 < log_room log.old }
-    ensures items { log.new.items ≡ log.old.items ++ Event.Delivered message.now here ∷ [] }
+    ensures items { log.new.items ≡ log.old.items ++ Event.Delivered here message.now ∷ [] }
     ensures len { vec_len log.new ≡ vec_len log.old + 1 }
     ensures capacity { vec_capacity log.old ≤ vec_capacity log.new }
 {

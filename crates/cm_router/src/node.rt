@@ -217,7 +217,7 @@ impl Node {
             (chip_after_delivery (delivered_here self.old.messages (chip_at run.old chip)) (chip_at run.old chip)) }
         ensures log { log.new.items
             ≡ log.old.items
-            ++ map (λ m. Event.Delivered m here) (delivered_here self.old.messages (chip_at run.old chip)) }
+            ++ map (λ m. Event.Delivered here m) (delivered_here self.old.messages (chip_at run.old chip)) }
         ensures len { vec_len log.new ≤ vec_len log.old + self.old.room }
         ensures capacity { vec_capacity log.old ≤ vec_capacity log.new }
     {

@@ -41,7 +41,7 @@ record HasDelivered (n cap : ℕ) (start : Machine) (acts : List Act) (session :
 delivered_now : (n cap : ℕ) (start : Machine) (acts : List Act) (session : Session) (line : List ℕ)
     (lines : List (List ℕ)) (c i d : ℕ) (m : Message) → Follows n start session.machine
     → IsMachine n cap session.machine → c < 2 ^ n → length (list_at session.machine.logs c) ≤ i
-    → IsAt (list_at (after_line n cap acts session line).session.machine.logs c) i (Delivered m d)
+    → IsAt (list_at (after_line n cap acts session line).session.machine.logs c) i (Delivered d m)
     → HasDelivered n cap start acts session (line ∷ lines) c i d m
 unfolding after_lines
 delivered_now n cap start acts session line lines c i d m follows h l old there =
@@ -59,7 +59,7 @@ delivered_now n cap start acts session line lines c i d m follows h l old there 
       more = lines;
       lines_are = refl;
       delivery = deliveries_of n cap start session.machine (acts_run n cap acts session line) c i d m follows h l old
-          (subst (λ (z : Machine). IsAt (list_at z.logs c) i (Delivered m d)) run.machine_is there);
+          (subst (λ (z : Machine). IsAt (list_at z.logs c) i (Delivered d m)) run.machine_is there);
     })
     (cases_Bool (pokes n acts line))
 
@@ -80,7 +80,7 @@ delivered_later n cap start acts session line lines c i d m it = record {
 delivered_in_lines : (n cap : ℕ) (start : Machine) (acts : List Act) (session : Session) (lines : List (List ℕ))
     (c i d : ℕ) (m : Message) → Follows n start session.machine → IsMachine n cap session.machine → c < 2 ^ n
     → length (list_at session.machine.logs c) ≤ i
-    → IsAt (list_at (after_lines n cap acts session lines).session.machine.logs c) i (Delivered m d)
+    → IsAt (list_at (after_lines n cap acts session lines).session.machine.logs c) i (Delivered d m)
     → HasDelivered n cap start acts session lines c i d m
 unfolding after_lines
 delivered_in_lines n cap start acts session [] c i d m follows h l old there = absurd (omega (arith, there.0, old))
@@ -90,10 +90,10 @@ delivered_in_lines n cap start acts session (line ∷ lines) c i d m follows h l
     let grown = (lines_follow n cap acts next lines).grows c l in
     ⊎_elim
     (λ (now : i < length log).
-    let same : IsAt (log ++ grown.0) i (Delivered m d) =
-    subst (λ (events : List Event). IsAt events i (Delivered m d)) grown.1 there in
+    let same : IsAt (log ++ grown.0) i (Delivered d m) =
+    subst (λ (events : List Event). IsAt events i (Delivered d m)) grown.1 there in
     delivered_now n cap start acts session line lines c i d m follows h l old
-    (now, sym (get_or_append_left log grown.0 (Delivered m d) i now) ∙ same.1))
+    (now, sym (get_or_append_left log grown.0 (Delivered d m) i now) ∙ same.1))
     (λ (after : length log ≤ i).
     delivered_later n cap start acts session line lines c i d m
     (delivered_in_lines n cap start acts next lines c i d m

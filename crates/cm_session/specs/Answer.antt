@@ -38,7 +38,7 @@ buffer_lines messages = line (codes "buf" ∷ decimal (length messages) ∷ []) 
 -- what was injected is told with `in`, what was delivered with `out`
 abbrev pub event_line : Event → List ℕ
 event_line (Injected m) = line (message_words (codes "in") m)
-event_line (Delivered m c) = line (message_words (codes "out") m)
+event_line (Delivered c m) = line (message_words (codes "out") m)
 
 -- the events of a log, the oldest first
 unfoldable pub log_lines : List Event → List ℕ

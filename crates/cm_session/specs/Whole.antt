@@ -126,5 +126,5 @@ pub record IsDeliveryIn (n cap : ℕ) (start : Machine) (acts : List Act) (lines
 abbrev pub SessionsDeliver : Type 0
 SessionsDeliver = (n cap : ℕ) (start : Machine) (acts : List Act) (lines : List (List ℕ)) (c i d : ℕ) (m : Message)
     → IsMachine n cap start → c < 2 ^ n → length (list_at start.logs c) ≤ i
-    → IsAt (list_at (left n cap start acts lines).logs c) i (Delivered m d) →
+    → IsAt (list_at (left n cap start acts lines).logs c) i (Delivered d m) →
     IsDeliveryIn n cap start acts lines c i d m

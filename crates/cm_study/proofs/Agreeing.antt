@@ -62,14 +62,14 @@ injections : (events : List Event) → length (filter_map injected_triple events
 injections [] = refl
 injections (Injected m ∷ events) =
     ap suc (injections events) ∙ one-more is_injection (Injected m) events refl
-injections (Delivered m c ∷ events) = injections events ∙ no-more is_injection (Delivered m c) events refl
+injections (Delivered c m ∷ events) = injections events ∙ no-more is_injection (Delivered c m) events refl
 
 -- and deliveries
 deliveries : (events : List Event) → length (filter_map delivered_triple events) ≡ count_by is_delivery events
 deliveries [] = refl
 deliveries (Injected m ∷ events) = deliveries events ∙ no-more is_delivery (Injected m) events refl
-deliveries (Delivered m c ∷ events) =
-    ap suc (deliveries events) ∙ one-more is_delivery (Delivered m c) events refl
+deliveries (Delivered c m ∷ events) =
+    ap suc (deliveries events) ∙ one-more is_delivery (Delivered c m) events refl
 
 -- the events behind so many as there were are the new ones
 behind : (n : ℕ) (before after : Machine) (c : ℕ) → c < 2 ^ n

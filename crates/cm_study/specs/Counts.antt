@@ -22,11 +22,11 @@ events_behind before machine c = drop (slice_index_or before c 0) (list_at machi
 
 abbrev pub is_injection : Event → Bool
 is_injection (Injected m) = true
-is_injection (Delivered m c) = false
+is_injection (Delivered c m) = false
 
 abbrev pub is_delivery : Event → Bool
 is_delivery (Injected m) = false
-is_delivery (Delivered m c) = true
+is_delivery (Delivered c m) = true
 
 -- ---- of one chip
 

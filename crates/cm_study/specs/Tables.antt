@@ -63,7 +63,7 @@ standing_line c m trace = tag_columns trace ++ bound_columns c m ++ way_columns 
 -- what an event of chip c tells of a delivery
 abbrev pub event_text : ℕ → Traces → ℕ → Event → List ℕ
 event_text clock traces c (Injected m) = []
-event_text clock traces c (Delivered m d) = delivered_line clock c m (followed (trace_of traces c m) m)
+event_text clock traces c (Delivered d m) = delivered_line clock c m (followed (trace_of traces c m) m)
 
 -- the lines of the messages that a chip delivered
 abbrev pub delivered_text_at : ℕ → List ℕ → Traces → Machine → ℕ → List ℕ

@@ -20,5 +20,5 @@ returns g c =
     record {
       value = c.loop-chip.invariant
           ∙ ap (λ (n : ℕ). each_from 0 n
-          (λ k. list_at c.args.self.now.logs k ++ map (λ m. Delivered m k) (delivered_in c.args.self.now k))) all;
+          (λ k. list_at c.args.self.now.logs k ++ map (λ m. Delivered k m) (delivered_in c.args.self.now k))) all;
     }

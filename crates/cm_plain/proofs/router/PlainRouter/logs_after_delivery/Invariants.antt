@@ -7,4 +7,4 @@ use Rattle.cm_plain.proofs.router.PlainRouter.logs_after_delivery.Given as goal
 
 abbrev pub invariant-loop-chip : goal.invariant-loop-chip
 invariant-loop-chip g l =
-    l.logs.items ≡ each_from 0 l.chip (λ c. list_at l.self.logs c ++ map (λ m. Delivered m c) (delivered_in l.self c))
+    l.logs.items ≡ each_from 0 l.chip (λ c. list_at l.self.logs c ++ map (λ m. Delivered c m) (delivered_in l.self c))
