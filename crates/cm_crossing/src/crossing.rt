@@ -6,7 +6,9 @@ ghost use Rattle.std.specs.Prelude.{slice_set, slice_index_or, bit_xor, vec_len,
 ghost use Rattle.std.specs.List.{All, list_any};
 ghost use Rattle.std.specs.Option.{option_to_list};
 ghost use Rattle.cm_model.specs.declared.message.Event.TheVariants as event;
+ghost use Rattle.cm_model.specs.Chip.{IsPlane};
 ghost use Rattle.cm_model.specs.Letters.{has_arrived, chip_after_injection, chip_after_delivery};
+ghost use Rattle.cm_model.specs.Letters.{is_among, messages_sent};
 ghost use Rattle.cm_model.specs.Each.{each_from};
 ghost use Rattle.cm_model.specs.Array.{each_chip, chip_at, list_at};
 ghost use Rattle.cm_model.specs.Keeping.{AreSizes};
@@ -20,12 +22,14 @@ ghost use Rattle.cm_router.specs.Routes.{routing_of};
 
 use crate::ranking::{rearrange, renumber, risen_to, sort_numbers};
 use crate::routed::{cross, leave};
-use crate::row::{give_out, lay_out, read_off, read_out, stand};
+use crate::row::{give_out, lay_out, read_off, read_out, stand, take_up};
 use crate::sizes::Sizes;
-use cm_bits::NoMemory;
-use cm_element::Run;
+use cm_bits::{NoMemory, Plane};
+use cm_element::{ChipView, Run};
 use cm_message::{Event, Message, Rule};
-use cm_router::{Deliveries, Node, Routing, chip_asks, chip_is_acknowledged, take_none};
+use cm_router::{
+    Deliveries, Routing, Senders, acknowledge, asking, chip_asks, chip_is_acknowledged, take_none,
+};
 use cm_slots::{Slots, Ticket};
 use std::alloc::Global;
 use std::marker::Model;
@@ -235,30 +239,58 @@ impl Crossing {
         ensures value { self.new.buffers
             ≡ slice_set self.old.buffers chip (list_at self.old.buffers chip ++ message ∷ []) }
     {
-        self.stand(chip, &[message]);
-    }
-
-    /// Messages come to stand last at a chip.
-    fn stand(&mut self, chip: usize, messages: &[Message])
-        requires chip { chip < length self.old.buffers }
-        requires few { length messages.now ≤ 4 }
-        requires room { length (list_at self.old.buffers chip) + length messages.now ≤ 15 }
-        ensures value { self.new.buffers
-            ≡ slice_set self.old.buffers chip (list_at self.old.buffers chip ++ messages.now) }
-    {
         self.make_places();
-        self.stand_in_row(chip, messages);
+        self.stand(chip, &message);
     }
 
-    fn stand_in_row(&mut self, chip: usize, messages: &[Message])
+    /// The same where there is a place.
+    fn stand(&mut self, chip: usize, message: &Message)
         requires chip { chip < length self.old.buffers }
-        requires free { length messages.now ≤ self.old.free }
-        requires room { length (list_at self.old.buffers chip) + length messages.now ≤ 15 }
+        requires free { 0 < self.old.free }
+        requires room { length (list_at self.old.buffers chip) < 15 }
         ensures value { self.new.buffers
-            ≡ slice_set self.old.buffers chip (list_at self.old.buffers chip ++ messages.now) }
+            ≡ slice_set self.old.buffers chip (list_at self.old.buffers chip ++ message.now ∷ []) }
     {
-        stand(&mut self.row, &mut self.slots, chip, messages);
+        stand(&mut self.row, &mut self.slots, chip, message);
         self.gathered = false;
+    }
+
+    /// Messages that processors of a chip send come to stand last there, where there are places. The log tells of each.
+    /// Whose they are, as a plane.
+    fn take_up(
+        &mut self,
+        at: usize,
+        senders: Senders,
+        chip: &ChipView<'_>,
+        here: u16,
+        dims: u8,
+        clock: u64,
+        log: &mut Vec<Event>,
+    ) -> Plane
+        requires at { at < length self.old.buffers }
+        requires free { length senders ≤ self.old.free }
+        requires room { length (list_at self.old.buffers at) + length senders ≤ 15 }
+        requires dims { dims ≤ 12 }
+        requires log_room { length senders ≤ log_room log.old }
+        ensures taken { IsPlane result (λ p. is_among p senders) }
+        ensures value { self.new.buffers ≡ slice_set self.old.buffers at
+            (list_at self.old.buffers at ++ messages_sent dims clock here chip.now senders) }
+        ensures log { log.new.items ≡ log.old.items ++ map event.Injected (messages_sent dims clock here chip.now senders) }
+        ensures len { vec_len log.new ≡ vec_len log.old + length senders }
+        ensures capacity { vec_capacity log.old ≤ vec_capacity log.new }
+    {
+        self.gathered = false;
+        take_up(
+            &mut self.row,
+            &mut self.slots,
+            at,
+            senders,
+            chip,
+            here,
+            dims,
+            clock,
+            log,
+        )
     }
 
     /// Whether no message stands here.
@@ -319,12 +351,11 @@ impl Crossing {
 
     /// At one chip, takes in messages of the processors that ask to send, by number, at most four and
     /// at most as many as there is room for. The log tells of each. The chip stands at place `chip` here and in
-    /// the run; `here` is its number in the machine. What the node held is gone: it holds those messages then.
+    /// the run; `here` is its number in the machine.
     pub fn inject(
         &mut self,
         sizes: Sizes,
         run: &mut Run,
-        taken: &mut Node,
         chip: u16,
         here: u16,
         clock: u64,
@@ -345,14 +376,17 @@ impl Crossing {
         ensures capacity { vec_capacity log.old ≤ vec_capacity log.new }
         ensures within { All (λ ms. length ms ≤ sizes.room) self.new.buffers }
     {
-        let room = usize::from(sizes.room) - self.len(usize::from(chip));
+        let at = usize::from(chip);
+        let room = usize::from(sizes.room) - self.len(at);
         if room == 0 || !chip_asks(run, chip) {
             take_none(run, chip);
             return;
         }
-        taken.clear_for(room as u8);
-        taken.inject(run, chip, here, sizes.dims, clock, log);
-        self.stand(usize::from(chip), taken.messages());
+        let asking = asking(run, chip);
+        let senders = Senders::first(asking, room);
+        self.make_places();
+        let taken = self.take_up(at, senders, &run.view(chip), here, sizes.dims, clock, log);
+        acknowledge(run, chip, asking, taken);
     }
 
     /// The messages cross a dimension that the chips span, as the machine routes. The first chip is chip `first` of it.

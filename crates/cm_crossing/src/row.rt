@@ -9,7 +9,7 @@ ghost use Rattle.cm_model.specs.declared.message.Message.{Message};
 ghost use Rattle.cm_model.specs.Processor.{Processor};
 ghost use Rattle.cm_model.specs.Delivery.{HasGone, HasHandedOver};
 ghost use Rattle.cm_model.specs.Chip.{IsPlane};
-ghost use Rattle.cm_model.specs.Letters.{can_receive, chip_after_delivery};
+ghost use Rattle.cm_model.specs.Letters.{can_receive, chip_after_delivery, is_among, messages_sent};
 ghost use Rattle.cm_model.specs.Array.{Chips, chip_at, list_at};
 ghost use Rattle.cm_crossing.specs.Standing.{message_of, standing, all_standing, AreKept, AreTogether};
 ghost use Rattle.cm_model.specs.OneChip.{delivered_here, kept_here};
@@ -19,9 +19,12 @@ ghost use Rattle.cm_router.specs.Logs.{log_room};
 ghost use Rattle.cm_slots.specs.declared.ticket.Ticket.{Ticket};
 
 use cm_bits::Plane;
-use cm_element::Run;
+use cm_element::{ChipView, Run};
 use cm_message::{Event, Message};
-use cm_router::{Deliveries, receives, who_has_not_arrived_is_kept};
+use cm_router::{
+    Deliveries, Senders, message_sent, receives, tell_injected, who_has_not_arrived_is_kept,
+    with_one,
+};
 use cm_slots::{Slots, Ticket};
 
 /// Gives each message a place in the second row, those of a chip side by side, and its ticket tells that.
@@ -82,31 +85,72 @@ pub(crate) fn read_out<'a>(row: &'a [Message], slots: &Slots, here: usize) -> &'
     &row[start..start + slots.len(here)]
 }
 
-/// Messages get places in the row, and stand last at their chip.
-pub(crate) fn stand(row: &mut Vec<Message>, slots: &mut Slots, here: usize, messages: &[Message])
-    requires here { here < length slots.old }
-    requires few { vec_len row.old + length messages.now ≤ 65535 }
-    requires capacity { vec_len row.old + length messages.now ≤ vec_capacity row.old }
-    requires kept { AreKept (length row.old.items) (list_at slots.old here) }
-    requires room { length (list_at slots.old here) + length messages.now ≤ 15 }
-    ensures items { row.new.items ≡ row.old.items ++ messages.now }
-    ensures value { standing row.new.items (list_at slots.new here)
-        ≡ standing row.old.items (list_at slots.old here) ++ messages.now }
-    ensures kept { AreKept (length row.new.items) (list_at slots.new here) }
-    ensures others { IsWritten here slots.old slots.new }
-    ensures len { vec_len row.new ≡ vec_len row.old + length messages.now }
+/// Messages that processors of a chip send get places in the row, one after another, and stand last at their chip. The
+/// log tells of each. A message goes to both as it is made: read back from one of them it would wait there.
+pub(crate) fn take_up(
+    row: &mut Vec<Message>,
+    slots: &mut Slots,
+    at: usize,
+    mut senders: Senders,
+    chip: &ChipView<'_>,
+    here: u16,
+    dims: u8,
+    clock: u64,
+    log: &mut Vec<Event>,
+) -> Plane
+    requires at { at < length slots.old }
+    requires few { vec_len row.old + length senders ≤ 65535 }
+    requires capacity { vec_len row.old + length senders ≤ vec_capacity row.old }
+    requires kept { AreKept (length row.old.items) (list_at slots.old at) }
+    requires room { length (list_at slots.old at) + length senders ≤ 15 }
+    requires dims { dims ≤ 12 }
+    requires log_room { length senders ≤ log_room log.old }
+    ensures taken { IsPlane result (λ p. is_among p senders) }
+    ensures items { row.new.items ≡ row.old.items ++ messages_sent dims clock here chip.now senders }
+    ensures value { standing row.new.items (list_at slots.new at)
+        ≡ standing row.old.items (list_at slots.old at) ++ messages_sent dims clock here chip.now senders }
+    ensures kept { AreKept (length row.new.items) (list_at slots.new at) }
+    ensures others { IsWritten at slots.old slots.new }
+    ensures log { log.new.items ≡ log.old.items ++ map event.Injected (messages_sent dims clock here chip.now senders) }
+    ensures log_len { vec_len log.new ≡ vec_len log.old + length senders }
+    ensures log_capacity { vec_capacity log.old ≤ vec_capacity log.new }
+    ensures len { vec_len row.new ≡ vec_len row.old + length senders }
     ensures capacity { vec_capacity row.old ≤ vec_capacity row.new }
 {
-    for message in messages {
-        let number = keep(row, message);
-        slots.arrive(
-            here,
-            Ticket {
-                rel: message.rel,
-                number,
-            },
-        );
+    let mut taken: Plane = 0;
+    while let Some(proc) = senders.next() {
+        let sent = message_sent(chip, proc, here, dims, clock);
+        stand(row, slots, at, &sent);
+        tell_injected(log, &sent);
+        taken = with_one(taken, proc);
     }
+    taken
+}
+
+/// A message gets a place in the row, and stands last at its chip.
+pub(crate) fn stand(row: &mut Vec<Message>, slots: &mut Slots, here: usize, message: &Message)
+    requires here { here < length slots.old }
+    requires few { vec_len row.old < 65535 }
+    requires capacity { vec_len row.old < vec_capacity row.old }
+    requires kept { AreKept (length row.old.items) (list_at slots.old here) }
+    requires room { length (list_at slots.old here) < 15 }
+    ensures items { row.new.items ≡ row.old.items ++ message.now ∷ [] }
+    ensures value { standing row.new.items (list_at slots.new here)
+        ≡ standing row.old.items (list_at slots.old here) ++ message.now ∷ [] }
+    ensures kept { AreKept (length row.new.items) (list_at slots.new here) }
+    ensures others { IsWritten here slots.old slots.new }
+    ensures long { length (list_at slots.new here) ≡ length (list_at slots.old here) + 1 }
+    ensures len { vec_len row.new ≡ vec_len row.old + 1 }
+    ensures capacity { vec_capacity row.old ≤ vec_capacity row.new }
+{
+    let number = keep(row, message);
+    slots.arrive(
+        here,
+        Ticket {
+            rel: message.rel,
+            number,
+        },
+    );
 }
 
 /// Keeps a message in the row, and tells its place there.

@@ -15,7 +15,7 @@ ghost use Rattle.cm_petit.specs.Routers.{machine_of, part_of, AreRouters};
 use cm_crossing::{Crossing, Sizes};
 use cm_element::Run;
 use cm_message::Event;
-use cm_router::{Deliveries, Node, Routing, is_idle, pass_over};
+use cm_router::{Deliveries, Routing, is_idle, pass_over};
 
 /// One petit cycle: every router takes messages in, they cross each dimension, from the lowest on,
 /// and those that have arrived go to their processors (a dimension at a time: Hillis 1985; the order:
@@ -77,11 +77,10 @@ pub fn inject(
     if is_idle(run) {
         return;
     }
-    let taken = &mut Node::new(sizes.room);
     let mut c = crossing.next_injecting(sizes, run, 0);
     while c < logs.len() {
         let chip = c as u16;
-        crossing.inject(sizes, run, taken, chip, first + chip, clock, &mut logs[c]);
+        crossing.inject(sizes, run, chip, first + chip, clock, &mut logs[c]);
         c = crossing.next_injecting(sizes, run, c + 1);
     }
 }

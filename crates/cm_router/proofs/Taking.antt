@@ -1,14 +1,16 @@
 -- Injection on one chip: whose messages are still to be taken, and the chip when they are told.
 use Rattle.std.proofs.Common.{◌≡◌, ℕ, zero, suc, ◌+◌, ◌-◌, ◌*◌, ◌%◌, ◌^◌, ◌<◌, ◌≤◌, ◌==◌, ◌&&◌, ◌||◌, min, Bool, true}
-use Rattle.std.proofs.Common.{false, not, List, [], ◌∷◌, length, get_or, set, take, refl, sym, ap, arith}
-use Rattle.std.proofs.Common.{bit_and, bit_or}
+use Rattle.std.proofs.Common.{false, not, Option, Some, None, IfSome, List, [], ◌∷◌, length, get_or, set, take, refl, sym, ap, arith}
+use Rattle.std.proofs.Common.{bit_and, bit_or, ◌≢◌, ◌∙◌, w16}
 use Rattle.std.proofs.Math.Bool.{and-true, and-false}
 use Rattle.std.proofs.Math.Seq.{take-nil}
 use Rattle.std.proofs.lemmas.Bool.Decides.{nat_tests}
 use Rattle.std.proofs.lemmas.List.{append-nil, get_or-set_same, set-get_or, set-set}
 use Rattle.std.proofs.lemmas.List.Folds.{list_any_at}
 use Rattle.std.proofs.lemmas.Nat.{one_shl}
-use Rattle.std.proofs.lemmas.Nat.Bits.{bit_at-pow_same, bit_at-pow_other}
+use Rattle.std.proofs.lemmas.Nat.Bits.{bit_at-pow_same, bit_at-pow_other, bit_at-trailing_zeros}
+use Rattle.std.proofs.lemmas.Nat.Bits.{bit_at_clear_same, bit_at_clear_other}
+use Rattle.std.specs.Int.{bit_not, trailing_zeros}
 use Rattle.std.specs.List.{filter, list_any, range_with_len}
 use Rattle.cm_bits.specs.Bit.{bit}
 use Rattle.cm_model.specs.Processor.{Processor, SEND, ACK, flag}
@@ -27,46 +29,71 @@ use Rattle.cm_element.specs.Wide.{with_flag_plane}
 abbrev pub asks : List Processor → ℕ → Bool
 asks chip p = flag (processor_at chip p) SEND
 
--- of the processors from a number on those that are taken, where at most so many are
-pub ahead : ℕ → List Processor → ℕ → List ℕ
-ahead left chip i = take left (filter (asks chip) (range_with_len i (16 - i)))
-
--- at first these are all, and at last none
-pub ahead_begins : (room standing : ℕ) (chip : List Processor)
-    → senders_taken room standing chip ≡ ahead (min 4 (room - standing)) chip 0
-unfolding ahead senders
-ahead_begins room standing chip = refl
-
--- the first of them asks, and one less may be taken after it
-pub ahead_asked : (left : ℕ) (chip : List Processor) (i : ℕ) → i < 16 → 0 < left → asks chip i ≡ true
-    → ahead left chip i ≡ i ∷ ahead (left - 1) chip (i + 1)
-unfolding ahead
-ahead_asked left chip i below some asking =
-    let more : 16 - i ≡ suc (16 - (i + 1)) = omega arith in
-    let much : left ≡ suc (left - 1) = omega arith in
-    rw (more, asking) (ap (λ k. take k (i ∷ filter (asks chip) (range_with_len (i + 1) (16 - (i + 1))))) much)
-
--- who does not ask is passed over, and all where none may be taken
-pub ahead_passed : (left : ℕ) (chip : List Processor) (i : ℕ) → i < 16 → (0 < left → asks chip i ≡ false)
-    → ahead left chip i ≡ ahead left chip (i + 1)
-unfolding ahead
-ahead_passed zero chip i below quiet = refl
-ahead_passed (suc left) chip i below quiet =
-    let more : 16 - i ≡ suc (16 - (i + 1)) = omega arith in rw (more, quiet (omega arith)) refl
-
-pub ahead_none : (left : ℕ) (chip : List Processor) (i : ℕ) → left ≡ 0 → ahead left chip i ≡ []
-unfolding ahead
-ahead_none left chip i none = rw none refl
-
-pub ahead_ends : (left : ℕ) (chip : List Processor) (i : ℕ) → 16 ≤ i → ahead left chip i ≡ []
-unfolding ahead
-ahead_ends left chip i past = let none : 16 - i ≡ 0 = omega arith in rw none (take-nil left)
-
 none_of : (test : ℕ → Bool) (first count : ℕ) → ((p : ℕ) → p < first + count → test p ≡ false)
     → filter test (range_with_len first count) ≡ []
 none_of test first zero h = refl
 none_of test first (suc count) h =
     rw (h first (omega arith)) (none_of test (first + 1) count (λ p l. h p (omega arith)))
+
+-- of numbers those that pass are the same by two tests that agree
+alike : (f g : ℕ → Bool) (first count : ℕ) → first + count ≤ 16 → ((p : ℕ) → p < 16 → f p ≡ g p)
+    → filter f (range_with_len first count) ≡ filter g (range_with_len first count)
+alike f g first zero within same = refl
+alike f g first (suc count) within same =
+    rw (same first (omega arith), alike f g (first + 1) count (omega arith) same) refl
+
+-- the first that ask are those that are taken
+pub first_asking : (asking room most standing : ℕ) (chip : List Processor) → IsPlane asking (asks chip)
+    → most - standing ≡ room → take (min 4 room) (filter (bit asking) (range_with_len 0 16)) ≡ senders_taken most standing chip
+unfolding senders
+first_asking asking room most standing chip is left =
+    ap (take (min 4 room)) (alike (bit asking) (asks chip) 0 16 (omega arith) is)
+    ∙ ap (λ (k : ℕ). take (min 4 k) (senders chip)) (sym left)
+
+-- the first number that passes is t, and by another test all others that pass
+module _ (f g : ℕ → Bool) (t : ℕ) (passes : f t ≡ true) (fails : g t ≡ false)
+    (below : (p : ℕ) → p < t → f p ≡ false) (same : (p : ℕ) → p < 16 → p ≢ t → g p ≡ f p) where
+  behind : (first count : ℕ) → t < first → first + count ≤ 16
+      → filter f (range_with_len first count) ≡ filter g (range_with_len first count)
+  behind first zero past within = refl
+  behind first (suc count) past within =
+      rw (same first (omega arith) (omega arith), behind (first + 1) count (omega arith) (omega arith)) refl
+
+  found : (before first count : ℕ) → first + before ≡ t → before < count → first + count ≤ 16
+      → filter f (range_with_len first count) ≡ t ∷ filter g (range_with_len first count)
+  found before first zero is inside within = absurd (omega arith)
+  found zero first (suc count) is inside within =
+      let here : first ≡ t = omega arith in
+      rw (here, passes, fails) (ap (λ ps. t ∷ ps) (behind (t + 1) count (omega arith) (omega arith)))
+  found (suc before) first (suc count) is inside within =
+      rw (same first (omega arith) (omega arith), below first (omega arith))
+      (found before (first + 1) count (omega arith) (omega arith) (omega arith))
+
+-- the lowest bit of a plane is the first of its processors, and without it the others are left
+pub next_asking : (asking left : ℕ) → 0 < asking → asking < 2 ^ 16 → 0 < left
+    → take left (filter (bit asking) (range_with_len 0 16)) ≡ trailing_zeros w16 asking ∷ take (left - 1)
+    (filter (bit (bit_and asking (bit_not w16 (1 * 2 ^ trailing_zeros w16 asking % 65536)))) (range_with_len 0 16))
+next_asking asking left some fits more =
+    let t : ℕ = trailing_zeros w16 asking in
+    let rest : ℕ = bit_and asking (bit_not w16 (1 * 2 ^ t % 65536)) in
+    let lowest = bit_at-trailing_zeros w16 asking some fits in
+    let much : left ≡ suc (left - 1) = omega arith in
+    ap (take left) (found (bit asking) (bit rest) t (ap (λ (v : ℕ). v == 1) lowest.1)
+    (ap (λ (v : ℕ). v == 1) (bit_at_clear_same w16 asking t lowest.0))
+    (λ p l. ap (λ (v : ℕ). v == 1) (lowest.2 p l))
+    (λ p l ne. ap (λ (v : ℕ). v == 1) (bit_at_clear_other w16 asking t lowest.0 p l ne))
+    t 0 16 (omega arith) lowest.0 (omega arith))
+    ∙ ap (λ k. take k (t ∷ filter (bit rest) (range_with_len 0 16))) much
+
+-- told of the number that was found
+pub next_is : (found : Option ℕ) (number : ℕ) (old new : List ℕ) → IfSome found (λ p. p ≡ number) → old ≡ number ∷ new
+    → IfSome found (λ p. old ≡ p ∷ new)
+next_is None number old new is h = tt
+next_is (Some p) number old new is h = rw is h
+
+-- where none asks, none is left
+pub none_asking : (left : ℕ) → take left (filter (bit 0) (range_with_len 0 16)) ≡ []
+none_asking left = rw (none_of (bit 0) 0 16 (λ p l. bit-zero p)) (take-nil left)
 
 -- where nobody asks nobody is taken
 pub nobody_taken : (room standing : ℕ) (chip : List Processor) → ((p : ℕ) → p < 16 → asks chip p ≡ false)
@@ -93,6 +120,8 @@ pub ruleset fields = (field_value-lt)
 pub bit-with_one : (plane k p : ℕ) → k < 16 → bit (bit_or plane ((1 * 2 ^ k) % 65536)) p ≡ (bit plane p || (k == p))
 bit-with_one plane k p below =
     grind (arith, nat_tests, bit-bit_or plane (2 ^ k) p, one_shl k 16 below, bit_at-pow_same, bit_at-pow_other)
+
+pub ruleset one_more = (bit-with_one)
 
 -- ---- the chip
 

@@ -146,7 +146,8 @@ pub(crate) fn is_one(plane: Plane, proc: Proc) -> bool
     plane >> proc.get() & 1 == 1
 }
 
-pub(crate) fn tell_injected(log: &mut Vec<Event>, message: &Message)
+/// Tells a log of a message that was taken in.
+pub fn tell_injected(log: &mut Vec<Event>, message: &Message)
     requires log_room { 0 < log_room log.old }
     ensures items { log.new.items ≡ log.old.items ++ Event.Injected message.now ∷ [] }
     ensures len { vec_len log.new ≡ vec_len log.old + 1 }

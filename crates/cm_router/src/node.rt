@@ -15,9 +15,10 @@ ghost use Rattle.cm_router.specs.Logs.{log_room};
 use crate::delivery::Deliveries;
 use crate::leaving::chosen_place;
 use crate::letters;
-use crate::letters::{acknowledge, is_one, message_sent, take_none, tell_injected};
+use crate::letters::{acknowledge, message_sent, take_none, tell_injected};
+use crate::senders::{Senders, with_one};
 use arrayvec::ArrayVec;
-use cm_bits::{Plane, Proc};
+use cm_bits::Plane;
 use cm_element::{ChipView, Run};
 use cm_message::{Event, Message, Rule};
 use std::marker::Model;
@@ -86,16 +87,6 @@ impl Node {
         ensures value { self.new ≡ holding self.old [] }
     {
         self.messages.clear();
-    }
-
-    /// Takes all messages away, and makes room for so many.
-    pub fn clear_for(&mut self, room: u8)
-        requires some { 0 < room }
-        requires most { room ≤ 15 }
-        ensures value { self.new ≡ record { room = room; messages = [] } }
-    {
-        self.clear();
-        self.room = room;
     }
 
     /// Whether there is no room left.
@@ -189,20 +180,13 @@ impl Node {
         ensures len { vec_len log.new ≤ vec_len log.old + 4 }
         ensures capacity { vec_capacity log.old ≤ vec_capacity log.new }
     {
-        let mut left = 4.min(usize::from(self.room) - self.messages.len());
+        let mut senders = Senders::first(asking, usize::from(self.room) - self.messages.len());
         let mut taken: Plane = 0;
-        for number in 0u8..16 {
-            if left == 0 {
-                return taken;
-            }
-            let proc = Proc::new(number).unwrap();
-            if is_one(asking, proc) {
-                let sent = message_sent(chip, proc, here, dims, clock);
-                tell_injected(log, &sent);
-                self.messages.push(sent);
-                taken |= 1 << number;
-                left -= 1;
-            }
+        while let Some(proc) = senders.next() {
+            let sent = message_sent(chip, proc, here, dims, clock);
+            tell_injected(log, &sent);
+            self.messages.push(sent);
+            taken = with_one(taken, proc);
         }
         taken
     }
