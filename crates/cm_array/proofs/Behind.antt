@@ -282,6 +282,22 @@ one_more_behind logs was more i d e now l was_there there same is before k below
     (λ (h : k ≢ i). log_left logs i k now h ∙ before k (omega (arith, h, below)))
     (cases_eq k i)
 
+-- all that have them
+pub all_behind : (logs was more : List Log) → length logs ≡ length was → length more ≡ length was
+    → ((c : ℕ) (d e : Log) → c < length was
+    → (get_or logs c e).items ≡ (get_or was c e).items ++ (get_or more c d).items)
+    → events_of logs
+    ≡ each_from 0 (length was) (λ c. list_at (events_of was) c ++ list_at (events_of more) c)
+all_behind logs [] more long there each =
+    is_each [] 0 (λ c. list_at [] c ++ list_at (events_of more) c) (events_of logs)
+    (length-map logs (λ (x : Log). x.items) ∙ long) (λ i h. absurd (omega (arith, h)))
+all_behind logs (x ∷ rest) more long there each =
+    let was : List Log = x ∷ rest in
+    is_each [] (length was) (λ c. list_at (events_of was) c ++ list_at (events_of more) c) (events_of logs)
+    (length-map logs (λ (y : Log). y.items) ∙ long)
+    (λ i h. items_at logs i x (omega (arith, h, long)) ∙ each i x x h
+    ∙ (λ j. sym (items_at was i x h) j ++ sym (items_at more i x (omega (arith, h, there))) j))
+
 -- the logs of a machine that were set aside, with its own behind them
 pub logs_behind : (n : ℕ) (was more now first second : List Log) → length was ≡ 2 ^ n → first ≡ was → second ≡ more
     → events_of now

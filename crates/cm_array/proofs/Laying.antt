@@ -118,6 +118,17 @@ log_here logs i log inside =
     ap (λ lists. list_at lists i) (map-set (λ (x : Log). x.items) logs i log)
     ∙ get_or-set_same (events_of logs) i log.items [] (omega (arith, inside, length-map logs (λ (x : Log). x.items)))
 
+-- one more that is the same as another
+pub one_log_laid : (logs : List Log) (events : List (List Event)) (i : ℕ) (log : Log) → i < length logs
+    → log.items ≡ list_at events i → ((k : ℕ) → k < i → list_at (events_of logs) k ≡ list_at events k)
+    → (k : ℕ) → k < i + 1 → list_at (events_of (set logs i log)) k ≡ list_at events k
+one_log_laid logs events i log inside is before k l =
+    ⊎_elim
+    (λ (e : k ≡ i). subst (λ (j : ℕ). list_at (events_of (set logs i log)) j ≡ list_at events j) (sym e)
+    (log_here logs i log inside ∙ is))
+    (λ (e : k ≢ i). log_left logs i k log e ∙ before k (omega (arith, e, l)))
+    (cases_eq k i)
+
 -- one more that stands at its place
 pub log_laid : (at i : ℕ) (to from : List Log) (events : List (List Event)) (log other : Log) → at + i < length to
     → i < length from

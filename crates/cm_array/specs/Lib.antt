@@ -8,3 +8,4 @@ pub mod Building
 pub mod Tags
 pub mod PokeLaws
 pub mod Behind
+pub mod Rooms

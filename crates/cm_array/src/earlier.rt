@@ -31,8 +31,45 @@ impl Model for Earlier {
     } };
 }
 
-/// Puts events behind those of logs, chip by chip. No memory is taken.
-pub(crate) fn put_behind(logs: &mut [Vec<Event>], more: &[Vec<Event>])
+/// Who puts events behind those of logs.
+pub trait PutBehind {
+    ghost use Rattle.std.specs.Prelude.{◌≡◌, ◌++◌, length};
+    ghost use Rattle.cm_model.specs.Each.{each_from};
+    ghost use Rattle.cm_model.specs.Array.{list_at};
+    ghost use Rattle.cm_router.specs.Logs.{log_rooms_of};
+    ghost use Rattle.cm_petit.specs.Routers.{events_of};
+    ghost use Rattle.cm_array.specs.Behind.{TakeIn};
+
+    /// What a caller of an unknown one has to know of its type; of `InTurn` it is no condition.
+    ghost ready: { Type 0 };
+
+    /// Puts events behind those of logs, chip by chip. No memory is taken.
+    fn put_behind(&self, logs: &mut [Vec<Event>], more: &[Vec<Event>])
+        requires one { ready }
+        requires count { length more.now ≡ length logs.old }
+        requires room { TakeIn (log_rooms_of logs.old) (events_of more.now) }
+        ensures value { events_of logs.new ≡ each_from 0 (length logs.old)
+            (λ c. list_at (events_of logs.old) c ++ list_at (events_of more.now) c) };
+}
+
+/// Who takes one log after another.
+#[derive(Clone, Copy, Debug, PartialEq, Eq)]
+pub struct InTurn;
+
+impl PutBehind for InTurn {
+    ghost ready = { Unit {0} };
+
+    fn put_behind(&self, logs: &mut [Vec<Event>], more: &[Vec<Event>])
+        requires count { length more.now ≡ length logs.old }
+        requires room { TakeIn (log_rooms_of logs.old) (events_of more.now) }
+        ensures value { events_of logs.new ≡ each_from 0 (length logs.old)
+            (λ c. list_at (events_of logs.old) c ++ list_at (events_of more.now) c) }
+    {
+        put_behind(logs, more);
+    }
+}
+
+fn put_behind(logs: &mut [Vec<Event>], more: &[Vec<Event>])
     requires count { length more.now ≡ length logs.old }
     requires room { TakeIn (log_rooms_of logs.old) (events_of more.now) }
     ensures value { events_of logs.new ≡ each_from 0 (length logs.old)
@@ -43,7 +80,8 @@ pub(crate) fn put_behind(logs: &mut [Vec<Event>], more: &[Vec<Event>])
     }
 }
 
-fn append(log: &mut Vec<Event>, more: &[Event])
+/// Puts events behind those of a log. No memory is taken.
+pub fn append(log: &mut Vec<Event>, more: &[Event])
     requires room { length more.now ≤ log_room log.old }
     ensures items { log.new.items ≡ log.old.items ++ more.now }
 {

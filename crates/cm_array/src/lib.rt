@@ -11,13 +11,14 @@ mod part;
 mod parts;
 mod poke_laws;
 mod put;
+mod room;
 mod routing;
 mod runner;
 mod stepping;
 mod tags;
 
 pub use builder::{BuildFault, Builder};
-pub use earlier::Earlier;
+pub use earlier::{Earlier, InTurn, PutBehind, append};
 pub use log_laws::{few_events_are_told, logs_are_never_read};
 pub use machine::{Machine, MachineFault};
 pub use part::Part;

@@ -18,13 +18,17 @@ ghost use Rattle.cm_array.specs.Cuts.{joined, AreWhole};
 ghost use Rattle.cm_array.specs.Behind.{unlogged, behind, TakeIn};
 ghost use Rattle.cm_array.specs.Faults.{size_fault};
 ghost use Rattle.cm_array.specs.Parts.{kept_of, AreParts, LacksLogRoom};
+ghost use Rattle.cm_array.specs.Rooms.{IsRoomFor};
 ghost use Rattle.cm_array.specs.Pokes.{machine_with_memory_bit, machine_with_flag};
 
-use crate::earlier::{Earlier, put_behind};
+use crate::earlier::{Earlier, InTurn, PutBehind};
 use crate::finding::{delivered_to, router_of};
-use crate::part::{Part, copied_buffers, copied_chips};
-use crate::parts::{Parts, blank_logs, blank_planes, copied_logs, pass_time, reserve, run};
-use crate::put::{IntoPart, put_one};
+use crate::part::{Part, lay_all_buffers, lay_chips};
+use crate::parts::{
+    Parts, blank_logs, blank_planes, copied_logs, lay_logs, pass_time, reserve, run,
+};
+use crate::put::{IntoPart, keep, put_one};
+use crate::room::Room;
 use cm_bits::{Addr, FlagNo, NoMemory, Plane, Proc};
 use cm_crossing::{Crossing, Sizes};
 use cm_element::{ChipView, Run, ZeroFlag};
@@ -183,17 +187,57 @@ impl<const N: usize, const CAP: usize> Machine<N, CAP> {
         ensures log_room { IfOk result (λ kept. HaveLogRoom (cycles * (4 + CAP)) kept.log_rooms) }
         ensures gathered { IfOk result (λ kept. IsTrue kept.gathered) }
     {
+        self.part_in(alloc, first, count, cycles, None)
+    }
+
+    /// The same in the room of a part that is not needed any more, if it has as many chips: then memory is taken for the
+    /// logs alone, as far as they have to grow.
+    pub fn part_in(
+        &self,
+        alloc: Global,
+        first: u16,
+        count: u16,
+        cycles: usize,
+        used: Option<Part>,
+    ) -> Result<Part, NoMemory>
+        requires there { first + count ≤ 2 ^ N }
+        ensures value { IfOk result (λ kept. kept.part ≡ part first count self.now.machine) }
+        ensures dims { IfOk result (λ kept. kept.dims ≡ N) }
+        ensures room { IfOk result (λ kept. kept.room ≡ CAP) }
+        ensures log_room { IfOk result (λ kept. HaveLogRoom (cycles * (4 + CAP)) kept.log_rooms) }
+        ensures gathered { IfOk result (λ kept. IsTrue kept.gathered) }
+    {
+        let _kept = &self.parts;
+        let room = Room::of_used(alloc, count, used)?;
+        self.lay_part(first, count, cycles, room)
+    }
+
+    /// The same in this room.
+    fn lay_part(&self, first: u16, count: u16, cycles: usize, room: Room) -> Result<Part, NoMemory>
+        requires there { first + count ≤ 2 ^ N }
+        requires room { IsRoomFor count room }
+        ensures value { IfOk result (λ kept. kept.part ≡ part first count self.now.machine) }
+        ensures dims { IfOk result (λ kept. kept.dims ≡ N) }
+        ensures room { IfOk result (λ kept. kept.room ≡ CAP) }
+        ensures log_room { IfOk result (λ kept. HaveLogRoom (cycles * (4 + CAP)) kept.log_rooms) }
+        ensures gathered { IfOk result (λ kept. IsTrue kept.gathered) }
+    {
         let parts = &self.parts;
         let sizes = Self::sizes();
         let at = usize::from(first);
         let chips = usize::from(count);
-        let run = copied_chips(alloc, &parts.run, first, count)?;
-        let mut logs = copied_logs(alloc, &parts.logs[at..at + chips])?;
+        let Room {
+            mut run,
+            mut logs,
+            sent,
+            incoming,
+            mut crossing,
+        } = room;
+        lay_chips(&mut run, &parts.run, first, count);
+        lay_logs(&mut logs, &parts.logs[at..at + chips])?;
         let more = cycles.saturating_mul(MOST_INJECTED + CAP);
         reserve(&mut logs, more)?;
-        let sent = blank_planes(alloc, chips)?;
-        let incoming = blank_planes(alloc, chips)?;
-        let crossing = copied_buffers(alloc, &parts.crossing, at, chips)?;
+        lay_all_buffers(&mut crossing, &parts.crossing, at, chips);
         let routing = parts.routing.copy()?;
         Ok(Part {
             dims: sizes.dims,
@@ -216,11 +260,22 @@ impl<const N: usize, const CAP: usize> Machine<N, CAP> {
         requires whole { AreWhole N CAP (map (λ piece. (P.held piece).part) pieces.items) }
         ensures value { self.new.machine ≡ joined (map (λ piece. (P.held piece).part) pieces.items) }
     {
+        let mut none = Vec::new(*self.parts.logs.allocator());
+        self.put_and_keep(pieces, &mut none);
+    }
+
+    /// The same, and keeps parts as `part_in` takes them, as many as there are places for. No memory is taken.
+    pub fn put_and_keep<P: IntoPart + Drop>(&mut self, pieces: Vec<P>, used: &mut Vec<Part>)
+        requires whole { AreWhole N CAP (map (λ piece. (P.held piece).part) pieces.items) }
+        ensures value { self.new.machine ≡ joined (map (λ piece. (P.held piece).part) pieces.items) }
+    {
         let parts = &mut self.parts;
         parts.crossing.clear();
         let mut at = 0;
         for piece in pieces {
-            at = put_one(parts, at, piece.into_part());
+            let mut part = piece.into_part();
+            at = put_one(parts, at, &mut part);
+            keep(used, part);
         }
         parts.crossing.gather();
     }
@@ -247,9 +302,24 @@ impl<const N: usize, const CAP: usize> Machine<N, CAP> {
         requires room { TakeIn earlier.log_rooms self.old.machine.logs }
         ensures value { self.new.machine ≡ behind N earlier.logs self.old.machine }
     {
+        let mut none = Vec::new(*self.parts.logs.allocator());
+        self.put_logs_back_by(&InTurn, earlier, &mut none);
+    }
+
+    /// The same by somebody who does it. The logs that it had go into parts that are not needed any more.
+    pub fn put_logs_back_by<B: PutBehind>(&mut self, by: &B, earlier: Earlier, used: &mut Vec<Part>)
+        requires ready { B.ready }
+        requires whole { IsMachine N CAP (behind N earlier.logs self.old.machine) }
+        requires count { length earlier.logs ≡ 2 ^ N }
+        requires room { TakeIn earlier.log_rooms self.old.machine.logs }
+        ensures value { self.new.machine ≡ behind N earlier.logs self.old.machine }
+    {
         let mut logs = earlier.logs;
-        put_behind(&mut logs, &self.parts.logs);
-        self.parts.logs = logs;
+        by.put_behind(&mut logs, &self.parts.logs);
+        let mut told = mem::replace(&mut self.parts.logs, logs);
+        for i in 0..used.len() {
+            used[i].exchange_logs(&mut told);
+        }
     }
 
     /// The chip of that number, to be read.

@@ -1,6 +1,6 @@
 //! Parts of a machine: some of its chips, one after another, with what stands at them.
 
-ghost use Rattle.std.specs.Prelude.{◌≡◌, ℕ, ◌+◌, ◌<◌, ◌≤◌, ◌^◌, ◌++◌, [], true, None, IfOk, IsTrue, length};
+ghost use Rattle.std.specs.Prelude.{◌≡◌, ℕ, ◌+◌, ◌<◌, ◌≤◌, ◌^◌, ◌++◌, [], true, None, IsTrue, length};
 ghost use Rattle.std.specs.Prelude.{◌⊎◌, false, slice_index_or, slice_set};
 ghost use Rattle.std.specs.List.{All};
 ghost use Rattle.cm_model.specs.Array.{list_at};
@@ -14,14 +14,13 @@ ghost use Rattle.cm_router.specs.Routes.{routing_of};
 ghost use Rattle.cm_array.specs.Cuts.{kept_part, IsKeptPart, IsLaid};
 
 use crate::parts::Parts;
-use cm_bits::NoMemory;
 use cm_crossing::{Crossing, Sizes};
 use cm_element::{ChipView, Run};
 use cm_message::{Event, Message};
 use cm_petit::{leave, take_in};
 use cm_router::Routing;
-use std::alloc::Global;
 use std::marker::Model;
+use std::mem;
 
 /// Some chips of a machine, one after another by number, with their buffers and logs, the counter, how messages go, and
 /// the working room to go on by themselves.
@@ -57,6 +56,11 @@ impl Part {
         ensures kept { IsKeptPart self.dims self.room self.part.first result }
     {
         self.parts
+    }
+
+    /// Exchanges its logs for those of its chips in a list by number, as far as this has them.
+    pub(crate) fn exchange_logs(&mut self, logs: &mut [Vec<Event>]) {
+        exchange(&mut self.parts.logs, usize::from(self.first), logs);
     }
 
     /// The dimensions of the cube that its chips are of.
@@ -186,39 +190,28 @@ impl Part {
     }
 }
 
-/// Some chips of a run, as a run of their own.
-pub(crate) fn copied_chips(
-    alloc: Global,
-    from: &Run,
-    first: u16,
-    count: u16,
-) -> Result<Run, NoMemory>
+/// Makes of all chips of a run some of those of another.
+pub(crate) fn lay_chips(run: &mut Run, from: &Run, first: u16, count: u16)
+    requires here { length run.old ≡ count }
     requires there { first + count ≤ length from.now }
-    ensures value { IfOk result (λ run. run ≡ cut first count from.now) }
+    ensures value { run.new ≡ cut first count from.now }
 {
-    let mut run = Run::blank(alloc, count)?;
     run.lay(0, from, first, count);
-    Ok(run)
 }
 
-/// The messages of some chips, by themselves.
-pub(crate) fn copied_buffers(
-    alloc: Global,
-    from: &Crossing,
-    first: usize,
-    count: usize,
-) -> Result<Crossing, NoMemory>
+/// Puts the messages of some chips in the place of all that stand elsewhere, at as many chips.
+pub(crate) fn lay_all_buffers(crossing: &mut Crossing, from: &Crossing, first: usize, count: usize)
+    requires here { length crossing.old.buffers ≡ count }
     requires there { first + count ≤ length from.now.buffers }
     requires gathered { IsTrue from.now.gathered }
     requires few { length from.now.buffers ≤ 4096 }
     requires within { All (λ ms. length ms ≤ 15) from.now.buffers }
-    ensures value { IfOk result (λ crossing. crossing.buffers ≡ cut first count from.now.buffers) }
-    ensures gathered { IfOk result (λ crossing. IsTrue crossing.gathered) }
+    ensures value { crossing.new.buffers ≡ cut first count from.now.buffers }
+    ensures gathered { IsTrue crossing.new.gathered }
 {
-    let mut crossing = Crossing::new(alloc, count)?;
-    lay_buffers(&mut crossing, 0, from, first, count);
+    crossing.clear();
+    lay_buffers(crossing, 0, from, first, count);
     crossing.gather();
-    Ok(crossing)
 }
 
 /// Copies the messages of so many chips, from `first` on, to as many others from `at` on, where none stand.
@@ -234,6 +227,14 @@ pub(crate) fn lay_buffers(to: &mut Crossing, at: usize, from: &Crossing, first: 
 {
     for i in 0..count {
         arrive_all(to, at + i, from.buffer(first + i));
+    }
+}
+
+/// Exchanges logs for those from a place on in another list, as far as this has them.
+fn exchange(logs: &mut [Vec<Event>], first: usize, others: &mut [Vec<Event>]) {
+    let there = others.len().saturating_sub(first);
+    for i in 0..logs.len().min(there) {
+        mem::swap(&mut logs[i], &mut others[first + i]);
     }
 }
 

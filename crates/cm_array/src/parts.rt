@@ -169,6 +169,25 @@ pub(crate) fn blank_logs(alloc: Global, count: usize) -> Result<Vec<Vec<Event>>,
     Ok((0..count).map(|_| Vec::new(alloc)).collect(alloc)?)
 }
 
+/// Makes logs the same as others, in the room that they have or in more.
+pub(crate) fn lay_logs(logs: &mut [Vec<Event>], others: &[Vec<Event>]) -> Result<(), NoMemory>
+    requires count { length others.now ≡ length logs.old }
+    ensures value { OnOk result (events_of logs.new ≡ events_of others.now) }
+{
+    for c in 0..logs.len() {
+        lay_log(&mut logs[c], &others[c])?;
+    }
+    Ok(())
+}
+
+fn lay_log(log: &mut Vec<Event>, other: &[Event]) -> Result<(), NoMemory>
+    ensures value { OnOk result (log.new.items ≡ other.now) }
+{
+    log.clear();
+    log.extend_from_slice(other)?;
+    Ok(())
+}
+
 pub(crate) fn blank_planes(alloc: Global, count: usize) -> Result<Vec<Plane>, NoMemory>
     ensures count { IfOk result (λ planes. length planes.items ≡ count) }
 {

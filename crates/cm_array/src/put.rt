@@ -34,28 +34,29 @@ impl IntoPart for Part {
     }
 }
 
-/// Puts one part into the place of the chips from `at` on, at which no messages stand, and tells where it ends.
-pub(crate) fn put_one(parts: &mut Parts, at: usize, piece: Part) -> usize
-    requires chips { at + length piece.part.chips ≤ length parts.old.run }
+/// Puts one part into the place of the chips from `at` on, at which no messages stand, and tells where it ends. The part has
+/// the logs that were there then.
+pub(crate) fn put_one(parts: &mut Parts, at: usize, piece: &mut Part) -> usize
+    requires chips { at + length piece.old.part.chips ≤ length parts.old.run }
     requires buffers { length parts.old.crossing.buffers ≡ length parts.old.run }
     requires logs { length parts.old.logs.items ≡ length parts.old.run }
     requires few { length parts.old.run ≤ 4096 }
     requires empty { (c : ℕ) → at ≤ c → list_at parts.old.crossing.buffers c ≡ [] }
-    requires wires { All (IsWireOf parts.old.routing.cuts.dims) piece.part.routing.cuts }
-    ensures end { result ≡ at + length piece.part.chips }
-    ensures buffer_count { length piece.part.buffers ≡ length piece.part.chips }
-    ensures log_count { length piece.part.logs ≡ length piece.part.chips }
-    ensures chips { IsLaid at piece.part.chips parts.old.run parts.new.run }
-    ensures buffers { IsLaid at piece.part.buffers parts.old.crossing.buffers parts.new.crossing.buffers }
-    ensures logs { IsLaid at piece.part.logs (events_of parts.old.logs.items) (events_of parts.new.logs.items) }
-    ensures clock { parts.new.clock ≡ piece.part.clock }
+    requires wires { All (IsWireOf parts.old.routing.cuts.dims) piece.old.part.routing.cuts }
+    ensures end { result ≡ at + length piece.old.part.chips }
+    ensures buffer_count { length piece.old.part.buffers ≡ length piece.old.part.chips }
+    ensures log_count { length piece.old.part.logs ≡ length piece.old.part.chips }
+    ensures chips { IsLaid at piece.old.part.chips parts.old.run parts.new.run }
+    ensures buffers { IsLaid at piece.old.part.buffers parts.old.crossing.buffers parts.new.crossing.buffers }
+    ensures logs { IsLaid at piece.old.part.logs (events_of parts.old.logs.items) (events_of parts.new.logs.items) }
+    ensures clock { parts.new.clock ≡ piece.old.part.clock }
     ensures within { parts.new.clock < 2 ^ 63 }
-    ensures routing { routing_of parts.new.routing ≡ piece.part.routing }
+    ensures routing { routing_of parts.new.routing ≡ piece.old.part.routing }
     ensures cube { parts.new.routing.cuts.dims ≡ parts.old.routing.cuts.dims }
     ensures sent { length parts.new.sent.items ≡ length parts.old.sent.items }
     ensures incoming { length parts.new.incoming.items ≡ length parts.old.incoming.items }
 {
-    let mut from = piece.into_parts();
+    let from = &mut piece.parts;
     let count = from.run.chips();
     parts.run.lay(at as u16, &from.run, 0, count as u16);
     from.crossing.gather();
@@ -64,6 +65,13 @@ pub(crate) fn put_one(parts: &mut Parts, at: usize, piece: Part) -> usize
     parts.clock = from.clock;
     route_as(&mut parts.routing, &from.routing);
     at + count
+}
+
+/// Keeps a part of which nothing but its room is needed any more, if there is a place for it.
+pub(crate) fn keep(used: &mut Vec<Part>, part: Part) {
+    if used.len() < used.capacity() {
+        used.push_reserved(part);
+    }
 }
 
 /// Routes as another does, all of whose cut wires are of this cube.

@@ -9,6 +9,7 @@ mod resident;
 mod running;
 mod start;
 mod teams;
+mod together;
 mod turn;
 mod worker;
 mod worth;

@@ -11,11 +11,11 @@ ghost use Rattle.cm_resident.specs.Teams.{IsOutfit};
 
 use crate::gathering::take_firsts;
 use crate::lanes::{Ends, open_all};
-use cm_array::Machine;
+use cm_array::{Machine, Part};
 use cm_bits::NoMemory;
 use cm_board::{FromEnd, ToEnd};
 use cm_model::Act;
-use cm_subcube::{Block, Parcel, SplitFault, split};
+use cm_subcube::{Block, Parcel, SplitFault, split_in};
 use std::alloc::Global;
 
 /// A block, and its ends by place: those over which it sends, and those over which it gets.
@@ -27,13 +27,14 @@ pub(crate) struct Outfit {
 }
 
 /// The blocks of a machine that is cut into 2^`k`, in their order, with the ends of their lanes for these acts, which have so
-/// many petit cycles.
+/// many petit cycles. Parts that are not needed any more give room.
 pub(crate) fn outfits<const N: usize, const CAP: usize>(
     alloc: Global,
     machine: &Machine<N, CAP>,
     acts: &[Act],
     k: u8,
     cycles: usize,
+    used: &mut Vec<Part>,
 ) -> Result<Vec<Outfit>, NoMemory>
     requires within { k ≤ N - N / 2 }
     requires few { length (rounds_of N k acts.now) ≤ 4416 }
@@ -42,7 +43,7 @@ pub(crate) fn outfits<const N: usize, const CAP: usize>(
     ensures value { IfOk result (λ outfits. AreAll (IsOutfit
         (record { n = N; k = k; room = CAP; machine = machine.now.machine; acts = acts.now })) (2 ^ k) outfits.items) }
 {
-    let mut blocks = cut_up(alloc, machine, k, cycles)?;
+    let mut blocks = cut_up(alloc, machine, k, cycles, used)?;
     let Ends {
         mut sends,
         mut gets,
@@ -66,13 +67,14 @@ fn cut_up<const N: usize, const CAP: usize>(
     machine: &Machine<N, CAP>,
     k: u8,
     cycles: usize,
+    used: &mut Vec<Part>,
 ) -> Result<Vec<Block>, NoMemory>
     requires within { k ≤ N - N / 2 }
     requires clock { machine.now.machine.clock + cycles < 2 ^ 63 }
     ensures value { IfOk result (λ blocks. (acts : List Act) → cycles_in acts ≡ cycles → AreFrom (IsCut
         (record { n = N; k = k; room = CAP; machine = machine.now.machine; acts = acts })) 0 (2 ^ k) blocks.items) }
 {
-    match split(alloc, machine, k, cycles) {
+    match split_in(alloc, machine, k, cycles, used) {
         Ok(blocks) => Ok(blocks),
         Err(SplitFault::Memory) => Err(NoMemory),
         Err(SplitFault::Split) => unreachable!(),

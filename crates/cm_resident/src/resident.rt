@@ -13,12 +13,13 @@ ghost use Rattle.cm_workers.specs.Forks.{fork_fault, most_blocks, most_workers, 
 use crate::gathering::{in_order, room_for};
 use crate::lanes::power_of_two;
 use crate::running::{line_up, work_all};
-use crate::teams::team;
+use crate::teams::team_in;
+use crate::together::Together;
 use crate::worth::is_soon_done;
-use cm_array::{Machine, Plain, RunFault, Runner, check_stretch};
+use cm_array::{Machine, Part, Plain, RunFault, Runner, check_stretch};
 use cm_bits::NoMemory;
 use cm_model::Act;
-use cm_subcube::{join, rounds};
+use cm_subcube::{join_and_keep, rounds};
 use cm_workers::{ForkFault, Gate, Passage, Want};
 use std::alloc::Global;
 use std::sync::Wait;
@@ -34,6 +35,8 @@ pub struct Resident<'a, R> {
     workers: u16,
     passage: Passage,
     threads_lacked: u64,
+    /// The parts of its last list, whose room the next takes.
+    used: Vec<Part>,
     ghost some: { 0 < workers },
 }
 
@@ -74,6 +77,7 @@ impl<'a, R: Threads + Wait + Sync> Resident<'a, R> {
             workers,
             passage,
             threads_lacked: 0,
+            used: Vec::new(alloc),
         })
     }
 
@@ -139,6 +143,7 @@ impl<'a, const N: usize, const CAP: usize, R: Threads + Wait + Sync> Runner<N, C
             machine,
             acts,
             cycles,
+            &mut self.used,
         );
         if let Err(Want::Thread) = done {
             self.threads_lacked = self.threads_lacked.wrapping_add(1);
@@ -175,6 +180,7 @@ fn run<const N: usize, const CAP: usize, R: Threads + Wait + Sync>(
     machine: &mut Machine<N, CAP>,
     acts: &[Act],
     cycles: usize,
+    used: &mut Vec<Part>,
 ) -> Result<(), Want>
     requires within { k ≤ N - N / 2 }
     requires some { 0 < workers }
@@ -196,9 +202,9 @@ fn run<const N: usize, const CAP: usize, R: Threads + Wait + Sync>(
         return run_alone(machine, acts);
     }
     if matches!(passage, Passage::Open) && has_events(machine) {
-        share_out_without_logs(rt, alloc, k, workers, passage, machine, acts, cycles)
+        share_out_without_logs(rt, alloc, k, workers, passage, machine, acts, cycles, used)
     } else {
-        share_out(rt, alloc, k, workers, passage, machine, acts)
+        share_out(rt, alloc, k, workers, passage, machine, acts, used)
     }
 }
 
@@ -237,6 +243,7 @@ fn share_out<const N: usize, const CAP: usize, R: Threads + Wait + Sync>(
     passage: &Passage,
     machine: &mut Machine<N, CAP>,
     acts: &[Act],
+    used: &mut Vec<Part>,
 ) -> Result<(), Want>
     requires within { k ≤ N - N / 2 }
     requires some { 0 < workers }
@@ -250,13 +257,24 @@ fn share_out<const N: usize, const CAP: usize, R: Threads + Wait + Sync>(
     ensures err { OnErr result (machine.new.machine ≡ machine.old.machine) }
 {
     let _clock = machine.clock();
-    let team = team(alloc, machine, acts, k, workers)?;
+    let team = team_in(alloc, machine, acts, k, workers, used)?;
     let all = line_up(alloc, team)?;
+    make_places(alloc, used, 1 << k);
     let room = room_for(alloc, 1 << k)?;
     let shares = work_all(rt, passage, all)?;
     let blocks = in_order(shares, 1 << k, room);
-    join(blocks, machine);
+    join_and_keep(blocks, machine, used);
     Ok(())
+}
+
+/// Makes places for so many parts, if there is memory: what is not kept is made anew.
+fn make_places(alloc: Global, used: &mut Vec<Part>, count: usize) {
+    used.clear();
+    if used.capacity() < count {
+        if let Ok(places) = Vec::with_capacity(alloc, count) {
+            *used = places;
+        }
+    }
 }
 
 /// The same where nobody looks at the blocks: the logs of the machine are set aside and not copied, and what its blocks tell
@@ -270,6 +288,7 @@ fn share_out_without_logs<const N: usize, const CAP: usize, R: Threads + Wait + 
     machine: &mut Machine<N, CAP>,
     acts: &[Act],
     cycles: usize,
+    used: &mut Vec<Part>,
 ) -> Result<(), Want>
     requires within { k ≤ N - N / 2 }
     requires some { 0 < workers }
@@ -285,8 +304,12 @@ fn share_out_without_logs<const N: usize, const CAP: usize, R: Threads + Wait + 
 {
     let _clock = machine.clock();
     let earlier = machine.set_logs_aside(alloc, cycles)?;
-    let done = share_out(rt, alloc, k, workers, passage, machine, acts);
-    machine.put_logs_back(earlier);
+    let done = share_out(rt, alloc, k, workers, passage, machine, acts, used);
+    let by = Together {
+        rt,
+        threads: usize::from(workers),
+    };
+    machine.put_logs_back_by(&by, earlier, used);
     done
 }
 

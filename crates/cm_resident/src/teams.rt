@@ -7,7 +7,7 @@ ghost use Rattle.cm_resident.specs.Teams.{HasOutfits, IsOfTeam};
 
 use crate::outfit::{Outfit, outfits};
 use crate::worker::Worker;
-use cm_array::{Machine, check_stretch};
+use cm_array::{Machine, Part, check_stretch};
 use cm_bits::NoMemory;
 use cm_model::Act;
 use cm_subcube::{Round, rounds};
@@ -75,12 +75,36 @@ pub fn team<const N: usize, const CAP: usize>(
         (record { n = N; k = k; room = CAP; machine = machine.now.machine; acts = acts.now })
         workers (get_or team.items w d)) }
 {
+    team_in(alloc, machine, acts, k, workers, &mut Vec::new(alloc))
+}
+
+/// The same, whose blocks are in the room of parts that are not needed any more, as far as there are such.
+pub(crate) fn team_in<const N: usize, const CAP: usize>(
+    alloc: Global,
+    machine: &Machine<N, CAP>,
+    acts: &[Act],
+    k: u8,
+    workers: u16,
+    used: &mut Vec<Part>,
+) -> Result<Vec<Worker>, NoMemory>
+    requires within { k ≤ N - N / 2 }
+    requires some { 0 < workers }
+    requires few { workers ≤ 2 ^ k }
+    requires most { workers ≤ 64 }
+    requires long { IsFalse (is_long acts.now) }
+    requires clock { IsFalse (is_late machine.now.machine.clock acts.now) }
+    ensures count { IfOk result (λ team. length team.items ≡ workers) }
+    ensures ids { IfOk result (λ team. (w : ℕ) (d : _) → w < workers → (get_or team.items w d).id ≡ w) }
+    ensures value { IfOk result (λ team. (w : ℕ) (d : _) → w < workers → IsOfTeam
+        (record { n = N; k = k; room = CAP; machine = machine.now.machine; acts = acts.now })
+        workers (get_or team.items w d)) }
+{
     let dims = machine.dims();
     let Ok(cycles) = check_stretch(acts, machine.clock()) else {
         unreachable!()
     };
     let rounds = rounds(alloc, dims, acts, k)?;
-    let outfits = outfits(alloc, machine, acts, k, cycles)?;
+    let outfits = outfits(alloc, machine, acts, k, cycles, used)?;
     let mut hands = deal(alloc, outfits, usize::from(workers))?;
     let mut team = Vec::with_capacity(alloc, usize::from(workers))?;
     for w in 0..workers {

@@ -135,6 +135,22 @@ pub fn split<const N: usize, const CAP: usize>(
     ensures fresh { IfOk result (λ blocks. All (IsFresh N CAP k (cycles * (4 + CAP))) blocks.items) }
     ensures split { IsErrOf result SplitFault.Split ↔ (N - N / 2 < k) }
 {
+    split_in(alloc, machine, k, cycles, &mut Vec::new(alloc))
+}
+
+/// The same in the room of parts that are not needed any more, as far as there are such with as many chips as a block has.
+pub fn split_in<const N: usize, const CAP: usize>(
+    alloc: Global,
+    machine: &Machine<N, CAP>,
+    k: u8,
+    cycles: usize,
+    used: &mut Vec<Part>,
+) -> Result<Vec<Block>, SplitFault>
+    ensures value { IfOk result (λ blocks. map (λ b. b.kept.part) blocks.items
+        ≡ all_blocks N k machine.now.machine) }
+    ensures fresh { IfOk result (λ blocks. All (IsFresh N CAP k (cycles * (4 + CAP))) blocks.items) }
+    ensures split { IsErrOf result SplitFault.Split ↔ (N - N / 2 < k) }
+{
     let dims = machine.dims();
     if k > dims - dims / 2 {
         return Err(SplitFault::Split);
@@ -142,7 +158,7 @@ pub fn split<const N: usize, const CAP: usize>(
     let count = power_of_two(k);
     let mut blocks = room_for(alloc, usize::from(count))?;
     for b in 0..count {
-        let block = cut(alloc, machine, k, b, cycles)?;
+        let block = cut(alloc, machine, k, b, cycles, used.pop())?;
         blocks.push_reserved(block);
     }
     Ok(blocks)
@@ -155,6 +171,7 @@ fn cut<const N: usize, const CAP: usize>(
     k: u8,
     b: u16,
     cycles: usize,
+    used: Option<Part>,
 ) -> Result<Block, NoMemory>
     requires within { k ≤ N - N / 2 }
     requires block { b < 2 ^ k }
@@ -162,7 +179,7 @@ fn cut<const N: usize, const CAP: usize>(
     ensures fresh { IfOk result (IsFresh N CAP k (cycles * (4 + CAP))) }
 {
     let size = power_of_two(machine.dims() - k);
-    let part = machine.part(alloc, b * size, size, cycles)?;
+    let part = machine.part_in(alloc, b * size, size, cycles, used)?;
     Ok(Block { k, part })
 }
 
@@ -188,4 +205,16 @@ pub fn join<const N: usize, const CAP: usize>(blocks: Vec<Block>, into: &mut Mac
     ensures value { into.new.machine ≡ joined (map (λ b. b.kept.part) blocks.items) }
 {
     into.put(blocks);
+}
+
+/// The same, and keeps parts as `split_in` takes them, as many as there are places for. No memory is taken.
+pub fn join_and_keep<const N: usize, const CAP: usize>(
+    blocks: Vec<Block>,
+    into: &mut Machine<N, CAP>,
+    used: &mut Vec<Part>,
+)
+    requires whole { AreWhole N CAP (map (λ b. b.kept.part) blocks.items) }
+    ensures value { into.new.machine ≡ joined (map (λ b. b.kept.part) blocks.items) }
+{
+    into.put_and_keep(blocks, used);
 }

@@ -10,7 +10,7 @@ mod local;
 mod parcel;
 mod round;
 
-pub use block::{Block, SplitFault, join, split};
+pub use block::{Block, SplitFault, join, join_and_keep, split, split_in};
 pub use copying::copy_by_blocks;
 pub use few::rounds_are_few;
 pub use laws::{blocks_are_joined, cuts_are_spared, logs_have_room, rounds_are_followed};

@@ -14,43 +14,43 @@ use Rattle.cm_array.proofs.put.put_one.Goals as goal
 
 pub returns-clause-chips : goal.returns-clause-chips
 returns-clause-chips c =
-    let from = c.into_parts-from.result in
+    let from = c.piece.inside.parts in
     subst (λ (chips : Chips). IsLaid c.args.at chips c.args.parts.now.run c.lay.new.self)
-    (ap (λ (k : KeptPart). k.part.chips) c.into_parts-from.ensures.value)
+    (ap (λ (k : KeptPart). k.part.chips) c.piece.view_is)
     (all_chips_laid c.args.at c.chips-count.result from.run c.args.parts.now.run c.lay.new.self
     c.chips-count.ensures.value c.lay.ensures.value)
 
 pub returns-clause-buffers : goal.returns-clause-buffers
 returns-clause-buffers c =
-    let from = c.into_parts-from.result in
-    let all = c.chips-count.ensures.value ∙ sym c.into_parts-from.ensures.kept.buffer_count in
+    let from = c.piece.inside.parts in
+    let all = c.chips-count.ensures.value ∙ sym c.piece.invariant.buffer_count in
     subst (λ (buffers : List (List Message)).
     IsLaid c.args.at buffers c.args.parts.now.crossing.buffers c.lay_buffers.new.to.buffers)
     (ap (cut 0 c.chips-count.result) c.gather.ensures.value ∙ cut_all c.chips-count.result from.crossing.buffers all
-    ∙ ap (λ (k : KeptPart). k.part.buffers) c.into_parts-from.ensures.value) c.lay_buffers.ensures.value
+    ∙ ap (λ (k : KeptPart). k.part.buffers) c.piece.view_is) c.lay_buffers.ensures.value
 
 pub returns-clause-logs : goal.returns-clause-logs
 returns-clause-logs c =
-    let from = c.into_parts-from.result in
+    let from = c.piece.inside.parts in
     let old : List Log = c.args.parts.now.logs.items in
     let is : c.deref_mut.result.now ≡ old = c.deref_mut.ensures.value in
     let lent = items-lent c.args.parts.now.logs c.move_logs.new.to (c.move_logs.auto.to ∙ ap length is) in
     let first = subst (λ (events : List (List Event)).
     IsLaid c.args.at events (events_of c.deref_mut.result.now) (events_of c.move_logs.new.to))
-    (ap events_of c.deref_mut-2.ensures.value ∙ ap (λ (k : KeptPart). k.part.logs) c.into_parts-from.ensures.value)
+    (ap events_of c.deref_mut-2.ensures.value ∙ ap (λ (k : KeptPart). k.part.logs) c.piece.view_is)
     c.move_logs.ensures.value in
-    let next = subst (λ (logs : List Log). IsLaid c.args.at c.args.piece.part.logs (events_of logs)
+    let next = subst (λ (logs : List Log). IsLaid c.args.at c.args.piece.now.part.logs (events_of logs)
     (events_of c.move_logs.new.to))
     is first in
-    subst (λ (logs : List Log). IsLaid c.args.at c.args.piece.part.logs (events_of old) (events_of logs))
+    subst (λ (logs : List Log). IsLaid c.args.at c.args.piece.now.part.logs (events_of old) (events_of logs))
     (sym lent) next
 
 pub route_as-requires : goal.route_as-requires
 route_as-requires c = record {
   within = subst (λ (r : Routing). All (IsWireOf c.args.parts.now.routing.cuts.dims) r.cuts)
-      (ap (λ (k : KeptPart). k.part.routing) (sym c.into_parts-from.ensures.value)) c.requires.wires;
+      (ap (λ (k : KeptPart). k.part.routing) (sym c.piece.view_is)) c.requires.wires;
 }
 
 pub returns-clause-routing : goal.returns-clause-routing
 returns-clause-routing c =
-    c.route_as.ensures.value ∙ ap (λ (k : KeptPart). k.part.routing) c.into_parts-from.ensures.value
+    c.route_as.ensures.value ∙ ap (λ (k : KeptPart). k.part.routing) c.piece.view_is

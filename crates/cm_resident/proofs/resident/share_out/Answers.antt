@@ -37,8 +37,8 @@ in_order-blocks-requires-clause-shares g c =
     all.ensures.value shares.ensures.value) in
     subst (λ (t : ℕ). AreShares (length shares.shares.items) t shares.shares.items) (sym total) left.are_shares
 
-pub join-requires : goal.join-requires
-join-requires g c =
+pub join_and_keep-requires : goal.join_and_keep-requires
+join_and_keep-requires g c =
     let run : Run = record { n = g.row.N; k = c.args.k; room = g.row.CAP; machine = c.args.machine.now.machine; acts = c.args.acts.now } in
     let team = c.in_ok-team in let all = c.in_ok-all in let shares = c.in_ok-shares in
     let total : 1 * 2 ^ c.args.k % 2 ^ 64 ≡ 2 ^ c.args.k =
@@ -66,11 +66,11 @@ returns-clause-ok g c =
     (record { len = team.ensures.count; ids = team.ensures.ids; each = team.ensures.value })
     (have_worked team.team.items all.all.readies.items shares.shares.items all.ensures.count shares.ensures.count
     all.ensures.value shares.ensures.value) in
-    c.join.ensures.value
+    c.join_and_keep.ensures.value
     ∙ (left.machine c.in_order-blocks.result.items (c.in_order-blocks.ensures.count ∙ total)
     c.in_order-blocks.ensures.value).same
 
 pub returns-clause-account : goal.returns-clause-account
 returns-clause-account g c =
-    account_after g.row.N g.row.CAP c.args.machine.now.machine c.join.new.into.machine c.args.acts.now
+    account_after g.row.N g.row.CAP c.args.machine.now.machine c.join_and_keep.new.into.machine c.args.acts.now
     (returns-clause-ok g c)

@@ -6,8 +6,8 @@ use Rattle.cm_array.specs.Behind.{Aside, behind}
 use Rattle.cm_resident.proofs.LogsAside.{whole_again, room_again, ran_again, account_again, none_again}
 use Rattle.cm_resident.proofs.resident.share_out_without_logs.Goals as goal
 
-pub put_logs_back-requires : goal.put_logs_back-requires
-put_logs_back-requires g c =
+pub put_logs_back_by-requires : goal.put_logs_back_by-requires
+put_logs_back_by-requires g c =
     let whole = whole_again g.row.N g.row.CAP c.args.machine.now.machine c.set_logs_aside.new.self.machine
     c.share_out-done.new.machine.machine c.in_ok-earlier.earlier.logs c.args.acts.now c.clock-clock.ensures.whole
     c.in_ok-earlier.ensures.ok c.in_ok-earlier.ensures.logs c.share_out-done.result c.share_out-done.ensures.ok
@@ -25,19 +25,19 @@ pub returns-clause-ok : goal.returns-clause-ok
 returns-clause-ok g c =
     ran_again g.row.N g.row.CAP c.args.machine.now.machine c.set_logs_aside.new.self.machine
     c.share_out-done.new.machine.machine c.in_ok-earlier.earlier.logs c.args.acts.now c.clock-clock.ensures.whole
-    c.in_ok-earlier.ensures.ok c.in_ok-earlier.ensures.logs c.share_out-done.result c.put_logs_back.new.self.machine
-    c.put_logs_back.ensures.value c.share_out-done.ensures.ok
+    c.in_ok-earlier.ensures.ok c.in_ok-earlier.ensures.logs c.share_out-done.result c.put_logs_back_by.new.self.machine
+    c.put_logs_back_by.ensures.value c.share_out-done.ensures.ok
 
 pub returns-clause-account : goal.returns-clause-account
 returns-clause-account g c =
     account_again g.row.N g.row.CAP c.args.machine.now.machine c.set_logs_aside.new.self.machine
     c.share_out-done.new.machine.machine c.in_ok-earlier.earlier.logs c.args.acts.now c.clock-clock.ensures.whole
-    c.in_ok-earlier.ensures.ok c.in_ok-earlier.ensures.logs c.share_out-done.result c.put_logs_back.new.self.machine
-    c.put_logs_back.ensures.value c.share_out-done.ensures.ok
+    c.in_ok-earlier.ensures.ok c.in_ok-earlier.ensures.logs c.share_out-done.result c.put_logs_back_by.new.self.machine
+    c.put_logs_back_by.ensures.value c.share_out-done.ensures.ok
 
 pub returns-clause-err : goal.returns-clause-err
 returns-clause-err g c =
     none_again g.row.N g.row.CAP c.args.machine.now.machine c.set_logs_aside.new.self.machine
     c.share_out-done.new.machine.machine c.in_ok-earlier.earlier.logs c.args.acts.now c.clock-clock.ensures.whole
-    c.in_ok-earlier.ensures.ok c.in_ok-earlier.ensures.logs c.share_out-done.result c.put_logs_back.new.self.machine
-    c.put_logs_back.ensures.value c.share_out-done.ensures.err
+    c.in_ok-earlier.ensures.ok c.in_ok-earlier.ensures.logs c.share_out-done.result c.put_logs_back_by.new.self.machine
+    c.put_logs_back_by.ensures.value c.share_out-done.ensures.err

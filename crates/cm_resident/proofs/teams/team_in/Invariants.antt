@@ -2,7 +2,7 @@ use Rattle.std.proofs.Common.{◌≡◌, ◌≤◌, vec_capacity}
 use Rattle.cm_resident.specs.Lanes.{Run}
 use Rattle.cm_resident.specs.Gathering.{AreAll, AreFrom}
 use Rattle.cm_resident.specs.Teams.{HasOutfits, IsOfTeam}
-use Rattle.cm_resident.proofs.teams.team.Given as goal
+use Rattle.cm_resident.proofs.teams.team_in.Given as goal
 
 abbrev pub invariant-loop-w : goal.invariant-loop-w
 invariant-loop-w g l =

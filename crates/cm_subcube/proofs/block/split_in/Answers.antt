@@ -4,7 +4,7 @@ use Rattle.std.proofs.lemmas.List.Elements.{All-nil}
 use Rattle.cm_blocks.specs.Parts.{Part, block}
 use Rattle.cm_subcube.specs.Blocks.{KeptBlock, IsFresh}
 use Rattle.cm_subcube.proofs.Blocking.{parts-more, fresh-more, none_yet}
-use Rattle.cm_subcube.proofs.block.split.Goals as goal
+use Rattle.cm_subcube.proofs.block.split_in.Goals as goal
 
 pub loop-b-init : goal.loop-b-init
 loop-b-init g c =

@@ -10,24 +10,24 @@ use Rattle.cm_array.specs.Parts.{Kept}
 use Rattle.cm_array.proofs.Lists.{items-lent}
 use Rattle.cm_array.proofs.Rooms.{room_that_can_be}
 use Rattle.cm_array.proofs.Cutting.{within_fifteen, few_buffers, events_of-cut, AreCut, IsKeptPart-cut, part_of-cut}
-use Rattle.cm_array.proofs.machine.Machine.part.Goals as goal
-use Rattle.cm_array.proofs.machine.Machine.part.Given.{Over}
-use Rattle.cm_array.proofs.machine.Machine.part.Goals.{In_ok-routing}
+use Rattle.cm_array.proofs.machine.Machine.lay_part.Goals as goal
+use Rattle.cm_array.proofs.machine.Machine.lay_part.Given.{Over}
+use Rattle.cm_array.proofs.machine.Machine.lay_part.Goals.{In_ok-routing}
 
-pub copied_buffers-requires-clause-few : goal.copied_buffers-requires-clause-few
-copied_buffers-requires-clause-few g c = few_buffers g.row.N g.row.CAP c.self.inside.parts c.self.invariant
+pub lay_all_buffers-requires-clause-few : goal.lay_all_buffers-requires-clause-few
+lay_all_buffers-requires-clause-few g c = few_buffers g.row.N g.row.CAP c.self.inside.parts c.self.invariant
 
-pub copied_buffers-requires-clause-within : goal.copied_buffers-requires-clause-within
-copied_buffers-requires-clause-within g c = within_fifteen g.row.N g.row.CAP c.self.inside.parts c.self.invariant
+pub lay_all_buffers-requires-clause-within : goal.lay_all_buffers-requires-clause-within
+lay_all_buffers-requires-clause-within g c = within_fifteen g.row.N g.row.CAP c.self.inside.parts c.self.invariant
 
 parts_cut : (g : Over) → In_ok-routing g → Parts
 parts_cut g c = record {
-  run = c.in_ok-run.run';
-  logs = with_items c.in_ok-logs.logs c.reserve.new.logs;
+  run = c.lay_chips.new.run;
+  logs = with_items (with_items c.args.room.logs c.lay_logs.new.logs) c.reserve.new.logs;
   clock = c.self.inside.parts.clock;
-  sent = c.in_ok-sent.sent;
-  incoming = c.in_ok-incoming.incoming;
-  crossing = c.in_ok-crossing.crossing;
+  sent = c.args.room.sent;
+  incoming = c.args.room.incoming;
+  crossing = c.lay_all_buffers.new.crossing;
   routing = c.in_ok-routing.routing;
 }
 
@@ -37,21 +37,22 @@ are_cut g c =
     let old = c.self.inside.parts in
     let at = c.from-at.result in
     let chips = c.from-chips.result in
-    let lent = items-lent c.in_ok-logs.logs c.reserve.new.logs
-    (c.reserve.auto.logs ∙ ap length c.deref_mut.ensures.value) in
+    let laid = items-lent c.args.room.logs c.lay_logs.new.logs (c.lay_logs.auto.logs ∙ ap length c.deref_mut.ensures.value) in
+    let lent = items-lent (with_items c.args.room.logs c.lay_logs.new.logs) c.reserve.new.logs
+    (c.reserve.auto.logs ∙ ap length c.deref_mut-2.ensures.value) in
     record {
-      run = c.in_ok-run.ensures.value;
-      buffers = c.in_ok-crossing.ensures.value
+      run = c.lay_chips.ensures.value;
+      buffers = c.lay_all_buffers.ensures.value
           ∙ ap (λ (k : ℕ). cut k chips old.crossing.buffers) c.from-at.ensures
           ∙ ap (λ (k : ℕ). cut c.args.first k old.crossing.buffers) c.from-chips.ensures;
-      logs = ap events_of lent ∙ c.reserve.ensures.events ∙ ap events_of c.deref_mut.ensures.value
-          ∙ c.in_ok-logs.ensures.value
+      logs = ap events_of lent ∙ c.reserve.ensures.events ∙ ap events_of c.deref_mut-2.ensures.value ∙ ap events_of laid
+          ∙ c.in_ok-lay_logs.ensures.value
           ∙ ap (λ (logs : List Log). events_of (slice_range logs at (at + chips))) c.deref.ensures.value
           ∙ events_of-cut at chips old.logs.items
           ∙ ap (λ (k : ℕ). cut k chips (events_of old.logs.items)) c.from-at.ensures
           ∙ ap (λ (k : ℕ). cut c.args.first k (events_of old.logs.items)) c.from-chips.ensures;
-      sent = c.in_ok-sent.ensures.count ∙ c.from-chips.ensures;
-      incoming = c.in_ok-incoming.ensures.count ∙ c.from-chips.ensures;
+      sent = c.requires.room.sent;
+      incoming = c.requires.room.incoming;
       clock = refl;
       routing = c.in_ok-routing.ensures.value;
     }
@@ -73,9 +74,9 @@ pub returns-clause-log_room : goal.returns-clause-log_room
 returns-clause-log_room g c =
     let more = c.saturating_mul-more.result in
     let wanted = c.args.cycles * (4 + g.row.CAP) in
-    let logs = with_items c.in_ok-logs.logs c.reserve.new.logs in
-    let same = items-lent c.in_ok-logs.logs c.reserve.new.logs
-    (c.reserve.auto.logs ∙ ap length c.deref_mut.ensures.value) in
+    let laid = with_items c.args.room.logs c.lay_logs.new.logs in
+    let logs = with_items laid c.reserve.new.logs in
+    let same = items-lent laid c.reserve.new.logs (c.reserve.auto.logs ∙ ap length c.deref_mut-2.ensures.value) in
     let rooms = length-map logs.items log_room in
     let many = ap length same in
     room_that_can_be wanted more (log_rooms_of logs.items) c.saturating_mul-more.ensures

@@ -14,7 +14,7 @@ use Rattle.cm_array.specs.Cuts.{first_routing}
 use Rattle.cm_array.proofs.Laying.{none_stand}
 use Rattle.cm_array.proofs.Machines.{few_chips, length-logs, AreUnderWay-parts}
 use Rattle.cm_array.proofs.Putting.{none_put, next_fits, next_put, next_held, machine_of-put, AreParts-all_put}
-use Rattle.cm_array.proofs.machine.Machine.put.Goals as goal
+use Rattle.cm_array.proofs.machine.Machine.put_and_keep.Goals as goal
 
 pub loop-piece-init : goal.loop-piece-init
 loop-piece-init g c =
@@ -45,13 +45,13 @@ put_one-at-requires-clause-chips g c =
     let pieces = c.args.pieces.items in
     let parts = map (λ (piece : g.row.P.Denot). (g.P.IntoPart.held piece).part) pieces in
     let j = length c.loop-piece.yielded in
-    let s = c.into_part.result.part in
+    let s = c.into_part-part.result.part in
     let gives = c.into_iter-piece-iterator.ensures.into_iter_gives in
     let turn = YieldsList-turn (YieldsList-from_vec {s = c.into_iter-piece-iterator.result} pieces gives.0
     (gives.1 ∙ c.args.pieces.ok.0)) c.loop-piece.yielded
     c.loop-piece.piece-iterator
     c.loop-piece.yielded_by c.next.result c.next.new.self c.in-Some.piece c.in-Some.is c.next.ensures.steps in
-    let next = next_held g.P.IntoPart.held pieces j c.in-Some.piece c.into_part.result turn c.into_part.ensures.value in
+    let next = next_held g.P.IntoPart.held pieces j c.in-Some.piece c.into_part-part.result turn c.into_part-part.ensures.value in
     omega (
       arith,
       next_fits (λ (x : Part). x.chips) parts j c.loop-piece.at s c.loop-piece.parts.run next.0 next.1
@@ -69,13 +69,13 @@ put_one-at-requires-clause-wires g c =
     let pieces = c.args.pieces.items in
     let parts = map (λ (piece : g.row.P.Denot). (g.P.IntoPart.held piece).part) pieces in
     let j = length c.loop-piece.yielded in
-    let s = c.into_part.result.part in
+    let s = c.into_part-part.result.part in
     let gives = c.into_iter-piece-iterator.ensures.into_iter_gives in
     let turn = YieldsList-turn (YieldsList-from_vec {s = c.into_iter-piece-iterator.result} pieces gives.0
     (gives.1 ∙ c.args.pieces.ok.0)) c.loop-piece.yielded
     c.loop-piece.piece-iterator
     c.loop-piece.yielded_by c.next.result c.next.new.self c.in-Some.piece c.in-Some.is c.next.ensures.steps in
-    let next = next_held g.P.IntoPart.held pieces j c.in-Some.piece c.into_part.result turn c.into_part.ensures.value in
+    let next = next_held g.P.IntoPart.held pieces j c.in-Some.piece c.into_part-part.result turn c.into_part-part.ensures.value in
     let same : s.routing ≡ first_routing parts =
     ap (λ (x : Part). x.routing) next.1 ∙ c.requires.whole.routing j s next.0 in
     subst (λ (n : ℕ). All (IsWireOf n) s.routing.cuts) (sym c.loop-piece.invariant.cube)
@@ -87,13 +87,13 @@ loop-piece-preserved g c =
     let parts = map (λ (piece : g.row.P.Denot). (g.P.IntoPart.held piece).part) pieces in
     let j = length c.loop-piece.yielded in
     let at = c.loop-piece.at in
-    let s = c.into_part.result.part in
+    let s = c.into_part-part.result.part in
     let gives = c.into_iter-piece-iterator.ensures.into_iter_gives in
     let turn = YieldsList-turn (YieldsList-from_vec {s = c.into_iter-piece-iterator.result} pieces gives.0
     (gives.1 ∙ c.args.pieces.ok.0)) c.loop-piece.yielded
     c.loop-piece.piece-iterator
     c.loop-piece.yielded_by c.next.result c.next.new.self c.in-Some.piece c.in-Some.is c.next.ensures.steps in
-    let next = next_held g.P.IntoPart.held pieces j c.in-Some.piece c.into_part.result turn c.into_part.ensures.value in
+    let next = next_held g.P.IntoPart.held pieces j c.in-Some.piece c.into_part-part.result turn c.into_part-part.ensures.value in
     let more = length_push c.loop-piece.yielded c.in-Some.piece in
     let were = c.loop-piece.invariant in
     let put = c.put_one-at.ensures in

@@ -4,7 +4,7 @@ use Rattle.std.specs.List.{All}
 use Rattle.cm_model.specs.Each.{each_from}
 use Rattle.cm_blocks.specs.Parts.{block}
 use Rattle.cm_subcube.specs.Blocks.{IsFresh}
-use Rattle.cm_subcube.proofs.block.split.Given as goal
+use Rattle.cm_subcube.proofs.block.split_in.Given as goal
 
 abbrev pub invariant-loop-b : goal.invariant-loop-b
 invariant-loop-b g l = record {

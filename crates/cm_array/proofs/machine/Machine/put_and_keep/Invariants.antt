@@ -1,6 +1,6 @@
 use Rattle.std.proofs.Common.{length, map}
 use Rattle.cm_array.proofs.Putting.{ArePut}
-use Rattle.cm_array.proofs.machine.Machine.put.Given as goal
+use Rattle.cm_array.proofs.machine.Machine.put_and_keep.Given as goal
 
 abbrev pub invariant-loop-piece : goal.invariant-loop-piece
 invariant-loop-piece g l =

@@ -8,7 +8,7 @@ use Rattle.cm_resident.specs.Teams.{HasOutfits, IsOfTeam}
 use Rattle.cm_resident.proofs.Fitting.{are_hands}
 use Rattle.cm_resident.proofs.Numbered.{none_yet, one_more, first_is, rest_are}
 use Rattle.cm_resident.proofs.Opening.{few_rounds, in_time}
-use Rattle.cm_resident.proofs.teams.team.Goals as goal
+use Rattle.cm_resident.proofs.teams.team_in.Goals as goal
 
 pub outfits-requires : goal.outfits-requires
 outfits-requires g c = (

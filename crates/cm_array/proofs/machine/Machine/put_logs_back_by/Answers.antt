@@ -8,7 +8,7 @@ use Rattle.cm_array.specs.Behind.{Aside, behind}
 use Rattle.cm_array.proofs.Behind.{logs_behind}
 use Rattle.cm_array.proofs.Lists.{items-lent}
 use Rattle.cm_array.proofs.Putting.{AreParts-put}
-use Rattle.cm_array.proofs.machine.Machine.put_logs_back.Goals as goal
+use Rattle.cm_array.proofs.machine.Machine.put_logs_back_by.Goals as goal
 
 pub invariant_of-self : goal.invariant_of-self
 invariant_of-self g c =
@@ -18,7 +18,7 @@ invariant_of-self g c =
     let long = sym (length-map earlier.items (λ (log : Log). log.items)) ∙ ap (λ (xs : List (List Event)). length xs) before
     ∙ c.requires.count in
     let lent = items-lent earlier c.put_behind.new.logs (c.put_behind.auto.logs ∙ ap length c.deref_mut.ensures.value) in
-    let logs = ap events_of lent
+    let logs = ap (λ v. events_of v.items) c.replace-told.ensures.after ∙ ap events_of lent
     ∙ logs_behind g.row.N earlier.items parts.logs.items c.put_behind.new.logs c.deref_mut.result.now
     c.deref.result.now long c.deref_mut.ensures.value c.deref.ensures.value c.put_behind.ensures.value in
     AreParts-put g.row.N g.row.CAP parts _ (behind g.row.N c.args.earlier.logs c.args.self.now.machine) c.self.invariant

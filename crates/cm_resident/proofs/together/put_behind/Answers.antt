@@ -1,0 +1,14 @@
+use Rattle.std.proofs.Common.{refl, arith}
+use Rattle.cm_array.proofs.Behind.{room_behind, all_behind}
+use Rattle.cm_resident.proofs.together.put_behind.Goals as goal
+
+pub each_behind-requires-clause-room : goal.each_behind-requires-clause-room
+each_behind-requires-clause-room g c =
+    λ k d e l. room_behind c.args.logs.now c.args.logs.now c.args.more.now k e d l (omega (arith, l, c.requires.count)) refl
+    c.requires.room
+
+pub returns : goal.returns
+returns g c = record {
+  value = all_behind c.each_behind.new.logs c.args.logs.now c.args.more.now c.each_behind.ensures.count c.requires.count
+      c.each_behind.ensures.value;
+}
