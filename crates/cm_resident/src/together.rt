@@ -17,6 +17,7 @@ use std::thread::Threads;
 const MANY: usize = 1 << 16;
 
 /// Who takes the logs of many chips in so many threads, where there is enough to do for them.
+#[derive(Drop)]
 pub(crate) struct Together<'a, R> {
     pub(crate) rt: &'a R,
     pub(crate) threads: usize,

@@ -7,7 +7,7 @@ pub overflow_mul-b : goal.overflow_mul-b
 overflow_mul-b g c =
     grind (arith, band_fits g.row.N c.args.k c.args.b c.power_of_two-size.result c.dims.ensures.sizes.dimension)
 
-pub part_in-requires : goal.part-requires
+pub part_in-requires : goal.part_in-requires
 part_in-requires g c = (
   lit< tt,
   grind (arith, band_fits g.row.N c.args.k c.args.b c.power_of_two-size.result c.dims.ensures.sizes.dimension),
