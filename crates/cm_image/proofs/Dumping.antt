@@ -203,7 +203,7 @@ chip_written chip buffer text a b c d e count first second is third fourth fifth
 
 -- ---- all chips
 
-abbrev image_at : Machine → ℕ → ChipImage
+abbrev pub image_at : Machine → ℕ → ChipImage
 image_at machine c = image_of_chip (chip_at machine.chips c) (list_at machine.buffers c)
 
 pub chips_none : (machine : Machine) (first : ℕ) (text : List ℕ) → text ≡ text ++ chips_text machine first 0
@@ -218,7 +218,7 @@ chips_more machine text before after first n c number is more =
     ∙ ap (λ (xs : List ℕ). text ++ xs) (sym (made_more chip_text (image_at machine) first n c number))
 
 -- the chips behind those that were written
-chips_joined : (machine : Machine) (first n : ℕ)
+pub chips_joined : (machine : Machine) (first n : ℕ)
     → chips_text machine 0 (first + n) ≡ chips_text machine 0 first ++ chips_text machine first n
 chips_joined machine first zero =
     let none : first + 0 ≡ first = omega arith in

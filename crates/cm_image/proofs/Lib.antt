@@ -8,6 +8,8 @@ mod Building
 mod Loading
 mod Coming
 mod Dumping
+mod Leaving
+mod Routed
 mod Listing
 mod Lengths
 mod Counting

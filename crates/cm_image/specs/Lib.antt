@@ -4,3 +4,4 @@ pub mod Tile
 pub mod Cuts
 pub mod Pieces
 pub mod Taken
+pub mod Sending

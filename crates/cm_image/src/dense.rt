@@ -1,24 +1,23 @@
 //! Writing chips of a machine in which most addresses are in use.
 
-ghost use Rattle.std.specs.Prelude.{◌≡◌, ℕ, ◌+◌, ◌*◌, ◌++◌, ◌^◌, ◌<◌, ◌≤◌, true, length, take, OnOk};
+ghost use Rattle.std.specs.Prelude.{◌≡◌, ℕ, ◌+◌, ◌*◌, ◌++◌, ◌^◌, ◌<◌, ◌≤◌, true, false, length, take, IfErr, OnOk};
 ghost use Rattle.std.specs.Prelude.{slice_index};
 ghost use Rattle.std.specs.List.{flat_map};
 ghost use Rattle.cm_model.specs.Array.{chip_at};
 ghost use Rattle.cm_image_format.specs.Image.{chip_text};
 ghost use Rattle.cm_image_format.specs.Whole.{memory_plane_of, image_of_chip, image_of};
 ghost use Rattle.cm_image.specs.Planes.{AreCounted, chips_text, listing_of, listings, planes_below};
+ghost use Rattle.cm_image.specs.Sending.{GoesOut, GoesOutInPart, is_write};
 
 use crate::dumps::{push, push_flags, push_messages, push_plane, push_u8, push_u16};
 use crate::numbers::chip_count;
+use crate::sending::{DumpFault, TILE, send_full};
 use cm_array::Machine;
-use cm_bits::{NoMemory, Plane};
+use cm_bits::{NoMemory, Plane, Sink};
 use cm_element::{ChipView, PITCH};
 use cm_message::Message;
 
-/// The planes of so many chips at a time are written near: 528 KB, which a cache holds.
-const TILE: u16 = 64;
-
-/// How many planes that is.
+/// How many planes of 64 chips are written near: 528 KB, which a cache holds.
 pub(crate) const TILE_PLANES: usize = 64 * PITCH;
 
 const ADDRESSES: u16 = 4096;
@@ -27,26 +26,34 @@ const ADDRESSES: u16 = 4096;
 const LISTED_LEN: usize = 16384;
 
 /// What an image has of each chip, by number.
-pub(crate) fn push_dense_chips<const N: usize, const CAP: usize>(
+pub(crate) fn send_dense_chips<const N: usize, const CAP: usize, O: Sink>(
     text: &mut Vec<u8>,
+    sink: &mut O,
     machine: &Machine<N, CAP>,
     counts: &[u16],
     planes: &mut [Plane],
-) -> Result<(), NoMemory>
+    piece: usize,
+) -> Result<(), DumpFault>
     requires dimension { N ≤ 12 }
     requires room { CAP ≤ 15 }
     requires counts { AreCounted (2 ^ N) machine.now.machine.chips 4096 counts.now }
     requires planes { length planes.old ≡ 264192 }
-    ensures ok { OnOk result (text.new.items
-        ≡ text.old.items ++ flat_map chip_text (image_of N machine.now.machine).chips) }
+    requires working { O.has_failed sink.old ≡ false }
+    ensures ok { OnOk result (GoesOut (O.contents sink.old) (O.contents sink.new)
+        (text.old.items ++ chips_text machine.now.machine 0 (2 ^ N)) text.new.items) }
+    ensures err { IfErr result (λ _. GoesOutInPart (O.contents sink.old) (O.contents sink.new)
+        (text.old.items ++ chips_text machine.now.machine 0 (2 ^ N))) }
+    ensures failed { O.has_failed sink.new ≡ is_write result }
 {
     let count = chip_count::<N>();
     let mut first = 0;
     while first < count {
         let some = TILE.min(count - first);
         write_tile(machine, first, some, planes);
-        push_tile(text, machine, counts, planes, first, some)?;
-        first += some;
+        match send_tile(text, sink, machine, counts, planes, first, some, piece) {
+            Ok(()) => first += some,
+            Err(fault) => return Err(fault),
+        }
     }
     Ok(())
 }
@@ -67,14 +74,16 @@ fn write_tile<const N: usize, const CAP: usize>(
 }
 
 /// What it has of so many chips, from `first` on, whose planes lie chip by chip.
-fn push_tile<const N: usize, const CAP: usize>(
+fn send_tile<const N: usize, const CAP: usize, O: Sink>(
     text: &mut Vec<u8>,
+    sink: &mut O,
     machine: &Machine<N, CAP>,
     counts: &[u16],
     planes: &[Plane],
     first: u16,
     some: u16,
-) -> Result<(), NoMemory>
+    piece: usize,
+) -> Result<(), DumpFault>
     requires room { CAP ≤ 15 }
     requires counts { AreCounted (2 ^ N) machine.now.machine.chips 4096 counts.now }
     requires chips { first + some ≤ 2 ^ N }
@@ -82,20 +91,26 @@ fn push_tile<const N: usize, const CAP: usize>(
     requires few { some * 4128 ≤ length planes.now }
     requires planes { (c a : ℕ) → c < some → a < 4096
         → slice_index planes.now (c * 4128 + a) ≡ memory_plane_of (chip_at machine.now.machine.chips (first + c)) a }
-    ensures ok { OnOk result (text.new.items ≡ text.old.items ++ chips_text machine.now.machine first some) }
+    requires working { O.has_failed sink.old ≡ false }
+    ensures ok { OnOk result (GoesOut (O.contents sink.old) (O.contents sink.new)
+        (text.old.items ++ chips_text machine.now.machine first some) text.new.items) }
+    ensures err { IfErr result (λ _. GoesOutInPart (O.contents sink.old) (O.contents sink.new)
+        (text.old.items ++ chips_text machine.now.machine first some)) }
+    ensures failed { O.has_failed sink.new ≡ is_write result }
 {
     for c in 0..some {
         let number = first + c;
         let place = usize::from(c) * PITCH;
         let listed = counts[usize::from(number)];
         let buffer = machine.buffer(number);
-        push_chip(
-            text,
-            &machine.chip(number),
-            listed,
-            &planes[place..],
-            buffer,
-        )?;
+        let chip = machine.chip(number);
+        let Ok(()) = push_chip(text, &chip, listed, &planes[place..], buffer) else {
+            return Err(DumpFault::Memory);
+        };
+        match send_full(text, sink, piece) {
+            Ok(()) => {}
+            Err(fault) => return Err(fault),
+        }
     }
     Ok(())
 }

@@ -1,7 +1,7 @@
 //! Writing the bytes of a machine.
 
-ghost use Rattle.std.specs.Prelude.{◌≡◌, ℕ, ◌==◌, ◌+◌, ◌*◌, ◌++◌, ◌^◌, ◌<◌, ◌≤◌, List, length, IfOk, Ok, OnOk};
-ghost use Rattle.std.specs.Prelude.{if◌then◌else◌, slice_index};
+ghost use Rattle.std.specs.Prelude.{◌≡◌, ℕ, ◌==◌, ◌+◌, ◌*◌, ◌++◌, ◌^◌, ◌<◌, ◌≤◌, List, [], length, IfOk, IfErr, Ok, OnOk};
+ghost use Rattle.std.specs.Prelude.{false, if◌then◌else◌, slice_index, Some};
 ghost use Rattle.std.specs.List.{flat_map};
 ghost use Rattle.std.specs.Int.{w8, w16, w32, w64};
 ghost use Rattle.cm_model.specs.Processor.{Processor};
@@ -16,13 +16,13 @@ ghost use Rattle.cm_image_format.specs.Whole.{read_image};
 ghost use Rattle.cm_image_format.specs.Laws.{without_logs};
 ghost use Rattle.cm_image.specs.Planes.{AreCounted, AreInUse, chips_text, flags_text, listing_of, listing_at};
 ghost use Rattle.cm_image.specs.Planes.{listed_below, planes_below};
+ghost use Rattle.cm_image.specs.Sending.{front_text, GoesOut, GoesOutInPart, is_write};
 
-use crate::counts::{addresses_in_use, listed_planes};
 use crate::cuts::{cuts_len, push_cuts, version_of};
-use crate::dense::{TILE_PLANES, push_dense_chips};
 use crate::numbers::chip_count;
+use crate::sending::{DumpFault, DumpRoom, TILE, send_all_chips, send_full, sizes};
 use cm_array::Machine;
-use cm_bits::{Addr, Edge, FlagNo, NoMemory, Plane};
+use cm_bits::{Addr, Failed, FlagNo, NoMemory, Plane, Sink};
 use cm_element::{ChipView, Run};
 use cm_image_format::texts_leave_out_logs;
 use cm_message::{Message, Rule, bytes};
@@ -41,12 +41,6 @@ const LISTED_LEN: usize = 4;
 
 const MESSAGE_LEN: usize = 18;
 
-/// From so many addresses in use on, planes are written near chip by chip, those of all addresses.
-const DENSE: usize = 1024;
-
-/// So many chips at a time are laid out near: 512 KB, which a cache holds while they are written.
-const TILE: u16 = 64;
-
 /// The image of a machine: its one text. Its logs are not in it.
 pub fn dump<const N: usize, const CAP: usize>(
     alloc: Global,
@@ -55,60 +49,84 @@ pub fn dump<const N: usize, const CAP: usize>(
     ensures value { IfOk result (λ text. text.items ≡ text_of N CAP machine.now.machine) }
     ensures read { IfOk result (λ text. read_image N CAP text.items ≡ Ok (without_logs N machine.now.machine)) }
 {
+    sizes(machine);
+    text_is_read(machine);
+    let DumpRoom {
+        counts,
+        addresses,
+        near,
+        ..
+    } = DumpRoom::without_text(alloc, machine)?;
+    let mut text = Vec::with_capacity(alloc, text_len(machine, &counts))?;
+    push_front(&mut text, machine)?;
+    let mut nowhere = Nowhere { failed: false };
+    match send_all_chips(
+        &mut text,
+        &mut nowhere,
+        machine,
+        &counts,
+        &addresses,
+        near,
+        usize::MAX,
+    ) {
+        Ok(()) => Ok(text),
+        Err(_) => Err(NoMemory),
+    }
+}
+
+/// The text of a machine is read as the machine without its logs.
+fn text_is_read<const N: usize, const CAP: usize>(machine: &Machine<N, CAP>)
+    ensures { read_image N CAP (text_of N CAP machine.now.machine) ≡ Ok (without_logs N machine.now.machine) }
+{
+    let _ = machine.clock();
+    texts_leave_out_logs();
+}
+
+/// Where nothing goes: all that is to be written waits in its list.
+#[derive(Drop)]
+struct Nowhere {
+    failed: bool,
+}
+
+impl Sink for Nowhere {
+    ghost contents = { λ nowhere. Some [] };
+
+    ghost has_failed = { λ nowhere. nowhere.failed };
+
+    fn write(&mut self, _buf: &[u8]) -> Result<usize, Failed> {
+        self.failed = true;
+        Err(Failed)
+    }
+}
+
+/// What an image has before its chips: header, counter, cut wires.
+pub(crate) fn push_front<const N: usize, const CAP: usize>(
+    text: &mut Vec<u8>,
+    machine: &Machine<N, CAP>,
+) -> Result<(), NoMemory>
+    ensures ok { OnOk result (text.new.items ≡ text.old.items ++ front_text N CAP machine.now.machine) }
+{
     let cycles = machine.clock();
     let routing = machine.routing();
     let cuts = routing.cuts.edges();
     let version = version_of(routing.rule, cuts);
-    texts_leave_out_logs();
     cuts_are_few();
-    let counts = listed_planes(alloc, machine)?;
-    let addresses = addresses_in_use(alloc, machine)?;
-    let mut text = Vec::with_capacity(alloc, text_len(machine, version, cuts, &counts))?;
-    push_head(&mut text, version, N, CAP, routing.rule)?;
-    push_u64(&mut text, cycles)?;
-    push_cuts(&mut text, version, cuts)?;
-    push_all_chips(alloc, &mut text, machine, &counts, &addresses)?;
-    Ok(text)
-}
-
-/// What an image has of each chip, by number.
-fn push_all_chips<const N: usize, const CAP: usize>(
-    alloc: Global,
-    text: &mut Vec<u8>,
-    machine: &Machine<N, CAP>,
-    counts: &[u16],
-    addresses: &[u16],
-) -> Result<(), NoMemory>
-    requires dimension { N ≤ 12 }
-    requires room { CAP ≤ 15 }
-    requires counts { AreCounted (2 ^ N) machine.now.machine.chips 4096 counts.now }
-    requires in_use { AreInUse (2 ^ N) machine.now.machine.chips 4096 addresses.now }
-    ensures ok { OnOk result (text.new.items
-        ≡ text.old.items ++ flat_map chip_text (image_of N machine.now.machine).chips) }
-{
-    if addresses.len() >= DENSE {
-        let mut planes = vec![in alloc; 0; TILE_PLANES]?;
-        return push_dense_chips(text, machine, counts, &mut planes);
-    }
-    let mut tile = Run::blank(alloc, TILE)?;
-    push_chips(text, machine, counts, addresses, &mut tile)
+    push_head(text, version, N, CAP, routing.rule)?;
+    push_u64(text, cycles)?;
+    push_cuts(text, version, cuts)?;
+    Ok(())
 }
 
 /// How many bytes the image has, so that its list need not grow.
-fn text_len<const N: usize, const CAP: usize>(
-    machine: &Machine<N, CAP>,
-    version: u8,
-    cuts: &[Edge],
-    counts: &[u16],
-) -> usize
-    requires dimension { N ≤ 12 }
-    requires room { CAP ≤ 15 }
-    requires version { version ≡ version_of machine.now.machine.routing }
-    requires cuts { cuts.now ≡ machine.now.machine.routing.cuts }
-    requires few { length cuts.now < 65536 }
+fn text_len<const N: usize, const CAP: usize>(machine: &Machine<N, CAP>, counts: &[u16]) -> usize
     requires counts { AreCounted (2 ^ N) machine.now.machine.chips 4096 counts.now }
     ensures value { result ≡ length (text_of N CAP machine.now.machine) }
 {
+    sizes(machine);
+    let routing = machine.routing();
+    let cuts = routing.cuts.edges();
+    let version = version_of(routing.rule, cuts);
+    cuts_are_few();
     HEADER_LEN + cuts_len(version, cuts) + chips_len(machine, counts)
 }
 
@@ -138,43 +156,55 @@ fn chip_len(planes: u16, buffer: &[Message]) -> usize
     BLANK_CHIP_LEN + usize::from(planes) * LISTED_LEN + buffer.len() * MESSAGE_LEN
 }
 
-/// The same, where few addresses are in use: some chips at a time are laid out near.
-fn push_chips<const N: usize, const CAP: usize>(
+/// What an image has of each chip, by number, where few addresses are in use: some chips at a time are laid out near.
+pub(crate) fn send_chips<const N: usize, const CAP: usize, O: Sink>(
     text: &mut Vec<u8>,
+    sink: &mut O,
     machine: &Machine<N, CAP>,
     counts: &[u16],
     addresses: &[u16],
     tile: &mut Run,
-) -> Result<(), NoMemory>
+    piece: usize,
+) -> Result<(), DumpFault>
     requires dimension { N ≤ 12 }
     requires room { CAP ≤ 15 }
     requires counts { AreCounted (2 ^ N) machine.now.machine.chips 4096 counts.now }
     requires in_use { AreInUse (2 ^ N) machine.now.machine.chips 4096 addresses.now }
     requires tile { length tile.old ≡ 64 }
-    ensures ok { OnOk result (text.new.items
-        ≡ text.old.items ++ flat_map chip_text (image_of N machine.now.machine).chips) }
+    requires working { O.has_failed sink.old ≡ false }
+    ensures ok { OnOk result (GoesOut (O.contents sink.old) (O.contents sink.new)
+        (text.old.items ++ chips_text machine.now.machine 0 (2 ^ N)) text.new.items) }
+    ensures err { IfErr result (λ _. GoesOutInPart (O.contents sink.old) (O.contents sink.new)
+        (text.old.items ++ chips_text machine.now.machine 0 (2 ^ N))) }
+    ensures failed { O.has_failed sink.new ≡ is_write result }
 {
     let count = chip_count::<N>();
     let mut first = 0;
     while first < count {
         let some = TILE.min(count - first);
         machine.lay_out(first, some, tile);
-        push_tile(text, machine, counts, addresses, tile, first, some)?;
-        first += some;
+        match send_tile(
+            text, sink, machine, counts, addresses, tile, first, some, piece,
+        ) {
+            Ok(()) => first += some,
+            Err(fault) => return Err(fault),
+        }
     }
     Ok(())
 }
 
 /// What it has of so many chips, from `first` on, which lie at the front of a tile.
-fn push_tile<const N: usize, const CAP: usize>(
+fn send_tile<const N: usize, const CAP: usize, O: Sink>(
     text: &mut Vec<u8>,
+    sink: &mut O,
     machine: &Machine<N, CAP>,
     counts: &[u16],
     addresses: &[u16],
     tile: &Run,
     first: u16,
     some: u16,
-) -> Result<(), NoMemory>
+    piece: usize,
+) -> Result<(), DumpFault>
     requires room { CAP ≤ 15 }
     requires counts { AreCounted (2 ^ N) machine.now.machine.chips 4096 counts.now }
     requires in_use { AreInUse (2 ^ N) machine.now.machine.chips 4096 addresses.now }
@@ -182,13 +212,24 @@ fn push_tile<const N: usize, const CAP: usize>(
     requires within { first + some < 65536 }
     requires few { some ≤ length tile.now }
     requires tile { (c : ℕ) → c < some → chip_at tile.now c ≡ chip_at machine.now.machine.chips (first + c) }
-    ensures ok { OnOk result (text.new.items ≡ text.old.items ++ chips_text machine.now.machine first some) }
+    requires working { O.has_failed sink.old ≡ false }
+    ensures ok { OnOk result (GoesOut (O.contents sink.old) (O.contents sink.new)
+        (text.old.items ++ chips_text machine.now.machine first some) text.new.items) }
+    ensures err { IfErr result (λ _. GoesOutInPart (O.contents sink.old) (O.contents sink.new)
+        (text.old.items ++ chips_text machine.now.machine first some)) }
+    ensures failed { O.has_failed sink.new ≡ is_write result }
 {
     for c in 0..some {
         let number = first + c;
         let buffer = machine.buffer(number);
         let planes = counts[usize::from(number)];
-        push_chip(text, &tile.view(c), planes, addresses, buffer)?;
+        let Ok(()) = push_chip(text, &tile.view(c), planes, addresses, buffer) else {
+            return Err(DumpFault::Memory);
+        };
+        match send_full(text, sink, piece) {
+            Ok(()) => {}
+            Err(fault) => return Err(fault),
+        }
     }
     Ok(())
 }

@@ -12,6 +12,7 @@ mod loads;
 mod messages;
 mod numbers;
 mod pieces;
+mod sending;
 mod sourced;
 mod tile;
 
@@ -21,4 +22,5 @@ pub use dumps::dump;
 pub use header::shape;
 pub use loads::load;
 pub use pieces::{SourceFault, take_rest};
+pub use sending::{DumpFault, DumpRoom, dump_into};
 pub use sourced::{load_source, shapes_go_on};

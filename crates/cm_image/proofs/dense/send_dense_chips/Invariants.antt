@@ -1,0 +1,16 @@
+use Rattle.std.proofs.Common.{◌≡◌, ◌-◌, ◌≤◌, ◌++◌, false, length}
+use Rattle.cm_image.specs.Planes.{chips_text}
+use Rattle.cm_image.specs.Sending.{GoesOut}
+use Rattle.cm_image.proofs.dense.send_dense_chips.Given as goal
+
+abbrev pub invariant-loop-first : goal.invariant-loop-first
+invariant-loop-first g l = record {
+  within : l.first ≤ l.count;
+  tile : length l.planes ≡ 264192;
+  gone : GoesOut (g.O.Sink.contents l.fn.sink) (g.O.Sink.contents l.sink)
+      (l.fn.text.items ++ chips_text l.machine.machine 0 l.first) l.text.items;
+  working : g.O.Sink.has_failed l.sink ≡ false;
+}
+
+abbrev pub decreases-loop-first : goal.decreases-loop-first
+decreases-loop-first g l = l.count - l.first

@@ -1,0 +1,11 @@
+use Rattle.std.proofs.Common.{◌≡◌, ◌++◌, false}
+use Rattle.cm_image.specs.Planes.{chips_text}
+use Rattle.cm_image.specs.Sending.{GoesOut}
+use Rattle.cm_image.proofs.dense.send_tile.Given as goal
+
+abbrev pub invariant-loop-c : goal.invariant-loop-c
+invariant-loop-c g l = record {
+  gone : GoesOut (g.O.Sink.contents l.fn.sink) (g.O.Sink.contents l.sink)
+      (l.fn.text.items ++ chips_text l.machine.machine l.first l.c) l.text.items;
+  working : g.O.Sink.has_failed l.sink ≡ false;
+}

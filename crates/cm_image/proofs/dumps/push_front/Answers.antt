@@ -1,0 +1,57 @@
+use Rattle.std.proofs.Common.{◌≡◌, ◌∙◌, ◌++◌, ℕ, List, ap, append_assoc}
+use Rattle.std.specs.Int.{w64}
+use Rattle.cm_model.specs.Wiring.{Routing, rule_number}
+use Rattle.cm_message.specs.Bytes.{number}
+use Rattle.cm_image_format.specs.Header.{head_text}
+use Rattle.cm_image_format.specs.Cuts.{cuts_text, version_of, head_of, routing_text}
+use Rattle.cm_image.proofs.Dumping.{grown}
+use Rattle.cm_image.proofs.Routed.{few_routed, version_told}
+use Rattle.cm_image.proofs.dumps.push_front.Goals as goal
+
+pub push_head-requires : goal.push_head-requires
+push_head-requires g c =
+    let sizes = c.clock-cycles.ensures.sizes in
+    record { dimension = sizes.dimension; room = sizes.most_room }
+
+pub push_cuts-requires : goal.push_cuts-requires
+push_cuts-requires g c =
+    let same : c.edges-cuts.result.now ≡ c.args.machine.now.machine.routing.cuts =
+    c.edges-cuts.ensures.value ∙ ap (λ (r : Routing). r.cuts) c.routing-routing.ensures.value in
+    record {
+      few = few_routed g.row.N c.args.machine.now.machine.routing c.edges-cuts.result.now
+          c.clock-cycles.ensures.sizes.dimension c.cuts_are_few.ensures c.clock-cycles.ensures.whole.routing same;
+    }
+
+pub returns : goal.returns
+returns g c =
+    let routing : Routing = c.args.machine.now.machine.routing in
+    let text : List ℕ = c.args.text.now.items in
+    let same : c.edges-cuts.result.now ≡ c.args.machine.now.machine.routing.cuts =
+    c.edges-cuts.ensures.value ∙ ap (λ (r : Routing). r.cuts) c.routing-routing.ensures.value in
+    let rule : c.routing-routing.result.now.rule ≡ c.args.machine.now.machine.routing.rule =
+    ap (λ (r : Routing). r.rule) c.routing-routing.ensures.value in
+    let version : c.version_of-version.result ≡ version_of routing =
+    version_told routing c.routing-routing.result.now.rule c.edges-cuts.result.now c.version_of-version.result
+    c.version_of-version.ensures.value rule same in
+    let head : List ℕ = head_text (head_of g.row.N g.row.CAP routing) in
+    let first : c.push_head.new.text.items ≡ text ++ head =
+    c.in_ok-push_head.ensures.ok
+    ∙ (λ i. text ++ head_text (record {
+      version = version i;
+      dimension = g.row.N;
+      room = g.row.CAP;
+      rule = rule_number (rule i);
+    })) in
+    let second : c.push_u64.new.text.items ≡ text ++ (head ++ number w64 c.args.machine.now.machine.clock) =
+    grown text head (number w64 c.args.machine.now.machine.clock) c.push_head.new.text.items c.push_u64.new.text.items
+    first
+    (c.in_ok-push_u64.ensures.ok
+    ∙ ap (λ (k : ℕ). c.push_head.new.text.items ++ number w64 k) c.clock-cycles.ensures.value) in
+    let third : c.push_cuts.new.text.items ≡ c.push_u64.new.text.items ++ routing_text routing =
+    c.in_ok-push_cuts.ensures.ok ∙ (λ i. c.push_u64.new.text.items ++ cuts_text (version i) (same i)) in
+    record {
+      ok = grown text (head ++ number w64 c.args.machine.now.machine.clock) (routing_text routing)
+          c.push_u64.new.text.items c.push_cuts.new.text.items second third
+          ∙ ap (λ (xs : List ℕ). text ++ xs)
+          (append_assoc head (number w64 c.args.machine.now.machine.clock) (routing_text routing));
+    }

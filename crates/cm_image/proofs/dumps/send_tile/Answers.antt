@@ -1,0 +1,84 @@
+use Rattle.std.proofs.Common.{◌≡◌, ◌<◌, ◌≤◌, ◌+◌, ◌++◌, ◌^◌, ℕ, List, length, get_or, refl, sym, ap, ◌∙◌, subst}
+use Rattle.std.proofs.Common.{arith}
+use Rattle.std.specs.List.{flat_map}
+use Rattle.cm_model.specs.Processor.{Processor}
+use Rattle.cm_model.specs.Array.{chip_at, list_at}
+use Rattle.cm_image_format.specs.Image.{chip_text}
+use Rattle.cm_image_format.specs.Whole.{image_of_chip}
+use Rattle.cm_image.specs.Planes.{chips_text, planes_below, listed_below, listing_at}
+use Rattle.cm_image.specs.Sending.{GoesOut}
+use Rattle.cm_image.proofs.Leaving.{chips_start, chip_waits, goes_on, goes_cut, part_of_chips, stops}
+use Rattle.cm_image.proofs.dumps.send_tile.Goals as goal
+
+pub loop-c-init : goal.loop-c-init
+loop-c-init g c = record {
+  gone = chips_start c.args.machine.now.machine c.args.text.now.items (g.O.Sink.contents c.args.sink.now) c.args.first;
+  working = c.requires.working;
+}
+
+pub push_chip-requires : goal.push_chip-requires
+push_chip-requires g c =
+    let number : ℕ = c.args.first + c.loop-c.c in
+    let below : number < 2 ^ g.row.N = omega (arith, c.requires.chips, c.loop-c-test.true) in
+    let room : length (list_at c.args.machine.now.machine.buffers number) ≤ g.row.CAP =
+    c.buffer-buffer.ensures.whole.room number below in
+    let same : c.view.result ≡ chip_at c.args.machine.now.machine.chips number =
+    c.view.ensures.value ∙ c.requires.tile c.loop-c.c c.loop-c-test.true in
+    record {
+      planes = ap (λ (k : ℕ). get_or c.args.counts.now k 0) c.from.ensures
+          ∙ (c.requires.counts.each number below ∙ sym (λ i. length (planes_below (same i) 4096)));
+      few = rw c.buffer-buffer.ensures.value (omega (arith, room, c.requires.room));
+      within = c.requires.in_use.within;
+      listed = subst (λ (v : List Processor). listed_below v 4096 ≡ flat_map (listing_at v) c.args.addresses.now)
+          (sym same) (c.requires.in_use.listed number below);
+    }
+
+pub loop-c-preserved : goal.loop-c-preserved
+loop-c-preserved g c =
+    let number : ℕ = c.args.first + c.loop-c.c in
+    let same : c.view.result ≡ chip_at c.args.machine.now.machine.chips number =
+    c.view.ensures.value ∙ c.requires.tile c.loop-c.c c.loop-c-test.true in
+    let waits = chip_waits c.args.machine.now.machine c.args.text.now.items c.loop-c.text.items
+    c.push_chip.new.text.items (g.O.Sink.contents c.args.sink.now) (g.O.Sink.contents c.loop-c.sink) c.args.first
+    c.loop-c.c number refl c.loop-c.invariant.gone
+    (c.in-Ok.ensures.ok
+    ∙ (λ i. c.loop-c.text.items ++ chip_text (image_of_chip (same i) (c.buffer-buffer.ensures.value i)))) in
+    record {
+      gone = goes_on (g.O.Sink.contents c.args.sink.now) (g.O.Sink.contents c.loop-c.sink)
+          (g.O.Sink.contents c.send_full.new.sink) _ c.push_chip.new.text.items c.send_full.new.text.items waits
+          c.in-Ok-send_full.ensures.ok;
+      working = c.in-Ok-send_full.ensures.failed;
+    }
+
+pub returns-in_default-clause-err : goal.returns-in_default-clause-err
+returns-in_default-clause-err g c =
+    part_of_chips c.args.machine.now.machine c.args.text.now.items (g.O.Sink.contents c.args.sink.now)
+    (g.O.Sink.contents c.loop-c.sink) c.args.first c.loop-c.c c.args.some (omega (arith, c.loop-c-test.true))
+    (stops (g.O.Sink.contents c.args.sink.now) (g.O.Sink.contents c.loop-c.sink) _ c.loop-c.text.items
+    c.loop-c.invariant.gone)
+
+pub returns-in-Err-clause-err : goal.returns-in-Err-clause-err
+returns-in-Err-clause-err g c =
+    let number : ℕ = c.args.first + c.loop-c.c in
+    let same : c.view.result ≡ chip_at c.args.machine.now.machine.chips number =
+    c.view.ensures.value ∙ c.requires.tile c.loop-c.c c.loop-c-test.true in
+    let waits = chip_waits c.args.machine.now.machine c.args.text.now.items c.loop-c.text.items
+    c.push_chip.new.text.items (g.O.Sink.contents c.args.sink.now) (g.O.Sink.contents c.loop-c.sink) c.args.first
+    c.loop-c.c number refl c.loop-c.invariant.gone
+    (c.in-Ok.ensures.ok
+    ∙ (λ i. c.loop-c.text.items ++ chip_text (image_of_chip (same i) (c.buffer-buffer.ensures.value i)))) in
+    part_of_chips c.args.machine.now.machine c.args.text.now.items (g.O.Sink.contents c.args.sink.now)
+    (g.O.Sink.contents c.send_full.new.sink) c.args.first (c.loop-c.c + 1) c.args.some (omega (arith, c.loop-c-test.true))
+    (goes_cut (g.O.Sink.contents c.args.sink.now) (g.O.Sink.contents c.loop-c.sink)
+    (g.O.Sink.contents c.send_full.new.sink) _ c.push_chip.new.text.items waits c.in-Err.ensures.err)
+
+pub returns : goal.returns
+returns g c =
+    let all : c.loop-c.c ≡ c.args.some = omega arith in
+    record {
+      ok = subst (λ (k : ℕ). GoesOut (g.O.Sink.contents c.args.sink.now) (g.O.Sink.contents c.loop-c.sink)
+          (c.args.text.now.items ++ chips_text c.args.machine.now.machine c.args.first k) c.loop-c.text.items) all
+          c.loop-c.invariant.gone;
+      err = tt;
+      failed = c.loop-c.invariant.working;
+    }

@@ -1,0 +1,215 @@
+//! Writing the bytes of a machine to a sink, piece by piece.
+
+ghost use Rattle.std.specs.Prelude.{◌≡◌, ℕ, ◌++◌, ◌^◌, ◌≤◌, [], false, length, IfOk, IfErr, OnOk};
+ghost use Rattle.std.specs.Io.KnownBytes.{Appends};
+ghost use Rattle.cm_model.specs.Keeping.{AreSizes};
+ghost use Rattle.cm_image_format.specs.Whole.{text_of};
+ghost use Rattle.cm_image.specs.Planes.{AreCounted, AreInUse, chips_text};
+ghost use Rattle.cm_image.specs.Sending.{GoesOut, GoesOutInPart, IsNear, IsRoomOf, is_write};
+
+use crate::counts::{addresses_in_use, listed_planes};
+use crate::dense::{TILE_PLANES, send_dense_chips};
+use crate::dumps::{push_front, send_chips};
+use cm_array::Machine;
+use cm_bits::{NoMemory, Plane, Sink, write_all};
+use cm_element::Run;
+use std::alloc::Global;
+use thiserror::Error;
+
+/// So many bytes wait before they go out: a cache holds them beside the chips that stand near.
+const PIECE: usize = 131072;
+
+/// With the next chip no more than so many bytes wait.
+const WAITING: usize = 163840;
+
+/// From so many addresses in use on, planes are written near chip by chip, those of all addresses.
+const DENSE: usize = 1024;
+
+/// So many chips at a time are laid out near: 512 KB, which a cache holds while they are written.
+pub(crate) const TILE: u16 = 64;
+
+/// Why an image was not written to its end.
+#[derive(Clone, Copy, Debug, PartialEq, Eq, Error)]
+pub enum DumpFault {
+    #[error("a write failed")]
+    Write,
+    #[error("a growth of memory was refused")]
+    Memory,
+}
+
+/// What writing the image of a machine takes of memory: how many planes of each chip are listed and at which addresses,
+/// where some chips stand near, and the bytes that wait.
+#[derive(Drop)]
+pub struct DumpRoom {
+    pub(crate) counts: Vec<u16>,
+    pub(crate) addresses: Vec<u16>,
+    pub(crate) near: Near,
+    text: Vec<u8>,
+}
+
+/// Where some chips at a time stand near.
+#[derive(Drop)]
+pub(crate) enum Near {
+    Chips(Run),
+    Planes(Vec<Plane>),
+}
+
+impl DumpRoom {
+    /// The room for the image of this machine.
+    pub fn of<const N: usize, const CAP: usize>(
+        alloc: Global,
+        machine: &Machine<N, CAP>,
+    ) -> Result<DumpRoom, NoMemory>
+        ensures value { IfOk result (IsRoomOf N machine.now.machine) }
+    {
+        let DumpRoom {
+            counts,
+            addresses,
+            near,
+            ..
+        } = DumpRoom::without_text(alloc, machine)?;
+        let text = Vec::with_capacity(alloc, WAITING)?;
+        Ok(DumpRoom {
+            counts,
+            addresses,
+            near,
+            text,
+        })
+    }
+
+    /// The same, but none for bytes that wait.
+    pub(crate) fn without_text<const N: usize, const CAP: usize>(
+        alloc: Global,
+        machine: &Machine<N, CAP>,
+    ) -> Result<DumpRoom, NoMemory>
+        ensures value { IfOk result (IsRoomOf N machine.now.machine) }
+    {
+        sizes(machine);
+        let counts = listed_planes(alloc, machine)?;
+        let addresses = addresses_in_use(alloc, machine)?;
+        let near = room_near(alloc, addresses.len())?;
+        Ok(DumpRoom {
+            counts,
+            addresses,
+            near,
+            text: Vec::new(alloc),
+        })
+    }
+}
+
+/// A machine has at most 4,096 chips, with room for at most 15 messages each.
+pub(crate) fn sizes<const N: usize, const CAP: usize>(machine: &Machine<N, CAP>)
+    ensures { AreSizes N CAP }
+{
+    let _ = machine.clock();
+}
+
+/// Room for some chips of a machine in which memory has so many rows.
+fn room_near(alloc: Global, rows: usize) -> Result<Near, NoMemory>
+    ensures value { IfOk result IsNear }
+{
+    if rows >= DENSE {
+        return Ok(Near::Planes(vec![in alloc; 0; TILE_PLANES]?));
+    }
+    Ok(Near::Chips(Run::blank(alloc, TILE)?))
+}
+
+/// Writes the image of a machine, its one text, piece by piece. Its logs are not in it.
+pub fn dump_into<const N: usize, const CAP: usize, O: Sink>(
+    machine: &Machine<N, CAP>,
+    room: DumpRoom,
+    sink: &mut O,
+) -> Result<(), DumpFault>
+    requires room { IsRoomOf N machine.now.machine room }
+    requires working { O.has_failed sink.old ≡ false }
+    ensures ok { OnOk result (Appends (O.contents sink.old) (O.contents sink.new) (text_of N CAP machine.now.machine)) }
+    ensures err { IfErr result (λ _. GoesOutInPart (O.contents sink.old) (O.contents sink.new)
+        (text_of N CAP machine.now.machine)) }
+    ensures failed { O.has_failed sink.new ≡ is_write result }
+{
+    sizes(machine);
+    let DumpRoom {
+        counts,
+        addresses,
+        near,
+        mut text,
+    } = room;
+    let Ok(()) = push_front(&mut text, machine) else {
+        return Err(DumpFault::Memory);
+    };
+    match send_all_chips(&mut text, sink, machine, &counts, &addresses, near, PIECE) {
+        Ok(()) => send_out(&mut text, sink),
+        Err(fault) => Err(fault),
+    }
+}
+
+/// What an image has of each chip, by number, behind what waits, which goes out whenever so many bytes wait.
+pub(crate) fn send_all_chips<const N: usize, const CAP: usize, O: Sink>(
+    text: &mut Vec<u8>,
+    sink: &mut O,
+    machine: &Machine<N, CAP>,
+    counts: &[u16],
+    addresses: &[u16],
+    near: Near,
+    piece: usize,
+) -> Result<(), DumpFault>
+    requires dimension { N ≤ 12 }
+    requires room { CAP ≤ 15 }
+    requires counts { AreCounted (2 ^ N) machine.now.machine.chips 4096 counts.now }
+    requires in_use { AreInUse (2 ^ N) machine.now.machine.chips 4096 addresses.now }
+    requires near { IsNear near }
+    requires working { O.has_failed sink.old ≡ false }
+    ensures ok { OnOk result (GoesOut (O.contents sink.old) (O.contents sink.new)
+        (text.old.items ++ chips_text machine.now.machine 0 (2 ^ N)) text.new.items) }
+    ensures err { IfErr result (λ _. GoesOutInPart (O.contents sink.old) (O.contents sink.new)
+        (text.old.items ++ chips_text machine.now.machine 0 (2 ^ N))) }
+    ensures failed { O.has_failed sink.new ≡ is_write result }
+{
+    match near {
+        Near::Chips(mut tile) => send_chips(
+            text, sink, machine, counts, addresses, &mut tile, piece,
+        ),
+        Near::Planes(mut planes) => send_dense_chips(
+            text,
+            sink,
+            machine,
+            counts,
+            &mut planes,
+            piece,
+        ),
+    }
+}
+
+/// Lets what waits go out, once so many bytes do.
+pub(crate) fn send_full<O: Sink>(
+    text: &mut Vec<u8>,
+    sink: &mut O,
+    piece: usize,
+) -> Result<(), DumpFault>
+    requires working { O.has_failed sink.old ≡ false }
+    ensures ok { OnOk result (GoesOut (O.contents sink.old) (O.contents sink.new) text.old.items text.new.items) }
+    ensures err { IfErr result (λ _. GoesOutInPart (O.contents sink.old) (O.contents sink.new) text.old.items) }
+    ensures failed { O.has_failed sink.new ≡ is_write result }
+{
+    if text.len() < piece {
+        return Ok(());
+    }
+    send_out(text, sink)
+}
+
+/// Lets all go out that waits.
+fn send_out<O: Sink>(text: &mut Vec<u8>, sink: &mut O) -> Result<(), DumpFault>
+    requires working { O.has_failed sink.old ≡ false }
+    ensures ok { OnOk result (GoesOut (O.contents sink.old) (O.contents sink.new) text.old.items text.new.items) }
+    ensures all { OnOk result (text.new.items ≡ []) }
+    ensures err { IfErr result (λ _. GoesOutInPart (O.contents sink.old) (O.contents sink.new) text.old.items) }
+    ensures failed { O.has_failed sink.new ≡ is_write result }
+{
+    match write_all(sink, text.as_slice()) {
+        Ok(()) => {
+            text.clear();
+            Ok(())
+        }
+        Err(_) => Err(DumpFault::Write),
+    }
+}
