@@ -39,7 +39,7 @@ impl Call for Grown {
 }
 
 /// Two chips, room for one message, counter 1; a plane and a message at the first.
-static TWO_CHIPS: [u8; 108] = [
+pub static TWO_CHIPS: [u8; 108] = [
     0x43, 0x4d, 0x31, 0x49, 1, 1, 1, 0, 0, 0, 0, 0, 0, 0, 0, 1, 0, 0, 0, 0, 0, 0, 0, 0, 0, 0, 0, 0,
     0, 0, 0, 0, 0, 0, 0, 0, 0, 0, 0, 0, 0, 0, 0, 0, 0, 0, 0, 0, 0, 1, 0, 5, 0x80, 1, 1, 0, 1, 5, 1,
     2, 3, 4, 0, 0, 0, 0, 0, 0, 0, 0, 0, 0, 0, 0, 0, 0, 0, 0, 0, 0, 0, 0, 0, 0, 0, 0, 0, 0, 0, 0, 0,

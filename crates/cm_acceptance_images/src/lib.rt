@@ -16,4 +16,6 @@ mod reader;
 #[cfg(test)]
 mod routes;
 #[cfg(test)]
+mod sent;
+#[cfg(test)]
 mod texts;
