@@ -1,0 +1,62 @@
+//! Calls of cm_front.
+
+ghost use Rattle.std.specs.Prelude.{◌≡◌, ◌↔◌, cond, false, true, IsErrOf, MatchResult, OnErr, OnOk};
+ghost use Rattle.std.specs.Io.KnownBytes.{IsAtEnd};
+ghost use Rattle.cm_array.specs.Faults.{one_more_lacked};
+ghost use Rattle.cm_session.specs.Ends.{is_write};
+ghost use Rattle.cm_debug.specs.Telling.{is_thread};
+ghost use Rattle.cm_front.specs.Front.{front_of, after_line};
+ghost use Rattle.cm_front.specs.Ends.{Ends};
+
+use cm_array::{Machine, Runner};
+use cm_bits::{Sink, Source};
+use cm_debug::Want;
+use cm_front::{FrontEnd, SessionFault};
+use std::alloc::Global;
+
+/// What `cm_front::front` promises, word for word.
+pub fn front<const N: usize, const CAP: usize, R: Runner<N, CAP>, I: Source, O: Sink>(
+    alloc: Global,
+    machine: &mut Machine<N, CAP>,
+    commands: &mut I,
+    out: &mut O,
+    runner: &mut R,
+) -> Result<(), SessionFault>
+    requires runner { R.ready }
+    requires reader { I.has_failed commands.old ≡ false }
+    requires writer { O.has_failed out.old ≡ false }
+    ensures ends { Ends N CAP (I.left commands.old) (I.left commands.new) machine.old.machine (O.contents out.old)
+        machine.new.machine (O.contents out.new) result }
+    ensures end { OnOk result (IsAtEnd (I.left commands.new)) }
+    ensures read { (I.has_failed commands.new ≡ true) ↔ IsErrOf result SessionFault.Read }
+    ensures write { O.has_failed out.new ≡ is_write result }
+    ensures thread { OnOk result (R.threads_lacked runner.new ≡ R.threads_lacked runner.old) }
+    ensures no_thread { IsErrOf result SessionFault.NoThread
+        → R.threads_lacked runner.new ≡ one_more_lacked (R.threads_lacked runner.old) }
+    ensures memory { IsErrOf result SessionFault.Memory → R.threads_lacked runner.new ≡ R.threads_lacked runner.old }
+{
+    cm_front::front(alloc, machine, commands, out, runner)
+}
+
+/// What `tell` of `cm_front::FrontEnd` promises, word for word.
+pub fn tell<const N: usize, const CAP: usize, R: Runner<N, CAP>>(
+    front: &mut FrontEnd,
+    alloc: Global,
+    machine: &mut Machine<N, CAP>,
+    runner: &mut R,
+    line: &[u8],
+    text: &mut Vec<u8>,
+) -> Result<(), Want>
+    requires runner { R.ready }
+    ensures answer { OnOk result (text.new.items
+        ≡ (after_line N CAP (front_of machine.old.machine front.old) line.now).answer) }
+    ensures front { OnOk result (front_of machine.new.machine front.new
+        ≡ (after_line N CAP (front_of machine.old.machine front.old) line.now).front) }
+    ensures err { OnErr result (machine.new.machine ≡ machine.old.machine) }
+    ensures thread { MatchResult result
+        (λ _. R.threads_lacked runner.new ≡ R.threads_lacked runner.old)
+        (λ want. R.threads_lacked runner.new
+        ≡ cond (is_thread want) (one_more_lacked (R.threads_lacked runner.old)) (R.threads_lacked runner.old)) }
+{
+    front.tell(alloc, machine, runner, line, text)
+}

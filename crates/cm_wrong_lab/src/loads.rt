@@ -1,0 +1,36 @@
+//! Calls of cm_load.
+
+ghost use Rattle.std.specs.Prelude.{◌≡◌, ◌≢◌, ◌∷◌, [], ◌≤◌, None, Some, MatchOption, IfOk, IfErr};
+ghost use Rattle.cm_model.specs.Keeping.{AreSizes};
+ghost use Rattle.cm_load.specs.Tables.{table_of};
+ghost use Rattle.cm_load.specs.Trials.{trial_fault, AreFiguresOf};
+
+use cm_bits::NoMemory;
+use cm_load::{Figures, LoadFault, Trial};
+use std::alloc::Global;
+
+/// What `fault` of `cm_load::Trial` promises, word for word.
+pub fn fault(trial: &Trial, rates: &[u16]) -> Option<LoadFault>
+    ensures value { result ≡ trial_fault trial.now rates.now }
+    ensures sizes { MatchOption result (AreSizes trial.now.n trial.now.room) (λ fault. Unit {0}) }
+    ensures few { MatchOption result (trial.now.cycles ≤ 1000000) (λ fault. Unit {0}) }
+{
+    trial.fault(rates)
+}
+
+/// What `figures` of `cm_load::Trial` promises, word for word.
+pub fn figures(trial: &Trial, alloc: Global, rate: u16) -> Result<Figures, LoadFault>
+    ensures value { IfOk result (λ figures. AreFiguresOf trial.now rate figures) }
+    ensures accepted { IfOk result (λ figures. trial_fault trial.now (rate ∷ []) ≡ None) }
+    ensures refused { IfErr result (λ fault. fault ≢ LoadFault.Memory
+        → trial_fault trial.now (rate ∷ []) ≡ Some fault) }
+{
+    trial.figures(alloc, rate)
+}
+
+/// What `cm_load::table` promises, word for word.
+pub fn table(alloc: Global, loads: &[Figures]) -> Result<Vec<u8>, NoMemory>
+    ensures value { IfOk result (λ text. text.items ≡ table_of loads.now) }
+{
+    cm_load::table(alloc, loads)
+}

@@ -1,0 +1,40 @@
+//! Calls of cm_study.
+
+ghost use Rattle.std.specs.Prelude.{◌≡◌, ◌≢◌, Ok, Err, IfOk, IfErr};
+ghost use Rattle.cm_study.specs.Routes.{route_of};
+ghost use Rattle.cm_study.specs.Study.{table_of};
+
+use cm_array::Machine;
+use cm_model::{Act, Tag};
+use cm_study::{RouteFault, StudyFault, Table, Watch};
+use std::alloc::Global;
+
+/// What `cm_study::study` promises, word for word.
+pub fn study<const N: usize, const CAP: usize, W: Watch>(
+    alloc: Global,
+    machine: &mut Machine<N, CAP>,
+    acts: &[Act],
+    table: Table,
+    watch: &mut W,
+) -> Result<Vec<u8>, StudyFault>
+    ensures value { IfOk result (λ text. table_of N CAP table machine.old.machine acts.now ≡ Ok text.items) }
+    ensures refused { IfErr result (λ fault. fault ≢ StudyFault.Memory
+        → table_of N CAP table machine.old.machine acts.now ≡ Err fault) }
+{
+    cm_study::study(alloc, machine, acts, table, watch)
+}
+
+/// What `cm_study::route` promises, word for word.
+pub fn route<const N: usize, const CAP: usize, W: Watch>(
+    alloc: Global,
+    machine: &mut Machine<N, CAP>,
+    acts: &[Act],
+    tag: Tag,
+    watch: &mut W,
+) -> Result<Vec<u8>, RouteFault>
+    ensures value { IfOk result (λ text. route_of N CAP tag machine.old.machine acts.now ≡ Ok text.items) }
+    ensures refused { IfErr result (λ fault. fault ≢ RouteFault.Memory
+        → route_of N CAP tag machine.old.machine acts.now ≡ Err fault) }
+{
+    cm_study::route(alloc, machine, acts, tag, watch)
+}

@@ -1,0 +1,64 @@
+//! Calls of cm_figures.
+
+ghost use Rattle.std.specs.Prelude.{◌≡◌, ◌≢◌, ◌*◌, ◌<◌, ◌≤◌, Ok, Err, IfOk, IfErr, length};
+ghost use Rattle.std.specs.List.{All};
+ghost use Rattle.cm_figures.specs.Numbers.{numbers_in};
+ghost use Rattle.cm_figures.specs.PictureReading.{picture_in};
+ghost use Rattle.cm_figures.specs.Pictures.{seen, picture_text};
+ghost use Rattle.cm_figures.specs.Png.{png_of};
+
+use cm_bits::NoMemory;
+use cm_figures::{Form, NumbersFault, Picture, PictureFault};
+use std::alloc::Global;
+
+/// What `cm_figures::read_numbers` promises, word for word.
+pub fn read_numbers(
+    alloc: Global,
+    text: &[u8],
+    len: u16,
+    count: usize,
+) -> Result<Vec<u64>, NumbersFault>
+    requires narrow { len ≤ 64 }
+    ensures value { IfOk result (λ numbers. numbers_in len count text.now ≡ Ok numbers.items) }
+    ensures count { IfOk result (λ numbers. length numbers.items ≡ count) }
+    ensures refused { IfErr result (λ fault. fault ≢ NumbersFault.Memory → numbers_in len count text.now ≡ Err fault) }
+{
+    cm_figures::read_numbers(alloc, text, len, count)
+}
+
+/// What `cm_figures::read_picture` promises, word for word.
+pub fn read_picture(
+    alloc: Global,
+    text: &[u8],
+    width: u16,
+    height: u16,
+) -> Result<Picture, PictureFault>
+    requires some { 0 < width }
+    ensures value { IfOk result (λ picture. picture_in width height text.now ≡ Ok (seen picture)) }
+    ensures count { IfOk result (λ picture. length picture.dots.items ≡ height * width) }
+    ensures within { IfOk result (λ picture. All (λ dot. dot ≤ picture.greatest) picture.dots.items) }
+    ensures refused { IfErr result (λ fault. fault ≢ PictureFault.Memory
+        → picture_in width height text.now ≡ Err fault) }
+{
+    cm_figures::read_picture(alloc, text, width, height)
+}
+
+/// What `cm_figures::write_picture` promises, word for word.
+pub fn write_picture(alloc: Global, picture: &Picture, form: Form) -> Result<Vec<u8>, NoMemory>
+    requires some { 0 < picture.now.width }
+    requires dots { length picture.now.dots.items ≡ picture.now.height * picture.now.width }
+    ensures value { IfOk result (λ text. text.items ≡ picture_text form (seen picture.now)) }
+{
+    cm_figures::write_picture(alloc, picture, form)
+}
+
+/// What `cm_figures::write_png` promises, word for word.
+pub fn write_png(alloc: Global, picture: &Picture) -> Result<Vec<u8>, NoMemory>
+    requires dots { length picture.now.dots.items ≡ picture.now.height * picture.now.width }
+    ensures value { IfOk result (λ text. text.items ≡ png_of (seen picture.now)) }
+{
+    match cm_figures::write_png(alloc, picture) {
+        Ok(text) => Ok(text),
+        Err(fault) => Err(fault),
+    }
+}
