@@ -1,6 +1,6 @@
 -- A plane of flags is 0 just where no processor of the chip has the flag, and so all planes of a run.
-use Rattle.std.proofs.Common.{◌≡◌, ℕ, ◌^◌, ◌<◌, ◌==◌, suc, Bool, true, false, not, ◌||◌, List, [], ◌∷◌, length, get_or}
-use Rattle.std.proofs.Common.{bit_or, refl, ap, ◌∙◌, sym, arith, eq-eqb, ne_eqb, w16}
+use Rattle.std.proofs.Common.{◌≡◌, ℕ, ◌+◌, ◌-◌, ◌^◌, ◌<◌, ◌≤◌, ◌==◌, suc, Bool, true, false, not, ◌||◌, List, [], ◌∷◌, length}
+use Rattle.std.proofs.Common.{get_or, take, drop, bit_or, refl, ap, ◌∙◌, sym, arith, eq-eqb, ne_eqb, w16}
 use Rattle.std.specs.Int.{bit_at, trailing_zeros}
 use Rattle.std.specs.List.{list_any}
 use Rattle.std.proofs.lemmas.Bool.{eqb-true, eqb-false}
@@ -12,6 +12,7 @@ use Rattle.cm_model.specs.Processor.{Processor, flag}
 use Rattle.cm_model.specs.Chip.{IsPlane, processor_at, no_processor}
 use Rattle.cm_model.proofs.Bits.{bit-zero}
 use Rattle.cm_element.specs.Flags.{has_flag}
+use Rattle.cm_element.proofs.Laying.{get_or-part, length-part}
 
 -- where the test fails at each index, nothing passes it
 none_passes : {X : Type 0} (test : X → Bool) (d : X) (xs : List X)
@@ -60,3 +61,22 @@ list_any-same p q d e (x ∷ xs) [] long same = absurd (omega (arith, long))
 list_any-same p q d e (x ∷ xs) (y ∷ ys) long same =
     (λ j. same 0 (omega arith) j
     || list_any-same p q d e xs ys (omega (arith, long)) (λ i h. same (suc i) (omega arith)) j)
+
+-- where no plane of a part of a list has a 1, each of them is 0
+pub none_in_part : (planes : List ℕ) (at end i : ℕ) → at + i < end → end ≤ length planes
+    → list_any (λ plane. not (plane == 0)) (take (end - at) (drop at planes)) ≡ false → get_or planes (at + i) 0 ≡ 0
+none_in_part planes at end i below inside none = by (get_or planes (at + i) 0 == 0) refl where
+  part : List ℕ
+  part = take (end - at) (drop at planes)
+
+  here : get_or part i 0 ≡ get_or planes (at + i) 0
+  here = get_or-part planes at end (end - at) i refl (omega arith)
+
+  by : (zero : Bool) → (get_or planes (at + i) 0 == 0) ≡ zero → get_or planes (at + i) 0 ≡ 0
+  by true is = eqb-true (get_or planes (at + i) 0) 0 is
+  by false is =
+      let long : length part ≡ end - at = length-part planes at end (end - at) refl (omega arith) in
+      let some : list_any (λ plane. not (plane == 0)) part ≡ true =
+      list_any_at (λ plane. not (plane == 0)) part i 0 (omega arith)
+      (ap (λ (n : ℕ). not (n == 0)) here ∙ ap not is) in
+      absurd cc

@@ -62,6 +62,21 @@ laid_more here there row count from old new part wide put part_is before =
     part_is c few ∙ ap (λ (k : ℕ). get_or from k 0) source)
     before
 
+-- rows that are zeros here and there need not be laid
+pub laid_over : (here there : Band) (row end count : ℕ) (from now : List ℕ)
+    → here.first + count ≤ here.stride → there.first + count ≤ there.stride
+    → ((i c : ℕ) → row ≤ i → i < end → c < here.stride → get_or now (i * here.stride + c) 0 ≡ 0)
+    → ((i c : ℕ) → row ≤ i → i < end → c < there.stride → get_or from (i * there.stride + c) 0 ≡ 0)
+    → ((i c : ℕ) → i < row → c < count
+    → get_or now (i * here.stride + (here.first + c)) 0 ≡ get_or from (i * there.stride + (there.first + c)) 0)
+    → (i c : ℕ) → i < end → c < count
+    → get_or now (i * here.stride + (here.first + c)) 0 ≡ get_or from (i * there.stride + (there.first + c)) 0
+laid_over here there row end count from now wide wide_there none none_there before i c below few = ⊎_elim
+    (λ (l : i < row). before i c l few)
+    (λ (l : row ≤ i). none i (here.first + c) l below (omega arith)
+    ∙ sym (none_there i (there.first + c) l below (omega arith)))
+    (cases_lt i row)
+
 -- and the other words stay
 pub others_more : (here : Band) (row count : ℕ) (first old new part : List ℕ) → here.first + count ≤ here.stride
     → IsPutAt (row * here.stride + here.first) count part old new

@@ -1,5 +1,5 @@
 -- Rows that are kept in slots, and all rows that they stand for.
-use Rattle.std.proofs.Common.{◌≡◌, ◌≢◌, ◌⊎◌, inl, inr, ℕ, zero, suc, ◌+◌, ◌*◌, ◌/◌, ◌%◌, ◌<◌, ◌≤◌, ◌^◌, List, [], ◌∷◌}
+use Rattle.std.proofs.Common.{◌≡◌, ◌≢◌, ◌⊎◌, inl, inr, ℕ, zero, suc, ◌+◌, ◌-◌, ◌*◌, ◌/◌, ◌%◌, ◌<◌, ◌≤◌, ◌^◌, List, [], ◌∷◌}
 use Rattle.std.proofs.Common.{length, get_or, set, replicate, refl, sym, ap, ◌∙◌, ⊎_elim, arith, ext_get_or}
 use Rattle.std.proofs.Common.{get_or-set_same, get_or-set_other, length-set}
 use Rattle.std.proofs.Math.Nat.{mod-lt}
@@ -441,3 +441,22 @@ zero_read words slots capacity used s t i c are below none here same =
     ∙ get_or-spread words slots s i c below here
     ∙ ap (λ (n : ℕ). get_or words (n * s + c) 0) none ∙ ap (λ (k : ℕ). get_or words k 0) nothing
     ∙ are.zeros c here
+
+-- so many slots more are 0, behind those that are
+pub more_zeros : (slots : List ℕ) (from at more : ℕ) → ((i : ℕ) → from ≤ i → i < at → get_or slots i 0 ≡ 0)
+    → ((i : ℕ) → i < more → get_or slots (at + i) 0 ≡ 0) → (i : ℕ) → from ≤ i → i < at + more → get_or slots i 0 ≡ 0
+more_zeros slots from at more before behind i begun below = ⊎_elim
+    (λ (l : i < at). before i begun l)
+    (λ (l : at ≤ i). let place : i ≡ at + (i - at) = omega arith in
+    ap (λ (k : ℕ). get_or slots k 0) place ∙ behind (i - at) (omega arith))
+    (cases_lt i at)
+
+-- rows without slots of their own read 0
+pub blank_rows : (words slots rows : List ℕ) (capacity used s t from end : ℕ) → spread words slots s ≡ rows
+    → AreSlots words capacity slots used s → length rows ≡ 4096 * t → end ≤ 4096
+    → ((i : ℕ) → from ≤ i → i < end → get_or slots i 0 ≡ 0)
+    → (i c : ℕ) → from ≤ i → i < end → c < t → get_or rows (i * t + c) 0 ≡ 0
+blank_rows words slots rows capacity used s t from end seen are long most none i c begun below here =
+    let same : s ≡ t = same_stride words slots s t (ap length seen ∙ long) in
+    ap (λ (xs : List ℕ). get_or xs (i * t + c) 0) (sym seen)
+    ∙ zero_read words slots capacity used s t i c are (omega arith) (none i begun below) (omega (arith, same)) same

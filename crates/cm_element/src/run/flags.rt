@@ -44,7 +44,7 @@ impl Run {
 }
 
 /// Whether some plane has a 1. All planes are looked at, many at once.
-fn has_ones(planes: &[Plane]) -> bool
+pub(crate) fn has_ones(planes: &[Plane]) -> bool
     ensures value { result ≡ list_any (λ plane. not (plane == 0)) planes.now }
     ensures words { (c : ℕ) → slice_index planes.now c < 2 ^ 16 }
 {

@@ -10,6 +10,7 @@ ghost use Rattle.cm_element.specs.Steps.{ArePlaces, IsStored};
 ghost use Rattle.cm_element.specs.Wide.{with_memory_field};
 ghost use Rattle.cm_rows.specs.Rows.{IsComputed};
 
+use crate::run::flags::has_ones;
 use crate::run::lay::{Band, turn_row, write_row};
 use crate::run::outputs::store_row;
 use crate::run::rows::put_row;
@@ -20,6 +21,9 @@ use cm_model::Nano;
 use cm_rows::{Places, compute, compute_memory};
 use std::alloc::Global;
 use std::marker::Model;
+
+/// So many addresses are looked at at once for whether one of them has a row.
+const SHELF: usize = 64;
 
 /// A row for each address. Room for all is reserved, but a row is made when first one of its words is
 /// written: until then its address shares a row of zeros. Room that is never written costs nothing.
@@ -280,12 +284,14 @@ impl MemoryRows {
         if self.used == 1 && from.used == 1 {
             return;
         }
-        for row in 0..ADDRESSES {
+        let mut row = next_in_use(&self.slots, &from.slots, 0);
+        while row < ADDRESSES {
             self.lay_row(row, here, from, there, count);
+            row = next_in_use(&self.slots, &from.slots, row + 1);
         }
     }
 
-    /// Copies so many words of one row. Where neither has one, zeros need no copy.
+    /// Copies so many words of one row.
     fn lay_row(&mut self, row: usize, here: Band, from: &MemoryRows, there: Band, count: usize)
         requires row { row < 4096 }
         requires to { length self.old ≡ 4096 * here.stride }
@@ -296,9 +302,6 @@ impl MemoryRows {
             from.now self.old self.new }
         ensures words { length self.new ≡ length self.old }
     {
-        if from.slots[row] == 0 && self.slots[row] == 0 {
-            return;
-        }
         let words = from.row(row, there.stride, there.first + count);
         self.fill(row, here, &words[there.first..]);
     }
@@ -378,6 +381,48 @@ fn start(words: &Vec<Plane>, slots: &Vec<u16>, used: usize, stride: usize, at: u
     ensures within { result + stride ≤ length words.now.items }
 {
     usize::from(slots[at]) * stride
+}
+
+/// The first address from this one on that has a row of its own here or there; as many as there are, if none has.
+fn next_in_use(slots: &[u16], others: &[u16], from: usize) -> usize
+    requires slots { length slots.now ≡ 4096 }
+    requires others { length others.now ≡ 4096 }
+    requires from { from ≤ 4096 }
+    ensures none { (i : ℕ) → from ≤ i → i < result → slice_index slots.now i ≡ 0 }
+    ensures none_there { (i : ℕ) → from ≤ i → i < result → slice_index others.now i ≡ 0 }
+    ensures from { from ≤ result }
+    ensures most { result ≤ 4096 }
+{
+    let mut at = from;
+    while at < ADDRESSES {
+        if slots[at] != 0 || others[at] != 0 {
+            return at;
+        }
+        at += passed(slots, others, at);
+    }
+    at
+}
+
+/// How many addresses, from one on that has no row, surely have none: many at once are looked at where they begin.
+fn passed(slots: &[u16], others: &[u16], at: usize) -> usize
+    requires slots { length slots.now ≡ 4096 }
+    requires others { length others.now ≡ 4096 }
+    requires at { at < 4096 }
+    requires none { slice_index slots.now at ≡ 0 }
+    requires none_there { slice_index others.now at ≡ 0 }
+    ensures none { (i : ℕ) → i < result → slice_index slots.now (at + i) ≡ 0 }
+    ensures none_there { (i : ℕ) → i < result → slice_index others.now (at + i) ≡ 0 }
+    ensures some { 0 < result }
+    ensures within { at + result ≤ 4096 }
+{
+    if at % SHELF != 0 {
+        return 1;
+    }
+    let end = at + SHELF;
+    if has_ones(&slots[at..end]) || has_ones(&others[at..end]) {
+        return 1;
+    }
+    SHELF
 }
 
 /// Gives an address a row of its own, unless it has one. How many rows are in use then.
