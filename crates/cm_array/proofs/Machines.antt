@@ -149,6 +149,17 @@ module _ (n cap : ℕ) (at : ℕ → Machine) (long : (k : ℕ) → length (at k
       rw more (rested acts (clock + 1) none ∙ ap (λ (m : Machine). run_of n cap m acts) (ticks clock)
       ∙ sym (run_of-cons n cap (at clock) act.Cycle acts (long clock)))
 
+-- acts among which is neither an instruction nor a petit cycle change nothing
+pub looked : (n cap : ℕ) (machine : Machine) (acts : List Act) → length machine.buffers ≡ 2 ^ n
+    → list_any is_instruction acts ≡ false → cycles_in acts ≡ 0 → run_of n cap machine acts ≡ machine
+looked n cap machine [] long none still = run_of-nil n cap machine long
+looked n cap machine (act.Nano nano ∷ acts) long none still = absurd cc
+looked n cap machine (act.Sense ∷ acts) long none still =
+    run_of-cons n cap machine act.Sense acts long
+    ∙ looked n cap machine acts long none (omega (arith, still, cycles_in-append (act.Sense ∷ []) acts))
+looked n cap machine (act.Cycle ∷ acts) long none still =
+    absurd (omega (arith, still, cycles_in-append (act.Cycle ∷ []) acts))
+
 -- one log for each chip
 pub length-logs : (n cap : ℕ) (parts : Parts) → AreUnderWay n cap parts → length parts.logs.items ≡ 2 ^ n
 length-logs n cap parts h = sym (length-map parts.logs.items (λ (log : Log). log.items)) ∙ h.machine.log_count

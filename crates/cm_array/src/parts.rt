@@ -100,7 +100,13 @@ pub(crate) fn pass_time(sizes: Sizes, parts: &mut Parts, acts: &[Act], cycles: u
     ensures parts { AreParts sizes.dims sizes.room parts.new }
     ensures same { IsFalse result → parts.new ≡ parts.old }
 {
-    if has_instruction(acts) || !is_at_rest(sizes, &parts.run, &parts.crossing) {
+    if has_instruction(acts) {
+        return false;
+    }
+    if cycles == 0 {
+        return true;
+    }
+    if !is_at_rest(sizes, &parts.run, &parts.crossing) {
         return false;
     }
     parts.clock += cycles as u64;

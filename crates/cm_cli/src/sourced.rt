@@ -16,7 +16,7 @@ use cm_image::{load_source, shape, shapes_go_on, take_rest};
 use std::alloc::Global;
 
 /// So many bytes are read at first.
-const PIECE: usize = 65536;
+const PIECE: usize = 16384;
 
 /// Most bytes of an image's file.
 const IMAGE_LIMIT: u64 = 134217728;

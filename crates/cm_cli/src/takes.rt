@@ -8,7 +8,7 @@ use cm_bits::Source;
 use std::alloc::Global;
 use thiserror::Error;
 
-const PIECE: usize = 65536;
+const PIECE: usize = 16384;
 
 /// Why a source was not read to its end.
 #[derive(Clone, Copy, Debug, PartialEq, Eq, Error)]

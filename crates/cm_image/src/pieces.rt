@@ -12,8 +12,11 @@ use std::alloc::Global;
 use std::marker::Model;
 use thiserror::Error;
 
-/// So many bytes are read at a time.
-const PIECE: usize = 65536;
+/// So many bytes are read at a time: their room is written whole before the first, and is small beside any machine.
+const PIECE: usize = 16384;
+
+/// Room for so many times the bytes that came first is taken with them, so that the list grows seldom.
+const AHEAD: usize = 16;
 
 /// So many bytes stand near at most: a cache holds them beside chips that wait.
 const WIDTH: usize = 262144;
@@ -60,7 +63,7 @@ impl Window {
         ensures value { IfOk result (λ window. window ≡ front.now) }
         ensures refused { IfErr result (λ fault. fault ≡ SourceFault.Image ImageFault.Memory) }
     {
-        let Ok(mut bytes) = held(alloc, front) else {
+        let Ok(mut bytes) = held(alloc, front, WIDTH) else {
             return Err(SourceFault::Image(ImageFault::Memory));
         };
         let Ok(()) = push_zeros(&mut bytes, WIDTH - front.len()) else {
@@ -144,7 +147,7 @@ pub fn take_rest<I: Source>(
     ensures refused { IfErr result (IsStopped most (I.left source.old) (I.left source.new) (λ fault more. ⊥)) }
     ensures read { (I.has_failed source.new ≡ true) ↔ IsErrOf result SourceFault.Read }
 {
-    let Ok(mut taken) = held(alloc, front) else {
+    let Ok(mut taken) = held(alloc, front, front.len().saturating_mul(AHEAD)) else {
         return Err(SourceFault::Image(ImageFault::Memory));
     };
     let mut left = most;
@@ -158,11 +161,11 @@ pub fn take_rest<I: Source>(
     }
 }
 
-/// A list of these bytes.
-fn held(alloc: Global, front: &[u8]) -> Result<Vec<u8>, NoMemory>
+/// A list of these bytes, with room for so many in all.
+fn held(alloc: Global, front: &[u8], room: usize) -> Result<Vec<u8>, NoMemory>
     ensures value { IfOk result (λ bytes. bytes.items ≡ front.now) }
 {
-    let mut bytes = Vec::new(alloc);
+    let mut bytes = Vec::with_capacity(alloc, room)?;
     bytes.extend_from_slice(front)?;
     Ok(bytes)
 }

@@ -3,8 +3,15 @@ use Rattle.cm_model.specs.Machine.{Machine}
 use Rattle.cm_router.specs.Routes.{routing_of}
 use Rattle.cm_petit.specs.Routers.{machine_of as machine_from}
 use Rattle.cm_array.specs.Acts.{cycles_in}
-use Rattle.cm_array.proofs.Machines.{AreUnderWay-parts, AreRouters-parts, AreParts-counted, rested}
+use Rattle.cm_array.specs.Parts.{machine_of}
+use Rattle.cm_array.proofs.Machines.{AreUnderWay-parts, AreRouters-parts, AreParts-counted, looked, rested}
 use Rattle.cm_array.proofs.parts.pass_time.Goals as goal
+
+pub returns-then-cycles-eq0-clause-value : goal.returns-then-cycles-eq0-clause-value
+returns-then-cycles-eq0-clause-value c = λ yes. sym (looked c.args.sizes.dims c.args.sizes.room (machine_of c.args.parts.now)
+    c.args.acts.now c.requires.parts.machine.buffer_count
+    (sym c.has_instruction.ensures.value ∙ c.if-has_instruction.false)
+    (sym c.requires.cycles ∙ c.if-cycles-eq0.true))
 
 pub returns : goal.returns
 returns c =
