@@ -1,11 +1,12 @@
 //! In which order a session reads and writes: what was answered goes out before more is asked for, and at once.
 
-ghost use Rattle.std.specs.Prelude.{None, false};
+ghost use Rattle.std.specs.Prelude.{None, false, Unit};
 
-use cm_array::{Machine, Plain};
+use cm_array::{Machine, Plain, RunFault, Runner};
 use cm_asm::{Program, assemble};
 use cm_bits::{Failed, Sink, Source};
 use cm_debug::session;
+use cm_model::Act;
 use std::alloc::Global;
 use std::cell::Cell;
 
@@ -69,8 +70,21 @@ impl<'a> Sink for Counting<'a> {
     }
 }
 
+/// Runs acts as the plain runner does, and tells that it may want a thread.
+struct Cautious;
+
+impl<const N: usize, const CAP: usize> Runner<N, CAP> for Cautious {
+    ghost ready = { Unit {0} };
+
+    ghost threads_lacked = { λ _. 0 };
+
+    fn go(&mut self, machine: &mut Machine<N, CAP>, acts: &[Act]) -> Result<(), RunFault> {
+        Plain.go(machine, acts)
+    }
+}
+
 /// With a program of two acts: the parts that are read, and in how many calls their answers are written.
-static ORDERS: [(&[Part], usize); 4] = [
+static ORDERS: [(&[Part], usize); 5] = [
     // at a terminal: an answer stands before the next line is asked for
     (&[(b"step\n", 0), (b"flag 0 0 9\n", 5), (b"", 12)], 2),
     // byte by byte
@@ -95,18 +109,29 @@ static ORDERS: [(&[Part], usize); 4] = [
         ],
         2,
     ),
-    // acts are run when the answers before them stand
-    (&[(b"jump\n\nwire show\nstep\njump\n", 0), (b"", 22)], 2),
+    // a single act does not wait until the answers before it stand
+    (&[(b"jump\n\nwire show\nstep\njump\n", 0), (b"", 22)], 1),
+    // many do
+    (&[(b"jump\n\nwire show\nrun\njump\n", 0), (b"", 21)], 2),
 ];
 
+/// The same by a runner that may want a thread: a single act waits too.
+static CAUTIOUS: [(&[Part], usize); 1] = [(
+    &[(b"jump\n\nwire show\nstep\njump\n", 0), (b"", 22)],
+    2,
+)];
+
 /// Whether what these parts are answered comes in time, with this program on this machine.
-fn comes_in_time(
+fn comes_in_time<R: Runner<0, 7>>(
     alloc: Global,
     machine: &mut Machine<0, 7>,
     program: &Program,
     parts: &'static [Part],
     written: &Written,
-) -> bool {
+    runner: &mut R,
+) -> bool
+    requires runner { R.ready }
+{
     let mut commands = Asking {
         parts,
         next: 0,
@@ -114,24 +139,20 @@ fn comes_in_time(
         written,
     };
     let mut answers = Counting { written };
-    let end = session(
-        alloc,
-        machine,
-        program,
-        &mut commands,
-        &mut answers,
-        &mut Plain,
-    );
+    let end = session(alloc, machine, program, &mut commands, &mut answers, runner);
     end == Ok(()) && commands.in_time && commands.next == parts.len()
 }
 
 /// And in so many calls.
-fn is_in_order(
+fn is_in_order<R: Runner<0, 7>>(
     alloc: Global,
     machine: &mut Machine<0, 7>,
     parts: &'static [Part],
     calls: usize,
-) -> bool {
+    runner: &mut R,
+) -> bool
+    requires runner { R.ready }
+{
     let Ok(program) = assemble(alloc, b"set 9\nset 0\n") else {
         return false;
     };
@@ -139,13 +160,20 @@ fn is_in_order(
         calls: Cell::new(0),
         bytes: Cell::new(0),
     };
-    comes_in_time(alloc, machine, &program, parts, &written) && written.calls.get() == calls
+    comes_in_time(alloc, machine, &program, parts, &written, runner) && written.calls.get() == calls
 }
 
 /// The same on a blank machine.
-fn is_in_order_on_a_blank(alloc: Global, parts: &'static [Part], calls: usize) -> bool {
+fn is_in_order_on_a_blank<R: Runner<0, 7>>(
+    alloc: Global,
+    parts: &'static [Part],
+    calls: usize,
+    runner: &mut R,
+) -> bool
+    requires runner { R.ready }
+{
     match Machine::<0, 7>::blank(alloc) {
-        Ok(mut machine) => is_in_order(alloc, &mut machine, parts, calls),
+        Ok(mut machine) => is_in_order(alloc, &mut machine, parts, calls, runner),
         Err(_) => false,
     }
 }
@@ -154,7 +182,17 @@ fn is_in_order_on_a_blank(alloc: Global, parts: &'static [Part], calls: usize) -
 fn answers_go_out_before_more_is_asked_for(rt: HostRuntime) {
     for (i, (parts, calls)) in ORDERS.iter().enumerate() {
         assert!(rt;
-            is_in_order_on_a_blank(rt.alloc(), parts, *calls),
+            is_in_order_on_a_blank(rt.alloc(), parts, *calls, &mut Plain),
+            "in row {i}"
+        );
+    }
+}
+
+#[test]
+fn acts_that_may_want_a_thread_wait_for_answers(rt: HostRuntime) {
+    for (i, (parts, calls)) in CAUTIOUS.iter().enumerate() {
+        assert!(rt;
+            is_in_order_on_a_blank(rt.alloc(), parts, *calls, &mut Cautious),
             "in row {i}"
         );
     }

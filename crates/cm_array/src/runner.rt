@@ -1,7 +1,7 @@
 //! What makes a machine go through a list of acts, and the plain one, of one thread.
 
 ghost use Rattle.std.specs.Prelude.{◌≡◌, ◌↔◌, ◌<◌, ◌^◌, ◌+◌, ◌*◌, ◌++◌, ℕ, cond, IfOk, IsErrOf, IsFalse, IsOk, IsTrue};
-ghost use Rattle.std.specs.Prelude.{MatchResult, OnOk, OnErr, []};
+ghost use Rattle.std.specs.Prelude.{MatchResult, OnOk, OnErr, [], false};
 ghost use Rattle.cm_model.specs.Machine.{run_of};
 ghost use Rattle.cm_model.specs.Account.{account, newly_injected, SameLines};
 ghost use Rattle.cm_array.specs.Acts.{cycles_in, is_cycle, is_late, is_long};
@@ -51,6 +51,13 @@ pub trait Runner<const N: usize, const CAP: usize> {
     /// How many lists it has refused for want of a thread, counted modulo 2^64; the plain one never does.
     ghost threads_lacked: { Self → ℕ };
 
+    /// Whether it may be in want of a thread. Of one that never is, the count stays as it is.
+    fn may_want_threads(&self) -> bool
+        ensures never { result ≡ false → (before after : Self) → threads_lacked before ≡ threads_lacked after }
+    {
+        true
+    }
+
     /// Runs the acts one after another, or none of them. The account has then the lines of what was
     /// injected in addition, and no others.
     fn go(&mut self, machine: &mut Machine<N, CAP>, acts: &[Act]) -> Result<(), RunFault>
@@ -82,6 +89,14 @@ impl<const N: usize, const CAP: usize> Runner<N, CAP> for Plain {
     ghost ready = { Unit {0} };
 
     ghost threads_lacked = { plain_threads_lacked };
+
+    /// It starts none.
+    fn may_want_threads(&self) -> bool
+        ensures never { (before after : Plain) → plain_threads_lacked before ≡ plain_threads_lacked after }
+        ensures none { result ≡ false }
+    {
+        false
+    }
 
     /// Takes memory for the logs of all petit cycles in the list, before the first act, and none where
     /// each log has room for them: a petit cycle tells at most 4 + `CAP` events of a chip.

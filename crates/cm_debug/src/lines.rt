@@ -1,6 +1,6 @@
 //! Lines, and their answers.
 
-ghost use Rattle.std.specs.Prelude.{◌≡◌, ◌<◌, ◌≤◌, ◌+◌, ◌^◌, ◌++◌, ◌∷◌, [], List, ℕ, Option, true, false, length, is_err};
+ghost use Rattle.std.specs.Prelude.{◌≡◌, ◌<◌, ◌≤◌, ◌+◌, ◌^◌, ◌++◌, ◌∷◌, ◌⊎◌, [], List, ℕ, Option, true, false, length, is_err};
 ghost use Rattle.std.specs.Prelude.{cond, IfOk, IfSome, IsTrue, IsErrOf, MatchResult, OnOk, OnErr, IfErr};
 ghost use Rattle.std.specs.Io.KnownBytes.{Appends};
 ghost use Rattle.cm_model.specs.Machine as model;
@@ -24,7 +24,7 @@ use cm_model::Act;
 use cm_session::{Command, Refusal, SessionFault};
 
 /// Answers a line that has ended. A runner of threads may want one: before it is asked, the answers of other lines are
-/// written.
+/// written, and before acts that may be many.
 pub fn tell_line<const N: usize, const CAP: usize, R: Runner<N, CAP>, O: Sink>(
     machine: &mut Machine<N, CAP>,
     acts: &[Act],
@@ -58,7 +58,8 @@ pub fn tell_line<const N: usize, const CAP: usize, R: Runner<N, CAP>, O: Sink>(
 {
     machine.clock();
     let asked = read_command(line, N, acts.len());
-    match send_before(&asked, answers, out) {
+    let wants = runner.may_want_threads();
+    match send_before(&asked, wants, answers, out) {
         Ok(()) => {}
         Err(cut) => return Err(SessionFault::Write(cut.0)),
     }
@@ -68,9 +69,11 @@ pub fn tell_line<const N: usize, const CAP: usize, R: Runner<N, CAP>, O: Sink>(
     }
 }
 
-/// What is gathered is written, if a line asks for acts.
+/// What is gathered is written, if a line asks for acts that may be many, or for one before which a thread may be
+/// wanting.
 fn send_before<O: Sink>(
     asked: &Result<Option<Command>, Refusal>,
+    wants: bool,
     answers: &mut Gathered,
     out: &mut O,
 ) -> Result<(), CutOff>
@@ -79,15 +82,25 @@ fn send_before<O: Sink>(
     ensures written { OnOk result (Appends (with_gathered (O.contents out.old) answers.old)
         (with_gathered (O.contents out.new) answers.new) []) }
     ensures count { OnOk result (answered_bytes answers.new ≡ answered_bytes answers.old) }
-    ensures none { OnOk result (IsTrue (asks_for_acts asked.now) → answers.new.bytes.items ≡ []) }
+    ensures none { OnOk result (wants ≡ true → IsTrue (asks_for_acts asked.now) → answers.new.bytes.items ≡ []) }
     ensures err { IfErr result (λ cut. IsCutOff answers.old.sent answers.old.bytes.items (O.contents out.old)
         (O.contents out.new) cut.0) }
     ensures failed { O.has_failed out.new ≡ is_err result }
 {
-    if !asks_for_acts(asked) {
+    if !goes_before(asked, wants) {
         return Ok(());
     }
     answers.send(out)
+}
+
+/// Whether answers go out before such a line is answered.
+fn goes_before(asked: &Result<Option<Command>, Refusal>, wants: bool) -> bool
+    ensures acts { wants ≡ true → IsTrue (asks_for_acts asked.now) → result ≡ true }
+{
+    match asked {
+        Ok(Some(Command::Step)) => wants,
+        _ => asks_for_acts(asked),
+    }
 }
 
 /// Whether a line asks for a command that runs acts.
@@ -100,8 +113,8 @@ fn asks_for_acts(asked: &Result<Option<Command>, Refusal>) -> bool
     }
 }
 
-/// Does what was read of a line, and its answer is gathered, which is made whole first. Where acts are asked for,
-/// nothing is gathered before.
+/// Does what was read of a line, and its answer is gathered, which is made whole first. Where acts are asked for of a
+/// runner that may want a thread, nothing is gathered before.
 fn tell_asked<const N: usize, const CAP: usize, R: Runner<N, CAP>, O: Sink>(
     machine: &mut Machine<N, CAP>,
     acts: &[Act],
@@ -114,7 +127,8 @@ fn tell_asked<const N: usize, const CAP: usize, R: Runner<N, CAP>, O: Sink>(
     requires runner { R.ready }
     requires desk { IsDeskOf acts.now desk.old }
     requires operands { IfOk asked (λ command. IfSome command (IsFor N (length acts.now))) }
-    requires none { IsTrue (asks_for_acts asked) → answers.old.bytes.items ≡ [] }
+    requires none { ((before after : R) → R.threads_lacked before ≡ R.threads_lacked after)
+        ⊎ (IsTrue (asks_for_acts asked) → answers.old.bytes.items ≡ []) }
     requires writer { O.has_failed out.old ≡ false }
     requires room { answered_bytes answers.old + 2 ^ 64 < 2 ^ 128 }
     ensures session { OnOk result (session_of machine.new.machine desk.new
