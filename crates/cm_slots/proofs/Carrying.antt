@@ -1,6 +1,9 @@
 -- Rows that are rewritten lane by lane, and one chip's slots as a pass goes from row to row.
 use Rattle.std.proofs.Common.{◌≡◌, ◌≢◌, ℕ, zero, suc, ◌<◌, ◌≤◌, ◌==◌, ◌++◌, Bool, true, false, if◌then◌else◌, List, []}
-use Rattle.std.proofs.Common.{◌∷◌, length, get_or, min, refl, arith, ◌+◌, ◌*◌, set, ◌∙◌, ⊎_elim}
+use Rattle.std.proofs.Common.{◌∷◌, length, get_or, min, refl, arith, ◌+◌, ◌*◌, ◌/◌, ◌%◌, ◌^◌, set, sym, ◌∙◌, ⊎_elim}
+use Rattle.std.specs.Prelude.{bit_xor}
+use Rattle.std.specs.Int.Bits.{xor_zero_r}
+use Rattle.std.proofs.lemmas.Nat.{xor_block, xor_comm}
 use Rattle.std.proofs.lemmas.Bool.{cases_eq}
 use Rattle.std.proofs.lemmas.List.{length-append, get_or_append_left, get_or_push, get_or_past, length-set, get_or-set_same}
 use Rattle.std.proofs.lemmas.List.{get_or-set_other}
@@ -139,3 +142,19 @@ has_come xs comes slots old few taken are all = all_brought xs comes slots old f
   read : (j : ℕ) → slots j ≡ get_or (xs ++ comes ∷ []) j 0
   read zero = grind (arith, all.here)
   read (suc j) = all.passed j (omega arith)
+
+-- ---- four lanes side by side
+
+-- where the lane of the four comes from
+pub lane_of_four : (dims k j low : ℕ) → dims % 4 ≡ low → j < 4
+    → bit_xor k (dims % 64 / 4) * 4 + bit_xor low j ≡ bit_xor (k * 4 + j) (dims % 64)
+lane_of_four dims k j low is below =
+    let whole : dims % 64 / 4 * 2 ^ 2 + low ≡ dims % 64 = omega arith in
+    rw (xor_comm low j) (sym (rw whole at (xor_block 2 k (dims % 64 / 4) j low below (omega arith))))
+
+pub first_of_four : (dims k low : ℕ) → dims % 4 ≡ low
+    → bit_xor k (dims % 64 / 4) * 4 + low ≡ bit_xor (k * 4) (dims % 64)
+first_of_four dims k low is =
+    let at : k * 4 + 0 ≡ k * 4 = omega arith in
+    let none : bit_xor low 0 ≡ low = xor_zero_r low in
+    rw (at, none) at (lane_of_four dims k 0 low is (omega arith))

@@ -1,16 +1,16 @@
 -- A chip that is read or changes, in its slots, in its tile and in all tiles.
-use Rattle.std.proofs.Common.{◌≡◌, ◌≢◌, ℕ, suc, ◌+◌, ◌-◌, ◌<◌, ◌≤◌, ◌++◌, true, List, [], ◌∷◌, length, set, remove}
+use Rattle.std.proofs.Common.{◌≡◌, ◌≢◌, ℕ, zero, suc, ◌+◌, ◌-◌, ◌<◌, ◌≤◌, ◌++◌, true, List, [], ◌∷◌, length, set, remove}
 use Rattle.std.proofs.Common.{sym, ◌∙◌, ⊎_elim, arith, ◌/◌, ◌%◌, map, refl, ap}
-use Rattle.std.proofs.lemmas.Bool.{cases_eq}
+use Rattle.std.proofs.lemmas.Bool.{cases_eq, cases_lt}
 use Rattle.std.proofs.lemmas.List.{length-append, length-set, get_or-set_same, get_or-set_other, get_or_past}
-use Rattle.std.proofs.lemmas.List.{get_or_append_left, get_or_push}
+use Rattle.std.proofs.lemmas.List.{get_or_append_left, get_or_push, length-map}
 use Rattle.std.proofs.lemmas.List.Edits.{length-remove, get_or-remove_below, get_or-remove_above}
 use Rattle.std.specs.List.{All, slice_get}
 use Rattle.std.proofs.lemmas.List.Elements.{All-set}
 use Rattle.std.proofs.lemmas.Option.{slice_get-map, slice_get-get_or, slice_get_past}
 use Rattle.cm_slots.specs.declared.tile.Tile.{Tile}
 use Rattle.cm_slots.specs.Slots.{is_taken, AreSlots}
-use Rattle.cm_slots.specs.Tiles.{slots_of, standing_at, IsShaped, IsTile, IsPut, HasChanged}
+use Rattle.cm_slots.specs.Tiles.{slots_of, standing_at, IsShaped, IsQuiet, IsTile, IsPut, HasChanged}
 use Rattle.cm_slots.specs.Runs.{no_tile, tile_at, numbers_at, tickets_of, IsChanged}
 use Rattle.cm_slots.specs.declared.ticket.Ticket.{Ticket}
 use Rattle.cm_slots.specs.Tickets.{ticket_of, ticket_in}
@@ -121,3 +121,38 @@ module _ (tiles : List Tile) (c : ℕ) (inside : c / 64 < length tiles) (whole :
 
   pub ticket_at : (j : ℕ) → ticket_in (slots_of (tile_at tiles (c / 64)) (c % 64) j) ≡ slice_get (tickets_of tiles c) j
   ticket_at j = ticket_of_slot (slots_of (tile_at tiles (c / 64)) (c % 64)) (numbers_at tiles c) are j
+
+-- ---- where nobody stands
+
+-- no ticket stands at any chip of a quiet tile
+pub quiet_tickets : (c : ℕ) (tiles : List Tile) → IsQuiet (tile_at tiles (c / 64)) → tickets_of tiles c ≡ []
+quiet_tickets c tiles quiet =
+    ap (map ticket_of) (standing_is (tile_at tiles (c / 64)) (c % 64) [] (quiet (c % 64) (omega arith)))
+
+-- nor behind the last tile
+no_tile_quiet : IsQuiet no_tile
+no_tile_quiet i l = record { fits = omega arith; each = blank; taken = λ j m. absurd (omega arith) }
+  where
+    blank : (j : ℕ) → slots_of no_tile i j ≡ 0
+    blank zero = refl
+    blank (suc j) = refl
+
+pub nobody_past : (tiles : List Tile) (c : ℕ) → length tiles ≤ c / 64 → tickets_of tiles c ≡ []
+nobody_past tiles c past = quiet_tickets c tiles (rw (get_or_past tiles (c / 64) no_tile past) no_tile_quiet)
+
+-- where somebody stands there is a tile
+pub tile_there : (tiles : List Tile) (c place : ℕ) → place < length (tickets_of tiles c) → c / 64 < length tiles
+tile_there tiles c place stands = ⊎_elim (λ (l : c / 64 < length tiles). l)
+    (λ (l : length tiles ≤ c / 64). absurd (omega (arith, stands, ap length (nobody_past tiles c l))))
+    (cases_lt (c / 64) (length tiles))
+
+-- no more stand at a chip than its slots hold
+pub fifteen_at_most : (tiles : List Tile) (c : ℕ) → All IsTile tiles → length (tickets_of tiles c) ≤ 15
+fifteen_at_most tiles c whole = ⊎_elim
+    (λ (l : c / 64 < length tiles). omega (
+      arith,
+      ((whole (c / 64) no_tile l).queues (c % 64) (omega arith)).fits,
+      length-map (numbers_at tiles c) ticket_of,
+    ))
+    (λ (l : length tiles ≤ c / 64). omega (arith, ap length (nobody_past tiles c l)))
+    (cases_lt (c / 64) (length tiles))

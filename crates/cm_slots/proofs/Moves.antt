@@ -1,5 +1,5 @@
 -- Tickets that cross several dimensions at once: in a queue, in slots, in all tiles, and as contracts see them.
-use Rattle.std.proofs.Common.{◌≡◌, ◌≢◌, ℕ, zero, suc, ◌+◌, ◌-◌, ◌*◌, ◌/◌, ◌%◌, ◌^◌, ◌<◌, ◌≤◌, ◌↔◌}
+use Rattle.std.proofs.Common.{◌≡◌, ◌≢◌, ℕ, zero, suc, ◌-◌, ◌*◌, ◌/◌, ◌%◌, ◌^◌, ◌<◌, ◌≤◌, ◌↔◌}
 use Rattle.std.proofs.Common.{true, false, List, [], ◌∷◌, length, map, Option, Some, None, refl, sym, ◌∙◌, ap}
 use Rattle.std.proofs.Common.{⊎_elim, arith, slice_index}
 use Rattle.std.specs.Prelude.{bit_xor}
@@ -12,7 +12,7 @@ use Rattle.std.proofs.lemmas.List.{length-map, map-id, get_or_past}
 use Rattle.std.proofs.lemmas.Simd.{map-map}
 use Rattle.std.proofs.lemmas.Option.{slice_get-map}
 use Rattle.std.specs.Option.{option_map}
-use Rattle.std.proofs.lemmas.Nat.{xor_block, xor_shr, xor_mod, xor_lt, xor_comm, shl-shr}
+use Rattle.std.proofs.lemmas.Nat.{xor_shr, xor_mod, xor_lt, xor_comm, shl-shr}
 use Rattle.cm_model.specs.Each.{each_from}
 use Rattle.cm_model.specs.Array.{each_chip, list_at}
 use Rattle.cm_model.proofs.Each.{same_each_below, is_each, length-each_from, get_or-each_below}
@@ -29,9 +29,9 @@ use Rattle.cm_slots.specs.Tiles.{slots_of, standing_at, IsTile}
 use Rattle.cm_slots.specs.Runs.{no_tile, tile_at, leavers_at, numbers_at, tickets_of, queues_in, AreTiles, AreWithin}
 use Rattle.cm_slots.specs.Moves.{ticket_over, queues_over, AreMovable, slot_over, AreFirst, HasMoved}
 use Rattle.cm_slots.proofs.Standing.{standing_is, stands}
-use Rattle.cm_slots.proofs.Changing.{taken_in}
+use Rattle.cm_slots.proofs.Changing.{taken_in, nobody_past}
 use Rattle.cm_slots.proofs.Arriving.{same_test}
-use Rattle.cm_slots.proofs.Views.{as_many, ticket_list}
+use Rattle.cm_slots.proofs.Views.{as_many, ticket_list, none_made}
 
 -- ---- of lists of queues
 
@@ -264,10 +264,11 @@ module _ {chips dims : ℕ} {tiles : List Tile} {leaving : List (Option (List �
     (inside : (c : ℕ) → c < length q → bit_xor c dims < length q) where
   pub tile_inside : (t : ℕ) → t < length tiles → bit_xor t (dims / 64) < length tiles
   tile_inside t h =
-      let first : t * 64 < length q = omega (arith, are.count, as_many are view) in
+      let count = are.count (omega (arith, h)) in
+      let first : t * 64 < length q = omega (arith, count, as_many are view) in
       omega (
         arith,
-        are.count,
+        count,
         as_many are view,
         inside (t * 64) first,
         xor_shr (t * 64) dims 6,
@@ -276,10 +277,20 @@ module _ {chips dims : ℕ} {tiles : List Tile} {leaving : List (Option (List �
 
   module _ (new : List Tile) (each : (c : ℕ) → c / 64 < length tiles
       → tickets_of new c ≡ map (ticket_over dims) (tickets_of tiles (bit_xor c dims))) where
-    pub moved_queues : queues_in chips new ≡ queues_over dims q
-    moved_queues =
+    -- also where there are no tiles
+    each_moved : length new ≡ length tiles → (c : ℕ) → c < chips
+        → tickets_of new c ≡ map (ticket_over dims) (tickets_of tiles (bit_xor c dims))
+    each_moved long c h = ⊎_elim (λ (l : c / 64 < length tiles). each c l)
+        (λ (l : length tiles ≤ c / 64).
+        let none : length tiles ≡ 0 = none_made are view c h l in
+        nobody_past new c (omega (arith, long, l))
+        ∙ ap (map (ticket_over dims)) (sym (nobody_past tiles (bit_xor c dims) (omega (arith, none)))))
+        (cases_lt (c / 64) (length tiles))
+
+    pub moved_queues : length new ≡ length tiles → queues_in chips new ≡ queues_over dims q
+    moved_queues long =
         same_each_below [] chips (tickets_of new) (λ c. map (ticket_over dims) (list_at q (bit_xor c dims)))
-        (λ c h. each c (omega (arith, are.count))
+        (λ c h. each_moved long c h
         ∙ ap (map (ticket_over dims))
         (ticket_list are view (bit_xor c dims) (omega (arith, as_many are view, inside c (omega (arith, as_many are view))))))
         ∙ ap (λ (n : ℕ). each_from 0 n (λ c. map (ticket_over dims) (list_at q (bit_xor c dims)))) (sym (as_many are view))
@@ -377,19 +388,3 @@ told_by_one t (u ∷ s ∷ ts) few is = absurd (omega (arith, few))
 pub told_by_nobody : (ts : List Ticket) → None ≡ slice_get ts 0 → list_any has_come ts ≡ false
 told_by_nobody [] is = refl
 told_by_nobody (u ∷ ts) is = absurd (cc is)
-
--- ---- of four lanes side by side
-
--- where the lane of the four comes from
-pub lane_of_four : (dims k j low : ℕ) → dims % 4 ≡ low → j < 4
-    → bit_xor k (dims % 64 / 4) * 4 + bit_xor low j ≡ bit_xor (k * 4 + j) (dims % 64)
-lane_of_four dims k j low is below =
-    let whole : dims % 64 / 4 * 2 ^ 2 + low ≡ dims % 64 = omega arith in
-    rw (xor_comm low j) (sym (rw whole at (xor_block 2 k (dims % 64 / 4) j low below (omega arith))))
-
-pub first_of_four : (dims k low : ℕ) → dims % 4 ≡ low
-    → bit_xor k (dims % 64 / 4) * 4 + low ≡ bit_xor (k * 4) (dims % 64)
-first_of_four dims k low is =
-    let at : k * 4 + 0 ≡ k * 4 = omega arith in
-    let none : bit_xor low 0 ≡ low = xor_zero_r low in
-    rw (at, none) at (lane_of_four dims k 0 low is (omega arith))

@@ -23,9 +23,10 @@ use Rattle.cm_slots.specs.Runs.{no_tile, tile_at, tickets_of, queues_in, AreEmpt
 use Rattle.cm_slots.specs.Runs.{IsChanged, AreWithin}
 use Rattle.cm_slots.specs.declared.ticket.Ticket.{Ticket}
 use Rattle.cm_slots.specs.Queues.{place_of_leaver}
-use Rattle.cm_slots.proofs.Standing.{get_or-zeros, standing_is, stands}
+use Rattle.cm_slots.proofs.Standing.{get_or-zeros, stands}
 use Rattle.cm_slots.proofs.Choosing.{place_by-nobody}
 use Rattle.cm_slots.proofs.Runs.{tiles_of_cube, across_in}
+use Rattle.cm_slots.proofs.Changing.{quiet_tickets, nobody_past, tile_there}
 
 -- a new tile
 abbrev pub blank_row : List ℕ
@@ -55,15 +56,38 @@ module _ {count : ℕ} {tiles : List Tile} (empty : AreEmpty count tiles) where
         quiet = λ asleep. quiet;
       })
 
--- no ticket stands at any chip of a quiet tile
-pub quiet_tickets : (c : ℕ) (tiles : List Tile) → IsQuiet (tile_at tiles (c / 64)) → tickets_of tiles c ≡ []
-quiet_tickets c tiles quiet =
-    ap (map ticket_of) (standing_is (tile_at tiles (c / 64)) (c % 64) [] (quiet (c % 64) (omega arith)))
-
-pub empty_queues : (chips : ℕ) (tiles : List Tile) → AreEmpty ((chips + 63) / 64) tiles
+pub empty_queues : (chips count : ℕ) (tiles : List Tile) → AreEmpty count tiles
     → queues_in chips tiles ≡ each_from 0 chips (λ c. [])
-empty_queues chips tiles empty = same_each_below [] chips (tickets_of tiles) (λ c. [])
-    (λ c h. quiet_tickets c tiles (empty_quiet empty (c / 64) (omega arith)))
+empty_queues chips count tiles empty = same_each_below [] chips (tickets_of tiles) (λ c. [])
+    (λ c h. ⊎_elim (λ (l : c / 64 < count). quiet_tickets c tiles (empty_quiet empty (c / 64) l))
+    (λ (l : count ≤ c / 64). nobody_past tiles c (omega (arith, empty.long))) (cases_lt (c / 64) count))
+
+-- as long as there are no tiles, nobody stands anywhere
+pub no_queues : (chips : ℕ) (tiles : List Tile) → length tiles ≡ 0 → queues_in chips tiles ≡ each_from 0 chips (λ c. [])
+no_queues chips tiles none = same_each_below [] chips (tickets_of tiles) (λ c. [])
+    (λ c h. nobody_past tiles c (omega (arith, none)))
+
+-- which is what is kept at first
+pub no_tiles : (chips : ℕ) (tiles : List Tile) (leaving : List (Option (List ℕ))) → chips ≤ 4096 → length tiles ≡ 0
+    → length leaving ≡ 0 → AreTiles chips tiles leaving
+no_tiles chips tiles leaving few none rows = record {
+  few = few;
+  count = λ some. absurd (omega (arith, some, none));
+  rows = rows ∙ sym none;
+  whole = All-from_get_or IsTile tiles no_tile (λ t h. absurd (omega (arith, h, none)));
+  past = λ c h l. absurd (omega (arith, l, none));
+}
+
+-- and after they have been made
+pub tiles_made : (chips : ℕ) (tiles : List Tile) (leaving : List (Option (List ℕ))) → chips ≤ 4096
+    → AreEmpty ((chips + 63) / 64) tiles → length leaving ≡ (chips + 63) / 64 → AreTiles chips tiles leaving
+tiles_made chips tiles leaving few empty rows = record {
+  few = few;
+  count = λ some. empty.long;
+  rows = rows ∙ sym empty.long;
+  whole = empty_whole empty;
+  past = λ c h l. quiet_tickets c tiles (empty_quiet empty (c / 64) (omega (arith, empty.long)));
+}
 
 -- what is read of a list that a function makes
 pub ruleset seen = (length-each_from, get_or-each_below, with_items_is)
@@ -87,6 +111,14 @@ module _ {chips : ℕ} {tiles : List Tile} {leaving : List (Option (List ℕ))} 
   ticket_list c h =
       sym (get_or-each_below chips (tickets_of tiles) c [] h) ∙ ap (λ (r : List (List Ticket)). list_at r c) view
 
+  -- nobody stands at any chip as long as there are no tiles; where somebody stands there is one
+  pub nobody_yet : length tiles ≡ 0 → (c : ℕ) → c < chips → list_at q c ≡ []
+  nobody_yet none c h = sym (ticket_list c h) ∙ nobody_past tiles c (omega (arith, none))
+
+  pub stands_there : (c place : ℕ) → c < length q → place < length (list_at q c) → c / 64 < length tiles
+  stands_there c place h stands =
+      tile_there tiles c place (omega (arith, stands, ap length (ticket_list c (omega (arith, h, as_many)))))
+
   -- no more than so many stand anywhere, also behind the last chip
   pub within_everywhere : (room : ℕ) → All (λ ts. length ts ≤ room) q → AreWithin room tiles
   within_everywhere room within t i h l =
@@ -99,16 +131,25 @@ module _ {chips : ℕ} {tiles : List Tile} {leaving : List (Option (List ℕ))} 
 
   -- what is made of each chip's tickets, by chip
   pub mapped : {Y : Type 0} (none : Y) (made : ℕ → Y) (f : List Ticket → Y)
-      → ((c : ℕ) → c / 64 < length tiles → made c ≡ f (tickets_of tiles c)) → each_from 0 chips made ≡ map f q
-  mapped none made f each =
-      same_each_below none chips made (λ c. f (tickets_of tiles c)) (λ c h. each c (omega (arith, are.count)))
+      → ((c : ℕ) → c / 64 < length tiles → made c ≡ f (tickets_of tiles c))
+      → ((c : ℕ) → length tiles ≤ c / 64 → made c ≡ f []) → each_from 0 chips made ≡ map f q
+  mapped none made f each past =
+      same_each_below none chips made (λ c. f (tickets_of tiles c)) (λ c h. ⊎_elim
+      (λ (l : c / 64 < length tiles). each c l)
+      (λ (l : length tiles ≤ c / 64). past c l ∙ ap f (sym (nobody_past tiles c l)))
+      (cases_lt (c / 64) (length tiles)))
       ∙ sym (map-each_from f 0 chips (tickets_of tiles)) ∙ ap (map f) view
+
+  -- where there is no tile for a chip, there is none at all
+  pub none_made : (c : ℕ) → c < chips → length tiles ≤ c / 64 → length tiles ≡ 0
+  none_made c h past = ⊎_elim (λ (l : 0 < length tiles). absurd (omega (arith, h, past, are.count l)))
+      (λ (l : length tiles ≤ 0). omega (arith, l)) (cases_lt 0 (length tiles))
 
   pub across_inside : {dims d : ℕ} → length q ≡ 2 ^ dims → d < dims → (t : ℕ) → t < length tiles
       → tile_across d t < length tiles
   across_inside {dims = dims} {d = d} count below t h =
       let many : length tiles ≡ 2 ^ (dims - 6) =
-      are.count ∙ ap (λ (n : ℕ). (n + 63) / 64) (sym as_many ∙ count) ∙ tiles_of_cube dims in
+      are.count (omega (arith, h)) ∙ ap (λ (n : ℕ). (n + 63) / 64) (sym as_many ∙ count) ∙ tiles_of_cube dims in
       rw many (across_in dims d t below (omega (arith, many)))
 
   -- ---- other tiles in their place
@@ -118,27 +159,50 @@ module _ {chips : ℕ} {tiles : List Tile} {leaving : List (Option (List ℕ))} 
         → ((c : ℕ) → chips ≤ c → c / 64 < length tiles → tickets_of new c ≡ []) → AreTiles chips new rows
     tiles_kept rows whole past = record {
       few = are.few;
-      count = long ∙ are.count;
+      count = λ some. long ∙ are.count (omega (arith, some, long));
       rows = rows ∙ are.rows ∙ sym long;
       whole = whole;
       past = λ c h l. past c h (omega (arith, long));
     }
 
-    pub changed_queues : (chip : ℕ) (tickets : List Ticket) → chip < chips → IsChanged chip tickets tiles new
-        → queues_in chips new ≡ slice_set q chip tickets
-    changed_queues chip tickets inside step = sym (is_each [] chips (tickets_of new) (set q chip tickets)
-        (length-set q chip tickets ∙ as_many)
-        (λ c h. grind (arith, get_or-set_same, get_or-set_other, step.here, step.others c, ticket_list c, as_many)))
+    pub changed_queues : (chip : ℕ) (tickets : List Ticket) → chip < chips → chip / 64 < length tiles
+        → IsChanged chip tickets tiles new → queues_in chips new ≡ slice_set q chip tickets
+    changed_queues chip tickets inside there step =
+        let count : length tiles ≡ (chips + 63) / 64 = are.count (omega (arith, there)) in
+        sym (is_each [] chips (tickets_of new) (set q chip tickets) (length-set q chip tickets ∙ as_many)
+        (λ c h. grind (
+          arith,
+          get_or-set_same,
+          get_or-set_other,
+          step.here,
+          step.others c,
+          ticket_list c,
+          as_many,
+          count,
+        )))
 
     -- a dimension of a cube
     module _ {dims d : ℕ} (count : length q ≡ 2 ^ dims) (below : d < dims) (order : Order) (room : ℕ) (each : (c : ℕ)
         → c / 64 < length tiles
         → tickets_of new c ≡ exchanged_by order room d (tickets_of tiles c) (tickets_of tiles (bit_xor c (2 ^ d)))) where
-      pub queues_after : queues_in chips new
+      -- also where there are no tiles
+      each_exchanged : 0 < room → (c : ℕ) → c < chips
+          → tickets_of new c ≡ exchanged_by order room d (tickets_of tiles c) (tickets_of tiles (bit_xor c (2 ^ d)))
+      each_exchanged some c h = ⊎_elim (λ (l : c / 64 < length tiles). each c l)
+          (λ (l : length tiles ≤ c / 64).
+          let none : length tiles ≡ 0 = none_made c h l in
+          nobody_past new c (omega (arith, long, l)) ∙ rw (
+            nobody_past tiles c l,
+            nobody_past tiles (bit_xor c (2 ^ d)) (omega (arith, none)),
+            place_by-nobody order d room some,
+          ) refl)
+          (cases_lt (c / 64) (length tiles))
+
+      pub queues_after : 0 < room → queues_in chips new
           ≡ each_chip dims (λ c. exchanged_by order room d (list_at q c) (list_at q (bit_xor c (2 ^ d))))
-      queues_after = same_each_below [] chips (tickets_of new)
+      queues_after some = same_each_below [] chips (tickets_of new)
           (λ c. exchanged_by order room d (list_at q c) (list_at q (bit_xor c (2 ^ d))))
-          (λ c h. each c (omega (arith, are.count)) ∙ rw (
+          (λ c h. each_exchanged some c h ∙ rw (
             ticket_list c h,
             ticket_list (bit_xor c (2 ^ d)) (omega (arith, as_many, across_below dims d c below)),
           ) refl)
@@ -159,26 +223,27 @@ module _ {chips : ℕ} {tiles : List Tile} {leaving : List (Option (List ℕ))} 
             place_by-nobody order d room some,
           ) refl
 
-pub within_view : (chips : ℕ) (tiles : List Tile) (room : ℕ) → chips ≤ length tiles * 64 → AreWithin room tiles
+pub within_view : (chips : ℕ) (tiles : List Tile) (room : ℕ) → AreWithin room tiles
     → All (λ ts. length ts ≤ room) (queues_in chips tiles)
-within_view chips tiles room enough few k d h =
+within_view chips tiles room few k d h =
     let low : k < chips = omega (arith, length-each_from 0 chips (tickets_of tiles)) in
-    omega (
-      arith,
-      ap length (get_or-each_below chips (tickets_of tiles) k d low),
-      few (k / 64) (k % 64) (omega (arith, low)) (omega arith),
-      length-map (numbers_at tiles k) ticket_of,
-    )
+    let read = ap length (get_or-each_below chips (tickets_of tiles) k d low) in
+    ⊎_elim
+    (λ (l : k / 64 < length tiles).
+    omega (arith, read, few (k / 64) (k % 64) l (omega arith), length-map (numbers_at tiles k) ticket_of))
+    (λ (l : length tiles ≤ k / 64). omega (arith, read, ap length (nobody_past tiles k l)))
+    (cases_lt (k / 64) (length tiles))
 
 -- ---- tiles that were lent
 
 module _ {chips chip : ℕ} {leaving : List (Option (List ℕ))} {q : List (List Ticket)} {lent : List Tile} (v : Vec Tile)
     (are : AreTiles chips v.items leaving) (view : queues_in chips v.items ≡ q) (is : lent ≡ v.items)
     (inside : chip < length q) where
-  pub lent_changed : (now : List Tile) (f : List Ticket → List Ticket) → length now ≡ length lent
+  pub lent_changed : (now : List Tile) (f : List Ticket → List Ticket) → chip / 64 < length v.items
+      → length now ≡ length lent
       → IsChanged chip (f (tickets_of lent chip)) lent now → AreTiles chips (with_items v now).items leaving
       × (queues_in chips (with_items v now).items ≡ slice_set q chip (f (list_at q chip)))
-  lent_changed now f long step =
+  lent_changed now f there long step =
       let many : length now ≡ length v.items = long ∙ ap length is in
       let low : chip < chips = omega (arith, as_many are view) in
       let changed : IsChanged chip (f (list_at q chip)) v.items now =
@@ -186,5 +251,5 @@ module _ {chips chip : ℕ} {leaving : List (Option (List ℕ))} {q : List (List
       rw (items-lent v now many) (
         tiles_kept are view now many refl changed.whole
             (λ c past h. changed.others c h (λ e. absurd (omega (arith, e))) ∙ are.past c past h),
-        changed_queues are view now many chip (f (list_at q chip)) low changed,
+        changed_queues are view now many chip (f (list_at q chip)) low there changed,
       )

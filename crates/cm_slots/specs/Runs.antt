@@ -1,7 +1,8 @@
 -- Tiles in a row: chip c stands at place c % 64 of tile c / 64. Ours.
 use Rattle.std.specs.Prelude.{ℕ, ◌+◌, ◌/◌, ◌%◌, ◌^◌, ◌<◌, ◌≤◌, ◌≡◌, ◌≢◌, true, false, List, [], length, map, bit_xor}
-use Rattle.std.specs.Prelude.{Option, None, IfSome, slice_index_or}
+use Rattle.std.specs.Prelude.{Option, None, IfSome, slice_index_or, vec_capacity}
 use Rattle.std.specs.List.{All}
+use Rattle.std.specs.Global.{Vec}
 use Rattle.cm_model.specs.Each.{each_from}
 use Rattle.cm_slots.specs.declared.ticket.Ticket.{Ticket}
 use Rattle.cm_slots.specs.declared.order.Order.{Order}
@@ -72,13 +73,20 @@ pub record AreLeavers (leaving : List (Option (List ℕ))) : Type 0 where
 abbrev pub queues_in : ℕ → List Tile → List (List Ticket)
 queues_in chips tiles = each_from 0 chips (tickets_of tiles)
 
--- the tiles of so many chips, and as many leavers; behind the last chip nobody stands
+-- the tiles of so many chips, or none as long as nobody has stood anywhere, and as many leavers; behind the last chip
+-- nobody stands
 pub record AreTiles (chips : ℕ) (tiles : List Tile) (leaving : List (Option (List ℕ))) : Type 0 where
   pub few : chips ≤ 4096
-  pub count : length tiles ≡ (chips + 63) / 64
+  pub count : 0 < length tiles → length tiles ≡ (chips + 63) / 64
   pub rows : length leaving ≡ length tiles
   pub whole : All IsTile tiles
   pub past : (c : ℕ) → chips ≤ c → c / 64 < length tiles → tickets_of tiles c ≡ []
+
+-- such tiles, with space for those of all chips, also where none are made yet
+pub record AreKept (chips : ℕ) (tiles : Vec Tile) (leaving : Vec (Option (List ℕ))) : Type 0 where
+  pub are : AreTiles chips tiles.items leaving.items
+  pub space : (chips + 63) / 64 ≤ vec_capacity tiles
+  pub rows_space : (chips + 63) / 64 ≤ vec_capacity leaving
 
 -- these tickets stand at one chip now, and at the others those that stood there
 pub record IsChanged (chip : ℕ) (tickets : List Ticket) (old new : List Tile) : Type 0 where

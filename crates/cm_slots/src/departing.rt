@@ -54,7 +54,6 @@ fn close_up(tiles: &mut [Tile], leaving: &[Option<Row>], room: usize)
 
 /// Writes down by chip who leaves.
 pub(crate) fn write_down(leaving: &[Option<Row>], leavers: &mut [Option<Ticket>])
-    requires enough { length leavers.old ≤ length leaving.now * 64 }
     requires leavers { AreLeavers leaving.now }
     ensures value { leavers.new ≡ each_from 0 (length leavers.old) (ticket_leaving leaving.now) }
 {
@@ -65,11 +64,10 @@ pub(crate) fn write_down(leaving: &[Option<Row>], leavers: &mut [Option<Ticket>]
 
 /// Who leaves a chip, if anyone does.
 fn leaver(leaving: &[Option<Row>], chip: usize) -> Option<Ticket>
-    requires chip { chip / 64 < length leaving.now }
     requires leavers { AreLeavers leaving.now }
     ensures value { result ≡ ticket_leaving leaving.now chip }
 {
-    let Some(row) = &leaving[chip / WIDTH] else {
+    let Some(Some(row)) = leaving.get(chip / WIDTH) else {
         return None;
     };
     ticket_in(row[chip % WIDTH])

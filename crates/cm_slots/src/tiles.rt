@@ -2,11 +2,11 @@
 
 ghost use Rattle.std.specs.Prelude.{◌≡◌, ◌↔◌, ◌≢◌, ℕ, ◌^◌, ◌<◌, ◌≤◌, ◌++◌, [], ◌∷◌, IfOk, IfSome};
 ghost use Rattle.std.specs.Prelude.{IsTrue, IsFalse, bit_xor, length, true, false};
-ghost use Rattle.std.specs.Prelude.{map, remove, slice_set};
+ghost use Rattle.std.specs.Prelude.{map, remove, slice_set, ◌+◌, ◌/◌, vec_capacity};
 ghost use Rattle.std.specs.List.{All, list_any, slice_get};
 ghost use Rattle.cm_model.specs.Each.{each_from};
 ghost use Rattle.cm_model.specs.Array.{each_chip, list_at};
-ghost use Rattle.cm_slots.specs.Runs.{AreEmpty};
+ghost use Rattle.cm_slots.specs.Runs.{AreEmpty, AreKept, queues_in};
 ghost use Rattle.cm_slots.specs.Queues.{stayers_of};
 ghost use Rattle.cm_slots.specs.Tickets.{has_to_go, has_come, ticket_going, exchanged};
 ghost use Rattle.cm_slots.specs.Choice.{exchanged_by_number};
@@ -26,27 +26,27 @@ use std::marker::Model;
 
 /// The tickets of a run of chips, slot by slot: 64 chips that stand side by side make a tile, in which a
 /// step does the same at each of them. Behind the last chip the last tile may have places that are never
-/// read as chips.
+/// read as chips. They are made when the first ticket arrives, in memory that is reserved from the first on.
 #[derive(Debug, Drop)]
 pub(crate) struct Tiles {
     /// How many chips there are.
     chips: usize,
-    /// Chip c stands at place c % 64 of tile c / 64.
+    /// Chip c stands at place c % 64 of tile c / 64. There are none as long as nobody has stood anywhere.
     tiles: Vec<Tile>,
-    /// Between the two passes of a dimension, who leaves each tile; else anything.
+    /// Between the two passes of a dimension, who leaves each tile that is made; else anything.
     leaving: Vec<Option<Row>>,
 }
 
 impl Model for Tiles {
     ghost use Rattle.std.specs.Prelude.{List};
     ghost use Rattle.cm_slots.specs.declared.ticket.Ticket.{Ticket};
-    ghost use Rattle.cm_slots.specs.Runs.{queues_in, AreTiles};
+    ghost use Rattle.cm_slots.specs.Runs.{queues_in, AreKept};
 
     ghost Value = { List (List Ticket) };
 
     ghost view = { λ slots. queues_in slots.chips slots.tiles.items };
 
-    ghost invariant = { λ slots. AreTiles slots.chips slots.tiles.items slots.leaving.items };
+    ghost invariant = { λ slots. AreKept slots.chips slots.tiles slots.leaving };
 }
 
 #[tactic(auto, using(crate::proofs::Views::seen))]
@@ -56,9 +56,9 @@ impl Tiles {
         requires few { chips ≤ 4096 }
         ensures value { IfOk result (λ slots. slots ≡ each_from 0 chips (λ c. [])) }
     {
-        let count = (chips + 63) / WIDTH;
-        let tiles = empty_tiles(alloc, count)?;
-        let leaving = no_leavers(alloc, count)?;
+        let count = tiles_for(chips);
+        let tiles = Vec::with_capacity(alloc, count)?;
+        let leaving = Vec::with_capacity(alloc, count)?;
         Ok(Tiles {
             chips,
             tiles,
@@ -70,8 +70,9 @@ impl Tiles {
     pub fn copy(&self, alloc: Global) -> Result<Tiles, NoMemory>
         ensures value { IfOk result (λ slots. slots ≡ self.now) }
     {
-        let tiles = copied_tiles(alloc, &self.tiles)?;
-        let leaving = no_leavers(alloc, self.tiles.len())?;
+        let count = tiles_for(self.chips);
+        let tiles = copied_tiles(alloc, &self.tiles, count)?;
+        let leaving = no_leavers(alloc, self.tiles.len(), count)?;
         Ok(Tiles {
             chips: self.chips,
             tiles,
@@ -121,6 +122,7 @@ impl Tiles {
         requires room { length (list_at self.old chip) < 15 }
         ensures value { self.new ≡ slice_set self.old chip (list_at self.old chip ++ ticket ∷ []) }
     {
+        make_tiles(&mut self.tiles, &mut self.leaving, self.chips);
         chips::arrive(&mut self.tiles, chip, ticket);
     }
 
@@ -154,6 +156,9 @@ impl Tiles {
         ensures most { result ≤ length self.now }
         ensures arrived { result < length self.now → list_any has_come (list_at self.now result) ≡ true }
     {
+        if self.tiles.is_empty() {
+            return self.chips;
+        }
         self.chips
             .min(chips::next_arrived(&self.tiles, from, usize::from(room)))
     }
@@ -253,15 +258,51 @@ impl Tiles {
     }
 }
 
-/// So many tiles, at which no ticket stands.
-fn empty_tiles(alloc: Global, count: usize) -> Result<Vec<Tile>, NoMemory>
-    ensures value { IfOk result (λ tiles. AreEmpty count tiles.items) }
+/// How many tiles so many chips take.
+fn tiles_for(chips: usize) -> usize
+    requires few { chips ≤ 4096 }
+    ensures value { result ≡ (chips + 63) / 64 }
 {
-    let mut tiles = Vec::with_capacity(alloc, count)?;
+    (chips + 63) / WIDTH
+}
+
+/// Makes the tiles of so many chips in the space that is reserved for them, if none are made yet.
+fn make_tiles(tiles: &mut Vec<Tile>, leaving: &mut Vec<Option<Row>>, chips: usize)
+    requires kept { AreKept chips tiles.old leaving.old }
+    ensures kept { AreKept chips tiles.new leaving.new }
+    ensures count { length tiles.new.items ≡ (chips + 63) / 64 }
+    ensures value { queues_in chips tiles.new.items ≡ queues_in chips tiles.old.items }
+{
+    if tiles.is_empty() {
+        let count = tiles_for(chips);
+        put_empty(tiles, count);
+        put_nobody(leaving, count);
+    }
+}
+
+/// Puts so many tiles, at which no ticket stands, where none are made. It stands apart because it is done once.
+#[inline(never)]
+fn put_empty(tiles: &mut Vec<Tile>, count: usize)
+    requires none { length tiles.old.items ≡ 0 }
+    requires space { count ≤ vec_capacity tiles.old }
+    ensures value { AreEmpty count tiles.new.items }
+    ensures capacity { vec_capacity tiles.old ≤ vec_capacity tiles.new }
+{
     for _t in 0..count {
         tiles.push_reserved(Tile::new());
     }
-    Ok(tiles)
+}
+
+/// Puts down that nobody leaves these tiles, where no tiles were.
+fn put_nobody(leaving: &mut Vec<Option<Row>>, count: usize)
+    requires none { length leaving.old.items ≡ 0 }
+    requires space { count ≤ vec_capacity leaving.old }
+    ensures count { length leaving.new.items ≡ count }
+    ensures capacity { vec_capacity leaving.old ≤ vec_capacity leaving.new }
+{
+    for _t in 0..count {
+        leaving.push_reserved(None);
+    }
 }
 
 /// Puts an empty tile in the place of each.
@@ -273,15 +314,26 @@ fn empty_all(tiles: &mut [Tile])
     }
 }
 
-fn copied_tiles(alloc: Global, tiles: &[Tile]) -> Result<Vec<Tile>, NoMemory>
+/// The same tiles, with space for so many.
+fn copied_tiles(alloc: Global, tiles: &[Tile], space: usize) -> Result<Vec<Tile>, NoMemory>
+    requires space { length tiles.now ≤ space }
     ensures value { IfOk result (λ copies. copies.items ≡ tiles.now) }
+    ensures space { IfOk result (λ copies. space ≤ vec_capacity copies) }
 {
-    Ok(tiles.iter().map(|tile| tile.copy()).collect(alloc)?)
+    let mut copies = Vec::with_capacity(alloc, space)?;
+    for t in 0..tiles.len() {
+        copies.push_reserved(tiles[t].copy());
+    }
+    Ok(copies)
 }
 
-/// Room for who leaves so many tiles.
-fn no_leavers(alloc: Global, count: usize) -> Result<Vec<Option<Row>>, NoMemory>
+/// That nobody leaves so many tiles, with space for more.
+fn no_leavers(alloc: Global, count: usize, space: usize) -> Result<Vec<Option<Row>>, NoMemory>
+    requires space { count ≤ space }
     ensures count { IfOk result (λ leaving. length leaving.items ≡ count) }
+    ensures space { IfOk result (λ leaving. space ≤ vec_capacity leaving) }
 {
-    Ok(vec![in alloc; None; count]?)
+    let mut leaving = Vec::with_capacity(alloc, space)?;
+    put_nobody(&mut leaving, count);
+    Ok(leaving)
 }

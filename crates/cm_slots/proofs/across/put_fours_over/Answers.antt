@@ -2,8 +2,7 @@ use Rattle.std.proofs.Common.{ℕ, ◌/◌, ◌%◌, slice_index, ap, ◌∙◌,
 use Rattle.std.specs.Prelude.{bit_xor}
 use Rattle.std.proofs.lemmas.Nat.{xor_lt}
 use Rattle.cm_slots.specs.Moves.{slot_over}
-use Rattle.cm_slots.proofs.Carrying.{four_more_lanes}
-use Rattle.cm_slots.proofs.Moves.{lane_of_four, first_of_four}
+use Rattle.cm_slots.proofs.Carrying.{four_more_lanes, lane_of_four, first_of_four}
 use Rattle.cm_slots.proofs.across.put_fours_over.Goals as goal
 
 pub bounds-row-from : goal.bounds-row-from

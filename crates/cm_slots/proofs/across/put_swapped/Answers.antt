@@ -1,8 +1,7 @@
 use Rattle.std.proofs.Common.{◌≡◌, ℕ, ◌/◌, ◌%◌, slice_index, ap, refl, arith}
 use Rattle.std.specs.Prelude.{bit_xor}
 use Rattle.std.proofs.lemmas.Nat.{xor_lt}
-use Rattle.cm_slots.proofs.Carrying.{four_more_lanes}
-use Rattle.cm_slots.proofs.Moves.{lane_of_four, first_of_four}
+use Rattle.cm_slots.proofs.Carrying.{four_more_lanes, lane_of_four, first_of_four}
 use Rattle.cm_slots.proofs.across.put_swapped.Goals as goal
 
 pub bounds-row-from : goal.bounds-row-from

@@ -1,18 +1,19 @@
-use Rattle.std.proofs.Common.{◌/◌, sym, ◌∙◌, arith}
-use Rattle.cm_slots.proofs.Views.{empty_quiet, empty_whole, empty_queues, quiet_tickets}
+use Rattle.std.proofs.Common.{ap, length, arith}
+use Rattle.cm_slots.proofs.Views.{no_queues, no_tiles}
 use Rattle.cm_slots.proofs.tiles.Tiles.new.Goals as goal
 
 pub invariant_of-result : goal.invariant_of-result
 invariant_of-result c =
-    let empty = c.in_ok-tiles.ensures.value in
+    let tiles = c.in_ok-tiles in
+    let leaving = c.in_ok-leaving in
     record {
-      few = c.requires.few;
-      count = empty.long;
-      rows = c.in_ok-leaving.ensures.count ∙ sym empty.long;
-      whole = empty_whole empty;
-      past = λ k h l.
-          quiet_tickets k c.in_ok-tiles.tiles.items (empty_quiet empty (k / 64) (omega (arith, empty.long)));
+      are = no_tiles c.args.chips tiles.tiles.items leaving.leaving.items c.requires.few (ap length tiles.ensures.items)
+          (ap length leaving.ensures.items);
+      space = omega (arith, tiles.ensures.capacity);
+      rows_space = omega (arith, leaving.ensures.capacity);
     }
 
 pub returns : goal.returns
-returns c = record { value = empty_queues c.args.chips c.in_ok-tiles.tiles.items c.in_ok-tiles.ensures.value }
+returns c = record {
+  value = no_queues c.args.chips c.in_ok-tiles.tiles.items (ap length c.in_ok-tiles.ensures.items);
+}

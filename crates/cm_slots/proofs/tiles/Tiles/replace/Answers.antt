@@ -1,15 +1,30 @@
-use Rattle.std.proofs.Common.{slice_set}
-use Rattle.cm_slots.proofs.Views.{lent_changed}
+use Rattle.std.proofs.Common.{length, ap, arith, slice_set}
+use Rattle.cm_slots.proofs.Views.{stands_there, lent_changed}
 use Rattle.cm_slots.proofs.tiles.Tiles.replace.Goals as goal
 
+pub replace-requires-clause-chip : goal.replace-requires-clause-chip
+replace-requires-clause-chip c = omega (
+  arith,
+  stands_there c.self.invariant.are c.self.view_is c.args.chip c.args.place c.requires.chip c.requires.place,
+  ap length c.deref_mut.ensures.value,
+)
+
 pub invariant_of-self : goal.invariant_of-self
-invariant_of-self c = (lent_changed c.self.inside.tiles c.self.invariant c.self.view_is c.deref_mut.ensures.value
-    c.requires.chip c.replace.new.tiles (λ ts. slice_set ts c.args.place c.args.ticket)
-    c.replace.auto.tiles c.replace.ensures.value).0
+invariant_of-self c =
+    let are = c.self.invariant.are in
+    let there = stands_there are c.self.view_is c.args.chip c.args.place c.requires.chip c.requires.place in
+    record {
+      are = (lent_changed c.self.inside.tiles are c.self.view_is c.deref_mut.ensures.value c.requires.chip
+          c.replace.new.tiles (λ ts. slice_set ts c.args.place c.args.ticket) there c.replace.auto.tiles c.replace.ensures.value).0;
+      space = c.self.invariant.space;
+      rows_space = c.self.invariant.rows_space;
+    }
 
 pub returns : goal.returns
-returns c = record {
-  value = (lent_changed c.self.inside.tiles c.self.invariant c.self.view_is c.deref_mut.ensures.value c.requires.chip
-      c.replace.new.tiles (λ ts. slice_set ts c.args.place c.args.ticket)
-      c.replace.auto.tiles c.replace.ensures.value).1;
-}
+returns c =
+    let are = c.self.invariant.are in
+    let there = stands_there are c.self.view_is c.args.chip c.args.place c.requires.chip c.requires.place in
+    record {
+      value = (lent_changed c.self.inside.tiles are c.self.view_is c.deref_mut.ensures.value c.requires.chip
+          c.replace.new.tiles (λ ts. slice_set ts c.args.place c.args.ticket) there c.replace.auto.tiles c.replace.ensures.value).1;
+    }
