@@ -3,7 +3,7 @@
 
 use crate::parts::{Part, make_ready};
 use cm_bits::{Failed, Sink, Std};
-use cm_cli::{LineFault, Outside, PutFault};
+use cm_cli::{LineFault, Outside, PutFault, Written};
 use std::alloc::Global;
 use std::io::{ErrorKind, Write};
 use std::rt::{Env, Files};
@@ -55,8 +55,8 @@ impl<'a, R: Env + Files + Print + AllocGlobal> Outside for Host<'a, R> {
         }
     }
 
-    fn fill(&mut self, part: Self::Part, bytes: &[u8]) -> Result<(), PutFault> {
-        part.fill(self.rt, bytes)
+    fn fill<T: Written>(&mut self, part: Self::Part, image: T) -> Result<(), PutFault> {
+        part.fill(self.rt, image)
     }
 
     fn let_go(&mut self, part: Self::Part) {

@@ -1,7 +1,7 @@
 //! Files that are put where the user wants them: each is made ready, and then filled or let go.
 
-use cm_bits::{Std, write_all};
-use cm_cli::PutFault;
+use cm_bits::Std;
+use cm_cli::{PutFault, Written};
 use std::alloc::Global;
 use std::fs::{File, OpenFile, Permissions};
 use std::io::ErrorKind;
@@ -117,12 +117,12 @@ fn text(alloc: Global, path: &str) -> Result<String, PutFault> {
 }
 
 impl<F: io::Write + Drop> Part<F> {
-    /// Puts these bytes where the file was wanted.
-    pub fn fill<R: Files>(self, rt: &R, bytes: &[u8]) -> Result<(), PutFault> {
+    /// Puts the bytes of this where the file was wanted.
+    pub fn fill<R: Files, T: Written>(self, rt: &R, image: T) -> Result<(), PutFault> {
         match self {
-            Part::Beside(new) => new.fill(rt, bytes),
+            Part::Beside(new) => new.fill(rt, image),
             Part::InPlace { path } => match fs::create(rt, path.as_str()) {
-                Ok(mut file) => write_bytes(&mut file, bytes),
+                Ok(mut file) => write(&mut file, image),
                 Err(_) => Err(PutFault::Write),
             },
         }
@@ -138,13 +138,23 @@ impl<F: io::Write + Drop> Part<F> {
 
 impl<F: io::Write + Drop> NewFile<F> {
     /// Gives it its bytes and then its place, or takes it away.
-    fn fill<R: Files>(mut self, rt: &R, bytes: &[u8]) -> Result<(), PutFault> {
-        let written = write_bytes(&mut self.file, bytes);
-        if written.is_ok() && fs::rename(rt, self.name.as_str(), self.path.as_str()).is_ok() {
-            return Ok(());
+    fn fill<R: Files, T: Written>(mut self, rt: &R, image: T) -> Result<(), PutFault> {
+        let put = match write(&mut self.file, image) {
+            Ok(()) => self.put(rt),
+            Err(fault) => Err(fault),
+        };
+        if put.is_err() {
+            self.remove(rt);
         }
-        self.remove(rt);
-        Err(PutFault::Write)
+        put
+    }
+
+    /// Gives it its place.
+    fn put<R: Files>(&self, rt: &R) -> Result<(), PutFault> {
+        match fs::rename(rt, self.name.as_str(), self.path.as_str()) {
+            Ok(()) => Ok(()),
+            Err(_) => Err(PutFault::Write),
+        }
     }
 
     fn remove<R: Files>(self, rt: &R) {
@@ -152,9 +162,6 @@ impl<F: io::Write + Drop> NewFile<F> {
     }
 }
 
-fn write_bytes<W: io::Write>(writer: &mut W, bytes: &[u8]) -> Result<(), PutFault> {
-    match write_all(&mut Std::new(writer), bytes) {
-        Ok(()) => Ok(()),
-        Err(_) => Err(PutFault::Write),
-    }
+fn write<W: io::Write, T: Written>(writer: &mut W, image: T) -> Result<(), PutFault> {
+    image.write(&mut Std::new(writer))
 }

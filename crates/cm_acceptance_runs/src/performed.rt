@@ -2,7 +2,7 @@
 
 use cm_bits::doubles::{Bytes, Room};
 use cm_bits::{Failed, Sink};
-use cm_cli::{LineFault, Outside, PutFault, perform};
+use cm_cli::{LineFault, Outside, PutFault, Written, perform};
 use std::alloc::{AllocError, Global};
 use std::sync::Wait;
 use std::thread::Threads;
@@ -249,7 +249,7 @@ static TABLES: [Table; 27] = [
             "fresh 0 2 left => words: 1 cm1: 5 Cap",
             "fresh 0 7 locked => words, ready locked: 4 cm1: 31 Write",
             "fresh 0 7 much => words, ready much: 3 cm1: 33 Memory",
-            "fresh 0 7 full => words, ready full, fill full 51: 4 cm1: 31 Write",
+            "fresh 0 7 full => words, ready full, fill full 20: 4 cm1: 31 Write",
         ],
     },
     // a session of an image: what it answers goes out before a file is filled
@@ -264,7 +264,7 @@ static TABLES: [Table; 27] = [
             "run two sets --split 1 => words, open two, open sets, flush: 0 ",
             "run two sets --split 1 --workers 2 --out left => \
              words, open two, open sets, ready left, flush, fill left 86: 0 ",
-            "run one sets --out full => words, open one, open sets, ready full, flush, fill full 51: 4 cm1: 31 Write",
+            "run one sets --out full => words, open one, open sets, ready full, flush, fill full 20: 4 cm1: 31 Write",
         ],
     },
     // one that is refused, the first of its faults told: nothing is read of standard input, and nothing else is touched
@@ -330,7 +330,7 @@ static TABLES: [Table; 27] = [
             "weave --out=two --split=1 two cycle twelve => \
              words, open two, open cycle, ready two, open twelve, flush, fill two 86: 0 ",
             "weave two cycle twelve --split 1 --out full => \
-             words, open two, open cycle, ready full, open twelve, flush, fill full 86: 4 cm1: 31 Write",
+             words, open two, open cycle, ready full, open twelve, flush, fill full 20: 4 cm1: 31 Write",
         ],
     },
     // one without rounds: no step can be taken
@@ -527,12 +527,18 @@ impl Outside for Desk {
         if self.goes_out { Ok(()) } else { Err(Failed) }
     }
 
-    fn fill(&mut self, part: String, bytes: &[u8]) -> Result<(), PutFault> {
-        self.note(format!(in self.alloc; "fill {part} {}", bytes.len()));
-        match part.as_str() {
-            "full" => Err(PutFault::Write),
-            _ => Ok(()),
-        }
+    fn fill<T: Written>(&mut self, part: String, image: T) -> Result<(), PutFault> {
+        let room = match part.as_str() {
+            "full" => 20,
+            _ => 1000,
+        };
+        let Ok(mut file) = Room::new(self.alloc, room, 7) else {
+            return Err(PutFault::Memory);
+        };
+        let filled = image.write(&mut file);
+        let count = file.taken().len();
+        self.note(format!(in self.alloc; "fill {part} {count}"));
+        filled
     }
 
     fn let_go(&mut self, part: String) {

@@ -10,5 +10,6 @@ mod Leading
 mod Weaving
 mod ToTheEnd
 mod Sessions
+mod Putting
 mod Begun
 mod Sourcing

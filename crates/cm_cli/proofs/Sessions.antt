@@ -1,20 +1,112 @@
--- How a session ends, of what its call tells of each outcome.
-use Rattle.std.proofs.Common.{◌≡◌, Bool, ℕ, List, Option, Vec, Result, Ok, Err}
-use Rattle.std.specs.Prelude.{IfOk, IfErr, IfSome}
-use Rattle.std.specs.declared.alloc.Global.{Global}
+-- How a session ends whose image is to be kept, of how the session by itself ended.
+use Rattle.std.proofs.Common.{◌≡◌, Bool, true, false, ℕ, List, Option, Result, Ok, Err, refl, sym, subst}
+use Rattle.std.specs.Prelude.{◌↔◌, IfSome, IsErrOf, cond}
 use Rattle.cm_model.specs.declared.act.Act.{Act}
+use Rattle.cm_model.specs.Machine.{Machine}
+use Rattle.cm_array.specs.Faults.{one_more_lacked}
+use Rattle.cm_session.specs.declared.fault.SessionFault.{SessionFault}
+use Rattle.cm_session.specs.declared.fault.SessionFault.TheVariants as session
+use Rattle.cm_session.specs.Ends.{Ends, EndsForSome, is_write, is_no_thread}
 use Rattle.cm_cli.specs.declared.program_fault.ProgramFault.{ProgramFault}
+use Rattle.cm_cli.specs.declared.program_fault.ProgramFault.TheVariants.{Read, Write, Memory, NoThread}
+use Rattle.cm_cli.specs.ProgramFault.{of_session}
 use Rattle.cm_cli.specs.Opened.{Start}
-use Rattle.cm_cli.specs.Run.{HasRun, HasBrokenOff}
+use Rattle.cm_cli.specs.Run.{KeepsImage, IsToldAs}
 use Rattle.cm_cli.specs.Files.{Streams}
-use Rattle.cm_cli.specs.Runs.{EndsSession}
+use Rattle.cm_cli.specs.Deeds.{Deed}
+use Rattle.cm_cli.specs.Runs.{IsSession, RunsFrom}
+use Rattle.cm_cli.proofs.Lifting.{lift_some}
 
-pub ends_session : (start : Start) (acts : List Act) (streams : Streams) (keeps : Bool)
-    (ran : Result (Option (Vec ℕ Global)) ProgramFault)
-    → IfOk ran (λ kept. IfSome streams.lines
-    (λ lines. HasRun start acts lines streams.rest streams.held streams.holds keeps kept))
-    → IfErr ran (λ fault. IfSome streams.lines
-    (λ lines. HasBrokenOff start acts lines streams.rest streams.held streams.holds keeps fault))
-    → EndsSession start acts streams keeps ran
-ends_session start acts streams keeps (Ok kept) run fault = run
-ends_session start acts streams keeps (Err own) run fault = fault
+-- want of memory for the image
+wants_memory : (keeps : Bool) (fault : ProgramFault) → keeps ≡ true → fault ≡ Memory
+    → IsToldAs keeps (Ok tt) fault
+wants_memory true fault is same = same
+wants_memory false fault is same = absurd (let wrong : false ≡ true = is in cc)
+
+-- it ended well
+pub ended_well : (start : Start) (acts : List Act) (streams : Streams) (keeps : Bool) (after : Machine)
+    (kept : Result (Option (List ℕ)) ProgramFault)
+    → IfSome streams.lines (λ lines. Ends start.n start.cap acts lines streams.rest start.machine streams.held after
+    streams.holds (Ok tt))
+    → EndsForSome start.n start.cap acts start.machine streams.held after streams.holds (Ok tt)
+    → ((streams.read_failed ≡ true) ↔ IsErrOf {T = Unit {0}} {E = SessionFault} (Ok tt) session.Read)
+    → streams.write_failed ≡ false → KeepsImage start.n start.cap after keeps kept
+    → IsSession start acts streams keeps kept
+ended_well start acts streams keeps after (Ok image) ends heard read write is = record {
+  ends = lift_some streams.lines (λ lines h. record { after = after; ends = h; kept = is }) ends;
+  heard = record { lines = heard.text; run = record { after = after; ends = heard.ends; kept = is } };
+  read = (λ failed. absurd (let wrong = read.0 failed in cc), λ e. absurd (cc));
+  write = (λ failed. absurd (cc), λ e. absurd (cc));
+}
+ended_well start acts streams keeps after (Err fault) ends heard read write is = record {
+  ends = lift_some streams.lines
+      (λ lines h. record { after = after; result = Ok tt; ends = h; told = wants_memory keeps fault is.0 is.1 }) ends;
+  heard = tt;
+  read = (λ failed. absurd (let wrong = read.0 failed in cc), λ e. absurd (let same = is.1 in cc));
+  write = (λ failed. absurd (cc), λ e. absurd (let same = is.1 in cc));
+}
+
+-- no thread is wanted for what is kept
+pub kept_without : (n cap : ℕ) (after : Machine) (keeps : Bool) {Wants : Type 0}
+    (kept : Result (Option (List ℕ)) ProgramFault) → KeepsImage n cap after keeps kept → IsErrOf kept NoThread → Wants
+kept_without n cap after keeps (Ok image) is e = absurd (cc)
+kept_without n cap after keeps (Err fault) is e = absurd (let same = is.1 in cc)
+
+own_fault : (keeps : Bool) (fault : SessionFault) → IsToldAs keeps (Err fault) (of_session fault)
+own_fault true fault = refl
+own_fault false fault = refl
+
+-- what is told of a session's fault is that fault
+same_read : (failed : Bool) (fault : SessionFault)
+    → ((failed ≡ true) ↔ IsErrOf {T = Unit {0}} (Err fault) session.Read)
+    → ((failed ≡ true) ↔ IsErrOf {T = Option (List ℕ)} (Err (of_session fault)) Read)
+same_read failed session.Read h = (λ f. refl, λ e. h.1 refl)
+same_read failed (session.Write count) h = (λ f. absurd (let wrong = h.0 f in cc), λ e. absurd (cc))
+same_read failed session.TooMuch h = (λ f. absurd (let wrong = h.0 f in cc), λ e. absurd (cc))
+same_read failed session.Memory h = (λ f. absurd (let wrong = h.0 f in cc), λ e. absurd (cc))
+same_read failed session.NoThread h = (λ f. absurd (let wrong = h.0 f in cc), λ e. absurd (cc))
+
+same_write : (failed : Bool) (fault : SessionFault) → failed ≡ is_write (Err fault)
+    → ((failed ≡ true) ↔ IsErrOf {T = Option (List ℕ)} (Err (of_session fault)) Write)
+same_write failed session.Read is = (λ f. absurd (cc), λ e. absurd (cc))
+same_write failed (session.Write count) is = (λ f. refl, λ e. is)
+same_write failed session.TooMuch is = (λ f. absurd (cc), λ e. absurd (cc))
+same_write failed session.Memory is = (λ f. absurd (cc), λ e. absurd (cc))
+same_write failed session.NoThread is = (λ f. absurd (cc), λ e. absurd (cc))
+
+-- it broke off, and this is told
+pub broken_off : (start : Start) (acts : List Act) (streams : Streams) (keeps : Bool) (after : Machine)
+    (fault : SessionFault) (told : ProgramFault) → told ≡ of_session fault
+    → IfSome streams.lines (λ lines. Ends start.n start.cap acts lines streams.rest start.machine streams.held after
+    streams.holds (Err fault))
+    → ((streams.read_failed ≡ true) ↔ IsErrOf {T = Unit {0}} (Err fault) session.Read)
+    → streams.write_failed ≡ is_write (Err fault) → IsSession start acts streams keeps (Err told)
+broken_off start acts streams keeps after fault told same ends read write =
+    subst (λ (f : ProgramFault). IsSession start acts streams keeps (Err f)) (sym same) (record {
+      ends = lift_some streams.lines
+          (λ lines h. record { after = after; result = Err fault; ends = h; told = own_fault keeps fault }) ends;
+      heard = tt;
+      read = same_read _ fault read;
+      write = same_write _ fault write;
+    })
+
+-- a thread was wanted where it is told
+pub wants_thread : (fault : SessionFault) (told : ProgramFault) (now before : ℕ) → told ≡ of_session fault
+    → now ≡ cond (is_no_thread fault) (one_more_lacked before) before
+    → IsErrOf {T = Option (List ℕ)} (Err told) NoThread → now ≡ one_more_lacked before
+wants_thread session.Read told now before same is e = absurd (cc)
+wants_thread (session.Write count) told now before same is e = absurd (cc)
+wants_thread session.TooMuch told now before same is e = absurd (cc)
+wants_thread session.Memory told now before same is e = absurd (cc)
+wants_thread session.NoThread told now before same is e = is
+
+-- what follows where a thread is wanted
+pub wanted_so : {F P A B : Type 0} {start : Start} {acts : List Act} {streams : Streams} {part : Option P}
+    {result : Result (Unit {0}) ProgramFault} {deeds : List (Deed F P)} → (A → B)
+    → RunsFrom start acts A streams part result deeds → RunsFrom start acts B streams part result deeds
+wanted_so so runs = record {
+  ran = runs.ran;
+  session = runs.session;
+  threads = λ e. so (runs.threads e);
+  closes = runs.closes;
+}

@@ -1,7 +1,6 @@
 -- What is said of a world that is stepped, where one value is another.
-use Rattle.std.proofs.Common.{◌≡◌, ℕ, Bool, Option, Result, None, Ok, Err, Vec, List, subst, sym, ap, ◌∙◌}
+use Rattle.std.proofs.Common.{◌≡◌, ℕ, Result, None, Ok, Err, List, subst, ap, ◌∙◌}
 use Rattle.std.specs.Prelude.{◌↔◌, IsErrOf, unwrap_or}
-use Rattle.std.specs.declared.alloc.Global.{Global}
 use Rattle.cm_model.specs.declared.act.Act.{Act}
 use Rattle.cm_model.specs.Machine.{Machine}
 use Rattle.cm_weave.specs.declared.first.WorldFault.{WorldFault}
@@ -11,14 +10,6 @@ use Rattle.cm_weave.specs.First.{IsFirst}
 use Rattle.cm_weave.specs.Woven.{Woven}
 use Rattle.cm_cli.specs.declared.program_fault.ProgramFault.{ProgramFault}
 use Rattle.cm_cli.specs.ProgramFault.{of_world}
-use Rattle.cm_cli.specs.Takings.{Reads}
-use Rattle.cm_cli.specs.Weaving.{Outgoing, IsWoven}
-
-pub same_keeps : {F : Type 0} {reads : Reads F} {n cap : ℕ} {woven : Woven} {file : Option F} {a b : Bool}
-    {out : Outgoing} {ran : Result (Option (Vec ℕ Global)) ProgramFault} → a ≡ b
-    → IsWoven reads n cap woven file a out ran → IsWoven reads n cap woven file b out ran
-same_keeps {F} {reads} {n} {cap} {woven} {file} {a} {b} {out} {ran} is h =
-    subst (λ (keeps : Bool). IsWoven reads n cap woven file keeps out ran) is h
 
 pub same_acts : {n cap k : ℕ} {machine : Machine} {woven : Woven} {a b : List Act} → a ≡ b
     → IsFirst n cap k machine a woven → IsFirst n cap k machine b woven

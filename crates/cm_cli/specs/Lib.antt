@@ -12,6 +12,7 @@ pub mod Sizes
 pub mod Sharing
 pub mod Run
 pub mod Deeds
+pub mod Written
 pub mod Takings
 pub mod Sourced
 pub mod Puttings

@@ -1,11 +1,13 @@
 -- What the program does with standard output and with the file that it writes, once its work has ended. Ours.
-use Rattle.std.specs.Prelude.{◌≡◌, ℕ, Option, Some, None, Result, Ok, Err, Vec, List, [], ◌∷◌}
-use Rattle.std.specs.declared.alloc.Global.{Global}
+use Rattle.std.specs.Prelude.{◌≡◌, ℕ, Option, Some, None, Result, Ok, Err, List, [], ◌∷◌}
+use Rattle.std.specs.Option.{is_some}
 use Rattle.cm_bits.specs.declared.ends.Failed.{Failed}
+use Rattle.cm_model.specs.Machine.{Machine}
 use Rattle.cm_cli.specs.declared.outside.PutFault.{PutFault}
 use Rattle.cm_cli.specs.declared.program_fault.ProgramFault.{ProgramFault}
 use Rattle.cm_cli.specs.declared.program_fault.ProgramFault.TheVariants.{Write}
 use Rattle.cm_cli.specs.ProgramFault.{of_put}
+use Rattle.cm_cli.specs.Run.{KeepsImage}
 use Rattle.cm_cli.specs.Deeds.{Deed, Readied, Flushed, Filled, LetGo}
 
 -- how the program ends where putting a file ended so
@@ -57,20 +59,20 @@ let_go None = []
 let_go (Some part) = LetGo part ∷ []
 
 -- once standard output was to go out: the file that was made ready, if one was, is filled with the image that was kept
-abbrev pub Saves : {F P : Type 0} → Option P → Option (Vec ℕ Global) → Result (Unit {0}) ProgramFault
+abbrev pub Saves : {F P : Type 0} → Option P → Option (List ℕ) → Result (Unit {0}) ProgramFault
     → List (Deed F P) → Type 0
 Saves None kept result deeds = (deeds ≡ []) × (result ≡ Ok tt)
-Saves (Some part) (Some image) result deeds = Fills part image.items result deeds
+Saves (Some part) (Some image) result deeds = Fills part image result deeds
 Saves (Some part) None result deeds = ⊥
 
 -- and where it could not go out, that file is taken away
-abbrev pub SavesAfter : {F P : Type 0} → Result (Unit {0}) Failed → Option P → Option (Vec ℕ Global)
+abbrev pub SavesAfter : {F P : Type 0} → Result (Unit {0}) Failed → Option P → Option (List ℕ)
     → Result (Unit {0}) ProgramFault → List (Deed F P) → Type 0
 SavesAfter (Ok done) part kept result deeds = Saves part kept result deeds
 SavesAfter (Err failed) part kept result deeds = (deeds ≡ let_go part) × (result ≡ Err Write)
 
 -- a session ended well: standard output goes out, and only then is the file filled
-pub record ClosesWell {F P : Type 0} (part : Option P) (holds : Option (List ℕ)) (kept : Option (Vec ℕ Global))
+pub record ClosesWell {F P : Type 0} (part : Option P) (holds : Option (List ℕ)) (kept : Option (List ℕ))
     (result : Result (Unit {0}) ProgramFault) (deeds : List (Deed F P)) : Type 0 where
   pub done : Result (Unit {0}) Failed
   pub more : List (Deed F P)
@@ -78,7 +80,19 @@ pub record ClosesWell {F P : Type 0} (part : Option P) (holds : Option (List ℕ
   pub then : SavesAfter done part kept result more
 
 -- once a session ended so: after a fault the file that was made ready is taken away, and nothing more is done
-abbrev pub Closes : {F P : Type 0} → Option P → Option (List ℕ) → Result (Option (Vec ℕ Global)) ProgramFault
+abbrev pub Closes : {F P : Type 0} → Option P → Option (List ℕ) → Result (Option (List ℕ)) ProgramFault
     → Result (Unit {0}) ProgramFault → List (Deed F P) → Type 0
 Closes part holds (Ok kept) result deeds = ClosesWell part holds kept result deeds
 Closes part holds (Err fault) result deeds = (deeds ≡ let_go part) × (result ≡ Err fault)
+
+-- a session ended well, and left this machine: its image is kept, if a file was made ready, and goes there
+pub record ClosesLeft {F P : Type 0} (n cap : ℕ) (machine : Machine) (part : Option P) (holds : Option (List ℕ))
+    (result : Result (Unit {0}) ProgramFault) (deeds : List (Deed F P)) : Type 0 where
+  pub kept : Result (Option (List ℕ)) ProgramFault
+  pub is : KeepsImage n cap machine (is_some part) kept
+  pub closes : Closes part holds kept result deeds
+
+-- the deeds take away the file that was made ready, if one was, and the program ends with this fault
+abbrev pub BreaksOff : {F P : Type 0} → Option P → ProgramFault → Result (Unit {0}) ProgramFault → List (Deed F P)
+    → Type 0
+BreaksOff part fault result deeds = (deeds ≡ let_go part) × (result ≡ Err fault)

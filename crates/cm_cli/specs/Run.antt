@@ -29,26 +29,44 @@ pub record GivesProgram (gives : Result (Vec ℕ Global) TakeFault → Type 0) (
   pub given : gives text
   pub is : IsProgramText text program
 
--- the image that is kept of a machine, if one is to be kept
-abbrev pub IsKept : ℕ → ℕ → Machine → Bool → Option (Vec ℕ Global) → Type 0
-IsKept n cap machine true (Some image) = image.items ≡ text_of n cap machine
+-- the bytes of the image that is kept of a machine, if one is to be kept
+abbrev pub IsKept : ℕ → ℕ → Machine → Bool → Option (List ℕ) → Type 0
+IsKept n cap machine true (Some image) = image ≡ text_of n cap machine
 IsKept n cap machine true None = ⊥
 IsKept n cap machine false (Some image) = ⊥
 IsKept n cap machine false None = Unit {0}
 
+-- the same, or want of memory for an image that is to be kept
+abbrev pub KeepsImage : ℕ → ℕ → Machine → Bool → Result (Option (List ℕ)) ProgramFault → Type 0
+KeepsImage n cap machine keeps (Ok kept) = IsKept n cap machine keeps kept
+KeepsImage n cap machine keeps (Err fault) = (keeps ≡ true) × (fault ≡ Memory)
+
 -- all commands were answered, and this image is kept of the machine that they left
-pub record HasRun (start : Start) (acts : List Act) (lines : List ℕ) (rest held holds : Option (List ℕ)) (keeps : Bool)
-    (image : Option (Vec ℕ Global)) : Type 0 where
+pub record HasLeft (start : Start) (acts : List Act) (lines : List ℕ) (rest held holds : Option (List ℕ)) (keeps : Bool)
+    (image : Option (List ℕ)) : Type 0 where
   pub after : Machine
   pub ends : Ends start.n start.cap acts lines rest start.machine held after holds (Ok tt)
   pub kept : IsKept start.n start.cap after keeps image
 
 -- all lines of some text were answered, and this image is kept of the machine that they left: this can be said of
 -- commands that do not tell their bytes
-pub record HasRunForSome (start : Start) (acts : List Act) (held holds : Option (List ℕ)) (keeps : Bool)
-    (image : Option (Vec ℕ Global)) : Type 0 where
+pub record HasLeftForSome (start : Start) (acts : List Act) (held holds : Option (List ℕ)) (keeps : Bool)
+    (image : Option (List ℕ)) : Type 0 where
   pub lines : List ℕ
-  pub run : HasRun start acts lines (Some []) held holds keeps image
+  pub run : HasLeft start acts lines (Some []) held holds keeps image
+
+-- the bytes that a list has, if there is one
+abbrev pub bytes_in : Option (Vec ℕ Global) → Option (List ℕ)
+bytes_in (Some image) = Some image.items
+bytes_in None = None
+
+-- the same of an image whose bytes are held
+abbrev pub HasRun : Start → List Act → List ℕ → Option (List ℕ) → Option (List ℕ) → Option (List ℕ) → Bool
+    → Option (Vec ℕ Global) → Type 0
+HasRun start acts lines rest held holds keeps image = HasLeft start acts lines rest held holds keeps (bytes_in image)
+
+abbrev pub HasRunForSome : Start → List Act → Option (List ℕ) → Option (List ℕ) → Bool → Option (Vec ℕ Global) → Type 0
+HasRunForSome start acts held holds keeps image = HasLeftForSome start acts held holds keeps (bytes_in image)
 
 -- a session that ended so ends the program with this fault: its own, or want of memory for an image that is to be kept
 abbrev pub IsToldAs : Bool → Result (Unit {0}) SessionFault → ProgramFault → Type 0

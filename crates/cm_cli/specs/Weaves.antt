@@ -1,8 +1,7 @@
 -- What is done when the exchange of a machine's blocks is stepped, once there are a machine and a program. Ours.
-use Rattle.std.specs.Prelude.{◌≡◌, ◌⊎◌, ℕ, false, Option, Some, None, Result, Ok, Err, Vec, List, [], ◌∷◌, ◌++◌}
+use Rattle.std.specs.Prelude.{◌≡◌, ◌⊎◌, ℕ, false, Option, Some, None, Result, Ok, Err, List, [], ◌∷◌, ◌++◌}
 use Rattle.std.specs.Prelude.{option_map, string_bytes, unwrap_or}
 use Rattle.std.specs.Option.{is_some}
-use Rattle.std.specs.declared.alloc.Global.{Global}
 use Rattle.cm_bits.specs.declared.ends.Failed.{Failed}
 use Rattle.cm_model.specs.declared.act.Act.{Act}
 use Rattle.cm_weave.specs.declared.first.WorldFault.TheVariants as world
@@ -50,6 +49,14 @@ pub record OpensNoSteps {F P : Type 0} (line : WeaveLine) (part : Option P) (out
   pub silent : IsSilent out
   pub closes : Closes part out.holds (Err Read) result second
 
+-- the deeds once a world was stepped, by this file of steps or by itself: standard output goes out, and the file is
+-- written, if one was made ready
+pub record WeavesFrom {F P : Type 0} (reads : Reads F) (n cap : ℕ) (woven : Woven) (file : Option F) (part : Option P)
+    (out : Outgoing) (result : Result (Unit {0}) ProgramFault) (deeds : List (Deed F P)) : Type 0 where
+  pub ran : Result (Option (List ℕ)) ProgramFault
+  pub is : IsWoven reads n cap woven file (is_some part) out ran
+  pub closes : Closes part out.holds ran result deeds
+
 -- the steps are opened, if they are named, and the world is stepped; then standard output goes out, and the file is
 -- written
 pub record Exchanges {F P : Type 0} (reads : Reads F) (line : WeaveLine) (n cap : ℕ) (woven : Woven) (part : Option P)
@@ -59,7 +66,7 @@ pub record Exchanges {F P : Type 0} (reads : Reads F) (line : WeaveLine) (n cap 
   pub did : deeds ≡ first ++ second
   pub file : Option F
   pub opens : OpensSteps (option_map string_bytes line.steps) file first
-  pub ran : Result (Option (Vec ℕ Global)) ProgramFault
+  pub ran : Result (Option (List ℕ)) ProgramFault
   pub is : IsWoven reads n cap woven file (is_some part) out ran
   pub closes : Closes part out.holds ran result second
 

@@ -1,6 +1,5 @@
 -- How an exchange ends that the program steps, and what it keeps of its machine. Ours.
-use Rattle.std.specs.Prelude.{◌≡◌, ◌↔◌, ℕ, Bool, true, Option, Some, None, IfSome, IsErrOf, Result, Ok, Err, Vec, List}
-use Rattle.std.specs.declared.alloc.Global.{Global}
+use Rattle.std.specs.Prelude.{◌≡◌, ◌↔◌, ℕ, Bool, true, Option, Some, None, IfSome, IsErrOf, Result, Ok, Err, List}
 use Rattle.std.specs.Io.KnownBytes.{Appends}
 use Rattle.cm_model.specs.Machine.{Machine, run_of}
 use Rattle.cm_exchange.specs.Lanes.{Exchange}
@@ -12,10 +11,9 @@ use Rattle.cm_steps.specs.Alone.{own_text}
 use Rattle.cm_steps.specs.Ends.{EndsBy, EndsByForSome, EndsFinished, EndsFinishedForSome, IsCutBy, is_write}
 use Rattle.cm_steps.specs.Hearing.{exchange_in}
 use Rattle.cm_cli.specs.declared.program_fault.ProgramFault.{ProgramFault}
-use Rattle.cm_cli.specs.declared.program_fault.ProgramFault.TheVariants.{Memory}
 use Rattle.cm_cli.specs.ProgramFault.{of_weave}
 use Rattle.cm_cli.specs.Takings.{Reads}
-use Rattle.cm_cli.specs.Run.{IsKept}
+use Rattle.cm_cli.specs.Run.{KeepsImage}
 
 -- what standard output held and holds, and whether it has failed
 pub record Outgoing : Type 0 where
@@ -58,15 +56,14 @@ EndsExchange reads exchange world None out ended = EndsByItself exchange world o
 -- once it ended so: the image of the machine that is left, if one is to be kept; else its fault, or want of memory for
 -- that image
 abbrev pub KeepsLeft : ℕ → ℕ → Machine → Bool → Result (Unit {0}) WeaveFault
-    → Result (Option (Vec ℕ Global)) ProgramFault → Type 0
-KeepsLeft n cap machine keeps (Ok done) (Ok kept) = IsKept n cap machine keeps kept
-KeepsLeft n cap machine keeps (Ok done) (Err fault) = (keeps ≡ true) × (fault ≡ Memory)
+    → Result (Option (List ℕ)) ProgramFault → Type 0
+KeepsLeft n cap machine keeps (Ok done) ran = KeepsImage n cap machine keeps ran
 KeepsLeft n cap machine keeps (Err own) (Ok kept) = ⊥
 KeepsLeft n cap machine keeps (Err own) (Err fault) = fault ≡ of_weave own
 
 -- a world of a machine of n dimensions is stepped to the end of the steps, and this is kept of its machine
 pub record IsWoven {F : Type 0} (reads : Reads F) (n cap : ℕ) (woven : Woven) (file : Option F) (keeps : Bool)
-    (out : Outgoing) (ran : Result (Option (Vec ℕ Global)) ProgramFault) : Type 0 where
+    (out : Outgoing) (ran : Result (Option (List ℕ)) ProgramFault) : Type 0 where
   pub ended : Result (Unit {0}) WeaveFault
   pub ends : EndsExchange reads (exchange_in n cap woven) woven.world file out ended
   pub write : out.failed ≡ is_write ended

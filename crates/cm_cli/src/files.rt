@@ -10,13 +10,11 @@ ghost use Rattle.cm_cli.specs.Runs.{DoesRun};
 use crate::opened::Opened;
 use crate::outside::Outside;
 use crate::program_fault::ProgramFault;
-use crate::puttings::close_files;
-use crate::running::{run_alone, run_shared};
+use crate::saved::{save_alone, save_shared};
 use crate::sharing::Sharing;
 use crate::takings::{open_image_file, read_program_file};
 use cm_asm::Program;
 use cm_bits::{Sink, Source};
-use cm_workers::Passage;
 use std::alloc::Global;
 use std::sync::Wait;
 use std::thread::Threads;
@@ -63,9 +61,7 @@ pub fn run_files_alone<H: Outside, I: Source, O: Sink>(
         program,
         part,
     } = begun;
-    let keeps = part.is_some();
-    let ran = run_alone(alloc, machine, &program, commands, answers, keeps);
-    close_files(outside, part, answers, ran)
+    save_alone(alloc, outside, machine, &program, part, commands, answers)
 }
 
 /// The same by several workers, each in a thread of its own.
@@ -93,19 +89,17 @@ pub fn run_files_shared<R: Threads + Wait + Sync, H: Outside, I: Source, O: Sink
         program,
         part,
     } = begun;
-    let keeps = part.is_some();
-    let ran = run_shared(
+    save_shared(
         rt,
         alloc,
+        outside,
         machine,
         &program,
         line.sharing,
-        Passage::Open,
+        part,
         commands,
         answers,
-        keeps,
-    );
-    close_files(outside, part, answers, ran)
+    )
 }
 
 /// Takes the image, then the program, looks whether the machine can be shared out so, and makes the file ready that is

@@ -3,6 +3,7 @@
 ghost use Rattle.std.specs.Prelude.{◌≡◌, ℕ, false, IfOk, List, Option};
 ghost use Rattle.cm_cli.specs.Deeds.{Deed, Asked, Opened, Readied, Flushed, Filled, LetGo};
 
+use crate::written::Written;
 use cm_bits::{Failed, Sink, Source};
 use cm_line::LineFault;
 use std::alloc::Global;
@@ -46,9 +47,9 @@ pub trait Outside {
     fn flush<O: Sink>(&mut self, out: &O) -> Result<(), Failed>
         ensures does { does self.old (Flushed (O.contents out.now) result) self.new };
 
-    /// Puts these bytes where the file was wanted that was made ready, or takes it away.
-    fn fill(&mut self, part: Self::Part, bytes: &[u8]) -> Result<(), PutFault>
-        ensures does { does self.old (Filled part bytes.now result) self.new };
+    /// Writes the bytes of this into the file that was made ready, and puts it where it was wanted; or takes it away.
+    fn fill<T: Written>(&mut self, part: Self::Part, image: T) -> Result<(), PutFault>
+        ensures does { does self.old (Filled part (T.bytes image) result) self.new };
 
     /// Takes away a file that was made ready.
     fn let_go(&mut self, part: Self::Part)

@@ -1,26 +1,27 @@
 //! What is done once the program's work has ended: standard output goes out, and a file gets its place.
 
-ghost use Rattle.std.specs.Prelude.{◌≡◌, IfOk, IfErr, IsErrOf};
-ghost use Rattle.std.specs.Option.{is_some};
+ghost use Rattle.std.specs.Prelude.{◌≡◌, Ok, Some};
 ghost use Rattle.cm_cli.specs.Deeds.{Did};
-ghost use Rattle.cm_cli.specs.Puttings.{Closes, Fills, FlushesOut, Puts, Saves, let_go};
+ghost use Rattle.cm_cli.specs.Puttings.{BreaksOff, ClosesLeft, ClosesWell, Fills, FlushesOut, Puts, let_go};
 
 use crate::outside::Outside;
 use crate::program_fault::ProgramFault;
+use crate::written::{Image, Written};
+use cm_array::Machine;
 use cm_bits::Sink;
 use std::alloc::Global;
 
 /// Puts a file of these bytes where the path says.
-pub fn put_file<H: Outside>(
+pub fn put_file<H: Outside, T: Written>(
     alloc: Global,
     outside: &mut H,
     path: &str,
-    bytes: &[u8],
+    image: T,
 ) -> Result<(), ProgramFault>
-    ensures { Did H.does outside.old outside.new (Puts path.now bytes.now result) }
+    ensures { Did H.does outside.old outside.new (Puts path.now (T.bytes image) result) }
 {
     match outside.ready(alloc, path) {
-        Ok(part) => fill(outside, part, bytes),
+        Ok(part) => fill(outside, part, image),
         Err(fault) => Err(ProgramFault::from(fault)),
     }
 }
@@ -35,66 +36,73 @@ pub fn flush_out<H: Outside, O: Sink>(outside: &mut H, out: &O) -> Result<(), Pr
     }
 }
 
-/// Once a session has ended so: what it wrote goes out, and then the file that was made ready gets the image that was
-/// kept. After a fault that file is taken away.
-pub fn close_files<H: Outside, O: Sink>(
+/// Once a session has ended well, and left this machine: what it wrote goes out, and then the file that was made ready
+/// gets the machine's image. What writing that takes of memory is taken before.
+pub(crate) fn close_files<const N: usize, const CAP: usize, H: Outside, O: Sink>(
+    alloc: Global,
     outside: &mut H,
     part: Option<H::Part>,
     out: &O,
-    ran: Result<Option<Vec<u8>>, ProgramFault>,
+    machine: &Machine<N, CAP>,
 ) -> Result<(), ProgramFault>
-    requires kept { IfOk ran (λ kept. is_some kept ≡ is_some part) }
-    ensures value { Did H.does outside.old outside.new (Closes part (O.contents out.now) ran result) }
+    ensures value { Did H.does outside.old outside.new (ClosesLeft N CAP machine.now.machine part (O.contents out.now)
+        result) }
 {
-    let kept = match ran {
-        Ok(kept) => kept,
-        Err(fault) => {
-            let_go(outside, part);
-            return Err(fault);
-        }
+    let Some(part) = part else {
+        return flush_out(outside, out);
     };
-    match outside.flush(out) {
-        Ok(()) => save(outside, part, kept),
+    match Image::of(alloc, machine) {
+        Ok(image) => save(outside, part, out, image),
         Err(_) => {
-            let_go(outside, part);
+            outside.let_go(part);
+            Err(ProgramFault::Memory)
+        }
+    }
+}
+
+/// Once a session broke off: the file that was made ready is taken away.
+pub(crate) fn break_off<H: Outside>(
+    outside: &mut H,
+    part: Option<H::Part>,
+    fault: ProgramFault,
+) -> Result<(), ProgramFault>
+    ensures value { Did H.does outside.old outside.new (BreaksOff part fault result) }
+{
+    if let Some(part) = part {
+        outside.let_go(part);
+    }
+    Err(fault)
+}
+
+/// What was written goes out, and then the file that was made ready is filled.
+fn save<H: Outside, T: Written, O: Sink>(
+    outside: &mut H,
+    part: H::Part,
+    out: &O,
+    image: T,
+) -> Result<(), ProgramFault>
+    ensures value { Did H.does outside.old outside.new (ClosesWell (Some part) (O.contents out.now)
+        (Some (T.bytes image)) result) }
+{
+    match outside.flush(out) {
+        Ok(()) => fill(outside, part, image),
+        Err(_) => {
+            outside.let_go(part);
             Err(ProgramFault::Write)
         }
     }
 }
 
-/// Fills the file that was made ready, if one was, with the image that was kept.
-fn save<H: Outside>(
-    outside: &mut H,
-    part: Option<H::Part>,
-    kept: Option<Vec<u8>>,
-) -> Result<(), ProgramFault>
-    requires kept { is_some kept ≡ is_some part }
-    ensures value { Did H.does outside.old outside.new (Saves part kept result) }
-{
-    let Some(part) = part else {
-        return Ok(());
-    };
-    match kept {
-        Some(image) => fill(outside, part, image.as_slice()),
-        None => unreachable!(),
-    }
-}
-
 /// Fills a file that was made ready.
-fn fill<H: Outside>(outside: &mut H, part: H::Part, bytes: &[u8]) -> Result<(), ProgramFault>
-    ensures { Did H.does outside.old outside.new (Fills part bytes.now result) }
+fn fill<H: Outside, T: Written>(
+    outside: &mut H,
+    part: H::Part,
+    image: T,
+) -> Result<(), ProgramFault>
+    ensures { Did H.does outside.old outside.new (Fills part (T.bytes image) result) }
 {
-    match outside.fill(part, bytes) {
+    match outside.fill(part, image) {
         Ok(()) => Ok(()),
         Err(fault) => Err(ProgramFault::from(fault)),
-    }
-}
-
-/// Takes away a file that was made ready, if one was.
-fn let_go<H: Outside>(outside: &mut H, part: Option<H::Part>)
-    ensures { Did H.does outside.old outside.new (λ deeds. deeds ≡ let_go part) }
-{
-    if let Some(part) = part {
-        outside.let_go(part);
     }
 }

@@ -366,7 +366,7 @@ fn run_by_workers<const N: usize, const CAP: usize, R: Threads + Wait + Sync, I:
 }
 
 /// The runner of as many workers as are asked for, on as many blocks of a machine of 2^`N` chips.
-fn shared_runner<'a, const N: usize, R: Threads + Wait + Sync>(
+pub(crate) fn shared_runner<'a, const N: usize, R: Threads + Wait + Sync>(
     rt: &'a R,
     alloc: Global,
     sharing: Sharing,

@@ -1,22 +1,20 @@
 //! `cm1 weave`: the exchange of a machine's blocks, stepped by the lines of a file or by itself.
 
-ghost use Rattle.std.specs.Prelude.{◌≡◌, false, Ok, Some, IfOk, IfErr, IfSome, option_map, string_bytes};
-ghost use Rattle.std.specs.Option.{is_some};
+ghost use Rattle.std.specs.Prelude.{◌≡◌, false, Some, None, IfOk, IfErr, IfSome, option_map, string_bytes};
 ghost use Rattle.cm_cli.specs.Sizes.{start_in, start_at};
 ghost use Rattle.cm_cli.specs.Deeds.{Did};
 ghost use Rattle.cm_cli.specs.Takings.{reads_by};
-ghost use Rattle.cm_cli.specs.Weaving.{IsWoven, KeepsLeft, outgoing};
-ghost use Rattle.cm_cli.specs.Weaves.{OpensSteps, RefusesSteps, WeavesAt, WeavesReady, WeavesWorld};
+ghost use Rattle.cm_cli.specs.Weaving.{outgoing};
+ghost use Rattle.cm_cli.specs.Weaves.{OpensSteps, RefusesSteps, WeavesAt, WeavesFrom, WeavesReady, WeavesWorld};
 
 use crate::files::make_ready;
 use crate::opened::{OfRoom, Opened};
 use crate::outside::Outside;
 use crate::program_fault::ProgramFault;
-use crate::puttings::close_files;
+use crate::puttings::{break_off, close_files};
 use cm_array::Machine;
 use cm_asm::Program;
-use cm_bits::{Failed, Sink, Source};
-use cm_image::dump;
+use cm_bits::{Failed, Sink};
 use cm_steps::{weave_self, weave_session};
 use cm_weave::World;
 use std::alloc::Global;
@@ -136,12 +134,8 @@ fn weave_ready<const N: usize, const CAP: usize, H: Outside, O: Sink>(
         (outgoing (O.contents answers.old) (O.contents answers.new) (O.has_failed answers.new)) result) }
 {
     match open_steps(outside, &line.steps) {
-        Ok(steps) => {
-            let keeps = part.is_some();
-            let ran = weave_on(alloc, world, steps, answers, keeps);
-            close_files(outside, part, answers, ran)
-        }
-        Err(_) => close_files(outside, part, answers, Err(ProgramFault::Read)),
+        Ok(steps) => weave_on(alloc, outside, world, steps, part, answers),
+        Err(_) => break_off(outside, part, ProgramFault::Read),
     }
 }
 
@@ -165,63 +159,64 @@ fn open_steps<H: Outside>(
     }
 }
 
-/// Steps a world, by these steps or by itself, and gives the image of the machine that is left, if one is kept.
-fn weave_on<const N: usize, const CAP: usize, F: Source + Drop, O: Sink>(
+/// Steps a world, by these steps or by itself; and then the image of the machine that is left goes into the file that was
+/// made ready, if one was.
+fn weave_on<const N: usize, const CAP: usize, H: Outside, O: Sink>(
     alloc: Global,
+    outside: &mut H,
     world: World<N, CAP>,
-    steps: Option<F>,
+    steps: Option<H::File>,
+    part: Option<H::Part>,
     answers: &mut O,
-    keeps: bool,
-) -> Result<Option<Vec<u8>>, ProgramFault>
-    requires reader { IfSome steps (λ one. F.has_failed one ≡ false) }
+) -> Result<(), ProgramFault>
+    requires reader { IfSome steps (λ one. H.File.has_failed one ≡ false) }
     requires writer { O.has_failed answers.old ≡ false }
-    ensures woven { IsWoven (reads_by F.left F.has_failed) N CAP world.entry steps keeps
-        (outgoing (O.contents answers.old) (O.contents answers.new) (O.has_failed answers.new)) result }
-    ensures kept { IfOk result (λ kept. is_some kept ≡ keeps) }
+    ensures does { Did H.does outside.old outside.new (WeavesFrom (reads_by H.File.left H.File.has_failed)
+        N CAP world.entry steps part
+        (outgoing (O.contents answers.old) (O.contents answers.new) (O.has_failed answers.new)) result) }
 {
     match steps {
-        Some(steps) => weave_by(alloc, world, steps, answers, keeps),
-        None => match weave_self(alloc, world, answers) {
-            Ok(machine) => keep(alloc, &machine, keeps),
-            Err(fault) => Err(ProgramFault::from(fault)),
-        },
+        Some(steps) => weave_by(alloc, outside, world, steps, part, answers),
+        None => weave_alone(alloc, outside, world, part, answers),
+    }
+}
+
+/// Steps a world by itself.
+fn weave_alone<const N: usize, const CAP: usize, H: Outside, O: Sink>(
+    alloc: Global,
+    outside: &mut H,
+    world: World<N, CAP>,
+    part: Option<H::Part>,
+    answers: &mut O,
+) -> Result<(), ProgramFault>
+    requires writer { O.has_failed answers.old ≡ false }
+    ensures does { Did H.does outside.old outside.new (WeavesFrom (reads_by H.File.left H.File.has_failed)
+        N CAP world.entry None part
+        (outgoing (O.contents answers.old) (O.contents answers.new) (O.has_failed answers.new)) result) }
+{
+    match weave_self(alloc, world, answers) {
+        Ok(machine) => close_files(alloc, outside, part, answers, &machine),
+        Err(fault) => break_off(outside, part, ProgramFault::from(fault)),
     }
 }
 
 /// Steps a world by these steps.
-fn weave_by<const N: usize, const CAP: usize, F: Source + Drop, O: Sink>(
+fn weave_by<const N: usize, const CAP: usize, H: Outside, O: Sink>(
     alloc: Global,
+    outside: &mut H,
     world: World<N, CAP>,
-    mut steps: F,
+    mut steps: H::File,
+    part: Option<H::Part>,
     answers: &mut O,
-    keeps: bool,
-) -> Result<Option<Vec<u8>>, ProgramFault>
-    requires reader { F.has_failed steps ≡ false }
+) -> Result<(), ProgramFault>
+    requires reader { H.File.has_failed steps ≡ false }
     requires writer { O.has_failed answers.old ≡ false }
-    ensures woven { IsWoven (reads_by F.left F.has_failed) N CAP world.entry (Some steps) keeps
-        (outgoing (O.contents answers.old) (O.contents answers.new) (O.has_failed answers.new)) result }
-    ensures kept { IfOk result (λ kept. is_some kept ≡ keeps) }
+    ensures does { Did H.does outside.old outside.new (WeavesFrom (reads_by H.File.left H.File.has_failed)
+        N CAP world.entry (Some steps) part
+        (outgoing (O.contents answers.old) (O.contents answers.new) (O.has_failed answers.new)) result) }
 {
     match weave_session(alloc, world, &mut steps, answers) {
-        Ok(machine) => keep(alloc, &machine, keeps),
-        Err(fault) => Err(ProgramFault::from(fault)),
-    }
-}
-
-/// The image of a machine, if one is kept.
-fn keep<const N: usize, const CAP: usize>(
-    alloc: Global,
-    machine: &Machine<N, CAP>,
-    keeps: bool,
-) -> Result<Option<Vec<u8>>, ProgramFault>
-    ensures value { KeepsLeft N CAP machine.now.machine keeps (Ok tt) result }
-    ensures kept { IfOk result (λ kept. is_some kept ≡ keeps) }
-{
-    if !keeps {
-        return Ok(None);
-    }
-    match dump(alloc, machine) {
-        Ok(image) => Ok(Some(image)),
-        Err(_) => Err(ProgramFault::Memory),
+        Ok(machine) => close_files(alloc, outside, part, answers, &machine),
+        Err(fault) => break_off(outside, part, ProgramFault::from(fault)),
     }
 }

@@ -1,33 +1,37 @@
-use Rattle.std.proofs.Common.{Ok, Err, refl}
-use Rattle.cm_cli.proofs.Leading.{followed}
+use Rattle.std.proofs.Common.{Ok, Err, Some, None, [], refl}
+use Rattle.cm_cli.specs.declared.program_fault.ProgramFault.TheVariants.{Memory}
+use Rattle.cm_cli.proofs.Leading.{one, did_so}
+use Rattle.cm_cli.proofs.Putting.{saves_none}
 use Rattle.cm_cli.proofs.puttings.close_files.Goals as goal
 
-pub returns-in-Ok-flush : goal.returns-in-Ok-flush
-returns-in-Ok-flush g c = record {
-  value = rw c.in-Ok.is (record {
-    deeds = _;
-    lead = followed g.H.Outside.does c.args.outside.now _ c.flush.new.self _ _ c.in-Ok-flush.ensures.does
-        c.save.ensures.value.lead;
-    so = record {
-      done = Ok c.in-Ok-flush.field-0;
-      more = c.save.ensures.value.deeds;
-      did = refl;
-      then = c.save.ensures.value.so;
+pub returns-in_default : goal.returns-in_default
+returns-in_default g c = rw c.in_default.is (record {
+  value = did_so c.flush_out.ensures (λ deeds flushes. record {
+    kept = Ok None;
+    is = tt;
+    closes = record {
+      done = flushes.done;
+      more = [];
+      did = flushes.did;
+      then = saves_none _ _ flushes.done c.flush_out.result flushes.told;
     };
   });
-}
+})
 
-pub returns-in-Err-flush : goal.returns-in-Err-flush
-returns-in-Err-flush g c = record {
-  value = rw c.in-Ok.is (record {
-    deeds = _;
-    lead = followed g.H.Outside.does c.args.outside.now _ c.flush.new.self _ _ c.in-Err-flush.ensures.does
-        c.let_go-in-Err-flush.ensures.lead;
-    so = record {
-      done = Err c.in-Err-flush.field-0;
-      more = c.let_go-in-Err-flush.ensures.deeds;
-      did = refl;
-      then = (c.let_go-in-Err-flush.ensures.so, refl);
-    };
+pub returns-in-Ok : goal.returns-in-Ok
+returns-in-Ok g c = rw c.in-Some.is (record {
+  value = did_so c.save.ensures.value (λ deeds closes. record {
+    kept = Ok (Some c.in-Ok.image);
+    is = c.in-Ok.ensures.value;
+    closes = closes;
   });
-}
+})
+
+pub returns-in-Err : goal.returns-in-Err
+returns-in-Err g c = rw c.in-Some.is (record {
+  value = record {
+    deeds = _;
+    lead = one g.H.Outside.does c.args.outside.now _ c.let_go.new.self c.let_go.ensures.does;
+    so = record { kept = Err Memory; is = (refl, refl); closes = (refl, refl) };
+  };
+})

@@ -1,30 +1,29 @@
 use Rattle.std.proofs.Common.{refl, inl, inr}
 use Rattle.cm_cli.proofs.Leading.{did_both}
-use Rattle.cm_cli.proofs.Weaving.{same_keeps}
 use Rattle.cm_cli.proofs.weaves.weave_ready.Goals as goal
 
 pub returns-in-Ok : goal.returns-in-Ok
 returns-in-Ok g c = record {
-  does = did_both c.in-Ok.ensures.value c.close_files.ensures.value (λ deeds more opens closes. inr (record {
+  does = did_both c.in-Ok.ensures.value c.weave_on.ensures.does (λ deeds more opens weaves. inr (record {
     first = deeds;
     second = more;
     did = refl;
     file = c.in-Ok.steps;
     opens = opens;
-    ran = c.weave_on-ran.result;
-    is = same_keeps c.is_some-keeps.ensures c.weave_on-ran.ensures.woven;
-    closes = closes;
+    ran = weaves.ran;
+    is = weaves.is;
+    closes = weaves.closes;
   }));
 }
 
 pub returns-in-Err : goal.returns-in-Err
 returns-in-Err g c = record {
-  does = did_both c.in-Err.ensures.refused c.close_files-in-Err.ensures.value (λ deeds more refused closes. inl (record {
+  does = did_both c.in-Err.ensures.refused c.break_off.ensures.value (λ deeds more refused broke. inl (record {
     first = deeds;
     second = more;
     did = refl;
     refused = refused;
     silent = (refl, c.requires.writer);
-    closes = closes;
+    closes = broke;
   }));
 }
