@@ -5,13 +5,14 @@ ghost use Rattle.std.specs.List.{All};
 ghost use Rattle.std.specs.Thread.{IsSync};
 ghost use Rattle.cm_workers.specs.Gates.{ComesBy};
 
+use crate::runners::Kind;
 use cm_array::{Machine, RunFault, Runner};
 use cm_bits::FlagNo;
-use cm_draws::{poke_plane, run_beside_plain};
+use cm_draws::{four_messages_each, poke_plane, run_beside_plain};
 use cm_model::Act;
 use cm_resident::Resident;
 use cm_subcube::Block;
-use cm_workers::{Gate, Passage};
+use cm_workers::{Forked, Gate, Passage};
 use std::alloc::Global;
 use std::sync::atomic::{AtomicU64, Ordering};
 use std::sync::{Arc, Wait};
@@ -73,22 +74,23 @@ fn no_calls(alloc: Global) -> Option<Arc<Calls, Global>> {
     Arc::new(alloc, calls).ok()
 }
 
-/// How a runner ends a petit cycle, whether the machine is then as one thread leaves it, or else as it was; and how often
+/// How a runner ends a list of acts, whether the machine is then as one thread leaves it, or else as it was; and how often
 /// the gate was asked and passed so far.
-type Cycled = ((Option<RunFault>, bool), (u64, u64));
+type Listed = ((Option<RunFault>, bool), (u64, u64));
 
-/// What two petit cycles tell, one after the other.
-fn cycles<X: Runner<4, 7>>(
+/// What a petit cycle and the program of messages tell, one after the other.
+fn lists<X: Runner<4, 7>>(
     runner: &mut X,
     alloc: Global,
     machine: &mut Machine<4, 7>,
     calls: &Arc<Calls, Global>,
-) -> Option<[Cycled; 2]>
+) -> Option<[Listed; 2]>
     requires runner { X.ready }
 {
+    let acts = four_messages_each(alloc).ok()?;
     let first = run_beside_plain(runner, alloc, machine, &[Act::Cycle], 16)?;
     let between = calls.told();
-    let second = run_beside_plain(runner, alloc, machine, &[Act::Cycle], 16)?;
+    let second = run_beside_plain(runner, alloc, machine, &acts, 16)?;
     Some([(first, between), (second, calls.told())])
 }
 
@@ -96,11 +98,12 @@ fn cycles<X: Runner<4, 7>>(
 fn gated<R: Threads + Wait + Sync>(
     rt: &R,
     alloc: Global,
+    kind: Kind,
     machine: &mut Machine<4, 7>,
     workers: u16,
     refused: u16,
     calls: &Arc<Calls, Global>,
-) -> Option<[Cycled; 2]>
+) -> Option<[Listed; 2]>
     requires threads { IsSync R.row }
 {
     let gate = Reluctant {
@@ -108,32 +111,41 @@ fn gated<R: Threads + Wait + Sync>(
         calls: Arc::try_clone(calls).ok()?,
     };
     let passage = Passage::Gated(Box::new(alloc, gate).ok()?);
-    let mut resident = Resident::new::<4>(rt, alloc, 2, workers, passage).ok()?;
-    cycles(&mut resident, alloc, machine, calls)
+    match kind {
+        Kind::Forked => {
+            let mut forked = Forked::new::<4>(rt, alloc, 2, workers, passage).ok()?;
+            lists(&mut forked, alloc, machine, calls)
+        }
+        Kind::Resident => {
+            let mut resident = Resident::new::<4>(rt, alloc, 2, workers, passage).ok()?;
+            lists(&mut resident, alloc, machine, calls)
+        }
+    }
 }
 
 /// The same of a machine in which some processors ask to send.
 fn told<R: Threads + Wait + Sync>(
     rt: &R,
     alloc: Global,
+    kind: Kind,
     workers: u16,
     refused: u16,
-) -> Option<[Cycled; 2]>
+) -> Option<[Listed; 2]>
     requires threads { IsSync R.row }
 {
     let calls = no_calls(alloc)?;
     let mut machine = asking(alloc)?;
-    gated(rt, alloc, &mut machine, workers, refused, &calls)
+    gated(rt, alloc, kind, &mut machine, workers, refused, &calls)
 }
 
-/// Which of so many workers is not admitted, how often the gate was asked then, and after a second cycle, and how often it
-/// was passed in that.
+/// Which of so many workers is not admitted, how often the gate was asked then, and after the second list, and how often it
+/// was passed in that, which has 128 rounds.
 static REFUSED: [(u16, u16, u64, u64, u64); 5] = [
-    (2, 1, 2, 4, 4),
-    (4, 0, 1, 5, 8),
-    (4, 1, 2, 6, 8),
-    (4, 2, 3, 7, 8),
-    (4, 3, 4, 8, 8),
+    (2, 1, 2, 4, 256),
+    (4, 0, 1, 5, 512),
+    (4, 1, 2, 6, 512),
+    (4, 2, 3, 7, 512),
+    (4, 3, 4, 8, 512),
 ];
 
 #[test]
@@ -146,11 +158,11 @@ fn a_worker_that_is_not_admitted_leaves_the_machine_as_it_was_and_may_be_admitte
             ((Some(RunFault::NoThread), true), (first, 0)),
             ((None, true), (second, passed)),
         ];
-        assert_eq!(rt;
-            told(&rt, rt.alloc(), workers, refused),
-            Some(wanted),
-            "worker {refused} of {workers}"
-        );
+        let told = [
+            told(&rt, rt.alloc(), Kind::Forked, workers, refused),
+            told(&rt, rt.alloc(), Kind::Resident, workers, refused),
+        ];
+        assert_eq!(rt; told, [Some(wanted); 2], "worker {refused} of {workers}");
     }
     Ok(())
 }

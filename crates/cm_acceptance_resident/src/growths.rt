@@ -2,7 +2,7 @@
 
 ghost use Rattle.std.specs.Thread.{IsSync};
 
-use crate::shares::Anyone;
+use crate::runners::Anyone;
 use cm_array::{Machine, check_stretch};
 use cm_bits::NoMemory;
 use cm_draws::sends_or_stays;

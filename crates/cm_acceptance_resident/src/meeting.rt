@@ -1,14 +1,16 @@
-//! Gates at which workers wait for one another: in each round for all others, or for one that is a round ahead.
+//! Gates at which workers wait for one another: in each round for all others, or for one that is a round ahead. They look
+//! at the blocks that they are shown.
 
-ghost use Rattle.std.specs.Prelude.{IsTrue, ◌<◌};
+ghost use Rattle.std.specs.Prelude.{IsTrue, ◌+◌, ◌<◌, ◌≤◌};
 ghost use Rattle.std.specs.List.{All};
 ghost use Rattle.std.specs.Thread.{IsSync};
 ghost use Rattle.cm_workers.specs.Gates.{ComesBy};
 
-use cm_array::{Machine, Runner};
-use cm_draws::{four_messages_each, has_one_of_four, run_beside_plain};
+use crate::letters::{Letter, are_letters, letters_at_rounds};
+use crate::runners::{Kind, Share, run_by};
+use cm_array::Machine;
+use cm_draws::{four_messages_each, has_one_of_four};
 use cm_model::Act;
-use cm_resident::Resident;
 use cm_subcube::Block;
 use cm_workers::{Gate, Passage};
 use std::alloc::Global;
@@ -28,8 +30,10 @@ pub(crate) struct Notes {
     came: AtomicU64,
     /// How often another did not come in time.
     late: AtomicU64,
-    /// How often another's blocks were shown.
+    /// How often another's blocks were shown, and how many chips with other messages than they should have.
     wrong: AtomicU64,
+    /// How many chips were looked at.
+    seen: AtomicU64,
     /// Whether worker 0 came to round 1.
     ahead: AtomicU64,
 }
@@ -49,12 +53,13 @@ impl Notes {
         self.late.fetch_add(1, Ordering::SeqCst);
     }
 
-    /// Calls of all, how often one was late, and how often another's blocks were shown.
-    pub(crate) fn told(&self) -> [u64; 3] {
+    /// Calls of all, how often one was late, how much was shown wrong, and how many chips were looked at.
+    pub(crate) fn told(&self) -> [u64; 4] {
         [
             self.came.load(Ordering::SeqCst),
             self.late.load(Ordering::SeqCst),
             self.wrong.load(Ordering::SeqCst),
+            self.seen.load(Ordering::SeqCst),
         ]
     }
 }
@@ -88,6 +93,25 @@ pub(crate) struct Meeting {
     pub(crate) workers: u16,
     pub(crate) cut: Cut,
     pub(crate) notes: Arc<Notes, Global>,
+    /// By round, what should stand at a chip; None where nobody looks at messages.
+    pub(crate) letters: Option<Vec<Vec<Letter>>>,
+}
+
+impl Meeting {
+    /// Notes each chip of a block, and each that has other messages than it should have before a round.
+    fn look(&self, round: u32, block: &Block)
+        requires gathered { IsTrue block.now.kept.gathered }
+    {
+        let Some(letters) = &self.letters else {
+            return;
+        };
+        for chip in block.first()..end_of(block) {
+            self.notes.seen.fetch_add(1, Ordering::SeqCst);
+            if !are_letters(letters, round, chip, block.buffer(chip)) {
+                self.notes.wrong.fetch_add(1, Ordering::SeqCst);
+            }
+        }
+    }
 }
 
 impl Gate for Meeting {
@@ -103,6 +127,9 @@ impl Gate for Meeting {
     {
         if !are_of(worker, self.workers, self.cut, blocks) {
             self.notes.wrong.fetch_add(1, Ordering::SeqCst);
+        }
+        for block in blocks {
+            self.look(round, block);
         }
         self.notes.came.fetch_add(1, Ordering::SeqCst);
         match self.waits {
@@ -122,6 +149,14 @@ impl Gate for Meeting {
     }
 }
 
+/// The number behind that of a block's last chip.
+fn end_of(block: &Block) -> u16
+    ensures within { result ≤ block.now.kept.part.first + block.now.kept.part.count }
+{
+    let end = usize::from(block.first()) + block.chips().min(4096);
+    u16::try_from(end).unwrap_or(0)
+}
+
 /// Whether these are all the blocks that such a worker has, the lowest first.
 fn are_of(worker: u16, workers: u16, cut: Cut, blocks: &[Block]) -> bool {
     let mut number = worker;
@@ -139,68 +174,69 @@ pub(crate) fn no_notes(alloc: Global) -> Result<Arc<Notes, Global>, Fail> {
         came: AtomicU64::new(0),
         late: AtomicU64::new(0),
         wrong: AtomicU64::new(0),
+        seen: AtomicU64::new(0),
         ahead: AtomicU64::new(0),
     };
     Ok(Arc::new(alloc, notes)?)
 }
 
-/// Whether so many workers that wait so go through the program of messages as one thread, and the messages are where they
-/// should be then.
+/// Which workers meet: of which kind, who waits for whom, and how many there are.
+type Met = (Kind, Waits, u16);
+
+/// Whether workers that wait so go through the program of messages as one thread, and the messages are where they should be
+/// then.
 fn meet<R: Threads + Wait + Sync>(
     rt: &R,
     alloc: Global,
-    waits: Waits,
-    workers: u16,
+    met: Met,
     acts: &[Act],
     notes: &Arc<Notes, Global>,
 ) -> Result<bool, Fail>
     requires threads { IsSync R.row }
 {
+    let (kind, waits, workers) = met;
     let gate = Meeting {
         waits,
         workers,
         cut: FOUR,
         notes: Arc::try_clone(notes)?,
+        letters: Some(letters_at_rounds(alloc)?),
     };
     let passage = Passage::Gated(Box::new(alloc, gate)?);
-    let mut resident = Resident::new::<4>(rt, alloc, 2, workers, passage)?;
     let mut machine = Machine::<4, 7>::blank(alloc)?;
-    let ran = run_beside_plain(&mut resident, alloc, &mut machine, acts, 16);
+    let share = Share { k: 2, workers };
+    let ran = run_by(rt, alloc, kind, share, passage, &mut machine, acts, 16);
     Ok(ran == Some((None, true)) && has_one_of_four(&machine))
 }
 
 /// What all noted, and whether the machine is as one thread leaves it.
-fn told<R: Threads + Wait + Sync>(
-    rt: &R,
-    alloc: Global,
-    waits: Waits,
-    workers: u16,
-) -> Result<([u64; 3], bool), Fail>
+fn told<R: Threads + Wait + Sync>(rt: &R, alloc: Global, met: Met) -> Result<([u64; 4], bool), Fail>
     requires threads { IsSync R.row }
 {
     let acts = four_messages_each(alloc)?;
     let notes = no_notes(alloc)?;
-    let is_plain = meet(rt, alloc, waits, workers, &acts, &notes)?;
+    let is_plain = meet(rt, alloc, met, &acts, &notes)?;
     Ok((notes.told(), is_plain))
 }
 
-/// Who waits for whom, how many workers there are, and how often they come to a round.
-static MEETINGS: [(Waits, u16, u64); 3] = [
-    (Waits::ForAll(2), 2, 256),
-    (Waits::ForAll(4), 4, 512),
-    (Waits::ForOneAhead, 4, 512),
+/// Which workers meet, and how often they come to a round.
+static MEETINGS: [(Met, u64); 7] = [
+    ((Kind::Forked, Waits::ForAll(2), 2), 256),
+    ((Kind::Forked, Waits::ForAll(3), 3), 384),
+    ((Kind::Forked, Waits::ForAll(4), 4), 512),
+    ((Kind::Resident, Waits::ForAll(2), 2), 256),
+    ((Kind::Resident, Waits::ForAll(3), 3), 384),
+    ((Kind::Resident, Waits::ForAll(4), 4), 512),
+    ((Kind::Resident, Waits::ForOneAhead, 4), 512),
 ];
 
 #[test]
-fn workers_meet_in_each_of_128_rounds_and_may_be_a_round_apart(
+fn workers_meet_in_each_of_128_rounds_with_the_blocks_of_one_thread_and_may_be_a_round_apart(
     rt: HostRuntime,
 ) -> Result<(), Fail> {
     for row in &MEETINGS {
-        let (waits, workers, came) = *row;
-        assert_eq!(rt;
-            told(&rt, rt.alloc(), waits, workers)?,
-            ([came, 0, 0], true)
-        );
+        let (met, came) = *row;
+        assert_eq!(rt; told(&rt, rt.alloc(), met)?, ([came, 0, 0, 128 * 16], true));
     }
     Ok(())
 }

@@ -125,6 +125,7 @@ fn left_shared<R: Threads + Wait + Sync>(
         workers,
         cut: row.cut,
         notes: Arc::try_clone(notes).ok()?,
+        letters: None,
     };
     let passage = Passage::Gated(Box::new(alloc, gate).ok()?);
     let mut commands = Bytes::new(ASKS, 7);
@@ -154,7 +155,7 @@ fn told<R: Threads + Wait + Sync>(
     rt: &R,
     alloc: Global,
     row: &Shared,
-) -> Result<([u64; 3], bool), Fail>
+) -> Result<([u64; 4], bool), Fail>
     requires threads { IsSync R.row }
 {
     let notes = no_notes(alloc)?;
@@ -166,7 +167,7 @@ fn told<R: Threads + Wait + Sync>(
 #[test]
 fn all_workers_of_the_program_meet_in_each_round(rt: HostRuntime) -> Result<(), Fail> {
     for row in &SHARED {
-        assert_eq!(rt; told(&rt, rt.alloc(), row)?, ([row.came, 0, 0], true));
+        assert_eq!(rt; told(&rt, rt.alloc(), row)?, ([row.came, 0, 0, 0], true));
     }
     Ok(())
 }

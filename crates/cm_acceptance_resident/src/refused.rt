@@ -1,8 +1,8 @@
 //! Which numbers of blocks and workers are refused.
 
-use crate::shares::Share;
+use crate::runners::{Kind, Share};
 use cm_resident::Resident;
-use cm_workers::{ForkFault, Passage};
+use cm_workers::{ForkFault, Forked, Passage};
 use std::alloc::Global;
 use std::sync::Wait;
 use std::test::Fail;
@@ -20,8 +20,18 @@ static SHARES: [(Share, Option<ForkFault>); 8] = [
     (Share { k: 0, workers: 1 }, None),
 ];
 
-fn fault_of<R: Threads + Wait + Sync>(rt: &R, alloc: Global, share: Share) -> Option<ForkFault> {
-    Resident::new::<4>(rt, alloc, share.k, share.workers, Passage::Open).err()
+fn fault_of<R: Threads + Wait + Sync>(
+    rt: &R,
+    alloc: Global,
+    kind: Kind,
+    share: Share,
+) -> Option<ForkFault> {
+    match kind {
+        Kind::Forked => { Forked::new::<4>(rt, alloc, share.k, share.workers, Passage::Open).err() }
+        Kind::Resident => {
+            Resident::new::<4>(rt, alloc, share.k, share.workers, Passage::Open).err()
+        }
+    }
 }
 
 #[test]
@@ -30,7 +40,11 @@ fn too_many_blocks_are_refused_before_too_few_or_too_many_workers(
 ) -> Result<(), Fail> {
     for row in &SHARES {
         let (share, wanted) = *row;
-        assert_eq!(rt; fault_of(&rt, rt.alloc(), share), wanted, "{share:?}");
+        let told = [
+            fault_of(&rt, rt.alloc(), Kind::Forked, share),
+            fault_of(&rt, rt.alloc(), Kind::Resident, share),
+        ];
+        assert_eq!(rt; told, [wanted; 2], "{share:?}");
     }
     Ok(())
 }

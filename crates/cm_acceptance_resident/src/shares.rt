@@ -1,67 +1,47 @@
-//! Machines that are shared out among workers that run on, beside one thread.
+//! Machines that are shared out among workers, each in a thread of its own, beside one thread.
 
-ghost use Rattle.std.specs.Prelude.{◌≡◌, ◌<◌, ◌^◌, IsTrue};
-ghost use Rattle.std.specs.List.{All};
+ghost use Rattle.std.specs.Prelude.{◌≡◌, ◌<◌, ◌^◌};
 ghost use Rattle.std.specs.Thread.{IsSync};
-ghost use Rattle.cm_workers.specs.Gates.{ComesBy};
 
-use cm_array::Machine;
+use crate::rows::{ROWS, sent_on, two_chips};
+use crate::runners::{Anyone, Kind, Share, run_by};
+use cm_array::{Machine, Runner};
+use cm_bits::{Dir, FlagNo, Plane};
 use cm_draws::{
     Draws, OF_FOUR_CHIPS, OF_TWO_CHIPS, OF_TWO_CHIPS_WITH_ROOM_FOR_SEVEN,
     OF_TWO_CHIPS_WITH_ROOM_FOR_TWO, ask_again, asking_machine, cut_in_two_places, first_wrong,
-    four_messages_each, has_one_of_four, run_beside_plain,
+    flag, four_messages_each, has_one_of_four,
 };
 use cm_model::{Act, Rule};
 use cm_resident::Resident;
-use cm_subcube::Block;
-use cm_workers::{Gate, Passage};
+use cm_workers::{Forked, Passage};
 use std::alloc::Global;
 use std::sync::Wait;
 use std::test::Fail;
 use std::thread::Threads;
 
-/// Into 2^`k` blocks a machine is cut, for so many workers.
-#[derive(Clone, Copy, Debug, PartialEq, Eq)]
-pub(crate) struct Share {
-    pub(crate) k: u8,
-    pub(crate) workers: u16,
-}
-
 /// How many lists of acts each random machine goes through.
 const LISTS: u8 = 2;
 
-/// A gate that admits all and looks at nothing. Where there is a gate, short lists are shared out too.
-#[derive(Drop)]
-pub(crate) struct Anyone;
-
-impl Gate for Anyone {
-    ghost admits = { λ gate worker. Unit {0} };
-
-    fn admit(&self, _worker: u16) -> bool {
-        true
-    }
-
-    fn pass(&self, _worker: u16, _round: u32, _blocks: &[Block])
-        requires gathered { All (λ b. IsTrue b.kept.gathered) _blocks.now }
-        requires own { ComesBy _worker _round _blocks.now }
-    {}
-}
-
-/// Whether a machine goes through the acts by workers as it does on one thread.
+/// Whether a machine goes through the acts by workers as it does on one thread. Nobody looks at those that are joined at each
+/// round; at those that run on somebody does, so that short lists are shared out too.
 fn runs_as_plain<const N: usize, const CAP: usize, R: Threads + Wait + Sync>(
     rt: &R,
     alloc: Global,
+    kind: Kind,
+    share: Share,
     machine: &mut Machine<N, CAP>,
     acts: &[Act],
-    share: Share,
     chips: u16,
 ) -> Option<bool>
     requires chips { chips ≡ 2 ^ N }
     requires threads { IsSync R.row }
 {
-    let passage = Passage::Gated(Box::new(alloc, Anyone).ok()?);
-    let mut resident = Resident::new::<N>(rt, alloc, share.k, share.workers, passage).ok()?;
-    let ran = run_beside_plain(&mut resident, alloc, machine, acts, chips)?;
+    let passage = match kind {
+        Kind::Forked => Passage::Open,
+        Kind::Resident => Passage::Gated(Box::new(alloc, Anyone).ok()?),
+    };
+    let ran = run_by(rt, alloc, kind, share, passage, machine, acts, chips)?;
     Some(ran == (None, true))
 }
 
@@ -69,8 +49,9 @@ fn runs_as_plain<const N: usize, const CAP: usize, R: Threads + Wait + Sync>(
 fn goes<const N: usize, const CAP: usize, R: Threads + Wait + Sync>(
     rt: &R,
     alloc: Global,
-    chips: u16,
+    kind: Kind,
     share: Share,
+    chips: u16,
 ) -> Option<bool>
     requires chips { chips ≡ 2 ^ N }
     requires threads { IsSync R.row }
@@ -79,7 +60,7 @@ fn goes<const N: usize, const CAP: usize, R: Threads + Wait + Sync>(
     let mut machine = asking_machine::<N, CAP>(alloc, &mut draws, chips)?;
     for _list in 0..LISTS {
         let acts = draws.acts(alloc, 16).ok()?;
-        if !runs_as_plain(rt, alloc, &mut machine, &acts, share, chips)? {
+        if !runs_as_plain(rt, alloc, kind, share, &mut machine, &acts, chips)? {
             return Some(false);
         }
         ask_again(&mut machine, &mut draws, chips);
@@ -87,7 +68,7 @@ fn goes<const N: usize, const CAP: usize, R: Threads + Wait + Sync>(
     Some(true)
 }
 
-/// Whether drawn machines do by 2^`k` blocks, with one worker up to as many as blocks.
+/// Whether drawn machines do by 2^`k` blocks, with one worker up to as many as blocks, of either kind.
 fn go_by<const N: usize, const CAP: usize, R: Threads + Wait + Sync>(
     rt: &R,
     alloc: Global,
@@ -99,7 +80,10 @@ fn go_by<const N: usize, const CAP: usize, R: Threads + Wait + Sync>(
     requires threads { IsSync R.row }
 {
     for workers in 1..=1 << k {
-        if !goes::<N, CAP, R>(rt, alloc, chips, Share { k, workers })? {
+        let share = Share { k, workers };
+        if !goes::<N, CAP, R>(rt, alloc, Kind::Forked, share, chips)?
+            || !goes::<N, CAP, R>(rt, alloc, Kind::Resident, share, chips)?
+        {
             return Some(false);
         }
     }
@@ -169,12 +153,17 @@ static SHARES: [Share; 7] = [
 
 /// Whether so many workers go through the program of messages as one thread, and the messages are where they should be
 /// then.
-fn sent<R: Threads + Wait + Sync>(rt: &R, alloc: Global, share: Share) -> Option<(bool, bool)>
+fn sent<R: Threads + Wait + Sync>(
+    rt: &R,
+    alloc: Global,
+    kind: Kind,
+    share: Share,
+) -> Option<(bool, bool)>
     requires threads { IsSync R.row }
 {
     let acts = four_messages_each(alloc).ok()?;
     let mut machine = Machine::<4, 7>::blank(alloc).ok()?;
-    let alike = runs_as_plain(rt, alloc, &mut machine, &acts, share, 16)?;
+    let alike = runs_as_plain(rt, alloc, kind, share, &mut machine, &acts, 16)?;
     Some((alike, has_one_of_four(&machine)))
 }
 
@@ -183,11 +172,11 @@ fn workers_send_four_messages_of_each_of_sixteen_chips_across_the_cube(
     rt: HostRuntime,
 ) -> Result<(), Fail> {
     for share in &SHARES {
-        assert_eq!(rt;
-            sent(&rt, rt.alloc(), *share),
-            Some((true, true)),
-            "{share:?}"
-        );
+        let told = [
+            sent(&rt, rt.alloc(), Kind::Forked, *share),
+            sent(&rt, rt.alloc(), Kind::Resident, *share),
+        ];
+        assert_eq!(rt; told, [Some((true, true)); 2], "{share:?}");
     }
     Ok(())
 }
@@ -196,6 +185,7 @@ fn workers_send_four_messages_of_each_of_sixteen_chips_across_the_cube(
 fn sent_round<R: Threads + Wait + Sync>(
     rt: &R,
     alloc: Global,
+    kind: Kind,
     share: Share,
     rule: Rule,
 ) -> Option<bool>
@@ -203,23 +193,43 @@ fn sent_round<R: Threads + Wait + Sync>(
 {
     let acts = four_messages_each(alloc).ok()?;
     let mut machine = cut_in_two_places(alloc, rule)?;
-    runs_as_plain(rt, alloc, &mut machine, &acts, share, 16)
+    runs_as_plain(rt, alloc, kind, share, &mut machine, &acts, 16)
 }
 
 #[test]
 fn workers_send_them_round_cut_wires_by_either_rule(rt: HostRuntime) -> Result<(), Fail> {
     for share in &SHARES {
         let alike = [
-            sent_round(&rt, rt.alloc(), *share, Rule::First),
-            sent_round(&rt, rt.alloc(), *share, Rule::Oldest),
+            sent_round(&rt, rt.alloc(), Kind::Forked, *share, Rule::First),
+            sent_round(&rt, rt.alloc(), Kind::Forked, *share, Rule::Oldest),
+            sent_round(&rt, rt.alloc(), Kind::Resident, *share, Rule::First),
+            sent_round(&rt, rt.alloc(), Kind::Resident, *share, Rule::Oldest),
         ];
-        assert_eq!(rt; alike, [Some(true); 2], "{share:?}");
+        assert_eq!(rt; alike, [Some(true); 4], "{share:?}");
     }
     Ok(())
 }
 
-/// The first route that so many workers do not go as they should; they are those of a runner for sixteen chips.
-fn wrong_route<R: Threads + Wait + Sync>(
+/// The first route that so many workers, joined at each round, do not go as they should; they are those of a runner for
+/// sixteen chips.
+fn wrong_of_forked<R: Threads + Wait>(
+    rt: &R,
+    alloc: Global,
+    share: Share,
+) -> Result<Option<&'static str>, Fail>
+    requires threads { IsSync R.row }
+{
+    let mut forked = Forked::new::<4>(rt, alloc, share.k, share.workers, Passage::Open)?;
+    Ok(
+        first_wrong::<1, 1, _>(&mut forked, alloc, &OF_TWO_CHIPS, 2)
+            .or(first_wrong::<2, 1, _>(&mut forked, alloc, &OF_FOUR_CHIPS, 4))
+            .or(first_wrong::<1, 2, _>(&mut forked, alloc, &OF_TWO_CHIPS_WITH_ROOM_FOR_TWO, 2))
+            .or(first_wrong::<1, 7, _>(&mut forked, alloc, &OF_TWO_CHIPS_WITH_ROOM_FOR_SEVEN, 2)),
+    )
+}
+
+/// The same of those that run on.
+fn wrong_of_resident<R: Threads + Wait + Sync>(
     rt: &R,
     alloc: Global,
     share: Share,
@@ -241,7 +251,56 @@ fn messages_of_a_few_chips_stop_at_cut_wires_or_go_round_them_by_either_rule(
     rt: HostRuntime,
 ) -> Result<(), Fail> {
     for share in &SHARES {
-        assert_eq!(rt; wrong_route(&rt, rt.alloc(), *share)?, None, "{share:?}");
+        let wrong = [
+            wrong_of_forked(&rt, rt.alloc(), *share)?,
+            wrong_of_resident(&rt, rt.alloc(), *share)?,
+        ];
+        assert_eq!(rt; wrong, [None; 2], "{share:?}");
+    }
+    Ok(())
+}
+
+/// What is left where two chips, a block each, send flag 0, and so many workers run them.
+fn passed<R: Threads + Wait + Sync>(
+    rt: &R,
+    alloc: Global,
+    kind: Kind,
+    workers: u16,
+    dir: Dir,
+    planes: [Plane; 2],
+) -> Option<[Plane; 2]>
+    requires threads { IsSync R.row }
+{
+    let mut machine = two_chips(alloc, planes)?;
+    let acts = [sent_on(flag(0), dir)];
+    if !runs_as_plain(
+        rt,
+        alloc,
+        kind,
+        Share { k: 1, workers },
+        &mut machine,
+        &acts,
+        2,
+    )? {
+        return None;
+    }
+    Some([
+        machine.chip(0).flag_plane(FlagNo::NEWS),
+        machine.chip(1).flag_plane(FlagNo::NEWS),
+    ])
+}
+
+#[test]
+fn one_worker_and_two_pass_rows_on_between_two_chips(rt: HostRuntime) -> Result<(), Fail> {
+    for row in &ROWS {
+        let (dir, planes, wanted) = *row;
+        let told = [
+            passed(&rt, rt.alloc(), Kind::Forked, 1, dir, planes),
+            passed(&rt, rt.alloc(), Kind::Forked, 2, dir, planes),
+            passed(&rt, rt.alloc(), Kind::Resident, 1, dir, planes),
+            passed(&rt, rt.alloc(), Kind::Resident, 2, dir, planes),
+        ];
+        assert_eq!(rt; told, [Some(wanted); 4]);
     }
     Ok(())
 }
