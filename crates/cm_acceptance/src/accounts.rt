@@ -19,54 +19,140 @@ pub(crate) fn are_found<const N: usize, const CAP: usize>(
 ) -> Result<bool, AllocError>
     requires chips { chips ≡ 2 ^ N }
 {
+    let lines = lines_of(alloc, machine, chips)?;
+    let are_same = lines == plain_lines_of(alloc, plain, chips)?;
+    Ok(are_same && stand_once(machine, &lines, chips) && are_found_alike(machine, plain, chips))
+}
+
+fn lines_of<const N: usize, const CAP: usize>(
+    alloc: Global,
+    machine: &Machine<N, CAP>,
+    chips: u16,
+) -> Result<Vec<Line>, AllocError>
+    requires chips { chips ≡ 2 ^ N }
+{
     let mut lines = Vec::new(alloc);
-    let mut plain_lines = Vec::new(alloc);
     for c in 0..chips {
         add_lines(&mut lines, c, machine.buffer(c), machine.log(c))?;
-        add_lines(&mut plain_lines, c, plain.buffer(c), plain.log(c))?;
     }
-    if lines != plain_lines {
-        return Ok(false);
+    Ok(lines)
+}
+
+fn plain_lines_of<const N: usize, const CAP: usize>(
+    alloc: Global,
+    plain: &PlainRouter<N, CAP>,
+    chips: u16,
+) -> Result<Vec<Line>, AllocError>
+    requires chips { chips ≡ 2 ^ N }
+{
+    let mut lines = Vec::new(alloc);
+    for c in 0..chips {
+        add_lines(&mut lines, c, plain.buffer(c), plain.log(c))?;
     }
+    Ok(lines)
+}
+
+/// Whether each message that was taken in stands once among the lines.
+fn stand_once<const N: usize, const CAP: usize>(
+    machine: &Machine<N, CAP>,
+    lines: &[Line],
+    chips: u16,
+) -> bool
+    requires chips { chips ≡ 2 ^ N }
+{
     for c in 0..chips {
         for event in machine.log(c) {
-            if let Event::Injected(message) = event {
-                let line = Line::new(c, message);
-                let found = machine.find(message.tag);
-                if !line.stands_once(&lines)
-                    || found == Found::Unknown
-                    || found != found_in(plain, message.tag, chips)
-                {
-                    return Ok(false);
-                }
+            if let Event::Injected(message) = event
+                && !Line::new(c, message).stands_once(lines)
+            {
+                return false;
             }
         }
     }
-    Ok(true)
+    true
+}
+
+/// Whether both find each message that was taken in, at one place.
+fn are_found_alike<const N: usize, const CAP: usize>(
+    machine: &Machine<N, CAP>,
+    plain: &PlainRouter<N, CAP>,
+    chips: u16,
+) -> bool
+    requires chips { chips ≡ 2 ^ N }
+{
+    for c in 0..chips {
+        for event in machine.log(c) {
+            if let Event::Injected(message) = event
+                && !is_found_alike(machine.find(message.tag), plain, message.tag, chips)
+            {
+                return false;
+            }
+        }
+    }
+    true
+}
+
+/// Whether the message of a tag was found, and where the plain machine has it.
+fn is_found_alike<const N: usize, const CAP: usize>(
+    found: Found,
+    plain: &PlainRouter<N, CAP>,
+    tag: Tag,
+    chips: u16,
+) -> bool
+    requires chips { chips ≡ 2 ^ N }
+{
+    found != Found::Unknown && found == found_in(plain, &tag, chips)
 }
 
 /// Where the message of a tag is in the plain machine.
 fn found_in<const N: usize, const CAP: usize>(
     plain: &PlainRouter<N, CAP>,
-    tag: Tag,
+    tag: &Tag,
     chips: u16,
 ) -> Found
     requires chips { chips ≡ 2 ^ N }
 {
     for c in 0..chips {
-        for message in plain.buffer(c) {
-            if message.tag == tag {
-                return Found::Router(c);
-            }
+        if stands_in(plain.buffer(c), tag) {
+            return Found::Router(c);
         }
     }
+    delivered_in(plain, tag, chips)
+}
+
+fn stands_in(messages: &[Message], tag: &Tag) -> bool {
+    for message in messages {
+        if message.tag == *tag {
+            return true;
+        }
+    }
+    false
+}
+
+/// Where it was delivered.
+fn delivered_in<const N: usize, const CAP: usize>(
+    plain: &PlainRouter<N, CAP>,
+    tag: &Tag,
+    chips: u16,
+) -> Found
+    requires chips { chips ≡ 2 ^ N }
+{
     for c in 0..chips {
-        for event in plain.log(c) {
-            if let Event::Delivered { message, chip } = event {
-                if message.tag == tag {
-                    return Found::Delivered(*chip, message.proc);
-                }
-            }
+        let found = delivered_by(plain.log(c), tag);
+        if found != Found::Unknown {
+            return found;
+        }
+    }
+    Found::Unknown
+}
+
+/// Where it was delivered, by what a log tells.
+fn delivered_by(log: &[Event], tag: &Tag) -> Found {
+    for event in log {
+        if let Event::Delivered { message, chip } = event
+            && message.tag == *tag
+        {
+            return Found::Delivered(*chip, message.proc);
         }
     }
     Found::Unknown

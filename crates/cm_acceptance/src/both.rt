@@ -37,8 +37,7 @@ impl<const N: usize, const CAP: usize> Both<N, CAP> {
         requires dimension { N ≤ 12 }
     {
         let machine = routed_machine(alloc, &cuts, rule)?;
-        let mut plain = PlainRouter::blank(alloc, ADDRESSES).ok()?;
-        plain.route_by(cuts, rule);
+        let plain = routed_plain(alloc, cuts, rule)?;
         Some(Both { machine, plain })
     }
 
@@ -150,6 +149,19 @@ fn routed_machine<const N: usize, const CAP: usize>(
     }
     builder.rule(rule);
     builder.done().ok()
+}
+
+/// The plain one.
+fn routed_plain<const N: usize, const CAP: usize>(
+    alloc: Global,
+    cuts: Vec<Edge>,
+    rule: Rule,
+) -> Option<PlainRouter<N, CAP>>
+    requires dimension { N ≤ 12 }
+{
+    let mut plain = PlainRouter::blank(alloc, ADDRESSES).ok()?;
+    plain.route_by(cuts, rule);
+    Some(plain)
 }
 
 /// Makes the processor from which a message comes ask that it be sent.

@@ -101,9 +101,15 @@ fn has_copied_routing(alloc: Global) -> Option<bool> {
 /// Sixteen chips, of which eight processors asked to send, two petit cycles later.
 fn busy(alloc: Global) -> Option<Machine<4, 7>> {
     let mut machine = Machine::<4, 7>::blank(alloc).ok()?;
-    poke_plane(&mut machine, 0, FlagNo::SEND, 0x00ff);
-    Plain.go(&mut machine, &[Act::Cycle, Act::Cycle]).ok()?;
+    if !sends(&mut machine) {
+        return None;
+    }
     Some(machine)
+}
+
+fn sends(machine: &mut Machine<4, 7>) -> bool {
+    poke_plane(machine, 0, FlagNo::SEND, 0x00ff);
+    Plain.go(machine, &[Act::Cycle, Act::Cycle]).is_ok()
 }
 
 fn has_blank_machine(alloc: Global) -> bool {
@@ -119,26 +125,30 @@ fn has_blank_machine(alloc: Global) -> bool {
 
 fn has_copy(alloc: Global) -> Option<bool> {
     let machine = busy(alloc)?;
-    let made = match machine.copy(alloc) {
-        Err(NoMemory) => machine.copy(alloc),
-        made => made,
-    };
-    match made {
-        Ok(copy) => Some(are_same(&copy, &machine, 16)),
-        Err(_) => Some(false),
+    match is_copied(alloc, &machine) {
+        None => Some(is_copied(alloc, &machine) == Some(true)),
+        told => told,
     }
+}
+
+/// Whether a copy is the same. None where memory is wanting.
+fn is_copied(alloc: Global, machine: &Machine<4, 7>) -> Option<bool> {
+    let copy = machine.copy(alloc).ok()?;
+    Some(are_same(&copy, machine, 16))
 }
 
 fn has_part(alloc: Global) -> Option<bool> {
     let machine = busy(alloc)?;
-    let made = match machine.part(alloc, 0, 8, 2) {
-        Err(NoMemory) => machine.part(alloc, 0, 8, 2),
-        made => made,
-    };
-    match made {
-        Ok(part) => Some(is_first_half(&part, &machine)),
-        Err(_) => Some(false),
+    match has_first_half(alloc, &machine) {
+        None => Some(has_first_half(alloc, &machine) == Some(true)),
+        told => told,
     }
+}
+
+/// Whether a part is the first half. None where memory is wanting.
+fn has_first_half(alloc: Global, machine: &Machine<4, 7>) -> Option<bool> {
+    let part = machine.part(alloc, 0, 8, 2).ok()?;
+    Some(is_first_half(&part, machine))
 }
 
 fn is_first_half(part: &Part, machine: &Machine<4, 7>) -> bool {
@@ -147,12 +157,19 @@ fn is_first_half(part: &Part, machine: &Machine<4, 7>) -> bool {
 
 fn has_logs_aside(alloc: Global) -> Option<bool> {
     let mut machine = busy(alloc)?;
+    sets_logs_aside(alloc, &mut machine)
+}
+
+fn sets_logs_aside(alloc: Global, machine: &mut Machine<4, 7>) -> Option<bool> {
     let before = machine.copy(alloc).ok()?;
+    Some(has_set_logs_aside(alloc, machine, &before))
+}
+
+fn has_set_logs_aside(alloc: Global, machine: &mut Machine<4, 7>, before: &Machine<4, 7>) -> bool {
     if machine.set_logs_aside(alloc, 2).is_ok() {
-        return Some(machine.log(0).is_empty() && !before.log(0).is_empty());
+        return machine.log(0).is_empty() && !before.log(0).is_empty();
     }
-    let is_kept = are_same(&machine, &before, 16);
-    Some(is_kept && machine.set_logs_aside(alloc, 2).is_ok())
+    are_same(machine, before, 16) && machine.set_logs_aside(alloc, 2).is_ok()
 }
 
 /// A machine with messages; or else whether want of memory is told.

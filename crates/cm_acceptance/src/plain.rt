@@ -180,10 +180,16 @@ fn strays(machine: &PlainMachine<1>) -> usize {
 /// Two chips after flag 0 of processor 1 of the first has gone north, and then along the chain.
 fn after_two_steps(alloc: Global) -> Option<PlainMachine<1>> {
     let mut machine = PlainMachine::blank(alloc, 2).ok()?;
-    machine.poke_flag(0, processor(1), flag(0), true);
-    machine.step(alloc, &over_news(Dir::North)).ok()?;
-    machine.step(alloc, &over_chain(flag(0))).ok()?;
+    if !takes_two_steps(alloc, &mut machine) {
+        return None;
+    }
     Some(machine)
+}
+
+fn takes_two_steps(alloc: Global, machine: &mut PlainMachine<1>) -> bool {
+    machine.poke_flag(0, processor(1), flag(0), true);
+    machine.step(alloc, &over_news(Dir::North)).is_ok()
+        && machine.step(alloc, &over_chain(flag(0))).is_ok()
 }
 
 #[test]

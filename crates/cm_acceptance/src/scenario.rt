@@ -85,8 +85,19 @@ pub(crate) fn plays<const N: usize, const CAP: usize>(
     requires chips { chips ≡ 2 ^ N }
 {
     let mut both = Both::<N, CAP>::blank(alloc)?;
+    plays_on(alloc, &mut both, chips, steps)
+}
+
+fn plays_on<const N: usize, const CAP: usize>(
+    alloc: Global,
+    both: &mut Both<N, CAP>,
+    chips: u16,
+    steps: &[Step],
+) -> Option<usize>
+    requires chips { chips ≡ 2 ^ N }
+{
     for place in 0..steps.len() {
-        if !steps[place].is_so(&mut both, alloc, chips).ok()? {
+        if !steps[place].is_so(both, alloc, chips).ok()? {
             return Some(place);
         }
     }

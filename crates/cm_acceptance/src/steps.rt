@@ -166,12 +166,23 @@ pub(crate) fn plays<const N: usize>(alloc: Global, chips: u16, steps: &[Step]) -
     requires chips { chips ≡ 2 ^ N }
 {
     let mut trial = Trial::<N>::blank(alloc).ok()?;
+    Some(plays_on(alloc, &mut trial, chips, steps))
+}
+
+fn plays_on<const N: usize>(
+    alloc: Global,
+    trial: &mut Trial<N>,
+    chips: u16,
+    steps: &[Step],
+) -> usize
+    requires chips { chips ≡ 2 ^ N }
+{
     for (place, step) in steps.iter().enumerate() {
-        if !step.is_so(&mut trial, alloc, chips) {
-            return Some(place);
+        if !step.is_so(trial, alloc, chips) {
+            return place;
         }
     }
-    Some(steps.len())
+    steps.len()
 }
 
 /// What a caller knows of any runner.

@@ -344,6 +344,75 @@ fn is_part(band: &mut Band, whole: &mut Band) -> bool {
     band.clock == whole.clock
 }
 
+// Drawn processors of sixteen chips ask to send, in the whole machine and in its halves; the seed that comes next.
+fn ask_halves(whole: &mut Run, low: &mut Run, high: &mut Run, seed: u64) -> u64 {
+    let mut seed = seed;
+    for chip in 0u16..16 {
+        for _sender in 0..seed >> 40 & 7 {
+            seed = next(seed);
+            ask(whole, chip, seed, 15);
+            if chip < 8 {
+                ask(low, chip, seed, 15);
+            } else {
+                ask(high, chip - 8, seed, 15);
+            }
+        }
+        seed = next(seed);
+    }
+    seed
+}
+
+// A petit cycle of two runs of eight chips, which exchange in dimension 3.
+fn cycle_of_halves(low: &mut Band, high: &mut Band) -> bool {
+    low.inject()
+        && high.inject()
+        && low.cross_own()
+        && high.cross_own()
+        && exchange(low, high, 3)
+        && low.deliver()
+        && high.deliver()
+}
+
+fn halves_stay_alike(whole: &mut Band, low: &mut Band, high: &mut Band, seed: u64) -> bool {
+    let mut seed = seed;
+    for _cycle in 0..CYCLES {
+        seed = ask_halves(&mut whole.run, &mut low.run, &mut high.run, seed);
+        if !whole.cycle() || !cycle_of_halves(low, high) {
+            return false;
+        }
+        if !is_part(low, whole) || !is_part(high, whole) {
+            return false;
+        }
+    }
+    true
+}
+
+// Each run is made by a function of its own and lent to the next.
+fn upper_half_goes_with(
+    alloc: Global,
+    whole: &mut Band,
+    low: &mut Band,
+    routes: Routes,
+    seed: u64,
+) -> Result<bool, Fail> {
+    let mut high = Band::blank(alloc, low.sizes, 8, routes)?;
+    Ok(halves_stay_alike(whole, low, &mut high, seed))
+}
+
+fn halves_go_with(
+    alloc: Global,
+    whole: &mut Band,
+    routes: Routes,
+    seed: u64,
+) -> Result<bool, Fail> {
+    let half = Sizes {
+        span: 3,
+        ..whole.sizes
+    };
+    let mut low = Band::blank(alloc, half, 0, routes)?;
+    upper_half_goes_with(alloc, whole, &mut low, routes, seed)
+}
+
 // Two runs of eight chips, which exchange in dimension 3, beside the machine of sixteen chips that they are.
 fn halves_go_alike(alloc: Global, case: (u8, Routes, u64)) -> Result<bool, Fail> {
     let (room, routes, seed) = case;
@@ -352,37 +421,8 @@ fn halves_go_alike(alloc: Global, case: (u8, Routes, u64)) -> Result<bool, Fail>
         span: 4,
         room,
     };
-    let half = Sizes { span: 3, ..all };
     let mut whole = Band::blank(alloc, all, 0, routes)?;
-    let mut low = Band::blank(alloc, half, 0, routes)?;
-    let mut high = Band::blank(alloc, half, 8, routes)?;
-    let mut seed = seed;
-    let mut alike = true;
-    for _cycle in 0..CYCLES {
-        for chip in 0u16..16 {
-            for _sender in 0..seed >> 40 & 7 {
-                seed = next(seed);
-                ask(&mut whole.run, chip, seed, 15);
-                if chip < 8 {
-                    ask(&mut low.run, chip, seed, 15);
-                } else {
-                    ask(&mut high.run, chip - 8, seed, 15);
-                }
-            }
-            seed = next(seed);
-        }
-        alike = alike
-            && whole.cycle()
-            && low.inject()
-            && high.inject()
-            && low.cross_own()
-            && high.cross_own()
-            && exchange(&mut low, &mut high, 3)
-            && low.deliver()
-            && high.deliver()
-            && is_part(&mut low, &mut whole)
-            && is_part(&mut high, &mut whole);
-    }
+    let alike = halves_go_with(alloc, &mut whole, routes, seed)?;
     Ok(alike && !whole.crossing.is_empty())
 }
 
@@ -417,6 +457,42 @@ fn both_step(whole: &mut Run, high: &mut Run, seed: u64) -> bool {
     true
 }
 
+// Drawn processors of chips 8 to 15 ask to send, in the whole machine and in its upper half; the seed that comes next.
+fn ask_upper_half(whole: &mut Run, high: &mut Run, seed: u64) -> u64 {
+    let mut seed = seed;
+    for chip in 0u16..8 {
+        seed = next(seed);
+        if seed >> 44 & 3 == 0 {
+            ask(whole, chip + 8, seed, 7);
+            ask(high, chip, seed, 7);
+        }
+    }
+    seed
+}
+
+fn upper_half_stays_alike(whole: &mut Band, high: &mut Band, seed: u64) -> bool {
+    let mut seed = seed;
+    for _cycle in 0..CYCLES {
+        seed = ask_upper_half(&mut whole.run, &mut high.run, seed);
+        if !whole.cycle() || !high.inject() || !high.cross_own() || !high.deliver() {
+            return false;
+        }
+        if !both_step(&mut whole.run, &mut high.run, seed) || !is_part(high, whole) {
+            return false;
+        }
+    }
+    true
+}
+
+fn upper_half_goes_beside(alloc: Global, whole: &mut Band, seed: u64) -> Result<bool, Fail> {
+    let half = Sizes {
+        span: 3,
+        ..whole.sizes
+    };
+    let mut high = Band::blank(alloc, half, 8, Routes::PLAIN)?;
+    Ok(upper_half_stays_alike(whole, &mut high, seed))
+}
+
 // Chips 8 to 15 of sixteen, beside the whole machine, where nobody sends out of these chips or into them: petit
 // cycles, and instructions after each. With room for fifteen no message is referred.
 fn upper_half_goes_alone(alloc: Global, seed: u64) -> Result<bool, Fail> {
@@ -425,28 +501,8 @@ fn upper_half_goes_alone(alloc: Global, seed: u64) -> Result<bool, Fail> {
         span: 4,
         room: 15,
     };
-    let half = Sizes { span: 3, ..all };
     let mut whole = Band::blank(alloc, all, 0, Routes::PLAIN)?;
-    let mut high = Band::blank(alloc, half, 8, Routes::PLAIN)?;
-    let mut seed = seed;
-    let mut alike = true;
-    for _cycle in 0..CYCLES {
-        for chip in 0u16..8 {
-            seed = next(seed);
-            if seed >> 44 & 3 == 0 {
-                ask(&mut whole.run, chip + 8, seed, 7);
-                ask(&mut high.run, chip, seed, 7);
-            }
-        }
-        alike = alike
-            && whole.cycle()
-            && high.inject()
-            && high.cross_own()
-            && high.deliver()
-            && both_step(&mut whole.run, &mut high.run, seed)
-            && is_part(&mut high, &mut whole);
-    }
-    Ok(alike)
+    upper_half_goes_beside(alloc, &mut whole, seed)
 }
 
 // A message as a chip would have it whose number is so much less.
@@ -498,6 +554,67 @@ fn has_moved_events(left: &[Vec<Event>], right: &[Vec<Event>], chip: u16, first:
             .all(|(event, other)| moved_event(*event, first) == *other)
 }
 
+// Drawn processors of both ask to send; the seed that comes next.
+fn ask_both(here: &mut Run, there: &mut Run, seed: u64) -> u64 {
+    let mut seed = seed;
+    for chip in 0u16..2 {
+        seed = next(seed);
+        ask(here, chip, seed, 1);
+        ask(there, chip, seed, 1);
+    }
+    seed
+}
+
+// Whether a run that begins at chip 5 has the messages of one that begins at chip 0, and other tags.
+fn have_moved_messages(here: &mut Crossing, there: &mut Crossing) -> bool {
+    for chip in 0u16..2 {
+        if !has_moved_messages(here, there, chip, 5) {
+            return false;
+        }
+    }
+    true
+}
+
+// And its planes, and its events.
+fn have_moved_events(here: &Band, there: &Band) -> bool {
+    for chip in 0u16..2 {
+        if !has_same_planes(&here.run, chip, &there.run, chip)
+            || !has_moved_events(&here.logs, &there.logs, chip, 5)
+            || here.logs.get(usize::from(chip)) == there.logs.get(usize::from(chip))
+        {
+            return false;
+        }
+    }
+    true
+}
+
+fn stay_moved(here: &mut Band, there: &mut Band, seed: u64) -> bool {
+    let mut seed = seed;
+    for _cycle in 0..CYCLES {
+        seed = ask_both(&mut here.run, &mut there.run, seed);
+        if !here.inject()
+            || !there.inject()
+            || !have_moved_messages(&mut here.crossing, &mut there.crossing)
+        {
+            return false;
+        }
+        if !here.deliver() || !there.deliver() || !have_moved_events(here, there) {
+            return false;
+        }
+    }
+    true
+}
+
+fn goes_as_moved(
+    alloc: Global,
+    here: &mut Band,
+    routes: Routes,
+    seed: u64,
+) -> Result<bool, Fail> {
+    let mut there = Band::blank(alloc, here.sizes, 0, routes)?;
+    Ok(stay_moved(here, &mut there, seed))
+}
+
 // A run that begins at chip 5 has the planes of one that begins at chip 0, and other tags.
 fn begins_anywhere(alloc: Global, case: (u8, Routes, u64)) -> Result<bool, Fail> {
     let (room, routes, seed) = case;
@@ -507,28 +624,7 @@ fn begins_anywhere(alloc: Global, case: (u8, Routes, u64)) -> Result<bool, Fail>
         room,
     };
     let mut here = Band::blank(alloc, sizes, 5, routes)?;
-    let mut there = Band::blank(alloc, sizes, 0, routes)?;
-    let mut seed = seed;
-    let mut alike = true;
-    for _cycle in 0..CYCLES {
-        for chip in 0u16..2 {
-            seed = next(seed);
-            ask(&mut here.run, chip, seed, 1);
-            ask(&mut there.run, chip, seed, 1);
-        }
-        alike = alike && here.inject() && there.inject();
-        for chip in 0u16..2 {
-            alike = alike && has_moved_messages(&mut here.crossing, &mut there.crossing, chip, 5);
-        }
-        alike = alike && here.deliver() && there.deliver();
-        for chip in 0u16..2 {
-            alike = alike
-                && has_same_planes(&here.run, chip, &there.run, chip)
-                && has_moved_events(&here.logs, &there.logs, chip, 5)
-                && here.logs.get(usize::from(chip)) != there.logs.get(usize::from(chip));
-        }
-    }
-    Ok(alike)
+    goes_as_moved(alloc, &mut here, routes, seed)
 }
 
 #[test]

@@ -36,25 +36,40 @@ fn number_of(run: &Run, chip: u16) -> Result<u64, Fail> {
 
 // Each chip has a number of its own in a field of one processor, and RECV is 1 there.
 fn numbered(alloc: Global, count: u16, base: u64) -> Result<Run, Fail> {
-    let mut run = Run::blank(alloc, count)?;
     let proc = Proc::new(3).ok_or("no processor")?;
-    for chip in 0..count {
-        if usize::from(chip) < run.chips() {
-            run.poke_field(
-                chip,
-                proc,
-                Field::new(4080, 16)?,
-                base.wrapping_add(u64::from(chip)),
-            );
-            run.poke_flag_plane(chip, FlagNo::RECV, 8);
-        }
-    }
+    let field = Field::new(4080, 16)?;
+    let mut run = Run::blank(alloc, count)?;
+    number(&mut run, count, proc, field, base);
     Ok(run)
 }
 
-fn is_laid(alloc: Global, lay: (u16, u16, u16, u16, u16)) -> Result<bool, Fail> {
-    let (here, at, there, first, count) = lay;
-    let mut run = numbered(alloc, here, HERE)?;
+fn number(run: &mut Run, count: u16, proc: Proc, field: Field, base: u64) {
+    for chip in 0..count {
+        if usize::from(chip) < run.chips() {
+            run.poke_field(chip, proc, field, base.wrapping_add(u64::from(chip)));
+            run.poke_flag_plane(chip, FlagNo::RECV, 8);
+        }
+    }
+}
+
+// Whether each of so many chips has the number that it should have then.
+fn have_numbers(run: &Run, lay: (u16, u16, u16, u16, u16)) -> Result<bool, Fail> {
+    let (here, at, _, first, count) = lay;
+    for chip in 0..here {
+        let wanted = if chip >= at && chip - at < count {
+            THERE + u64::from(first) + u64::from(chip - at)
+        } else {
+            HERE + u64::from(chip)
+        };
+        if number_of(run, chip)? != wanted {
+            return Ok(false);
+        }
+    }
+    Ok(true)
+}
+
+fn lays(alloc: Global, run: &mut Run, lay: (u16, u16, u16, u16, u16)) -> Result<bool, Fail> {
+    let (_, at, there, first, count) = lay;
     let from = numbered(alloc, there, THERE)?;
     if usize::from(at) + usize::from(count) > run.chips()
         || usize::from(first) + usize::from(count) > from.chips()
@@ -62,17 +77,12 @@ fn is_laid(alloc: Global, lay: (u16, u16, u16, u16, u16)) -> Result<bool, Fail> 
         return Ok(false);
     }
     run.lay(at, &from, first, count);
-    for chip in 0..here {
-        let wanted = if chip >= at && chip - at < count {
-            THERE + u64::from(first) + u64::from(chip - at)
-        } else {
-            HERE + u64::from(chip)
-        };
-        if number_of(&run, chip)? != wanted {
-            return Ok(false);
-        }
-    }
     Ok(true)
+}
+
+fn is_laid(alloc: Global, lay: (u16, u16, u16, u16, u16)) -> Result<bool, Fail> {
+    let mut run = numbered(alloc, lay.0, HERE)?;
+    Ok(lays(alloc, &mut run, lay)? && have_numbers(&run, lay)?)
 }
 
 #[test]

@@ -280,19 +280,57 @@ impl Route {
         requires cube { chips ≡ 2 ^ N }
         requires some { 0 < chips }
     {
+        let mut machine = self.built::<N, CAP>(alloc, rule, chips)?;
+        self.ask_in(&mut machine, chips)?;
+        Some(machine)
+    }
+
+    /// The machine with the messages that stand in it.
+    fn built<const N: usize, const CAP: usize>(
+        &self,
+        alloc: Global,
+        rule: Rule,
+        chips: u16,
+    ) -> Option<Machine<N, CAP>>
+        requires cube { chips ≡ 2 ^ N }
+    {
         let mut builder = Builder::<N, CAP>::start(alloc, u64::from(self.clock)).ok()?;
+        self.build(&mut builder, rule, chips)?;
+        builder.done().ok()
+    }
+
+    fn build<const N: usize, const CAP: usize>(
+        &self,
+        builder: &mut Builder<N, CAP>,
+        rule: Rule,
+        chips: u16,
+    ) -> Option<()>
+        requires cube { chips ≡ 2 ^ N }
+        requires dimension { N ≤ 12 }
+    {
         builder.rule(rule);
         for (chip, dim) in self.cuts {
-            cut(&mut builder, *chip, *dim, chips)?;
+            cut(builder, *chip, *dim, chips)?;
         }
         for letter in self.standing {
-            put(&mut builder, *letter, chips)?;
+            put(builder, *letter, chips)?;
         }
-        let mut machine = builder.done().ok()?;
+        Some(())
+    }
+
+    /// Its processors ask to send.
+    fn ask_in<const N: usize, const CAP: usize>(
+        &self,
+        machine: &mut Machine<N, CAP>,
+        chips: u16,
+    ) -> Option<()>
+        requires cube { chips ≡ 2 ^ N }
+        requires some { 0 < chips }
+    {
         for letter in self.asked {
-            ask(&mut machine, &letter.message()?);
+            ask(machine, &letter.message()?);
         }
-        Some(machine)
+        Some(())
     }
 }
 

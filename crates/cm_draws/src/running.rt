@@ -21,11 +21,25 @@ pub fn run_beside_plain<const N: usize, const CAP: usize, X: Runner<N, CAP>>(
     requires runner { X.ready }
 {
     let mut wanted = machine.copy(alloc).ok()?;
+    run_both(runner, machine, &mut wanted, acts, chips)
+}
+
+/// The same, beside a machine of the same state.
+fn run_both<const N: usize, const CAP: usize, X: Runner<N, CAP>>(
+    runner: &mut X,
+    machine: &mut Machine<N, CAP>,
+    wanted: &mut Machine<N, CAP>,
+    acts: &[Act],
+    chips: u16,
+) -> Option<(Option<RunFault>, bool)>
+    requires cube { chips ≡ 2 ^ N }
+    requires runner { X.ready }
+{
     let refused = runner.go(machine, acts).err();
     if refused.is_none() {
-        Plain.go(&mut wanted, acts).ok()?;
+        Plain.go(wanted, acts).ok()?;
     }
-    Some((refused, are_same(machine, &wanted, chips)))
+    Some((refused, are_same(machine, wanted, chips)))
 }
 
 /// Whether a runner takes a blank machine of sixteen chips through the program of four messages of each; or else leaves it as
@@ -36,13 +50,25 @@ pub fn sends_or_stays<X: Runner<4, 7>>(runner: &mut X, alloc: Global) -> Option<
 {
     let acts = four_messages_each(alloc).ok()?;
     let mut machine = Machine::<4, 7>::blank(alloc).ok()?;
-    let (refused, is_right) = run_beside_plain(runner, alloc, &mut machine, &acts, 16)?;
+    goes_or_stays(runner, alloc, &mut machine, &acts)
+}
+
+/// The same of a machine that is blank, and the acts of this program.
+fn goes_or_stays<X: Runner<4, 7>>(
+    runner: &mut X,
+    alloc: Global,
+    machine: &mut Machine<4, 7>,
+    acts: &[Act],
+) -> Option<bool>
+    requires runner { X.ready }
+{
+    let (refused, is_right) = run_beside_plain(runner, alloc, machine, acts, 16)?;
     let went = match refused {
         None => Some((None, is_right)),
         Some(RunFault::Memory | RunFault::NoThread) if is_right => {
-            run_beside_plain(runner, alloc, &mut machine, &acts, 16)
+            run_beside_plain(runner, alloc, machine, acts, 16)
         }
         Some(_) => None,
     };
-    Some(went == Some((None, true)) && has_one_of_four(&machine))
+    Some(went == Some((None, true)) && has_one_of_four(machine))
 }

@@ -1,11 +1,12 @@
 //! Reading a machine of a source, whose bytes need not all be held.
 
-ghost use Rattle.std.specs.Prelude.{◌≡◌, ◌≢◌, ◌↔◌, ◌≤◌, ◌++◌, ℕ, List, [], true, false, Ok, Err, IfOk, IfErr, IsErrOf};
+ghost use Rattle.std.specs.Prelude.{◌≡◌, ◌≢◌, ◌↔◌, ◌≤◌, ◌^◌, ◌++◌, ℕ, List, [], true, false, Ok, Err, IfOk, IfErr, IsErrOf, OnOk};
 ghost use Rattle.std.specs.Prelude.{length};
 ghost use Rattle.cm_image_format.specs.Whole.{read_image};
 ghost use Rattle.cm_image.specs.Chips.{IsReadTo, IsBlankFrom};
 ghost use Rattle.cm_image.specs.Cuts.{header_of};
 ghost use Rattle.cm_image.specs.Pieces.{GivesRest, IsStopped, ShapesGoOn};
+ghost use Rattle.cm_image.specs.Tile.{with_waiting};
 
 use crate::chips::take_full_chips;
 use crate::cuts::take_routing;
@@ -128,20 +129,44 @@ fn load_in_pieces<const N: usize, const CAP: usize, I: Source>(
         → read_image N CAP whole ≡ Err fault)) }
     ensures read { (I.has_failed source.new ≡ true) ↔ IsErrOf result SourceFault.Read }
 {
-    let mut window = Window::of(alloc, chips)?;
-    let (next, left) = take_full_chips(
-        &mut builder,
-        &mut tile,
-        header.clock,
-        &mut window,
-        source,
-        most,
-    )?;
-    let bytes = take_rest(alloc, window.rest(), source, left)?;
+    let (next, bytes) = take_pieces(alloc, &mut builder, &mut tile, header, chips, source, most)?;
     match finish(builder, tile, next, header, &bytes) {
         Ok(machine) => Ok(machine),
         Err(fault) => Err(SourceFault::Image(fault)),
     }
+}
+
+/// Takes in chips as their bytes come, as long as all their memory planes are listed. Which chip is next, and its bytes
+/// with all behind them.
+fn take_pieces<const N: usize, const CAP: usize, I: Source>(
+    alloc: Global,
+    builder: &mut Builder<N, CAP>,
+    tile: &mut Tile,
+    header: Header,
+    chips: &[u8],
+    source: &mut I,
+    most: u64,
+) -> Result<(u16, Vec<u8>), SourceFault>
+    requires few { length chips.now ≤ 65536 }
+    requires dimension { N ≤ 12 }
+    requires none { tile.old ≡ [] }
+    requires blank { IsBlankFrom N 0 builder.old }
+    requires clock { builder.old.clock ≡ header.clock }
+    requires working { I.has_failed source.old ≡ false }
+    ensures value { IfOk result (λ x. GivesRest most (I.left source.old) (I.left source.new)
+        (λ more. (whole : List ℕ) → IsReadTo N CAP (header_of N CAP header) 0 builder.old (chips.now ++ more) whole
+        → IsReadTo N CAP (header_of N CAP header) x.0 (with_waiting x.0 builder.new tile.new) x.1.items whole)) }
+    ensures blank { IfOk result (λ x. IsBlankFrom N x.0 (with_waiting x.0 builder.new tile.new)) }
+    ensures waiting { IfOk result (λ x. length tile.new ≤ x.0) }
+    ensures within { IfOk result (λ x. x.0 ≤ 2 ^ N) }
+    ensures clock { OnOk result (builder.new.clock ≡ header.clock) }
+    ensures refused { IfErr result (IsStopped most (I.left source.old) (I.left source.new) (λ fault more. ⊥)) }
+    ensures read { (I.has_failed source.new ≡ true) ↔ IsErrOf result SourceFault.Read }
+{
+    let mut window = Window::of(alloc, chips)?;
+    let (next, left) = take_full_chips(builder, tile, header.clock, &mut window, source, most)?;
+    let bytes = take_rest(alloc, window.rest(), source, left)?;
+    Ok((next, bytes))
 }
 
 /// Dimension and room stand in the first bytes of an image: whatever comes behind them.
