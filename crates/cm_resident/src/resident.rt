@@ -316,6 +316,7 @@ fn share_out_without_logs<const N: usize, const CAP: usize, R: Threads + Wait + 
 /// Asks whether the workers may begin, the one with the lowest number first.
 fn admit_all(passage: &Passage, workers: u16) -> Result<(), Want>
     ensures memory { ¬ IsErrOf result Want.Memory }
+    ensures open { passage.now ≡ Passage.Open → IsOk result }
     ensures admitted { IfOk result (λ _. (gate : _) → passage.now ≡ Passage.Gated gate
         → (w : ℕ) → w < workers → admits (gate.vtable, gate.value) w) }
 {

@@ -1,6 +1,6 @@
 //! A team at work, each worker in a thread of its own.
 
-ghost use Rattle.std.specs.Prelude.{◌≡◌, ◌≢◌, ◌↔◌, ℕ, ◌<◌, ◌≤◌, IfOk, IfSome, IsErrOf, IsSome, OnErr, OnOk, Some};
+ghost use Rattle.std.specs.Prelude.{◌≡◌, ◌≢◌, ◌↔◌, ℕ, ◌<◌, ◌≤◌, IfOk, IfSome, IsErrOf, IsOk, IsSome, OnErr, OnOk, Some};
 ghost use Rattle.std.specs.Prelude.{[], get_or, length, vec_capacity};
 ghost use Rattle.std.specs.List.{All};
 ghost use Rattle.std.specs.Thread.{IsSync};
@@ -219,7 +219,7 @@ fn join_all<R: Threads>(
     }
 }
 
-/// What all workers left; fails where one has not begun.
+/// What all workers left; fails where one has not begun, and only there.
 fn all_there<T: Drop>(left: Vec<Option<T>>, shares: Vec<T>) -> Result<Vec<T>, Want>
     requires none { shares.items ≡ [] }
     requires room { length left.items ≤ vec_capacity shares }
@@ -227,6 +227,7 @@ fn all_there<T: Drop>(left: Vec<Option<T>>, shares: Vec<T>) -> Result<Vec<T>, Wa
     ensures count { IfOk result (λ all. length all.items ≡ length left.items) }
     ensures value { IfOk result (λ all. (w : ℕ) (d : _) (e : _) → w < length left.items
         → get_or left.items w d ≡ Some (get_or all.items w e)) }
+    ensures succeeds { All (λ one. IsSome one) left.items → IsOk result }
 {
     let mut left = left;
     let mut shares = shares;
