@@ -122,7 +122,7 @@ impl Tiles {
         requires room { length (list_at self.old chip) < 15 }
         ensures value { self.new ≡ slice_set self.old chip (list_at self.old chip ++ ticket ∷ []) }
     {
-        make_tiles(&mut self.tiles, &mut self.leaving, self.chips, chip);
+        make_tiles(&mut self.tiles, &mut self.leaving, self.chips);
         chips::arrive(&mut self.tiles, chip, ticket);
     }
 
@@ -266,15 +266,14 @@ fn tiles_for(chips: usize) -> usize
     (chips + 63) / WIDTH
 }
 
-/// Makes the tiles of so many chips in the space that is reserved for them, if none are made yet: then a chip has none.
-fn make_tiles(tiles: &mut Vec<Tile>, leaving: &mut Vec<Option<Row>>, chips: usize, chip: usize)
+/// Makes the tiles of so many chips in the space that is reserved for them, if none are made yet.
+fn make_tiles(tiles: &mut Vec<Tile>, leaving: &mut Vec<Option<Row>>, chips: usize)
     requires kept { AreKept chips tiles.old leaving.old }
-    requires chip { chip < chips }
     ensures kept { AreKept chips tiles.new leaving.new }
     ensures count { length tiles.new.items ≡ (chips + 63) / 64 }
     ensures value { queues_in chips tiles.new.items ≡ queues_in chips tiles.old.items }
 {
-    if chip / WIDTH >= tiles.len() {
+    if tiles.is_empty() {
         let count = tiles_for(chips);
         put_empty(tiles, count);
         put_nobody(leaving, count);

@@ -1,10 +1,9 @@
-use Rattle.std.proofs.Common.{◌≡◌, ◌<◌, ◌≤◌, ◌∙◌, ⊎_elim, length, sym, arith}
-use Rattle.std.proofs.lemmas.Bool.{cases_lt}
+use Rattle.std.proofs.Common.{◌≡◌, ◌∙◌, length, sym, arith}
 use Rattle.cm_slots.proofs.Views.{empty_queues, no_queues, tiles_made}
 use Rattle.cm_slots.proofs.tiles.make_tiles.Goals as goal
 
-pub returns-then-chip-len-clause-kept : goal.returns-then-chip-len-clause-kept
-returns-then-chip-len-clause-kept c =
+pub returns-then-is_empty-clause-kept : goal.returns-then-is_empty-clause-kept
+returns-then-is_empty-clause-kept c =
     let kept = c.requires.kept in
     let many = c.tiles_for-count.ensures.value in
     record {
@@ -14,18 +13,9 @@ returns-then-chip-len-clause-kept c =
       rows_space = omega (arith, kept.rows_space, c.put_nobody.ensures.capacity);
     }
 
-pub returns-then-chip-len-clause-value : goal.returns-then-chip-len-clause-value
-returns-then-chip-len-clause-value c =
-    let none : length c.args.tiles.now.items ≡ 0 = ⊎_elim
-    (λ (some : 0 < length c.args.tiles.now.items). absurd (omega (
-      arith,
-      c.len.ensures,
-      c.if-chip-len.true,
-      c.args.tiles.now.ok.0,
-      c.requires.kept.are.count some,
-      c.requires.chip,
-    )))
-    (λ (none : length c.args.tiles.now.items ≤ 0). omega (arith, none))
-    (cases_lt 0 (length c.args.tiles.now.items)) in
+pub returns-then-is_empty-clause-value : goal.returns-then-is_empty-clause-value
+returns-then-is_empty-clause-value c =
+    let none : length c.args.tiles.now.items ≡ 0 =
+    grind (arith, c.is_empty.ensures, c.if-is_empty.true, c.args.tiles.now.ok.0) in
     empty_queues c.args.chips c.tiles_for-count.result c.put_empty.new.tiles.items c.put_empty.ensures.value
     ∙ sym (no_queues c.args.chips c.args.tiles.now.items none)
