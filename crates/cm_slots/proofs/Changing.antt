@@ -3,7 +3,7 @@ use Rattle.std.proofs.Common.{◌≡◌, ◌≢◌, ℕ, zero, suc, ◌+◌, ◌
 use Rattle.std.proofs.Common.{sym, ◌∙◌, ⊎_elim, arith, ◌/◌, ◌%◌, map, refl, ap}
 use Rattle.std.proofs.lemmas.Bool.{cases_eq, cases_lt}
 use Rattle.std.proofs.lemmas.List.{length-append, length-set, get_or-set_same, get_or-set_other, get_or_past}
-use Rattle.std.proofs.lemmas.List.{get_or_append_left, get_or_push, length-map}
+use Rattle.std.proofs.lemmas.List.{get_or_append_left, get_or_push}
 use Rattle.std.proofs.lemmas.List.Edits.{length-remove, get_or-remove_below, get_or-remove_above}
 use Rattle.std.specs.List.{All, slice_get}
 use Rattle.std.proofs.lemmas.List.Elements.{All-set}
@@ -144,15 +144,4 @@ nobody_past tiles c past = quiet_tickets c tiles (rw (get_or_past tiles (c / 64)
 pub tile_there : (tiles : List Tile) (c place : ℕ) → place < length (tickets_of tiles c) → c / 64 < length tiles
 tile_there tiles c place stands = ⊎_elim (λ (l : c / 64 < length tiles). l)
     (λ (l : length tiles ≤ c / 64). absurd (omega (arith, stands, ap length (nobody_past tiles c l))))
-    (cases_lt (c / 64) (length tiles))
-
--- no more stand at a chip than its slots hold
-pub fifteen_at_most : (tiles : List Tile) (c : ℕ) → All IsTile tiles → length (tickets_of tiles c) ≤ 15
-fifteen_at_most tiles c whole = ⊎_elim
-    (λ (l : c / 64 < length tiles). omega (
-      arith,
-      ((whole (c / 64) no_tile l).queues (c % 64) (omega arith)).fits,
-      length-map (numbers_at tiles c) ticket_of,
-    ))
-    (λ (l : length tiles ≤ c / 64). omega (arith, ap length (nobody_past tiles c l)))
     (cases_lt (c / 64) (length tiles))

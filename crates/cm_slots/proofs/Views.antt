@@ -111,6 +111,10 @@ module _ {chips : ℕ} {tiles : List Tile} {leaving : List (Option (List ℕ))} 
   ticket_list c h =
       sym (get_or-each_below chips (tickets_of tiles) c [] h) ∙ ap (λ (r : List (List Ticket)). list_at r c) view
 
+  -- where there are tiles there is one for each chip
+  pub made_for : 0 < length tiles → (c : ℕ) → c < length q → c / 64 < length tiles
+  made_for some c h = omega (arith, are.count some, as_many, h)
+
   -- nobody stands at any chip as long as there are no tiles; where somebody stands there is one
   pub nobody_yet : length tiles ≡ 0 → (c : ℕ) → c < chips → list_at q c ≡ []
   nobody_yet none c h = sym (ticket_list c h) ∙ nobody_past tiles c (omega (arith, none))

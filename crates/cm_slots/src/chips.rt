@@ -1,5 +1,4 @@
-//! One chip of a row of tiles: what stands there, and who comes or goes there. At a chip behind the last tile nobody
-//! stands.
+//! One chip of a row of tiles: what stands there, and who comes or goes there.
 
 ghost use Rattle.std.specs.Prelude.{◌≡◌, ◌↔◌, ◌≢◌, ℕ, ◌/◌, ◌<◌, ◌≤◌, ◌++◌, [], ◌∷◌, IfSome, IsTrue, length, remove};
 ghost use Rattle.std.specs.Prelude.{slice_set, true, false};
@@ -14,18 +13,17 @@ use crate::tile::Tile;
 
 /// How many tickets stand at a chip.
 pub(crate) fn len(tiles: &[Tile], chip: usize) -> usize
+    requires chip { chip / 64 < length tiles.now }
     requires whole { All IsTile tiles.now }
     ensures value { result ≡ length (tickets_of tiles.now chip) }
     ensures most { result ≤ 15 }
 {
-    match tiles.get(chip / WIDTH) {
-        Some(tile) => tile.len(chip % WIDTH),
-        None => 0,
-    }
+    tiles[chip / WIDTH].len(chip % WIDTH)
 }
 
 /// The ticket at a place of a chip, if one stands there.
 pub(crate) fn ticket(tiles: &[Tile], chip: usize, place: usize) -> Option<Ticket>
+    requires chip { chip / 64 < length tiles.now }
     requires whole { All IsTile tiles.now }
     ensures value { result ≡ slice_get (tickets_of tiles.now chip) place }
     ensures most { IfSome result (λ t. place < 15) }
@@ -33,23 +31,18 @@ pub(crate) fn ticket(tiles: &[Tile], chip: usize, place: usize) -> Option<Ticket
     if place >= ROOM {
         return None;
     }
-    let Some(tile) = tiles.get(chip / WIDTH) else {
-        return None;
-    };
-    let slot = tile.slot(chip % WIDTH, place);
+    let slot = tiles[chip / WIDTH].slot(chip % WIDTH, place);
     ticket_in(slot)
 }
 
 /// Whether a ticket stands at a place of a chip.
 pub(crate) fn is_taken(tiles: &[Tile], chip: usize, place: usize) -> bool
+    requires chip { chip / 64 < length tiles.now }
     requires place { place < 15 }
     requires whole { All IsTile tiles.now }
     ensures taken { IsTrue result ↔ place < length (tickets_of tiles.now chip) }
 {
-    match tiles.get(chip / WIDTH) {
-        Some(tile) => tile.is_taken(chip % WIDTH, place),
-        None => false,
-    }
+    tiles[chip / WIDTH].is_taken(chip % WIDTH, place)
 }
 
 /// Takes in a ticket at a chip, where it stands last.

@@ -52,8 +52,9 @@ fn close_up(tiles: &mut [Tile], leaving: &[Option<Row>], room: usize)
     }
 }
 
-/// Writes down by chip who leaves.
+/// Writes down by chip who leaves; nobody, where there are no tiles.
 pub(crate) fn write_down(leaving: &[Option<Row>], leavers: &mut [Option<Ticket>])
+    requires enough { 0 < length leaving.now → length leavers.old ≤ length leaving.now * 64 }
     requires leavers { AreLeavers leaving.now }
     ensures value { leavers.new ≡ each_from 0 (length leavers.old) (ticket_leaving leaving.now) }
 {
@@ -64,10 +65,14 @@ pub(crate) fn write_down(leaving: &[Option<Row>], leavers: &mut [Option<Ticket>]
 
 /// Who leaves a chip, if anyone does.
 fn leaver(leaving: &[Option<Row>], chip: usize) -> Option<Ticket>
+    requires chip { 0 < length leaving.now → chip / 64 < length leaving.now }
     requires leavers { AreLeavers leaving.now }
     ensures value { result ≡ ticket_leaving leaving.now chip }
 {
-    let Some(Some(row)) = leaving.get(chip / WIDTH) else {
+    if leaving.is_empty() {
+        return None;
+    }
+    let Some(row) = &leaving[chip / WIDTH] else {
         return None;
     };
     ticket_in(row[chip % WIDTH])

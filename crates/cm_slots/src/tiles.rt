@@ -94,6 +94,9 @@ impl Tiles {
         ensures value { result ≡ length (list_at self.now chip) }
         ensures most { result ≤ 15 }
     {
+        if self.tiles.is_empty() {
+            return 0;
+        }
         chips::len(&self.tiles, chip)
     }
 
@@ -103,6 +106,9 @@ impl Tiles {
         ensures value { result ≡ slice_get (list_at self.now chip) place }
         ensures most { IfSome result (λ t. place < 15) }
     {
+        if self.tiles.is_empty() {
+            return None;
+        }
         chips::ticket(&self.tiles, chip, place)
     }
 
@@ -112,6 +118,9 @@ impl Tiles {
         requires place { place < 15 }
         ensures taken { IsTrue result ↔ place < length (list_at self.now chip) }
     {
+        if self.tiles.is_empty() {
+            return false;
+        }
         chips::is_taken(&self.tiles, chip, place)
     }
 
@@ -274,14 +283,25 @@ fn make_tiles(tiles: &mut Vec<Tile>, leaving: &mut Vec<Option<Row>>, chips: usiz
     ensures value { queues_in chips tiles.new.items ≡ queues_in chips tiles.old.items }
 {
     if tiles.is_empty() {
-        let count = tiles_for(chips);
-        put_empty(tiles, count);
-        put_nobody(leaving, count);
+        put_all(tiles, leaving, chips);
     }
 }
 
-/// Puts so many tiles, at which no ticket stands, where none are made. It stands apart because it is done once.
+/// The same where none are made. It stands apart because it is done once.
 #[inline(never)]
+fn put_all(tiles: &mut Vec<Tile>, leaving: &mut Vec<Option<Row>>, chips: usize)
+    requires kept { AreKept chips tiles.old leaving.old }
+    requires none { length tiles.old.items ≡ 0 }
+    ensures kept { AreKept chips tiles.new leaving.new }
+    ensures count { length tiles.new.items ≡ (chips + 63) / 64 }
+    ensures value { queues_in chips tiles.new.items ≡ queues_in chips tiles.old.items }
+{
+    let count = tiles_for(chips);
+    put_empty(tiles, count);
+    put_nobody(leaving, count);
+}
+
+/// Puts so many tiles, at which no ticket stands, where none are made.
 fn put_empty(tiles: &mut Vec<Tile>, count: usize)
     requires none { length tiles.old.items ≡ 0 }
     requires space { count ≤ vec_capacity tiles.old }

@@ -15,10 +15,15 @@ take_out-requires-clause-within c =
 
 pub write_down-requires : goal.write_down-requires
 write_down-requires c =
+    let are = c.self.invariant.are in
     let rows = c.take_out.auto.leaving ∙ ap length c.deref_mut-2.ensures.value in
+    let lent = c.deref.ensures.value ∙ items-lent c.self.inside.leaving c.take_out.new.leaving rows in
+    let long = ap length lent in
     record {
-      leavers = rw (c.deref.ensures.value, items-lent c.self.inside.leaving c.take_out.new.leaving rows)
-          c.take_out.ensures.leavers;
+      enough = λ some.
+          let count = are.count (omega (arith, some, long, rows, are.rows)) in
+          omega (arith, long, rows, are.rows, count, c.requires.count, as_many are c.self.view_is);
+      leavers = rw lent c.take_out.ensures.leavers;
     }
 
 pub invariant_of-self : goal.invariant_of-self
