@@ -605,12 +605,7 @@ fn stay_moved(here: &mut Band, there: &mut Band, seed: u64) -> bool {
     true
 }
 
-fn goes_as_moved(
-    alloc: Global,
-    here: &mut Band,
-    routes: Routes,
-    seed: u64,
-) -> Result<bool, Fail> {
+fn goes_as_moved(alloc: Global, here: &mut Band, routes: Routes, seed: u64) -> Result<bool, Fail> {
     let mut there = Band::blank(alloc, here.sizes, 0, routes)?;
     Ok(stay_moved(here, &mut there, seed))
 }
