@@ -41,12 +41,22 @@ pub(crate) fn asking<const N: usize, const CAP: usize>(
     requires cube { chips ≡ 2 ^ N }
 {
     let mut builder = begun::<N, CAP>(alloc, draws, chips)?;
-    for chip in 0..chips {
-        put_planes(&mut builder, draws, chip, 3968, 4020);
-        builder.flag_plane(chip, FlagNo::SEND, 0x7ffe | draws.plane());
-    }
+    ask(&mut builder, draws, chips);
     put_routing(&mut builder, draws, chips);
     builder.done().ok()
+}
+
+fn ask<const N: usize, const CAP: usize>(
+    builder: &mut Builder<N, CAP>,
+    draws: &mut Draws,
+    chips: u16,
+)
+    requires cube { chips ≡ 2 ^ N }
+{
+    for chip in 0..chips {
+        put_planes(builder, draws, chip, 3968, 4020);
+        builder.flag_plane(chip, FlagNo::SEND, 0x7ffe | draws.plane());
+    }
 }
 
 /// It is not done yet.
@@ -59,12 +69,22 @@ fn begun<const N: usize, const CAP: usize>(
 {
     let clock = 5 + u64::from(draws.below(1000));
     let mut builder = Builder::<N, CAP>::start(alloc, clock).ok()?;
-    for chip in 0..chips {
-        put_few_planes(&mut builder, draws, chip);
-        put_flags(&mut builder, draws, chip, 3);
-        put_messages(&mut builder, draws, chip, chips, 9);
-    }
+    put_chips(&mut builder, draws, chips);
     Some(builder)
+}
+
+fn put_chips<const N: usize, const CAP: usize>(
+    builder: &mut Builder<N, CAP>,
+    draws: &mut Draws,
+    chips: u16,
+)
+    requires cube { chips ≡ 2 ^ N }
+{
+    for chip in 0..chips {
+        put_few_planes(builder, draws, chip);
+        put_flags(builder, draws, chip, 3);
+        put_messages(builder, draws, chip, chips, 9);
+    }
 }
 
 /// A drawn rule, and up to nine wires that are cut, in no order.

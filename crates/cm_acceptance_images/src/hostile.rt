@@ -5,6 +5,7 @@ ghost use Rattle.std.specs.Prelude.{◌≡◌, ◌≤◌, ◌^◌};
 use crate::drawn::{few, routed};
 use crate::reader::Reader;
 use crate::texts::{ONE_CHIP, changed};
+use cm_array::Machine;
 use cm_draws::Draws;
 use cm_image::{ImageFault, dump, load};
 use std::alloc::Global;
@@ -97,6 +98,32 @@ fn damaged(alloc: Global, draws: &mut Draws, bytes: &[u8]) -> Result<Vec<u8>, Fa
     })
 }
 
+/// So many chips with drawn planes, flags and messages, of which this version has an image.
+fn drawn_machine<const N: usize, const CAP: usize>(
+    alloc: Global,
+    draws: &mut Draws,
+    chips: u16,
+    version: u8,
+) -> Option<Machine<N, CAP>>
+    requires cube { chips ≡ 2 ^ N }
+{
+    match version {
+        1 => few(alloc, draws, chips),
+        _ => routed(alloc, draws, chips),
+    }
+}
+
+/// A machine's image, if it is in this version.
+fn image_of<const N: usize, const CAP: usize>(
+    alloc: Global,
+    machine: &Machine<N, CAP>,
+    version: u8,
+) -> Option<Vec<u8>> {
+    let bytes = dump(alloc, machine).ok()?;
+    let is_so = bytes.get(4).copied() == Some(version);
+    if is_so { Some(bytes) } else { None }
+}
+
 /// The image of so many chips with drawn planes, flags and messages, in this version.
 fn drawn<const N: usize, const CAP: usize>(
     alloc: Global,
@@ -106,13 +133,8 @@ fn drawn<const N: usize, const CAP: usize>(
 ) -> Option<Vec<u8>>
     requires cube { chips ≡ 2 ^ N }
 {
-    let machine = match version {
-        1 => few::<N, CAP>(alloc, draws, chips)?,
-        _ => routed::<N, CAP>(alloc, draws, chips)?,
-    };
-    let bytes = dump(alloc, &machine).ok()?;
-    let is_so = bytes.get(4).copied() == Some(version);
-    if is_so { Some(bytes) } else { None }
+    let machine = drawn_machine::<N, CAP>(alloc, draws, chips, version)?;
+    image_of(alloc, &machine, version)
 }
 
 /// Whether an image and twenty damages of it go as by a plain reader.

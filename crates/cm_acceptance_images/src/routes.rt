@@ -40,9 +40,11 @@ fn one_cut(alloc: Global) -> Option<Machine<1, 1>> {
 
 /// The machine of two messages under a rule.
 fn two_messages(alloc: Global, rule: Rule) -> Option<Machine<1, 7>> {
+    let younger = message(0, 1, 4)?;
+    let older = message(1, 2, 2)?;
     let mut builder = Builder::start(alloc, 5).ok()?;
-    put(&mut builder, message(0, 1, 4)?);
-    put(&mut builder, message(1, 2, 2)?);
+    put(&mut builder, younger);
+    put(&mut builder, older);
     builder.rule(rule);
     builder.done().ok()
 }

@@ -46,9 +46,13 @@ fn is_sent<const N: usize, const CAP: usize>(
 /// For how many rooms, from none up to all bytes, it is so.
 fn rooms_sent(alloc: Global) -> Option<usize> {
     let machine = load::<1, 1>(alloc, &TWO_CHIPS).ok()?;
+    rooms_sent_of(alloc, &machine)
+}
+
+fn rooms_sent_of(alloc: Global, machine: &Machine<1, 1>) -> Option<usize> {
     let mut count = 0;
     for room in 0..TWO_CHIPS.len() + 1 {
-        let is_so = is_sent(alloc, &machine, &TWO_CHIPS, room)?;
+        let is_so = is_sent(alloc, machine, &TWO_CHIPS, room)?;
         count = usize::saturating_add(count, usize::from(is_so));
     }
     Some(count)
