@@ -9,10 +9,10 @@ use cm_model::Act;
 use cm_workers::Passage;
 
 /// So many acts go through 4,096 chips before these are cut into blocks and put together again, without their memory.
-const CUT: usize = 768;
+const CUT: usize = 512;
 
 /// So many before one row of memory is.
-const ROW: usize = 4;
+const ROW: usize = 3;
 
 /// So many before the parcels of a round are filled and taken in.
 const PARCELS: usize = 40;
