@@ -10,7 +10,7 @@ ghost use Rattle.cm_session.specs.Session.{answered};
 ghost use Rattle.cm_session.specs.Ends.{ended_lines, is_no_thread, is_write, IsOnTheWay};
 ghost use Rattle.cm_debug.specs.Desk.{session_of, IsDeskOf};
 ghost use Rattle.cm_debug.specs.Gathering.{answered_bytes, with_gathered, IsCutOff};
-ghost use Rattle.cm_debug.specs.Telling.{asks_for_acts, is_thread, BreaksOff, IsTold, Stops};
+ghost use Rattle.cm_debug.specs.Telling.{asks_for_acts, asks_to_run, is_thread, BreaksOff, IsTold, Stops};
 
 use crate::answers::push_number;
 use crate::commands::{obey, runs_acts};
@@ -83,6 +83,7 @@ fn send_before<O: Sink>(
         (with_gathered (O.contents out.new) answers.new) []) }
     ensures count { OnOk result (answered_bytes answers.new ≡ answered_bytes answers.old) }
     ensures none { OnOk result (wants ≡ true → IsTrue (asks_for_acts asked.now) → answers.new.bytes.items ≡ []) }
+    ensures run { OnOk result (IsTrue (asks_to_run asked.now) → answers.new.bytes.items ≡ []) }
     ensures err { IfErr result (λ cut. IsCutOff answers.old.sent answers.old.bytes.items (O.contents out.old)
         (O.contents out.new) cut.0) }
     ensures failed { O.has_failed out.new ≡ is_err result }
@@ -96,6 +97,7 @@ fn send_before<O: Sink>(
 /// Whether answers go out before such a line is answered.
 fn goes_before(asked: &Result<Option<Command>, Refusal>, wants: bool) -> bool
     ensures acts { wants ≡ true → IsTrue (asks_for_acts asked.now) → result ≡ true }
+    ensures run { IsTrue (asks_to_run asked.now) → result ≡ true }
 {
     match asked {
         Ok(Some(Command::Step)) => wants,
@@ -113,8 +115,8 @@ fn asks_for_acts(asked: &Result<Option<Command>, Refusal>) -> bool
     }
 }
 
-/// Does what was read of a line, and its answer is gathered, which is made whole first. Where acts are asked for of a
-/// runner that may want a thread, nothing is gathered before.
+/// Does what was read of a line, and its answer is gathered, which is made whole first. Where acts are asked for that may
+/// be many, or of a runner that may want a thread, nothing is gathered before.
 fn tell_asked<const N: usize, const CAP: usize, R: Runner<N, CAP>, O: Sink>(
     machine: &mut Machine<N, CAP>,
     acts: &[Act],
@@ -129,6 +131,7 @@ fn tell_asked<const N: usize, const CAP: usize, R: Runner<N, CAP>, O: Sink>(
     requires operands { IfOk asked (λ command. IfSome command (IsFor N (length acts.now))) }
     requires none { ((before after : R) → R.threads_lacked before ≡ R.threads_lacked after)
         ⊎ (IsTrue (asks_for_acts asked) → answers.old.bytes.items ≡ []) }
+    requires run { IsTrue (asks_to_run asked) → answers.old.bytes.items ≡ [] }
     requires writer { O.has_failed out.old ≡ false }
     requires room { answered_bytes answers.old + 2 ^ 64 < 2 ^ 128 }
     ensures session { OnOk result (session_of machine.new.machine desk.new
