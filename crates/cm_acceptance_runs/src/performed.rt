@@ -265,6 +265,9 @@ static TABLES: [Table; 27] = [
             "run two sets --split 1 --workers 2 --out left => \
              words, open two, open sets, ready left, flush, fill left 86: 0 ",
             "run one sets --out full => words, open one, open sets, ready full, flush, fill full 20: 4 cm1: 31 Write",
+            "run two sets --split 1 --workers 2 --out full => \
+             words, open two, open sets, ready full, flush, fill full 20: 4 cm1: 31 Write",
+            "run one sets --out scarce => words, open one, open sets, ready scarce, flush, fill scarce 0: 3 cm1: 33 Memory",
         ],
     },
     // one that is refused, the first of its faults told: nothing is read of standard input, and nothing else is touched
@@ -528,6 +531,10 @@ impl Outside for Desk {
     }
 
     fn fill<T: Written>(&mut self, part: String, image: T) -> Result<(), PutFault> {
+        if part.as_str() == "scarce" {
+            self.note(format!(in self.alloc; "fill {part} 0"));
+            return Err(PutFault::Memory);
+        }
         let room = match part.as_str() {
             "full" => 20,
             _ => 1000,
