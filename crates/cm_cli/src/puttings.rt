@@ -2,7 +2,7 @@
 
 ghost use Rattle.std.specs.Prelude.{◌≡◌, Ok, Some};
 ghost use Rattle.cm_cli.specs.Deeds.{Did};
-ghost use Rattle.cm_cli.specs.Puttings.{BreaksOff, ClosesLeft, ClosesWell, Fills, FlushesOut, Puts, let_go};
+ghost use Rattle.cm_cli.specs.Puttings.{BreaksOff, ClosesLeft, ClosesWell, Fills, FlushesOut, Puts};
 
 use crate::outside::Outside;
 use crate::program_fault::ProgramFault;
