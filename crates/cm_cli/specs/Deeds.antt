@@ -15,7 +15,7 @@ pub data Deed (F P : Type 0) : Type 0 where
   Readied : (path : List ℕ) (part : Result P PutFault) → Deed F P
   -- what standard output had taken so far went out
   Flushed : (holds : Option (List ℕ)) (done : Result (Unit {0}) Failed) → Deed F P
-  -- a file that was made ready got these bytes and its place
+  -- a file that was made ready was to get these bytes and its place
   Filled : (part : P) (bytes : List ℕ) (done : Result (Unit {0}) PutFault) → Deed F P
   -- a file that was made ready was taken away
   LetGo : (part : P) → Deed F P

@@ -1,6 +1,6 @@
 //! The rows of memory of a run, of which only those that are in use are kept.
 
-ghost use Rattle.std.specs.Prelude.{◌≡◌, ℕ, ◌+◌, ◌*◌, ◌<◌, ◌≤◌, ◌^◌, false, List, length, slice_index, slice_set};
+ghost use Rattle.std.specs.Prelude.{◌≡◌, ◌≢◌, ℕ, ◌+◌, ◌*◌, ◌<◌, ◌≤◌, ◌^◌, false, List, length, slice_index, slice_set};
 ghost use Rattle.std.specs.Prelude.{IfOk, replicate, vec_capacity};
 ghost use Rattle.cm_model.specs.Array.{chip_at};
 ghost use Rattle.cm_element.specs.Laid.{AreLaidRows, AreTurnedRows, IsRowLaid, IsRowTurned};
@@ -390,6 +390,7 @@ fn next_in_use(slots: &[u16], others: &[u16], from: usize) -> usize
     requires from { from ≤ 4096 }
     ensures none { (i : ℕ) → from ≤ i → i < result → slice_index slots.now i ≡ 0 }
     ensures none_there { (i : ℕ) → from ≤ i → i < result → slice_index others.now i ≡ 0 }
+    ensures used { result < 4096 → slice_index slots.now result ≡ 0 → slice_index others.now result ≢ 0 }
     ensures from { from ≤ result }
     ensures most { result ≤ 4096 }
 {
