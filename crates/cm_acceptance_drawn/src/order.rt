@@ -1,6 +1,6 @@
 //! In which order a session reads and writes: what was answered goes out before more is asked for, and at once.
 
-ghost use Rattle.std.specs.Prelude.{None, false, Unit};
+ghost use Rattle.std.specs.Prelude.{None, false};
 
 use cm_array::{Machine, Plain, RunFault, Runner};
 use cm_asm::{Program, assemble};
@@ -71,6 +71,7 @@ impl<'a> Sink for Counting<'a> {
 }
 
 /// Runs acts as the plain runner does, and tells that it may want a thread.
+#[derive(Clone, Copy)]
 struct Cautious;
 
 impl<const N: usize, const CAP: usize> Runner<N, CAP> for Cautious {
