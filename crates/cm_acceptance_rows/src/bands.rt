@@ -2,7 +2,6 @@
 //! there.
 
 ghost use Rattle.std.specs.Prelude.{◌+◌, ◌^◌, ◌≤◌, IsTrue};
-ghost use Rattle.cm_model.specs.Keeping.{AreSizes};
 
 use crate::routes::{Routes, is_of_cube, routed};
 use cm_array::step;
@@ -81,6 +80,7 @@ pub(crate) fn next(seed: u64) -> u64 {
 #[derive(Drop)]
 pub(crate) struct Band {
     sizes: Sizes,
+    span: u8,
     first: u16,
     routing: Routing,
     pub(crate) run: Run,
@@ -89,17 +89,19 @@ pub(crate) struct Band {
     clock: u64,
 }
 
-// Whether these are sizes of a machine, in which a run may begin at this chip.
-pub(crate) fn are_sizes(sizes: Sizes, first: u16) -> bool
-    ensures sizes { IsTrue result → AreSizes sizes.dims sizes.room }
-    ensures span { IsTrue result → sizes.span ≤ sizes.dims }
-    ensures band { IsTrue result → first + 2 ^ sizes.span ≤ 2 ^ sizes.dims }
+// The sizes of a machine, if there is one of these.
+pub(crate) fn sizes(dims: u8, room: u8) -> Option<Sizes> {
+    if dims > 12 || room == 0 || room > 15 {
+        return None;
+    }
+    Some(Sizes { dims, room })
+}
+
+// Whether so many chips of a machine stand from this one on.
+fn are_chips(sizes: Sizes, first: u16, count: usize) -> bool
+    ensures band { IsTrue result → first + count ≤ 2 ^ sizes.dims }
 {
-    sizes.dims <= 12
-        && 1 <= sizes.room
-        && sizes.room <= 15
-        && sizes.span <= sizes.dims
-        && usize::from(first) + (1 << sizes.span) <= 1 << sizes.dims
+    count <= 4096 && usize::from(first) + count <= 1 << sizes.dims
 }
 
 // Puts a number into a field of one processor.
@@ -132,16 +134,18 @@ impl Band {
     pub(crate) fn blank(
         alloc: Global,
         sizes: Sizes,
+        span: u8,
         first: u16,
         routes: Routes,
     ) -> Result<Band, Fail> {
-        let chips: u16 = 1 << (sizes.span & 7);
+        let chips: u16 = 1 << (span & 7);
         let mut logs = Vec::new(alloc);
         for _chip in 0..chips {
             logs.push(Vec::with_capacity(alloc, LOG_ROOM)?)?;
         }
         Ok(Band {
             sizes,
+            span,
             first,
             routing: routed(alloc, sizes.dims, routes)?,
             run: Run::blank(alloc, chips)?,
@@ -154,8 +158,7 @@ impl Band {
     // A petit cycle of a whole machine.
     pub(crate) fn cycle(&mut self) -> bool {
         let sizes = self.sizes;
-        if !are_sizes(sizes, 0)
-            || sizes.span != sizes.dims
+        if self.run.chips() != 1 << sizes.dims
             || !is_of_cube(&self.routing, sizes)
             || self.clock >= 1 << 62
             || !are_routers(sizes, &self.run, &self.crossing, &self.logs)
@@ -176,7 +179,7 @@ impl Band {
 
     fn inject(&mut self) -> bool {
         let sizes = self.sizes;
-        if !are_sizes(sizes, self.first)
+        if !are_chips(sizes, self.first, self.run.chips())
             || !are_routers(sizes, &self.run, &self.crossing, &self.logs)
             || !has_log_room(&self.logs, 4)
         {
@@ -195,7 +198,7 @@ impl Band {
 
     fn deliver(&mut self) -> bool {
         let sizes = self.sizes;
-        if !are_sizes(sizes, self.first)
+        if !are_chips(sizes, self.first, self.run.chips())
             || !are_routers(sizes, &self.run, &self.crossing, &self.logs)
             || !has_log_room(&self.logs, usize::from(sizes.room))
         {
@@ -220,9 +223,10 @@ impl Band {
 
     // The dimensions that the chips span.
     fn cross_own(&mut self) -> bool {
-        for dim in 0..self.sizes.span {
+        for dim in 0..self.span {
             if !cross_one(
                 self.sizes,
+                self.span,
                 &self.routing,
                 self.first,
                 &mut self.crossing,
@@ -237,32 +241,33 @@ impl Band {
 
 fn cross_one(
     sizes: Sizes,
+    span: u8,
     routing: &Routing,
     first: u16,
     crossing: &mut Crossing,
     dim: u8,
 ) -> bool {
-    if !are_sizes(sizes, first)
+    if span > sizes.dims
+        || !are_chips(sizes, first, crossing.chips())
         || !is_of_cube(routing, sizes)
-        || first % (1 << sizes.span) != 0
-        || dim >= sizes.span
-        || crossing.chips() != 1 << sizes.span
+        || first % (1 << span) != 0
+        || dim >= span
+        || crossing.chips() != 1 << span
         || !crossing.is_within(sizes.room)
     {
         return false;
     }
-    cross(sizes, routing, first, crossing, dim);
+    cross(sizes, span, routing, first, crossing, dim);
     true
 }
 
 // What leaves a run of chips in a dimension that leads out of it.
 fn send(band: &mut Band, dim: u8, leavers: &mut [Option<Message>]) -> bool {
     let sizes = band.sizes;
-    if !are_sizes(sizes, band.first)
+    if !are_chips(sizes, band.first, band.crossing.chips())
         || !is_of_cube(&band.routing, sizes)
         || dim >= sizes.dims
-        || leavers.len() != 1 << sizes.span
-        || band.crossing.chips() != 1 << sizes.span
+        || leavers.len() != band.crossing.chips()
         || !band.crossing.is_within(sizes.room)
     {
         return false;
@@ -281,9 +286,7 @@ fn send(band: &mut Band, dim: u8, leavers: &mut [Option<Message>]) -> bool {
 // What comes to a run of chips. Nothing is written down then.
 fn receive(band: &mut Band, leavers: &mut [Option<Message>]) -> bool {
     let sizes = band.sizes;
-    if !are_sizes(sizes, band.first)
-        || leavers.len() != 1 << sizes.span
-        || band.crossing.chips() != 1 << sizes.span
+    if leavers.len() != band.crossing.chips()
         || !band.crossing.is_within(sizes.room)
         || !has_space(sizes, &band.crossing, leavers)
     {
@@ -332,7 +335,7 @@ fn has_same_messages(left: &mut Crossing, here: u16, right: &mut Crossing, there
 
 // Whether a run has at each chip what the whole machine has there.
 fn is_part(band: &mut Band, whole: &mut Band) -> bool {
-    for chip in 0..1 << (band.sizes.span & 7) {
+    for chip in 0..1 << (band.span & 7) {
         let there = band.first.wrapping_add(chip);
         if !has_same_planes(&band.run, chip, &whole.run, there)
             || !has_same_messages(&mut band.crossing, chip, &mut whole.crossing, there)
@@ -395,7 +398,7 @@ fn upper_half_goes_with(
     routes: Routes,
     seed: u64,
 ) -> Result<bool, Fail> {
-    let mut high = Band::blank(alloc, low.sizes, 8, routes)?;
+    let mut high = Band::blank(alloc, low.sizes, 3, 8, routes)?;
     Ok(halves_stay_alike(whole, low, &mut high, seed))
 }
 
@@ -405,23 +408,15 @@ fn halves_go_with(
     routes: Routes,
     seed: u64,
 ) -> Result<bool, Fail> {
-    let half = Sizes {
-        span: 3,
-        ..whole.sizes
-    };
-    let mut low = Band::blank(alloc, half, 0, routes)?;
+    let mut low = Band::blank(alloc, whole.sizes, 3, 0, routes)?;
     upper_half_goes_with(alloc, whole, &mut low, routes, seed)
 }
 
 // Two runs of eight chips, which exchange in dimension 3, beside the machine of sixteen chips that they are.
 fn halves_go_alike(alloc: Global, case: (u8, Routes, u64)) -> Result<bool, Fail> {
     let (room, routes, seed) = case;
-    let all = Sizes {
-        dims: 4,
-        span: 4,
-        room,
-    };
-    let mut whole = Band::blank(alloc, all, 0, routes)?;
+    let all = sizes(4, room).ok_or("no such machine")?;
+    let mut whole = Band::blank(alloc, all, 4, 0, routes)?;
     let alike = halves_go_with(alloc, &mut whole, routes, seed)?;
     Ok(alike && !whole.crossing.is_empty())
 }
@@ -485,23 +480,15 @@ fn upper_half_stays_alike(whole: &mut Band, high: &mut Band, seed: u64) -> bool 
 }
 
 fn upper_half_goes_beside(alloc: Global, whole: &mut Band, seed: u64) -> Result<bool, Fail> {
-    let half = Sizes {
-        span: 3,
-        ..whole.sizes
-    };
-    let mut high = Band::blank(alloc, half, 8, Routes::PLAIN)?;
+    let mut high = Band::blank(alloc, whole.sizes, 3, 8, Routes::PLAIN)?;
     Ok(upper_half_stays_alike(whole, &mut high, seed))
 }
 
 // Chips 8 to 15 of sixteen, beside the whole machine, where nobody sends out of these chips or into them: petit
 // cycles, and instructions after each. With room for fifteen no message is referred.
 fn upper_half_goes_alone(alloc: Global, seed: u64) -> Result<bool, Fail> {
-    let all = Sizes {
-        dims: 4,
-        span: 4,
-        room: 15,
-    };
-    let mut whole = Band::blank(alloc, all, 0, Routes::PLAIN)?;
+    let all = Sizes { dims: 4, room: 15 };
+    let mut whole = Band::blank(alloc, all, 4, 0, Routes::PLAIN)?;
     upper_half_goes_beside(alloc, &mut whole, seed)
 }
 
@@ -606,19 +593,15 @@ fn stay_moved(here: &mut Band, there: &mut Band, seed: u64) -> bool {
 }
 
 fn goes_as_moved(alloc: Global, here: &mut Band, routes: Routes, seed: u64) -> Result<bool, Fail> {
-    let mut there = Band::blank(alloc, here.sizes, 0, routes)?;
+    let mut there = Band::blank(alloc, here.sizes, 1, 0, routes)?;
     Ok(stay_moved(here, &mut there, seed))
 }
 
 // A run that begins at chip 5 has the planes of one that begins at chip 0, and other tags.
 fn begins_anywhere(alloc: Global, case: (u8, Routes, u64)) -> Result<bool, Fail> {
     let (room, routes, seed) = case;
-    let sizes = Sizes {
-        dims: 4,
-        span: 1,
-        room,
-    };
-    let mut here = Band::blank(alloc, sizes, 5, routes)?;
+    let all = sizes(4, room).ok_or("no such machine")?;
+    let mut here = Band::blank(alloc, all, 1, 5, routes)?;
     goes_as_moved(alloc, &mut here, routes, seed)
 }
 

@@ -1,6 +1,6 @@
 //! Petit cycles on nodes, one for each chip, beside petit cycles on a machine's messages.
 
-use crate::bands::{Band, LOG_ROOM, are_sizes, ask, has_same_planes, next};
+use crate::bands::{Band, LOG_ROOM, ask, has_same_planes, next, sizes};
 use crate::routes::{Routes, is_of_cube, routed};
 use cm_crossing::Sizes;
 use cm_element::Run;
@@ -74,7 +74,7 @@ impl Noded {
         let mut nodes = Vec::new(alloc);
         let mut logs = Vec::new(alloc);
         for _chip in 0..chips {
-            nodes.push(Node::new(sizes.room.max(1).min(15)))?;
+            nodes.push(Node::new(sizes.room))?;
             logs.push(Vec::with_capacity(alloc, LOG_ROOM)?)?;
         }
         Ok(Noded {
@@ -89,8 +89,7 @@ impl Noded {
 
     fn cycle(&mut self) -> bool {
         let sizes = self.sizes;
-        if !are_sizes(sizes, 0)
-            || !is_of_cube(&self.routing, sizes)
+        if !is_of_cube(&self.routing, sizes)
             || !are_nodes(sizes, &self.run, &self.nodes, &self.logs)
             || !has_log_room(&self.logs, 4 + usize::from(sizes.room))
         {
@@ -123,12 +122,8 @@ impl Noded {
 // The same asks on both sides, and a petit cycle after each.
 fn go_alike(alloc: Global, case: (u8, u8, Routes, u64)) -> Result<bool, Fail> {
     let (dims, room, routes, seed) = case;
-    let sizes = Sizes {
-        dims,
-        span: dims,
-        room,
-    };
-    let mut whole = Band::blank(alloc, sizes, 0, routes)?;
+    let sizes = sizes(dims, room).ok_or("no such machine")?;
+    let mut whole = Band::blank(alloc, sizes, dims, 0, routes)?;
     let mut noded = Noded::blank(alloc, sizes, routes)?;
     let mut seed = seed;
     let mut alike = true;

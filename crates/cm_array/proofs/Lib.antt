@@ -11,5 +11,4 @@ pub mod Poking
 mod Laying
 mod Cutting
 mod Putting
-mod Halving
 pub mod Behind

@@ -166,7 +166,7 @@ length-logs n cap parts h = sym (length-map parts.logs.items (λ (log : Log). lo
 
 -- they are the routers of a cube
 pub AreRouters-parts : (n cap : ℕ) (parts : Parts) → AreUnderWay n cap parts
-    → AreRouters n cap parts.run parts.crossing.buffers parts.logs.items
+    → AreRouters (2 ^ n) cap parts.run parts.crossing.buffers parts.logs.items
 AreRouters-parts n cap parts h = record {
   chip_count = h.machine.chip_count;
   buffer_count = h.machine.buffer_count;

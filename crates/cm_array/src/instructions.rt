@@ -24,7 +24,7 @@ impl Part {
         } }
     {
         step_in_band(
-            self.dims,
+            self.sizes.dims,
             &mut self.parts.run,
             nano,
             edge,

@@ -240,8 +240,7 @@ impl<const N: usize, const CAP: usize> Machine<N, CAP> {
         lay_all_buffers(&mut crossing, &parts.crossing, at, chips);
         let routing = parts.routing.copy()?;
         Ok(Part {
-            dims: sizes.dims,
-            room: sizes.room,
+            sizes,
             first,
             parts: Parts {
                 run,
@@ -490,12 +489,10 @@ impl<const N: usize, const CAP: usize> Machine<N, CAP> {
     fn sizes() -> Sizes
         requires sizes { AreSizes N CAP }
         ensures dims { result.dims ≡ N }
-        ensures span { result.span ≡ N }
         ensures room { result.room ≡ CAP }
     {
         Sizes {
             dims: N as u8,
-            span: N as u8,
             room: CAP as u8,
         }
     }

@@ -29,10 +29,8 @@ use std::mem;
 /// grow, and whether the messages can be read.
 #[derive(Debug, Drop)]
 pub struct Part {
-    /// Dimensions of the cube that the chips are of.
-    pub(crate) dims: u8,
-    /// How many messages the router of one chip has room for.
-    pub(crate) room: u8,
+    /// Of which machine the chips are.
+    pub(crate) sizes: Sizes,
     /// The number of the first chip.
     pub(crate) first: u16,
     /// The chips by place, the first at place 0.
@@ -44,9 +42,9 @@ impl Model for Part {
 
     ghost Value = { KeptPart };
 
-    ghost view = { λ part. kept_part part.dims part.room part.first part.parts };
+    ghost view = { λ part. kept_part part.sizes.dims part.sizes.room part.first part.parts };
 
-    ghost invariant = { λ part. IsKeptPart part.dims part.room part.first part.parts };
+    ghost invariant = { λ part. IsKeptPart part.sizes.dims part.sizes.room part.first part.parts };
 }
 
 impl Part {
@@ -68,7 +66,7 @@ impl Part {
         ensures value { result ≡ self.now.dims }
         ensures sizes { AreSizes self.now.dims self.now.room }
     {
-        self.dims
+        self.sizes.dims
     }
 
     /// The number of its first chip.
@@ -132,27 +130,21 @@ impl Part {
 
 impl Part {
     /// The first half of a dimension that leads out of it: what leaves each chip is taken out, and written down
-    /// for the chip across. It has 2^`span` chips.
-    pub fn leave(&mut self, span: u8, dim: u8, leavers: &mut [Option<Message>])
-        requires band { self.old.part.count ≡ 2 ^ span }
+    /// for the chip across.
+    pub fn leave(&mut self, dim: u8, leavers: &mut [Option<Message>])
         requires dim { dim < self.old.dims }
-        requires lanes { length leavers.old ≡ 2 ^ span }
+        requires lanes { length leavers.old ≡ self.old.part.count }
         ensures value { self.new ≡ record self.old {
           part = less self.old.room (Cross dim) self.old.part;
           gathered = self.new.gathered;
         } }
         ensures going { Mail leavers.new ≡ due self.old.dims self.old.room (Cross dim) self.old.part }
-        ensures space { (c : ℕ) → c < 2 ^ span
-            → is_cut self.old.part.routing (self.old.part.first + c) dim ≡ false
+        ensures space { (c : ℕ) → c < self.new.part.count
+            → is_cut self.new.part.routing (self.new.part.first + c) dim ≡ false
             → length (list_at self.new.part.buffers c) < self.new.room }
     {
-        let sizes = Sizes {
-            dims: self.dims,
-            span,
-            room: self.room,
-        };
         leave(
-            sizes,
+            self.sizes,
             &self.parts.routing,
             self.first,
             &mut self.parts.crossing,
@@ -163,10 +155,9 @@ impl Part {
 
     /// The second half: each chip takes in what was written down for it, behind all that stand there. Nothing is
     /// written down then.
-    pub fn take_in(&mut self, span: u8, leavers: &mut [Option<Message>])
-        requires band { self.old.part.count ≡ 2 ^ span }
-        requires lanes { length leavers.old ≡ 2 ^ span }
-        requires space { (c : ℕ) → c < 2 ^ span → (slice_index_or leavers.old c None ≡ None)
+    pub fn take_in(&mut self, leavers: &mut [Option<Message>])
+        requires lanes { length leavers.old ≡ self.old.part.count }
+        requires space { (c : ℕ) → c < self.old.part.count → (slice_index_or leavers.old c None ≡ None)
             ⊎ (length (list_at self.old.part.buffers c) < self.old.room) }
         ensures value { (dim : ℕ) → self.new ≡ record self.old {
           part = absorbed self.old.dims self.old.room (Cross dim) (Mail leavers.old) self.old.part;
@@ -174,12 +165,7 @@ impl Part {
         } }
         ensures blank { All (λ leaver. leaver ≡ None) leavers.new }
     {
-        let sizes = Sizes {
-            dims: self.dims,
-            span,
-            room: self.room,
-        };
-        take_in(sizes, &mut self.parts.crossing, leavers);
+        take_in(self.sizes, &mut self.parts.crossing, leavers);
     }
 
     /// Makes its messages readable, if any has moved since they were.

@@ -44,7 +44,6 @@ pub(crate) struct Parts {
 
 /// Runs acts one after another, in a whole machine of these sizes, and gathers the messages then.
 pub(crate) fn run(sizes: Sizes, parts: &mut Parts, acts: &[Act])
-    requires all { sizes.span ≡ sizes.dims }
     requires parts { AreParts sizes.dims sizes.room parts.old }
     requires clock { parts.old.clock + cycles_in acts.now < 2 ^ 63 }
     requires log_room { HaveLogRoom (cycles_in acts.now * (4 + sizes.room)) (log_rooms_of parts.old.logs.items) }
@@ -58,7 +57,6 @@ pub(crate) fn run(sizes: Sizes, parts: &mut Parts, acts: &[Act])
 }
 
 fn run_one(sizes: Sizes, parts: &mut Parts, act: &Act)
-    requires all { sizes.span ≡ sizes.dims }
     requires parts { AreUnderWay sizes.dims sizes.room parts.old }
     requires clock { parts.old.clock + cycles_in (act.now ∷ []) < 2 ^ 63 }
     requires log_room { HaveLogRoom (cycles_in (act.now ∷ []) * (4 + sizes.room))

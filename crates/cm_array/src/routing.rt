@@ -7,13 +7,11 @@ ghost use Rattle.cm_blocks.specs.Steps.{part_after};
 ghost use Rattle.cm_router.specs.Logs.{HaveLogRoom, LoseAtMost};
 
 use crate::part::Part;
-use cm_crossing::Sizes;
 use cm_petit::{cross, deliver, inject};
 
 impl Part {
-    /// Every router takes in messages of its chip's processors. It has 2^`span` chips.
-    pub fn inject(&mut self, span: u8)
-        requires band { self.old.part.count ≡ 2 ^ span }
+    /// Every router takes in messages of its chip's processors.
+    pub fn inject(&mut self)
         requires log_room { HaveLogRoom 4 self.old.log_rooms }
         ensures value { self.new ≡ record self.old {
           part = part_after self.old.dims self.old.room Inject Blank self.old.part;
@@ -22,13 +20,8 @@ impl Part {
         } }
         ensures log_room { LoseAtMost 4 self.old.log_rooms self.new.log_rooms }
     {
-        let sizes = Sizes {
-            dims: self.dims,
-            span,
-            room: self.room,
-        };
         inject(
-            sizes,
+            self.sizes,
             self.first,
             &mut self.parts.run,
             &mut self.parts.crossing,
@@ -47,13 +40,9 @@ impl Part {
           gathered = self.new.gathered;
         } }
     {
-        let sizes = Sizes {
-            dims: self.dims,
-            span,
-            room: self.room,
-        };
         cross(
-            sizes,
+            self.sizes,
+            span,
             &self.parts.routing,
             self.first,
             &mut self.parts.crossing,
@@ -61,9 +50,8 @@ impl Part {
         );
     }
 
-    /// Messages that have arrived go to their processors, and the counter is one more. It has 2^`span` chips.
-    pub fn deliver(&mut self, span: u8)
-        requires band { self.old.part.count ≡ 2 ^ span }
+    /// Messages that have arrived go to their processors, and the counter is one more.
+    pub fn deliver(&mut self)
         requires log_room { HaveLogRoom self.old.room self.old.log_rooms }
         requires clock { self.old.part.clock + 1 < 2 ^ 63 }
         ensures value { self.new ≡ record self.old {
@@ -73,13 +61,8 @@ impl Part {
         } }
         ensures log_room { LoseAtMost self.old.room self.old.log_rooms self.new.log_rooms }
     {
-        let sizes = Sizes {
-            dims: self.dims,
-            span,
-            room: self.room,
-        };
         deliver(
-            sizes,
+            self.sizes,
             self.first,
             &mut self.parts.run,
             &mut self.parts.crossing,

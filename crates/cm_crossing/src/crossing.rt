@@ -11,7 +11,6 @@ ghost use Rattle.cm_model.specs.Letters.{has_arrived, chip_after_injection, chip
 ghost use Rattle.cm_model.specs.Letters.{is_among, messages_sent};
 ghost use Rattle.cm_model.specs.Each.{each_from};
 ghost use Rattle.cm_model.specs.Array.{each_chip, chip_at, list_at};
-ghost use Rattle.cm_model.specs.Keeping.{AreSizes};
 ghost use Rattle.cm_model.specs.Wiring.{is_cut, way_of};
 ghost use Rattle.cm_model.specs.Buffers.{leaving_place, without, outgoing, buffer_after_dimension};
 ghost use Rattle.cm_model.specs.OneChip.{taken_here, sent_here, delivered_here, kept_here};
@@ -165,7 +164,6 @@ impl Crossing {
 
     /// The first chip from this one on at which a message has arrived; as many as there are, if there is none.
     pub fn next_arrived(&self, sizes: Sizes, from: usize) -> usize
-        requires sizes { AreSizes sizes.dims sizes.room }
         requires from { from ≤ length self.now.buffers }
         requires within { All (λ ms. length ms ≤ sizes.room) self.now.buffers }
         ensures none { (c : ℕ) → from ≤ c → c < result → list_any has_arrived (list_at self.now.buffers c) ≡ false }
@@ -310,7 +308,6 @@ impl Crossing {
     /// The first chip from this one on at which an injection may change something; as many as there are, if there is
     /// none.
     pub fn next_injecting(&self, sizes: Sizes, run: &Run, from: usize) -> usize
-        requires sizes { AreSizes sizes.dims sizes.room }
         requires run { length run.now ≡ length self.now.buffers }
         requires from { from ≤ length self.now.buffers }
         ensures none { (c : ℕ) → from ≤ c → c < result
@@ -361,7 +358,6 @@ impl Crossing {
         clock: u64,
         log: &mut Vec<Event>,
     )
-        requires sizes { AreSizes sizes.dims sizes.room }
         requires chip { chip < length self.old.buffers }
         requires run { length run.old ≡ length self.old.buffers }
         requires within { All (λ ms. length ms ≤ sizes.room) self.old.buffers }
@@ -389,27 +385,26 @@ impl Crossing {
         acknowledge(run, chip, asking, taken);
     }
 
-    /// The messages cross a dimension that the chips span, as the machine routes. The first chip is chip `first` of it.
-    pub fn cross(&mut self, sizes: Sizes, routing: &Routing, first: u16, dim: u8)
-        requires sizes { AreSizes sizes.dims sizes.room }
+    /// The messages cross a dimension that the 2^`span` chips span, as the machine routes. The first chip is chip `first`
+    /// of it.
+    pub fn cross(&mut self, sizes: Sizes, span: u8, routing: &Routing, first: u16, dim: u8)
         requires cube { routing.now.cuts.dims ≡ sizes.dims }
-        requires span { sizes.span ≤ sizes.dims }
-        requires dim { dim < sizes.span }
-        requires count { length self.old.buffers ≡ 2 ^ sizes.span }
-        requires begins { first % 2 ^ sizes.span ≡ 0 }
-        requires band { first + 2 ^ sizes.span ≤ 2 ^ sizes.dims }
+        requires dim { dim < span }
+        requires count { length self.old.buffers ≡ 2 ^ span }
+        requires begins { first % 2 ^ span ≡ 0 }
+        requires band { first + 2 ^ span ≤ 2 ^ sizes.dims }
         requires within { All (λ ms. length ms ≤ sizes.room) self.old.buffers }
-        ensures value { self.new.buffers ≡ each_chip sizes.span (λ c. buffer_after_dimension
+        ensures value { self.new.buffers ≡ each_chip span (λ c. buffer_after_dimension
             (way_of (routing_of routing.now) (first + c) dim) sizes.room dim (list_at self.old.buffers c)
             (outgoing (way_of (routing_of routing.now) (first + c) dim) sizes.room dim
             (list_at self.old.buffers (bit_xor c (2 ^ dim))))) }
-        ensures count { length self.new.buffers ≡ 2 ^ sizes.span }
+        ensures count { length self.new.buffers ≡ 2 ^ span }
         ensures within { All (λ ms. length ms ≤ sizes.room) self.new.buffers }
     {
-        if routing.rule == Rule::Oldest && sizes.span == sizes.dims {
+        if routing.rule == Rule::Oldest && span == sizes.dims {
             self.rank();
         }
-        self.cross_in_order(sizes, routing, first, dim);
+        self.cross_in_order(sizes, span, routing, first, dim);
     }
 
     /// Puts the row in the order of age, if it is not, and if it pays.
@@ -447,20 +442,18 @@ impl Crossing {
     }
 
     /// The same where what is known of the row's order stays so.
-    fn cross_in_order(&mut self, sizes: Sizes, routing: &Routing, first: u16, dim: u8)
-        requires sizes { AreSizes sizes.dims sizes.room }
+    fn cross_in_order(&mut self, sizes: Sizes, span: u8, routing: &Routing, first: u16, dim: u8)
         requires cube { routing.now.cuts.dims ≡ sizes.dims }
-        requires span { sizes.span ≤ sizes.dims }
-        requires dim { dim < sizes.span }
-        requires count { length self.old.buffers ≡ 2 ^ sizes.span }
-        requires begins { first % 2 ^ sizes.span ≡ 0 }
-        requires band { first + 2 ^ sizes.span ≤ 2 ^ sizes.dims }
+        requires dim { dim < span }
+        requires count { length self.old.buffers ≡ 2 ^ span }
+        requires begins { first % 2 ^ span ≡ 0 }
+        requires band { first + 2 ^ span ≤ 2 ^ sizes.dims }
         requires within { All (λ ms. length ms ≤ sizes.room) self.old.buffers }
-        ensures value { self.new.buffers ≡ each_chip sizes.span (λ c. buffer_after_dimension
+        ensures value { self.new.buffers ≡ each_chip span (λ c. buffer_after_dimension
             (way_of (routing_of routing.now) (first + c) dim) sizes.room dim (list_at self.old.buffers c)
             (outgoing (way_of (routing_of routing.now) (first + c) dim) sizes.room dim
             (list_at self.old.buffers (bit_xor c (2 ^ dim))))) }
-        ensures count { length self.new.buffers ≡ 2 ^ sizes.span }
+        ensures count { length self.new.buffers ≡ 2 ^ span }
         ensures within { All (λ ms. length ms ≤ sizes.room) self.new.buffers }
     {
         let in_order = self.risen == self.row.len();
@@ -470,6 +463,7 @@ impl Crossing {
             in_order,
             &mut self.slots,
             sizes,
+            span,
             routing,
             first,
             dim,
@@ -488,7 +482,6 @@ impl Crossing {
         dim: u8,
         leavers: &mut [Option<Message>],
     )
-        requires sizes { AreSizes sizes.dims sizes.room }
         requires cube { routing.now.cuts.dims ≡ sizes.dims }
         requires dim { dim < sizes.dims }
         requires count { length leavers.old ≡ length self.old.buffers }
@@ -512,7 +505,6 @@ impl Crossing {
     /// The second half by itself: each chip takes in what was written down for it, behind all that stand
     /// there. Nothing is written down then. Where something is, there is room for it.
     pub fn take_in(&mut self, sizes: Sizes, leavers: &mut [Option<Message>])
-        requires sizes { AreSizes sizes.dims sizes.room }
         requires count { length leavers.old ≡ length self.old.buffers }
         requires within { All (λ ms. length ms ≤ sizes.room) self.old.buffers }
         requires space { (c : ℕ) → c < length self.old.buffers
@@ -542,7 +534,6 @@ impl Crossing {
         here: u16,
         log: &mut Vec<Event>,
     )
-        requires sizes { AreSizes sizes.dims sizes.room }
         requires chip { chip < length self.old.buffers }
         requires run { length run.now ≡ length self.old.buffers }
         requires within { All (λ ms. length ms ≤ sizes.room) self.old.buffers }

@@ -8,7 +8,6 @@ ghost use Rattle.std.specs.Option.{option_to_list};
 ghost use Rattle.cm_model.specs.declared.rule.Rule.TheVariants.{Oldest};
 ghost use Rattle.cm_model.specs.Each.{each_from};
 ghost use Rattle.cm_model.specs.Array.{each_chip, list_at};
-ghost use Rattle.cm_model.specs.Keeping.{AreSizes};
 ghost use Rattle.cm_model.specs.Wiring.{way_of};
 ghost use Rattle.cm_router.specs.Routes.{routing_of};
 ghost use Rattle.cm_crossing.specs.Standing.{AreKept, IsKept, IsWritten, AreRising};
@@ -27,33 +26,33 @@ pub(crate) fn cross(
     in_order: bool,
     slots: &mut Slots,
     sizes: Sizes,
+    span: u8,
     routing: &Routing,
     first: u16,
     dim: u8,
     leavers: &mut [Option<Ticket>],
 )
-    requires sizes { AreSizes sizes.dims sizes.room }
     requires cube { routing.now.cuts.dims ≡ sizes.dims }
-    requires span { sizes.span ≤ sizes.dims }
-    requires dim { dim < sizes.span }
-    requires count { length slots.old ≡ 2 ^ sizes.span }
+    requires span { span ≤ sizes.dims }
+    requires dim { dim < span }
+    requires count { length slots.old ≡ 2 ^ span }
     requires rows { length leavers.old ≡ length slots.old }
-    requires begins { first % 2 ^ sizes.span ≡ 0 }
-    requires band { first + 2 ^ sizes.span ≤ 2 ^ sizes.dims }
+    requires begins { first % 2 ^ span ≡ 0 }
+    requires band { first + 2 ^ span ≤ 2 ^ sizes.dims }
     requires few { length row.now ≤ 65535 }
     requires in_order { IsTrue in_order → AreRising row.now (length row.now) }
     requires kept { All (AreKept (length row.now)) slots.old }
     requires within { All (λ ts. length ts ≤ sizes.room) slots.old }
-    ensures value { slots.new ≡ each_chip sizes.span (λ c. tickets_crossed row.now
+    ensures value { slots.new ≡ each_chip span (λ c. tickets_crossed row.now
         (way_of (routing_of routing.now) (first + c) dim) sizes.room dim
         (list_at slots.old c) (list_at slots.old (bit_xor c (2 ^ dim)))) }
 {
     if routing.is_plain_over(dim) {
-        slots.cross(sizes.span, sizes.room, dim);
+        slots.cross(span, sizes.room, dim);
     } else if in_order && goes_by_age(routing, dim) {
-        slots.cross_by_number(sizes.span, sizes.room, dim);
+        slots.cross_by_number(span, sizes.room, dim);
     } else {
-        cross_by_chip(row, slots, sizes, routing, first, dim, leavers);
+        cross_by_chip(row, slots, sizes, span, routing, first, dim, leavers);
     }
 }
 
@@ -76,7 +75,6 @@ pub(crate) fn leave(
     dim: u8,
     leavers: &mut [Option<Ticket>],
 )
-    requires sizes { AreSizes sizes.dims sizes.room }
     requires cube { routing.now.cuts.dims ≡ sizes.dims }
     requires dim { dim < sizes.dims }
     requires rows { length leavers.old ≡ length slots.old }
@@ -99,23 +97,23 @@ fn cross_by_chip(
     row: &[Message],
     slots: &mut Slots,
     sizes: Sizes,
+    span: u8,
     routing: &Routing,
     first: u16,
     dim: u8,
     leavers: &mut [Option<Ticket>],
 )
-    requires sizes { AreSizes sizes.dims sizes.room }
     requires cube { routing.now.cuts.dims ≡ sizes.dims }
-    requires span { sizes.span ≤ sizes.dims }
-    requires dim { dim < sizes.span }
-    requires count { length slots.old ≡ 2 ^ sizes.span }
+    requires span { span ≤ sizes.dims }
+    requires dim { dim < span }
+    requires count { length slots.old ≡ 2 ^ span }
     requires rows { length leavers.old ≡ length slots.old }
-    requires begins { first % 2 ^ sizes.span ≡ 0 }
-    requires band { first + 2 ^ sizes.span ≤ 2 ^ sizes.dims }
+    requires begins { first % 2 ^ span ≡ 0 }
+    requires band { first + 2 ^ span ≤ 2 ^ sizes.dims }
     requires few { length row.now ≤ 65535 }
     requires kept { All (AreKept (length row.now)) slots.old }
     requires within { All (λ ts. length ts ≤ sizes.room) slots.old }
-    ensures value { slots.new ≡ each_chip sizes.span (λ c. tickets_crossed row.now
+    ensures value { slots.new ≡ each_chip span (λ c. tickets_crossed row.now
         (way_of (routing_of routing.now) (first + c) dim) sizes.room dim
         (list_at slots.old c) (list_at slots.old (bit_xor c (2 ^ dim)))) }
 {
@@ -132,7 +130,6 @@ fn leave_by_chip(
     dim: u8,
     leavers: &mut [Option<Ticket>],
 )
-    requires sizes { AreSizes sizes.dims sizes.room }
     requires cube { routing.now.cuts.dims ≡ sizes.dims }
     requires dim { dim < sizes.dims }
     requires rows { length leavers.old ≡ length slots.old }

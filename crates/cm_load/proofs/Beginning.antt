@@ -46,7 +46,7 @@ module _ (n count : ℕ) (run : Chips) (buffers : List (List Message)) (logs : L
     latencies = told i;
   }
 
-  pub routers : (cap : ℕ) → AreRouters n cap run buffers logs
+  pub routers : (cap : ℕ) → AreRouters (2 ^ n) cap run buffers logs
   routers cap = record {
     chip_count = ap length chips ∙ (length-each_from 0 count (λ c. blank_chip) ∙ all);
     buffer_count = ap length none ∙ (length-each_from {X = List Message} 0 count (λ c. []) ∙ all);

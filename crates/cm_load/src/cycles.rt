@@ -1,7 +1,6 @@
 //! A machine under a load, petit cycle after petit cycle.
 
 ghost use Rattle.std.specs.Prelude.{◌≡◌, ◌+◌, ◌*◌, ◌<◌, ◌≤◌, ◌^◌, OnOk, length};
-ghost use Rattle.cm_model.specs.Keeping.{AreSizes};
 ghost use Rattle.cm_router.specs.Routes.{routing_of};
 ghost use Rattle.cm_petit.specs.Routers.{AreRouters};
 ghost use Rattle.cm_load.specs.Offers.{places};
@@ -43,11 +42,9 @@ pub(crate) fn go_through(
     sources: &mut [Source],
     told: &mut Told,
 ) -> Result<(), NoMemory>
-    requires sizes { AreSizes sizes.dims sizes.room }
-    requires all { sizes.span ≡ sizes.dims }
     requires load { load.now.dims ≡ sizes.dims }
     requires cube { routing.now.cuts.dims ≡ sizes.dims }
-    requires routers { AreRouters sizes.dims sizes.room run.old crossing.old.buffers logs.old }
+    requires routers { AreRouters (2 ^ sizes.dims) sizes.room run.old crossing.old.buffers logs.old }
     requires sources { length sources.old ≡ places load.now.dims }
     requires few { cycles ≤ 1000000 }
     requires taken { told.old.taken ≡ 0 }
@@ -74,11 +71,9 @@ fn go_on(
     sources: &mut [Source],
     told: &mut Told,
 ) -> Result<(), NoMemory>
-    requires sizes { AreSizes sizes.dims sizes.room }
-    requires all { sizes.span ≡ sizes.dims }
     requires load { load.now.dims ≡ sizes.dims }
     requires cube { routing.now.cuts.dims ≡ sizes.dims }
-    requires routers { AreRouters sizes.dims sizes.room run.old crossing.old.buffers logs.old }
+    requires routers { AreRouters (2 ^ sizes.dims) sizes.room run.old crossing.old.buffers logs.old }
     requires sources { length sources.old ≡ places load.now.dims }
     requires early { t < 1000000 }
     requires taken { told.old.taken ≤ t * 2 ^ 76 }
@@ -86,7 +81,7 @@ fn go_on(
         sources.new told.new
         ≡ after_one sizes.room load.now (loaded_of (routing_of routing.now) run.old crossing.old.buffers logs.old t
         sources.old told.old)) }
-    ensures routers { OnOk result (AreRouters sizes.dims sizes.room run.new crossing.new.buffers logs.new) }
+    ensures routers { OnOk result (AreRouters (2 ^ sizes.dims) sizes.room run.new crossing.new.buffers logs.new) }
     ensures taken { OnOk result (told.new.taken ≤ (t + 1) * 2 ^ 76) }
 {
     empty_logs(logs, 4 + usize::from(sizes.room))?;

@@ -240,7 +240,6 @@ fn begin(
     };
     let sizes = Sizes {
         dims: load.dims,
-        span: load.dims,
         room,
     };
     go_through(

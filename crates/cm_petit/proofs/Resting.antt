@@ -20,7 +20,7 @@ use Rattle.cm_petit.proofs.Making.{injecting_nothing, delivering_nothing}
 use Rattle.cm_petit.proofs.Cycling.{injected_whole, delivered_whole, cycle_is, nothing_crosses}
 
 module _ (routing : Routing) (n room : ℕ) (chips : Chips) (buffers : List (List Message)) (logs : List Log)
-    (are : AreRouters n room chips buffers logs) (some : 0 < room) (empty : All (λ ms. ms ≡ []) buffers) where
+    (are : AreRouters (2 ^ n) room chips buffers logs) (some : 0 < room) (empty : All (λ ms. ms ≡ []) buffers) where
   nothing_injected : (clock : ℕ) → ((c : ℕ) → c < length chips → IsIdle (chip_at chips c))
       → part_of routing 0 (2 ^ n) chips buffers logs clock
       ≡ part_after n room Inject Blank (part_of routing 0 (2 ^ n) chips buffers logs clock)

@@ -1,5 +1,5 @@
 -- A machine as the code of its router has it: chips, buffers and logs by the chip's number. Ours.
-use Rattle.std.specs.Prelude.{◌≡◌, ℕ, ◌≤◌, ◌^◌, List, length, map}
+use Rattle.std.specs.Prelude.{◌≡◌, ℕ, ◌≤◌, List, length, map}
 use Rattle.std.specs.List.{All}
 use Rattle.cm_model.specs.declared.message.Message.{Message}
 use Rattle.cm_model.specs.declared.message.Event.{Event}
@@ -35,9 +35,9 @@ part_of routing first count chips buffers logs clock = record {
   routing = routing;
 }
 
--- one chip, at most cap messages and one log for each number of a cube of n dimensions
-pub record AreRouters (n cap : ℕ) (chips : Chips) (buffers : List (List Message)) (logs : List Log) : Type 0 where
-  pub chip_count : length chips ≡ 2 ^ n
-  pub buffer_count : length buffers ≡ 2 ^ n
-  pub log_count : length logs ≡ 2 ^ n
+-- so many chips, with at most cap messages and a log for each
+pub record AreRouters (count cap : ℕ) (chips : Chips) (buffers : List (List Message)) (logs : List Log) : Type 0 where
+  pub chip_count : length chips ≡ count
+  pub buffer_count : length buffers ≡ count
+  pub log_count : length logs ≡ count
   pub within : All (λ ms. length ms ≤ cap) buffers

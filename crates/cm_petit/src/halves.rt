@@ -4,7 +4,6 @@ ghost use Rattle.std.specs.Prelude.{◌≡◌, ◌⊎◌, ℕ, ◌+◌, ◌%◌,
 ghost use Rattle.std.specs.List.{All};
 ghost use Rattle.cm_model.specs.Array.{Chips, list_at};
 ghost use Rattle.cm_model.specs.Steps.{Cross};
-ghost use Rattle.cm_model.specs.Keeping.{AreSizes};
 ghost use Rattle.cm_model.specs.Wiring.{Routing as Routes, is_cut};
 ghost use Rattle.cm_blocks.specs.Parcels.{Blank, Mail, due};
 ghost use Rattle.cm_blocks.specs.Steps.{part_after, less, absorbed};
@@ -16,25 +15,30 @@ use cm_crossing::{Crossing, Sizes};
 use cm_message::Message;
 use cm_router::Routing;
 
-/// Messages of a run of chips cross a dimension that these span. The run begins at chip `first` of the machine, a
-/// multiple of their number.
-pub fn cross(sizes: Sizes, routing: &Routing, first: u16, crossing: &mut Crossing, dim: u8)
-    requires sizes { AreSizes sizes.dims sizes.room }
+/// Messages of a run of 2^`span` chips cross a dimension that these span. The run begins at chip `first` of the
+/// machine, a multiple of their number.
+pub fn cross(
+    sizes: Sizes,
+    span: u8,
+    routing: &Routing,
+    first: u16,
+    crossing: &mut Crossing,
+    dim: u8,
+)
     requires cube { routing.now.cuts.dims ≡ sizes.dims }
-    requires span { sizes.span ≤ sizes.dims }
-    requires begins { first % 2 ^ sizes.span ≡ 0 }
-    requires band { first + 2 ^ sizes.span ≤ 2 ^ sizes.dims }
-    requires dim { dim < sizes.span }
-    requires count { length crossing.old.buffers ≡ 2 ^ sizes.span }
+    requires begins { first % 2 ^ span ≡ 0 }
+    requires band { first + 2 ^ span ≤ 2 ^ sizes.dims }
+    requires dim { dim < span }
+    requires count { length crossing.old.buffers ≡ 2 ^ span }
     requires within { All (λ ms. length ms ≤ sizes.room) crossing.old.buffers }
     ensures value { (clock : ℕ) (chips : Chips) (logs : List Log)
-        → part_of (routing_of routing.now) first (2 ^ sizes.span) chips crossing.new.buffers logs clock
+        → part_of (routing_of routing.now) first (2 ^ span) chips crossing.new.buffers logs clock
         ≡ part_after sizes.dims sizes.room (Cross dim) Blank
-        (part_of (routing_of routing.now) first (2 ^ sizes.span) chips crossing.old.buffers logs clock) }
-    ensures count { length crossing.new.buffers ≡ 2 ^ sizes.span }
+        (part_of (routing_of routing.now) first (2 ^ span) chips crossing.old.buffers logs clock) }
+    ensures count { length crossing.new.buffers ≡ 2 ^ span }
     ensures within { All (λ ms. length ms ≤ sizes.room) crossing.new.buffers }
 {
-    crossing.cross(sizes, routing, first, dim);
+    crossing.cross(sizes, span, routing, first, dim);
 }
 
 /// The first half of a dimension that leads out of a run of chips: what leaves each of them is taken out, and
@@ -47,23 +51,21 @@ pub fn leave(
     dim: u8,
     leavers: &mut [Option<Message>],
 )
-    requires sizes { AreSizes sizes.dims sizes.room }
     requires cube { routing.now.cuts.dims ≡ sizes.dims }
-    requires band { first + 2 ^ sizes.span ≤ 2 ^ sizes.dims }
+    requires band { first + length crossing.old.buffers ≤ 2 ^ sizes.dims }
     requires dim { dim < sizes.dims }
-    requires count { length crossing.old.buffers ≡ 2 ^ sizes.span }
-    requires lanes { length leavers.old ≡ 2 ^ sizes.span }
+    requires lanes { length leavers.old ≡ length crossing.old.buffers }
     requires within { All (λ ms. length ms ≤ sizes.room) crossing.old.buffers }
-    ensures value { (clock : ℕ) (chips : Chips) (logs : List Log)
-        → part_of (routing_of routing.now) first (2 ^ sizes.span) chips crossing.new.buffers logs clock
+    ensures value { (count clock : ℕ) (chips : Chips) (logs : List Log) → length crossing.old.buffers ≡ count
+        → part_of (routing_of routing.now) first count chips crossing.new.buffers logs clock
         ≡ less sizes.room (Cross dim)
-        (part_of (routing_of routing.now) first (2 ^ sizes.span) chips crossing.old.buffers logs clock) }
-    ensures going { (clock : ℕ) (chips : Chips) (logs : List Log) → Mail leavers.new
-        ≡ due sizes.dims sizes.room (Cross dim)
-        (part_of (routing_of routing.now) first (2 ^ sizes.span) chips crossing.old.buffers logs clock) }
-    ensures count { length crossing.new.buffers ≡ 2 ^ sizes.span }
+        (part_of (routing_of routing.now) first count chips crossing.old.buffers logs clock) }
+    ensures going { (count clock : ℕ) (chips : Chips) (logs : List Log) → length crossing.old.buffers ≡ count
+        → Mail leavers.new ≡ due sizes.dims sizes.room (Cross dim)
+        (part_of (routing_of routing.now) first count chips crossing.old.buffers logs clock) }
+    ensures count { length crossing.new.buffers ≡ length crossing.old.buffers }
     ensures within { All (λ ms. length ms ≤ sizes.room) crossing.new.buffers }
-    ensures space { (c : ℕ) → c < 2 ^ sizes.span → is_cut (routing_of routing.now) (first + c) dim ≡ false
+    ensures space { (c : ℕ) → c < length crossing.old.buffers → is_cut (routing_of routing.now) (first + c) dim ≡ false
         → length (list_at crossing.new.buffers c) < sizes.room }
 {
     crossing.leave(sizes, routing, first, dim, leavers);
@@ -71,18 +73,16 @@ pub fn leave(
 
 /// The second half: each chip takes in what was written down for it. Nothing is written down then.
 pub fn take_in(sizes: Sizes, crossing: &mut Crossing, leavers: &mut [Option<Message>])
-    requires sizes { AreSizes sizes.dims sizes.room }
-    requires count { length crossing.old.buffers ≡ 2 ^ sizes.span }
-    requires lanes { length leavers.old ≡ 2 ^ sizes.span }
+    requires lanes { length leavers.old ≡ length crossing.old.buffers }
     requires within { All (λ ms. length ms ≤ sizes.room) crossing.old.buffers }
-    requires space { (c : ℕ) → c < 2 ^ sizes.span
+    requires space { (c : ℕ) → c < length crossing.old.buffers
         → (slice_index_or leavers.old c None ≡ None) ⊎ (length (list_at crossing.old.buffers c) < sizes.room) }
-    ensures value { (routing : Routes) (dim first clock : ℕ) (chips : Chips) (logs : List Log)
-        → part_of routing first (2 ^ sizes.span) chips crossing.new.buffers logs clock
+    ensures value { (routing : Routes) (dim first count clock : ℕ) (chips : Chips) (logs : List Log)
+        → length crossing.old.buffers ≡ count → part_of routing first count chips crossing.new.buffers logs clock
         ≡ absorbed sizes.dims sizes.room (Cross dim) (Mail leavers.old)
-        (part_of routing first (2 ^ sizes.span) chips crossing.old.buffers logs clock) }
+        (part_of routing first count chips crossing.old.buffers logs clock) }
     ensures blank { All (λ leaver. leaver ≡ None) leavers.new }
-    ensures count { length crossing.new.buffers ≡ 2 ^ sizes.span }
+    ensures count { length crossing.new.buffers ≡ length crossing.old.buffers }
     ensures within { All (λ ms. length ms ≤ sizes.room) crossing.new.buffers }
 {
     crossing.take_in(sizes, leavers);

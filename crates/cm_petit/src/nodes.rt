@@ -8,7 +8,6 @@ ghost use Rattle.cm_model.specs.Array.{each_chip, list_at};
 ghost use Rattle.cm_model.specs.Steps.{Inject, Deliver};
 ghost use Rattle.cm_model.specs.Wiring.{Routing as Routes, way_of};
 ghost use Rattle.cm_model.specs.Buffers.{outgoing, buffer_after_dimension, buffers_after_dimension, after_act};
-ghost use Rattle.cm_model.specs.Keeping.{AreSizes};
 ghost use Rattle.cm_blocks.specs.Parcels.{Blank};
 ghost use Rattle.cm_blocks.specs.Steps.{part_after};
 ghost use Rattle.cm_router.specs.Routes.{routing_of};
@@ -32,7 +31,6 @@ pub fn cycle_of_nodes(
     logs: &mut [Vec<Event>],
     clock: u64,
 )
-    requires sizes { AreSizes sizes.dims sizes.room }
     requires cube { routing.now.cuts.dims ≡ sizes.dims }
     requires nodes { AreNodes sizes.dims sizes.room run.old nodes.old logs.old }
     requires log_room { HaveLogRoom (4 + sizes.room) (log_rooms_of logs.old) }
@@ -57,7 +55,6 @@ fn inject_into_nodes(
     logs: &mut [Vec<Event>],
     clock: u64,
 )
-    requires sizes { AreSizes sizes.dims sizes.room }
     requires nodes { AreNodes sizes.dims sizes.room run.old nodes.old logs.old }
     requires log_room { HaveLogRoom 4 (log_rooms_of logs.old) }
     ensures value { (routing : Routes)
@@ -76,7 +73,6 @@ fn inject_into_nodes(
 /// Messages cross a dimension: of each pair of chips both send who leaves before either takes in who comes.
 #[tactic(auto, using(crate::proofs::Dimensions::across_differs, crate::proofs::Dimensions::one_way, cm_model::proofs::Flips::xor_twice))]
 fn cross_nodes(sizes: Sizes, routing: &Routing, nodes: &mut [Node], dim: u8)
-    requires sizes { AreSizes sizes.dims sizes.room }
     requires cube { routing.now.cuts.dims ≡ sizes.dims }
     requires dim { dim < sizes.dims }
     requires count { length nodes.old ≡ 2 ^ sizes.dims }
@@ -138,7 +134,6 @@ fn welcome(node: &mut Node, coming: Option<Message>)
 
 /// Messages that have arrived go to their processors.
 fn deliver_from_nodes(sizes: Sizes, run: &mut Run, nodes: &mut [Node], logs: &mut [Vec<Event>])
-    requires sizes { AreSizes sizes.dims sizes.room }
     requires nodes { AreNodes sizes.dims sizes.room run.old nodes.old logs.old }
     requires log_room { HaveLogRoom sizes.room (log_rooms_of logs.old) }
     ensures value { (routing : Routes) (clock : ℕ)

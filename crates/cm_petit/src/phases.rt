@@ -1,10 +1,9 @@
 //! The parts of a petit cycle, each on all chips before the next begins.
 
-ghost use Rattle.std.specs.Prelude.{◌≡◌, ℕ, ◌+◌, ◌^◌, ◌<◌, ◌≤◌};
+ghost use Rattle.std.specs.Prelude.{◌≡◌, ℕ, ◌+◌, ◌^◌, ◌<◌, ◌≤◌, length};
 ghost use Rattle.cm_model.specs.declared.act.Act.TheVariants as act;
 ghost use Rattle.cm_model.specs.Steps.{Inject, Deliver};
 ghost use Rattle.cm_model.specs.Buffers.{after_act};
-ghost use Rattle.cm_model.specs.Keeping.{AreSizes};
 ghost use Rattle.cm_model.specs.Wiring.{Routing as Routes};
 ghost use Rattle.cm_blocks.specs.Parcels.{Blank};
 ghost use Rattle.cm_blocks.specs.Steps.{part_after};
@@ -28,17 +27,15 @@ pub fn cycle(
     logs: &mut [Vec<Event>],
     clock: &mut u64,
 )
-    requires sizes { AreSizes sizes.dims sizes.room }
-    requires all { sizes.span ≡ sizes.dims }
     requires cube { routing.now.cuts.dims ≡ sizes.dims }
-    requires routers { AreRouters sizes.dims sizes.room run.old crossing.old.buffers logs.old }
+    requires routers { AreRouters (2 ^ sizes.dims) sizes.room run.old crossing.old.buffers logs.old }
     requires log_room { HaveLogRoom (4 + sizes.room) (log_rooms_of logs.old) }
     requires counter { clock.old < 2 ^ 63 }
     ensures value { machine_of (routing_of routing.now) run.new crossing.new.buffers logs.new clock.new
         ≡ after_act sizes.dims sizes.room
         (machine_of (routing_of routing.now) run.old crossing.old.buffers logs.old clock.old) act.Cycle }
     ensures counter { clock.new ≡ clock.old + 1 }
-    ensures routers { AreRouters sizes.dims sizes.room run.new crossing.new.buffers logs.new }
+    ensures routers { AreRouters (2 ^ sizes.dims) sizes.room run.new crossing.new.buffers logs.new }
     ensures log_room { LoseAtMost (4 + sizes.room) (log_rooms_of logs.old) (log_rooms_of logs.new) }
 {
     inject(sizes, 0, run, crossing, logs, *clock);
@@ -47,8 +44,8 @@ pub fn cycle(
         pass_over(run);
         return;
     }
-    for dim in 0..sizes.span {
-        crossing.cross(sizes, routing, 0, dim);
+    for dim in 0..sizes.dims {
+        crossing.cross(sizes, sizes.dims, routing, 0, dim);
     }
     deliver(sizes, 0, run, crossing, logs);
 }
@@ -63,15 +60,14 @@ pub fn inject(
     logs: &mut [Vec<Event>],
     clock: u64,
 )
-    requires sizes { AreSizes sizes.dims sizes.room }
-    requires band { first + 2 ^ sizes.span ≤ 2 ^ sizes.dims }
-    requires routers { AreRouters sizes.span sizes.room run.old crossing.old.buffers logs.old }
+    requires band { first + length run.old ≤ 2 ^ sizes.dims }
+    requires routers { AreRouters (length run.old) sizes.room run.old crossing.old.buffers logs.old }
     requires log_room { HaveLogRoom 4 (log_rooms_of logs.old) }
     ensures value { (routing : Routes)
-        → part_of routing first (2 ^ sizes.span) run.new crossing.new.buffers logs.new clock
+        → part_of routing first (length run.old) run.new crossing.new.buffers logs.new clock
         ≡ part_after sizes.dims sizes.room Inject Blank
-        (part_of routing first (2 ^ sizes.span) run.old crossing.old.buffers logs.old clock) }
-    ensures routers { AreRouters sizes.span sizes.room run.new crossing.new.buffers logs.new }
+        (part_of routing first (length run.old) run.old crossing.old.buffers logs.old clock) }
+    ensures routers { AreRouters (length run.old) sizes.room run.new crossing.new.buffers logs.new }
     ensures log_room { LoseAtMost 4 (log_rooms_of logs.old) (log_rooms_of logs.new) }
 {
     if is_idle(run) {
@@ -94,15 +90,14 @@ pub fn deliver(
     crossing: &mut Crossing,
     logs: &mut [Vec<Event>],
 )
-    requires sizes { AreSizes sizes.dims sizes.room }
-    requires band { first + 2 ^ sizes.span ≤ 2 ^ sizes.dims }
-    requires routers { AreRouters sizes.span sizes.room run.old crossing.old.buffers logs.old }
+    requires band { first + length run.old ≤ 2 ^ sizes.dims }
+    requires routers { AreRouters (length run.old) sizes.room run.old crossing.old.buffers logs.old }
     requires log_room { HaveLogRoom sizes.room (log_rooms_of logs.old) }
     ensures value { (routing : Routes) (clock : ℕ)
-        → part_of routing first (2 ^ sizes.span) run.new crossing.new.buffers logs.new (clock + 1)
+        → part_of routing first (length run.old) run.new crossing.new.buffers logs.new (clock + 1)
         ≡ part_after sizes.dims sizes.room Deliver Blank
-        (part_of routing first (2 ^ sizes.span) run.old crossing.old.buffers logs.old clock) }
-    ensures routers { AreRouters sizes.span sizes.room run.new crossing.new.buffers logs.new }
+        (part_of routing first (length run.old) run.old crossing.old.buffers logs.old clock) }
+    ensures routers { AreRouters (length run.old) sizes.room run.new crossing.new.buffers logs.new }
     ensures log_room { LoseAtMost sizes.room (log_rooms_of logs.old) (log_rooms_of logs.new) }
 {
     pass_over(run);

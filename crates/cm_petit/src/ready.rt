@@ -8,7 +8,6 @@ ghost use Rattle.cm_model.specs.declared.act.Act.TheVariants as act;
 ghost use Rattle.cm_model.specs.Array.{list_at};
 ghost use Rattle.cm_model.specs.Processor.{SEND, ACK};
 ghost use Rattle.cm_model.specs.Buffers.{after_act};
-ghost use Rattle.cm_model.specs.Keeping.{AreSizes};
 ghost use Rattle.cm_model.specs.Wiring.{Routing as Routes};
 ghost use Rattle.cm_router.specs.Logs.{Log, log_rooms_of, HaveLogRoom};
 ghost use Rattle.cm_petit.specs.Routers.{machine_of, AreRouters};
@@ -19,22 +18,16 @@ use cm_element::Run;
 use cm_message::{Event, Message};
 use cm_router::{Node, is_idle, pass_over};
 
-/// Whether there are as many chips, buffers and logs as the sizes tell, with no more messages at a chip than
-/// there is room for.
+/// Whether there are as many buffers and logs as chips, with no more messages at a chip than there is room for.
 pub fn are_routers(sizes: Sizes, run: &Run, crossing: &Crossing, logs: &[Vec<Event>]) -> bool
-    requires span { sizes.span ≤ 12 }
-    ensures routers { IsTrue result ↔ AreRouters sizes.span sizes.room run.now crossing.now.buffers logs.now }
+    ensures routers { IsTrue result ↔ AreRouters (length run.now) sizes.room run.now crossing.now.buffers logs.now }
 {
-    let chips = 1 << sizes.span;
-    run.chips() == chips
-        && crossing.chips() == chips
-        && logs.len() == chips
-        && crossing.is_within(sizes.room)
+    let chips = run.chips();
+    crossing.chips() == chips && logs.len() == chips && crossing.is_within(sizes.room)
 }
 
 /// Whether there are as many chips, nodes and logs as the sizes tell, and each node has that room.
 pub fn are_nodes(sizes: Sizes, run: &Run, nodes: &[Node], logs: &[Vec<Event>]) -> bool
-    requires dimension { sizes.dims ≤ 12 }
     ensures nodes { IsTrue result ↔ AreNodes sizes.dims sizes.room run.now nodes.now logs.now }
 {
     let chips = 1 << sizes.dims;
@@ -59,9 +52,8 @@ pub fn has_log_room(logs: &[Vec<Event>], count: usize) -> bool
 
 /// Whether at each chip for which a message is written down there is room for it.
 pub fn has_space(sizes: Sizes, crossing: &Crossing, leavers: &[Option<Message>]) -> bool
-    requires count { length crossing.now.buffers ≡ 2 ^ sizes.span }
-    requires lanes { length leavers.now ≡ 2 ^ sizes.span }
-    ensures space { IsTrue result ↔ ((c : ℕ) → c < 2 ^ sizes.span → (slice_index_or leavers.now c None ≡ None)
+    requires lanes { length leavers.now ≡ length crossing.now.buffers }
+    ensures space { IsTrue result ↔ ((c : ℕ) → c < length leavers.now → (slice_index_or leavers.now c None ≡ None)
         ⊎ (length (list_at crossing.now.buffers c) < sizes.room)) }
 {
     for c in 0..leavers.len() {
@@ -75,11 +67,10 @@ pub fn has_space(sizes: Sizes, crossing: &Crossing, leavers: &[Option<Message>])
 /// Whether a petit cycle changes nothing but the counter: nobody asks to send, nobody is acknowledged, and no message
 /// stands anywhere. It is found by words of two rows of flags, and by the first slots of the chips.
 pub fn is_at_rest(sizes: Sizes, run: &Run, crossing: &Crossing) -> bool
-    requires sizes { AreSizes sizes.dims sizes.room }
     ensures value { IsTrue result ↔ (IsFalse (list_any (has_flag SEND) run.now)
         × IsFalse (list_any (has_flag ACK) run.now) × All (λ ms. ms ≡ []) crossing.now.buffers) }
     ensures rest { IsTrue result → (routing : Routes) (logs : List Log) (clock : ℕ)
-        → AreRouters sizes.dims sizes.room run.now crossing.now.buffers logs
+        → AreRouters (2 ^ sizes.dims) sizes.room run.now crossing.now.buffers logs
         → machine_of routing run.now crossing.now.buffers logs (clock + 1)
         ≡ after_act sizes.dims sizes.room (machine_of routing run.now crossing.now.buffers logs clock) act.Cycle }
 {

@@ -1,13 +1,12 @@
 -- What comes to a block has nothing for a chip whose wire is cut.
-use Rattle.std.proofs.Common.{◌≡◌, ℕ, ◌+◌, ◌-◌, ◌*◌, ◌<◌, ◌≤◌, ◌^◌, Bool, true, false, List, None, length}
+use Rattle.std.proofs.Common.{◌≡◌, ℕ, ◌+◌, ◌-◌, ◌*◌, ◌≤◌, ◌^◌, true, List, None}
 use Rattle.std.proofs.Common.{Option, refl, sym, ap, ◌∙◌, ⊎_elim, inl, inr, arith}
-use Rattle.std.specs.Prelude.{◌⊎◌, bit_xor}
+use Rattle.std.specs.Prelude.{bit_xor}
 use Rattle.std.proofs.lemmas.Bool.{cases_Bool}
 use Rattle.std.proofs.lemmas.Bool.Decides.{nat_tests}
 use Rattle.cm_bits.specs.declared.plane.Dir.{Dir}
 use Rattle.cm_bits.specs.declared.plane.Dir.TheVariants.{North, East, South, West}
 use Rattle.cm_model.specs.declared.message.Message.{Message}
-use Rattle.cm_model.specs.Array.{list_at}
 use Rattle.cm_model.specs.Machine.{Machine}
 use Rattle.cm_model.specs.Steps.{Step, Instruct, Look, Inject, Cross, Deliver}
 use Rattle.cm_model.specs.Wiring.{Way, is_cut, way_of}
@@ -19,7 +18,6 @@ use Rattle.cm_blocks.specs.Parcels.{Parcel, mail_in, due, sender}
 use Rattle.cm_blocks.specs.Rounds.{is_round}
 use Rattle.cm_blocks.specs.Steps.{less}
 use Rattle.cm_blocks.proofs.Mailing.{high_across}
-use Rattle.cm_array.specs.Cuts.{KeptPart}
 use Rattle.cm_subcube.specs.declared.round.Kind.{Kind}
 use Rattle.cm_subcube.specs.declared.round.Kind.TheVariants as kind
 use Rattle.cm_subcube.specs.Rounds.{kind_over, kind_of}
@@ -62,18 +60,7 @@ cuts_are_spared n cap k b machine (Cross d) round =
     let high : n - k ≤ d = grind (arith, nat_tests) in spared_over n cap k b d machine high
 cuts_are_spared n cap k b machine Deliver round = tt
 
--- what a block has room for, once messages left it
-pub space_left : (d span : ℕ) (old new : KeptPart) (gathered : Bool)
-    → new ≡ record old { part = less old.room (Cross d) old.part; gathered = gathered } → old.part.count ≡ 2 ^ span
-    → ((c : ℕ) → c < 2 ^ span → is_cut old.part.routing (old.part.first + c) d ≡ false
-    → length (list_at new.part.buffers c) < new.room) → HaveSpaceOver d new.room new.part
-unfolding less
-space_left d span old new gathered is many space c l joined =
-    let count : new.part.count ≡ old.part.count = ap (λ (kept : KeptPart). kept.part.count) is in
-    space c (omega (arith, l, count, many))
-    (sym (ap (λ (kept : KeptPart). is_cut kept.part.routing (kept.part.first + c) d) is) ∙ joined)
-
--- so there is room for each message that comes, where there is at each chip whose wire is not cut
+-- there is room for each message that comes, where there is at each chip whose wire is not cut
 room_over : (d room : ℕ) (s : Part) (lane : ℕ → Option Message) → HaveSpaceOver d room s → SparesCutsOver d s lane
     → HaveRoomOver room s lane
 room_over d room s lane space spared c l =

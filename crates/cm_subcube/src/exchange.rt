@@ -85,8 +85,7 @@ impl Block {
         ensures sent { Mail mail.new ≡ due self.old.kept.dims self.old.kept.room (Cross dim) self.old.kept.part }
         ensures space { HaveSpaceOver dim self.new.kept.room self.new.kept.part }
     {
-        let span = self.part.dims() - self.k;
-        self.part.leave(span, dim, mail);
+        self.part.leave(dim, mail);
     }
 
     /// What comes to each chip in a dimension.
@@ -101,8 +100,7 @@ impl Block {
         ensures blocks { self.new.k ≡ self.old.k }
         ensures blank { All (λ leaver. leaver ≡ None) mail.new }
     {
-        let span = self.part.dims() - self.k;
-        self.part.take_in(span, mail);
+        self.part.take_in(mail);
     }
 
     /// What goes out over its edge northward or southward.

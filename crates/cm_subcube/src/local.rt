@@ -144,8 +144,7 @@ impl Block {
         requires room { CanGo (Inject ∷ []) self.old }
         ensures gone { HasGone (Inject ∷ []) self.old self.new }
     {
-        let span = self.part.dims() - self.k;
-        self.part.inject(span);
+        self.part.inject();
     }
 
     /// Its messages cross each dimension that its own chips span.
@@ -171,8 +170,7 @@ impl Block {
         requires room { CanGo (Deliver ∷ []) self.old }
         ensures gone { HasGone (Deliver ∷ []) self.old self.new }
     {
-        let span = self.part.dims() - self.k;
-        self.part.deliver(span);
+        self.part.deliver();
     }
 }
 

@@ -26,7 +26,7 @@ returns-in-Nano-clause-parts c =
 pub cycle-requires-clause-routers : goal.cycle-requires-clause-routers
 cycle-requires-clause-routers c =
     let before = c.args.parts.now in
-    subst (λ (ls : List Log). AreRouters c.args.sizes.dims c.args.sizes.room before.run before.crossing.buffers ls)
+    subst (λ (ls : List Log). AreRouters (2 ^ c.args.sizes.dims) c.args.sizes.room before.run before.crossing.buffers ls)
     (sym c.deref_mut-in-Cycle.ensures.value) (AreRouters-parts c.args.sizes.dims c.args.sizes.room before c.requires.parts)
 
 pub returns-in-Cycle-clause-parts : goal.returns-in-Cycle-clause-parts

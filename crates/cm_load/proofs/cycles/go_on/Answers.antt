@@ -21,7 +21,7 @@ chip_count n h = one_shl n 16 (omega (arith, h))
 
 pub taken_in-requires : goal.taken_in-requires
 taken_in-requires c =
-    let most : 2 ^ c.args.sizes.dims ≤ 2 ^ 12 = pow-le-pow_right (lit< tt) c.requires.sizes.dimension in
+    let most : 2 ^ c.args.sizes.dims ≤ 2 ^ 12 = pow-le-pow_right (lit< tt) c.args.sizes.bounds.dimension in
     record { few = omega (arith, most, c.cycle.ensures.routers.log_count) }
 
 pub returns-clause-ok : goal.returns-clause-ok
@@ -43,14 +43,14 @@ returns-clause-ok c =
     (sym (flat_map-map (flat_map (latency_told c.args.t)) (λ (log : Log). log.items) logs)))
     (c.fetch_all.ensures.value
     ∙ ap (λ (k : ℕ). each_from 0 k (λ x. with_flag_plane (chip_at c.cycle.new.run x) RECV (bit 0)))
-    (chip_count c.args.sizes.dims c.requires.sizes.dimension))
+    (chip_count c.args.sizes.dims c.args.sizes.bounds.dimension))
 
 pub returns-clause-routers : goal.returns-clause-routers
 returns-clause-routers c = record {
   chip_count = ap length c.fetch_all.ensures.value
       ∙ (length-each_from 0 (1 * 2 ^ c.args.sizes.dims % 65536)
       (λ x. with_flag_plane (chip_at c.cycle.new.run x) RECV (bit 0))
-      ∙ chip_count c.args.sizes.dims c.requires.sizes.dimension);
+      ∙ chip_count c.args.sizes.dims c.args.sizes.bounds.dimension);
   buffer_count = c.cycle.ensures.routers.buffer_count;
   log_count = c.cycle.ensures.routers.log_count;
   within = c.cycle.ensures.routers.within;

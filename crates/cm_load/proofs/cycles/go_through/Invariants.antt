@@ -11,6 +11,6 @@ invariant-loop-t l = record {
   value : loaded_of (routing_of l.routing) l.run l.crossing.buffers l.logs l.t l.sources l.told
       ≡ after_cycles l.sizes.room l.load
       (loaded_of (routing_of l.routing) l.fn.run l.fn.crossing.buffers l.fn.logs 0 l.fn.sources l.fn.told) l.t;
-  routers : AreRouters l.sizes.dims l.sizes.room l.run l.crossing.buffers l.logs;
+  routers : AreRouters (2 ^ l.sizes.dims) l.sizes.room l.run l.crossing.buffers l.logs;
   taken : l.told.taken ≤ l.t * 2 ^ 76;
 }

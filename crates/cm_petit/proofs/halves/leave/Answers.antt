@@ -1,4 +1,4 @@
-use Rattle.std.proofs.Common.{ℕ, ◌+◌, ◌^◌, List, [], Option, None, length, refl, ap, ◌∙◌}
+use Rattle.std.proofs.Common.{ℕ, ◌+◌, List, [], Option, None, length, refl, ap, ◌∙◌}
 use Rattle.cm_model.specs.declared.message.Message.{Message}
 use Rattle.cm_model.specs.Array.{list_at}
 use Rattle.cm_model.specs.Wiring.{way_of}
@@ -12,22 +12,22 @@ use Rattle.cm_petit.proofs.halves.leave.Goals as goal
 
 pub returns-clause-value : goal.returns-clause-value
 unfolding less
-returns-clause-value c = λ clock chips logs.
+returns-clause-value c = λ count clock chips logs long.
     let here = list_at c.args.crossing.now.buffers in
     let stay : ℕ → ℕ → List Message = λ k i.
     without (here i)
     (leaving_place (way_of (routing_of c.args.routing.now) k c.args.dim) c.args.sizes.room c.args.dim (here i)) in
-    let shifted = each_shifted [] c.args.first (2 ^ c.args.sizes.span) (λ i. stay (c.args.first + i) i) stay (λ i l. refl) in
-    rw (c.leave.ensures.value, c.requires.count, shifted) refl
+    let shifted = each_shifted [] c.args.first count (λ i. stay (c.args.first + i) i) stay (λ i l. refl) in
+    rw (c.leave.ensures.value, long, shifted) refl
 
 pub returns-clause-going : goal.returns-clause-going
 unfolding due
-returns-clause-going c = λ clock chips logs.
+returns-clause-going c = λ count clock chips logs long.
     let gone : ℕ → ℕ → Option Message = λ k i.
     outgoing (way_of (routing_of c.args.routing.now) k c.args.dim) c.args.sizes.room c.args.dim
     (list_at c.args.crossing.now.buffers i) in
-    let shifted = each_shifted None c.args.first (2 ^ c.args.sizes.span) (λ i. gone (c.args.first + i) i) gone (λ i l. refl) in
-    rw (c.leave.ensures.going, c.requires.count, shifted) refl
+    let shifted = each_shifted None c.args.first count (λ i. gone (c.args.first + i) i) gone (λ i l. refl) in
+    rw (c.leave.ensures.going, long, shifted) refl
 
 pub returns-clause-count : goal.returns-clause-count
-returns-clause-count c = ap length c.leave.ensures.value ∙ length-each_from _ _ _ ∙ c.requires.count
+returns-clause-count c = ap length c.leave.ensures.value ∙ length-each_from _ _ _

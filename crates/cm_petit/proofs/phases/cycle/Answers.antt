@@ -12,18 +12,18 @@ use Rattle.cm_petit.proofs.phases.cycle.Goals as goal
 pub loop-dim-init : goal.loop-dim-init
 loop-dim-init c = record {
   crossed = injected_whole _ _ _ refl refl
-      (rw c.requires.all at c.inject.ensures.value (routing_of c.args.routing.now));
-  count = rw c.requires.all at c.inject.ensures.routers.buffer_count;
+      (rw c.requires.routers.chip_count at c.inject.ensures.value (routing_of c.args.routing.now));
+  count = c.inject.ensures.routers.buffer_count ∙ c.requires.routers.chip_count;
   within = c.inject.ensures.routers.within;
 }
 
 pub loop-dim-preserved : goal.loop-dim-preserved
 loop-dim-preserved c = record {
   crossed = crossed_more c.args.sizes.dims c.args.sizes.room _ c.loop-dim.dim c.loop-dim.invariant.crossed
-      (rw c.requires.all at c.cross.ensures.value
+      (c.cross.ensures.value
       ∙ crossed_by_one_way (routing_of c.args.routing.now) c.args.sizes.dims c.args.sizes.room c.loop-dim.dim
       c.loop-dim.crossing.buffers);
-  count = rw c.requires.all at c.cross.ensures.count;
+  count = c.cross.ensures.count;
   within = c.cross.ensures.within;
 }
 
@@ -31,14 +31,15 @@ pub returns-then-is_empty-clause-value : goal.returns-then-is_empty-clause-value
 unfolding part_after
 returns-then-is_empty-clause-value c =
     let n = c.args.sizes.dims in
-    let are = rw c.requires.all at c.inject.ensures.routers in
+    let are = rw c.requires.routers.chip_count at c.inject.ensures.routers in
     let empty = λ (k : ℕ) (l : k < 2 ^ n).
     c.is_empty.ensures.none.0 c.if-is_empty.true k [] (omega (arith, are.buffer_count)) in
     let routing = routing_of c.args.routing.now in
     let whole = part_of routing 0 (2 ^ n) c.inject.new.run c.inject.new.crossing.buffers c.inject.new.logs c.args.clock.now in
     cycle_is n c.args.sizes.room _
-    (nothing_crosses n c.args.sizes.room _ _ c.requires.sizes.some_room are.buffer_count empty
-    (injected_whole _ _ _ refl refl (rw c.requires.all at c.inject.ensures.value routing)) n (omega arith))
+    (nothing_crosses n c.args.sizes.room _ _ c.args.sizes.bounds.some_room are.buffer_count empty
+    (injected_whole _ _ _ refl refl
+    (rw c.requires.routers.chip_count at c.inject.ensures.value routing)) n (omega arith))
     (delivered_whole n c.args.sizes.room whole refl refl
     (made_all {f = delivering} {most = 0} {count = 2 ^ n} routing _
     (made_past (2 ^ n) (made_none are.chip_count are.buffer_count are.log_count) (omega arith)
@@ -50,4 +51,5 @@ returns-clause-value c =
     let all : c.loop-dim.dim ≡ c.args.sizes.dims = omega arith in
     cycle_is c.args.sizes.dims c.args.sizes.room _ (rw all at c.loop-dim.invariant.crossed)
     (delivered_whole _ _ _ refl refl
-    (rw c.requires.all at c.deliver.ensures.value (routing_of c.args.routing.now) c.args.clock.now))
+    (rw (c.inject.ensures.routers.chip_count, c.requires.routers.chip_count) at c.deliver.ensures.value
+    (routing_of c.args.routing.now) c.args.clock.now))

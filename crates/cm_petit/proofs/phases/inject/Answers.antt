@@ -1,4 +1,4 @@
-use Rattle.std.proofs.Common.{arith, refl, ◌+◌, ◌^◌, ◌<◌, length}
+use Rattle.std.proofs.Common.{arith, refl, ◌+◌, ◌<◌, length}
 use Rattle.cm_blocks.specs.Steps.{part_after}
 use Rattle.cm_petit.proofs.Making.{injecting, made_none, made_past, made_more, made_all, injecting_nothing}
 use Rattle.cm_petit.proofs.Making.{injecting_passed, room_is}
@@ -9,7 +9,7 @@ unfolding part_after
 returns-then-is_idle-clause-value c = λ routing.
     let are = c.requires.routers in
     made_all {f = injecting c.args.sizes.dims c.args.sizes.room c.args.clock} {most = 4} routing _
-    (made_past (2 ^ c.args.sizes.span) (made_none are.chip_count are.buffer_count are.log_count) (omega arith)
+    (made_past (length c.args.run.now) (made_none are.chip_count are.buffer_count are.log_count) (omega arith)
     (λ k from l e. injecting_nothing c.args.sizes.dims c.args.sizes.room c.args.clock (c.args.first + k) _
     (c.is_idle.ensures.idle c.if-is_idle.true k (omega (arith, l, are.chip_count))))) (omega arith)
 

@@ -15,15 +15,15 @@ returns-clause-value c =
     let nano = c.args.nano.now in
     let sent = c.send.new.sent in
     let out = c.write_edge.new.out in
-    let before : KeptPart = kept_part inside.dims inside.room inside.first inside.parts in
-    let band : IsBand inside.dims before.part =
+    let before : KeptPart = kept_part inside.sizes.dims inside.sizes.room inside.first inside.parts in
+    let band : IsBand inside.sizes.dims before.part =
     subst (λ (k : KeptPart). IsBand k.dims k.part) (sym c.self.view_is) c.requires.band in
     let as_many = c.send.auto.sent ∙ ap length c.deref_mut.ensures.value in
     subst (λ (k : KeptPart). Edge (bits_of out) ≡ due k.dims k.room (Instruct nano) k.part) c.self.view_is
-    (edge_due inside.dims inside.room nano before.part sent out c.requires.vertical band refl
+    (edge_due inside.sizes.dims inside.sizes.room nano before.part sent out c.requires.vertical band refl
     (as_many ∙ c.self.invariant.sized.sent_count)
     (c.write_edge.auto.out ∙ c.requires.lanes ∙ ap (λ (k : KeptPart). chip_columns k.dims) (sym c.self.view_is))
     c.send.ensures.value
     (subst (λ (planes : List ℕ). IsEdgeOf nano.dir planes out)
     (c.deref.ensures.value ∙ items-lent inside.parts.sent sent as_many) c.write_edge.ensures.value)
-    (edge_inside inside.dims nano.dir before.part band).1)
+    (edge_inside inside.sizes.dims nano.dir before.part band).1)

@@ -11,7 +11,7 @@ invariant_of-self c =
     let now = c.step_in_band.new in
     let sent = c.step_in_band.auto.sent ∙ ap length c.deref_mut.ensures.value in
     let incoming = c.step_in_band.auto.incoming ∙ ap length c.deref_mut-2.ensures.value in
-    IsKeptPart-instructed inside.dims inside.room inside.first parts c.args.self.now
+    IsKeptPart-instructed inside.sizes.dims inside.sizes.room inside.first parts c.args.self.now
     c.args.nano.now c.args.edge.now now.run
     (with_items parts.sent now.sent) (with_items parts.incoming now.incoming) c.self.view_is c.self.invariant
     c.requires.band c.step_in_band.ensures.value
@@ -24,7 +24,7 @@ returns c =
     let parts = inside.parts in
     let now = c.step_in_band.new in
     record {
-      value = kept_instructed inside.dims inside.room inside.first parts c.args.self.now c.args.nano.now c.args.edge.now
+      value = kept_instructed inside.sizes.dims inside.sizes.room inside.first parts c.args.self.now c.args.nano.now c.args.edge.now
           now.run (with_items parts.sent now.sent) (with_items parts.incoming now.incoming) c.self.view_is
           c.self.invariant c.requires.band c.step_in_band.ensures.value;
     }

@@ -10,7 +10,7 @@ give_out-requires-clause-room c =
     omega (
       arith,
       c.requires.space,
-      c.requires.sizes.most_room,
+      c.args.sizes.bounds.most_room,
       few_at c.args.sizes.room _ c.self.inside.slots c.args.chip within,
     )
 

@@ -58,9 +58,9 @@ returns c =
       within = whole_left_within c.deref.result.now c.self.inside.row.items c.deref.ensures.value
           (routing_of c.args.routing.now) c.args.sizes.room c.args.dim c.args.first c.self.inside.slots
           c.leave.new.slots c.args.self.now.buffers are c.leave.ensures.value c.requires.within
-          (omega (arith, c.requires.sizes.some_room));
+          (omega (arith, c.args.sizes.bounds.some_room));
       space = whole_left_space c.deref.result.now c.self.inside.row.items c.deref.ensures.value
           (routing_of c.args.routing.now) c.args.sizes.room c.args.dim c.args.first c.self.inside.slots
           c.leave.new.slots c.args.self.now.buffers are c.leave.ensures.value c.requires.within
-          (omega (arith, c.requires.sizes.some_room));
+          (omega (arith, c.args.sizes.bounds.some_room));
     }
