@@ -1,5 +1,5 @@
 //! Tests of rows of planes, of a run of chips beside single chips and beside a plain machine, of tickets beside plain
-//! lists, of runs that begin at any chip of a machine, and of the grid's row;
+//! lists, of runs that begin at any chip of a machine, of events in one row, and of the grid's row;
 //! it has no code of its own.
 #![tactic(auto)]
 
@@ -19,5 +19,7 @@ mod queues;
 mod routes;
 #[cfg(test)]
 mod runs;
+#[cfg(test)]
+mod told;
 #[cfg(test)]
 mod wide;

@@ -2,11 +2,13 @@
 #![tactic(auto)]
 
 mod halves;
+mod into_row;
 mod nodes;
 mod phases;
 mod ready;
 
 pub use halves::{cross, leave, take_in};
+pub use into_row::cycle_into_row;
 pub use nodes::cycle_of_nodes;
 pub use phases::{cycle, deliver, inject};
 pub use ready::{are_nodes, are_routers, has_log_room, has_space, is_at_rest};

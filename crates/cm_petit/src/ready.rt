@@ -5,12 +5,13 @@ ghost use Rattle.std.specs.Prelude.{slice_index_or};
 ghost use Rattle.std.specs.List.{All, list_any};
 ghost use Rattle.cm_element.specs.Flags.{has_flag};
 ghost use Rattle.cm_model.specs.declared.act.Act.TheVariants as act;
+ghost use Rattle.cm_model.specs.declared.message.Event.{Event as Told};
 ghost use Rattle.cm_model.specs.Array.{list_at};
 ghost use Rattle.cm_model.specs.Processor.{SEND, ACK};
 ghost use Rattle.cm_model.specs.Buffers.{after_act};
 ghost use Rattle.cm_model.specs.Wiring.{Routing as Routes};
-ghost use Rattle.cm_router.specs.Logs.{Log, log_rooms_of, HaveLogRoom};
-ghost use Rattle.cm_petit.specs.Routers.{machine_of, AreRouters};
+ghost use Rattle.cm_router.specs.Logs.{log_rooms_of, HaveLogRoom};
+ghost use Rattle.cm_petit.specs.Routers.{machine_from, AreRouters, HaveBuffers};
 ghost use Rattle.cm_petit.specs.Nodes.{AreNodes};
 
 use cm_crossing::{Crossing, Sizes};
@@ -69,10 +70,10 @@ pub fn has_space(sizes: Sizes, crossing: &Crossing, leavers: &[Option<Message>])
 pub fn is_at_rest(sizes: Sizes, run: &Run, crossing: &Crossing) -> bool
     ensures value { IsTrue result ↔ (IsFalse (list_any (has_flag SEND) run.now)
         × IsFalse (list_any (has_flag ACK) run.now) × All (λ ms. ms ≡ []) crossing.now.buffers) }
-    ensures rest { IsTrue result → (routing : Routes) (logs : List Log) (clock : ℕ)
-        → AreRouters (2 ^ sizes.dims) sizes.room run.now crossing.now.buffers logs
-        → machine_of routing run.now crossing.now.buffers logs (clock + 1)
-        ≡ after_act sizes.dims sizes.room (machine_of routing run.now crossing.now.buffers logs clock) act.Cycle }
+    ensures rest { IsTrue result → (routing : Routes) (logs : List (List Told)) (clock : ℕ)
+        → HaveBuffers (2 ^ sizes.dims) sizes.room run.now crossing.now.buffers → length logs ≡ 2 ^ sizes.dims
+        → machine_from routing run.now crossing.now.buffers logs (clock + 1)
+        ≡ after_act sizes.dims sizes.room (machine_from routing run.now crossing.now.buffers logs clock) act.Cycle }
 {
     if !is_idle(run) || !crossing.is_empty() {
         return false;

@@ -1,7 +1,7 @@
 use Rattle.std.proofs.Common.{◌≡◌, ◌+◌, ◌∙◌, ℕ, sym, arith}
 use Rattle.cm_model.specs.Machine.{Machine}
 use Rattle.cm_router.specs.Routes.{routing_of}
-use Rattle.cm_petit.specs.Routers.{machine_of as machine_from}
+use Rattle.cm_petit.specs.Routers.{machine_of as machine_from, events_of}
 use Rattle.cm_array.specs.Acts.{cycles_in}
 use Rattle.cm_array.specs.Parts.{machine_of}
 use Rattle.cm_array.proofs.Machines.{AreUnderWay-parts, AreRouters-parts, AreParts-counted, looked, rested}
@@ -22,7 +22,9 @@ returns c =
     let are = AreRouters-parts n cap parts (AreUnderWay-parts n cap parts c.requires.parts) in
     let at : ℕ → Machine = machine_from (routing_of parts.routing) parts.run parts.crossing.buffers parts.logs.items in
     let ran = rested n cap at (λ k. are.buffer_count)
-    (λ k. c.is_at_rest.ensures.rest c.if-not-is_at_rest.false (routing_of parts.routing) parts.logs.items k are) acts
+    (λ k. c.is_at_rest.ensures.rest c.if-not-is_at_rest.false (routing_of parts.routing) (events_of parts.logs.items) k
+    (record { chip_count = are.chip_count; buffer_count = are.buffer_count; within = are.within })
+    c.requires.parts.machine.log_count) acts
     parts.clock
     (sym c.has_instruction.ensures.value ∙ c.if-has_instruction.false) in
     let counted : parts.clock + c.args.cycles ≡ parts.clock + cycles_in acts = omega (arith, c.requires.cycles) in

@@ -1,6 +1,6 @@
 use Rattle.std.proofs.Common.{◌∙◌, arith, refl}
 use Rattle.cm_blocks.specs.Steps.{part_after}
-use Rattle.cm_petit.proofs.Making.{made_none, made_past, made_more, made_all, delivering_nothing}
+use Rattle.cm_petit.proofs.Making.{made_none, made_past, made_more, made_all, delivering_nothing, log_takes}
 use Rattle.cm_petit.proofs.phases.deliver.Goals as goal
 
 pub loop-c-init : goal.loop-c-init
@@ -18,6 +18,11 @@ loop-c-init c =
       within = routers.within;
     }
 
+pub deliver-requires-clause-log_room : goal.deliver-requires-clause-log_room
+deliver-requires-clause-log_room c =
+    log_takes c.index-logs-c.result c.loop-c.invariant.delivered c.requires.routers.log_count c.loop-c-test.true
+    c.requires.log_room
+
 pub loop-c-preserved : goal.loop-c-preserved
 loop-c-preserved c =
     let next = c.next_arrived-c-in-loop-c.ensures in
@@ -28,9 +33,9 @@ loop-c-preserved c =
     c.deliver.ensures.len c.deliver.ensures.capacity) in
     record {
       delivered = made_past _ more next.from (λ k from l e. delivering_nothing _ _ _ e (next.none k from l)
-          (c.pass_over.ensures.same k (omega (arith, l, next.most, more.buffer_count, c.requires.routers.chip_count))));
+          (c.pass_over.ensures.same k (omega (arith, l, next.most, more.done.buffer_count, c.requires.routers.chip_count))));
       chips = c.make_room.ensures.chips ∙ c.loop-c.invariant.chips;
-      most = omega (arith, next.most, more.buffer_count);
+      most = omega (arith, next.most, more.done.buffer_count);
       before = λ k d l. omega (arith, c.deliver.ensures.before k d l, next.from);
       within = c.deliver.ensures.within;
     }

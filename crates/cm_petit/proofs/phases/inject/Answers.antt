@@ -1,7 +1,7 @@
-use Rattle.std.proofs.Common.{arith, refl, ◌+◌, ◌<◌, length}
+use Rattle.std.proofs.Common.{arith, refl, ◌+◌, length}
 use Rattle.cm_blocks.specs.Steps.{part_after}
 use Rattle.cm_petit.proofs.Making.{injecting, made_none, made_past, made_more, made_all, injecting_nothing}
-use Rattle.cm_petit.proofs.Making.{injecting_passed, room_is}
+use Rattle.cm_petit.proofs.Making.{injecting_passed, log_takes}
 use Rattle.cm_petit.proofs.phases.inject.Goals as goal
 
 pub returns-then-is_idle-clause-value : goal.returns-then-is_idle-clause-value
@@ -15,17 +15,8 @@ returns-then-is_idle-clause-value c = λ routing.
 
 pub inject-requires-clause-log_room : goal.inject-requires-clause-log_room
 inject-requires-clause-log_room c =
-    let here = c.loop-c.c in
-    let log = c.index-logs-c.result in
-    let was = c.loop-c.invariant.injected in
-    let inside : here < length c.loop-c.logs = c.loop-c-test.true in
-    let there : here < length c.args.logs.now = omega (arith, was.log_count, c.requires.routers.log_count) in
-    omega (
-      arith,
-      (room_is c.loop-c.logs here log inside).1,
-      was.spared here (omega arith),
-      c.requires.log_room here (room_is c.args.logs.now here log there).2,
-    )
+    log_takes c.index-logs-c.result c.loop-c.invariant.injected c.requires.routers.log_count c.loop-c-test.true
+    c.requires.log_room
 
 pub loop-c-init : goal.loop-c-init
 loop-c-init c =

@@ -1,0 +1,19 @@
+use Rattle.std.proofs.Common.{◌≡◌, ◌-◌, ◌≤◌, ◌^◌, length}
+use Rattle.std.specs.List.{All}
+use Rattle.cm_router.specs.Deliveries.{run_after, AreBefore}
+use Rattle.cm_petit.proofs.Making.{delivering}
+use Rattle.cm_petit.proofs.IntoRow.{AreTold}
+use Rattle.cm_petit.proofs.into_row.deliver_into_row.Given as goal
+
+abbrev pub invariant-loop-c : goal.invariant-loop-c
+invariant-loop-c l = record {
+  delivered : AreTold delivering l.sizes.room (2 ^ l.sizes.dims)
+      (record { chips = l.fn.run; buffers = l.fn.crossing.buffers; row = l.fn.row })
+      (record { chips = run_after l.deliveries l.run; buffers = l.crossing.buffers; row = l.row }) l.c;
+  chips : length l.run ≡ length l.fn.run;
+  before : AreBefore l.c l.deliveries;
+  within : All (λ ms. length ms ≤ l.sizes.room) l.crossing.buffers;
+}
+
+abbrev pub decreases-loop-c : goal.decreases-loop-c
+decreases-loop-c l = l.chips - l.c

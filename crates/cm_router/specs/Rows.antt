@@ -1,0 +1,20 @@
+-- A row into which many chips tell their events, in the order in which they are told. Ours.
+use Rattle.std.specs.Prelude.{ℕ, ◌++◌, ◌==◌, List, length}
+use Rattle.std.specs.List.{filter}
+use Rattle.cm_model.specs.declared.message.Event.{Event}
+use Rattle.cm_model.specs.declared.message.Event.TheVariants.{Injected, Delivered}
+use Rattle.cm_model.specs.Each.{each_from}
+use Rattle.cm_model.specs.Array.{list_at}
+
+-- the number of the chip whose router tells an event
+abbrev pub teller : Event → ℕ
+teller (Injected m) = m.tag.chip
+teller (Delivered chip m) = chip
+
+-- what a chip tells in a row of events, in their order
+abbrev pub told_by : ℕ → List Event → List Event
+told_by c row = filter (λ e. teller e == c) row
+
+-- logs by chip, behind each of which stands what a row tells of its chip
+abbrev pub with_row : List (List Event) → List Event → List (List Event)
+with_row logs row = each_from 0 (length logs) (λ c. list_at logs c ++ told_by c row)
