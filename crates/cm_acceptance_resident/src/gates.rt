@@ -78,6 +78,20 @@ fn no_calls(alloc: Global) -> Option<Arc<Calls, Global>> {
 /// the gate was asked and passed so far.
 type Listed = ((Option<RunFault>, bool), (u64, u64));
 
+/// What a list of acts tells.
+fn listed<X: Runner<4, 7>>(
+    runner: &mut X,
+    alloc: Global,
+    machine: &mut Machine<4, 7>,
+    acts: &[Act],
+    calls: &Arc<Calls, Global>,
+) -> Option<Listed>
+    requires runner { X.ready }
+{
+    let ran = run_beside_plain(runner, alloc, machine, acts, 16)?;
+    Some((ran, calls.told()))
+}
+
 /// What a petit cycle and the program of messages tell, one after the other.
 fn lists<X: Runner<4, 7>>(
     runner: &mut X,
@@ -87,11 +101,48 @@ fn lists<X: Runner<4, 7>>(
 ) -> Option<[Listed; 2]>
     requires runner { X.ready }
 {
+    let first = listed(runner, alloc, machine, &[Act::Cycle], calls)?;
     let acts = four_messages_each(alloc).ok()?;
-    let first = run_beside_plain(runner, alloc, machine, &[Act::Cycle], 16)?;
-    let between = calls.told();
-    let second = run_beside_plain(runner, alloc, machine, &acts, 16)?;
-    Some([(first, between), (second, calls.told())])
+    Some([first, listed(runner, alloc, machine, &acts, calls)?])
+}
+
+/// The same by so many workers that are joined at each round.
+fn lists_of_forked<R: Threads + Wait>(
+    rt: &R,
+    alloc: Global,
+    workers: u16,
+    passage: Passage,
+    machine: &mut Machine<4, 7>,
+    calls: &Arc<Calls, Global>,
+) -> Option<[Listed; 2]>
+    requires threads { IsSync R.row }
+{
+    let mut forked = Forked::new::<4>(rt, alloc, 2, workers, passage).ok()?;
+    lists(&mut forked, alloc, machine, calls)
+}
+
+/// The same by so many that run on.
+fn lists_of_resident<R: Threads + Wait + Sync>(
+    rt: &R,
+    alloc: Global,
+    workers: u16,
+    passage: Passage,
+    machine: &mut Machine<4, 7>,
+    calls: &Arc<Calls, Global>,
+) -> Option<[Listed; 2]>
+    requires threads { IsSync R.row }
+{
+    let mut resident = Resident::new::<4>(rt, alloc, 2, workers, passage).ok()?;
+    lists(&mut resident, alloc, machine, calls)
+}
+
+/// A gate that does not admit this worker.
+fn gate_of(alloc: Global, refused: u16, calls: &Arc<Calls, Global>) -> Option<Passage> {
+    let gate = Reluctant {
+        refused,
+        calls: Arc::try_clone(calls).ok()?,
+    };
+    Some(Passage::Gated(Box::new(alloc, gate).ok()?))
 }
 
 /// What so many workers tell, of whom the gate does not admit one in the first.
@@ -106,20 +157,10 @@ fn gated<R: Threads + Wait + Sync>(
 ) -> Option<[Listed; 2]>
     requires threads { IsSync R.row }
 {
-    let gate = Reluctant {
-        refused,
-        calls: Arc::try_clone(calls).ok()?,
-    };
-    let passage = Passage::Gated(Box::new(alloc, gate).ok()?);
+    let passage = gate_of(alloc, refused, calls)?;
     match kind {
-        Kind::Forked => {
-            let mut forked = Forked::new::<4>(rt, alloc, 2, workers, passage).ok()?;
-            lists(&mut forked, alloc, machine, calls)
-        }
-        Kind::Resident => {
-            let mut resident = Resident::new::<4>(rt, alloc, 2, workers, passage).ok()?;
-            lists(&mut resident, alloc, machine, calls)
-        }
+        Kind::Forked => lists_of_forked(rt, alloc, workers, passage, machine, calls),
+        Kind::Resident => lists_of_resident(rt, alloc, workers, passage, machine, calls),
     }
 }
 

@@ -4,7 +4,6 @@ ghost use Rattle.std.specs.Thread.{IsSync};
 
 use crate::runners::Anyone;
 use cm_array::{Machine, check_stretch};
-use cm_bits::NoMemory;
 use cm_draws::sends_or_stays;
 use cm_model::Act;
 use cm_resident::{Resident, team};
@@ -13,21 +12,23 @@ use std::alloc::Global;
 use std::sync::Wait;
 use std::thread::Threads;
 
-/// Whether there is a team of two workers for a petit cycle of sixteen chips.
-fn has_team(alloc: Global) -> Option<bool> {
-    let machine = Machine::<4, 7>::blank(alloc).ok()?;
+/// How many workers a team has that goes through a petit cycle of sixteen chips by two; None where memory is wanting.
+fn team_of_two(alloc: Global, machine: &Machine<4, 7>) -> Option<usize> {
     let acts = [Act::Cycle];
     let Ok(_cycles) = check_stretch(&acts, machine.clock()) else {
         return None;
     };
-    let made = match team(alloc, &machine, &acts, 2, 2) {
-        Err(NoMemory) => team(alloc, &machine, &acts, 2, 2),
+    Some(team(alloc, machine, &acts, 2, 2).ok()?.len())
+}
+
+/// Whether there are two, perhaps when it is asked for once more.
+fn has_team(alloc: Global) -> Option<bool> {
+    let machine = Machine::<4, 7>::blank(alloc).ok()?;
+    let made = match team_of_two(alloc, &machine) {
+        None => team_of_two(alloc, &machine),
         made => made,
     };
-    match made {
-        Ok(team) => Some(team.len() == 2),
-        Err(_) => Some(false),
-    }
+    Some(made == Some(2))
 }
 
 /// Whether two workers go through the program of messages as one thread does, or else leave the machine as it was.

@@ -2,7 +2,7 @@
 
 ghost use Rattle.std.specs.Thread.{IsSync};
 
-use cm_array::{Machine, RunFault};
+use cm_array::{Machine, RunFault, Runner};
 use cm_bits::{Dir, FlagNo};
 use cm_draws::{address, run_beside_plain};
 use cm_model::{Act, Nano};
@@ -39,22 +39,51 @@ fn busy_list(alloc: Global) -> Result<Vec<Act>, AllocError> {
     Ok(acts)
 }
 
-/// How four workers go through such a list three times, and whether the machine is as one thread leaves it each time. A list
-/// tells some 130,000 events.
-fn lists_go<R: Threads + Wait + Sync>(
-    rt: &R,
+/// How a list is gone through each of three times, and whether the machine is then as one thread leaves it.
+type Thrice = [(Option<RunFault>, bool); 3];
+
+/// How a runner goes through the acts three times.
+fn thrice<X: Runner<10, 7>>(
+    runner: &mut X,
     alloc: Global,
-) -> Option<[(Option<RunFault>, bool); 3]>
+    machine: &mut Machine<10, 7>,
+    acts: &[Act],
+) -> Option<Thrice>
+    requires runner { X.ready }
+{
+    Some([
+        run_beside_plain(runner, alloc, machine, acts, 1024)?,
+        run_beside_plain(runner, alloc, machine, acts, 1024)?,
+        run_beside_plain(runner, alloc, machine, acts, 1024)?,
+    ])
+}
+
+/// The same from a blank machine on.
+fn thrice_from_blank<X: Runner<10, 7>>(
+    runner: &mut X,
+    alloc: Global,
+    acts: &[Act],
+) -> Option<Thrice>
+    requires runner { X.ready }
+{
+    let mut machine = Machine::<10, 7>::blank(alloc).ok()?;
+    thrice(runner, alloc, &mut machine, acts)
+}
+
+/// The same by four workers.
+fn thrice_by_four<R: Threads + Wait + Sync>(rt: &R, alloc: Global, acts: &[Act]) -> Option<Thrice>
+    requires threads { IsSync R.row }
+{
+    let mut resident = Resident::new::<10>(rt, alloc, 2, 4, Passage::Open).ok()?;
+    thrice_from_blank(&mut resident, alloc, acts)
+}
+
+/// The same of a list of 64 petit cycles, which tells some 130,000 events.
+fn lists_go<R: Threads + Wait + Sync>(rt: &R, alloc: Global) -> Option<Thrice>
     requires threads { IsSync R.row }
 {
     let acts = busy_list(alloc).ok()?;
-    let mut resident = Resident::new::<10>(rt, alloc, 2, 4, Passage::Open).ok()?;
-    let mut machine = Machine::<10, 7>::blank(alloc).ok()?;
-    Some([
-        run_beside_plain(&mut resident, alloc, &mut machine, &acts, 1024)?,
-        run_beside_plain(&mut resident, alloc, &mut machine, &acts, 1024)?,
-        run_beside_plain(&mut resident, alloc, &mut machine, &acts, 1024)?,
-    ])
+    thrice_by_four(rt, alloc, &acts)
 }
 
 #[test]

@@ -1,9 +1,11 @@
 //! The program's own sharing: all workers that it is told to have meet in each round.
 
+ghost use Rattle.std.specs.Prelude.{◌≡◌, false};
 ghost use Rattle.std.specs.Thread.{IsSync};
 
 use crate::meeting::{Cut, FOUR, Meeting, Notes, Waits, no_notes};
 use cm_bits::doubles::{Bytes, Room};
+use cm_bits::{Sink, Source};
 use cm_cli::{Sharing, fresh, open_run, run_alone, run_shared};
 use cm_draws::cut_in_two_places;
 use cm_image::dump;
@@ -97,17 +99,73 @@ impl Image {
     }
 }
 
+/// The image that one worker leaves, who answers the commands.
+fn kept_alone<I: Source, O: Sink>(
+    alloc: Global,
+    row: &Shared,
+    commands: &mut I,
+    answers: &mut O,
+) -> Option<Vec<u8>>
+    requires reader { I.has_failed commands.old ≡ false }
+    requires writer { O.has_failed answers.old ≡ false }
+{
+    let image = row.image.bytes(alloc)?;
+    let text = row.text.to_vec(alloc).ok()?;
+    let (machine, program) = open_run(alloc, image, Ok(text), row.sharing).ok()?;
+    run_alone(alloc, machine, &program, commands, answers, true).ok()?
+}
+
 /// What one worker leaves.
 fn left_alone(alloc: Global, row: &Shared) -> Option<Left> {
     let mut commands = Bytes::new(ASKS, 7);
     let Ok(mut answers) = Room::new(alloc, 1000, 10) else {
         return None;
     };
+    let kept = kept_alone(alloc, row, &mut commands, &mut answers)?;
+    Some((kept, answers.taken().to_vec(alloc).ok()?))
+}
+
+/// A gate at which all workers of a session wait for one another.
+fn gate_of(alloc: Global, row: &Shared, notes: &Arc<Notes, Global>) -> Option<Passage> {
+    let workers = u16::from(row.sharing.workers);
+    let gate = Meeting {
+        waits: Waits::ForAll(workers),
+        workers,
+        cut: row.cut,
+        notes: Arc::try_clone(notes).ok()?,
+        letters: None,
+    };
+    Some(Passage::Gated(Box::new(alloc, gate).ok()?))
+}
+
+/// The image that several workers leave.
+fn kept_shared<R: Threads + Wait + Sync, I: Source, O: Sink>(
+    rt: &R,
+    alloc: Global,
+    row: &Shared,
+    passage: Passage,
+    commands: &mut I,
+    answers: &mut O,
+) -> Option<Vec<u8>>
+    requires threads { IsSync R.row }
+    requires reader { I.has_failed commands.old ≡ false }
+    requires writer { O.has_failed answers.old ≡ false }
+{
     let image = row.image.bytes(alloc)?;
     let text = row.text.to_vec(alloc).ok()?;
     let (machine, program) = open_run(alloc, image, Ok(text), row.sharing).ok()?;
-    let kept = run_alone(alloc, machine, &program, &mut commands, &mut answers, true).ok()??;
-    Some((kept, answers.taken().to_vec(alloc).ok()?))
+    run_shared(
+        rt,
+        alloc,
+        machine,
+        &program,
+        row.sharing,
+        passage,
+        commands,
+        answers,
+        true,
+    )
+    .ok()?
 }
 
 /// What several leave, who wait for one another.
@@ -119,34 +177,12 @@ fn left_shared<R: Threads + Wait + Sync>(
 ) -> Option<Left>
     requires threads { IsSync R.row }
 {
-    let workers = u16::from(row.sharing.workers);
-    let gate = Meeting {
-        waits: Waits::ForAll(workers),
-        workers,
-        cut: row.cut,
-        notes: Arc::try_clone(notes).ok()?,
-        letters: None,
-    };
-    let passage = Passage::Gated(Box::new(alloc, gate).ok()?);
+    let passage = gate_of(alloc, row, notes)?;
     let mut commands = Bytes::new(ASKS, 7);
     let Ok(mut answers) = Room::new(alloc, 1000, 10) else {
         return None;
     };
-    let image = row.image.bytes(alloc)?;
-    let text = row.text.to_vec(alloc).ok()?;
-    let (machine, program) = open_run(alloc, image, Ok(text), row.sharing).ok()?;
-    let kept = run_shared(
-        rt,
-        alloc,
-        machine,
-        &program,
-        row.sharing,
-        passage,
-        &mut commands,
-        &mut answers,
-        true,
-    )
-    .ok()??;
+    let kept = kept_shared(rt, alloc, row, passage, &mut commands, &mut answers)?;
     Some((kept, answers.taken().to_vec(alloc).ok()?))
 }
 

@@ -46,7 +46,42 @@ impl Gate for Anyone {
     {}
 }
 
-/// With what fault so many workers refuse the acts, and whether they leave the machine as one thread does, or else as it was.
+/// With what fault so many workers refuse the acts, and whether they leave the machine as one thread does, or else as it was,
+/// where they are joined at each round.
+fn run_by_forked<const N: usize, const CAP: usize, R: Threads + Wait>(
+    rt: &R,
+    alloc: Global,
+    share: Share,
+    passage: Passage,
+    machine: &mut Machine<N, CAP>,
+    acts: &[Act],
+    chips: u16,
+) -> Option<(Option<RunFault>, bool)>
+    requires chips { chips ≡ 2 ^ N }
+    requires threads { IsSync R.row }
+{
+    let mut forked = Forked::new::<N>(rt, alloc, share.k, share.workers, passage).ok()?;
+    run_beside_plain(&mut forked, alloc, machine, acts, chips)
+}
+
+/// The same where they run on.
+fn run_by_resident<const N: usize, const CAP: usize, R: Threads + Wait + Sync>(
+    rt: &R,
+    alloc: Global,
+    share: Share,
+    passage: Passage,
+    machine: &mut Machine<N, CAP>,
+    acts: &[Act],
+    chips: u16,
+) -> Option<(Option<RunFault>, bool)>
+    requires chips { chips ≡ 2 ^ N }
+    requires threads { IsSync R.row }
+{
+    let mut resident = Resident::new::<N>(rt, alloc, share.k, share.workers, passage).ok()?;
+    run_beside_plain(&mut resident, alloc, machine, acts, chips)
+}
+
+/// The same by either.
 pub(crate) fn run_by<const N: usize, const CAP: usize, R: Threads + Wait + Sync>(
     rt: &R,
     alloc: Global,
@@ -61,13 +96,7 @@ pub(crate) fn run_by<const N: usize, const CAP: usize, R: Threads + Wait + Sync>
     requires threads { IsSync R.row }
 {
     match kind {
-        Kind::Forked => {
-            let mut forked = Forked::new::<N>(rt, alloc, share.k, share.workers, passage).ok()?;
-            run_beside_plain(&mut forked, alloc, machine, acts, chips)
-        }
-        Kind::Resident => {
-            let mut resident = Resident::new::<N>(rt, alloc, share.k, share.workers, passage).ok()?;
-            run_beside_plain(&mut resident, alloc, machine, acts, chips)
-        }
+        Kind::Forked => run_by_forked(rt, alloc, share, passage, machine, acts, chips),
+        Kind::Resident => run_by_resident(rt, alloc, share, passage, machine, acts, chips),
     }
 }

@@ -23,8 +23,16 @@ use std::thread::Threads;
 /// How many lists of acts each random machine goes through.
 const LISTS: u8 = 2;
 
-/// Whether a machine goes through the acts by workers as it does on one thread. Nobody looks at those that are joined at each
-/// round; at those that run on somebody does, so that short lists are shared out too.
+/// Nobody looks at workers that are joined at each round; at those that run on somebody does, so that short lists are shared
+/// out too.
+fn passage_of(alloc: Global, kind: Kind) -> Option<Passage> {
+    match kind {
+        Kind::Forked => Some(Passage::Open),
+        Kind::Resident => Some(Passage::Gated(Box::new(alloc, Anyone).ok()?)),
+    }
+}
+
+/// Whether a machine goes through the acts by workers as it does on one thread.
 fn runs_as_plain<const N: usize, const CAP: usize, R: Threads + Wait + Sync>(
     rt: &R,
     alloc: Global,
@@ -37,10 +45,7 @@ fn runs_as_plain<const N: usize, const CAP: usize, R: Threads + Wait + Sync>(
     requires chips { chips ≡ 2 ^ N }
     requires threads { IsSync R.row }
 {
-    let passage = match kind {
-        Kind::Forked => Passage::Open,
-        Kind::Resident => Passage::Gated(Box::new(alloc, Anyone).ok()?),
-    };
+    let passage = passage_of(alloc, kind)?;
     let ran = run_by(rt, alloc, kind, share, passage, machine, acts, chips)?;
     Some(ran == (None, true))
 }
@@ -151,8 +156,22 @@ static SHARES: [Share; 7] = [
     Share { k: 2, workers: 4 },
 ];
 
-/// Whether so many workers go through the program of messages as one thread, and the messages are where they should be
-/// then.
+/// Whether so many workers go through the acts as one thread, and the four messages of each chip are where they should be then.
+fn sent_in<R: Threads + Wait + Sync>(
+    rt: &R,
+    alloc: Global,
+    kind: Kind,
+    share: Share,
+    machine: &mut Machine<4, 7>,
+    acts: &[Act],
+) -> Option<(bool, bool)>
+    requires threads { IsSync R.row }
+{
+    let alike = runs_as_plain(rt, alloc, kind, share, machine, acts, 16)?;
+    Some((alike, has_one_of_four(machine)))
+}
+
+/// The same of the program of messages, in a blank machine.
 fn sent<R: Threads + Wait + Sync>(
     rt: &R,
     alloc: Global,
@@ -163,8 +182,7 @@ fn sent<R: Threads + Wait + Sync>(
 {
     let acts = four_messages_each(alloc).ok()?;
     let mut machine = Machine::<4, 7>::blank(alloc).ok()?;
-    let alike = runs_as_plain(rt, alloc, kind, share, &mut machine, &acts, 16)?;
-    Some((alike, has_one_of_four(&machine)))
+    sent_in(rt, alloc, kind, share, &mut machine, &acts)
 }
 
 #[test]
@@ -261,6 +279,28 @@ fn messages_of_a_few_chips_stop_at_cut_wires_or_go_round_them_by_either_rule(
 }
 
 /// What is left where two chips, a block each, send flag 0, and so many workers run them.
+fn passed_on<R: Threads + Wait + Sync>(
+    rt: &R,
+    alloc: Global,
+    kind: Kind,
+    workers: u16,
+    dir: Dir,
+    machine: &mut Machine<1, 7>,
+) -> Option<[Plane; 2]>
+    requires threads { IsSync R.row }
+{
+    let acts = [sent_on(flag(0), dir)];
+    let share = Share { k: 1, workers };
+    if !runs_as_plain(rt, alloc, kind, share, machine, &acts, 2)? {
+        return None;
+    }
+    Some([
+        machine.chip(0).flag_plane(FlagNo::NEWS),
+        machine.chip(1).flag_plane(FlagNo::NEWS),
+    ])
+}
+
+/// The same where flag 0 has these planes.
 fn passed<R: Threads + Wait + Sync>(
     rt: &R,
     alloc: Global,
@@ -272,22 +312,7 @@ fn passed<R: Threads + Wait + Sync>(
     requires threads { IsSync R.row }
 {
     let mut machine = two_chips(alloc, planes)?;
-    let acts = [sent_on(flag(0), dir)];
-    if !runs_as_plain(
-        rt,
-        alloc,
-        kind,
-        Share { k: 1, workers },
-        &mut machine,
-        &acts,
-        2,
-    )? {
-        return None;
-    }
-    Some([
-        machine.chip(0).flag_plane(FlagNo::NEWS),
-        machine.chip(1).flag_plane(FlagNo::NEWS),
-    ])
+    passed_on(rt, alloc, kind, workers, dir, &mut machine)
 }
 
 #[test]
