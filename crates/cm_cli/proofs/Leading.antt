@@ -32,3 +32,15 @@ did_both {S} {D} {does} {from} {next} {to} first second f = record {
   lead = joined does from first.deeds next second.deeds to first.lead second.lead;
   so = f first.deeds second.deeds first.so second.so;
 }
+
+-- the same, with these deeds between them
+pub did_between : {S D : Type 0} {does : S → D → S → Type 0} {from next past to : S} {P Q R : List D → Type 0}
+    (middle : List D) → Did does from next P → Did does next past (λ deeds. deeds ≡ middle) → Did does past to Q
+    → ((deeds more : List D) → P deeds → Q more → R (deeds ++ (middle ++ more))) → Did does from to R
+did_between {S} {D} {does} {from} {next} {past} {to} {P} {Q} {R} middle first gone last f = record {
+  deeds = first.deeds ++ (gone.deeds ++ last.deeds);
+  lead = joined does from first.deeds next (gone.deeds ++ last.deeds) to first.lead
+      (joined does next gone.deeds past last.deeds to gone.lead last.lead);
+  so = subst (λ (ds : List D). R (first.deeds ++ (ds ++ last.deeds))) (sym gone.so)
+      (f first.deeds last.deeds first.so last.so);
+}

@@ -27,7 +27,7 @@ use Rattle.cm_cli.specs.Fresh.{fresh_fault}
 use Rattle.cm_cli.specs.Opened.{Start}
 use Rattle.cm_cli.specs.Deeds.{Deed, Asked, Opened}
 use Rattle.cm_cli.specs.Takings.{Reads}
-use Rattle.cm_cli.specs.Puttings.{Flushes, Puts}
+use Rattle.cm_cli.specs.Puttings.{Flushes, Puts, let_go}
 use Rattle.cm_cli.specs.Files.{Streams, BeginsFiles, RefusesFiles}
 use Rattle.cm_cli.specs.Runs.{IsUnread, IsUntouched, DoesRun}
 use Rattle.cm_cli.specs.Weaving.{Outgoing, outgoing}
@@ -106,15 +106,15 @@ pub record WeavesNothing {F P : Type 0} (reads : Reads F) (files : RunLine) (out
   pub refused : RefusesFiles reads files fault deeds
   pub silent : IsSilent out
 
--- image and text are taken as for a session, and the exchange is stepped
+-- image and text are taken as for a session, a file that was made ready for one is taken away, and the exchange is stepped
 pub record WeavesFiles {F P : Type 0} (reads : Reads F) (files : RunLine) (line : WeaveLine) (out : Outgoing)
     (result : Result (Unit {0}) ProgramFault) (deeds : List (Deed F P)) : Type 0 where
   pub first : List (Deed F P)
   pub second : List (Deed F P)
-  pub did : deeds ≡ first ++ second
+  pub part : Option P
+  pub did : deeds ≡ first ++ (let_go part ++ second)
   pub start : Start
   pub program : ProgramText
-  pub part : Option P
   pub begins : BeginsFiles reads files start program part first
   pub then : WeavesAt reads line start program.acts out result second
 

@@ -12,7 +12,7 @@ use crate::files::{Begun, RunLine, begin_files};
 use crate::listed::list;
 use crate::outside::Outside;
 use crate::program_fault::ProgramFault;
-use crate::puttings::{flush_out, put_file};
+use crate::puttings::{flush_out, put_file, take_away};
 use crate::session::chip_session;
 use crate::weaves::{WeaveLine, weave_opened};
 use cm_bits::{Sink, Source};
@@ -73,8 +73,8 @@ pub fn fresh_line<H: Outside>(
     }
 }
 
-/// `weave`: these files are begun with as for a session, and then the exchange of the machine's blocks is stepped. It
-/// waits for nobody.
+/// `weave`: these files are begun with as for a session, of which none is to be filled, and then the exchange of the machine's
+/// blocks is stepped. It waits for nobody.
 pub fn weave_line<H: Outside, O: Sink>(
     alloc: Global,
     outside: &mut H,
@@ -93,7 +93,8 @@ pub fn weave_line<H: Outside, O: Sink>(
     let Begun {
         machine,
         program,
-        ..
+        part,
     } = begun;
+    take_away(outside, part);
     weave_opened(alloc, outside, line, machine, &program, answers)
 }

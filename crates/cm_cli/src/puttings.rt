@@ -2,7 +2,7 @@
 
 ghost use Rattle.std.specs.Prelude.{◌≡◌, Ok, Some};
 ghost use Rattle.cm_cli.specs.Deeds.{Did};
-ghost use Rattle.cm_cli.specs.Puttings.{BreaksOff, ClosesLeft, ClosesWell, Fills, FlushesOut, Puts};
+ghost use Rattle.cm_cli.specs.Puttings.{BreaksOff, ClosesLeft, ClosesWell, Fills, FlushesOut, Puts, let_go};
 
 use crate::outside::Outside;
 use crate::program_fault::ProgramFault;
@@ -68,10 +68,17 @@ pub(crate) fn break_off<H: Outside>(
 ) -> Result<(), ProgramFault>
     ensures value { Did H.does outside.old outside.new (BreaksOff part fault result) }
 {
+    take_away(outside, part);
+    Err(fault)
+}
+
+/// A file that was made ready, if one was, is taken away.
+pub(crate) fn take_away<H: Outside>(outside: &mut H, part: Option<H::Part>)
+    ensures { Did H.does outside.old outside.new (λ deeds. deeds ≡ let_go part) }
+{
     if let Some(part) = part {
         outside.let_go(part);
     }
-    Err(fault)
 }
 
 /// What was written goes out, and then the file that was made ready is filled.

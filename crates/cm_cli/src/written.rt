@@ -1,6 +1,6 @@
 //! What goes into a file: bytes that are held, or the image of a machine, which goes out piece by piece.
 
-ghost use Rattle.std.specs.Prelude.{◌≡◌, List, ℕ, false, IfOk, IfErr, OnOk};
+ghost use Rattle.std.specs.Prelude.{◌≡◌, List, ℕ, false, IfOk, IfErr, IsErrOf, OnOk};
 ghost use Rattle.std.specs.Io.KnownBytes.{Appends};
 ghost use Rattle.cm_image_format.specs.Whole.{text_of};
 ghost use Rattle.cm_image.specs.Sending.{GoesOutInPart};
@@ -18,12 +18,13 @@ pub trait Written: Drop {
     // Its bytes.
     ghost bytes: { Self → List ℕ };
 
-    /// Writes all of its bytes.
+    /// Writes all of its bytes, and takes no memory.
     fn write<O: Sink>(self, sink: &mut O) -> Result<(), PutFault>
         requires working { O.has_failed sink.old ≡ false }
         ensures ok { OnOk result (Appends (O.contents sink.old) (O.contents sink.new) (bytes self)) }
         ensures err { IfErr result (λ _. GoesOutInPart (O.contents sink.old) (O.contents sink.new) (bytes self)) }
-        ensures failed { O.has_failed sink.new ≡ is_write result };
+        ensures failed { O.has_failed sink.new ≡ is_write result }
+        ensures memory { ¬ IsErrOf result PutFault.Memory };
 }
 
 /// Bytes that are held.

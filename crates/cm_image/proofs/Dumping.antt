@@ -129,12 +129,13 @@ listed_step chip n =
 
 pub none_in_use : (count : ℕ) (chips : Chips) → AreInUse count chips 0 []
 unfolding listed_below planes_below each_from
-none_in_use count chips = record { within = λ i h. absurd (omega (arith, h)); listed = λ c h. refl }
+none_in_use count chips = record { few = omega arith; within = λ i h. absurd (omega (arith, h)); listed = λ c h. refl }
 
 -- an address at which all planes are 0
 pub in_use_past : (count at : ℕ) (chips : Chips) (used : List ℕ) → AreInUse count chips at used
     → ((c : ℕ) → c < count → memory_plane_of (chip_at chips c) at ≡ 0) → AreInUse count chips (at + 1) used
 in_use_past count at chips used are none = record {
+  few = omega (arith, are.few);
   within = λ i h. omega (arith, are.within i h);
   listed = λ c h. listed_step (chip_at chips c) at
       ∙ ap (λ (k : ℕ). listed_below (chip_at chips c) at ++ listing_of at k) (none c h)
@@ -145,6 +146,7 @@ in_use_past count at chips used are none = record {
 pub in_use_more : (count at : ℕ) (chips : Chips) (used : List ℕ) → AreInUse count chips at used
     → AreInUse count chips (at + 1) (used ++ at ∷ [])
 in_use_more count at chips used are = record {
+  few = omega (arith, are.few, length_push used at);
   within = λ i h. ⊎_elim
       (λ (l : i < length used). omega (arith, are.within i l, get_or_append_left used (at ∷ []) 0 i l))
       (λ (l : length used ≤ i). let last : i ≡ length used = omega (arith, h, l, length_push used at) in

@@ -1,5 +1,5 @@
 -- Planes by address, and the part of an image that tells the planes below a number: ours.
-use Rattle.std.specs.Prelude.{◌≡◌, ℕ, ◌<◌, ◌==◌, List, [], length, slice_index, slice_set, if◌then◌else◌}
+use Rattle.std.specs.Prelude.{◌≡◌, ℕ, ◌<◌, ◌≤◌, ◌==◌, List, [], length, slice_index, slice_set, if◌then◌else◌}
 use Rattle.std.specs.List.{flat_map}
 use Rattle.std.specs.Int.{w16}
 use Rattle.cm_model.specs.Each.{each_from}
@@ -41,6 +41,7 @@ listings planes count =
 
 -- addresses below this one, at which alone planes of so many chips are listed
 pub record AreInUse (count : ℕ) (chips : Chips) (below : ℕ) (addresses : List ℕ) : Type 0 where
+  pub few : length addresses ≤ below
   pub within : (i : ℕ) → i < length addresses → slice_index addresses i < below
   pub listed : (c : ℕ) → c < count
       → listed_below (chip_at chips c) below ≡ flat_map (listing_at (chip_at chips c)) addresses

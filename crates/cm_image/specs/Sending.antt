@@ -1,5 +1,6 @@
 -- What goes out of an image that is written piece by piece, and what that takes of memory: ours.
-use Rattle.std.specs.Prelude.{◌≡◌, ℕ, ◌^◌, Bool, true, false, Option, Result, Ok, Err, List, [], ◌++◌, length}
+use Rattle.std.specs.Prelude.{◌≡◌, ℕ, ◌^◌, Bool, true, false, Option, Result, Ok, Err, List, [], ◌++◌, length, ◌≤◌}
+use Rattle.std.specs.Prelude.{vec_capacity}
 use Rattle.std.specs.Int.{w64}
 use Rattle.std.specs.Io.KnownBytes.{Appends}
 use Rattle.cm_model.specs.Machine.{Machine}
@@ -39,9 +40,14 @@ abbrev pub IsNear : Near → Type 0
 IsNear (Chips run) = length run ≡ 64
 IsNear (Planes planes) = length planes.items ≡ 264192
 
--- what writing the image of a machine takes: nothing waits yet
-pub record IsRoomOf (n : ℕ) (machine : Machine) (room : DumpRoom) : Type 0 where
+-- what the image of a machine is laid out in: nothing waits yet
+pub record IsLaidOutFor (n : ℕ) (machine : Machine) (room : DumpRoom) : Type 0 where
   pub counted : AreCounted (2 ^ n) machine.chips 4096 room.counts.items
   pub in_use : AreInUse (2 ^ n) machine.chips 4096 room.addresses.items
   pub near : IsNear room.near
   pub empty : room.text.items ≡ []
+
+-- what writing the image of a machine takes: there is room for all bytes that come to wait
+pub record IsRoomOf (n : ℕ) (machine : Machine) (room : DumpRoom) : Type 0 where
+  pub laid : IsLaidOutFor n machine room
+  pub ample : 163840 ≤ vec_capacity room.text

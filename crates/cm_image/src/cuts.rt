@@ -1,6 +1,7 @@
 //! The wires that are cut, in an image.
 
-ghost use Rattle.std.specs.Prelude.{◌≡◌, ◌*◌, ◌+◌, ◌++◌, ◌^◌, ◌<◌, ◌≤◌, [], IfOk, IfErr, OnOk, Ok, Err, length};
+ghost use Rattle.std.specs.Prelude.{◌≡◌, ◌*◌, ◌+◌, ◌++◌, ◌^◌, ◌<◌, ◌≤◌, [], IfOk, IfErr, OnErr, OnOk, Ok, Err, length};
+ghost use Rattle.std.specs.Prelude.{vec_capacity};
 ghost use Rattle.std.specs.List.{All};
 ghost use Rattle.cm_model.specs.Wiring.{rule_number, plain_routing, IsWireOf};
 ghost use Rattle.cm_image_format.specs.Reading.{Gives, made};
@@ -117,6 +118,9 @@ pub(crate) fn cuts_len(version: u8, cuts: &[Edge]) -> usize
 pub(crate) fn push_cuts(text: &mut Vec<u8>, version: u8, cuts: &[Edge]) -> Result<(), NoMemory>
     requires few { length cuts.now < 65536 }
     ensures ok { OnOk result (text.new.items ≡ text.old.items ++ cuts_text version cuts.now) }
+    ensures capacity { vec_capacity text.old ≤ vec_capacity text.new }
+    ensures grows { OnOk result (length text.new.items ≤ length text.old.items + (2 + 3 * length cuts.now)) }
+    ensures full { OnErr result (vec_capacity text.old < length text.old.items + (2 + 3 * length cuts.now)) }
 {
     if version == 1 {
         return Ok(());
@@ -130,6 +134,9 @@ pub(crate) fn push_cuts(text: &mut Vec<u8>, version: u8, cuts: &[Edge]) -> Resul
 
 fn push_cut(text: &mut Vec<u8>, edge: Edge) -> Result<(), NoMemory>
     ensures ok { OnOk result (text.new.items ≡ text.old.items ++ cut_text edge) }
+    ensures capacity { vec_capacity text.old ≤ vec_capacity text.new }
+    ensures grows { OnOk result (length text.new.items ≤ length text.old.items + 3) }
+    ensures full { OnErr result (vec_capacity text.old < length text.old.items + 3) }
 {
     push_u16(text, edge.chip())?;
     push_u8(text, edge.dim())

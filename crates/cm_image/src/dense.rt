@@ -1,6 +1,7 @@
 //! Writing chips of a machine in which most addresses are in use.
 
 ghost use Rattle.std.specs.Prelude.{◌≡◌, ℕ, ◌+◌, ◌*◌, ◌++◌, ◌^◌, ◌<◌, ◌≤◌, true, false, length, take, IfErr, OnOk};
+ghost use Rattle.std.specs.Prelude.{IsErrOf, OnErr, vec_capacity};
 ghost use Rattle.std.specs.Prelude.{slice_index};
 ghost use Rattle.std.specs.List.{flat_map};
 ghost use Rattle.cm_model.specs.Array.{chip_at};
@@ -44,6 +45,10 @@ pub(crate) fn send_dense_chips<const N: usize, const CAP: usize, O: Sink>(
     ensures err { IfErr result (λ _. GoesOutInPart (O.contents sink.old) (O.contents sink.new)
         (text.old.items ++ chips_text machine.now.machine 0 (2 ^ N))) }
     ensures failed { O.has_failed sink.new ≡ is_write result }
+    ensures capacity { vec_capacity text.old ≤ vec_capacity text.new }
+    ensures waits { OnOk result (length text.old.items ≤ piece → length text.new.items ≤ piece) }
+    ensures memory { length text.old.items ≤ piece → piece + 20000 ≤ vec_capacity text.old
+        → ¬ IsErrOf result DumpFault.Memory }
 {
     let count = chip_count::<N>();
     let mut first = 0;
@@ -97,6 +102,10 @@ fn send_tile<const N: usize, const CAP: usize, O: Sink>(
     ensures err { IfErr result (λ _. GoesOutInPart (O.contents sink.old) (O.contents sink.new)
         (text.old.items ++ chips_text machine.now.machine first some)) }
     ensures failed { O.has_failed sink.new ≡ is_write result }
+    ensures capacity { vec_capacity text.old ≤ vec_capacity text.new }
+    ensures waits { OnOk result (length text.old.items ≤ piece → length text.new.items ≤ piece) }
+    ensures memory { length text.old.items ≤ piece → piece + 20000 ≤ vec_capacity text.old
+        → ¬ IsErrOf result DumpFault.Memory }
 {
     for c in 0..some {
         let number = first + c;
@@ -128,6 +137,9 @@ fn push_chip(
     requires planes { (a : ℕ) → a < 4096 → slice_index planes.now a ≡ memory_plane_of chip.now a }
     requires few { length buffer.now < 256 }
     ensures ok { OnOk result (text.new.items ≡ text.old.items ++ chip_text (image_of_chip chip.now buffer.now)) }
+    ensures capacity { vec_capacity text.old ≤ vec_capacity text.new }
+    ensures grows { OnOk result (length text.new.items ≤ length text.old.items + (16419 + 18 * length buffer.now)) }
+    ensures full { OnErr result (vec_capacity text.old < length text.old.items + (16419 + 18 * length buffer.now)) }
 {
     push_flags(text, chip)?;
     push_u16(text, listed)?;
@@ -141,6 +153,9 @@ fn push_chip(
 fn push_memory(text: &mut Vec<u8>, planes: &[Plane]) -> Result<(), NoMemory>
     requires long { 4096 ≤ length planes.now }
     ensures ok { OnOk result (text.new.items ≡ text.old.items ++ listings planes.now 4096) }
+    ensures capacity { vec_capacity text.old ≤ vec_capacity text.new }
+    ensures grows { OnOk result (length text.new.items ≤ length text.old.items + 16384) }
+    ensures full { OnErr result (vec_capacity text.old < length text.old.items + 16384) }
 {
     let mut listed = [0u8; LISTED_LEN];
     if list_all(&mut listed, planes) {
@@ -185,6 +200,9 @@ fn put_listing(bytes: &mut [u8], i: usize, at: u16, plane: Plane) -> u32
 fn push_some(text: &mut Vec<u8>, planes: &[Plane]) -> Result<(), NoMemory>
     requires long { 4096 ≤ length planes.now }
     ensures ok { OnOk result (text.new.items ≡ text.old.items ++ listings planes.now 4096) }
+    ensures capacity { vec_capacity text.old ≤ vec_capacity text.new }
+    ensures grows { OnOk result (length text.new.items ≤ length text.old.items + 16384) }
+    ensures full { OnErr result (vec_capacity text.old < length text.old.items + 16384) }
 {
     for at in 0..ADDRESSES {
         push_plane(text, at, planes[usize::from(at)])?;

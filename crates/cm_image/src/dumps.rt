@@ -1,6 +1,7 @@
 //! Writing the bytes of a machine.
 
 ghost use Rattle.std.specs.Prelude.{◌≡◌, ℕ, ◌==◌, ◌+◌, ◌*◌, ◌++◌, ◌^◌, ◌<◌, ◌≤◌, List, [], length, IfOk, IfErr, Ok, OnOk};
+ghost use Rattle.std.specs.Prelude.{IsErrOf, OnErr, vec_capacity};
 ghost use Rattle.std.specs.Prelude.{false, if◌then◌else◌, slice_index, Some};
 ghost use Rattle.std.specs.List.{flat_map};
 ghost use Rattle.std.specs.Int.{w8, w16, w32, w64};
@@ -105,6 +106,9 @@ pub(crate) fn push_front<const N: usize, const CAP: usize>(
     machine: &Machine<N, CAP>,
 ) -> Result<(), NoMemory>
     ensures ok { OnOk result (text.new.items ≡ text.old.items ++ front_text N CAP machine.now.machine) }
+    ensures capacity { vec_capacity text.old ≤ vec_capacity text.new }
+    ensures grows { OnOk result (length text.new.items ≤ length text.old.items + 80000) }
+    ensures full { OnErr result (vec_capacity text.old < length text.old.items + 80000) }
 {
     let cycles = machine.clock();
     let routing = machine.routing();
@@ -177,6 +181,10 @@ pub(crate) fn send_chips<const N: usize, const CAP: usize, O: Sink>(
     ensures err { IfErr result (λ _. GoesOutInPart (O.contents sink.old) (O.contents sink.new)
         (text.old.items ++ chips_text machine.now.machine 0 (2 ^ N))) }
     ensures failed { O.has_failed sink.new ≡ is_write result }
+    ensures capacity { vec_capacity text.old ≤ vec_capacity text.new }
+    ensures waits { OnOk result (length text.old.items ≤ piece → length text.new.items ≤ piece) }
+    ensures memory { length text.old.items ≤ piece → piece + 20000 ≤ vec_capacity text.old
+        → ¬ IsErrOf result DumpFault.Memory }
 {
     let count = chip_count::<N>();
     let mut first = 0;
@@ -218,6 +226,10 @@ fn send_tile<const N: usize, const CAP: usize, O: Sink>(
     ensures err { IfErr result (λ _. GoesOutInPart (O.contents sink.old) (O.contents sink.new)
         (text.old.items ++ chips_text machine.now.machine first some)) }
     ensures failed { O.has_failed sink.new ≡ is_write result }
+    ensures capacity { vec_capacity text.old ≤ vec_capacity text.new }
+    ensures waits { OnOk result (length text.old.items ≤ piece → length text.new.items ≤ piece) }
+    ensures memory { length text.old.items ≤ piece → piece + 20000 ≤ vec_capacity text.old
+        → ¬ IsErrOf result DumpFault.Memory }
 {
     for c in 0..some {
         let number = first + c;
@@ -236,6 +248,9 @@ fn send_tile<const N: usize, const CAP: usize, O: Sink>(
 
 pub(crate) fn push(text: &mut Vec<u8>, more: &[u8]) -> Result<(), NoMemory>
     ensures ok { OnOk result (text.new.items ≡ text.old.items ++ more.now) }
+    ensures capacity { vec_capacity text.old ≤ vec_capacity text.new }
+    ensures grows { OnOk result (length text.new.items ≤ length text.old.items + length more.now) }
+    ensures full { OnErr result (vec_capacity text.old < length text.old.items + length more.now) }
 {
     text.extend_from_slice(more)?;
     Ok(())
@@ -244,6 +259,9 @@ pub(crate) fn push(text: &mut Vec<u8>, more: &[u8]) -> Result<(), NoMemory>
 #[tactic(auto, unfolding(cm_message::specs::Bytes::number))]
 pub(crate) fn push_u8(text: &mut Vec<u8>, n: u8) -> Result<(), NoMemory>
     ensures ok { OnOk result (text.new.items ≡ text.old.items ++ number w8 n) }
+    ensures capacity { vec_capacity text.old ≤ vec_capacity text.new }
+    ensures grows { OnOk result (length text.new.items ≤ length text.old.items + 1) }
+    ensures full { OnErr result (vec_capacity text.old < length text.old.items + 1) }
 {
     push(text, &[n])
 }
@@ -251,6 +269,9 @@ pub(crate) fn push_u8(text: &mut Vec<u8>, n: u8) -> Result<(), NoMemory>
 #[tactic(auto, unfolding(cm_message::specs::Bytes::number))]
 pub(crate) fn push_u16(text: &mut Vec<u8>, n: u16) -> Result<(), NoMemory>
     ensures ok { OnOk result (text.new.items ≡ text.old.items ++ number w16 n) }
+    ensures capacity { vec_capacity text.old ≤ vec_capacity text.new }
+    ensures grows { OnOk result (length text.new.items ≤ length text.old.items + 2) }
+    ensures full { OnErr result (vec_capacity text.old < length text.old.items + 2) }
 {
     push(text, &n.to_be_bytes())
 }
@@ -258,6 +279,9 @@ pub(crate) fn push_u16(text: &mut Vec<u8>, n: u16) -> Result<(), NoMemory>
 #[tactic(auto, unfolding(cm_message::specs::Bytes::number))]
 fn push_u32(text: &mut Vec<u8>, n: u32) -> Result<(), NoMemory>
     ensures ok { OnOk result (text.new.items ≡ text.old.items ++ number w32 n) }
+    ensures capacity { vec_capacity text.old ≤ vec_capacity text.new }
+    ensures grows { OnOk result (length text.new.items ≤ length text.old.items + 4) }
+    ensures full { OnErr result (vec_capacity text.old < length text.old.items + 4) }
 {
     push(text, &n.to_be_bytes())
 }
@@ -265,6 +289,9 @@ fn push_u32(text: &mut Vec<u8>, n: u32) -> Result<(), NoMemory>
 #[tactic(auto, unfolding(cm_message::specs::Bytes::number))]
 pub(crate) fn push_u64(text: &mut Vec<u8>, n: u64) -> Result<(), NoMemory>
     ensures ok { OnOk result (text.new.items ≡ text.old.items ++ number w64 n) }
+    ensures capacity { vec_capacity text.old ≤ vec_capacity text.new }
+    ensures grows { OnOk result (length text.new.items ≤ length text.old.items + 8) }
+    ensures full { OnErr result (vec_capacity text.old < length text.old.items + 8) }
 {
     push(text, &n.to_be_bytes())
 }
@@ -281,6 +308,9 @@ pub(crate) fn push_head(
     requires room { cap ≤ 15 }
     ensures ok { OnOk result (text.new.items ≡ text.old.items
         ++ head_text (record { version = version; dimension = n; room = cap; rule = rule_number rule })) }
+    ensures capacity { vec_capacity text.old ≤ vec_capacity text.new }
+    ensures grows { OnOk result (length text.new.items ≤ length text.old.items + 8) }
+    ensures full { OnErr result (vec_capacity text.old < length text.old.items + 8) }
 {
     push_u32(text, MAGIC)?;
     push_u8(text, version)?;
@@ -303,6 +333,9 @@ fn push_chip(
     requires listed { listed_below chip.now 4096 ≡ flat_map (listing_at chip.now) addresses.now }
     requires few { length buffer.now < 256 }
     ensures ok { OnOk result (text.new.items ≡ text.old.items ++ chip_text (image_of_chip chip.now buffer.now)) }
+    ensures capacity { vec_capacity text.old ≤ vec_capacity text.new }
+    ensures grows { OnOk result (length text.new.items ≤ length text.old.items + (35 + 4 * length addresses.now + 18 * length buffer.now)) }
+    ensures full { OnErr result (vec_capacity text.old < length text.old.items + (35 + 4 * length addresses.now + 18 * length buffer.now)) }
 {
     push_flags(text, chip)?;
     push_u16(text, planes)?;
@@ -314,6 +347,9 @@ fn push_chip(
 
 pub(crate) fn push_flags(text: &mut Vec<u8>, chip: &ChipView<'_>) -> Result<(), NoMemory>
     ensures ok { OnOk result (text.new.items ≡ text.old.items ++ flags_text chip.now 16) }
+    ensures capacity { vec_capacity text.old ≤ vec_capacity text.new }
+    ensures grows { OnOk result (length text.new.items ≤ length text.old.items + 32) }
+    ensures full { OnErr result (vec_capacity text.old < length text.old.items + 32) }
 {
     for f in 0..FLAGS {
         push_u16(text, flag_plane(chip, f))?;
@@ -325,6 +361,9 @@ pub(crate) fn push_flags(text: &mut Vec<u8>, chip: &ChipView<'_>) -> Result<(), 
 fn push_planes(text: &mut Vec<u8>, chip: &ChipView<'_>, addresses: &[u16]) -> Result<(), NoMemory>
     requires within { (i : ℕ) → i < length addresses.now → slice_index addresses.now i < 4096 }
     ensures ok { OnOk result (text.new.items ≡ text.old.items ++ flat_map (listing_at chip.now) addresses.now) }
+    ensures capacity { vec_capacity text.old ≤ vec_capacity text.new }
+    ensures grows { OnOk result (length text.new.items ≤ length text.old.items + 4 * length addresses.now) }
+    ensures full { OnErr result (vec_capacity text.old < length text.old.items + 4 * length addresses.now) }
 {
     for at in addresses {
         push_plane(text, *at, memory_plane(chip, *at))?;
@@ -336,6 +375,9 @@ fn push_planes(text: &mut Vec<u8>, chip: &ChipView<'_>, addresses: &[u16]) -> Re
 #[tactic(auto, unfolding(cm_message::specs::Bytes::number))]
 pub(crate) fn push_plane(text: &mut Vec<u8>, at: u16, plane: Plane) -> Result<(), NoMemory>
     ensures ok { OnOk result (text.new.items ≡ text.old.items ++ listing_of at plane) }
+    ensures capacity { vec_capacity text.old ≤ vec_capacity text.new }
+    ensures grows { OnOk result (length text.new.items ≤ length text.old.items + 4) }
+    ensures full { OnErr result (vec_capacity text.old < length text.old.items + 4) }
 {
     if plane == 0 {
         return Ok(());
@@ -347,6 +389,9 @@ pub(crate) fn push_plane(text: &mut Vec<u8>, at: u16, plane: Plane) -> Result<()
 
 pub(crate) fn push_messages(text: &mut Vec<u8>, messages: &[Message]) -> Result<(), NoMemory>
     ensures ok { OnOk result (text.new.items ≡ text.old.items ++ flat_map message_text messages.now) }
+    ensures capacity { vec_capacity text.old ≤ vec_capacity text.new }
+    ensures grows { OnOk result (length text.new.items ≤ length text.old.items + 18 * length messages.now) }
+    ensures full { OnErr result (vec_capacity text.old < length text.old.items + 18 * length messages.now) }
 {
     for message in messages {
         push(text, &bytes(message))?;

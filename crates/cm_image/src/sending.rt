@@ -1,11 +1,12 @@
 //! Writing the bytes of a machine to a sink, piece by piece.
 
-ghost use Rattle.std.specs.Prelude.{◌≡◌, ℕ, ◌++◌, ◌^◌, ◌≤◌, [], false, length, IfOk, IfErr, OnOk};
+ghost use Rattle.std.specs.Prelude.{◌≡◌, ℕ, ◌+◌, ◌++◌, ◌^◌, ◌≤◌, [], false, length, IfOk, IfErr, IsErrOf, OnOk};
+ghost use Rattle.std.specs.Prelude.{vec_capacity};
 ghost use Rattle.std.specs.Io.KnownBytes.{Appends};
 ghost use Rattle.cm_model.specs.Keeping.{AreSizes};
 ghost use Rattle.cm_image_format.specs.Whole.{text_of};
 ghost use Rattle.cm_image.specs.Planes.{AreCounted, AreInUse, chips_text};
-ghost use Rattle.cm_image.specs.Sending.{GoesOut, GoesOutInPart, IsNear, IsRoomOf, is_write};
+ghost use Rattle.cm_image.specs.Sending.{GoesOut, GoesOutInPart, IsLaidOutFor, IsNear, IsRoomOf, is_write};
 
 use crate::counts::{addresses_in_use, listed_planes};
 use crate::dense::{TILE_PLANES, send_dense_chips};
@@ -82,7 +83,7 @@ impl DumpRoom {
         alloc: Global,
         machine: &Machine<N, CAP>,
     ) -> Result<DumpRoom, NoMemory>
-        ensures value { IfOk result (IsRoomOf N machine.now.machine) }
+        ensures value { IfOk result (IsLaidOutFor N machine.now.machine) }
     {
         sizes(machine);
         let counts = listed_planes(alloc, machine)?;
@@ -126,6 +127,7 @@ pub fn dump_into<const N: usize, const CAP: usize, O: Sink>(
     ensures err { IfErr result (λ _. GoesOutInPart (O.contents sink.old) (O.contents sink.new)
         (text_of N CAP machine.now.machine)) }
     ensures failed { O.has_failed sink.new ≡ is_write result }
+    ensures memory { ¬ IsErrOf result DumpFault.Memory }
 {
     sizes(machine);
     let DumpRoom {
@@ -164,6 +166,10 @@ pub(crate) fn send_all_chips<const N: usize, const CAP: usize, O: Sink>(
     ensures err { IfErr result (λ _. GoesOutInPart (O.contents sink.old) (O.contents sink.new)
         (text.old.items ++ chips_text machine.now.machine 0 (2 ^ N))) }
     ensures failed { O.has_failed sink.new ≡ is_write result }
+    ensures capacity { vec_capacity text.old ≤ vec_capacity text.new }
+    ensures waits { OnOk result (length text.old.items ≤ piece → length text.new.items ≤ piece) }
+    ensures memory { length text.old.items ≤ piece → piece + 20000 ≤ vec_capacity text.old
+        → ¬ IsErrOf result DumpFault.Memory }
 {
     match near {
         Near::Chips(mut tile) => send_chips(
@@ -190,6 +196,9 @@ pub(crate) fn send_full<O: Sink>(
     ensures ok { OnOk result (GoesOut (O.contents sink.old) (O.contents sink.new) text.old.items text.new.items) }
     ensures err { IfErr result (λ _. GoesOutInPart (O.contents sink.old) (O.contents sink.new) text.old.items) }
     ensures failed { O.has_failed sink.new ≡ is_write result }
+    ensures capacity { vec_capacity text.new ≡ vec_capacity text.old }
+    ensures waits { OnOk result (length text.new.items ≤ piece) }
+    ensures memory { ¬ IsErrOf result DumpFault.Memory }
 {
     if text.len() < piece {
         return Ok(());
@@ -204,6 +213,8 @@ fn send_out<O: Sink>(text: &mut Vec<u8>, sink: &mut O) -> Result<(), DumpFault>
     ensures all { OnOk result (text.new.items ≡ []) }
     ensures err { IfErr result (λ _. GoesOutInPart (O.contents sink.old) (O.contents sink.new) text.old.items) }
     ensures failed { O.has_failed sink.new ≡ is_write result }
+    ensures capacity { vec_capacity text.new ≡ vec_capacity text.old }
+    ensures memory { ¬ IsErrOf result DumpFault.Memory }
 {
     match write_all(sink, text.as_slice()) {
         Ok(()) => {

@@ -8,6 +8,8 @@ loop-first-init g c = record {
   tile = c.requires.planes;
   gone = chips_start c.args.machine.now.machine c.args.text.now.items (g.O.Sink.contents c.args.sink.now) 0;
   working = c.requires.working;
+  capacity = omega arith;
+  waits = λ few. few;
 }
 
 pub loop-first-preserved : goal.loop-first-preserved
@@ -21,6 +23,8 @@ loop-first-preserved g c = record {
       c.loop-first.invariant.gone)
       c.in-Ok.ensures.ok;
   working = c.in-Ok.ensures.failed;
+  capacity = omega (arith, c.loop-first.invariant.capacity, c.send_tile.ensures.capacity);
+  waits = λ few. c.in-Ok.ensures.waits (c.loop-first.invariant.waits few);
 }
 
 pub returns-in-Err-clause-err : goal.returns-in-Err-clause-err

@@ -14,6 +14,8 @@ pub loop-c-init : goal.loop-c-init
 loop-c-init g c = record {
   gone = chips_start c.args.machine.now.machine c.args.text.now.items (g.O.Sink.contents c.args.sink.now) c.args.first;
   working = c.requires.working;
+  capacity = omega arith;
+  waits = λ few. few;
 }
 
 pub push_chip-requires : goal.push_chip-requires
@@ -48,6 +50,13 @@ loop-c-preserved g c =
           (g.O.Sink.contents c.send_full.new.sink) _ c.push_chip.new.text.items c.send_full.new.text.items waits
           c.in-Ok-send_full.ensures.ok;
       working = c.in-Ok-send_full.ensures.failed;
+      capacity = omega (
+        arith,
+        c.loop-c.invariant.capacity,
+        c.push_chip.ensures.capacity,
+        c.send_full.ensures.capacity,
+      );
+      waits = λ few. c.in-Ok-send_full.ensures.waits;
     }
 
 pub returns-in_default-clause-err : goal.returns-in_default-clause-err
@@ -81,4 +90,7 @@ returns g c =
           c.loop-c.invariant.gone;
       err = tt;
       failed = c.loop-c.invariant.working;
+      capacity = c.loop-c.invariant.capacity;
+      waits = c.loop-c.invariant.waits;
+      memory = λ few room wants. absurd (cc);
     }

@@ -15,7 +15,7 @@ pub returns-in-Ok-send_all_chips-clause-ok : goal.returns-in-Ok-send_all_chips-c
 returns-in-Ok-send_all_chips-clause-ok g c =
     let machine : Machine = c.args.machine.now.machine in
     let whole = front_first g.row.N g.row.CAP machine c.args.room.text.items c.push_front.new.text.items
-    c.requires.room.empty c.in-Ok.ensures.ok in
+    c.requires.room.laid.empty c.in-Ok.ensures.ok in
     on_both c.send_out.result c.send_out.ensures.ok c.send_out.ensures.all
     (λ out none. all_out (g.O.Sink.contents c.args.sink.now) (g.O.Sink.contents c.send_all_chips.new.sink)
     (g.O.Sink.contents c.send_out.new.sink) (text_of g.row.N g.row.CAP machine) c.send_all_chips.new.text.items
@@ -28,7 +28,7 @@ pub returns-in-Ok-send_all_chips-clause-err : goal.returns-in-Ok-send_all_chips-
 returns-in-Ok-send_all_chips-clause-err g c =
     let machine : Machine = c.args.machine.now.machine in
     let whole = front_first g.row.N g.row.CAP machine c.args.room.text.items c.push_front.new.text.items
-    c.requires.room.empty c.in-Ok.ensures.ok in
+    c.requires.room.laid.empty c.in-Ok.ensures.ok in
     on_err c.send_out.result c.send_out.ensures.err
     (λ cut. goes_cut (g.O.Sink.contents c.args.sink.now) (g.O.Sink.contents c.send_all_chips.new.sink)
     (g.O.Sink.contents c.send_out.new.sink) (text_of g.row.N g.row.CAP machine) c.send_all_chips.new.text.items
@@ -40,6 +40,6 @@ pub returns-clause-err : goal.returns-clause-err
 returns-clause-err g c =
     let machine : Machine = c.args.machine.now.machine in
     let whole = front_first g.row.N g.row.CAP machine c.args.room.text.items c.push_front.new.text.items
-    c.requires.room.empty c.in-Ok.ensures.ok in
+    c.requires.room.laid.empty c.in-Ok.ensures.ok in
     subst (λ (xs : List ℕ). GoesOutInPart (g.O.Sink.contents c.args.sink.now)
     (g.O.Sink.contents c.send_all_chips.new.sink) xs) whole c.in-Err.ensures.err
