@@ -1,6 +1,7 @@
 //! Tickets of a run of chips beside plain lists: who comes, crosses and is taken out.
 
-use cm_slots::{Slots, Ticket};
+use crate::bands::sizes;
+use cm_slots::{Sizes, Slots, Ticket};
 use std::alloc::Global;
 use std::test::Fail;
 
@@ -169,21 +170,20 @@ fn change(
 }
 
 // The tickets cross, where the chips span so many dimensions and none has more than there is room for.
-fn cross_slots(slots: &mut Slots, span: u8, room: u8, dim: u8) {
+fn cross_slots(slots: &mut Slots, span: u8, sizes: Sizes, dim: u8) {
     if span <= 12
         && slots.chips() == 1 << span
-        && 0 < room
-        && room <= 15
         && dim < span
-        && slots.is_within(usize::from(room))
+        && slots.is_within(usize::from(sizes.room))
     {
-        slots.cross(span, room, dim);
+        slots.cross(span, sizes, dim);
     }
 }
 
 // Whether the tickets of all chips stand as the lists do after each step.
 fn go_alike(alloc: Global, case: (u8, u8, u64, u64)) -> Result<bool, Fail> {
     let (dims, room, most, seed) = case;
+    let sizes = sizes(dims, room).ok_or("no such machine")?;
     let most_there = usize::from(room);
     let chips = 1 << (dims & 15);
     if chips > 4096 {
@@ -197,7 +197,7 @@ fn go_alike(alloc: Global, case: (u8, u8, u64, u64)) -> Result<bool, Fail> {
         seed = change(&mut slots, most_there, &mut lists, most, seed)?;
         alike = alike && are_same(&slots, &lists);
         for dim in 0..dims {
-            cross_slots(&mut slots, dims, room, dim);
+            cross_slots(&mut slots, dims, sizes, dim);
             cross(alloc, &mut lists, most_there, dim)?;
             alike = alike && are_same(&slots, &lists);
         }

@@ -12,7 +12,7 @@ ghost use Rattle.cm_crossing.specs.Standing.{no_message, standing, AreKept};
 use crate::row::message_of;
 use cm_message::{Message, Rule};
 use cm_router::is_older;
-use cm_slots::{Slots, Ticket};
+use cm_slots::{Sizes, Slots, Ticket};
 
 /// The place of whom a chip chooses, with room for so many: of those that have to cross the dimension who goes first by
 /// the rule, or where none has to and no room is left, who goes last.
@@ -20,20 +20,19 @@ pub(crate) fn place_of_chosen(
     row: &[Message],
     slots: &Slots,
     chip: usize,
-    room: u8,
+    sizes: Sizes,
     dim: u8,
     rule: Rule,
 ) -> Option<usize>
     requires chip { chip < length slots.now }
-    requires some { 0 < room }
     requires dim { dim < 12 }
     requires kept { AreKept (length row.now) (list_at slots.now chip) }
-    ensures value { result ≡ chosen_place rule room dim (standing row.now (list_at slots.now chip)) }
+    ensures value { result ≡ chosen_place rule sizes.room dim (standing row.now (list_at slots.now chip)) }
     ensures within { IfSome result (λ place. place < length (list_at slots.now chip)) }
 {
     match first_place(row, slots, chip, dim, rule) {
         Some(place) => Some(place),
-        None if slots.len(chip) == usize::from(room) => last_place(row, slots, chip, rule),
+        None if slots.len(chip) == usize::from(sizes.room) => last_place(row, slots, chip, rule),
         None => None,
     }
 }

@@ -22,14 +22,13 @@ ghost use Rattle.cm_router.specs.Routes.{routing_of};
 use crate::ranking::{rearrange, renumber, risen_to, sort_numbers};
 use crate::routed::{cross, leave};
 use crate::row::{give_out, lay_out, read_off, read_out, stand, take_up};
-use crate::sizes::Sizes;
 use cm_bits::{NoMemory, Plane};
 use cm_element::{ChipView, Run};
 use cm_message::{Event, Message, Rule};
 use cm_router::{
     Deliveries, Routing, Senders, acknowledge, asking, chip_asks, chip_is_acknowledged, take_none,
 };
-use cm_slots::{Slots, Ticket};
+use cm_slots::{Sizes, Slots, Ticket};
 use std::alloc::Global;
 use std::marker::Model;
 use std::mem;
@@ -172,7 +171,7 @@ impl Crossing {
         ensures arrived { result < length self.now.buffers
             → list_any has_arrived (list_at self.now.buffers result) ≡ true }
     {
-        self.slots.next_arrived(from, sizes.room)
+        self.slots.next_arrived(from, sizes)
     }
 
     /// The messages that stand at a chip, in order of arrival, where all have been gathered.
@@ -317,7 +316,7 @@ impl Crossing {
     {
         let chips = self.chips() as u16;
         let mut chip = from as u16;
-        while chip < chips && self.is_passed_over(sizes.room, run, chip) {
+        while chip < chips && self.is_passed_over(sizes, run, chip) {
             chip += 1;
         }
         usize::from(chip)
@@ -325,25 +324,21 @@ impl Crossing {
 
     /// Whether an injection surely changes nothing at a chip: nobody is acknowledged there, and nobody asks to send or
     /// no room is left.
-    fn is_passed_over(&self, room: u8, run: &Run, chip: u16) -> bool
-        requires some { 0 < room }
-        requires most { room ≤ 15 }
+    fn is_passed_over(&self, sizes: Sizes, run: &Run, chip: u16) -> bool
         requires chip { chip < length self.now.buffers }
         requires run { length run.now ≡ length self.now.buffers }
-        ensures passed { IsTrue result → IsPassedOver room (list_at self.now.buffers chip) (chip_at run.now chip) }
+        ensures passed { IsTrue result → IsPassedOver sizes.room (list_at self.now.buffers chip) (chip_at run.now chip) }
     {
         !chip_is_acknowledged(run, chip)
-            && (!chip_asks(run, chip) || self.is_full(room, usize::from(chip)))
+            && (!chip_asks(run, chip) || self.is_full(sizes, usize::from(chip)))
     }
 
     /// Whether no room is left at a chip: somebody stands in the last place.
-    fn is_full(&self, room: u8, chip: usize) -> bool
-        requires some { 0 < room }
-        requires most { room ≤ 15 }
+    fn is_full(&self, sizes: Sizes, chip: usize) -> bool
         requires chip { chip < length self.now.buffers }
-        ensures full { IsTrue result → room ≤ length (list_at self.now.buffers chip) }
+        ensures full { IsTrue result → sizes.room ≤ length (list_at self.now.buffers chip) }
     {
-        self.slots.is_taken(chip, usize::from(room - 1))
+        self.slots.is_taken(chip, usize::from(sizes.room - 1))
     }
 
     /// At one chip, takes in messages of the processors that ask to send, by number, at most four and

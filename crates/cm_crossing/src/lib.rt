@@ -7,7 +7,6 @@ mod crossing;
 mod ranking;
 mod routed;
 mod row;
-mod sizes;
 
+pub use cm_slots::Sizes;
 pub use crossing::Crossing;
-pub use sizes::Sizes;

@@ -14,10 +14,9 @@ ghost use Rattle.cm_crossing.specs.Standing.{AreKept, IsKept, IsWritten, AreRisi
 ghost use Rattle.cm_crossing.specs.Routed.{ticket_leaving, tickets_staying, tickets_crossed};
 
 use crate::choosing::place_of_chosen;
-use crate::sizes::Sizes;
 use cm_message::{Message, Rule};
 use cm_router::Routing;
-use cm_slots::{Slots, Ticket};
+use cm_slots::{Sizes, Slots, Ticket};
 
 /// The tickets of a run of chips cross a dimension that these span: all leave before any comes. The run begins at
 /// chip `first` of the machine. It may be known that the row stands in the order of age.
@@ -48,9 +47,9 @@ pub(crate) fn cross(
         (list_at slots.old c) (list_at slots.old (bit_xor c (2 ^ dim)))) }
 {
     if routing.is_plain_over(dim) {
-        slots.cross(span, sizes.room, dim);
+        slots.cross(span, sizes, dim);
     } else if in_order && goes_by_age(routing, dim) {
-        slots.cross_by_number(span, sizes.room, dim);
+        slots.cross_by_number(span, sizes, dim);
     } else {
         cross_by_chip(row, slots, sizes, span, routing, first, dim, leavers);
     }
@@ -87,7 +86,7 @@ pub(crate) fn leave(
         (way_of (routing_of routing.now) (first + c) dim) sizes.room dim (list_at slots.old c)) }
 {
     if routing.is_plain_over(dim) {
-        slots.leave(sizes.room, dim, leavers);
+        slots.leave(sizes, dim, leavers);
     } else {
         leave_by_chip(row, slots, sizes, routing, first, dim, leavers);
     }
@@ -142,7 +141,7 @@ fn leave_by_chip(
 {
     for chip in 0..slots.chips() {
         let cut = routing.cuts.has(first + chip as u16, dim);
-        leavers[chip] = let_leave(row, slots, chip, sizes.room, dim, cut, routing.rule);
+        leavers[chip] = let_leave(row, slots, chip, sizes, dim, cut, routing.rule);
     }
 }
 
@@ -170,25 +169,24 @@ fn let_leave(
     row: &[Message],
     slots: &mut Slots,
     chip: usize,
-    room: u8,
+    sizes: Sizes,
     dim: u8,
     cut: bool,
     rule: Rule,
 ) -> Option<Ticket>
     requires chip { chip < length slots.old }
-    requires some { 0 < room }
     requires dim { dim < 12 }
     requires kept { AreKept (length row.now) (list_at slots.old chip) }
     ensures value { list_at slots.new chip
-        ≡ tickets_staying row.now (record { cut = cut; rule = rule }) room dim (list_at slots.old chip) }
+        ≡ tickets_staying row.now (record { cut = cut; rule = rule }) sizes.room dim (list_at slots.old chip) }
     ensures going { result
-        ≡ ticket_leaving row.now (record { cut = cut; rule = rule }) room dim (list_at slots.old chip) }
+        ≡ ticket_leaving row.now (record { cut = cut; rule = rule }) sizes.room dim (list_at slots.old chip) }
     ensures others { IsWritten chip slots.old slots.new }
 {
     if cut {
         return None;
     }
-    let place = place_of_chosen(row, slots, chip, room, dim, rule)?;
+    let place = place_of_chosen(row, slots, chip, sizes, dim, rule)?;
     let ticket = slots.ticket(chip, place).unwrap();
     slots.remove(chip, place);
     Some(Ticket {

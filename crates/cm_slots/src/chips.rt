@@ -8,6 +8,7 @@ ghost use Rattle.cm_slots.specs.Tiles.{IsTile};
 ghost use Rattle.cm_slots.specs.Runs.{IsChanged, AreWithin, tickets_of};
 
 use crate::rows::{ROOM, WIDTH};
+use crate::sizes::Sizes;
 use crate::ticket::{Ticket, slot_with, ticket_in};
 use crate::tile::Tile;
 
@@ -79,10 +80,9 @@ pub(crate) fn remove(tiles: &mut [Tile], chip: usize, place: usize)
 
 /// The first chip from this one on at which a ticket stands whose message has arrived, or one behind all of
 /// them, where there is room for so many tickets at each. A tile in which none has arrived is passed over.
-pub(crate) fn next_arrived(tiles: &[Tile], from: usize, room: usize) -> usize
-    requires most { room ≤ 15 }
+pub(crate) fn next_arrived(tiles: &[Tile], from: usize, sizes: Sizes) -> usize
     requires whole { All IsTile tiles.now }
-    requires within { AreWithin room tiles.now }
+    requires within { AreWithin sizes.room tiles.now }
     ensures none { (c : ℕ) → from ≤ c → c < result → c / 64 < length tiles.now
         → list_any has_come (tickets_of tiles.now c) ≡ false }
     ensures from { from ≤ result }
@@ -91,7 +91,7 @@ pub(crate) fn next_arrived(tiles: &[Tile], from: usize, room: usize) -> usize
     let mut chip = from;
     while chip / WIDTH < tiles.len() {
         let tile = &tiles[chip / WIDTH];
-        if chip % WIDTH == 0 && !tile.has_arrival(room) {
+        if chip % WIDTH == 0 && !tile.has_arrival(sizes) {
             chip = (chip / WIDTH + 1) * WIDTH;
         } else if tile.has_arrival_at(chip % WIDTH) {
             return chip;

@@ -12,42 +12,39 @@ ghost use Rattle.cm_slots.specs.Runs.{AreLeavers};
 use crate::order::Order;
 use crate::passes::leave;
 use crate::rows::{Row, WIDTH};
+use crate::sizes::Sizes;
 use crate::ticket::{Ticket, ticket_in};
 use crate::tile::Tile;
 
 /// Takes out of each chip who leaves in a dimension; the others close up.
-pub(crate) fn take_out(tiles: &mut [Tile], leaving: &mut [Option<Row>], room: usize, dim: u8)
+pub(crate) fn take_out(tiles: &mut [Tile], leaving: &mut [Option<Row>], sizes: Sizes, dim: u8)
     requires dimension { dim < 12 }
-    requires some { 0 < room }
-    requires most { room ≤ 15 }
     requires rows { length leaving.old ≡ length tiles.old }
     requires whole { All IsTile tiles.old }
-    requires within { AreWithin room tiles.old }
+    requires within { AreWithin sizes.room tiles.old }
     ensures value { (c : ℕ) → c / 64 < length tiles.old
-        → tickets_of tiles.new c ≡ stayers_of (has_to_go dim) room (tickets_of tiles.old c) }
+        → tickets_of tiles.new c ≡ stayers_of (has_to_go dim) sizes.room (tickets_of tiles.old c) }
     ensures going { (c : ℕ) → c / 64 < length tiles.old
-        → ticket_leaving leaving.new c ≡ ticket_going room dim (tickets_of tiles.old c) }
+        → ticket_leaving leaving.new c ≡ ticket_going sizes.room dim (tickets_of tiles.old c) }
     ensures leavers { AreLeavers leaving.new }
     ensures whole { All IsTile tiles.new }
-    ensures space { AreWithin (room - 1) tiles.new }
+    ensures space { AreWithin (sizes.room - 1) tiles.new }
 {
-    leave(tiles, leaving, room, dim, Order::Arrival);
-    close_up(tiles, leaving, room);
+    leave(tiles, leaving, sizes, dim, Order::Arrival);
+    close_up(tiles, leaving, sizes);
 }
 
 /// Lets those who stay at each tile close up to its first slot.
-fn close_up(tiles: &mut [Tile], leaving: &[Option<Row>], room: usize)
-    requires some { 0 < room }
-    requires most { room ≤ 15 }
+fn close_up(tiles: &mut [Tile], leaving: &[Option<Row>], sizes: Sizes)
     requires rows { length leaving.now ≡ length tiles.old }
     requires shape { All IsShaped tiles.old }
     requires quiet { (t : ℕ) → t < length tiles.old → leavers_at leaving.now t ≡ None
         → IsQuiet (tile_at tiles.old t) }
-    ensures value { HaveTakenIn room (λ t i. 0) tiles.old tiles.new }
+    ensures value { HaveTakenIn sizes.room (λ t i. 0) tiles.old tiles.new }
 {
     for t in 0..tiles.len() {
         if leaving[t].is_some() {
-            tiles[t].close_up(room);
+            tiles[t].close_up(sizes);
         }
     }
 }

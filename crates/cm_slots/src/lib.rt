@@ -10,10 +10,12 @@ mod moving;
 mod order;
 mod passes;
 mod rows;
+mod sizes;
 mod slots;
 mod ticket;
 mod tile;
 mod tiles;
 
+pub use sizes::Sizes;
 pub use slots::Slots;
 pub use ticket::Ticket;

@@ -12,59 +12,54 @@ ghost use Rattle.cm_slots.specs.Runs.{AreWithin};
 use crate::across::tile_across;
 use crate::order::Order;
 use crate::rows::Row;
+use crate::sizes::Sizes;
 use crate::tile::Tile;
 
 /// The tickets of all chips cross a dimension, for which who leaves each tile is put down here.
 pub(crate) fn cross(
     tiles: &mut [Tile],
     leaving: &mut [Option<Row>],
-    room: usize,
+    sizes: Sizes,
     dim: u8,
     order: Order,
 )
     requires dimension { dim < 12 }
-    requires some { 0 < room }
-    requires most { room ≤ 15 }
     requires rows { length leaving.old ≡ length tiles.old }
     requires across { (t : ℕ) → t < length tiles.old → tile_across dim t < length tiles.old }
     requires whole { All IsTile tiles.old }
-    requires within { AreWithin room tiles.old }
+    requires within { AreWithin sizes.room tiles.old }
     ensures value { (c : ℕ) → c / 64 < length tiles.old → tickets_of tiles.new c
-        ≡ exchanged_by order room dim (tickets_of tiles.old c) (tickets_of tiles.old (bit_xor c (2 ^ dim))) }
+        ≡ exchanged_by order sizes.room dim (tickets_of tiles.old c) (tickets_of tiles.old (bit_xor c (2 ^ dim))) }
     ensures whole { All IsTile tiles.new }
-    ensures within { AreWithin room tiles.new }
+    ensures within { AreWithin sizes.room tiles.new }
 {
-    leave(tiles, leaving, room, dim, order);
-    take_in(tiles, leaving, room, dim);
+    leave(tiles, leaving, sizes, dim, order);
+    take_in(tiles, leaving, sizes, dim);
 }
 
 /// Takes out of each tile who leaves in a dimension.
 pub(crate) fn leave(
     tiles: &mut [Tile],
     leaving: &mut [Option<Row>],
-    room: usize,
+    sizes: Sizes,
     dim: u8,
     order: Order,
 )
     requires dimension { dim < 12 }
-    requires some { 0 < room }
-    requires most { room ≤ 15 }
     requires rows { length leaving.old ≡ length tiles.old }
     requires whole { All IsTile tiles.old }
-    requires within { AreWithin room tiles.old }
-    ensures value { HaveLeft order room dim tiles.old tiles.new leaving.new }
+    requires within { AreWithin sizes.room tiles.old }
+    ensures value { HaveLeft order sizes.room dim tiles.old tiles.new leaving.new }
 {
     for t in 0..tiles.len() {
-        tiles[t].leave(&mut leaving[t], room, dim, order);
+        tiles[t].leave(&mut leaving[t], sizes, dim, order);
     }
 }
 
 /// Takes in at each tile who comes across a dimension. Where nobody stood and nobody comes there is
 /// nothing to do.
-fn take_in(tiles: &mut [Tile], leaving: &[Option<Row>], room: usize, dim: u8)
+fn take_in(tiles: &mut [Tile], leaving: &[Option<Row>], sizes: Sizes, dim: u8)
     requires dimension { dim < 12 }
-    requires some { 0 < room }
-    requires most { room ≤ 15 }
     requires rows { length leaving.now ≡ length tiles.old }
     requires across { (t : ℕ) → t < length tiles.old → tile_across dim t < length tiles.old }
     requires shape { All IsShaped tiles.old }
@@ -73,12 +68,12 @@ fn take_in(tiles: &mut [Tile], leaving: &[Option<Row>], room: usize, dim: u8)
         → IsQuiet (tile_at tiles.old t) }
     requires taken { (t i : ℕ) → t < length tiles.old → i < 64 → arriving dim leaving.now t i ≢ 0
         → is_taken (arriving dim leaving.now t i) ≡ true }
-    ensures value { HaveTakenIn room (arriving dim leaving.now) tiles.old tiles.new }
+    ensures value { HaveTakenIn sizes.room (arriving dim leaving.now) tiles.old tiles.new }
 {
     for t in 0..tiles.len() {
         let across = tile_across(t, dim);
         if !are_idle(leaving, t, across) {
-            tiles[t].take_in(&leaving[across], room, dim);
+            tiles[t].take_in(&leaving[across], sizes, dim);
         }
     }
 }

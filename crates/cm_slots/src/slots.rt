@@ -11,6 +11,7 @@ ghost use Rattle.cm_slots.specs.Tickets.{has_to_go, has_come, ticket_going, exch
 ghost use Rattle.cm_slots.specs.Choice.{exchanged_by_number};
 ghost use Rattle.cm_slots.specs.Moves.{ticket_over, queues_over, AreMovable};
 
+use crate::sizes::Sizes;
 use crate::ticket::Ticket;
 use crate::tiles::Tiles;
 use cm_bits::NoMemory;
@@ -133,17 +134,16 @@ impl Slots {
 
     /// The first chip from this one on at which a ticket stands whose message has arrived; as many as there are, if
     /// there is none. Nowhere stand more tickets than there is room for.
-    pub fn next_arrived(&self, from: usize, room: u8) -> usize
+    pub fn next_arrived(&self, from: usize, sizes: Sizes) -> usize
         requires from { from ≤ length self.now }
-        requires most { room ≤ 15 }
-        requires within { All (λ ts. length ts ≤ room) self.now }
+        requires within { All (λ ts. length ts ≤ sizes.room) self.now }
         ensures none { (c : ℕ) → from ≤ c → c < result → list_any has_come (list_at self.now c) ≡ false }
         ensures from { from ≤ result }
         ensures most { result ≤ length self.now }
         ensures arrived { result < length self.now → list_any has_come (list_at self.now result) ≡ true }
     {
         if self.noted == 0 {
-            self.tiles.next_arrived(from, room)
+            self.tiles.next_arrived(from, sizes)
         } else if self.tiles.has_arrival_over(self.noted) {
             self.next_that_moved(from)
         } else {
@@ -198,43 +198,39 @@ impl Slots {
 
     /// The tickets of chips that span so many dimensions, with room for so many at each, cross one of them: all
     /// leave before any comes.
-    pub fn cross(&mut self, span: u8, room: u8, dim: u8)
+    pub fn cross(&mut self, span: u8, sizes: Sizes, dim: u8)
         requires dimension { span ≤ 12 }
         requires dim { dim < span }
-        requires some { 0 < room }
-        requires most { room ≤ 15 }
         requires count { length self.old ≡ 2 ^ span }
-        requires within { All (λ ts. length ts ≤ room) self.old }
+        requires within { All (λ ts. length ts ≤ sizes.room) self.old }
         ensures value { self.new ≡ each_chip span
-            (λ c. exchanged room dim (list_at self.old c) (list_at self.old (bit_xor c (2 ^ dim)))) }
-        ensures within { All (λ ts. length ts ≤ room) self.new }
+            (λ c. exchanged sizes.room dim (list_at self.old c) (list_at self.old (bit_xor c (2 ^ dim)))) }
+        ensures within { All (λ ts. length ts ≤ sizes.room) self.new }
     {
-        if room == 1 {
+        if sizes.room == 1 {
             self.note(span, dim);
         } else {
             settle(&mut self.tiles, &mut self.noted);
-            self.tiles.cross(span, room, dim);
+            self.tiles.cross(span, sizes, dim);
         }
     }
 
     /// The same, where of those that have to cross the lowest number goes first: at each chip it leaves, or where none
     /// has to and no room is left, the highest.
-    pub fn cross_by_number(&mut self, span: u8, room: u8, dim: u8)
+    pub fn cross_by_number(&mut self, span: u8, sizes: Sizes, dim: u8)
         requires dimension { span ≤ 12 }
         requires dim { dim < span }
-        requires some { 0 < room }
-        requires most { room ≤ 15 }
         requires count { length self.old ≡ 2 ^ span }
-        requires within { All (λ ts. length ts ≤ room) self.old }
-        ensures value { self.new ≡ each_chip span (λ c. exchanged_by_number room dim
+        requires within { All (λ ts. length ts ≤ sizes.room) self.old }
+        ensures value { self.new ≡ each_chip span (λ c. exchanged_by_number sizes.room dim
             (list_at self.old c) (list_at self.old (bit_xor c (2 ^ dim)))) }
-        ensures within { All (λ ts. length ts ≤ room) self.new }
+        ensures within { All (λ ts. length ts ≤ sizes.room) self.new }
     {
-        if room == 1 {
+        if sizes.room == 1 {
             self.note(span, dim);
         } else {
             settle(&mut self.tiles, &mut self.noted);
-            self.tiles.cross_by_number(span, room, dim);
+            self.tiles.cross_by_number(span, sizes, dim);
         }
     }
 
@@ -251,18 +247,16 @@ impl Slots {
 
     /// The first half of a dimension by itself: who leaves each chip is taken out, and written down as it
     /// arrives across.
-    pub fn leave(&mut self, room: u8, dim: u8, leavers: &mut [Option<Ticket>])
+    pub fn leave(&mut self, sizes: Sizes, dim: u8, leavers: &mut [Option<Ticket>])
         requires dim { dim < 12 }
-        requires some { 0 < room }
-        requires most { room ≤ 15 }
         requires count { length leavers.old ≡ length self.old }
-        requires within { All (λ ts. length ts ≤ room) self.old }
-        ensures value { self.new ≡ map (λ ts. stayers_of (has_to_go dim) room ts) self.old }
-        ensures going { leavers.new ≡ map (λ ts. ticket_going room dim ts) self.old }
-        ensures space { All (λ ts. length ts < room) self.new }
+        requires within { All (λ ts. length ts ≤ sizes.room) self.old }
+        ensures value { self.new ≡ map (λ ts. stayers_of (has_to_go dim) sizes.room ts) self.old }
+        ensures going { leavers.new ≡ map (λ ts. ticket_going sizes.room dim ts) self.old }
+        ensures space { All (λ ts. length ts < sizes.room) self.new }
     {
         settle(&mut self.tiles, &mut self.noted);
-        self.tiles.leave(room, dim, leavers);
+        self.tiles.leave(sizes, dim, leavers);
     }
 }
 

@@ -14,6 +14,7 @@ use crate::across::{has_arrival_over, put_arrivals, put_leavers, put_over};
 use crate::choice::{leave_from, places};
 use crate::order::Order;
 use crate::rows::{ROOM, Row, WIDTH, has_arrival, is_blank, leave, take_in};
+use crate::sizes::Sizes;
 
 /// 64 chips that stand side by side, and their tickets slot by slot: the one that came first in slot 0.
 #[derive(Debug, Drop)]
@@ -53,21 +54,19 @@ impl Tile {
     /// Takes out of each chip, where there is room for so many tickets, who leaves in a dimension, and
     /// puts them down as they arrive across; of a tile at which nobody stands, none. The slots hold nothing
     /// that counts until who comes has been taken in.
-    pub fn leave(&mut self, leavers: &mut Option<Row>, room: usize, dim: u8, order: Order)
+    pub fn leave(&mut self, leavers: &mut Option<Row>, sizes: Sizes, dim: u8, order: Order)
         requires dimension { dim < 12 }
-        requires some { 0 < room }
-        requires most { room ≤ 15 }
         requires whole { IsTile self.old }
-        requires within { (i : ℕ) → i < 64 → length (standing_at self.old i) ≤ room }
-        ensures value { HasLeft order room dim self.old self.new leavers.new }
+        requires within { (i : ℕ) → i < 64 → length (standing_at self.old i) ≤ sizes.room }
+        ensures value { HasLeft order sizes.room dim self.old self.new leavers.new }
     {
         if self.is_quiet() {
             self.awake = false;
             forget(leavers);
         } else {
             match order {
-                Order::Arrival => self.let_leave(leavers, room, dim),
-                Order::Number => self.let_leave_by_number(leavers, room, dim),
+                Order::Arrival => self.let_leave(leavers, sizes, dim),
+                Order::Number => self.let_leave_by_number(leavers, sizes, dim),
             }
         }
     }
@@ -75,30 +74,26 @@ impl Tile {
     /// The same where somebody stands, in the order of arrival. It stands apart so that a tile at which nobody does costs
     /// no more than a look.
     #[inline(never)]
-    fn let_leave(&mut self, leavers: &mut Option<Row>, room: usize, dim: u8)
+    fn let_leave(&mut self, leavers: &mut Option<Row>, sizes: Sizes, dim: u8)
         requires dimension { dim < 12 }
-        requires some { 0 < room }
-        requires most { room ≤ 15 }
         requires whole { IsTile self.old }
-        requires within { (i : ℕ) → i < 64 → length (standing_at self.old i) ≤ room }
-        ensures value { HasLeft Arrival room dim self.old self.new leavers.new }
+        requires within { (i : ℕ) → i < 64 → length (standing_at self.old i) ≤ sizes.room }
+        ensures value { HasLeft Arrival sizes.room dim self.old self.new leavers.new }
     {
-        let reach = self.reach(room);
+        let reach = self.reach(sizes);
         leave(&mut self.first, &mut self.rest[..], reach - 1, dim);
         put_leavers(leavers, &self.first, dim);
     }
 
     /// The same by number.
     #[inline(never)]
-    fn let_leave_by_number(&mut self, leavers: &mut Option<Row>, room: usize, dim: u8)
+    fn let_leave_by_number(&mut self, leavers: &mut Option<Row>, sizes: Sizes, dim: u8)
         requires dimension { dim < 12 }
-        requires some { 0 < room }
-        requires most { room ≤ 15 }
         requires whole { IsTile self.old }
-        requires within { (i : ℕ) → i < 64 → length (standing_at self.old i) ≤ room }
-        ensures value { HasLeft Number room dim self.old self.new leavers.new }
+        requires within { (i : ℕ) → i < 64 → length (standing_at self.old i) ≤ sizes.room }
+        ensures value { HasLeft Number sizes.room dim self.old self.new leavers.new }
     {
-        let reach = self.reach(room);
+        let reach = self.reach(sizes);
         let places = places(&self.first, &self.rest[..], reach - 1, dim);
         leave_from(&mut self.first, &mut self.rest[..], reach - 1, &places);
         put_leavers(leavers, &self.first, dim);
@@ -106,15 +101,15 @@ impl Tile {
 
     /// How much room is enough to find who leaves: where no chip is full, that for one more than stand at any, since
     /// then nobody is the last of a full chip.
-    fn reach(&self, room: usize) -> usize
-        requires some { 0 < room }
-        requires most { room ≤ 15 }
+    fn reach(&self, sizes: Sizes) -> usize
         requires whole { IsTile self.now }
         ensures some { 0 < result }
-        ensures most { result ≤ room }
-        ensures few { (i : ℕ) → i < 64 → length (standing_at self.now i) ≤ room
-            → (length (standing_at self.now i) ≤ result) × (length (standing_at self.now i) ≡ result → result ≡ room) }
+        ensures most { result ≤ sizes.room }
+        ensures few { (i : ℕ) → i < 64 → length (standing_at self.now i) ≤ sizes.room
+            → (length (standing_at self.now i) ≤ result)
+            × (length (standing_at self.now i) ≡ result → result ≡ sizes.room) }
     {
+        let room = usize::from(sizes.room);
         if !self.is_within(room - 1) {
             return room;
         }
@@ -127,41 +122,35 @@ impl Tile {
     }
 
     /// Takes in at each chip who comes across a dimension, of those who leave the tile there.
-    pub fn take_in(&mut self, leavers: &Option<Row>, room: usize, dim: u8)
+    pub fn take_in(&mut self, leavers: &Option<Row>, sizes: Sizes, dim: u8)
         requires dimension { dim < 12 }
-        requires some { 0 < room }
-        requires most { room ≤ 15 }
         requires shape { IsShaped self.old }
         requires long { IfSome leavers.now (λ row. length row ≡ 64) }
         requires taken { (i : ℕ) → i < 64 → leaver_at leavers.now (place_across dim i) ≢ 0
             → is_taken (leaver_at leavers.now (place_across dim i)) ≡ true }
-        ensures value { HasTakenIn room (λ i. leaver_at leavers.now (place_across dim i)) self.old self.new }
+        ensures value { HasTakenIn sizes.room (λ i. leaver_at leavers.now (place_across dim i)) self.old self.new }
     {
         put_arrivals(&mut self.first, leavers, dim);
-        self.take_in_first(room);
+        self.take_in_first(sizes);
     }
 
     /// Lets those who stay at each chip close up: nobody comes.
-    pub fn close_up(&mut self, room: usize)
-        requires some { 0 < room }
-        requires most { room ≤ 15 }
+    pub fn close_up(&mut self, sizes: Sizes)
         requires shape { IsShaped self.old }
-        ensures value { HasTakenIn room (λ i. 0) self.old self.new }
+        ensures value { HasTakenIn sizes.room (λ i. 0) self.old self.new }
     {
         self.first = [0; WIDTH];
-        self.take_in_first(room);
+        self.take_in_first(sizes);
     }
 
     /// Takes in at each chip who has been put down in the first slot.
-    fn take_in_first(&mut self, room: usize)
-        requires some { 0 < room }
-        requires most { room ≤ 15 }
+    fn take_in_first(&mut self, sizes: Sizes)
         requires shape { IsShaped self.old }
         requires taken { AreTaken self.old.first }
-        ensures value { HasTakenIn room (λ i. slice_index self.old.first i) self.old self.new }
+        ensures value { HasTakenIn sizes.room (λ i. slice_index self.old.first i) self.old self.new }
     {
         self.awake = true;
-        let reach = self.reach_behind(room);
+        let reach = self.reach_behind(sizes);
         take_in(&mut self.first, &mut self.rest[..], reach - 1);
     }
 
@@ -199,15 +188,14 @@ impl Tile {
 
     /// How much room is enough to take in who comes: where no chip is full but for him, that for one more than stand
     /// behind the first slot of any.
-    fn reach_behind(&self, room: usize) -> usize
-        requires some { 0 < room }
-        requires most { room ≤ 15 }
+    fn reach_behind(&self, sizes: Sizes) -> usize
         requires shape { IsShaped self.now }
         ensures some { 0 < result }
-        ensures most { result ≤ room }
-        ensures few { (i : ℕ) (numbers : List ℕ) → i < 64 → length numbers < room
+        ensures most { result ≤ sizes.room }
+        ensures few { (i : ℕ) (numbers : List ℕ) → i < 64 → length numbers < sizes.room
             → AreSlots (slot_behind self.now.rest i) numbers → length numbers < result }
     {
+        let room = usize::from(sizes.room);
         if room > 1 && !is_blank(&self.rest[room - 2]) {
             return room;
         }
@@ -228,11 +216,12 @@ impl Tile {
     }
 
     /// Whether at some chip, where there is room for so many tickets, one stands whose message has arrived.
-    pub fn has_arrival(&self, room: usize) -> bool
-        requires most { room ≤ 15 }
+    pub fn has_arrival(&self, sizes: Sizes) -> bool
         requires whole { IsTile self.now }
-        ensures none { IsFalse result → (i j : ℕ) → i < 64 → j < room → is_arrival (slots_of self.now i j) ≡ false }
+        ensures none { IsFalse result → (i j : ℕ) → i < 64 → j < sizes.room
+            → is_arrival (slots_of self.now i j) ≡ false }
     {
+        let room = usize::from(sizes.room);
         if self.is_quiet() {
             return false;
         }

@@ -18,6 +18,7 @@ use crate::moving::{have_arrival_over, move_over};
 use crate::order::Order;
 use crate::passes::cross;
 use crate::rows::{Row, WIDTH};
+use crate::sizes::Sizes;
 use crate::ticket::Ticket;
 use crate::tile::Tile;
 use cm_bits::NoMemory;
@@ -156,10 +157,9 @@ impl Tiles {
 
     /// The first chip from this one on at which a ticket stands whose message has arrived; as many as there are, if
     /// there is none. Nowhere stand more tickets than there is room for.
-    pub fn next_arrived(&self, from: usize, room: u8) -> usize
+    pub fn next_arrived(&self, from: usize, sizes: Sizes) -> usize
         requires from { from ≤ length self.now }
-        requires most { room ≤ 15 }
-        requires within { All (λ ts. length ts ≤ room) self.now }
+        requires within { All (λ ts. length ts ≤ sizes.room) self.now }
         ensures none { (c : ℕ) → from ≤ c → c < result → list_any has_come (list_at self.now c) ≡ false }
         ensures from { from ≤ result }
         ensures most { result ≤ length self.now }
@@ -169,7 +169,7 @@ impl Tiles {
             return self.chips;
         }
         self.chips
-            .min(chips::next_arrived(&self.tiles, from, usize::from(room)))
+            .min(chips::next_arrived(&self.tiles, from, sizes))
     }
 
     /// Takes out all tickets.
@@ -188,21 +188,19 @@ impl Tiles {
 
     /// The tickets of chips that span so many dimensions, with room for so many at each, cross one of them: all
     /// leave before any comes.
-    pub fn cross(&mut self, span: u8, room: u8, dim: u8)
+    pub fn cross(&mut self, span: u8, sizes: Sizes, dim: u8)
         requires dimension { span ≤ 12 }
         requires dim { dim < span }
-        requires some { 0 < room }
-        requires most { room ≤ 15 }
         requires count { length self.old ≡ 2 ^ span }
-        requires within { All (λ ts. length ts ≤ room) self.old }
+        requires within { All (λ ts. length ts ≤ sizes.room) self.old }
         ensures value { self.new ≡ each_chip span
-            (λ c. exchanged room dim (list_at self.old c) (list_at self.old (bit_xor c (2 ^ dim)))) }
-        ensures within { All (λ ts. length ts ≤ room) self.new }
+            (λ c. exchanged sizes.room dim (list_at self.old c) (list_at self.old (bit_xor c (2 ^ dim)))) }
+        ensures within { All (λ ts. length ts ≤ sizes.room) self.new }
     {
         cross(
             &mut self.tiles,
             &mut self.leaving,
-            usize::from(room),
+            sizes,
             dim,
             Order::Arrival,
         );
@@ -210,21 +208,19 @@ impl Tiles {
 
     /// The same, where of those that have to cross the lowest number goes first: at each chip it leaves, or where none
     /// has to and no room is left, the highest.
-    pub fn cross_by_number(&mut self, span: u8, room: u8, dim: u8)
+    pub fn cross_by_number(&mut self, span: u8, sizes: Sizes, dim: u8)
         requires dimension { span ≤ 12 }
         requires dim { dim < span }
-        requires some { 0 < room }
-        requires most { room ≤ 15 }
         requires count { length self.old ≡ 2 ^ span }
-        requires within { All (λ ts. length ts ≤ room) self.old }
-        ensures value { self.new ≡ each_chip span (λ c. exchanged_by_number room dim
+        requires within { All (λ ts. length ts ≤ sizes.room) self.old }
+        ensures value { self.new ≡ each_chip span (λ c. exchanged_by_number sizes.room dim
             (list_at self.old c) (list_at self.old (bit_xor c (2 ^ dim)))) }
-        ensures within { All (λ ts. length ts ≤ room) self.new }
+        ensures within { All (λ ts. length ts ≤ sizes.room) self.new }
     {
         cross(
             &mut self.tiles,
             &mut self.leaving,
-            usize::from(room),
+            sizes,
             dim,
             Order::Number,
         );
@@ -252,17 +248,15 @@ impl Tiles {
 
     /// The first half of a dimension by itself: who leaves each chip is taken out, and written down as it
     /// arrives across.
-    pub fn leave(&mut self, room: u8, dim: u8, leavers: &mut [Option<Ticket>])
+    pub fn leave(&mut self, sizes: Sizes, dim: u8, leavers: &mut [Option<Ticket>])
         requires dim { dim < 12 }
-        requires some { 0 < room }
-        requires most { room ≤ 15 }
         requires count { length leavers.old ≡ length self.old }
-        requires within { All (λ ts. length ts ≤ room) self.old }
-        ensures value { self.new ≡ map (λ ts. stayers_of (has_to_go dim) room ts) self.old }
-        ensures going { leavers.new ≡ map (λ ts. ticket_going room dim ts) self.old }
-        ensures space { All (λ ts. length ts < room) self.new }
+        requires within { All (λ ts. length ts ≤ sizes.room) self.old }
+        ensures value { self.new ≡ map (λ ts. stayers_of (has_to_go dim) sizes.room ts) self.old }
+        ensures going { leavers.new ≡ map (λ ts. ticket_going sizes.room dim ts) self.old }
+        ensures space { All (λ ts. length ts < sizes.room) self.new }
     {
-        take_out(&mut self.tiles, &mut self.leaving, usize::from(room), dim);
+        take_out(&mut self.tiles, &mut self.leaving, sizes, dim);
         write_down(&self.leaving, leavers);
     }
 }

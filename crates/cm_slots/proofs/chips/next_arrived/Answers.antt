@@ -10,7 +10,7 @@ loop-chip-preserved-then-not-has_arrival c =
       from = omega (arith, c.loop-chip.invariant.from);
       none = λ k from below inside. ⊎_elim (λ (l : k < here). c.loop-chip.invariant.none k from l inside)
           (λ (l : here ≤ k). let same : k / 64 ≡ here / 64 = omega (arith, c.if-chip-eq0.true) in
-          none_at c.args.tiles.now k inside c.requires.whole c.args.room c.requires.within
+          none_at c.args.tiles.now k inside c.requires.whole c.args.sizes.room c.requires.within
           (rw same (c.has_arrival.ensures.none c.if-not-has_arrival.true)))
           (cases_lt k here);
     }

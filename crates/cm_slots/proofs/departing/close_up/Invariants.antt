@@ -3,4 +3,4 @@ use Rattle.cm_slots.proofs.Runs.{AreDone}
 use Rattle.cm_slots.proofs.departing.close_up.Given as goal
 
 abbrev pub invariant-loop-t : goal.invariant-loop-t
-invariant-loop-t l = AreDone (λ t. HasTakenIn l.room (λ i. 0)) l.initial.tiles l.tiles l.t
+invariant-loop-t l = AreDone (λ t. HasTakenIn l.sizes.room (λ i. 0)) l.initial.tiles l.tiles l.t

@@ -5,4 +5,4 @@ use Rattle.cm_slots.proofs.passes.leave.Given as goal
 
 abbrev pub invariant-loop-t : goal.invariant-loop-t
 invariant-loop-t l =
-    AreDone (λ t old new. HasLeft l.order l.room l.dim old new (leavers_at l.leaving t)) l.initial.tiles l.tiles l.t
+    AreDone (λ t old new. HasLeft l.order l.sizes.room l.dim old new (leavers_at l.leaving t)) l.initial.tiles l.tiles l.t

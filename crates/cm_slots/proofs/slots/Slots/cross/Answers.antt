@@ -3,13 +3,13 @@ use Rattle.cm_slots.specs.declared.order.Order.TheVariants.{Arrival}
 use Rattle.cm_slots.proofs.Moves.{crossed_one, one_within}
 use Rattle.cm_slots.proofs.slots.Slots.cross.Goals as goal
 
-pub returns-then-room-eq1-clause-value : goal.returns-then-room-eq1-clause-value
-returns-then-room-eq1-clause-value c =
+pub returns-then-sizes-eq1-clause-value : goal.returns-then-sizes-eq1-clause-value
+returns-then-sizes-eq1-clause-value c =
     c.note.ensures.value
-    ∙ rw c.if-room-eq1.true
-    (crossed_one c.args.self.now c.requires.count c.requires.dim (rw c.if-room-eq1.true at c.requires.within) Arrival)
+    ∙ rw c.if-sizes-eq1.true
+    (crossed_one c.args.self.now c.requires.count c.requires.dim (rw c.if-sizes-eq1.true at c.requires.within) Arrival)
 
-pub returns-then-room-eq1-clause-within : goal.returns-then-room-eq1-clause-within
-returns-then-room-eq1-clause-within c =
-    rw (c.note.ensures.value, c.if-room-eq1.true)
-    (one_within c.args.self.now c.requires.count c.requires.dim (rw c.if-room-eq1.true at c.requires.within))
+pub returns-then-sizes-eq1-clause-within : goal.returns-then-sizes-eq1-clause-within
+returns-then-sizes-eq1-clause-within c =
+    rw (c.note.ensures.value, c.if-sizes-eq1.true)
+    (one_within c.args.self.now c.requires.count c.requires.dim (rw c.if-sizes-eq1.true at c.requires.within))

@@ -11,7 +11,7 @@ returns-then-is_quiet c =
       value = rw c.forget.ensures.value (record {
         shape = c.requires.whole.shape;
         long = tt;
-        gone = λ i h. nobody_goes c.args.order c.args.dim c.args.room old i (quiet i h) c.requires.some;
+        gone = λ i h. nobody_goes c.args.order c.args.dim c.args.sizes.room old i (quiet i h) c.args.sizes.bounds.some_room;
         quiet = λ none. quiet;
       });
     }

@@ -8,8 +8,8 @@ returns c = record {
     long = c.put_leavers.ensures.long;
     gone = λ i h.
         let few = c.reach-reach.ensures.few i h (c.requires.within i h) in
-        has_gone c.args.dim c.args.room c.reach-reach.result _ _ (c.requires.whole.queues i h)
-        c.reach-reach.ensures.some c.reach-reach.ensures.most c.requires.most (few.0) (few.1) _ _ _
+        has_gone c.args.dim c.args.sizes.room c.reach-reach.result _ _ (c.requires.whole.queues i h)
+        c.reach-reach.ensures.some c.reach-reach.ensures.most c.args.sizes.bounds.most_room (few.0) (few.1) _ _ _
         (c.leave.ensures.value i h) (c.put_leavers.ensures.value i h);
     quiet = λ none. absurd (c.put_leavers.ensures.some none);
   };

@@ -11,8 +11,8 @@ cross-requires-clause-across c =
 
 pub cross-requires-clause-within : goal.cross-requires-clause-within
 cross-requires-clause-within c =
-    rw (c.from.ensures, c.deref_mut.ensures.value)
-    (within_everywhere c.self.invariant.are c.self.view_is c.args.room c.requires.within)
+    rw c.deref_mut.ensures.value
+    (within_everywhere c.self.invariant.are c.self.view_is c.args.sizes.room c.requires.within)
 
 pub invariant_of-self : goal.invariant_of-self
 invariant_of-self c =
@@ -25,7 +25,7 @@ invariant_of-self c =
       )
           (tiles_kept c.self.invariant.are c.self.view_is c.cross.new.tiles long rows c.cross.ensures.whole
           (crossed_past c.self.invariant.are c.self.view_is c.cross.new.tiles long c.requires.count c.requires.dim Number
-          c.args.room (rw (c.from.ensures, c.deref_mut.ensures.value) at c.cross.ensures.value) c.requires.some));
+          c.args.sizes.room (rw c.deref_mut.ensures.value at c.cross.ensures.value) c.args.sizes.bounds.some_room));
       space = c.self.invariant.space;
       rows_space = c.self.invariant.rows_space;
     }
@@ -36,9 +36,9 @@ returns c =
     record {
       value = rw (items-lent c.self.inside.tiles c.cross.new.tiles long)
           (queues_after c.self.invariant.are c.self.view_is c.cross.new.tiles long c.requires.count c.requires.dim
-          Number c.args.room (rw (c.from.ensures, c.deref_mut.ensures.value) at c.cross.ensures.value)
-          c.requires.some);
+          Number c.args.sizes.room (rw c.deref_mut.ensures.value at c.cross.ensures.value)
+          c.args.sizes.bounds.some_room);
       within = rw (items-lent c.self.inside.tiles c.cross.new.tiles long)
-          (within_view c.self.inside.chips c.cross.new.tiles c.args.room
-          (rw c.from.ensures at c.cross.ensures.within));
+          (within_view c.self.inside.chips c.cross.new.tiles c.args.sizes.room
+          c.cross.ensures.within);
     }

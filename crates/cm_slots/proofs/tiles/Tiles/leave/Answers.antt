@@ -10,8 +10,8 @@ use Rattle.cm_slots.proofs.tiles.Tiles.leave.Goals as goal
 
 pub take_out-requires-clause-within : goal.take_out-requires-clause-within
 take_out-requires-clause-within c =
-    rw (c.from.ensures, c.deref_mut.ensures.value)
-    (within_everywhere c.self.invariant.are c.self.view_is c.args.room c.requires.within)
+    rw c.deref_mut.ensures.value
+    (within_everywhere c.self.invariant.are c.self.view_is c.args.sizes.room c.requires.within)
 
 pub write_down-requires : goal.write_down-requires
 write_down-requires c =
@@ -34,10 +34,10 @@ invariant_of-self c =
     record {
       are = rw (items-lent c.self.inside.tiles new.tiles long, items-lent c.self.inside.leaving new.leaving rows)
           (tiles_kept c.self.invariant.are c.self.view_is new.tiles long rows c.take_out.ensures.whole
-          (λ k past h. (rw (c.from.ensures, c.deref_mut.ensures.value) at c.take_out.ensures.value) k h
+          (λ k past h. (rw c.deref_mut.ensures.value at c.take_out.ensures.value) k h
           ∙ rw (
             c.self.invariant.are.past k past h,
-            place_of_leaver-nobody (has_to_go c.args.dim) c.args.room c.requires.some,
+            place_of_leaver-nobody (has_to_go c.args.dim) c.args.sizes.room c.args.sizes.bounds.some_room,
           ) refl));
       space = c.self.invariant.space;
       rows_space = c.self.invariant.rows_space;
@@ -49,20 +49,20 @@ returns c =
     let new = c.take_out.new in
     let long = c.take_out.auto.tiles ∙ ap length c.deref_mut.ensures.value in
     let rows = c.take_out.auto.leaving ∙ ap length c.deref_mut-2.ensures.value in
-    let nobody = place_of_leaver-nobody (has_to_go c.args.dim) c.args.room c.requires.some in
+    let nobody = place_of_leaver-nobody (has_to_go c.args.dim) c.args.sizes.room c.args.sizes.bounds.some_room in
     let written = c.deref.ensures.value ∙ items-lent inside.leaving new.leaving rows in
     record {
       value = rw (items-lent inside.tiles new.tiles long) (mapped c.self.invariant.are c.self.view_is []
-          (tickets_of new.tiles) (λ ts. stayers_of (has_to_go c.args.dim) c.args.room ts)
-          (rw (c.from.ensures, c.deref_mut.ensures.value) at c.take_out.ensures.value)
+          (tickets_of new.tiles) (λ ts. stayers_of (has_to_go c.args.dim) c.args.sizes.room ts)
+          (rw c.deref_mut.ensures.value at c.take_out.ensures.value)
           (λ k past. nobody_past new.tiles k (omega (arith, past, long)) ∙ rw nobody refl));
       going = c.write_down.ensures.value ∙ rw (written, c.requires.count, as_many c.self.invariant.are c.self.view_is)
           (mapped c.self.invariant.are c.self.view_is None (ticket_leaving new.leaving)
-          (λ ts. ticket_going c.args.room c.args.dim ts)
-          (rw (c.from.ensures, c.deref_mut.ensures.value) at c.take_out.ensures.going)
+          (λ ts. ticket_going c.args.sizes.room c.args.dim ts)
+          (rw c.deref_mut.ensures.value at c.take_out.ensures.going)
           (λ k past. rw (get_or_past new.leaving (k / 64) None (omega (arith, past, rows, c.self.invariant.are.rows)), nobody)
           refl));
       space = rw (items-lent inside.tiles new.tiles long) (λ k d h.
-          let low = within_view inside.chips new.tiles (c.args.room - 1)
-          (rw c.from.ensures at c.take_out.ensures.space) k d h in omega (arith, c.requires.some));
+          let low = within_view inside.chips new.tiles (c.args.sizes.room - 1)
+          c.take_out.ensures.space k d h in omega (arith, c.args.sizes.bounds.some_room));
     }

@@ -4,8 +4,8 @@ use Rattle.cm_slots.proofs.tiles.Tiles.next_arrived.Goals as goal
 
 pub next_arrived-requires-clause-within : goal.next_arrived-requires-clause-within
 next_arrived-requires-clause-within c =
-    rw (c.from.ensures, c.deref.ensures.value)
-    (within_everywhere c.self.invariant.are c.self.view_is c.args.room c.requires.within)
+    rw c.deref.ensures.value
+    (within_everywhere c.self.invariant.are c.self.view_is c.args.sizes.room c.requires.within)
 
 pub returns-then-is_empty-clause-none : goal.returns-then-is_empty-clause-none
 returns-then-is_empty-clause-none c = λ k from below.
