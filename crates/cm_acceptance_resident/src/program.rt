@@ -1,12 +1,15 @@
 //! The program's own sharing: all workers that it is told to have meet in each round.
 
-ghost use Rattle.std.specs.Prelude.{◌≡◌, false};
+ghost use Rattle.std.specs.Prelude.{◌≡◌, false, None, IfSome};
 ghost use Rattle.std.specs.Thread.{IsSync};
+ghost use Rattle.cm_cli.specs.Sizes.{start_at};
+ghost use Rattle.cm_cli.specs.Sharing.{sharing_fault};
 
 use crate::meeting::{Cut, FOUR, Meeting, Notes, Waits, no_notes};
+use cm_asm::Program;
 use cm_bits::doubles::{Bytes, Room};
 use cm_bits::{Sink, Source};
-use cm_cli::{Sharing, fresh, open_run, run_alone, run_shared};
+use cm_cli::{Opened, Sharing, fresh, open_run, run_alone, run_shared};
 use cm_draws::cut_in_two_places;
 use cm_image::dump;
 use cm_model::Rule;
@@ -99,6 +102,15 @@ impl Image {
     }
 }
 
+/// The machine and the program with which a session begins.
+fn begun(alloc: Global, row: &Shared) -> Option<(Opened, Program)>
+    ensures shared { IfSome result (λ run. sharing_fault (start_at run.0).n row.now.sharing ≡ None) }
+{
+    let image = row.image.bytes(alloc)?;
+    let text = row.text.to_vec(alloc).ok()?;
+    open_run(alloc, image, Ok(text), row.sharing).ok()
+}
+
 /// The image that one worker leaves, who answers the commands.
 fn kept_alone<I: Source, O: Sink>(
     alloc: Global,
@@ -109,9 +121,7 @@ fn kept_alone<I: Source, O: Sink>(
     requires reader { I.has_failed commands.old ≡ false }
     requires writer { O.has_failed answers.old ≡ false }
 {
-    let image = row.image.bytes(alloc)?;
-    let text = row.text.to_vec(alloc).ok()?;
-    let (machine, program) = open_run(alloc, image, Ok(text), row.sharing).ok()?;
+    let (machine, program) = begun(alloc, row)?;
     run_alone(alloc, machine, &program, commands, answers, true).ok()?
 }
 
@@ -151,9 +161,7 @@ fn kept_shared<R: Threads + Wait + Sync, I: Source, O: Sink>(
     requires reader { I.has_failed commands.old ≡ false }
     requires writer { O.has_failed answers.old ≡ false }
 {
-    let image = row.image.bytes(alloc)?;
-    let text = row.text.to_vec(alloc).ok()?;
-    let (machine, program) = open_run(alloc, image, Ok(text), row.sharing).ok()?;
+    let (machine, program) = begun(alloc, row)?;
     run_shared(
         rt,
         alloc,

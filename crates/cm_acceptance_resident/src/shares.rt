@@ -23,8 +23,8 @@ use std::thread::Threads;
 /// How many lists of acts each random machine goes through.
 const LISTS: u8 = 2;
 
-/// Nobody looks at workers that are joined at each round; at those that run on somebody does, so that short lists are shared
-/// out too.
+/// Nobody looks at workers that are joined at each round; at those that run on somebody does, so that short lists are
+/// shared out too.
 fn passage_of(alloc: Global, kind: Kind) -> Option<Passage> {
     match kind {
         Kind::Forked => Some(Passage::Open),
@@ -156,7 +156,8 @@ static SHARES: [Share; 7] = [
     Share { k: 2, workers: 4 },
 ];
 
-/// Whether so many workers go through the acts as one thread, and the four messages of each chip are where they should be then.
+/// Whether so many workers go through the acts as one thread, and the four messages of each chip are where they should be
+/// then.
 fn sent_in<R: Threads + Wait + Sync>(
     rt: &R,
     alloc: Global,
