@@ -4,6 +4,7 @@ ghost use Rattle.std.specs.Prelude.{◌≡◌, ◌^◌};
 
 use cm_array::Machine;
 use cm_bits::Place;
+use cm_draws::copied;
 use cm_message::{Event, Message, Tag};
 use cm_model::Found;
 use cm_plain::PlainRouter;
@@ -21,7 +22,11 @@ pub(crate) fn are_found<const N: usize, const CAP: usize>(
 {
     let lines = lines_of(alloc, machine, chips)?;
     let are_same = lines == plain_lines_of(alloc, plain, chips)?;
-    Ok(are_same && stand_once(machine, &lines, chips) && are_found_alike(machine, plain, chips))
+    Ok(
+        are_same
+            && stand_once(alloc, machine, &lines, chips)?
+            && are_found_alike(alloc, machine, plain, chips)?,
+    )
 }
 
 fn lines_of<const N: usize, const CAP: usize>(
@@ -33,7 +38,8 @@ fn lines_of<const N: usize, const CAP: usize>(
 {
     let mut lines = Vec::new(alloc);
     for c in 0..chips {
-        add_lines(&mut lines, c, machine.buffer(c), machine.log(c))?;
+        let events = copied(alloc, &machine.log(c)).ok_or(AllocError)?;
+        add_lines(&mut lines, c, machine.buffer(c), &events)?;
     }
     Ok(lines)
 }
@@ -54,42 +60,46 @@ fn plain_lines_of<const N: usize, const CAP: usize>(
 
 /// Whether each message that was taken in stands once among the lines.
 fn stand_once<const N: usize, const CAP: usize>(
+    alloc: Global,
     machine: &Machine<N, CAP>,
     lines: &[Line],
     chips: u16,
-) -> bool
+) -> Result<bool, AllocError>
     requires chips { chips ≡ 2 ^ N }
 {
     for c in 0..chips {
-        for event in machine.log(c) {
+        let events = copied(alloc, &machine.log(c)).ok_or(AllocError)?;
+        for event in &events {
             if let Event::Injected(message) = event
                 && !Line::new(c, message).stands_once(lines)
             {
-                return false;
+                return Ok(false);
             }
         }
     }
-    true
+    Ok(true)
 }
 
 /// Whether both find each message that was taken in, at one place.
 fn are_found_alike<const N: usize, const CAP: usize>(
+    alloc: Global,
     machine: &Machine<N, CAP>,
     plain: &PlainRouter<N, CAP>,
     chips: u16,
-) -> bool
+) -> Result<bool, AllocError>
     requires chips { chips ≡ 2 ^ N }
 {
     for c in 0..chips {
-        for event in machine.log(c) {
+        let events = copied(alloc, &machine.log(c)).ok_or(AllocError)?;
+        for event in &events {
             if let Event::Injected(message) = event
                 && !is_found_alike(machine.find(message.tag), plain, message.tag, chips)
             {
-                return false;
+                return Ok(false);
             }
         }
     }
-    true
+    Ok(true)
 }
 
 /// Whether the message of a tag was found, and where the plain machine has it.

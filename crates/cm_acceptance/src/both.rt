@@ -6,7 +6,7 @@ ghost use Rattle.std.specs.Prelude.{◌≡◌, ◌+◌, ◌<◌, ◌≤◌, ◌^
 use crate::machines::SEND;
 use cm_array::{Builder, Machine, Plain, Runner};
 use cm_bits::{Edge, FlagNo, Plane, Proc};
-use cm_draws::{address, ask, flag, processor};
+use cm_draws::{address, ask, flag, processor, tells};
 use cm_element::ZeroFlag;
 use cm_message::Message;
 use cm_model::{Act, Rule};
@@ -19,6 +19,7 @@ const ADDRESSES: u16 = 4096;
 /// A machine and the plain one beside it.
 #[derive(Drop)]
 pub(crate) struct Both<const N: usize, const CAP: usize> {
+    pub(crate) alloc: Global,
     pub(crate) machine: Machine<N, CAP>,
     pub(crate) plain: PlainRouter<N, CAP>,
 }
@@ -29,7 +30,11 @@ impl<const N: usize, const CAP: usize> Both<N, CAP> {
     {
         let machine = Machine::blank(alloc).ok()?;
         let plain = PlainRouter::blank(alloc, ADDRESSES).ok()?;
-        Some(Both { machine, plain })
+        Some(Both {
+            alloc,
+            machine,
+            plain,
+        })
     }
 
     /// Blank ones, of which these wires are cut and whose routers choose by this rule.
@@ -38,7 +43,11 @@ impl<const N: usize, const CAP: usize> Both<N, CAP> {
     {
         let machine = routed_machine(alloc, &cuts, rule)?;
         let plain = routed_plain(alloc, cuts, rule)?;
-        Some(Both { machine, plain })
+        Some(Both {
+            alloc,
+            machine,
+            plain,
+        })
     }
 
     /// Makes the processor from which a message comes ask that it be sent.
@@ -87,7 +96,7 @@ impl<const N: usize, const CAP: usize> Both<N, CAP> {
         for c in 0..chips {
             if !self.agree_in(c)
                 || self.machine.buffer(c) != self.plain.buffer(c)
-                || self.machine.log(c) != self.plain.log(c)
+                || !tells(self.alloc, &self.machine.log(c), self.plain.log(c))
             {
                 return false;
             }

@@ -2,7 +2,9 @@
 
 use cm_array::{BuildFault, Builder, Machine, MachineFault, Part, Plain, Runner};
 use cm_bits::{Edge, FlagNo, NoMemory};
-use cm_draws::{Call, Draws, are_same, first_not_so, poke_plane, put_messages, sends_or_stays};
+use cm_draws::{
+    Call, Draws, are_same, first_not_so, poke_plane, put_messages, sends_or_stays, tells,
+};
 use cm_model::Act;
 use cm_router::{Cuts, Routing};
 use std::alloc::Global;
@@ -17,11 +19,12 @@ enum Grown {
     Copied,
     Part,
     LogsAside,
+    DealtOut,
     Built,
     Run,
 }
 
-static GROWN: [Grown; 9] = [
+static GROWN: [Grown; 10] = [
     Grown::Cuts,
     Grown::CopiedCuts,
     Grown::Routing,
@@ -29,6 +32,7 @@ static GROWN: [Grown; 9] = [
     Grown::Copied,
     Grown::Part,
     Grown::LogsAside,
+    Grown::DealtOut,
     Grown::Built,
     Grown::Run,
 ];
@@ -43,6 +47,7 @@ impl Call for Grown {
             Grown::Copied => has_copy(alloc),
             Grown::Part => has_part(alloc),
             Grown::LogsAside => has_logs_aside(alloc),
+            Grown::DealtOut => is_dealt_out(alloc),
             Grown::Built => Some(is_built(alloc)),
             Grown::Run => sends_or_stays(&mut Plain, alloc),
         }
@@ -134,7 +139,7 @@ fn has_copy(alloc: Global) -> Option<bool> {
 /// Whether a copy is the same. None where memory is wanting.
 fn is_copied(alloc: Global, machine: &Machine<4, 7>) -> Option<bool> {
     let copy = machine.copy(alloc).ok()?;
-    Some(are_same(&copy, machine, 16))
+    Some(are_same(alloc, &copy, machine, 16))
 }
 
 fn has_part(alloc: Global) -> Option<bool> {
@@ -148,11 +153,12 @@ fn has_part(alloc: Global) -> Option<bool> {
 /// Whether a part is the first half. None where memory is wanting.
 fn has_first_half(alloc: Global, machine: &Machine<4, 7>) -> Option<bool> {
     let part = machine.part(alloc, 0, 8, 2).ok()?;
-    Some(is_first_half(&part, machine))
+    Some(is_first_half(alloc, &part, machine))
 }
 
-fn is_first_half(part: &Part, machine: &Machine<4, 7>) -> bool {
-    part.first() == 0 && part.chips() == 8 && part.clock() == 2 && part.log(0) == machine.log(0)
+fn is_first_half(alloc: Global, part: &Part, machine: &Machine<4, 7>) -> bool {
+    let size = part.first() == 0 && part.chips() == 8;
+    size && part.clock() == 2 && tells(alloc, &machine.log(0), part.log(0))
 }
 
 fn has_logs_aside(alloc: Global) -> Option<bool> {
@@ -169,7 +175,35 @@ fn has_set_logs_aside(alloc: Global, machine: &mut Machine<4, 7>, before: &Machi
     if machine.set_logs_aside(alloc, 2).is_ok() {
         return machine.log(0).is_empty() && !before.log(0).is_empty();
     }
-    are_same(machine, before, 16) && machine.set_logs_aside(alloc, 2).is_ok()
+    are_same(alloc, machine, before, 16) && machine.set_logs_aside(alloc, 2).is_ok()
+}
+
+fn is_dealt_out(alloc: Global) -> Option<bool> {
+    let mut machine = busy(alloc)?;
+    deals_out(alloc, &mut machine)
+}
+
+fn deals_out(alloc: Global, machine: &mut Machine<4, 7>) -> Option<bool> {
+    let before = machine.copy(alloc).ok()?;
+    Some(has_dealt_out(alloc, machine, &before))
+}
+
+/// Whether each log lies in one piece, and has what a machine tells whose events were not dealt out.
+fn has_dealt_out(alloc: Global, machine: &mut Machine<4, 7>, before: &Machine<4, 7>) -> bool {
+    let dealt = match machine.deal_out() {
+        Ok(()) => true,
+        Err(NoMemory) => are_same(alloc, machine, before, 16) && machine.deal_out().is_ok(),
+    };
+    dealt && lie_whole(machine) && are_same(alloc, machine, before, 16)
+}
+
+fn lie_whole(machine: &Machine<4, 7>) -> bool {
+    for chip in 0..16 {
+        if machine.log(chip).whole().is_none() {
+            return false;
+        }
+    }
+    true
 }
 
 /// A machine with messages; or else whether want of memory is told.

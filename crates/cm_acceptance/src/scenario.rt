@@ -5,9 +5,9 @@ ghost use Rattle.std.specs.Prelude.{◌≡◌, ◌<◌, ◌≤◌, ◌^◌};
 
 use crate::both::Both;
 use crate::machines::{RECV, SEND, everywhere};
-use cm_array::{Plain, RunFault, Runner};
+use cm_array::{Machine, Plain, RunFault, Runner};
 use cm_bits::{Field, FlagNo, Plane, Proc};
-use cm_draws::flag;
+use cm_draws::{copied, flag};
 use cm_message::{Event, Message, Tag};
 use cm_model::{Act, Found};
 use std::alloc::{AllocError, Global};
@@ -46,6 +46,10 @@ pub(crate) enum Step {
     Turns(u16, u16),
     /// In one list: a petit cycle, flag 0 is turned in every processor, a look at the wire.
     Inverting,
+    /// Events are dealt out: each log lies in one piece then.
+    DealOut,
+    /// A copy takes the machine's place.
+    Copied,
     /// So many petit cycles are too long a list.
     TooMany(usize),
     /// Such turns are too long a list.
@@ -129,6 +133,8 @@ impl Step {
                 let acts = [Act::Cycle, everywhere(flag(0), 0x55), Act::Sense];
                 Ok(go(both, alloc, chips, &acts))
             }
+            Step::DealOut => Ok(deals_out(both, chips)),
+            Step::Copied => Ok(is_copied(both, alloc, chips)),
             Step::TooMany(count) => {
                 let acts = vec![in alloc; Act::Cycle; count]?;
                 Ok(is_long(both, chips, acts.as_slice()))
@@ -218,6 +224,39 @@ fn go<const N: usize, const CAP: usize>(
     both.go(alloc, acts) && both.agree(chips)
 }
 
+/// Whether events are dealt out so that each log lies in one piece, and both are the same then.
+fn deals_out<const N: usize, const CAP: usize>(both: &mut Both<N, CAP>, chips: u16) -> bool
+    requires chips { chips ≡ 2 ^ N }
+{
+    both.machine.deal_out().is_ok() && lie_whole(&both.machine, chips) && both.agree(chips)
+}
+
+fn lie_whole<const N: usize, const CAP: usize>(machine: &Machine<N, CAP>, chips: u16) -> bool
+    requires chips { chips ≡ 2 ^ N }
+{
+    for chip in 0..chips {
+        if machine.log(chip).whole().is_none() {
+            return false;
+        }
+    }
+    true
+}
+
+/// Whether a copy, which takes the machine's place, is the same as the plain one.
+fn is_copied<const N: usize, const CAP: usize>(
+    both: &mut Both<N, CAP>,
+    alloc: Global,
+    chips: u16,
+) -> bool
+    requires chips { chips ≡ 2 ^ N }
+{
+    let Ok(copy) = both.machine.copy(alloc) else {
+        return false;
+    };
+    both.machine = copy;
+    both.agree(chips)
+}
+
 /// Whether the machine refuses these acts as too many, and is as it was: as the plain one is.
 fn is_long<const N: usize, const CAP: usize>(
     both: &mut Both<N, CAP>,
@@ -267,7 +306,10 @@ fn tells<const N: usize, const CAP: usize>(
 ) -> bool
     requires chip { chip < 2 ^ N }
 {
-    match both.machine.log(chip).get(place) {
+    let Some(events) = copied(both.alloc, &both.machine.log(chip)) else {
+        return false;
+    };
+    match events.get(place) {
         Some(Event::Injected(message)) => !delivered && letter.is(message),
         Some(
             Event::Delivered {

@@ -2,8 +2,8 @@
 
 use crate::machines::{ACK, RECV, SEND};
 use crate::scenario::Step::{
-    Ask, Came, Count, Counter, Cycles, Delivered, Events, Flag, Injected, Inverting, Payload, Poke,
-    Stands, TooLong, TooMany, Turns, Unknown, Waits,
+    Ask, Came, Copied, Count, Counter, Cycles, DealOut, Delivered, Events, Flag, Injected,
+    Inverting, Payload, Poke, Stands, TooLong, TooMany, Turns, Unknown, Waits,
 };
 use crate::scenario::{At, Letter, Scenario, To};
 
@@ -288,7 +288,50 @@ pub(crate) static OF_TWO_CHIPS: [Scenario; 8] = [
 ];
 
 /// Four chips.
-pub(crate) static OF_FOUR_CHIPS: [Scenario; 6] = [
+pub(crate) static OF_FOUR_CHIPS: [Scenario; 7] = [
+    Scenario {
+        name: "chips tell the same before their events are dealt out, and then, and after a copy",
+        room: 7,
+        steps: &[
+            Ask(At(0, 0), To(3, 9), 1),
+            Cycles(1),
+            Events(0, 1),
+            Events(3, 1),
+            Ask(At(3, 1), To(3, 2), 2),
+            Ask(At(1, 4), To(0, 5), 3),
+            Cycles(1),
+            Events(0, 2),
+            Delivered(0, 1, Letter(At(3, 1), 1, To(0, 2), 2)),
+            Came(At(3, 1), 1, At(0, 2)),
+            DealOut,
+            Events(0, 2),
+            Events(1, 2),
+            Events(2, 0),
+            Events(3, 2),
+            Injected(0, 0, Letter(At(0, 0), 0, To(3, 9), 1)),
+            Delivered(0, 1, Letter(At(3, 1), 1, To(0, 2), 2)),
+            Injected(1, 0, Letter(At(1, 4), 1, To(0, 5), 3)),
+            Delivered(1, 1, Letter(At(1, 4), 1, To(0, 5), 3)),
+            Delivered(3, 0, Letter(At(0, 0), 0, To(0, 9), 1)),
+            Injected(3, 1, Letter(At(3, 1), 1, To(3, 2), 2)),
+            Ask(At(0, 2), To(1, 7), 4),
+            Cycles(2),
+            Copied,
+            Events(0, 3),
+            Injected(0, 2, Letter(At(0, 2), 2, To(1, 7), 4)),
+            Delivered(1, 2, Letter(At(0, 2), 2, To(0, 7), 4)),
+            Came(At(0, 0), 0, At(3, 9)),
+            Came(At(0, 2), 2, At(1, 7)),
+            Ask(At(2, 0), To(2, 0), 5),
+            Cycles(1),
+            DealOut,
+            Events(2, 1),
+            Events(0, 4),
+            Delivered(0, 3, Letter(At(2, 0), 4, To(0, 0), 5)),
+            DealOut,
+            Counter(5),
+        ],
+    },
     Scenario {
         name: "a message wanders for ever where there is room for one",
         room: 1,

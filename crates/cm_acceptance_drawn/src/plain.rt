@@ -85,7 +85,9 @@ impl<'a, const N: usize, const CAP: usize> Debugger<'a, N, CAP> {
         requires cube { chips ≡ 2 ^ N }
         requires chip { chip < chips }
     {
-        match self.machine.log(chip).last() {
+        let mut events = Vec::new(*self.breaks.allocator());
+        self.machine.log(chip).push_onto(&mut events).ok()?;
+        match events.last() {
             Some(Event::Injected(message) | Event::Delivered { message, .. }) => Some(message.tag),
             None => Some(self.machine.buffer(chip).first()?.tag),
         }
@@ -290,9 +292,13 @@ impl<'a, const N: usize, const CAP: usize> Debugger<'a, N, CAP> {
     fn events(&mut self, c: u64, chips: u16) -> Result<(), Undone>
         requires cube { chips ≡ 2 ^ N }
     {
-        let events = self.machine.log(chip_number(c, chips)?);
-        self.told.line("events", &[events.len() as u64])?;
-        for event in events {
+        let log = self.machine.log(chip_number(c, chips)?);
+        let mut events = Vec::new(*self.breaks.allocator());
+        let Ok(()) = log.push_onto(&mut events) else {
+            return Err(Undone::Memory);
+        };
+        self.told.line("events", &[log.len() as u64])?;
+        for event in &events {
             match event {
                 Event::Injected(message) => self.told.message("in", message)?,
                 Event::Delivered { message, .. } => self.told.message("out", message)?,

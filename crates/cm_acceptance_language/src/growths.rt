@@ -167,7 +167,7 @@ fn adds_up(alloc: Global) -> Option<bool> {
     match trial.go(&program) {
         Ok(()) => Some(trial.has_sum()),
         Err(fault) => {
-            let is_kept = fault == RunFault::Memory && are_same(&trial.machine, &before, 1);
+            let is_kept = fault == RunFault::Memory && are_same(alloc, &trial.machine, &before, 1);
             Some(is_kept && trial.go(&program).is_ok() && trial.has_sum())
         }
     }

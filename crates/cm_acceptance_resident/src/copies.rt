@@ -26,13 +26,15 @@ fn ask_all<const N: usize, const CAP: usize>(machine: &mut Machine<N, CAP>, chip
     }
 }
 
-/// A machine whose processors all did, two petit cycles later.
+/// A machine whose processors all did, two petit cycles later; the events of the first are dealt out.
 fn busy<const N: usize, const CAP: usize>(alloc: Global, chips: u16) -> Option<Machine<N, CAP>>
     requires chips { chips ≡ 2 ^ N }
 {
     let mut machine = Machine::<N, CAP>::blank(alloc).ok()?;
     ask_all(&mut machine, chips);
-    Plain.go(&mut machine, &[Act::Cycle, Act::Cycle]).ok()?;
+    Plain.go(&mut machine, &[Act::Cycle]).ok()?;
+    machine.deal_out().ok()?;
+    Plain.go(&mut machine, &[Act::Cycle]).ok()?;
     Some(machine)
 }
 
@@ -60,7 +62,7 @@ fn comes_back_into<const N: usize, const CAP: usize>(
 {
     Plain.go(other, &[Act::Cycle]).ok()?;
     copy_by_blocks(alloc, machine, k, other).ok()?;
-    Some(has_events(machine, chips) && are_same(machine, other, chips))
+    Some(has_events(machine, chips) && are_same(alloc, machine, other, chips))
 }
 
 /// Whether it does into one that was busy otherwise.

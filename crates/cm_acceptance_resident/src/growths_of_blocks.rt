@@ -74,11 +74,11 @@ fn comes_back_into(
     let is_right = match copy_by_blocks(alloc, machine, 2, other) {
         Ok(()) => true,
         Err(fault) => {
-            let is_kept = fault == SplitFault::Memory && are_same(other, blank, 16);
+            let is_kept = fault == SplitFault::Memory && are_same(alloc, other, blank, 16);
             is_kept && copy_by_blocks(alloc, machine, 2, other).is_ok()
         }
     };
-    is_right && are_same(other, machine, 16)
+    is_right && are_same(alloc, other, machine, 16)
 }
 
 /// Whether it does into a blank one, like this.

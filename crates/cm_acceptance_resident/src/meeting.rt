@@ -206,7 +206,7 @@ fn meet<R: Threads + Wait + Sync>(
     let mut machine = Machine::<4, 7>::blank(alloc)?;
     let share = Share { k: 2, workers };
     let ran = run_by(rt, alloc, kind, share, passage, &mut machine, acts, 16);
-    Ok(ran == Some((None, true)) && has_one_of_four(&machine))
+    Ok(ran == Some((None, true)) && has_one_of_four(alloc, &machine))
 }
 
 /// What all noted, and whether the machine is as one thread leaves it.

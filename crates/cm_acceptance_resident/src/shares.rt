@@ -169,7 +169,7 @@ fn sent_in<R: Threads + Wait + Sync>(
     requires threads { IsSync R.row }
 {
     let alike = runs_as_plain(rt, alloc, kind, share, machine, acts, 16)?;
-    Some((alike, has_one_of_four(machine)))
+    Some((alike, has_one_of_four(alloc, machine)))
 }
 
 /// The same of the program of messages, in a blank machine.

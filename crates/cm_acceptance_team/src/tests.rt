@@ -53,7 +53,8 @@ fn sent<R: Threads + Wait + Sync>(
     let acts = four_messages_each(alloc).ok()?;
     let wanted = by_one_thread(alloc, &acts)?;
     let machine = by_team(rt, alloc, &acts, k, workers)?;
-    Some((are_same(&machine, &wanted, 16), has_one_of_four(&machine)))
+    let same = are_same(alloc, &machine, &wanted, 16);
+    Some((same, has_one_of_four(alloc, &machine)))
 }
 
 #[test]

@@ -56,7 +56,7 @@ fn is_made_or_comes_back(alloc: Global) -> Option<bool> {
 
 fn comes_back(alloc: Global, refused: Refused<4, 7>, machine: &Machine<4, 7>) -> bool {
     refused.fault == WorldFault::Memory
-        && are_same(&refused.machine, machine, 16)
+        && are_same(alloc, &refused.machine, machine, 16)
         && World::new(alloc, refused.machine, &[Act::Cycle], 1).is_ok()
 }
 

@@ -38,7 +38,10 @@ fn refused(
     let copy = machine.copy(alloc).ok()?;
     match World::new(alloc, copy, acts, k) {
         Ok(_) => Some((None, true)),
-        Err(back) => Some((Some(back.fault), are_same(&back.machine, machine, 16))),
+        Err(back) => {
+            let same = are_same(alloc, &back.machine, machine, 16);
+            Some((Some(back.fault), same))
+        }
     }
 }
 

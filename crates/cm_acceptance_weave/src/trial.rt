@@ -66,10 +66,11 @@ impl<const N: usize, const CAP: usize> Trial<N, CAP> {
         if !self.finish() {
             return false;
         }
+        let alloc = *self.left.allocator();
         let Some(left) = self.left.first_mut() else {
             return false;
         };
-        let same = are_same(left, machine, chips);
+        let same = are_same(alloc, left, machine, chips);
         mem::swap(left, machine);
         same
     }

@@ -2,8 +2,8 @@
 use Rattle.std.proofs.Common.{◌≡◌, ℕ, zero, suc, ◌+◌, ◌*◌, ◌<◌, ◌≤◌, ◌^◌, Bool, true, false, cond, List, [], ◌∷◌, ◌++◌, length}
 use Rattle.std.proofs.Common.{map, refl, sym, ap, ◌∙◌, subst, arith, ⊎_elim, min, ◌-◌, mul_comm, get_or, set, ◌≢◌}
 use Rattle.std.proofs.Math.Nat.{mul-add}
-use Rattle.std.proofs.lemmas.Bool.{cases_Bool, cases_eq}
-use Rattle.std.proofs.lemmas.List.{append_assoc, append-nil, length-append, length-map, length-take, get_or-map}
+use Rattle.std.proofs.lemmas.Bool.{cases_Bool, cases_eq, cases_lt}
+use Rattle.std.proofs.lemmas.List.{append_assoc, append-nil, length-append, length-map, length-take, get_or-map, get_or_past}
 use Rattle.std.proofs.lemmas.List.Elements.{All-nil}
 use Rattle.std.proofs.lemmas.List.Sums.{sum_by-append, sum_by-cons}
 use Rattle.std.specs.List.{All, count_by, sum_by, filter_map, range_with_len}
@@ -33,6 +33,8 @@ use Rattle.cm_model.proofs.Runs.{run_of-acted}
 use Rattle.cm_model.proofs.Unlogged.{tags_counted, BornBefore-buffers, born_at, none_injected}
 use Rattle.cm_array.specs.Acts.{is_cycle, cycles_in}
 use Rattle.cm_router.specs.Logs.{Log, log_room, log_rooms_of}
+use Rattle.cm_router.specs.Rows.{told_by, with_row}
+use Rattle.cm_router.proofs.Telling.{length-with_row, with_row_at}
 use Rattle.cm_petit.specs.Routers.{events_of}
 use Rattle.cm_array.specs.Behind.{unlogged, behind, TakeIn}
 use Rattle.cm_array.proofs.Laying.{log_left, log_here}
@@ -297,6 +299,35 @@ all_behind logs (x ∷ rest) more long there each =
     (length-map logs (λ (y : Log). y.items) ∙ long)
     (λ i h. items_at logs i x (omega (arith, h, long)) ∙ each i x x h
     ∙ (λ j. sym (items_at was i x h) j ++ sym (items_at more i x (omega (arith, h, there))) j))
+
+-- where they take in what a machine tells, they take in what of it is dealt out
+pub take_in_dealt : (rooms : List ℕ) (logs : List (List Event)) (row : List Event) → TakeIn rooms (with_row logs row)
+    → TakeIn rooms logs
+take_in_dealt rooms logs row takes c l =
+    ⊎_elim
+    (λ (here : c < length logs). omega (
+      arith,
+      takes c l,
+      ap length (with_row_at logs row c here),
+      length-append (list_at logs c) (told_by c row),
+    ))
+    (λ (past : length logs ≤ c). omega (arith, ap length (get_or_past logs c [] past)))
+    (cases_lt c (length logs))
+
+-- what a row tells stands behind earlier events as it stood behind the later ones
+pub row_behind : (n : ℕ) (earlier logs now : List (List Event)) (row : List Event) → length logs ≡ 2 ^ n
+    → now ≡ each_from 0 (2 ^ n) (λ c. list_at earlier c ++ list_at logs c)
+    → with_row now row ≡ each_from 0 (2 ^ n) (λ c. list_at earlier c ++ list_at (with_row logs row) c)
+row_behind n earlier logs now row long is =
+    let both : ℕ → List Event = λ c. list_at earlier c ++ list_at logs c in
+    let many : length now ≡ 2 ^ n = ap length is ∙ length-each_from 0 (2 ^ n) both in
+    is_each [] (2 ^ n) (λ c. list_at earlier c ++ list_at (with_row logs row) c) (with_row now row)
+    (length-with_row now row ∙ many)
+    (λ c l. with_row_at now row c (omega (arith, l, many))
+    ∙ ap (λ z. z ++ told_by c row)
+    (ap (λ lists. list_at lists c) is ∙ get_or-each_below (2 ^ n) both c [] l)
+    ∙ append_assoc (list_at earlier c) (list_at logs c) (told_by c row)
+    ∙ ap (λ z. list_at earlier c ++ z) (sym (with_row_at logs row c (omega (arith, l, long)))))
 
 -- the logs of a machine that were set aside, with its own behind them
 pub logs_behind : (n : ℕ) (was more now first second : List Log) → length was ≡ 2 ^ n → first ≡ was → second ≡ more

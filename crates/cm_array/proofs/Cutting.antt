@@ -40,7 +40,7 @@ events_of-cut first count logs =
 pub record AreCut (first count : ℕ) (old new : Parts) : Type 0 where
   pub run : new.run ≡ cut first count old.run
   pub buffers : new.crossing.buffers ≡ cut first count old.crossing.buffers
-  pub logs : events_of new.logs.items ≡ cut first count (events_of old.logs.items)
+  pub logs : events_of new.logs.items ≡ cut first count (machine_of old).logs
   pub sent : length new.sent.items ≡ count
   pub incoming : length new.incoming.items ≡ count
   pub clock : new.clock ≡ old.clock
@@ -60,7 +60,7 @@ module _ (n cap first count : ℕ) (old new : Parts) (were : AreParts n cap old)
   length-logs_cut =
       sym (length-map new.logs.items (λ (log : Log). log.items))
       ∙ ap (λ (logs : List (List Event)). length logs) are.logs
-      ∙ length-cut first count (events_of old.logs.items) (omega (arith, there, were.machine.log_count))
+      ∙ length-cut first count (machine_of old).logs (omega (arith, there, were.machine.log_count))
 
   within_cut : All (λ ms. length ms ≤ cap) new.crossing.buffers
   within_cut =

@@ -1,4 +1,5 @@
 mod Lists
+mod Dealing
 mod Banding
 mod Wholes
 mod Searching

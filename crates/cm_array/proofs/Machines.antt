@@ -12,6 +12,7 @@ use Rattle.cm_model.specs.declared.act.Act.{Act}
 use Rattle.cm_model.specs.declared.act.Act.TheVariants as act
 use Rattle.cm_model.specs.declared.act.Nano.{Nano}
 use Rattle.cm_model.specs.declared.message.Message.{Message}
+use Rattle.cm_model.specs.declared.message.Event.{Event}
 use Rattle.cm_model.specs.Processor.{Processor}
 use Rattle.cm_model.specs.Whole.{IsChip}
 use Rattle.cm_model.specs.Wiring.{plain_routing}
@@ -21,7 +22,7 @@ use Rattle.cm_model.specs.Chip.{blank_chip, with_flag}
 use Rattle.cm_model.specs.Machine.{Machine, blank_machine, run_of}
 use Rattle.cm_model.specs.Buffers.{after_act}
 use Rattle.cm_model.specs.Account.{account, all_injected}
-use Rattle.cm_model.specs.Keeping.{AreSizes, IsMachine}
+use Rattle.cm_model.specs.Keeping.{AreSizes, HasTagsOnce, IsMachine}
 use Rattle.cm_model.proofs.Blanks.{IsMachine-blank_at}
 use Rattle.cm_model.proofs.Keeping.{IsMachine-after_act, IsMachine-run_of}
 use Rattle.cm_model.proofs.Runs.{run_of-nil, run_of-cons}
@@ -29,7 +30,9 @@ use Rattle.cm_crossing.specs.Standing.{UnderWay}
 use Rattle.cm_router.specs.declared.routing.Routing.{Routing}
 use Rattle.cm_router.specs.Routes.{routing_of}
 use Rattle.cm_router.specs.Logs.{Log}
-use Rattle.cm_petit.specs.Routers.{events_of, AreRouters}
+use Rattle.cm_router.specs.Rows.{with_row}
+use Rattle.cm_router.proofs.Telling.{length-with_row, with_row-nil}
+use Rattle.cm_petit.specs.Routers.{events_of, HaveBuffers}
 use Rattle.cm_array.specs.declared.parts.Parts.{Parts}
 use Rattle.cm_array.specs.Acts.{cycles_in, is_instruction}
 use Rattle.cm_array.specs.Parts.{machine_of, AreSized, AreParts, AreUnderWay}
@@ -57,6 +60,27 @@ IsMachine-with_chips n cap machine chips long whole h = record {
   injected = h.injected;
 }
 
+-- with other logs, and another row, that tell the same
+pub machine_of-told : (parts : Parts) (logs : Vec Log) (row : Log)
+    → with_row (events_of logs.items) row.items ≡ with_row (events_of parts.logs.items) parts.row.items
+    → machine_of (record parts { logs = logs; row = row }) ≡ machine_of parts
+machine_of-told parts logs row same = λ i. record {
+  chips = parts.run;
+  buffers = parts.crossing.buffers;
+  logs = same i;
+  clock = parts.clock;
+  routing = routing_of parts.routing;
+}
+
+pub AreParts-told : (n cap : ℕ) (parts : Parts) (logs : Vec Log) (row : Log)
+    → with_row (events_of logs.items) row.items ≡ with_row (events_of parts.logs.items) parts.row.items
+    → AreParts n cap parts → AreParts n cap (record parts { logs = logs; row = row })
+AreParts-told n cap parts logs row same h = record {
+  sized = h.sized;
+  gathered = h.gathered;
+  machine = subst (λ (m : Machine). IsMachine n cap m) (sym (machine_of-told parts logs row same)) h.machine;
+}
+
 -- the parts of a machine between two lists of acts are so between two acts
 pub AreUnderWay-parts : (n cap : ℕ) (parts : Parts) → AreParts n cap parts → AreUnderWay n cap parts
 AreUnderWay-parts n cap parts h = record {
@@ -71,7 +95,7 @@ machine_of-gathered parts crossing same =
     λ i. record {
       chips = parts.run;
       buffers = same i;
-      logs = events_of parts.logs.items;
+      logs = (machine_of parts).logs;
       clock = parts.clock;
       routing = routing_of parts.routing;
     }
@@ -162,15 +186,19 @@ looked n cap machine (act.Cycle ∷ acts) long none still =
 
 -- one log for each chip
 pub length-logs : (n cap : ℕ) (parts : Parts) → AreUnderWay n cap parts → length parts.logs.items ≡ 2 ^ n
-length-logs n cap parts h = sym (length-map parts.logs.items (λ (log : Log). log.items)) ∙ h.machine.log_count
+length-logs n cap parts h =
+    sym (length-map parts.logs.items (λ (log : Log). log.items))
+    ∙ sym (length-with_row (events_of parts.logs.items) parts.row.items) ∙ h.machine.log_count
 
--- they are the routers of a cube
-pub AreRouters-parts : (n cap : ℕ) (parts : Parts) → AreUnderWay n cap parts
-    → AreRouters (2 ^ n) cap parts.run parts.crossing.buffers parts.logs.items
-AreRouters-parts n cap parts h = record {
+pub length-events : (n cap : ℕ) (parts : Parts) → AreUnderWay n cap parts → length (events_of parts.logs.items) ≡ 2 ^ n
+length-events n cap parts h = length-map parts.logs.items (λ (log : Log). log.items) ∙ length-logs n cap parts h
+
+-- and the buffers of a cube
+pub HaveBuffers-parts : (n cap : ℕ) (parts : Parts) → AreUnderWay n cap parts
+    → HaveBuffers (2 ^ n) cap parts.run parts.crossing.buffers
+HaveBuffers-parts n cap parts h = record {
   chip_count = h.machine.chip_count;
   buffer_count = h.machine.buffer_count;
-  log_count = length-logs n cap parts h;
   within = All-from_get_or (λ (ms : List Message). length ms ≤ cap) parts.crossing.buffers []
       (λ c l. h.machine.room c (omega (arith, h.machine.buffer_count)));
 }
@@ -188,14 +216,14 @@ pub few_chips : (n : ℕ) → n ≤ 12 → 2 ^ n ≤ 4096
 few_chips n small = let most : 2 ^ n ≤ 2 ^ 12 = pow-le-pow_right (omega arith) small in omega (arith, most)
 
 -- its messages and logs, as they were read, are those of the machine
-pub AreOf-parts : (n cap : ℕ) (parts : Parts) (machine : Machine) (buffers : List (List Message)) (logs : List Log)
-    → AreParts n cap parts → machine_of parts ≡ machine
-    → buffers ≡ parts.crossing.buffers → logs ≡ parts.logs.items → AreOf n machine buffers logs
-AreOf-parts n cap parts machine buffers logs h view same_buffers same_logs = record {
-  buffers = same_buffers ∙ ap (λ (m : Machine). m.buffers) view;
-  events = ap events_of same_logs ∙ ap (λ (m : Machine). m.logs) view;
-  buffer_count = ap length same_buffers ∙ h.machine.buffer_count;
-  log_count = ap length same_logs ∙ length-logs n cap parts (AreUnderWay-parts n cap parts h);
+pub AreOf-parts : (n cap : ℕ) (parts : Parts) (machine : Machine) → AreParts n cap parts → machine_of parts ≡ machine
+    → AreOf n machine parts.crossing.buffers parts.logs.items parts.row.items
+AreOf-parts n cap parts machine h view = record {
+  buffers = ap (λ (m : Machine). m.buffers) view;
+  events = ap (λ (m : Machine). m.logs) view;
+  buffer_count = h.machine.buffer_count;
+  log_count = length-logs n cap parts (AreUnderWay-parts n cap parts h);
+  once = subst (λ (m : Machine). HasTagsOnce n m) view h.machine.tags;
 }
 
 -- ---- blank parts
@@ -203,14 +231,16 @@ AreOf-parts n cap parts machine buffers logs h view same_buffers same_logs = rec
 -- blank parts are the blank machine, at whatever count of petit cycles
 pub machine_of-blank : (n count : ℕ) (parts : Parts) → count ≡ 2 ^ n → parts.run ≡ each_from 0 count (λ c. blank_chip)
     → parts.crossing.buffers ≡ each_from 0 count (λ c. []) → events_of parts.logs.items ≡ each_from 0 count (λ c. [])
-    → routing_of parts.routing ≡ plain_routing → machine_of parts ≡ record (blank_machine n) { clock = parts.clock }
+    → parts.row.items ≡ [] → routing_of parts.routing ≡ plain_routing → machine_of parts ≡ record (blank_machine n) { clock = parts.clock }
 unfolding blank_machine
-machine_of-blank n count parts all chips buffers logs plain =
+machine_of-blank n count parts all chips buffers logs row plain =
     let all_chips : parts.run ≡ each_from 0 (2 ^ n) (λ c. blank_chip) = chips
     ∙ ap (λ (k : ℕ). each_from 0 k (λ c. blank_chip)) all in
     let all_buffers : parts.crossing.buffers ≡ each_from 0 (2 ^ n) (λ c. []) = buffers
     ∙ ap (λ (k : ℕ). each_from 0 k (λ c. [])) all in
-    let all_logs : events_of parts.logs.items ≡ each_from 0 (2 ^ n) (λ c. []) = logs
+    let events : List (List Event) = events_of parts.logs.items in
+    let all_logs : with_row events parts.row.items ≡ each_from 0 (2 ^ n) (λ c. []) =
+    ap (with_row events) row ∙ with_row-nil events ∙ logs
     ∙ ap (λ (k : ℕ). each_from 0 k (λ c. [])) all in
     λ i. record {
       chips = all_chips i;
@@ -224,9 +254,9 @@ machine_of-blank n count parts all chips buffers logs plain =
 pub AreParts-blank : (n cap count : ℕ) (parts : Parts) → AreSizes n cap → count ≡ 2 ^ n
     → parts.run ≡ each_from 0 count (λ c. blank_chip)
     → parts.crossing.buffers ≡ each_from 0 count (λ c. []) → events_of parts.logs.items ≡ each_from 0 count (λ c. [])
-    → length parts.sent.items ≡ count → length parts.incoming.items ≡ count → IsTrue parts.crossing.gathered
+    → parts.row.items ≡ [] → length parts.sent.items ≡ count → length parts.incoming.items ≡ count → IsTrue parts.crossing.gathered
     → parts.clock < 2 ^ 63 → parts.routing.cuts.dims ≡ n → routing_of parts.routing ≡ plain_routing → AreParts n cap parts
-AreParts-blank n cap count parts sizes all chips buffers logs same_sent same_incoming gathered clock cube plain = record {
+AreParts-blank n cap count parts sizes all chips buffers logs row same_sent same_incoming gathered clock cube plain = record {
   sized = record {
     sizes = sizes;
     sent_count = same_sent ∙ all;
@@ -236,7 +266,7 @@ AreParts-blank n cap count parts sizes all chips buffers logs same_sent same_inc
   };
   gathered = gathered;
   machine = subst (λ (m : Machine). IsMachine n cap m)
-      (sym (machine_of-blank n count parts all chips buffers logs plain)) (IsMachine-blank_at n cap parts.clock);
+      (sym (machine_of-blank n count parts all chips buffers logs row plain)) (IsMachine-blank_at n cap parts.clock);
 }
 
 -- the blank machine counts from 0
@@ -269,9 +299,10 @@ AreParts-poked_flag (Err y) n cap parts run i p number b below refused ok err h 
 -- a copy of the parts of a machine, with working room of its own, are the parts of a machine
 pub AreParts-copied : (n cap count : ℕ) (parts copy : Parts) → AreParts n cap parts → count ≡ length parts.run
     → copy.run ≡ parts.run → copy.crossing ≡ parts.crossing → events_of copy.logs.items ≡ events_of parts.logs.items
+    → copy.row.items ≡ parts.row.items
     → copy.clock ≡ parts.clock → length copy.sent.items ≡ count → length copy.incoming.items ≡ count
     → copy.routing ≡ parts.routing → AreParts n cap copy
-AreParts-copied n cap count parts copy h counted chips crossing logs clock sent incoming routing =
+AreParts-copied n cap count parts copy h counted chips crossing logs row clock sent incoming routing =
     let all : count ≡ 2 ^ n = counted ∙ h.machine.chip_count in
     record {
       sized = record {
@@ -286,7 +317,7 @@ AreParts-copied n cap count parts copy h counted chips crossing logs clock sent 
           (λ i. record {
             chips = sym chips i;
             buffers = (sym crossing i).buffers;
-            logs = sym logs i;
+            logs = with_row (sym logs i) (sym row i);
             clock = sym clock i;
             routing = routing_of (sym routing i);
           })

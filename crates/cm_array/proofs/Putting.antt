@@ -16,6 +16,8 @@ use Rattle.cm_blocks.specs.Parts.{Part}
 use Rattle.cm_crossing.specs.Standing.{UnderWay}
 use Rattle.cm_router.specs.Routes.{routing_of}
 use Rattle.cm_router.specs.Logs.{Log}
+use Rattle.cm_router.specs.Rows.{with_row}
+use Rattle.cm_router.proofs.Telling.{with_row-nil}
 use Rattle.cm_petit.specs.Routers.{events_of}
 use Rattle.cm_array.specs.declared.parts.Parts.{Parts}
 use Rattle.cm_array.specs.Parts.{machine_of, AreParts}
@@ -102,6 +104,7 @@ pub record ArePut (n : ℕ) (pieces : List Part) (j at : ℕ) (now : Parts) : Ty
   pub chips : IsPut (λ s. s.chips) pieces j at now.run
   pub buffers : IsPut (λ s. s.buffers) pieces j at now.crossing.buffers
   pub logs : IsPut (λ s. s.logs) pieces j at (events_of now.logs.items)
+  pub row : now.row.items ≡ []
   pub empty : (c : ℕ) → at ≤ c → list_at now.crossing.buffers c ≡ []
   pub chip_count : length now.run ≡ 2 ^ n
   pub buffer_count : length now.crossing.buffers ≡ 2 ^ n
@@ -130,8 +133,9 @@ module _ (n cap : ℕ) (pieces : List Part) (j at : ℕ) (now : Parts) (crossing
       buffers = (same
           ∙ all_put (λ (s : Part). s.buffers) pieces j at now.crossing.buffers all
           (were.buffer_count ∙ sym is.buffer_count) were.buffers) i;
-      logs = all_put (λ (s : Part). s.logs) pieces j at (events_of now.logs.items) all
-          (length-map now.logs.items (λ (log : Log). log.items) ∙ were.log_count ∙ sym is.log_count) were.logs i;
+      logs = (ap (with_row (events_of now.logs.items)) were.row ∙ with_row-nil (events_of now.logs.items)
+          ∙ all_put (λ (s : Part). s.logs) pieces j at (events_of now.logs.items) all
+          (length-map now.logs.items (λ (log : Log). log.items) ∙ were.log_count ∙ sym is.log_count) were.logs) i;
       clock = were.clock some i;
       routing = were.routing some i;
     }

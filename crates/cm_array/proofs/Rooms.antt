@@ -1,19 +1,21 @@
 -- How many events more each log takes, and how many petit cycles are among acts.
 use Rattle.std.proofs.Common.{◌≡◌, ◌≢◌, ℕ, ◌+◌, ◌*◌, ◌<◌, ◌≤◌, Result, Ok, Err, OnErr, List, [], ◌∷◌, ◌++◌, length}
-use Rattle.std.proofs.Common.{get_or, set, take, cond, min, ◌-◌, ◌^◌, slice_index, sym, subst, ◌∙◌, ap, arith}
+use Rattle.std.proofs.Common.{get_or, set, take, cond, min, ◌-◌, ◌/◌, ◌^◌, slice_index, sym, subst, ◌∙◌, ap, arith}
+use Rattle.std.proofs.Common.{mul_comm, mul_assoc}
 use Rattle.std.proofs.lemmas.Bool.Decides.{nat_tests}
 use Rattle.std.proofs.Common.{below_more}
-use Rattle.std.proofs.lemmas.List.{length-map, get_or-map, take_more}
+use Rattle.std.proofs.lemmas.List.{length-map, get_or-map, length-replicate, get_or-replicate, take_more}
+use Rattle.std.proofs.lemmas.Nat.{div_below}
 use Rattle.std.proofs.lemmas.List.Sums.{sum_by-append, sum_by-take-le}
 use Rattle.std.proofs.Math.Nat.{mul-le-mul_right}
 use Rattle.std.proofs.Math.Seq.{map-set_same}
 use Rattle.std.specs.Prelude.{vec_len, vec_capacity}
 use Rattle.cm_model.specs.declared.act.Act.{Act}
-use Rattle.cm_router.specs.Logs.{Log, log_room, log_rooms_of, HaveLogRoom, LoseAtMost}
-use Rattle.cm_router.proofs.Rooms.{room_at, room_written, room_of_others, lost_again, room_left, less_room}
+use Rattle.cm_router.specs.Logs.{Log, log_room, log_rooms_of, HaveLogRoom}
+use Rattle.cm_router.proofs.Rooms.{room_at, room_written, room_of_others}
 use Rattle.cm_petit.specs.Routers.{events_of}
 use Rattle.cm_array.specs.Acts.{is_cycle, cycles_in}
-use Rattle.cm_array.specs.Parts.{LacksLogRoom}
+use Rattle.cm_array.specs.Parts.{LacksLogRoom, shares}
 
 -- a log with the same events in its place
 pub events_of-set : (logs : List Log) (c : ℕ) (was now : Log) → now.items ≡ (get_or logs c was).items
@@ -62,20 +64,34 @@ pub on_err : {A E P : Type 0} (result : Result A E) → P → OnErr result P
 on_err (Ok x) p = tt
 on_err (Err e) p = p
 
--- ---- room for a run of acts
+-- ---- room in a row for a run of acts
 
 -- of the room that all acts need, so much is left for the next one
-pub HaveLogRoom-left : (all done one k : ℕ) (before now : List ℕ) → done + one ≤ all → HaveLogRoom (all * k) before
-    → LoseAtMost (done * k) before now → HaveLogRoom (one * k) now
-HaveLogRoom-left all done one k before now fits room lost =
-    room_left (done * k) (one * k) ((done + one) * k) before now (omega arith)
-    (less_room ((done + one) * k) (all * k) before (mul-le-mul_right k fits) room) lost
+pub room_for_next : (all done one most before now : ℕ) → done + one ≤ all → all * most ≤ before
+    → before ≤ now + done * most → one * most ≤ now
+room_for_next all done one most before now fits room lost =
+    omega (arith, mul-le-mul_right most fits, room, lost)
 
 -- what is lost adds up
-pub LoseAtMost-more : (done one k : ℕ) (first second third : List ℕ) → LoseAtMost (done * k) first second
-    → LoseAtMost (one * k) second third → LoseAtMost ((done + one) * k) first third
-LoseAtMost-more done one k first second third was is =
-    lost_again (done * k) (one * k) ((done + one) * k) first second third (omega arith) was is
+pub more_lost : (done one most first second third : ℕ) → first ≤ second + done * most → second ≤ third + one * most
+    → first ≤ third + (done + one) * most
+more_lost done one most first second third was is = omega (arith, was, is)
+
+-- a row that takes fewer than all chips may tell has too little room for some chip's share
+pub share_lacks : (chips cycles most room : ℕ) → 0 < chips → room < cycles * (chips * most)
+    → LacksLogRoom (cycles * most) (shares chips room)
+share_lacks chips cycles most room some few = record {
+  chip = 0;
+  is_chip = omega (arith, some, length-replicate chips (room / chips));
+  few =
+      let same : cycles * (chips * most) ≡ cycles * most * chips =
+      ap (λ (k : ℕ). cycles * k) (mul_comm chips most) ∙ sym (mul_assoc cycles most chips) in
+      omega (
+        arith,
+        get_or-replicate chips 0 (room / chips) 0 some,
+        div_below room chips (cycles * most) some (omega (arith, few, same)),
+      );
+}
 
 -- ---- petit cycles among acts
 

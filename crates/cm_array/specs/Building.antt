@@ -27,6 +27,7 @@ abbrev pub parts_built : {n cap : ℕ} → Inside n cap → Parts
 parts_built builder = record {
   run = builder.run;
   logs = builder.logs;
+  row = builder.row;
   clock = builder.clock;
   sent = builder.sent;
   incoming = builder.incoming;

@@ -9,3 +9,5 @@ pub mod Tags
 pub mod PokeLaws
 pub mod Behind
 pub mod Rooms
+pub mod Rows
+pub mod Finding

@@ -1,27 +1,37 @@
--- A machine as it is kept: chips, messages and logs by number, a counter, and working room by number. Ours.
-use Rattle.std.specs.Prelude.{◌≡◌, ℕ, ◌<◌, ◌^◌, IsTrue, List, length, slice_index}
+-- A machine as it is kept: chips, messages and logs by number, a row of what is told, a counter, and working room by
+-- number. Ours.
+use Rattle.std.specs.Prelude.{◌≡◌, ℕ, ◌/◌, ◌<◌, ◌^◌, IsTrue, List, length, replicate, slice_index}
 use Rattle.cm_model.specs.Machine.{Machine}
 use Rattle.cm_model.specs.Keeping.{AreSizes, IsMachine}
 use Rattle.cm_router.specs.Routes.{routing_of}
-use Rattle.cm_router.specs.Logs.{log_rooms_of}
-use Rattle.cm_petit.specs.Routers.{machine_of as machine_from}
+use Rattle.cm_router.specs.Logs.{log_room}
+use Rattle.cm_router.specs.Rows.{with_row}
+use Rattle.cm_petit.specs.Routers.{events_of, machine_from}
 use Rattle.cm_array.specs.declared.parts.Parts.{Parts}
 
--- the machine that the parts are
+-- the machine that the parts are: behind what is dealt out to its log a chip has told what the row tells of it
 abbrev pub machine_of : Parts → Machine
 machine_of parts =
-    machine_from (routing_of parts.routing) parts.run parts.crossing.buffers parts.logs.items parts.clock
+    machine_from (routing_of parts.routing) parts.run parts.crossing.buffers
+    (with_row (events_of parts.logs.items) parts.row.items) parts.clock
 
--- a machine, and by chip how many events more its log takes before it has to grow
+-- by chip, its share of so many events that a row takes
+abbrev pub shares : ℕ → ℕ → List ℕ
+shares chips room = replicate chips (room / chips)
+
+-- a machine, and by chip its share of how many events more the row takes before it has to grow
 pub record Kept : Type 0 where
   pub machine : Machine
   pub log_rooms : List ℕ
 
 -- what contracts see of the parts
 abbrev pub kept_of : Parts → Kept
-kept_of parts = record { machine = machine_of parts; log_rooms = log_rooms_of parts.logs.items }
+kept_of parts = record {
+  machine = machine_of parts;
+  log_rooms = shares (length parts.logs.items) (log_room parts.row);
+}
 
--- some chip's log has to grow to take so many events more
+-- some chip's log, or its share of a row, has to grow to take so many events more
 pub record LacksLogRoom (count : ℕ) (log_rooms : List ℕ) : Type 0 where
   pub chip : ℕ
   pub is_chip : chip < length log_rooms

@@ -51,6 +51,7 @@ impl From<NoMemory> for BuildFault {
 pub struct Builder<const N: usize, const CAP: usize> {
     run: NearRun,
     logs: Vec<Vec<Event>>,
+    row: Vec<Event>,
     clock: u64,
     sent: Vec<Plane>,
     incoming: Vec<Plane>,
@@ -86,6 +87,7 @@ impl<const N: usize, const CAP: usize> Builder<N, CAP> {
         Ok(Builder {
             run: near,
             logs: parts.logs,
+            row: parts.row,
             clock: parts.clock,
             sent: parts.sent,
             incoming: parts.incoming,
@@ -178,6 +180,7 @@ impl<const N: usize, const CAP: usize> Builder<N, CAP> {
         let mut parts = Parts {
             run: self.run.into_run(),
             logs: self.logs,
+            row: self.row,
             clock: self.clock,
             sent: self.sent,
             incoming: self.incoming,

@@ -1,10 +1,12 @@
 //! Where the message of a tag is.
 
-ghost use Rattle.std.specs.Prelude.{◌≡◌, IsTrue, length, slice_get};
-ghost use Rattle.std.specs.List.{find, filter_map, flat_map, list_any, range_with_len};
+ghost use Rattle.std.specs.Prelude.{◌≡◌, ℕ, ◌<◌, IfSome, IsTrue, None, length};
+ghost use Rattle.std.specs.List.{All, find, list_any, range_with_len};
 ghost use Rattle.cm_model.specs.Array.{list_at};
 ghost use Rattle.cm_model.specs.Found.{same_tag, delivery_place};
+ghost use Rattle.cm_router.specs.Rows.{teller};
 ghost use Rattle.cm_petit.specs.Routers.{events_of};
+ghost use Rattle.cm_array.specs.Finding.{TellOf, TellNone, IsToldIn};
 
 use cm_bits::Place;
 use cm_crossing::Crossing;
@@ -31,11 +33,10 @@ fn has_tag(messages: &[Message], tag: &Tag) -> bool
     messages.iter().any(|message| are_same(&message.tag, tag))
 }
 
-/// The first place to which a message of the tag was delivered.
+/// The first place to which a log tells that a message of the tag was delivered.
 pub(crate) fn delivered_to(logs: &[Vec<Event>], tag: &Tag) -> Option<Place>
-    ensures value { result ≡ slice_get
-        (flat_map (λ c. filter_map (delivery_place tag.now) (list_at (events_of logs.now) c))
-        (range_with_len 0 (length logs.now))) 0 }
+    ensures some { IfSome result (λ place. IsToldIn tag.now place (events_of logs.now)) }
+    ensures none { result ≡ None → (c : ℕ) → c < length logs.now → TellNone tag.now (list_at (events_of logs.now) c) }
 {
     for c in 0..logs.len() {
         if let Some(place) = delivered_in(&logs[c], tag) {
@@ -46,11 +47,28 @@ pub(crate) fn delivered_to(logs: &[Vec<Event>], tag: &Tag) -> Option<Place>
 }
 
 fn delivered_in(log: &[Event], tag: &Tag) -> Option<Place>
-    ensures value { result ≡ slice_get (filter_map (delivery_place tag.now) log.now) 0 }
+    ensures some { IfSome result (λ place. TellOf tag.now place log.now) }
+    ensures none { result ≡ None → TellNone tag.now log.now }
 {
     for event in log {
         if let Some(place) = delivery_place(event, tag) {
             return Some(place);
+        }
+    }
+    None
+}
+
+/// A place among so many chips to which a row tells that a message of the tag was delivered.
+pub(crate) fn told_in(row: &[Event], chips: usize, tag: &Tag) -> Option<Place>
+    ensures some { IfSome result (λ place. TellOf tag.now place row.now) }
+    ensures within { IfSome result (λ place. place.chip < chips) }
+    ensures none { result ≡ None → All (λ event. teller event < chips → delivery_place tag.now event ≡ None) row.now }
+{
+    for event in row {
+        if let Some(place) = delivery_place(event, tag) {
+            if usize::from(place.chip) < chips {
+                return Some(place);
+            }
         }
     }
     None

@@ -1,7 +1,8 @@
 //! A machine of 2^N chips.
 
 ghost use Rattle.std.specs.Prelude.{◌≡◌, ◌+◌, ◌*◌, ◌^◌, ◌<◌, ◌≤◌, ◌↔◌, ℕ, IfOk, IfSome, IsErr, IsErrOf, IsOk};
-ghost use Rattle.std.specs.Prelude.{IsOkUnless, IsTrue, OnOk, OnErr, None, false, length, map, slice_index};
+ghost use Rattle.std.specs.Prelude.{IsOkUnless, IsTrue, OnOk, OnErr, None, [], false, length, map, slice_index};
+ghost use Rattle.std.specs.List.{All};
 ghost use Rattle.cm_model.specs.Processor.{ZERO, memory_bit};
 ghost use Rattle.cm_model.specs.Chip.{IsPlane, processor_at};
 ghost use Rattle.cm_model.specs.Array.{chip_at, wire, list_at};
@@ -22,13 +23,15 @@ ghost use Rattle.cm_array.specs.Rooms.{IsRoomFor};
 ghost use Rattle.cm_array.specs.Pokes.{machine_with_memory_bit, machine_with_flag};
 
 use crate::earlier::{Earlier, InTurn, PutBehind};
-use crate::finding::{delivered_to, router_of};
+use crate::finding::{delivered_to, router_of, told_in};
+use crate::log_view::Log;
 use crate::part::{Part, lay_all_buffers, lay_chips};
 use crate::parts::{
-    Parts, blank_logs, blank_planes, copied_logs, lay_logs, pass_time, reserve, run,
+    Parts, blank_logs, blank_planes, copied_logs, make_room, pass_time, reserve, run,
 };
 use crate::put::{IntoPart, keep, put_one};
 use crate::room::Room;
+use crate::row::{deal_out, has_events, lay_told};
 use cm_bits::{Addr, FlagNo, NoMemory, Plane, Proc};
 use cm_crossing::{Crossing, Sizes};
 use cm_element::{ChipView, Run, ZeroFlag};
@@ -71,9 +74,12 @@ impl From<NoMemory> for MachineFault {
 
 /// A machine of 2^`N` chips, whose routers have room for `CAP` messages each.
 ///
-/// Contracts see its chips by number, the buffer and the log of each, and the count of its petit
-/// cycles; beside these, how many events more each log takes before it has to grow. No tag stands
-/// twice in its account, and each message whose injection a log tells of stands there once.
+/// It tells the events of all chips into one row, in the order in which they come; they are dealt out to the
+/// logs of their chips when somebody looks (`deal_out`), or when logs are set aside.
+///
+/// Contracts see its chips by number, the buffer and the log of each, wherever its events lie, and the count of its
+/// petit cycles; beside these, by chip its share of how many events more the row takes before it has to grow. No tag
+/// stands twice in its account, and each message whose injection a log tells of stands there once.
 #[derive(Debug, Drop)]
 pub struct Machine<const N: usize, const CAP: usize> {
     parts: Parts,
@@ -115,6 +121,7 @@ impl<const N: usize, const CAP: usize> Machine<N, CAP> {
         let count = Self::chip_count();
         let run = Run::blank(alloc, count as u16)?;
         let logs = blank_logs(alloc, count)?;
+        let row = Vec::new(alloc);
         let sent = blank_planes(alloc, count)?;
         let incoming = blank_planes(alloc, count)?;
         let crossing = Crossing::new(alloc, count)?;
@@ -123,6 +130,7 @@ impl<const N: usize, const CAP: usize> Machine<N, CAP> {
             parts: Parts {
                 run,
                 logs,
+                row,
                 clock,
                 sent,
                 incoming,
@@ -155,6 +163,7 @@ impl<const N: usize, const CAP: usize> Machine<N, CAP> {
         let count = self.parts.run.chips();
         let run = self.parts.run.copy(alloc)?;
         let logs = copied_logs(alloc, &self.parts.logs)?;
+        let row = self.parts.row.to_vec(alloc)?;
         let sent = blank_planes(alloc, count)?;
         let incoming = blank_planes(alloc, count)?;
         let crossing = self.parts.crossing.copy(alloc)?;
@@ -163,6 +172,7 @@ impl<const N: usize, const CAP: usize> Machine<N, CAP> {
             parts: Parts {
                 run,
                 logs,
+                row,
                 clock: self.parts.clock,
                 sent,
                 incoming,
@@ -234,10 +244,11 @@ impl<const N: usize, const CAP: usize> Machine<N, CAP> {
             mut crossing,
         } = room;
         lay_chips(&mut run, &parts.run, first, count);
-        lay_logs(&mut logs, &parts.logs[at..at + chips])?;
+        lay_told(&mut logs, first, &parts.logs[at..at + chips], &parts.row)?;
         let more = cycles.saturating_mul(MOST_INJECTED + CAP);
         reserve(&mut logs, more)?;
         lay_all_buffers(&mut crossing, &parts.crossing, at, chips);
+        let row = Vec::new(*parts.row.allocator());
         let routing = parts.routing.copy()?;
         Ok(Part {
             sizes,
@@ -245,6 +256,7 @@ impl<const N: usize, const CAP: usize> Machine<N, CAP> {
             parts: Parts {
                 run,
                 logs,
+                row,
                 clock: parts.clock,
                 sent,
                 incoming,
@@ -270,6 +282,7 @@ impl<const N: usize, const CAP: usize> Machine<N, CAP> {
     {
         let parts = &mut self.parts;
         parts.crossing.clear();
+        parts.row.clear();
         let mut at = 0;
         for piece in pieces {
             let mut part = piece.into_part();
@@ -287,6 +300,7 @@ impl<const N: usize, const CAP: usize> Machine<N, CAP> {
         ensures err { OnErr result (self.new.machine ≡ self.old.machine) }
     {
         let parts = &mut self.parts;
+        deal_out(&mut parts.logs, &mut parts.row)?;
         let none = blank_logs(alloc, parts.run.chips())?;
         reserve(&mut parts.logs, cycles.saturating_mul(MOST_INJECTED + CAP))?;
         Ok(Earlier {
@@ -377,12 +391,28 @@ impl<const N: usize, const CAP: usize> Machine<N, CAP> {
     }
 
     /// A chip's events since the machine was made, the oldest first; a copy has those of its original.
-    pub fn log(&self, chip: u16) -> &[Event]
+    pub fn log(&self, chip: u16) -> Log<'_>
         requires chip { chip < 2 ^ N }
-        ensures value { result.now ≡ list_at self.now.machine.logs chip }
+        ensures value { result ≡ list_at self.now.machine.logs chip }
         ensures whole { IsMachine N CAP self.now.machine }
     {
-        &self.parts.logs[usize::from(chip)]
+        Log::of(chip, &self.parts.logs[usize::from(chip)], &self.parts.row)
+    }
+
+    /// Deals events that lie in one row out to the logs of their chips, as far as memory is not refused. Who looks at logs
+    /// and has them dealt out before finds each whole (`Log::whole`).
+    pub fn deal_out(&mut self) -> Result<(), NoMemory>
+        ensures machine { self.new.machine ≡ self.old.machine }
+    {
+        let parts = &mut self.parts;
+        deal_out(&mut parts.logs, &mut parts.row)
+    }
+
+    /// Whether some chip has told an event.
+    pub fn has_events(&self) -> bool
+        ensures none { result ≡ false → All (λ log. log ≡ []) self.now.machine.logs }
+    {
+        !self.parts.row.is_empty() || has_events(&self.parts.logs)
     }
 
     /// The dimensions of its cube.
@@ -438,7 +468,10 @@ impl<const N: usize, const CAP: usize> Machine<N, CAP> {
         if let Some(chip) = router_of(&self.parts.crossing, &tag) {
             return Found::Router(chip);
         }
-        match delivered_to(&self.parts.logs, &tag) {
+        if let Some(place) = delivered_to(&self.parts.logs, &tag) {
+            return Found::Delivered(place.chip, place.proc);
+        }
+        match told_in(&self.parts.row, self.parts.logs.len(), &tag) {
             Some(place) => Found::Delivered(place.chip, place.proc),
             None => Found::Unknown,
         }
@@ -510,7 +543,8 @@ impl<const N: usize, const CAP: usize> Machine<N, CAP> {
         let parts = &mut self.parts;
         let sizes = Self::sizes();
         if !pass_time(sizes, parts, acts, cycles) {
-            reserve(&mut parts.logs, cycles * (MOST_INJECTED + CAP))?;
+            let most = Self::chip_count() * (MOST_INJECTED + CAP);
+            make_room(&mut parts.row, cycles * most)?;
             run(sizes, parts, acts);
         }
         Ok(())

@@ -7,7 +7,7 @@ ghost use Rattle.std.specs.Prelude.{length, vec_len, vec_capacity};
 ghost use Rattle.cm_model.specs.Each.{each_from};
 ghost use Rattle.cm_model.specs.Machine.{run_of};
 ghost use Rattle.cm_model.specs.Buffers.{after_act};
-ghost use Rattle.cm_router.specs.Logs.{log_rooms_of, HaveLogRoom, LoseAtMost};
+ghost use Rattle.cm_router.specs.Logs.{log_room, log_rooms_of, HaveLogRoom};
 ghost use Rattle.cm_petit.specs.Routers.{events_of};
 ghost use Rattle.cm_array.specs.Acts.{cycles_in, is_instruction};
 ghost use Rattle.cm_array.specs.Parts.{machine_of, AreParts, AreUnderWay, LacksLogRoom};
@@ -18,7 +18,7 @@ use cm_crossing::{Crossing, Sizes};
 use cm_element::Run;
 use cm_message::Event;
 use cm_model::Act;
-use cm_petit::{cycle, is_at_rest};
+use cm_petit::{cycle_into_row, is_at_rest};
 use cm_router::Routing;
 use std::alloc::Global;
 
@@ -28,8 +28,10 @@ use std::alloc::Global;
 pub(crate) struct Parts {
     /// The chips, by number.
     pub(crate) run: Run,
-    /// By chip, its events since the machine was made.
+    /// By chip, its events since the machine was made, as far as they are dealt out.
     pub(crate) logs: Vec<Vec<Event>>,
+    /// The events of all chips, in the order in which they were told, that are not dealt out to the logs; of a part none.
+    pub(crate) row: Vec<Event>,
     /// Petit cycles so far.
     pub(crate) clock: u64,
     /// By chip, what it sends over the grid or its chain.
@@ -46,7 +48,7 @@ pub(crate) struct Parts {
 pub(crate) fn run(sizes: Sizes, parts: &mut Parts, acts: &[Act])
     requires parts { AreParts sizes.dims sizes.room parts.old }
     requires clock { parts.old.clock + cycles_in acts.now < 2 ^ 63 }
-    requires log_room { HaveLogRoom (cycles_in acts.now * (4 + sizes.room)) (log_rooms_of parts.old.logs.items) }
+    requires log_room { cycles_in acts.now * (2 ^ sizes.dims * (4 + sizes.room)) ≤ log_room parts.old.row }
     ensures value { machine_of parts.new ≡ run_of sizes.dims sizes.room (machine_of parts.old) acts.now }
     ensures parts { AreParts sizes.dims sizes.room parts.new }
 {
@@ -59,13 +61,12 @@ pub(crate) fn run(sizes: Sizes, parts: &mut Parts, acts: &[Act])
 fn run_one(sizes: Sizes, parts: &mut Parts, act: &Act)
     requires parts { AreUnderWay sizes.dims sizes.room parts.old }
     requires clock { parts.old.clock + cycles_in (act.now ∷ []) < 2 ^ 63 }
-    requires log_room { HaveLogRoom (cycles_in (act.now ∷ []) * (4 + sizes.room))
-        (log_rooms_of parts.old.logs.items) }
+    requires log_room { cycles_in (act.now ∷ []) * (2 ^ sizes.dims * (4 + sizes.room)) ≤ log_room parts.old.row }
     ensures value { machine_of parts.new ≡ after_act sizes.dims sizes.room (machine_of parts.old) act.now }
     ensures parts { AreUnderWay sizes.dims sizes.room parts.new }
     ensures clock { parts.new.clock ≡ parts.old.clock + cycles_in (act.now ∷ []) }
-    ensures log_room { LoseAtMost (cycles_in (act.now ∷ []) * (4 + sizes.room))
-        (log_rooms_of parts.old.logs.items) (log_rooms_of parts.new.logs.items) }
+    ensures log_room { log_room parts.old.row
+        ≤ log_room parts.new.row + cycles_in (act.now ∷ []) * (2 ^ sizes.dims * (4 + sizes.room)) }
 {
     match act {
         Act::Nano(nano) => step(
@@ -76,12 +77,12 @@ fn run_one(sizes: Sizes, parts: &mut Parts, act: &Act)
             &mut parts.incoming,
         ),
         Act::Sense => {}
-        Act::Cycle => cycle(
+        Act::Cycle => cycle_into_row(
             sizes,
             &parts.routing,
             &mut parts.run,
             &mut parts.crossing,
-            &mut parts.logs,
+            &mut parts.row,
             &mut parts.clock,
         ),
     }
@@ -141,10 +142,10 @@ pub(crate) fn reserve(logs: &mut [Vec<Event>], more: usize) -> Result<(), NoMemo
     Ok(())
 }
 
-/// Makes room in a log for so many events more. A log that has to grow gets twice its room at least, and
+/// Makes room in a log, or in a row, for so many events more. One that has to grow gets twice its room at least, and
 /// twice of what is wanted, so that the lists of acts that follow find room: memory that was reserved and not
 /// written yet costs nothing. Only the events that it holds are moved, not all that it had room for.
-fn make_room(log: &mut Vec<Event>, more: usize) -> Result<(), NoMemory>
+pub(crate) fn make_room(log: &mut Vec<Event>, more: usize) -> Result<(), NoMemory>
     ensures items { log.new.items ≡ log.old.items }
     ensures len { vec_len log.new ≡ vec_len log.old }
     ensures ok { OnOk result (vec_len log.new + more ≤ vec_capacity log.new) }

@@ -55,6 +55,7 @@ pub(crate) fn put_one(parts: &mut Parts, at: usize, piece: &mut Part) -> usize
     ensures cube { parts.new.routing.cuts.dims ≡ parts.old.routing.cuts.dims }
     ensures sent { length parts.new.sent.items ≡ length parts.old.sent.items }
     ensures incoming { length parts.new.incoming.items ≡ length parts.old.incoming.items }
+    ensures row { parts.new.row ≡ parts.old.row }
 {
     let from = &mut piece.parts;
     let count = from.run.chips();

@@ -40,6 +40,7 @@ impl Room {
         let Parts {
             run,
             logs,
+            row: _,
             clock: _,
             sent,
             incoming,

@@ -1,5 +1,5 @@
 -- How a session ends for some text, whatever its source tells: each end is that of the bytes that came.
-use Rattle.std.proofs.Common.{◌≡◌, ℕ, ◌+◌, ◌-◌, ◌<◌, ◌≤◌, min, List, [], ◌∷◌, ◌++◌, length, take, Option, Some, Ok, Err}
+use Rattle.std.proofs.Common.{◌≡◌, ℕ, ◌-◌, ◌<◌, ◌≤◌, min, List, [], ◌∷◌, ◌++◌, length, take, Option, Some, Ok, Err}
 use Rattle.std.proofs.Common.{refl, sym, append-nil}
 use Rattle.cm_model.specs.declared.act.Act.{Act}
 use Rattle.cm_model.specs.Machine.{Machine}

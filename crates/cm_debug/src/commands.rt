@@ -19,8 +19,8 @@ use crate::answers::{push_bit, push_buffer, push_found, push_log, push_number, p
 use crate::desk::{Desk, Stops};
 use crate::running::run_on;
 use crate::want::Want;
-use cm_array::{Machine, Runner};
-use cm_bits::{Addr, Field, FlagNo, Place};
+use cm_array::{Log, Machine, Runner};
+use cm_bits::{Addr, Field, FlagNo, NoMemory, Place};
 use cm_model::{Act, Found, Tag};
 use cm_session::Command;
 use std::alloc::AllocError;
@@ -105,7 +105,7 @@ pub fn obey<const N: usize, const CAP: usize, R: Runner<N, CAP>>(
             Ok(())
         }
         Command::Events(chip) => {
-            push_log(text, machine.log(chip))?;
+            push_events(text, machine, chip)?;
             Ok(())
         }
         Command::Rule => {
@@ -172,6 +172,36 @@ fn push_flag<const N: usize, const CAP: usize>(
         b"flag",
         machine.chip(place.chip).flag(place.proc, number),
     )
+}
+
+/// Deals a machine's events out, and tells those of a chip. Where memory is wanting for that, they are told from a copy.
+fn push_events<const N: usize, const CAP: usize>(
+    text: &mut Vec<u8>,
+    machine: &mut Machine<N, CAP>,
+    chip: u16,
+) -> Result<(), AllocError>
+    requires chip { chip < 2 ^ N }
+    ensures ok { OnOk result (text.new.items
+        ≡ text.old.items ++ log_lines (list_at machine.old.machine.logs chip)) }
+    ensures machine { machine.new.machine ≡ machine.old.machine }
+{
+    let _ = machine.deal_out();
+    let log = machine.log(chip);
+    match log.whole() {
+        Some(events) => push_log(text, events),
+        None => push_copied(text, &log),
+    }
+}
+
+/// Tells events from a copy.
+fn push_copied(text: &mut Vec<u8>, log: &Log<'_>) -> Result<(), AllocError>
+    ensures ok { OnOk result (text.new.items ≡ text.old.items ++ log_lines log.now) }
+{
+    let mut events = Vec::new(*text.allocator());
+    match log.push_onto(&mut events) {
+        Ok(()) => push_log(text, &events),
+        Err(NoMemory) => Err(AllocError),
+    }
 }
 
 /// Puts a bit into a flag that is not flag 8.

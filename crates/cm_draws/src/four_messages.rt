@@ -2,6 +2,7 @@
 
 ghost use Rattle.std.specs.Prelude.{◌<◌};
 
+use crate::looking::tells;
 use crate::numbers::{address, processor};
 use cm_array::{Builder, Machine};
 use cm_bits::{Dir, Edge, FlagNo};
@@ -98,7 +99,7 @@ pub fn cut_in_two_places(alloc: Global, rule: Rule) -> Option<Machine<4, 7>> {
 }
 
 /// Whether after them chip 15 has sent four, got one and has three more for its processor 5.
-pub fn has_one_of_four(machine: &Machine<4, 7>) -> bool {
+pub fn has_one_of_four(alloc: Global, machine: &Machine<4, 7>) -> bool {
     let waiting = [
         one_of_four(0, 0, 3),
         one_of_four(0, 0, 0),
@@ -115,6 +116,6 @@ pub fn has_one_of_four(machine: &Machine<4, 7>) -> bool {
         },
     ];
     machine.buffer(15) == waiting.as_slice()
-        && machine.log(15) == events.as_slice()
+        && tells(alloc, &machine.log(15), events.as_slice())
         && machine.find(tag(0, 2)) == Found::Delivered(15, processor(5))
 }

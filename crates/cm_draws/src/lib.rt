@@ -18,8 +18,8 @@ pub use drawing::Draws;
 pub use four_messages::{cut_in_two_places, four_messages_each, has_one_of_four, one_of_four};
 pub use growths::{Call, first_not_so};
 pub use looking::{
-    are_same, has_full_buffer, have_same_bits, have_same_events, have_same_messages,
-    have_same_routing, route_alike,
+    are_same, copied, has_full_buffer, have_same_bits, have_same_events, have_same_messages,
+    have_same_routing, route_alike, tells,
 };
 pub use numbers::{address, flag, processor};
 pub use routes::{

@@ -3,11 +3,14 @@
 ghost use Rattle.std.specs.Prelude.{◌≡◌, ◌<◌, ◌^◌};
 
 use crate::numbers::{address, flag};
-use cm_array::Machine;
+use cm_array::{Log, Machine};
+use cm_message::Event;
 use cm_router::Routing;
+use std::alloc::Global;
 
 /// Whether two machines of so many chips read the same everywhere.
 pub fn are_same<const N: usize, const CAP: usize>(
+    alloc: Global,
     left: &Machine<N, CAP>,
     right: &Machine<N, CAP>,
     chips: u16,
@@ -16,7 +19,7 @@ pub fn are_same<const N: usize, const CAP: usize>(
 {
     have_same_bits(left, right, chips)
         && have_same_messages(left, right, chips)
-        && have_same_events(left, right, chips)
+        && have_same_events(alloc, left, right, chips)
         && have_same_routing(left, right)
 }
 
@@ -75,6 +78,7 @@ pub fn have_same_messages<const N: usize, const CAP: usize>(
 
 /// Whether they tell of the same events.
 pub fn have_same_events<const N: usize, const CAP: usize>(
+    alloc: Global,
     left: &Machine<N, CAP>,
     right: &Machine<N, CAP>,
     chips: u16,
@@ -82,11 +86,47 @@ pub fn have_same_events<const N: usize, const CAP: usize>(
     requires cube { chips ≡ 2 ^ N }
 {
     for chip in 0..chips {
-        if left.log(chip) != right.log(chip) {
+        if !tell_the_same(alloc, &left.log(chip), &right.log(chip)) {
             return false;
         }
     }
     true
+}
+
+fn tell_the_same(alloc: Global, left: &Log<'_>, right: &Log<'_>) -> bool {
+    match right.whole() {
+        Some(events) => tells(alloc, left, events),
+        None => match copied(alloc, right) {
+            Some(events) => tells(alloc, left, &events),
+            None => false,
+        },
+    }
+}
+
+/// Whether a log tells these events, as many as it says. Where it does not lie in one piece, its copy is compared.
+pub fn tells(alloc: Global, log: &Log<'_>, events: &[Event]) -> bool {
+    let same = match log.whole() {
+        Some(whole) => whole == events,
+        None => match copied(alloc, log) {
+            Some(copy) => copy.as_slice() == events,
+            None => false,
+        },
+    };
+    same && log.len() == events.len() && log.is_empty() == events.is_empty()
+}
+
+/// A copy of the events of a log. Where a growth is refused, it is made again.
+pub fn copied(alloc: Global, log: &Log<'_>) -> Option<Vec<Event>> {
+    match copied_once(alloc, log) {
+        None => copied_once(alloc, log),
+        events => events,
+    }
+}
+
+fn copied_once(alloc: Global, log: &Log<'_>) -> Option<Vec<Event>> {
+    let mut events = Vec::new(alloc);
+    log.push_onto(&mut events).ok()?;
+    Some(events)
 }
 
 /// Whether a buffer of a machine is full.

@@ -21,12 +21,14 @@ pub fn run_beside_plain<const N: usize, const CAP: usize, X: Runner<N, CAP>>(
     requires runner { X.ready }
 {
     let mut wanted = machine.copy(alloc).ok()?;
-    run_both(runner, machine, &mut wanted, acts, chips)
+    run_both(runner, alloc, machine, &mut wanted, acts, chips)
 }
 
-/// The same, beside a machine of the same state.
+/// The same, beside a machine of the same state. Events are dealt out before many chips are compared, where memory is not
+/// wanting.
 fn run_both<const N: usize, const CAP: usize, X: Runner<N, CAP>>(
     runner: &mut X,
+    alloc: Global,
     machine: &mut Machine<N, CAP>,
     wanted: &mut Machine<N, CAP>,
     acts: &[Act],
@@ -39,7 +41,8 @@ fn run_both<const N: usize, const CAP: usize, X: Runner<N, CAP>>(
     if refused.is_none() {
         Plain.go(wanted, acts).ok()?;
     }
-    Some((refused, are_same(machine, wanted, chips)))
+    let _ = (machine.deal_out(), wanted.deal_out());
+    Some((refused, are_same(alloc, machine, wanted, chips)))
 }
 
 /// Whether a runner takes a blank machine of sixteen chips through the program of four messages of each; or else leaves it as
@@ -70,5 +73,5 @@ fn goes_or_stays<X: Runner<4, 7>>(
         }
         Some(_) => None,
     };
-    Some(went == Some((None, true)) && has_one_of_four(machine))
+    Some(went == Some((None, true)) && has_one_of_four(alloc, machine))
 }

@@ -14,7 +14,7 @@ use Rattle.cm_model.proofs.Each.{is_each}
 use Rattle.cm_model.proofs.Runs.{run_of-nil}
 use Rattle.cm_model.proofs.Keeping.{IsMachine-run_of}
 use Rattle.cm_blocks.specs.Parts.{Part, block}
-use Rattle.cm_blocks.specs.Rounds.{rounds, before_round}
+use Rattle.cm_blocks.specs.Rounds.{rounds}
 use Rattle.cm_blocks.proofs.Rounding.{rounds_end_the_run}
 use Rattle.cm_array.specs.Cuts.{joined, AreWhole}
 use Rattle.cm_subcube.specs.Blocks.{KeptBlock}
@@ -26,7 +26,6 @@ use Rattle.cm_workers.specs.Runs.{AreAfter}
 use Rattle.cm_resident.specs.declared.worker.Worker.{Worker}
 use Rattle.cm_resident.specs.declared.running.Ready.{Ready}
 use Rattle.cm_resident.specs.Lanes.{Run, before, rounds_in}
-use Rattle.cm_resident.specs.Standing.{number}
 use Rattle.cm_resident.specs.Teams.{IsOfTeam, IsTeam, HasWorked, HaveWorked}
 use Rattle.cm_resident.specs.Laws.{TeamsLeaveTheirMachine}
 

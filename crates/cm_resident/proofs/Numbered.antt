@@ -1,8 +1,8 @@
 -- Things that are so by their number: all of them, and those from one on.
-use Rattle.std.proofs.Common.{◌≡◌, ℕ, ◌+◌, ◌<◌, ◌≤◌, ⊎_elim, List, [], ◌∷◌, ◌++◌, length, get_or, drop}
+use Rattle.std.proofs.Common.{◌≡◌, ℕ, ◌+◌, ◌<◌, ◌≤◌, ⊎_elim, List, [], ◌∷◌, ◌++◌, get_or, drop}
 use Rattle.std.proofs.Common.{ap, sym, subst, ◌∙◌, arith}
 use Rattle.std.proofs.lemmas.Bool.{cases_lt}
-use Rattle.std.proofs.lemmas.List.{length-append, length-drop, get_or_append_left, get_or_push, get_or-drop, get_or_default}
+use Rattle.std.proofs.lemmas.List.{length-append, length-drop, get_or_append_left, get_or_push, get_or-drop}
 use Rattle.cm_resident.specs.Gathering.{AreAll, AreFrom}
 
 module _ {X : Type 0} (Is : ℕ → X → Type 0) where

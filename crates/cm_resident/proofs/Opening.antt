@@ -1,10 +1,8 @@
 -- Ends of lanes, as they are opened place by place and handed over, and as blocks get them.
-use Rattle.std.proofs.Common.{◌≡◌, ℕ, zero, suc, ◌+◌, ◌-◌, ◌*◌, ◌/◌, ◌%◌, ◌<◌, ◌≤◌, ◌^◌, List, [], ◌∷◌, ◌++◌, length, take, drop}
-use Rattle.std.proofs.Common.{get_or, Vec, IsFalse, false, Bool, ap, sym, subst, ◌∙◌, arith}
+use Rattle.std.proofs.Common.{◌≡◌, ℕ, zero, suc, ◌+◌, ◌-◌, ◌*◌, ◌/◌, ◌<◌, ◌≤◌, ◌^◌, List, [], ◌∷◌, ◌++◌, length, take, drop}
+use Rattle.std.proofs.Common.{Vec, IsFalse, ap, subst, ◌∙◌, arith}
 use Rattle.std.specs.declared.alloc.Global.{Global}
-use Rattle.std.specs.Prelude.{bit_xor}
 use Rattle.std.proofs.Math.Nat.{mod-lt}
-use Rattle.std.proofs.Math.Pow.{pow_mono}
 use Rattle.std.proofs.lemmas.Bool.Decides.{nat_tests}
 use Rattle.std.proofs.lemmas.List.{take-append-le, take_all}
 use Rattle.std.proofs.lemmas.Nat.{xor_lt, pow_below, pow_pos, mul-le}
@@ -20,7 +18,7 @@ use Rattle.cm_workers.specs.Dealing.{hand}
 use Rattle.cm_workers.specs.Posts.{giver, AreHandedOver, CanBeOver}
 use Rattle.cm_resident.specs.Lanes.{Run, kind_at, ends_each, course, own, givers}
 use Rattle.cm_resident.specs.Gathering.{AreAll, AreFrom, AreFirsts}
-use Rattle.cm_resident.specs.Teams.{IsEnd, AreAtPlace, AreByPlace, HasEnds}
+use Rattle.cm_resident.specs.Teams.{IsEnd, AreByPlace, HasEnds}
 use Rattle.cm_resident.proofs.Numbered.{from_first, rest_are}
 
 -- ---- how many rounds a list has at most

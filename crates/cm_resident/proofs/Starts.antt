@@ -1,12 +1,11 @@
 -- Each step of a start word keeps its rule.
-use Rattle.std.proofs.Common.{◌≡◌, ◌≢◌, ℕ, zero, suc, ◌≤◌, eqb, Bool, true, false, List, [], ◌∷◌, ◌++◌, get_or, set}
-use Rattle.std.proofs.Common.{sym, refl, ap, ◌∙◌, subst, inr, ⊎_elim, arith, eq-eqb}
+use Rattle.std.proofs.Common.{◌≡◌, ℕ, zero, suc, ◌≤◌, eqb, Bool, true, false, [], ◌∷◌, ◌++◌, get_or, set}
+use Rattle.std.proofs.Common.{sym, refl, ap, subst, inr, ⊎_elim, arith}
 use mathlib.Core.Option.{some, some-injective, some-ne-none}
 use lib.ListN.{get_elem?}
 use prog.Atomic.{either}
 use Rattle.atomic_table.specs.Table.{State, Me, keeps, Allows, Splits}
 use Rattle.cm_resident.specs.declared.start.Sight.{Sight}
-use Rattle.cm_resident.specs.declared.start.Place.TheVariants.{Alone, Starts, Waits}
 use Rattle.cm_resident.specs.Starting.{alone, starter, waiter, starting, standing, Kept, looked, told}
 
 -- a seat has a view

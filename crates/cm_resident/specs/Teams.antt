@@ -1,5 +1,5 @@
 -- Workers of a team. Ours.
-use Rattle.std.specs.Prelude.{◌≡◌, ◌↔◌, ℕ, ◌+◌, ◌^◌, ◌<◌, List, Some, length, get_or, slice_get, Vec}
+use Rattle.std.specs.Prelude.{◌≡◌, ◌↔◌, ℕ, ◌^◌, ◌<◌, List, Some, length, get_or, slice_get, Vec}
 use Rattle.std.specs.declared.alloc.Global.{Global}
 use Rattle.cm_model.specs.declared.act.Act.{Act}
 use Rattle.cm_blocks.specs.Parts.{block}

@@ -11,7 +11,6 @@ ghost use Rattle.cm_array.specs.Faults.{is_no_thread, one_more_lacked};
 ghost use Rattle.cm_workers.specs.Forks.{fork_fault, most_blocks, most_workers, of_want};
 
 use crate::gathering::{in_order, room_for};
-use crate::lanes::power_of_two;
 use crate::running::{line_up, work_all};
 use crate::teams::team_in;
 use crate::together::Together;
@@ -201,21 +200,12 @@ fn run<const N: usize, const CAP: usize, R: Threads + Wait + Sync>(
     if is_soon_done(passage, machine, acts, workers, rounds.len(), cycles) {
         return run_alone(machine, acts);
     }
-    if matches!(passage, Passage::Open) && has_events(machine) {
+    // Where no event was told there is none to copy, and what the blocks tell becomes the machine's logs.
+    if matches!(passage, Passage::Open) && machine.has_events() {
         share_out_without_logs(rt, alloc, k, workers, passage, machine, acts, cycles, used)
     } else {
         share_out(rt, alloc, k, workers, passage, machine, acts, used)
     }
-}
-
-/// Whether a machine has told any event. Where it has none there is none to copy, and what its blocks tell becomes its logs.
-fn has_events<const N: usize, const CAP: usize>(machine: &Machine<N, CAP>) -> bool {
-    for chip in 0..power_of_two(machine.dims()) {
-        if !machine.log(chip).is_empty() {
-            return true;
-        }
-    }
-    false
 }
 
 /// A machine goes through a run in the thread of the caller.

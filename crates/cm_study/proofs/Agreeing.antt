@@ -1,10 +1,10 @@
 -- The numbers of a petit cycle, and the lines of the account.
 use Rattle.std.proofs.Common.{◌≡◌, ℕ, suc, ◌+◌, ◌<◌, ◌^◌, Bool, true, false, cond, List, [], ◌∷◌, ◌++◌}
-use Rattle.std.proofs.Common.{length, map, drop, get_or, sum, sum_by, count_by}
+use Rattle.std.proofs.Common.{length, map, drop, sum, count_by}
 use Rattle.std.proofs.Common.{filter_map, flat_map, refl, sym, ap, ◌∙◌, arith, length-append}
 use Rattle.std.proofs.lemmas.List.{length-map}
 use Rattle.std.specs.List.{range_with_len}
-use Rattle.std.proofs.lemmas.List.Sums.{sum-map, sum_by-cons, sum_by-append}
+use Rattle.std.proofs.lemmas.List.Sums.{sum-map, sum_by-cons}
 use Rattle.std.proofs.lemmas.List.Concat.{length-flat_map}
 use Rattle.cm_model.specs.declared.act.Act.TheVariants.{Cycle}
 use Rattle.cm_model.specs.declared.message.Event.{Event}

@@ -1,14 +1,14 @@
 //! How a machine's numbers are counted, chip by chip.
 
-ghost use Rattle.std.specs.Prelude.{◌≡◌, ◌^◌, ◌<◌, ◌≤◌, IfOk, drop, slice_index_or, sum, sum_by};
+ghost use Rattle.std.specs.Prelude.{◌≡◌, ◌^◌, ◌<◌, ◌≤◌, IfOk, sum, sum_by};
 ghost use Rattle.std.specs.List.{count_by};
 ghost use Rattle.cm_bits.specs.Bit.{bit_number};
 ghost use Rattle.cm_model.specs.Each.{each_from};
 ghost use Rattle.cm_model.specs.Processor.{SEND, flag};
 ghost use Rattle.cm_model.specs.Chip.{processor_at};
-ghost use Rattle.cm_model.specs.Array.{each_chip};
+ghost use Rattle.cm_model.specs.Array.{each_chip, list_at};
 ghost use Rattle.cm_study.specs.Adding.{AreWithin};
-ghost use Rattle.cm_study.specs.Counts.{log_lengths, is_injection, is_delivery, counts_at, counts_of};
+ghost use Rattle.cm_study.specs.Counts.{log_lengths, events_behind, is_injection, is_delivery, counts_at, counts_of};
 ghost use Rattle.cm_study.specs.Traces.{trace_of, referrals};
 
 use crate::counts::Counts;
@@ -53,15 +53,15 @@ pub(crate) fn counts<const N: usize, const CAP: usize>(
     before: &[usize],
     ways: &Ways,
     machine: &Machine<N, CAP>,
-) -> Counts
-    ensures value { result ≡ counts_of N CAP before.now ways.now machine.now.machine }
+) -> Result<Counts, NoMemory>
+    ensures value { IfOk result (λ counts. counts ≡ counts_of N CAP before.now ways.now machine.now.machine) }
 {
     let _dims = machine.dims();
     let mut counts = Counts::NONE;
     for chip in 0..chip_count::<N>() {
-        counts = counts.plus(counts_at(before, ways, machine, chip));
+        counts = counts.plus(counts_at(before, ways, machine, chip)?);
     }
-    counts
+    Ok(counts)
 }
 
 /// The numbers of one chip.
@@ -70,29 +70,46 @@ fn counts_at<const N: usize, const CAP: usize>(
     ways: &Ways,
     machine: &Machine<N, CAP>,
     chip: u16,
-) -> Counts
+) -> Result<Counts, NoMemory>
     requires chip { chip < 2 ^ N }
-    ensures value { result ≡ counts_at CAP before.now ways.now machine.now.machine chip }
-    ensures within { AreWithin (2 ^ 72) result }
+    ensures value { IfOk result (λ counts. counts ≡ counts_at CAP before.now ways.now machine.now.machine chip) }
+    ensures within { IfOk result (λ counts. AreWithin (2 ^ 72) counts) }
 {
-    let events = events_behind(before, machine.log(chip), chip);
+    let events = events_behind(before, machine, chip)?;
     let messages = machine.buffer(chip);
-    Counts {
+    Ok(Counts {
         taken: injections(events) as u128,
         delivered: deliveries(events) as u128,
         referred: referred(ways, chip, messages),
         standing: messages.len() as u128,
         full: if messages.len() >= CAP { 1 } else { 0 },
         asking: asking(&machine.chip(chip)),
-    }
+    })
 }
 
-/// The events of a chip behind those that were there before.
-pub(crate) fn events_behind<'a>(before: &[usize], log: &'a [Event], chip: u16) -> &'a [Event]
-    ensures value { result.now ≡ drop (slice_index_or before.now chip 0) log.now }
+/// The events of a chip behind those that were there before: by chip so many.
+pub(crate) fn events_behind<'a, const N: usize, const CAP: usize>(
+    before: &[usize],
+    machine: &'a Machine<N, CAP>,
+    chip: u16,
+) -> Result<&'a [Event], NoMemory>
+    requires chip { chip < 2 ^ N }
+    ensures value { IfOk result (λ events. events.now ≡ events_behind before.now machine.now.machine chip) }
 {
+    let log = log_of(machine, chip)?;
     let from = before.get(usize::from(chip)).copied().unwrap_or(0);
-    if from < log.len() { &log[from..] } else { &[] }
+    Ok(if from < log.len() { &log[from..] } else { &[] })
+}
+
+/// The events of a chip, which are dealt out.
+fn log_of<const N: usize, const CAP: usize>(
+    machine: &Machine<N, CAP>,
+    chip: u16,
+) -> Result<&[Event], NoMemory>
+    requires chip { chip < 2 ^ N }
+    ensures value { IfOk result (λ log. log.now ≡ list_at machine.now.machine.logs chip) }
+{
+    machine.log(chip).whole().ok_or(NoMemory)
 }
 
 fn injections(events: &[Event]) -> usize

@@ -90,7 +90,7 @@ impl Known {
             ≡ text.old.items ++ told_cycle N CAP table clock self.now.told.items self.now.ways machine.now.machine) }
     {
         match table {
-            Table::Cycles => push_cycle(text, clock, counts(&self.told, &self.ways, machine)),
+            Table::Cycles => push_cycle(text, clock, counts(&self.told, &self.ways, machine)?),
             Table::Messages => push_delivered(text, clock, &self.told, &self.ways, machine),
         }
     }
@@ -112,7 +112,7 @@ impl Known {
     }
 }
 
-/// Has a machine do one act. It is refused for want of memory alone.
+/// Has a machine do one act, and deal its events out. It is refused for want of memory alone.
 pub(crate) fn go_on<const N: usize, const CAP: usize>(
     machine: &mut Machine<N, CAP>,
     act: Act,
@@ -120,7 +120,7 @@ pub(crate) fn go_on<const N: usize, const CAP: usize>(
     ensures ok { OnOk result (machine.new.machine ≡ run_of N CAP machine.old.machine (act ∷ [])) }
 {
     match Plain.go(machine, &[act]) {
-        Ok(()) => Ok(()),
+        Ok(()) => machine.deal_out(),
         Err(_) => Err(NoMemory),
     }
 }

@@ -121,7 +121,7 @@ fn follow_cycle<const N: usize, const CAP: usize>(
     let from = origin(tag, stand_in(machine, tag));
     let before = log_lengths(alloc, machine)?;
     go_on(machine, Act::Cycle)?;
-    let delivery = delivery_in(&before, machine, tag);
+    let delivery = delivery_in(&before, machine, tag)?;
     let stand = stand_in(machine, tag);
     let over = tell(text, machine.dims(), clock, from, delivery, stand)?;
     Ok(over)

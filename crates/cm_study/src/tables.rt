@@ -40,7 +40,7 @@ pub(crate) fn push_delivered<const N: usize, const CAP: usize>(
 {
     let _dims = machine.dims();
     for chip in 0..chip_count::<N>() {
-        let events = events_behind(before, machine.log(chip), chip);
+        let events = events_behind(before, machine, chip)?;
         push_events(text, clock, ways, chip, events)?;
     }
     Ok(())

@@ -1,6 +1,6 @@
 //! Where the message of a tag stands, and where it was delivered.
 
-ghost use Rattle.std.specs.Prelude.{◌≡◌, ◌^◌, ◌<◌, length, slice_get};
+ghost use Rattle.std.specs.Prelude.{◌≡◌, ◌^◌, ◌<◌, IfOk, length, slice_get};
 ghost use Rattle.std.specs.List.{filter_map};
 ghost use Rattle.cm_model.specs.Found.{delivery_place};
 ghost use Rattle.cm_study.specs.Whereabouts.{stands_among, stand_in, delivery_in};
@@ -8,7 +8,7 @@ ghost use Rattle.cm_study.specs.Whereabouts.{stands_among, stand_in, delivery_in
 use crate::counting::{chip_count, events_behind};
 use crate::ways::are_same;
 use cm_array::Machine;
-use cm_bits::Place;
+use cm_bits::{NoMemory, Place};
 use cm_model::{Event, Message, Tag};
 
 /// A message that stands in the router of a chip.
@@ -62,17 +62,17 @@ pub(crate) fn delivery_in<const N: usize, const CAP: usize>(
     before: &[usize],
     machine: &Machine<N, CAP>,
     tag: &Tag,
-) -> Option<Place>
-    ensures value { result ≡ delivery_in N tag.now before.now machine.now.machine }
+) -> Result<Option<Place>, NoMemory>
+    ensures value { IfOk result (λ place. place ≡ delivery_in N tag.now before.now machine.now.machine) }
 {
     let _dims = machine.dims();
     for chip in 0..chip_count::<N>() {
-        let events = events_behind(before, machine.log(chip), chip);
+        let events = events_behind(before, machine, chip)?;
         if let Some(place) = delivery_among(events, tag) {
-            return Some(place);
+            return Ok(Some(place));
         }
     }
-    None
+    Ok(None)
 }
 
 /// Where events of a chip tell that it was delivered.

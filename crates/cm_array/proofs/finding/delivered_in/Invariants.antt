@@ -1,9 +1,6 @@
-use Rattle.std.proofs.Common.{◌≡◌, drop}
-use Rattle.std.specs.Prelude.{slice_get}
-use Rattle.std.specs.List.{filter_map}
-use Rattle.cm_model.specs.Found.{delivery_place}
+use Rattle.std.proofs.Common.{take}
+use Rattle.cm_array.specs.Finding.{TellNone}
 use Rattle.cm_array.proofs.finding.delivered_in.Given as goal
 
 abbrev pub invariant-loop-event : goal.invariant-loop-event
-invariant-loop-event l = slice_get (filter_map (delivery_place l.tag) l.log) 0
-    ≡ slice_get (filter_map (delivery_place l.tag) (drop l.event-index l.log)) 0
+invariant-loop-event l = TellNone l.tag (take l.event-index l.log)

@@ -1,6 +1,6 @@
-use Rattle.std.proofs.Common.{◌≡◌, ◌+◌, ◌*◌, take}
+use Rattle.std.proofs.Common.{◌≡◌, ◌+◌, ◌*◌, ◌^◌, ◌≤◌, take}
 use Rattle.cm_model.specs.Machine.{run_of}
-use Rattle.cm_router.specs.Logs.{log_rooms_of, LoseAtMost}
+use Rattle.cm_router.specs.Logs.{log_room}
 use Rattle.cm_array.specs.Acts.{cycles_in}
 use Rattle.cm_array.specs.Parts.{machine_of, AreUnderWay}
 use Rattle.cm_array.proofs.parts.run.Given as goal
@@ -10,6 +10,6 @@ invariant-loop-act l = record {
   ran : machine_of l.parts ≡ run_of l.sizes.dims l.sizes.room (machine_of l.fn.parts) (take l.act-index l.acts);
   parts : AreUnderWay l.sizes.dims l.sizes.room l.parts;
   clock : l.parts.clock ≡ l.fn.parts.clock + cycles_in (take l.act-index l.acts);
-  room : LoseAtMost (cycles_in (take l.act-index l.acts) * (4 + l.sizes.room))
-      (log_rooms_of l.fn.parts.logs.items) (log_rooms_of l.parts.logs.items);
+  room : log_room l.fn.parts.row
+      ≤ log_room l.parts.row + cycles_in (take l.act-index l.acts) * (2 ^ l.sizes.dims * (4 + l.sizes.room));
 }

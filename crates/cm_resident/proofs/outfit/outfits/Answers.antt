@@ -1,4 +1,4 @@
-use Rattle.std.proofs.Common.{rules, ◌≡◌, ℕ, ◌<◌, ◌^◌, List, length, refl, subst, sym, arith}
+use Rattle.std.proofs.Common.{rules, ◌≡◌, ◌<◌, ◌^◌, List, length, refl, subst, sym, arith}
 use Rattle.cm_resident.specs.declared.outfit.Outfit.{Outfit}
 use Rattle.cm_resident.specs.Lanes.{Run, ends_each, own, givers}
 use Rattle.cm_resident.specs.Standing.{IsCut}

@@ -4,7 +4,7 @@ use Rattle.cm_workers.specs.Dealing.{AreShares}
 use Rattle.cm_resident.specs.declared.worker.Worker.{Worker}
 use Rattle.cm_resident.specs.declared.running.Ready.{Ready}
 use Rattle.cm_resident.specs.Lanes.{Run}
-use Rattle.cm_resident.specs.Laws.{AreMachineAfter, LeaveTheirMachine}
+use Rattle.cm_resident.specs.Laws.{LeaveTheirMachine}
 use Rattle.cm_resident.specs.Teams.{IsOfSome}
 use Rattle.cm_resident.proofs.Ending.{teams_leave_their_machine, have_worked, account_after}
 use Rattle.cm_resident.proofs.resident.share_out.Goals as goal

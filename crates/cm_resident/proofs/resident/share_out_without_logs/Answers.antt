@@ -1,8 +1,5 @@
-use Rattle.std.proofs.Common.{rules, ◌≡◌, ◌+◌, ◌*◌, ℕ, length, ap, sym, subst, ◌∙◌}
-use Rattle.cm_model.specs.declared.message.Event.{Event}
-use Rattle.cm_model.specs.Machine.{Machine}
+use Rattle.std.proofs.Common.{rules, ◌+◌, ◌*◌, ℕ, length, ap, subst, ◌∙◌}
 use Rattle.cm_router.specs.Logs.{HaveLogRoom}
-use Rattle.cm_array.specs.Behind.{Aside, behind}
 use Rattle.cm_resident.proofs.LogsAside.{whole_again, room_again, ran_again, account_again, none_again}
 use Rattle.cm_resident.proofs.resident.share_out_without_logs.Goals as goal
 

@@ -22,8 +22,8 @@ loop-chip-init g c = record {
 pub loop-chip-preserved : goal.loop-chip-preserved
 loop-chip-preserved g c = record {
   so_far = c.plus-counts.ensures.value
-      ∙ (λ j. added (c.loop-chip.invariant.so_far j) (c.counts_at.ensures.value j))
+      ∙ (λ j. added (c.loop-chip.invariant.so_far j) (c.in_ok-counts_at.ensures.value j))
       ∙ sym (counts_to-more c.loop-chip.chip g.row.CAP c.args.before.now c.args.ways.now c.args.machine.now.machine);
-  within = added-within c.loop-chip.chip c.loop-chip.counts c.counts_at.result c.plus-counts.result
-      c.loop-chip.invariant.within c.counts_at.ensures.within c.plus-counts.ensures.value;
+  within = added-within c.loop-chip.chip c.loop-chip.counts c.in_ok-counts_at.field-0 c.plus-counts.result
+      c.loop-chip.invariant.within c.in_ok-counts_at.ensures.within c.plus-counts.ensures.value;
 }

@@ -12,5 +12,5 @@ pub loop-chip-preserved : goal.loop-chip-preserved
 loop-chip-preserved g c =
     let count = λ (k : ℕ). length (list_at c.args.machine.now.machine.logs k) in
     c.in-Ok.ensures.items
-    ∙ (λ j. c.loop-chip.invariant j ++ ap length c.log.ensures.value j ∷ [])
+    ∙ (λ j. c.loop-chip.invariant j ++ (c.len.ensures.value ∙ ap length c.log.ensures.value) j ∷ [])
     ∙ sym (each_from-more count c.loop-chip.chip)

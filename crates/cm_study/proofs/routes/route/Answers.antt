@@ -1,7 +1,6 @@
-use Rattle.std.proofs.Common.{◌≡◌, ◌<◌, ◌≤◌, ◌+◌, ◌-◌, ◌^◌, ℕ, Bool, Result, Ok, Err, List, drop, sym, ap, ◌∙◌, arith}
+use Rattle.std.proofs.Common.{◌<◌, ◌≤◌, ◌+◌, ◌-◌, ◌^◌, ℕ, Bool, Ok, Err, drop, sym, ap, ◌∙◌, arith}
 use Rattle.std.proofs.Common.{lt-ltb, le-ltb, if◌then◌else◌}
 use Rattle.std.proofs.lemmas.List.{drop_all}
-use Rattle.cm_study.specs.declared.routes.RouteFault.{RouteFault}
 use Rattle.cm_study.specs.declared.routes.RouteFault.TheVariants.{Chip}
 use Rattle.cm_study.specs.Study.{lacks_room}
 use Rattle.cm_study.specs.Routes.{behind, route_from, route_of}

@@ -1,23 +1,16 @@
-use Rattle.std.proofs.Common.{◌≡◌, ℕ, ◌++◌, ◌^◌, drop, flat_map, ap, ◌∙◌, arith}
-use Rattle.std.specs.Prelude.{slice_index_or}
+use Rattle.std.proofs.Common.{◌≡◌, ℕ, ◌++◌, ◌^◌, flat_map, ap, ◌∙◌, arith}
 use Rattle.std.specs.List.{range_with_len}
-use Rattle.cm_model.specs.Array.{list_at}
 use Rattle.cm_study.specs.Tables.{event_text, delivered_text_at, delivered_text}
 use Rattle.cm_study.proofs.Sums.{text-more}
 use Rattle.cm_study.proofs.tables.push_delivered.Goals as goal
 
 pub loop-chip-preserved : goal.loop-chip-preserved
 loop-chip-preserved g c =
-    let events : c.events_behind-events.result.now
-    ≡ drop (slice_index_or c.args.before.now c.loop-chip.chip 0)
-    (list_at c.args.machine.now.machine.logs c.loop-chip.chip) =
-    c.events_behind-events.ensures.value
-    ∙ ap (drop (slice_index_or c.args.before.now c.loop-chip.chip 0)) c.log.ensures.value in
     text-more (delivered_text_at c.args.clock c.args.before.now c.args.ways.now c.args.machine.now.machine)
     c.args.text.now.items c.loop-chip.text.items c.push_events.new.text.items c.loop-chip.chip c.loop-chip.invariant
     (c.in_ok-push_events.ensures.ok
     ∙ ap (λ events. c.loop-chip.text.items ++ flat_map (event_text c.args.clock c.args.ways.now c.loop-chip.chip) events)
-    events)
+    c.in_ok-events.ensures.value)
 
 pub returns : goal.returns
 unfolding delivered_text

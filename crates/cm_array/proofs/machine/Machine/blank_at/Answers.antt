@@ -9,7 +9,7 @@ pub invariant_of-result : goal.invariant_of-result
 invariant_of-result g c =
     AreParts-blank g.row.N g.row.CAP c.chip_count-count.result _
     (record { dimension = omega arith; some_room = omega arith; most_room = omega arith }) c.chip_count-count.ensures.value
-    c.in_ok-run.ensures.value c.in_ok-crossing.ensures.value c.in_ok-logs.ensures.value
+    c.in_ok-run.ensures.value c.in_ok-crossing.ensures.value c.in_ok-logs.ensures.value c.new-row.ensures.items
     c.in_ok-sent.ensures.count c.in_ok-incoming.ensures.count
     c.in_ok-crossing.ensures.gathered c.requires.clock
     c.in_ok-routing.ensures.dims c.in_ok-routing.ensures.value
@@ -20,6 +20,7 @@ returns-clause-value g c =
     (record {
       run = c.in_ok-run.run';
       logs = c.in_ok-logs.logs;
+      row = c.new-row.result;
       clock = c.args.clock;
       sent = c.in_ok-sent.sent;
       incoming = c.in_ok-incoming.incoming;
@@ -27,4 +28,4 @@ returns-clause-value g c =
       routing = c.in_ok-routing.routing;
     })
     c.chip_count-count.ensures.value c.in_ok-run.ensures.value c.in_ok-crossing.ensures.value c.in_ok-logs.ensures.value
-    c.in_ok-routing.ensures.value
+    c.new-row.ensures.items c.in_ok-routing.ensures.value

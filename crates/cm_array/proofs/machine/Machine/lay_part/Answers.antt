@@ -4,7 +4,11 @@ use Rattle.std.specs.List.{slice_range}
 use Rattle.std.specs.Vec.{with_items}
 use Rattle.cm_blocks.specs.Parts.{cut, part}
 use Rattle.cm_router.specs.Logs.{Log, log_room, log_rooms_of, HaveLogRoom}
+use Rattle.cm_model.specs.declared.message.Event.{Event}
 use Rattle.cm_petit.specs.Routers.{events_of}
+use Rattle.cm_array.specs.Rows.{dealt}
+use Rattle.cm_array.proofs.Dealing.{dealt-cut}
+use Rattle.cm_array.proofs.Machines.{length-logs, AreUnderWay-parts}
 use Rattle.cm_array.specs.declared.parts.Parts.{Parts}
 use Rattle.cm_array.specs.Parts.{Kept}
 use Rattle.cm_array.proofs.Lists.{items-lent}
@@ -13,6 +17,19 @@ use Rattle.cm_array.proofs.Cutting.{within_fifteen, few_buffers, events_of-cut, 
 use Rattle.cm_array.proofs.machine.Machine.lay_part.Goals as goal
 use Rattle.cm_array.proofs.machine.Machine.lay_part.Given.{Over}
 use Rattle.cm_array.proofs.machine.Machine.lay_part.Goals.{In_ok-routing}
+
+pub slice_bounds-lay_told-end : goal.slice_bounds-lay_told-end
+slice_bounds-lay_told-end g c =
+    let old = c.self.inside.parts in
+    omega (
+      arith,
+      c.requires.there,
+      c.from-at.ensures,
+      c.from-chips.ensures,
+      c.deref.ensures.len,
+      old.logs.ok.0,
+      length-logs g.row.N g.row.CAP old (AreUnderWay-parts g.row.N g.row.CAP old c.self.invariant),
+    )
 
 pub lay_all_buffers-requires-clause-few : goal.lay_all_buffers-requires-clause-few
 lay_all_buffers-requires-clause-few g c = few_buffers g.row.N g.row.CAP c.self.inside.parts c.self.invariant
@@ -23,7 +40,8 @@ lay_all_buffers-requires-clause-within g c = within_fifteen g.row.N g.row.CAP c.
 parts_cut : (g : Over) → In_ok-routing g → Parts
 parts_cut g c = record {
   run = c.lay_chips.new.run;
-  logs = with_items (with_items c.args.room.logs c.lay_logs.new.logs) c.reserve.new.logs;
+  logs = with_items (with_items c.args.room.logs c.lay_told.new.logs) c.reserve.new.logs;
+  row = c.new-row.result;
   clock = c.self.inside.parts.clock;
   sent = c.args.room.sent;
   incoming = c.args.room.incoming;
@@ -37,8 +55,8 @@ are_cut g c =
     let old = c.self.inside.parts in
     let at = c.from-at.result in
     let chips = c.from-chips.result in
-    let laid = items-lent c.args.room.logs c.lay_logs.new.logs (c.lay_logs.auto.logs ∙ ap length c.deref_mut.ensures.value) in
-    let lent = items-lent (with_items c.args.room.logs c.lay_logs.new.logs) c.reserve.new.logs
+    let laid = items-lent c.args.room.logs c.lay_told.new.logs (c.lay_told.auto.logs ∙ ap length c.deref_mut.ensures.value) in
+    let lent = items-lent (with_items c.args.room.logs c.lay_told.new.logs) c.reserve.new.logs
     (c.reserve.auto.logs ∙ ap length c.deref_mut-2.ensures.value) in
     record {
       run = c.lay_chips.ensures.value;
@@ -46,11 +64,19 @@ are_cut g c =
           ∙ ap (λ (k : ℕ). cut k chips old.crossing.buffers) c.from-at.ensures
           ∙ ap (λ (k : ℕ). cut c.args.first k old.crossing.buffers) c.from-chips.ensures;
       logs = ap events_of lent ∙ c.reserve.ensures.events ∙ ap events_of c.deref_mut-2.ensures.value ∙ ap events_of laid
-          ∙ c.in_ok-lay_logs.ensures.value
-          ∙ ap (λ (logs : List Log). events_of (slice_range logs at (at + chips))) c.deref.ensures.value
-          ∙ events_of-cut at chips old.logs.items
+          ∙ c.in_ok-lay_told.ensures.value
+          ∙ (λ i. dealt c.args.first (events_of (slice_range (c.deref.ensures.value i) at (at + chips)))
+          (c.deref-2.ensures.value i))
+          ∙ ap (λ (logs : List (List Event)). dealt c.args.first logs old.row.items)
+          (events_of-cut at chips old.logs.items
           ∙ ap (λ (k : ℕ). cut k chips (events_of old.logs.items)) c.from-at.ensures
-          ∙ ap (λ (k : ℕ). cut c.args.first k (events_of old.logs.items)) c.from-chips.ensures;
+          ∙ ap (λ (k : ℕ). cut c.args.first k (events_of old.logs.items)) c.from-chips.ensures)
+          ∙ dealt-cut c.args.first c.args.count (events_of old.logs.items) old.row.items (omega (
+            arith,
+            c.requires.there,
+            length-map old.logs.items (λ (log : Log). log.items),
+            length-logs g.row.N g.row.CAP old (AreUnderWay-parts g.row.N g.row.CAP old c.self.invariant),
+          ));
       sent = c.requires.room.sent;
       incoming = c.requires.room.incoming;
       clock = refl;
@@ -74,7 +100,7 @@ pub returns-clause-log_room : goal.returns-clause-log_room
 returns-clause-log_room g c =
     let more = c.saturating_mul-more.result in
     let wanted = c.args.cycles * (4 + g.row.CAP) in
-    let laid = with_items c.args.room.logs c.lay_logs.new.logs in
+    let laid = with_items c.args.room.logs c.lay_told.new.logs in
     let logs = with_items laid c.reserve.new.logs in
     let same = items-lent laid c.reserve.new.logs (c.reserve.auto.logs ∙ ap length c.deref_mut-2.ensures.value) in
     let rooms = length-map logs.items log_room in

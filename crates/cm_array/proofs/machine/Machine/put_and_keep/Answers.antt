@@ -1,4 +1,4 @@
-use Rattle.std.proofs.Common.{◌≡◌, ℕ, ◌+◌, List, [], length, map, ap, sym, ◌∙◌, arith, subst}
+use Rattle.std.proofs.Common.{◌≡◌, ℕ, ◌+◌, rules, List, [], length, map, ap, sym, ◌∙◌, arith, subst}
 use Rattle.std.specs.List.{All}
 use Rattle.std.proofs.lemmas.List.{length-map, length_push}
 use Rattle.std.proofs.lemmas.Iterator.Adapters.{YieldsList-from_vec}
@@ -26,6 +26,7 @@ loop-piece-init g c =
       chips = none_put (λ (s : Part). s.chips) pieces parts.run;
       buffers = none_put (λ (s : Part). s.buffers) pieces c.clear.new.self.buffers;
       logs = none_put (λ (s : Part). s.logs) pieces (events_of parts.logs.items);
+      row = search rules;
       empty = λ k l. none_stand (length parts.crossing.buffers)
           c.clear.new.self.buffers k c.clear.ensures.value;
       chip_count = were.machine.chip_count;
@@ -108,6 +109,7 @@ loop-piece-preserved g c =
           more (put.end ∙ ap (λ (k : ℕ). at + k) (sym put.buffer_count)) were.buffers put.buffers;
       logs = next_put (λ (x : Part). x.logs) parts j at s (events_of old.logs.items) (events_of new.logs.items) _ _
           next.0 next.1 more (put.end ∙ ap (λ (k : ℕ). at + k) (sym put.log_count)) were.logs put.logs;
+      row = search rules;
       empty = λ k l. put.buffers.above k (omega (arith, l, put.end, put.buffer_count))
           ∙ were.empty k (omega (arith, l, put.end));
       chip_count = put.chips.count ∙ were.chip_count;

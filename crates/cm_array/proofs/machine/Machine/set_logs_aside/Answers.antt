@@ -1,26 +1,66 @@
-use Rattle.std.proofs.Common.{List, [], ap, ◌∙◌, refl}
+use Rattle.std.proofs.Common.{◌≡◌, List, [], length, ap, sym, ◌∙◌, refl}
+use Rattle.std.specs.Vec.{with_items}
 use Rattle.cm_model.specs.declared.message.Event.{Event}
 use Rattle.cm_model.specs.Each.{each_from}
 use Rattle.cm_router.specs.Routes.{routing_of}
+use Rattle.cm_model.specs.Array.{each_chip}
+use Rattle.cm_router.specs.Logs.{Log}
+use Rattle.cm_router.specs.Rows.{with_row}
+use Rattle.cm_router.proofs.Telling.{with_row-nil}
 use Rattle.cm_petit.specs.Routers.{events_of}
 use Rattle.cm_array.specs.Behind.{unlogged}
-use Rattle.cm_array.specs.Parts.{machine_of}
+use Rattle.cm_array.specs.Parts.{Kept, machine_of}
+use Rattle.cm_array.proofs.Lists.{items-lent}
 use Rattle.cm_array.proofs.Behind.{IsMachine-unlogged}
 use Rattle.cm_array.proofs.Putting.{AreParts-put}
 use Rattle.cm_array.proofs.machine.Machine.set_logs_aside.Goals as goal
+use Rattle.cm_array.proofs.machine.Machine.set_logs_aside.Given.{Over}
+use Rattle.cm_array.proofs.machine.Machine.set_logs_aside.Goals.{After-replace}
 
-pub invariant_of-self-2 : goal.invariant_of-self-2
-invariant_of-self-2 g c =
+told_by_none : (g : Over) (c : After-replace g) → with_row (events_of c.replace.new.dest.items) c.deal_out.new.row.items
+    ≡ each_chip g.row.N (λ k. [])
+told_by_none g c =
+    (λ i. with_row (events_of (c.replace.ensures.after i).items) (c.in_ok-deal_out.ensures.ok i))
+    ∙ with_row-nil (events_of c.in_ok-none.none.items) ∙ c.in_ok-none.ensures.value
+    ∙ ap (λ k. each_from {X = List Event} 0 k (λ b. [])) (c.chips.ensures.value ∙ c.self.invariant.machine.chip_count)
+
+machine_is : (g : Over) (c : After-replace g) → machine_of (record c.self.inside.parts {
+  logs = c.replace.new.dest;
+  row = c.deal_out.new.row;
+})
+    ≡ unlogged g.row.N (machine_of c.self.inside.parts)
+machine_is g c =
     let parts = c.self.inside.parts in
-    let logs = ap (λ v. events_of v.items) c.replace.ensures.after ∙ c.in_ok-none.ensures.value
-    ∙ ap (λ k. each_from {X = List Event} 0 k (λ b. [])) (c.chips.ensures.value ∙ c.self.invariant.machine.chip_count) in
-    AreParts-put g.row.N g.row.CAP parts _ (unlogged g.row.N (machine_of parts)) c.self.invariant
-    (IsMachine-unlogged g.row.N g.row.CAP (machine_of parts) c.self.invariant.machine)
-    (λ i. record {
+    let logs = told_by_none g c in
+    λ i. record {
       chips = parts.run;
       buffers = parts.crossing.buffers;
       logs = logs i;
       clock = parts.clock;
       routing = routing_of parts.routing;
-    })
+    }
+
+pub invariant_of-self-2 : goal.invariant_of-self-2
+invariant_of-self-2 g c =
+    let parts = c.self.inside.parts in
+    AreParts-put g.row.N g.row.CAP parts _ (unlogged g.row.N (machine_of parts)) c.self.invariant
+    (IsMachine-unlogged g.row.N g.row.CAP (machine_of parts) c.self.invariant.machine) (machine_is g c)
     c.self.invariant.gathered refl refl c.self.invariant.sized.clock refl
+
+pub returns-clause-ok : goal.returns-clause-ok
+returns-clause-ok g c =
+    machine_is g c ∙ ap (λ (kept : Kept). unlogged g.row.N kept.machine) c.self.view_is
+
+pub returns-clause-logs : goal.returns-clause-logs
+returns-clause-logs g c =
+    let parts = c.self.inside.parts in
+    let dealt = c.deal_out.new.logs in
+    let first = items-lent parts.logs dealt (c.deal_out.auto.logs ∙ ap length c.deref_mut.ensures.value) in
+    let next = items-lent (with_items parts.logs dealt) c.reserve.new.logs
+    (c.reserve.auto.logs ∙ ap length c.deref_mut-2.ensures.value) in
+    ap (λ v. events_of v.items) c.replace.ensures.value ∙ ap events_of next ∙ c.reserve.ensures.events
+    ∙ ap events_of c.deref_mut-2.ensures.value ∙ ap events_of first
+    ∙ sym (with_row-nil (events_of dealt)) ∙ ap (with_row (events_of dealt)) (sym c.in_ok-deal_out.ensures.ok)
+    ∙ c.deal_out.ensures.value
+    ∙ ap (λ (logs : List Log). with_row (events_of logs) parts.row.items) c.deref_mut.ensures.value
+    ∙ ap (λ (kept : Kept). kept.machine.logs) c.self.view_is

@@ -1,4 +1,4 @@
-use Rattle.std.proofs.Common.{rules, ◌≤◌, ◌-◌, ◌/◌, ◌∙◌, arith}
+use Rattle.std.proofs.Common.{rules, ◌≤◌, ◌-◌, ◌/◌, arith}
 use Rattle.cm_resident.proofs.Ending.{nothing_run, account_after}
 use Rattle.cm_resident.proofs.resident.ResidentRunner.go.Goals as goal
 

@@ -1,0 +1,36 @@
+use Rattle.std.proofs.Common.{◌<◌, ◌++◌, ◌∙◌, length, sym, ap, arith}
+use Rattle.cm_model.specs.Array.{list_at}
+use Rattle.cm_router.specs.Rows.{told_by}
+use Rattle.cm_router.proofs.Telling.{with_row_at}
+use Rattle.cm_petit.specs.Routers.{events_of}
+use Rattle.cm_array.specs.Parts.{Kept}
+use Rattle.cm_array.proofs.Machines.{length-events, length-logs, AreUnderWay-parts}
+use Rattle.cm_array.proofs.Searching.{list_at-events_of}
+use Rattle.cm_array.proofs.machine.Machine.log.Goals as goal
+
+pub index-requires : goal.index-requires
+index-requires g c =
+    let parts = c.self.inside.parts in
+    omega (
+      arith,
+      c.requires.chip,
+      c.from.ensures,
+      parts.logs.ok.0,
+      length-logs g.row.N g.row.CAP parts (AreUnderWay-parts g.row.N g.row.CAP parts c.self.invariant),
+    )
+
+pub returns-clause-value : goal.returns-clause-value
+returns-clause-value g c =
+    let parts = c.self.inside.parts in
+    let chip = c.args.chip in
+    let logs = parts.logs.items in
+    let under = AreUnderWay-parts g.row.N g.row.CAP parts c.self.invariant in
+    let long = length-logs g.row.N g.row.CAP parts under in
+    let there : c.from.result < length logs = omega (arith, c.requires.chip, c.from.ensures, long) in
+    let inside : chip < length (events_of logs) =
+    omega (arith, c.requires.chip, length-events g.row.N g.row.CAP parts under) in
+    let dealt = c.deref.ensures.value ∙ sym (list_at-events_of logs c.from.result c.index.result.now there c.index.ensures)
+    ∙ ap (list_at (events_of logs)) c.from.ensures in
+    c.of.ensures.value ∙ (λ i. dealt i ++ told_by chip (c.deref-2.ensures.value i))
+    ∙ sym (with_row_at (events_of logs) parts.row.items chip inside)
+    ∙ ap (λ (kept : Kept). list_at kept.machine.logs chip) c.self.view_is
