@@ -98,8 +98,8 @@ impl<const N: usize, const CAP: usize> Runner<N, CAP> for Plain {
         false
     }
 
-    /// Takes memory for the logs of all petit cycles in the list, before the first act, and none where
-    /// each log has room for them: a petit cycle tells at most 4 + `CAP` events of a chip.
+    /// Takes memory for the events of all petit cycles in the list, before the first act, and none where the
+    /// row into which all chips tell has room for them: a petit cycle tells at most 4 + `CAP` events of a chip.
     fn go(&mut self, machine: &mut Machine<N, CAP>, acts: &[Act]) -> Result<(), RunFault>
         ensures long { (result ≡ Err RunFault.Long) ↔ IsTrue (is_long acts.now) }
         ensures clock { (result ≡ Err RunFault.Clock)
