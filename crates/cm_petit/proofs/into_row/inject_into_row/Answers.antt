@@ -35,8 +35,9 @@ loop-c-preserved c =
     let more = told_one _ c.loop-c.invariant.injected (omega arith) (λ ls. refl) done.chip done.value done.log
     (told_of_sent _ _ _ _ _) done.len done.capacity in
     record {
-      injected = told_past _ more next.from (omega (arith, next.most, more.buffer_count)) (λ ls k from l e. injecting_passed c.args.sizes.dims
-          c.args.sizes.room c.args.clock (0 + k) _ _ e (next.none k from l));
+      injected = told_past _ more next.from (omega (arith, next.most, more.buffer_count))
+          (λ ls k from l e. injecting_passed c.args.sizes.dims c.args.sizes.room c.args.clock (0 + k) _ _ e
+          (next.none k from l));
       within = done.within;
     }
 
