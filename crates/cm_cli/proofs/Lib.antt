@@ -10,6 +10,7 @@ mod Leading
 mod Weaving
 mod ToTheEnd
 mod Sessions
+mod Going
 mod Putting
 mod Begun
 mod Sourcing

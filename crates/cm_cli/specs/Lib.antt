@@ -17,6 +17,7 @@ pub mod Takings
 pub mod Sourced
 pub mod Puttings
 pub mod Files
+pub mod Lent
 pub mod Runs
 pub mod Weaving
 pub mod Weaves

@@ -59,11 +59,22 @@ fn image_of_blank<const N: usize, const CAP: usize>(alloc: Global) -> Result<Vec
     ensures value { IfOk result (λ image. image.items ≡ text_of N CAP (blank_machine N)) }
     ensures otherwise { IsOkUnless result ProgramFault.Memory }
 {
-    let Ok(machine) = Machine::<N, CAP>::blank(alloc) else {
-        return Err(ProgramFault::Memory);
-    };
-    let Ok(image) = dump(alloc, &machine) else {
-        return Err(ProgramFault::Memory);
-    };
-    Ok(image)
+    match Machine::<N, CAP>::blank(alloc) {
+        Ok(machine) => image_of(alloc, &machine),
+        Err(_) => Err(ProgramFault::Memory),
+    }
+}
+
+/// The image of a machine of these sizes.
+pub(crate) fn image_of<const N: usize, const CAP: usize>(
+    alloc: Global,
+    machine: &Machine<N, CAP>,
+) -> Result<Vec<u8>, ProgramFault>
+    ensures value { IfOk result (λ image. image.items ≡ text_of N CAP machine.now.machine) }
+    ensures otherwise { IsOkUnless result ProgramFault.Memory }
+{
+    match dump(alloc, machine) {
+        Ok(image) => Ok(image),
+        Err(_) => Err(ProgramFault::Memory),
+    }
 }

@@ -6,6 +6,7 @@ mod blanks;
 mod fault;
 mod files;
 mod laws;
+mod lent;
 mod lines;
 mod listed;
 mod one_chip;

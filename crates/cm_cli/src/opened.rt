@@ -83,8 +83,14 @@ pub fn open_image(alloc: Global, image: &[u8]) -> Result<Opened, ProgramFault>
         Err(fault) => return Err(ProgramFault::from(fault)),
     };
     match cap {
-        1 => Ok(Opened::Room1(open_in_room(alloc, n, image)?)),
-        7 => Ok(Opened::Room7(open_in_room(alloc, n, image)?)),
+        1 => match open_in_room(alloc, n, image) {
+            Ok(machine) => Ok(Opened::Room1(machine)),
+            Err(fault) => Err(fault),
+        },
+        7 => match open_in_room(alloc, n, image) {
+            Ok(machine) => Ok(Opened::Room7(machine)),
+            Err(fault) => Err(fault),
+        },
         _ => Err(ProgramFault::Cap),
     }
 }
@@ -102,19 +108,58 @@ fn open_in_room<const CAP: usize>(
     ensures refused { IfErr result (IsUnopened image.now) }
 {
     match n {
-        0 => Ok(OfRoom::Dim0(machine_of(alloc, image)?)),
-        1 => Ok(OfRoom::Dim1(machine_of(alloc, image)?)),
-        2 => Ok(OfRoom::Dim2(machine_of(alloc, image)?)),
-        3 => Ok(OfRoom::Dim3(machine_of(alloc, image)?)),
-        4 => Ok(OfRoom::Dim4(machine_of(alloc, image)?)),
-        5 => Ok(OfRoom::Dim5(machine_of(alloc, image)?)),
-        6 => Ok(OfRoom::Dim6(machine_of(alloc, image)?)),
-        7 => Ok(OfRoom::Dim7(machine_of(alloc, image)?)),
-        8 => Ok(OfRoom::Dim8(machine_of(alloc, image)?)),
-        9 => Ok(OfRoom::Dim9(machine_of(alloc, image)?)),
-        10 => Ok(OfRoom::Dim10(machine_of(alloc, image)?)),
-        11 => Ok(OfRoom::Dim11(machine_of(alloc, image)?)),
-        _ => Ok(OfRoom::Dim12(machine_of(alloc, image)?)),
+        0 => match machine_of(alloc, image) {
+            Ok(machine) => Ok(OfRoom::Dim0(machine)),
+            Err(fault) => Err(fault),
+        },
+        1 => match machine_of(alloc, image) {
+            Ok(machine) => Ok(OfRoom::Dim1(machine)),
+            Err(fault) => Err(fault),
+        },
+        2 => match machine_of(alloc, image) {
+            Ok(machine) => Ok(OfRoom::Dim2(machine)),
+            Err(fault) => Err(fault),
+        },
+        3 => match machine_of(alloc, image) {
+            Ok(machine) => Ok(OfRoom::Dim3(machine)),
+            Err(fault) => Err(fault),
+        },
+        4 => match machine_of(alloc, image) {
+            Ok(machine) => Ok(OfRoom::Dim4(machine)),
+            Err(fault) => Err(fault),
+        },
+        5 => match machine_of(alloc, image) {
+            Ok(machine) => Ok(OfRoom::Dim5(machine)),
+            Err(fault) => Err(fault),
+        },
+        6 => match machine_of(alloc, image) {
+            Ok(machine) => Ok(OfRoom::Dim6(machine)),
+            Err(fault) => Err(fault),
+        },
+        7 => match machine_of(alloc, image) {
+            Ok(machine) => Ok(OfRoom::Dim7(machine)),
+            Err(fault) => Err(fault),
+        },
+        8 => match machine_of(alloc, image) {
+            Ok(machine) => Ok(OfRoom::Dim8(machine)),
+            Err(fault) => Err(fault),
+        },
+        9 => match machine_of(alloc, image) {
+            Ok(machine) => Ok(OfRoom::Dim9(machine)),
+            Err(fault) => Err(fault),
+        },
+        10 => match machine_of(alloc, image) {
+            Ok(machine) => Ok(OfRoom::Dim10(machine)),
+            Err(fault) => Err(fault),
+        },
+        11 => match machine_of(alloc, image) {
+            Ok(machine) => Ok(OfRoom::Dim11(machine)),
+            Err(fault) => Err(fault),
+        },
+        _ => match machine_of(alloc, image) {
+            Ok(machine) => Ok(OfRoom::Dim12(machine)),
+            Err(fault) => Err(fault),
+        },
     }
 }
 

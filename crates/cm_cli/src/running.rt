@@ -2,23 +2,21 @@
 
 ghost use Rattle.std.specs.Prelude.{◌≡◌, ◌↔◌, ◌⊎◌, true, false, Err, None, IfOk, IfErr, IfSome, IsErrOf};
 ghost use Rattle.std.specs.Option.{is_some};
-ghost use Rattle.cm_array.specs.Faults.{one_more_lacked};
-ghost use Rattle.cm_cli.specs.Sizes.{start_in, start_at};
+ghost use Rattle.cm_cli.specs.Sizes.{start_at};
 ghost use Rattle.cm_cli.specs.Sharing.{sharing_fault};
 ghost use Rattle.cm_cli.specs.Run.{Begins, IsBegun, IsNotBegun, HasRun, HasBrokenOff, EndsRun, GivesProgram};
-ghost use Rattle.cm_cli.specs.Run.{GivesRefused, HasRunForSome, IsRunForSome};
+ghost use Rattle.cm_cli.specs.Run.{GivesRefused, HasRunForSome, IsRunForSome, IsKept, bytes_in};
+ghost use Rattle.cm_cli.specs.Files.{streams};
+ghost use Rattle.cm_cli.specs.Lent.{IsTold};
 
-use crate::opened::{OfRoom, Opened, open_image};
+use crate::lent::{go_alone, go_shared, image_at};
+use crate::opened::{Opened, open_image};
 use crate::program_fault::ProgramFault;
 use crate::sharing::Sharing;
 use crate::takes::TakeFault;
 use crate::text::Text;
-use cm_array::{Machine, Plain, Runner};
 use cm_asm::{Program, assemble};
 use cm_bits::{Sink, Source};
-use cm_debug::session;
-use cm_image::dump;
-use cm_resident::Resident;
 use cm_workers::Passage;
 use std::alloc::Global;
 use std::sync::Wait;
@@ -50,15 +48,41 @@ pub fn run_session<R: Threads + Wait + Sync, T: Text + Drop, I: Source, O: Sink>
     ensures write { (O.has_failed out.new ≡ true) ↔ IsErrOf result ProgramFault.Write }
     ensures threads { sharing.workers ≡ 1 → ¬ IsErrOf result ProgramFault.NoThread }
 {
-    let (machine, program) = open_run(alloc, image, text, sharing)?;
+    match open_run(alloc, image, text, sharing) {
+        Ok((machine, program)) => {
+            run_begun(rt, alloc, machine, &program, sharing, commands, out, keeps)
+        }
+        Err(fault) => Err(fault),
+    }
+}
+
+/// The same, once image, text and sharing were accepted.
+fn run_begun<R: Threads + Wait + Sync, I: Source, O: Sink>(
+    rt: &R,
+    alloc: Global,
+    machine: Opened,
+    program: &Program,
+    sharing: Sharing,
+    commands: &mut I,
+    out: &mut O,
+    keeps: bool,
+) -> Result<Option<Vec<u8>>, ProgramFault>
+    requires shared { sharing_fault (start_at machine).n sharing ≡ None }
+    requires reader { I.has_failed commands.old ≡ false }
+    requires writer { O.has_failed out.old ≡ false }
+    ensures told { IsTold (start_at machine) program.now.acts
+        (streams (I.left commands.old) (I.left commands.new) (O.contents out.old) (O.contents out.new)
+        (I.has_failed commands.new) (O.has_failed out.new)) keeps result }
+    ensures threads { sharing.workers ≡ 1 → ¬ IsErrOf result ProgramFault.NoThread }
+{
     if sharing.workers == 1 {
-        return run_alone(alloc, machine, &program, commands, out, keeps);
+        return run_alone(alloc, machine, program, commands, out, keeps);
     }
     run_shared(
         rt,
         alloc,
         machine,
-        &program,
+        program,
         sharing,
         Passage::Open,
         commands,
@@ -108,7 +132,7 @@ fn assembled<T: Text>(alloc: Global, text: T) -> Result<Program, ProgramFault>
 /// A session on a machine by one worker, which needs no thread and waits for nobody.
 pub fn run_alone<I: Source, O: Sink>(
     alloc: Global,
-    machine: Opened,
+    mut machine: Opened,
     program: &Program,
     commands: &mut I,
     out: &mut O,
@@ -127,84 +151,17 @@ pub fn run_alone<I: Source, O: Sink>(
     ensures write { (O.has_failed out.new ≡ true) ↔ IsErrOf result ProgramFault.Write }
     ensures threads { ¬ IsErrOf result ProgramFault.NoThread }
 {
-    match machine {
-        Opened::Room1(machine) => alone_in_room(alloc, machine, program, commands, out, keeps),
-        Opened::Room7(machine) => alone_in_room(alloc, machine, program, commands, out, keeps),
+    match go_alone(alloc, &mut machine, program, commands, out) {
+        Ok(()) => keep(alloc, &machine, keeps),
+        Err(fault) => Err(ProgramFault::from(fault)),
     }
-}
-
-/// The same, where routers have this room.
-fn alone_in_room<const CAP: usize, I: Source, O: Sink>(
-    alloc: Global,
-    machine: OfRoom<CAP>,
-    program: &Program,
-    commands: &mut I,
-    out: &mut O,
-    keeps: bool,
-) -> Result<Option<Vec<u8>>, ProgramFault>
-    requires reader { I.has_failed commands.old ≡ false }
-    requires writer { O.has_failed out.old ≡ false }
-    ensures run { IfOk result (λ kept. IfSome (I.left commands.old) (λ lines. HasRun (start_in CAP machine.entry)
-        program.now.acts lines (I.left commands.new) (O.contents out.old) (O.contents out.new) keeps kept)) }
-    ensures fault { IfErr result (λ fault. IfSome (I.left commands.old) (λ lines. HasBrokenOff
-        (start_in CAP machine.entry) program.now.acts lines (I.left commands.new) (O.contents out.old)
-        (O.contents out.new) keeps fault)) }
-    ensures kept { IfOk result (λ kept. is_some kept ≡ keeps) }
-    ensures heard { IfOk result (HasRunForSome (start_in CAP machine.entry) program.now.acts
-        (O.contents out.old) (O.contents out.new) keeps) }
-    ensures read { (I.has_failed commands.new ≡ true) ↔ IsErrOf result ProgramFault.Read }
-    ensures write { (O.has_failed out.new ≡ true) ↔ IsErrOf result ProgramFault.Write }
-    ensures threads { ¬ IsErrOf result ProgramFault.NoThread }
-{
-    match machine {
-        OfRoom::Dim0(machine) => run_plain(alloc, machine, program, commands, out, keeps),
-        OfRoom::Dim1(machine) => run_plain(alloc, machine, program, commands, out, keeps),
-        OfRoom::Dim2(machine) => run_plain(alloc, machine, program, commands, out, keeps),
-        OfRoom::Dim3(machine) => run_plain(alloc, machine, program, commands, out, keeps),
-        OfRoom::Dim4(machine) => run_plain(alloc, machine, program, commands, out, keeps),
-        OfRoom::Dim5(machine) => run_plain(alloc, machine, program, commands, out, keeps),
-        OfRoom::Dim6(machine) => run_plain(alloc, machine, program, commands, out, keeps),
-        OfRoom::Dim7(machine) => run_plain(alloc, machine, program, commands, out, keeps),
-        OfRoom::Dim8(machine) => run_plain(alloc, machine, program, commands, out, keeps),
-        OfRoom::Dim9(machine) => run_plain(alloc, machine, program, commands, out, keeps),
-        OfRoom::Dim10(machine) => run_plain(alloc, machine, program, commands, out, keeps),
-        OfRoom::Dim11(machine) => run_plain(alloc, machine, program, commands, out, keeps),
-        OfRoom::Dim12(machine) => run_plain(alloc, machine, program, commands, out, keeps),
-    }
-}
-
-/// The same, on a machine of these sizes.
-fn run_plain<const N: usize, const CAP: usize, I: Source, O: Sink>(
-    alloc: Global,
-    machine: Machine<N, CAP>,
-    program: &Program,
-    commands: &mut I,
-    out: &mut O,
-    keeps: bool,
-) -> Result<Option<Vec<u8>>, ProgramFault>
-    requires reader { I.has_failed commands.old ≡ false }
-    requires writer { O.has_failed out.old ≡ false }
-    ensures run { IfOk result (λ kept. IfSome (I.left commands.old) (λ lines. HasRun
-        (record { n = N; cap = CAP; machine = machine.entry.machine }) program.now.acts lines
-        (I.left commands.new) (O.contents out.old) (O.contents out.new) keeps kept)) }
-    ensures fault { IfErr result (λ fault. IfSome (I.left commands.old) (λ lines. HasBrokenOff
-        (record { n = N; cap = CAP; machine = machine.entry.machine }) program.now.acts lines
-        (I.left commands.new) (O.contents out.old) (O.contents out.new) keeps fault)) }
-    ensures kept { IfOk result (λ kept. is_some kept ≡ keeps) }
-    ensures heard { IfOk result (HasRunForSome (record { n = N; cap = CAP; machine = machine.entry.machine }) program.now.acts
-        (O.contents out.old) (O.contents out.new) keeps) }
-    ensures read { (I.has_failed commands.new ≡ true) ↔ IsErrOf result ProgramFault.Read }
-    ensures write { (O.has_failed out.new ≡ true) ↔ IsErrOf result ProgramFault.Write }
-    ensures threads { ¬ IsErrOf result ProgramFault.NoThread }
-{
-    run_machine(alloc, machine, program, &mut Plain, commands, out, keeps)
 }
 
 /// A session on a machine by several workers, each in a thread of its own, who go through the passage.
 pub fn run_shared<R: Threads + Wait + Sync, I: Source, O: Sink>(
     rt: &R,
     alloc: Global,
-    machine: Opened,
+    mut machine: Opened,
     program: &Program,
     sharing: Sharing,
     passage: Passage,
@@ -225,201 +182,32 @@ pub fn run_shared<R: Threads + Wait + Sync, I: Source, O: Sink>(
     ensures read { (I.has_failed commands.new ≡ true) ↔ IsErrOf result ProgramFault.Read }
     ensures write { (O.has_failed out.new ≡ true) ↔ IsErrOf result ProgramFault.Write }
 {
-    match machine {
-        Opened::Room1(machine) => {
-            shared_in_room(
-                rt, alloc, machine, program, sharing, passage, commands, out, keeps,
-            )
-        }
-        Opened::Room7(machine) => {
-            shared_in_room(
-                rt, alloc, machine, program, sharing, passage, commands, out, keeps,
-            )
-        }
+    match go_shared(
+        rt,
+        alloc,
+        &mut machine,
+        program,
+        sharing,
+        passage,
+        commands,
+        out,
+    ) {
+        Ok(()) => keep(alloc, &machine, keeps),
+        Err(fault) => Err(ProgramFault::from(fault)),
     }
 }
 
-/// The same, where routers have this room.
-fn shared_in_room<const CAP: usize, R: Threads + Wait + Sync, I: Source, O: Sink>(
-    rt: &R,
-    alloc: Global,
-    machine: OfRoom<CAP>,
-    program: &Program,
-    sharing: Sharing,
-    passage: Passage,
-    commands: &mut I,
-    out: &mut O,
-    keeps: bool,
-) -> Result<Option<Vec<u8>>, ProgramFault>
-    requires shared { sharing_fault (start_in CAP machine).n sharing ≡ None }
-    requires reader { I.has_failed commands.old ≡ false }
-    requires writer { O.has_failed out.old ≡ false }
-    ensures run { IfOk result (λ kept. IfSome (I.left commands.old) (λ lines. HasRun (start_in CAP machine.entry)
-        program.now.acts lines (I.left commands.new) (O.contents out.old) (O.contents out.new) keeps kept)) }
-    ensures fault { IfErr result (λ fault. IfSome (I.left commands.old) (λ lines. HasBrokenOff
-        (start_in CAP machine.entry) program.now.acts lines (I.left commands.new) (O.contents out.old)
-        (O.contents out.new) keeps fault)) }
-    ensures kept { IfOk result (λ kept. is_some kept ≡ keeps) }
-    ensures heard { IfOk result (HasRunForSome (start_in CAP machine.entry) program.now.acts
-        (O.contents out.old) (O.contents out.new) keeps) }
-    ensures read { (I.has_failed commands.new ≡ true) ↔ IsErrOf result ProgramFault.Read }
-    ensures write { (O.has_failed out.new ≡ true) ↔ IsErrOf result ProgramFault.Write }
+/// The image of the machine that a session has left, if one is to be kept.
+fn keep(alloc: Global, machine: &Opened, keeps: bool) -> Result<Option<Vec<u8>>, ProgramFault>
+    ensures value { IfOk result (λ kept. IsKept (start_at machine.now).n (start_at machine.now).cap
+        (start_at machine.now).machine keeps (bytes_in kept)) }
+    ensures memory { IfErr result (λ fault. (keeps ≡ true) × (fault ≡ ProgramFault.Memory)) }
 {
-    match machine {
-        OfRoom::Dim0(machine) => {
-            run_by_workers(
-                rt, alloc, machine, program, sharing, passage, commands, out, keeps,
-            )
-        }
-        OfRoom::Dim1(machine) => {
-            run_by_workers(
-                rt, alloc, machine, program, sharing, passage, commands, out, keeps,
-            )
-        }
-        OfRoom::Dim2(machine) => {
-            run_by_workers(
-                rt, alloc, machine, program, sharing, passage, commands, out, keeps,
-            )
-        }
-        OfRoom::Dim3(machine) => {
-            run_by_workers(
-                rt, alloc, machine, program, sharing, passage, commands, out, keeps,
-            )
-        }
-        OfRoom::Dim4(machine) => {
-            run_by_workers(
-                rt, alloc, machine, program, sharing, passage, commands, out, keeps,
-            )
-        }
-        OfRoom::Dim5(machine) => {
-            run_by_workers(
-                rt, alloc, machine, program, sharing, passage, commands, out, keeps,
-            )
-        }
-        OfRoom::Dim6(machine) => {
-            run_by_workers(
-                rt, alloc, machine, program, sharing, passage, commands, out, keeps,
-            )
-        }
-        OfRoom::Dim7(machine) => {
-            run_by_workers(
-                rt, alloc, machine, program, sharing, passage, commands, out, keeps,
-            )
-        }
-        OfRoom::Dim8(machine) => {
-            run_by_workers(
-                rt, alloc, machine, program, sharing, passage, commands, out, keeps,
-            )
-        }
-        OfRoom::Dim9(machine) => {
-            run_by_workers(
-                rt, alloc, machine, program, sharing, passage, commands, out, keeps,
-            )
-        }
-        OfRoom::Dim10(machine) => {
-            run_by_workers(
-                rt, alloc, machine, program, sharing, passage, commands, out, keeps,
-            )
-        }
-        OfRoom::Dim11(machine) => {
-            run_by_workers(
-                rt, alloc, machine, program, sharing, passage, commands, out, keeps,
-            )
-        }
-        OfRoom::Dim12(machine) => {
-            run_by_workers(
-                rt, alloc, machine, program, sharing, passage, commands, out, keeps,
-            )
-        }
-    }
-}
-
-/// The same, on a machine of these sizes.
-fn run_by_workers<const N: usize, const CAP: usize, R: Threads + Wait + Sync, I: Source, O: Sink>(
-    rt: &R,
-    alloc: Global,
-    machine: Machine<N, CAP>,
-    program: &Program,
-    sharing: Sharing,
-    passage: Passage,
-    commands: &mut I,
-    out: &mut O,
-    keeps: bool,
-) -> Result<Option<Vec<u8>>, ProgramFault>
-    requires shared { sharing_fault N sharing ≡ None }
-    requires reader { I.has_failed commands.old ≡ false }
-    requires writer { O.has_failed out.old ≡ false }
-    ensures run { IfOk result (λ kept. IfSome (I.left commands.old) (λ lines. HasRun
-        (record { n = N; cap = CAP; machine = machine.entry.machine }) program.now.acts lines
-        (I.left commands.new) (O.contents out.old) (O.contents out.new) keeps kept)) }
-    ensures fault { IfErr result (λ fault. IfSome (I.left commands.old) (λ lines. HasBrokenOff
-        (record { n = N; cap = CAP; machine = machine.entry.machine }) program.now.acts lines
-        (I.left commands.new) (O.contents out.old) (O.contents out.new) keeps fault)) }
-    ensures kept { IfOk result (λ kept. is_some kept ≡ keeps) }
-    ensures heard { IfOk result (HasRunForSome (record { n = N; cap = CAP; machine = machine.entry.machine }) program.now.acts
-        (O.contents out.old) (O.contents out.new) keeps) }
-    ensures read { (I.has_failed commands.new ≡ true) ↔ IsErrOf result ProgramFault.Read }
-    ensures write { (O.has_failed out.new ≡ true) ↔ IsErrOf result ProgramFault.Write }
-{
-    let mut runner = shared_runner::<N, R>(rt, alloc, sharing, passage);
-    run_machine(alloc, machine, program, &mut runner, commands, out, keeps)
-}
-
-/// The runner of as many workers as are asked for, on as many blocks of a machine of 2^`N` chips.
-pub(crate) fn shared_runner<'a, const N: usize, R: Threads + Wait + Sync>(
-    rt: &'a R,
-    alloc: Global,
-    sharing: Sharing,
-    passage: Passage,
-) -> Resident<'a, R>
-    requires shared { sharing_fault N sharing ≡ None }
-    ensures blocks { result.k ≡ sharing.split }
-    ensures workers { result.workers ≡ sharing.workers }
-    ensures passage { result.passage ≡ passage }
-{
-    let workers = u16::from(sharing.workers);
-    match Resident::new::<N>(rt, alloc, sharing.split, workers, passage) {
-        Ok(resident) => resident,
-        Err(_) => unreachable!(),
-    }
-}
-
-/// A session on a machine, by this runner, and the image of what it leaves, if one is to be kept.
-fn run_machine<const N: usize, const CAP: usize, X: Runner<N, CAP>, I: Source, O: Sink>(
-    alloc: Global,
-    mut machine: Machine<N, CAP>,
-    program: &Program,
-    runner: &mut X,
-    commands: &mut I,
-    out: &mut O,
-    keeps: bool,
-) -> Result<Option<Vec<u8>>, ProgramFault>
-    requires runner { X.ready }
-    requires reader { I.has_failed commands.old ≡ false }
-    requires writer { O.has_failed out.old ≡ false }
-    ensures run { IfOk result (λ kept. IfSome (I.left commands.old) (λ lines. HasRun
-        (record { n = N; cap = CAP; machine = machine.entry.machine }) program.now.acts lines
-        (I.left commands.new) (O.contents out.old) (O.contents out.new) keeps kept)) }
-    ensures fault { IfErr result (λ fault. IfSome (I.left commands.old) (λ lines. HasBrokenOff
-        (record { n = N; cap = CAP; machine = machine.entry.machine }) program.now.acts lines
-        (I.left commands.new) (O.contents out.old) (O.contents out.new) keeps fault)) }
-    ensures kept { IfOk result (λ kept. is_some kept ≡ keeps) }
-    ensures heard { IfOk result (HasRunForSome (record { n = N; cap = CAP; machine = machine.entry.machine }) program.now.acts
-        (O.contents out.old) (O.contents out.new) keeps) }
-    ensures read { (I.has_failed commands.new ≡ true) ↔ IsErrOf result ProgramFault.Read }
-    ensures write { (O.has_failed out.new ≡ true) ↔ IsErrOf result ProgramFault.Write }
-    ensures threads { IsErrOf result ProgramFault.NoThread
-        → X.threads_lacked runner.new ≡ one_more_lacked (X.threads_lacked runner.old) }
-{
-    match session(alloc, &mut machine, program, commands, out, runner) {
-        Ok(()) => {}
-        Err(fault) => return Err(ProgramFault::from(fault)),
-    }
     if !keeps {
         return Ok(None);
     }
-    match dump(alloc, &machine) {
+    match image_at(alloc, machine) {
         Ok(image) => Ok(Some(image)),
-        Err(_) => Err(ProgramFault::Memory),
+        Err(fault) => Err(fault),
     }
 }

@@ -55,14 +55,14 @@ fn open_behind<I: Source>(
     ensures read { (I.has_failed source.new ≡ true) ↔ IsErrOf result ProgramFault.Read }
 {
     match shape(front) {
-        Ok((n, 1)) if n >= LARGE => {
-            let machine = open_large(alloc, n, front, source, most)?;
-            Ok(Opened::Room1(machine))
-        }
-        Ok((n, 7)) if n >= LARGE => {
-            let machine = open_large(alloc, n, front, source, most)?;
-            Ok(Opened::Room7(machine))
-        }
+        Ok((n, 1)) if n >= LARGE => match open_large(alloc, n, front, source, most) {
+            Ok(machine) => Ok(Opened::Room1(machine)),
+            Err(fault) => Err(fault),
+        },
+        Ok((n, 7)) if n >= LARGE => match open_large(alloc, n, front, source, most) {
+            Ok(machine) => Ok(Opened::Room7(machine)),
+            Err(fault) => Err(fault),
+        },
         _ => open_held(alloc, front, source, most),
     }
 }
@@ -106,18 +106,18 @@ fn open_large<const CAP: usize, I: Source>(
     ensures read { (I.has_failed source.new ≡ true) ↔ IsErrOf result ProgramFault.Read }
 {
     match n {
-        10 => {
-            let machine = machine_behind(alloc, front, source, most)?;
-            Ok(OfRoom::Dim10(machine))
-        }
-        11 => {
-            let machine = machine_behind(alloc, front, source, most)?;
-            Ok(OfRoom::Dim11(machine))
-        }
-        _ => {
-            let machine = machine_behind(alloc, front, source, most)?;
-            Ok(OfRoom::Dim12(machine))
-        }
+        10 => match machine_behind(alloc, front, source, most) {
+            Ok(machine) => Ok(OfRoom::Dim10(machine)),
+            Err(fault) => Err(fault),
+        },
+        11 => match machine_behind(alloc, front, source, most) {
+            Ok(machine) => Ok(OfRoom::Dim11(machine)),
+            Err(fault) => Err(fault),
+        },
+        _ => match machine_behind(alloc, front, source, most) {
+            Ok(machine) => Ok(OfRoom::Dim12(machine)),
+            Err(fault) => Err(fault),
+        },
     }
 }
 

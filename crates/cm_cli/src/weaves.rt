@@ -28,6 +28,14 @@ pub struct WeaveLine {
     pub out: Option<String>,
 }
 
+/// What the exchange of a machine's blocks is given beside that machine.
+#[derive(Drop)]
+struct Given<'a> {
+    alloc: Global,
+    line: &'a WeaveLine,
+    program: &'a Program,
+}
+
 /// Steps the exchange of a machine's blocks by the lines of a file or by itself, over what lies outside: the machine is
 /// cut; then the file is made ready that is to be written, and the steps are opened. It waits for nobody.
 pub fn weave_opened<H: Outside, O: Sink>(
@@ -43,59 +51,60 @@ pub fn weave_opened<H: Outside, O: Sink>(
         (start_at machine) program.now.acts
         (outgoing (O.contents answers.old) (O.contents answers.new) (O.has_failed answers.new)) result) }
 {
+    let given = Given {
+        alloc,
+        line,
+        program,
+    };
     match machine {
-        Opened::Room1(machine) => weave_in_room(alloc, outside, line, machine, program, answers),
-        Opened::Room7(machine) => weave_in_room(alloc, outside, line, machine, program, answers),
+        Opened::Room1(machine) => weave_in_room(&given, outside, machine, answers),
+        Opened::Room7(machine) => weave_in_room(&given, outside, machine, answers),
     }
 }
 
 /// The same, where routers have this room.
 fn weave_in_room<const CAP: usize, H: Outside, O: Sink>(
-    alloc: Global,
+    given: &Given<'_>,
     outside: &mut H,
-    line: &WeaveLine,
     machine: OfRoom<CAP>,
-    program: &Program,
     answers: &mut O,
 ) -> Result<(), ProgramFault>
     requires writer { O.has_failed answers.old ≡ false }
-    ensures does { Did H.does outside.old outside.new (WeavesAt (reads_by H.File.left H.File.has_failed) line.now
-        (start_in CAP machine.entry) program.now.acts
+    ensures does { Did H.does outside.old outside.new (WeavesAt (reads_by H.File.left H.File.has_failed)
+        given.now.line.now (start_in CAP machine.entry) given.now.program.now.acts
         (outgoing (O.contents answers.old) (O.contents answers.new) (O.has_failed answers.new)) result) }
 {
     match machine {
-        OfRoom::Dim0(machine) => weave_machine(alloc, outside, line, machine, program, answers),
-        OfRoom::Dim1(machine) => weave_machine(alloc, outside, line, machine, program, answers),
-        OfRoom::Dim2(machine) => weave_machine(alloc, outside, line, machine, program, answers),
-        OfRoom::Dim3(machine) => weave_machine(alloc, outside, line, machine, program, answers),
-        OfRoom::Dim4(machine) => weave_machine(alloc, outside, line, machine, program, answers),
-        OfRoom::Dim5(machine) => weave_machine(alloc, outside, line, machine, program, answers),
-        OfRoom::Dim6(machine) => weave_machine(alloc, outside, line, machine, program, answers),
-        OfRoom::Dim7(machine) => weave_machine(alloc, outside, line, machine, program, answers),
-        OfRoom::Dim8(machine) => weave_machine(alloc, outside, line, machine, program, answers),
-        OfRoom::Dim9(machine) => weave_machine(alloc, outside, line, machine, program, answers),
-        OfRoom::Dim10(machine) => weave_machine(alloc, outside, line, machine, program, answers),
-        OfRoom::Dim11(machine) => weave_machine(alloc, outside, line, machine, program, answers),
-        OfRoom::Dim12(machine) => weave_machine(alloc, outside, line, machine, program, answers),
+        OfRoom::Dim0(machine) => weave_machine(given, outside, machine, answers),
+        OfRoom::Dim1(machine) => weave_machine(given, outside, machine, answers),
+        OfRoom::Dim2(machine) => weave_machine(given, outside, machine, answers),
+        OfRoom::Dim3(machine) => weave_machine(given, outside, machine, answers),
+        OfRoom::Dim4(machine) => weave_machine(given, outside, machine, answers),
+        OfRoom::Dim5(machine) => weave_machine(given, outside, machine, answers),
+        OfRoom::Dim6(machine) => weave_machine(given, outside, machine, answers),
+        OfRoom::Dim7(machine) => weave_machine(given, outside, machine, answers),
+        OfRoom::Dim8(machine) => weave_machine(given, outside, machine, answers),
+        OfRoom::Dim9(machine) => weave_machine(given, outside, machine, answers),
+        OfRoom::Dim10(machine) => weave_machine(given, outside, machine, answers),
+        OfRoom::Dim11(machine) => weave_machine(given, outside, machine, answers),
+        OfRoom::Dim12(machine) => weave_machine(given, outside, machine, answers),
     }
 }
 
 /// The same, on a machine of these sizes.
 fn weave_machine<const N: usize, const CAP: usize, H: Outside, O: Sink>(
-    alloc: Global,
+    given: &Given<'_>,
     outside: &mut H,
-    line: &WeaveLine,
     machine: Machine<N, CAP>,
-    program: &Program,
     answers: &mut O,
 ) -> Result<(), ProgramFault>
     requires writer { O.has_failed answers.old ≡ false }
-    ensures does { Did H.does outside.old outside.new (WeavesAt (reads_by H.File.left H.File.has_failed) line.now
-        (record { n = N; cap = CAP; machine = machine.entry.machine }) program.now.acts
+    ensures does { Did H.does outside.old outside.new (WeavesAt (reads_by H.File.left H.File.has_failed)
+        given.now.line.now (record { n = N; cap = CAP; machine = machine.entry.machine }) given.now.program.now.acts
         (outgoing (O.contents answers.old) (O.contents answers.new) (O.has_failed answers.new)) result) }
 {
-    match World::new(alloc, machine, program.acts(), line.split) {
-        Ok(world) => weave_world(alloc, outside, line, world, answers),
+    match World::new(given.alloc, machine, given.program.acts(), given.line.split) {
+        Ok(world) => weave_world(given.alloc, outside, given.line, world, answers),
         Err(refused) => Err(ProgramFault::from(refused.fault)),
     }
 }
