@@ -2,7 +2,7 @@
 use Rattle.std.proofs.Common.{◌≡◌, ℕ, suc, zero, ◌+◌, ◌-◌, ◌*◌, ◌^◌, ◌<◌, ◌≤◌, Bool, true, false, cond, not}
 use Rattle.std.proofs.Common.{◌&&◌, ◌||◌, ◌==◌}
 use Rattle.std.proofs.Common.{List, [], ◌∷◌, length, take, drop, get_or, refl, sym, ap, ◌∙◌, Some, None, Ok}
-use Rattle.std.proofs.Common.{Err, nat_lt, codes, arith}
+use Rattle.std.proofs.Common.{Option, Err, nat_lt, codes, arith}
 use Rattle.std.proofs.lemmas.Bool.{false_from_ne_true}
 use Rattle.std.proofs.lemmas.Bool.Decides.{nat_tests}
 use Rattle.std.proofs.lemmas.Grind.{common_steps}
@@ -10,12 +10,15 @@ use Rattle.std.proofs.lemmas.List.Sums.{position_or_len_is}
 use Rattle.std.specs.List.{before_first, list_all, position_or_len}
 use Rattle.std.specs.Char.{digit_value, is_digit}
 use Rattle.std.specs.Str.Parse.{digits_value}
+use Rattle.std.specs.Prelude.{IfSome}
 use Rattle.cm_bits.specs.Text.{has_bytes, is_blank, is_comment_start, is_hex, number_in, number_of, words_in, words_of}
 use Rattle.cm_bits.specs.declared.plane.Dir.{Dir}
+use Rattle.cm_model.specs.declared.act.Nano.{Nano}
 use Rattle.cm_language.specs.declared.fault.AsmKind.TheVariants.{Number}
 use Rattle.cm_language.specs.Lines.{◌>>=◌, operand_of, number_below, direction_of}
 use Rattle.cm_bits.proofs.TextLemmas.{words_in-blank, words_in-word}
-use Rattle.cm_asm.specs.SinglePass.{BeginsWith, IsDigit, IsInstruction, IsNumeral, is_word_end}
+use Rattle.cm_asm.specs.SinglePass.{BeginsWith, BeginsWithThree, IsDigit, IsInstruction, IsNano, IsNumeral}
+use Rattle.cm_asm.specs.SinglePass.{is_word_end}
 
 -- ---- what is cut off at a comment
 
@@ -310,44 +313,40 @@ operand limit n word writes below =
       by true e = refl
       by false e = absurd cc
 
+-- the words of three numbers at the front
+three_words : (bytes rest : List ℕ) (x y z : ℕ) (t : BeginsWithThree bytes rest x y z)
+    → words_of bytes ≡ t.one.word ∷ t.two.word ∷ t.three.word ∷ words_of rest
+three_words bytes rest x y z t =
+    t.one.words ∙ ap (λ (ws : List (List ℕ)). t.one.word ∷ ws) (t.two.words
+    ∙ ap (λ (ws : List (List ℕ)). t.two.word ∷ ws) t.three.words)
+
 -- eight numbers in their ranges and a direction are an instruction
-pub instruction : (line r0 r1 r2 r3 r4 r5 r6 r7 r8 : List ℕ) (a b read write cond' sense mem flag : ℕ) (dir : Dir)
+instruction : (line r0 r3 r6 r7 r8 : List ℕ) (a b read write cond' sense mem flag : ℕ) (dir : Dir) (nano : Nano)
     → words_of line ≡ codes "nano" ∷ words_of r0
-    → BeginsWith r0 r1 a → BeginsWith r1 r2 b → BeginsWith r2 r3 read → BeginsWith r3 r4 write
-    → BeginsWith r4 r5 cond' → BeginsWith r5 r6 sense → BeginsWith r6 r7 mem → BeginsWith r7 r8 flag
+    → BeginsWithThree r0 r3 a b read → BeginsWithThree r3 r6 write cond' sense
+    → BeginsWith r6 r7 mem → BeginsWith r7 r8 flag
     → words_of r8 ≡ r8 ∷ [] → direction_of r8 ≡ Ok dir
-    → a < 4096 → b < 4096 → read < 16 → write < 16 → cond' < 16 → sense < 2 → mem < 256 → flag < 256
-    → IsInstruction line (record {
-      a = a;
-      b = b;
-      read = read;
-      write = write;
-      cond = cond';
-      sense = sense == 1;
-      mem_table = mem;
-      flag_table = flag;
-      dir = dir;
-    })
-instruction line r0 r1 r2 r3 r4 r5 r6 r7 r8 a b read write cond' sense mem flag dir begin
-    p1 p2 p3 p4 p5 p6 p7 p8 last says
-    h1 h2 h3 h4 h5 h6 h7 h8 =
-    let o1 : operand_of 4096 p1.word ≡ Ok a = operand 4096 a p1.word p1.writes h1 in
-    let o2 : operand_of 4096 p2.word ≡ Ok b = operand 4096 b p2.word p2.writes h2 in
-    let o3 : operand_of 16 p3.word ≡ Ok read = operand 16 read p3.word p3.writes h3 in
-    let o4 : operand_of 16 p4.word ≡ Ok write = operand 16 write p4.word p4.writes h4 in
-    let o5 : operand_of 16 p5.word ≡ Ok cond' = operand 16 cond' p5.word p5.writes h5 in
-    let o6 : operand_of 2 p6.word ≡ Ok sense = operand 2 sense p6.word p6.writes h6 in
-    let o7 : operand_of 256 p7.word ≡ Ok mem = operand 256 mem p7.word p7.writes h7 in
-    let o8 : operand_of 256 p8.word ≡ Ok flag = operand 256 flag p8.word p8.writes h8 in
+    → IsNano a b read write cond' sense mem flag dir nano
+    → IsInstruction line nano
+instruction line r0 r3 r6 r7 r8 a b read write cond' sense mem flag dir nano begin p q p7 p8 last says is =
+    let o1 : operand_of 4096 p.one.word ≡ Ok a = operand 4096 a p.one.word p.one.writes is.a_within in
+    let o2 : operand_of 4096 p.two.word ≡ Ok b = operand 4096 b p.two.word p.two.writes is.b_within in
+    let o3 : operand_of 16 p.three.word ≡ Ok read = operand 16 read p.three.word p.three.writes is.read_within in
+    let o4 : operand_of 16 q.one.word ≡ Ok write = operand 16 write q.one.word q.one.writes is.write_within in
+    let o5 : operand_of 16 q.two.word ≡ Ok cond' = operand 16 cond' q.two.word q.two.writes is.cond_within in
+    let o6 : operand_of 2 q.three.word ≡ Ok sense = operand 2 sense q.three.word q.three.writes is.sense_within in
+    let o7 : operand_of 256 p7.word ≡ Ok mem = operand 256 mem p7.word p7.writes is.mem_table_within in
+    let o8 : operand_of 256 p8.word ≡ Ok flag = operand 256 flag p8.word p8.writes is.flag_table_within in
     record {
-      operands = p1.word ∷ p2.word ∷ p3.word ∷ p4.word ∷ p5.word ∷ p6.word ∷ p7.word ∷ p8.word ∷ r8 ∷ [];
-      words = begin ∙ ap (λ (ws : List (List ℕ)). codes "nano" ∷ ws) (p1.words
-          ∙ ap (λ (ws : List (List ℕ)). p1.word ∷ ws) (p2.words ∙ ap (λ (ws : List (List ℕ)). p2.word ∷ ws) (p3.words
-          ∙ ap (λ (ws : List (List ℕ)). p3.word ∷ ws) (p4.words ∙ ap (λ (ws : List (List ℕ)). p4.word ∷ ws) (p5.words
-          ∙ ap (λ (ws : List (List ℕ)). p5.word ∷ ws) (p6.words ∙ ap (λ (ws : List (List ℕ)). p6.word ∷ ws) (p7.words
+      operands = p.one.word ∷ p.two.word ∷ p.three.word ∷ q.one.word ∷ q.two.word ∷ q.three.word
+          ∷ p7.word ∷ p8.word ∷ r8 ∷ [];
+      words = begin ∙ ap (λ (ws : List (List ℕ)). codes "nano" ∷ ws) (three_words r0 r3 a b read p
+          ∙ ap (λ (ws : List (List ℕ)). p.one.word ∷ p.two.word ∷ p.three.word ∷ ws)
+          (three_words r3 r6 write cond' sense q
+          ∙ ap (λ (ws : List (List ℕ)). q.one.word ∷ q.two.word ∷ q.three.word ∷ ws) (p7.words
           ∙ ap (λ (ws : List (List ℕ)). p7.word ∷ ws) (p8.words
-          ∙ ap (λ (ws : List (List ℕ)). p8.word ∷ ws) last))))))));
-      says = λ i. o1 i >>= λ a'. o2 i >>= λ b'. o3 i >>= λ read'. o4 i >>= λ write'. o5 i >>= λ cond'.
+          ∙ ap (λ (ws : List (List ℕ)). p8.word ∷ ws) last))));
+      says = (λ i. o1 i >>= λ a'. o2 i >>= λ b'. o3 i >>= λ read'. o4 i >>= λ write'. o5 i >>= λ cond'.
           (o6 i >>= λ n. Ok (n == 1)) >>= λ sense'. o7 i >>= λ mem'. o8 i >>= λ flag'. says i >>= λ dir'.
           Ok (record {
             a = a';
@@ -359,5 +358,19 @@ instruction line r0 r1 r2 r3 r4 r5 r6 r7 r8 a b read write cond' sense mem flag 
             mem_table = mem';
             flag_table = flag';
             dir = dir';
-          });
+          }))
+          ∙ ap (λ (n : Nano). Ok n) (sym is.is);
     }
+
+-- where there is one
+pub instruction_if : (line r0 r3 r6 r7 r8 : List ℕ) (a b read write cond' sense mem flag : ℕ) (dir : Dir)
+    (nano : Option Nano)
+    → words_of line ≡ codes "nano" ∷ words_of r0
+    → BeginsWithThree r0 r3 a b read → BeginsWithThree r3 r6 write cond' sense
+    → BeginsWith r6 r7 mem → BeginsWith r7 r8 flag
+    → words_of r8 ≡ r8 ∷ [] → direction_of r8 ≡ Ok dir
+    → IfSome nano (IsNano a b read write cond' sense mem flag dir)
+    → IfSome nano (IsInstruction line)
+instruction_if line r0 r3 r6 r7 r8 a b read write cond' sense mem flag dir (Some nano) begin p q p7 p8 last says is =
+    instruction line r0 r3 r6 r7 r8 a b read write cond' sense mem flag dir nano begin p q p7 p8 last says is
+instruction_if line r0 r3 r6 r7 r8 a b read write cond' sense mem flag dir None begin p q p7 p8 last says is = tt

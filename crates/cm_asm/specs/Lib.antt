@@ -1,1 +1,3 @@
 pub mod SinglePass
+pub mod Thirds
+pub mod Verbs

@@ -1,10 +1,11 @@
 //! The operands of a line.
 
-ghost use Rattle.std.specs.Prelude.{◌≡◌, ◌<◌, IfOk, IfErr};
+ghost use Rattle.std.specs.Prelude.{◌≡◌, ◌≢◌, ◌<◌, ◌∷◌, [], None, IfOk, IfErr, IfSome, length};
 ghost use Rattle.cm_bits.specs.Text.{words_left};
 ghost use Rattle.cm_language.specs.Lines.{operand_of, number_operand, sense_operand, direction_of, field_operand};
 ghost use Rattle.cm_language.specs.Lines.{no_operand, flag_operand, one_field, two_fields, nano_of};
 ghost use Rattle.cm_language.specs.Program.{IsOwnFault};
+ghost use Rattle.cm_asm.specs.Thirds.{all_three};
 
 use crate::fields::Fields;
 use cm_bits::{Addr, Dir, Field, FlagNo, Words, read_number};
@@ -57,33 +58,48 @@ pub fn two_fields(fields: &Fields, mut words: Words) -> Result<(Field, Field), A
     Ok((d, s))
 }
 
+/// Three words, where there are no others.
+pub fn three_words<'a>(mut words: Words<'a>) -> Option<(&'a [u8], &'a [u8], &'a [u8])>
+    ensures some { IfSome result (λ three.
+        words_left words.entry ≡ three.0.now ∷ three.1.now ∷ three.2.now ∷ []) }
+    ensures none { result ≡ None → length (words_left words.entry) ≢ 3 }
+{
+    let three = next_three(&mut words)?;
+    match words.next() {
+        None => Some(three),
+        Some(_) => None,
+    }
+}
+
+/// The next three words.
+fn next_three<'a>(words: &mut Words<'a>) -> Option<(&'a [u8], &'a [u8], &'a [u8])>
+    ensures some { IfSome result (λ three.
+        words_left words.old ≡ three.0.now ∷ three.1.now ∷ three.2.now ∷ words_left words.new) }
+    ensures none { result ≡ None → length (words_left words.old) < 3 }
+{
+    let first = words.next()?;
+    let second = words.next()?;
+    let third = words.next()?;
+    Some((first, second, third))
+}
+
 /// The instruction of the words after `nano`: nine operands, the first faulty one from left to right is told.
 pub fn read_nano(mut words: Words) -> Result<Nano, AsmKind>
     ensures value { result ≡ nano_of (words_left words.entry) }
     ensures own { IfErr result IsOwnFault }
 {
-    let (Some(a), Some(b), Some(read)) = (words.next(), words.next(), words.next()) else {
+    let Some((a, b, read)) = next_three(&mut words) else {
         return Err(AsmKind::Operands);
     };
-    let (Some(write), Some(cond), Some(sense)) = (words.next(), words.next(), words.next()) else {
+    let Some((write, cond, sense)) = next_three(&mut words) else {
         return Err(AsmKind::Operands);
     };
-    let (Some(mem_table), Some(flag_table), Some(dir)) = (words.next(), words.next(), words.next())
-    else {
+    let Some((mem_table, flag_table, dir)) = three_words(words) else {
         return Err(AsmKind::Operands);
     };
-    if words.next().is_some() {
-        return Err(AsmKind::Operands);
-    }
-    let a = read_address(a)?;
-    let b = read_address(b)?;
-    let read = read_flag(read)?;
-    let write = read_flag(write)?;
-    let cond = read_flag(cond)?;
-    let sense = read_sense(sense)?;
-    let mem_table = read_table(mem_table)?;
-    let flag_table = read_table(flag_table)?;
-    let dir = read_direction(dir)?;
+    let (a, b, read) = read_sources(a, b, read)?;
+    let (write, cond, sense) = read_conditions(write, cond, sense)?;
+    let (mem_table, flag_table, dir) = read_tables(mem_table, flag_table, dir)?;
     Ok(Nano {
         a,
         b,
@@ -95,6 +111,41 @@ pub fn read_nano(mut words: Words) -> Result<Nano, AsmKind>
         flag_table,
         dir,
     })
+}
+
+fn read_sources(a: &[u8], b: &[u8], read: &[u8]) -> Result<(Addr, Addr, FlagNo), AsmKind>
+    ensures value { result ≡ all_three (operand_of 4096 a.now) (operand_of 4096 b.now) (operand_of 16 read.now) }
+    ensures own { IfErr result IsOwnFault }
+{
+    let a = read_address(a)?;
+    let b = read_address(b)?;
+    let read = read_flag(read)?;
+    Ok((a, b, read))
+}
+
+fn read_conditions(
+    write: &[u8],
+    cond: &[u8],
+    sense: &[u8],
+) -> Result<(FlagNo, FlagNo, bool), AsmKind>
+    ensures value { result ≡ all_three (operand_of 16 write.now) (operand_of 16 cond.now) (sense_operand sense.now) }
+    ensures own { IfErr result IsOwnFault }
+{
+    let write = read_flag(write)?;
+    let cond = read_flag(cond)?;
+    let sense = read_sense(sense)?;
+    Ok((write, cond, sense))
+}
+
+fn read_tables(mem_table: &[u8], flag_table: &[u8], dir: &[u8]) -> Result<(u8, u8, Dir), AsmKind>
+    ensures value { result
+        ≡ all_three (operand_of 256 mem_table.now) (operand_of 256 flag_table.now) (direction_of dir.now) }
+    ensures own { IfErr result IsOwnFault }
+{
+    let mem_table = read_table(mem_table)?;
+    let flag_table = read_table(flag_table)?;
+    let dir = read_direction(dir)?;
+    Ok((mem_table, flag_table, dir))
 }
 
 /// The field of a defined name.

@@ -9,7 +9,7 @@ ghost use Rattle.std.specs.List.{list_all};
 ghost use Rattle.cm_language.specs.Faults.{first_fault};
 
 use crate::fields::Fields;
-use crate::operands::read_short;
+use crate::operands::{read_short, three_words};
 use crate::program::Program;
 use crate::single_pass::instruction_of;
 use crate::statements::{read_statement, verb_of};
@@ -79,18 +79,15 @@ impl Reader {
 
     /// A field by the words after `field`.
     #[tactic(auto, using(crate::proofs::Reading::told_as_it_is, crate::proofs::Reading::longer_by_field))]
-    fn define(&mut self, alloc: Global, mut words: Words) -> Result<(), AsmKind>
+    fn define(&mut self, alloc: Global, words: Words) -> Result<(), AsmKind>
         ensures ok { OnOk result (after_definition self.old (words_left words.entry) ≡ Ok self.new) }
         ensures fault { IfErr result (IsLineFault self.old (after_definition self.old (words_left words.entry))) }
         ensures fields { OnErr result (self.new.fields ≡ self.old.fields) }
         ensures context { OnErr result (self.new.context ≡ self.old.context) }
     {
-        let (Some(name), Some(at), Some(len)) = (words.next(), words.next(), words.next()) else {
+        let Some((name, at, len)) = three_words(words) else {
             return Err(AsmKind::Operands);
         };
-        if words.next().is_some() {
-            return Err(AsmKind::Operands);
-        }
         if !is_name(name) {
             return Err(AsmKind::Name);
         }

@@ -3,7 +3,7 @@
 ghost use Rattle.std.specs.Prelude.{◌≡◌, ◌<◌, ◌==◌, ◌∷◌, [], Ok, IfSome, IsTrue, codes, length, get_or};
 ghost use Rattle.cm_bits.specs.Text.{words_of};
 ghost use Rattle.cm_language.specs.Lines.{direction_of};
-ghost use Rattle.cm_asm.specs.SinglePass.{BeginsWith, IsDigit, IsInstruction, IsNumeral};
+ghost use Rattle.cm_asm.specs.SinglePass.{BeginsWith, BeginsWithThree, IsDigit, IsInstruction, IsNano, IsNumeral};
 
 use cm_bits::{Addr, Dir, FlagNo};
 use cm_model::Nano;
@@ -15,30 +15,72 @@ struct Front<'a> {
     rest: &'a [u8],
 }
 
+/// The numbers of the first three words, and what follows them.
+#[derive(Clone, Copy)]
+struct Three<'a> {
+    first: u16,
+    second: u16,
+    third: u16,
+    rest: &'a [u8],
+}
+
 /// The instruction of a line that is written so. Where it is not, nothing is said of it.
 pub fn instruction_of(line: &[u8]) -> Option<Nano>
     ensures { IfSome result (IsInstruction line.now) }
 {
     let rest = after_nano(line)?;
-    let a = front_number(rest)?;
-    let b = front_number(a.rest)?;
-    let read = front_number(b.rest)?;
-    let write = front_number(read.rest)?;
-    let cond = front_number(write.rest)?;
-    let sense = front_number(cond.rest)?;
-    let mem_table = front_number(sense.rest)?;
+    let sources = three_numbers(rest)?;
+    let conditions = three_numbers(sources.rest)?;
+    let mem_table = front_number(conditions.rest)?;
     let flag_table = front_number(mem_table.rest)?;
     let dir = last_direction(flag_table.rest)?;
-    Some(Nano {
-        a: address_of(a.value)?,
-        b: address_of(b.value)?,
-        read: flag_of(read.value)?,
-        write: flag_of(write.value)?,
-        cond: flag_of(cond.value)?,
-        sense: sense_of(sense.value)?,
-        mem_table: table_of(mem_table.value)?,
-        flag_table: table_of(flag_table.value)?,
+    nano_of(
+        &sources,
+        &conditions,
+        mem_table.value,
+        flag_table.value,
         dir,
+    )
+}
+
+// The instruction of these numbers, where each is in its range.
+#[inline(always)]
+fn nano_of(
+    sources: &Three,
+    conditions: &Three,
+    mem_table: u16,
+    flag_table: u16,
+    dir: Dir,
+) -> Option<Nano>
+    ensures { IfSome result (IsNano sources.now.first sources.now.second sources.now.third
+        conditions.now.first conditions.now.second conditions.now.third mem_table flag_table dir) }
+{
+    Some(Nano {
+        a: address_of(sources.first)?,
+        b: address_of(sources.second)?,
+        read: flag_of(sources.third)?,
+        write: flag_of(conditions.first)?,
+        cond: flag_of(conditions.second)?,
+        sense: sense_of(conditions.third)?,
+        mem_table: table_of(mem_table)?,
+        flag_table: table_of(flag_table)?,
+        dir,
+    })
+}
+
+#[inline(always)]
+fn three_numbers<'a>(bytes: &'a [u8]) -> Option<Three<'a>>
+    ensures { IfSome result (λ three. BeginsWithThree
+        bytes.now three.rest.now three.first three.second three.third) }
+{
+    let first = front_number(bytes)?;
+    let second = front_number(first.rest)?;
+    let third = front_number(second.rest)?;
+    Some(Three {
+        first: first.value,
+        second: second.value,
+        third: third.value,
+        rest: third.rest,
     })
 }
 

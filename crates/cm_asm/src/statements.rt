@@ -4,10 +4,12 @@ ghost use Rattle.std.specs.Prelude.{◌≡◌, IfErr};
 ghost use Rattle.cm_bits.specs.Text.{words_left};
 ghost use Rattle.cm_language.specs.Lines.{verb_of, statement_of, choice_of, constant_of, product_of};
 ghost use Rattle.cm_language.specs.Program.{IsOwnFault};
+ghost use Rattle.cm_asm.specs.Verbs.{field_verb_of, flag_verb_of, lone_verb_of};
 
 use crate::fields::Fields;
 use crate::operands::{
-    flag_operand, no_operand, one_field, read_any, read_field, read_flag, read_nano, two_fields,
+    flag_operand, no_operand, one_field, read_any, read_field, read_flag, read_nano, three_words,
+    two_fields,
 };
 use cm_bits::Words;
 use cm_language::{AsmKind, Context, Macro, Statement, Verb};
@@ -29,7 +31,15 @@ pub fn verb_of(word: &[u8]) -> Option<Verb>
         Some(Verb::Equal)
     } else if word == b"move".as_slice() {
         Some(Verb::Move)
-    } else if word == b"select".as_slice() {
+    } else {
+        field_verb_of(word)
+    }
+}
+
+fn field_verb_of(word: &[u8]) -> Option<Verb>
+    ensures value { result ≡ field_verb_of word.now }
+{
+    if word == b"select".as_slice() {
         Some(Verb::Select)
     } else if word == b"const".as_slice() {
         Some(Verb::Const)
@@ -37,7 +47,15 @@ pub fn verb_of(word: &[u8]) -> Option<Verb>
         Some(Verb::Shift)
     } else if word == b"mul".as_slice() {
         Some(Verb::Mul)
-    } else if word == b"set".as_slice() {
+    } else {
+        flag_verb_of(word)
+    }
+}
+
+fn flag_verb_of(word: &[u8]) -> Option<Verb>
+    ensures value { result ≡ flag_verb_of word.now }
+{
+    if word == b"set".as_slice() {
         Some(Verb::Set)
     } else if word == b"clear".as_slice() {
         Some(Verb::Clear)
@@ -45,7 +63,15 @@ pub fn verb_of(word: &[u8]) -> Option<Verb>
         Some(Verb::If)
     } else if word == b"unless".as_slice() {
         Some(Verb::Unless)
-    } else if word == b"always".as_slice() {
+    } else {
+        lone_verb_of(word)
+    }
+}
+
+fn lone_verb_of(word: &[u8]) -> Option<Verb>
+    ensures value { result ≡ lone_verb_of word.now }
+{
+    if word == b"always".as_slice() {
         Some(Verb::Always)
     } else if word == b"cycle".as_slice() {
         Some(Verb::Cycle)
@@ -125,16 +151,13 @@ pub fn read_statement(fields: &Fields, verb: Verb, words: Words) -> Result<State
 }
 
 /// The operands of `select`.
-fn read_choice(fields: &Fields, mut words: Words) -> Result<Statement, AsmKind>
+fn read_choice(fields: &Fields, words: Words) -> Result<Statement, AsmKind>
     ensures value { result ≡ choice_of fields.now (words_left words.entry) }
     ensures own { IfErr result IsOwnFault }
 {
-    let (Some(d), Some(s), Some(flag)) = (words.next(), words.next(), words.next()) else {
+    let Some((d, s, flag)) = three_words(words) else {
         return Err(AsmKind::Operands);
     };
-    if words.next().is_some() {
-        return Err(AsmKind::Operands);
-    }
     let d = read_field(fields, d)?;
     let s = read_field(fields, s)?;
     let flag = read_flag(flag)?;
@@ -155,16 +178,13 @@ fn read_constant(fields: &Fields, mut words: Words) -> Result<Statement, AsmKind
 }
 
 /// The operands of `mul`.
-fn read_product(fields: &Fields, mut words: Words) -> Result<Statement, AsmKind>
+fn read_product(fields: &Fields, words: Words) -> Result<Statement, AsmKind>
     ensures value { result ≡ product_of fields.now (words_left words.entry) }
     ensures own { IfErr result IsOwnFault }
 {
-    let (Some(d), Some(x), Some(y)) = (words.next(), words.next(), words.next()) else {
+    let Some((d, x, y)) = three_words(words) else {
         return Err(AsmKind::Operands);
     };
-    if words.next().is_some() {
-        return Err(AsmKind::Operands);
-    }
     let d = read_field(fields, d)?;
     let x = read_field(fields, x)?;
     let y = read_field(fields, y)?;
