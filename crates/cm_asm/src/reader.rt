@@ -78,7 +78,6 @@ impl Reader {
     }
 
     /// A field by the words after `field`.
-    #[tactic(auto, using(crate::proofs::Reading::told_as_it_is, crate::proofs::Reading::longer_by_field))]
     fn define(&mut self, alloc: Global, words: Words) -> Result<(), AsmKind>
         ensures ok { OnOk result (after_definition self.old (words_left words.entry) ≡ Ok self.new) }
         ensures fault { IfErr result (IsLineFault self.old (after_definition self.old (words_left words.entry))) }
