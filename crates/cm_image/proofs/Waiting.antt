@@ -138,16 +138,17 @@ chips_pushed memory later_memory flags later_flags one count planes others here 
     each_more count (chip_beside later_memory later_flags)
     ∙ (λ i. chips_kept memory later_memory flags later_flags count planes others i ++ last i ∷ [])
 
-pub tile_pushed : (memory later_memory flags later_flags : List ℕ) (capacity later count : ℕ)
-    → IsTile memory capacity flags count → count < 64 → count * 4128 + 4128 ≤ length later_memory → capacity ≤ later
-    → length later_flags ≡ length flags
+pub tile_pushed : (memory later_memory flags later_flags : List ℕ) (capacity later flag_room later_room count : ℕ)
+    → IsTile memory capacity flags flag_room count → count < 256 → count * 4128 + 4128 ≤ length later_memory → capacity ≤ later
+    → count * 16 + 16 ≤ length later_flags → flag_room ≤ later_room
     → ((i : ℕ) → i < count * 16 → get_or later_flags i 0 ≡ get_or flags i 0)
-    → get_or later_flags (count * 16 + 8) 0 ≡ 0 → IsTile later_memory later later_flags (count + 1)
-tile_pushed memory later_memory flags later_flags capacity later count tile few long room words others none = record {
+    → get_or later_flags (count * 16 + 8) 0 ≡ 0 → IsTile later_memory later later_flags later_room (count + 1)
+tile_pushed memory later_memory flags later_flags capacity later flag_room later_room count tile few long room words flags_fit others none = record {
   few = omega (arith, few);
   memory = omega (arith, long);
   room = omega (arith, tile.room, room);
-  flag_words = words ∙ tile.flag_words;
+  flag_words = omega (arith, words);
+  flag_room = omega (arith, tile.flag_room, flags_fit);
   zero = λ c h. ⊎_elim
       (λ (l : c < count). others (c * 16 + 8) (omega (arith, l)) ∙ tile.zero c l)
       (λ (l : count ≤ c). let last : c ≡ count = omega (arith, h, l) in

@@ -5,12 +5,13 @@ use Rattle.cm_model.specs.Machine.{Machine}
 use Rattle.cm_array.specs.Pokes.{machine_with_chips}
 use Rattle.cm_image_format.specs.Image.{listed_part}
 
--- planes that lie chip by chip, of at most 64 chips, with room for all of them
-pub record IsTile (planes : List ℕ) (capacity : ℕ) (flags : List ℕ) (count : ℕ) : Type 0 where
-  pub few : count ≤ 64
+-- planes that lie chip by chip, of at most 256 chips, with room for all of them
+pub record IsTile (planes : List ℕ) (capacity : ℕ) (flags : List ℕ) (flags_capacity : ℕ) (count : ℕ) : Type 0 where
+  pub few : count ≤ 256
   pub memory : count * 4128 ≤ length planes
-  pub room : 64 * 4128 ≤ capacity
-  pub flag_words : length flags ≡ 1024
+  pub room : 256 * 4128 ≤ capacity
+  pub flag_words : count * 16 ≤ length flags
+  pub flag_room : 256 * 16 ≤ flags_capacity
   pub zero : (c : ℕ) → c < count → slice_index flags (c * 16 + 8) ≡ 0
 
 -- the machine with chips that waited in their places, which end before this one

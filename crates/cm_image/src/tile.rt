@@ -16,8 +16,8 @@ use cm_element::PITCH;
 use std::alloc::Global;
 use std::marker::Model;
 
-/// So many chips wait at most: their planes are 528 KB, which a cache holds.
-const WIDTH: u16 = 64;
+/// So many chips wait at most: their planes are 2 MB, which a cache holds.
+const WIDTH: u16 = 256;
 
 const FLAGS: usize = 16;
 
@@ -46,18 +46,17 @@ impl Model for Tile {
 
     ghost view = { λ tile. chips_beside tile.memory.items tile.flags.items tile.count };
 
-    ghost invariant = { λ tile. IsTile tile.memory.items (vec_capacity tile.memory) tile.flags.items tile.count };
+    ghost invariant = { λ tile. IsTile tile.memory.items (vec_capacity tile.memory) tile.flags.items
+        (vec_capacity tile.flags) tile.count };
 }
 
 impl Tile {
-    /// No chip waits. Memory is taken twice, and that of planes is first written when a chip comes.
+    /// No chip waits. Memory is taken twice, and is first written when a chip comes.
     pub(crate) fn new(alloc: Global) -> Result<Tile, NoMemory>
         ensures value { IfOk result (λ tile. tile ≡ []) }
     {
         let memory = Vec::with_capacity(alloc, usize::from(WIDTH) * PITCH)?;
-        let Ok(flags) = vec![in alloc; 0; usize::from(WIDTH) * FLAGS] else {
-            return Err(NoMemory);
-        };
+        let flags = Vec::with_capacity(alloc, usize::from(WIDTH) * FLAGS)?;
         Ok(Tile {
             memory,
             flags,
@@ -92,7 +91,7 @@ impl Tile {
         requires waiting { length self.old ≤ end }
         requires end { end ≤ 2 ^ N }
         ensures value { with_waiting end builder.new self.new ≡ with_waiting end builder.old self.old }
-        ensures room { length self.new < 64 }
+        ensures room { length self.new < 256 }
         ensures waiting { length self.new ≤ end }
     {
         if self.count == WIDTH {
@@ -103,7 +102,7 @@ impl Tile {
     /// Takes in a chip with these flag planes if the memory planes of all addresses are listed, and tells whether
     /// they are.
     pub(crate) fn push(&mut self, flags: &[Plane; 16], bytes: &[u8]) -> bool
-        requires room { length self.old < 64 }
+        requires room { length self.old < 256 }
         requires zero { slice_index flags.now 8 ≡ 0 }
         ensures full { result ≡ true → made (λ listed. self.old ++ chip_of (planes_of listed) flags.now ∷ []) memory_part
             bytes.now ≡ Ok (self.new, drop 16386 bytes.now) }
@@ -115,7 +114,9 @@ impl Tile {
         if !take_memory(&mut self.memory, place, bytes) {
             return false;
         }
-        put_planes(&mut self.flags, usize::from(self.count) * FLAGS, flags);
+        let at = usize::from(self.count) * FLAGS;
+        lengthen(&mut self.flags, at + FLAGS);
+        put_planes(&mut self.flags, at, flags);
         self.count += 1;
         true
     }

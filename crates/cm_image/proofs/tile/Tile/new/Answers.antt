@@ -2,4 +2,4 @@ use Rattle.cm_image.proofs.Waiting.{no_chips}
 use Rattle.cm_image.proofs.tile.Tile.new.Goals as goal
 
 pub returns : goal.returns
-returns c = record { value = no_chips c.in_ok-memory.memory.items c.in-Ok.flags.items }
+returns c = record { value = no_chips c.in_ok-memory.memory.items c.in_ok-flags.flags.items }

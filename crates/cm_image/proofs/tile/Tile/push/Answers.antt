@@ -34,19 +34,16 @@ returns-then-not-take_memory-clause-other c = λ none.
     ∙ c.lengthen.ensures.below i (omega (arith, h, c.self.invariant.memory))) (λ i h. refl)
     ∙ c.self.view_is
 
-pub put_planes-requires : goal.put_planes-requires
-put_planes-requires c =
+pub lengthen-requires-2 : goal.lengthen-requires-2
+lengthen-requires-2 c =
     let run = c.self.inside in
     let few = rw (← c.self.view_is, length-chips_beside run.memory.items run.flags.items run.count) at c.requires.room in
-    record {
-      room = omega (
-        arith,
-        few,
-        c.from.ensures,
-        ap length c.deref_mut-2.ensures.value,
-        c.self.invariant.flag_words,
-      );
-    }
+    record { room = omega (arith, few, c.from-at.ensures, c.self.invariant.flag_room) }
+
+pub put_planes-requires : goal.put_planes-requires
+put_planes-requires c = record {
+  room = omega (arith, c.from-at.ensures, c.lengthen-2.ensures.long, ap length c.deref_mut-2.ensures.value);
+}
 
 -- ---- the planes that were put
 
@@ -58,10 +55,10 @@ memory_is c =
     (omega (arith, c.take_memory.auto.memory, ap length lent.value, lent.len))
 
 flags_are : (c : goal.After-self-3-1)
-    → (with_items c.self.inside.flags c.put_planes.new.planes).items ≡ c.put_planes.new.planes
+    → (with_items c.lengthen-2.new.words c.put_planes.new.planes).items ≡ c.put_planes.new.planes
 flags_are c =
     let lent = c.deref_mut-2.ensures in
-    with_items_is c.self.inside.flags c.put_planes.new.planes
+    with_items_is c.lengthen-2.new.words c.put_planes.new.planes
     (omega (arith, c.put_planes.auto.planes, ap length lent.value, lent.len))
 
 memory_below : (c : goal.After-self-3-1) (i : ℕ) → i < c.self.inside.count * 4128
@@ -74,13 +71,14 @@ memory_below c i h =
 flags_below : (c : goal.After-self-3-1) (i : ℕ) → i < c.self.inside.count * 16
     → get_or c.put_planes.new.planes i 0 ≡ get_or c.self.inside.flags.items i 0
 flags_below c i h =
-    c.put_planes.ensures.below i (omega (arith, h, c.from.ensures))
+    c.put_planes.ensures.below i (omega (arith, h, c.from-at.ensures))
     ∙ ap (λ (fs : List ℕ). get_or fs i 0) c.deref_mut-2.ensures.value
+    ∙ c.lengthen-2.ensures.below i (omega (arith, h, c.self.invariant.flag_words))
 
 flags_here : (c : goal.After-self-3-1) (f : ℕ) → f < 16
     → get_or c.put_planes.new.planes (c.self.inside.count * 16 + f) 0 ≡ get_or c.args.flags.now f 0
 flags_here c f h =
-    ap (λ (k : ℕ). get_or c.put_planes.new.planes (k * 16 + f) 0) (sym c.from.ensures)
+    ap (λ (k : ℕ). get_or c.put_planes.new.planes (k * 16 + f) 0) (sym c.from-at.ensures)
     ∙ c.put_planes.ensures.value f h
 
 pub invariant_of-self-2 : goal.invariant_of-self-2
@@ -89,9 +87,11 @@ invariant_of-self-2 c =
     let memory : List ℕ = c.take_memory.new.memory in
     let flags : List ℕ = c.put_planes.new.planes in
     let few = rw (← c.self.view_is, length-chips_beside run.memory.items run.flags.items run.count) at c.requires.room in
-    let tile : IsTile memory (vec_capacity c.lengthen.new.words) flags (run.count + 1) =
-    tile_pushed run.memory.items memory run.flags.items flags (vec_capacity run.memory)
-    (vec_capacity c.lengthen.new.words) run.count c.self.invariant few
+    let room : ℕ = vec_capacity c.lengthen.new.words in
+    let flag_room : ℕ = vec_capacity c.lengthen-2.new.words in
+    let tile : IsTile memory room flags flag_room (run.count + 1) =
+    tile_pushed run.memory.items memory run.flags.items flags (vec_capacity run.memory) room (vec_capacity run.flags)
+    flag_room run.count c.self.invariant few
     (omega (
       arith,
       c.lengthen.ensures.long,
@@ -100,11 +100,18 @@ invariant_of-self-2 c =
       ap length c.deref_mut.ensures.value,
     ))
     c.lengthen.ensures.capacity
-    (omega (arith, c.put_planes.auto.planes, ap length c.deref_mut-2.ensures.value)) (flags_below c)
+    (omega (
+      arith,
+      c.lengthen-2.ensures.long,
+      c.from-at.ensures,
+      c.put_planes.auto.planes,
+      ap length c.deref_mut-2.ensures.value,
+    ))
+    c.lengthen-2.ensures.capacity (flags_below c)
     (flags_here c 8 (omega arith) ∙ c.requires.zero) in
-    subst (λ (ms : List ℕ). IsTile ms (vec_capacity c.lengthen.new.words) (with_items run.flags flags).items (run.count + 1))
+    subst (λ (ms : List ℕ). IsTile ms room (with_items c.lengthen-2.new.words flags).items flag_room (run.count + 1))
     (sym (memory_is c))
-    (subst (λ (fs : List ℕ). IsTile memory (vec_capacity c.lengthen.new.words) fs (run.count + 1)) (sym (flags_are c)) tile)
+    (subst (λ (fs : List ℕ). IsTile memory room fs flag_room (run.count + 1)) (sym (flags_are c)) tile)
 
 pub returns-clause-full : goal.returns-clause-full
 returns-clause-full c = λ all.
@@ -117,7 +124,7 @@ returns-clause-full c = λ all.
     (c.take_memory.ensures.full c.if-not-take_memory.false) in
     let front : Chips = chips_beside run.memory.items run.flags.items run.count in
     let chips : c.args.self.now ++ chip_of (planes_of told.0) one ∷ []
-    ≡ chips_beside (with_items c.lengthen.new.words memory).items (with_items run.flags flags).items (run.count + 1) =
+    ≡ chips_beside (with_items c.lengthen.new.words memory).items (with_items c.lengthen-2.new.words flags).items (run.count + 1) =
     (λ i. sym c.self.view_is i ++ chip_of (told.2 i) one ∷ [])
     ∙ (λ i. front ++ chip_of (each_from 0 4096 (λ a. get_or memory (c.from-place.ensures i * 4128 + a) 0)) one ∷ [])
     ∙ sym (chips_pushed run.memory.items memory run.flags.items flags one run.count (memory_below c) (flags_below c)

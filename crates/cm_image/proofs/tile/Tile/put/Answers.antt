@@ -35,7 +35,7 @@ chips-requires g c =
         (
           omega (arith, c.self.invariant.memory, ap length c.deref.ensures.value),
           (
-            omega (arith, c.self.invariant.few, c.self.invariant.flag_words, ap length c.deref-2.ensures.value),
+            omega (arith, c.self.invariant.flag_words, ap length c.deref-2.ensures.value),
             λ k h. ap (λ (fs : List ℕ). get_or fs (k * 16 + 8) 0) c.deref-2.ensures.value ∙ c.self.invariant.zero k h,
           ),
         ),
