@@ -1,6 +1,6 @@
 //! Images by their bytes, and what comes of them.
 
-use crate::playing::tell;
+use crate::playing::{tell, tell_made};
 use crate::whole::tell_fault;
 use cm_array::Machine;
 use cm_bits::{Words, read_number};
@@ -31,7 +31,7 @@ pub(crate) fn tell_shape(
     told: &mut Vec<u8>,
 ) -> Result<(), AllocError> {
     let shape = shape(image);
-    tell(told, format!(in alloc; "= {shape:?}")?.as_bytes())
+    tell_made(told, format!(in alloc; "= {shape:?}"))
 }
 
 /// Tells with which fault bytes are refused, or the bytes of the machine that they are the image of.
@@ -93,7 +93,7 @@ pub(crate) fn tell_refused(
     fault: ProgramFault,
     told: &mut Vec<u8>,
 ) -> Result<(), AllocError> {
-    tell(told, format!(in alloc; "= Err({fault:?})")?.as_bytes())?;
+    tell_made(told, format!(in alloc; "= Err({fault:?})"))?;
     tell_fault(alloc, fault, told)
 }
 
@@ -117,7 +117,11 @@ fn tell_times(alloc: Global, byte: u8, count: u64, told: &mut Vec<u8>) -> Result
         return told.extend_from_slice(format!(in alloc; " {byte:02x}*{count} ")?.as_bytes());
     }
     for _ in 0..count {
-        told.extend_from_slice(format!(in alloc; "{byte:02x}")?.as_bytes())?;
+        add_digits(alloc, byte, told)?;
     }
     Ok(())
+}
+
+fn add_digits(alloc: Global, byte: u8, told: &mut Vec<u8>) -> Result<(), AllocError> {
+    told.extend_from_slice(format!(in alloc; "{byte:02x}")?.as_bytes())
 }

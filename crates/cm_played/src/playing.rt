@@ -22,10 +22,18 @@ pub(crate) fn tell(told: &mut Vec<u8>, line: &[u8]) -> Result<(), AllocError> {
     Ok(())
 }
 
+/// Tells a line that was made, if there was memory for it.
+pub(crate) fn tell_made(
+    told: &mut Vec<u8>,
+    line: Result<String, AllocError>,
+) -> Result<(), AllocError> {
+    tell(told, line?.as_bytes())
+}
+
 /// Tells how many acts the program has, or its first fault.
 pub(crate) fn count(alloc: Global, scene: &Scene, told: &mut Vec<u8>) -> Result<(), AllocError> {
     let count = assemble(alloc, scene.program.as_slice()).map(|program| program.acts().len());
-    tell(told, format!(in alloc; "{count:?}")?.as_bytes())
+    tell_made(told, format!(in alloc; "{count:?}"))
 }
 
 /// Tells the program's listing.
@@ -33,6 +41,10 @@ pub(crate) fn listing(alloc: Global, scene: &Scene, told: &mut Vec<u8>) -> Resul
     let Ok(program) = assemble(alloc, scene.program.as_slice()) else {
         return tell(told, b"the program is refused");
     };
+    tell_listing(alloc, &program, told)
+}
+
+fn tell_listing(alloc: Global, program: &Program, told: &mut Vec<u8>) -> Result<(), AllocError> {
     let Ok(text) = program.listing(alloc) else {
         return Err(AllocError);
     };
@@ -50,7 +62,7 @@ pub(crate) fn read_alone(alloc: Global, line: &[u8], told: &mut Vec<u8>) -> Resu
         return tell(told, b"no such cube");
     }
     let read = read_command(rest, dimensions, count);
-    tell(told, format!(in alloc; "{read:?}")?.as_bytes())
+    tell_made(told, format!(in alloc; "{read:?}"))
 }
 
 fn number(word: Option<&[u8]>) -> usize {
@@ -114,10 +126,7 @@ fn play_weave<const N: usize, const CAP: usize>(
     let Ok(program) = assemble(alloc, scene.program.as_slice()) else {
         return tell(told, b"the program is refused");
     };
-    match first_trial::<N, CAP>(alloc, scene) {
-        Some(trial) => play_exchange(alloc, steps, trial, program.acts(), scene, told),
-        None => tell(told, b"no machine"),
-    }
+    play_exchange::<N, CAP>(alloc, steps, program.acts(), scene, told)
 }
 
 fn play_session<const N: usize, const CAP: usize>(
@@ -128,8 +137,17 @@ fn play_session<const N: usize, const CAP: usize>(
     let Ok(program) = assemble(alloc, scene.program.as_slice()) else {
         return tell(told, b"the program is refused");
     };
-    match first_trial(alloc, scene) {
-        Some(mut trial) => go_through::<N, CAP>(alloc, &mut trial, &program, scene, told),
+    play_commands::<N, CAP>(alloc, &program, scene, told)
+}
+
+fn play_commands<const N: usize, const CAP: usize>(
+    alloc: Global,
+    program: &Program,
+    scene: &Scene,
+    told: &mut Vec<u8>,
+) -> Result<(), AllocError> {
+    match first_trial::<N, CAP>(alloc, scene) {
+        Some(mut trial) => go_through(alloc, &mut trial, program, scene, told),
         None => tell(told, b"no machine"),
     }
 }
@@ -141,7 +159,7 @@ pub(crate) struct Trial<const N: usize, const CAP: usize> {
 }
 
 /// The machine of the scene's image, or where it has none a blank one.
-fn first_trial<const N: usize, const CAP: usize>(
+pub(crate) fn first_trial<const N: usize, const CAP: usize>(
     alloc: Global,
     scene: &Scene,
 ) -> Option<Trial<N, CAP>> {
@@ -218,5 +236,5 @@ fn tell_end(
     end: Result<(), SessionFault>,
     told: &mut Vec<u8>,
 ) -> Result<(), AllocError> {
-    tell(told, format!(in alloc; "= {end:?}")?.as_bytes())
+    tell_made(told, format!(in alloc; "= {end:?}"))
 }

@@ -147,33 +147,55 @@ fn obey(
     line: &[u8],
     told: &mut Vec<u8>,
 ) -> Result<(), AllocError> {
-    match line {
-        [b'#', ..] => {
-            *scene = Scene::new(alloc);
-            tell(told, line)
-        }
-        [b'=', rest @ ..] => {
+    let [mark, rest @ ..] = line else {
+        return Ok(());
+    };
+    match *mark {
+        b'#' => begin(alloc, scene, line, told),
+        b'=' => {
             scene.settle(rest);
             Ok(())
         }
-        [b'*', rest @ ..] => {
+        b'*' => {
             scene.times = read_number(rest).unwrap_or(1);
             Ok(())
         }
-        [b'!', ..] => play(alloc, Turn::Session, scene, told),
-        [b'|'] => play(alloc, Turn::Exchange(Steps::Told), scene, told),
-        [b'|', ..] => play(alloc, Turn::Exchange(Steps::Own), scene, told),
-        [b'&', ..] => judge(alloc, scene, told),
-        [b'/', rest @ ..] => tell_blank(alloc, rest, told),
-        [b'@', ..] => count(alloc, scene, told),
-        [b'%', ..] => listing(alloc, scene, told),
-        [b'?', rest @ ..] => read_alone(alloc, rest, told),
-        [b'~', rest @ ..] => whole(alloc, scene, rest, told),
-        [b'^', rest @ ..] => each(alloc, scene, rest, told),
-        [b'$', rest @ ..] => tell_line(alloc, rest, told),
-        [mark, rest @ ..] => scene.take(alloc, *mark, rest),
-        [] => Ok(()),
+        b'!' => play(alloc, Turn::Session, scene, told),
+        b'|' => exchange(alloc, scene, rest, told),
+        b'&' => judge(alloc, scene, told),
+        b'/' => tell_blank(alloc, rest, told),
+        b'@' => count(alloc, scene, told),
+        b'%' => listing(alloc, scene, told),
+        b'?' => read_alone(alloc, rest, told),
+        b'~' => whole(alloc, scene, rest, told),
+        b'^' => each(alloc, scene, rest, told),
+        b'$' => tell_line(alloc, rest, told),
+        _ => scene.take(alloc, *mark, rest),
     }
+}
+
+fn begin(
+    alloc: Global,
+    scene: &mut Scene,
+    title: &[u8],
+    told: &mut Vec<u8>,
+) -> Result<(), AllocError> {
+    *scene = Scene::new(alloc);
+    tell(told, title)
+}
+
+fn exchange(
+    alloc: Global,
+    scene: &Scene,
+    line: &[u8],
+    told: &mut Vec<u8>,
+) -> Result<(), AllocError> {
+    let steps = if line.is_empty() {
+        Steps::Told
+    } else {
+        Steps::Own
+    };
+    play(alloc, Turn::Exchange(steps), scene, told)
 }
 
 fn judge(alloc: Global, scene: &Scene, told: &mut Vec<u8>) -> Result<(), AllocError> {

@@ -1,7 +1,7 @@
 //! What comes of a scene's session with ends that fail after each number of bytes.
 
 use crate::ends::{Ends, WHOLE};
-use crate::playing::{Turn, play, tell};
+use crate::playing::{Turn, play, tell_made};
 use crate::scene::Scene;
 use std::alloc::{AllocError, Global};
 
@@ -18,12 +18,23 @@ pub(crate) fn tell_each_session(
 ) -> Result<(), AllocError> {
     let ends = scene.ends;
     let whole = told_by(alloc, scene, WHOLE)?;
-    let pieces = pieces_alike(alloc, scene, &whole)?;
-    let rooms = rooms_filled(alloc, scene, &whole, ends.takes_nothing)?;
-    let reads = reads_failed(alloc, scene)?;
+    tell_each_like(alloc, scene, &whole, ends.takes_nothing, told)?;
     scene.ends = ends;
-    let line = format!(in alloc; "= {pieces} pieces, {rooms} rooms, {reads} failed reads")?;
-    tell(told, line.as_bytes())
+    Ok(())
+}
+
+fn tell_each_like(
+    alloc: Global,
+    scene: &mut Scene,
+    whole: &[u8],
+    takes_nothing: bool,
+    told: &mut Vec<u8>,
+) -> Result<(), AllocError> {
+    let pieces = pieces_alike(alloc, scene, whole)?;
+    let rooms = rooms_filled(alloc, scene, whole, takes_nothing)?;
+    let reads = reads_failed(alloc, scene)?;
+    let line = format!(in alloc; "= {pieces} pieces, {rooms} rooms, {reads} failed reads");
+    tell_made(told, line)
 }
 
 /// What is told of the session over these ends.
@@ -62,21 +73,35 @@ fn rooms_filled(
             takes_nothing,
             ..WHOLE
         };
-        let told = told_by(alloc, scene, ends)?;
-        let end = format!(in alloc; "= Err(Write({room}))\n")?;
-        if told.strip_suffix(end.as_bytes()) != Some(&answers[..room]) {
+        if !is_filled(alloc, scene, ends, &answers[..room])? {
             return Ok(room);
         }
     }
     Ok(answers.len())
 }
 
+/// Whether these answers are all that there is room for, and writing fails then.
+fn is_filled(
+    alloc: Global,
+    scene: &mut Scene,
+    ends: Ends,
+    answers: &[u8],
+) -> Result<bool, AllocError> {
+    let told = told_by(alloc, scene, ends)?;
+    let end = format!(in alloc; "= Err(Write({}))\n", answers.len())?;
+    Ok(told.strip_suffix(end.as_bytes()) == Some(answers))
+}
+
 /// The commands come back byte by byte.
 fn reads_failed(alloc: Global, scene: &mut Scene) -> Result<usize, AllocError> {
     let commands = scene.commands.to_vec(alloc)?;
     scene.commands.clear();
+    reads_failed_of(alloc, scene, commands.as_slice())
+}
+
+fn reads_failed_of(alloc: Global, scene: &mut Scene, commands: &[u8]) -> Result<usize, AllocError> {
     let mut ended = told_by(alloc, scene, WHOLE)?;
-    for byte in &commands {
+    for byte in commands {
         if !fails_behind(alloc, scene, answers_of(&ended))? {
             return Ok(scene.commands.len());
         }

@@ -4,7 +4,7 @@ ghost use Rattle.std.specs.Prelude.{◌≡◌, false};
 ghost use Rattle.cm_bits.specs.Doubles.{room_has_failed};
 
 use crate::images::{tell_image, tell_refused};
-use crate::playing::{Trial, tell};
+use crate::playing::{Trial, first_trial, tell};
 use crate::scene::Scene;
 use cm_array::Machine;
 use cm_bits::doubles::Room;
@@ -33,14 +33,49 @@ struct Exchange<const N: usize, const CAP: usize> {
 pub(crate) fn play_exchange<const N: usize, const CAP: usize>(
     alloc: Global,
     steps: Steps,
-    trial: Trial<N, CAP>,
     acts: &[Act],
     scene: &Scene,
     told: &mut Vec<u8>,
 ) -> Result<(), AllocError> {
+    let mut answers = scene.ends.sink(alloc)?;
+    let mut end = Vec::new(alloc);
+    begin::<N, CAP>(alloc, steps, acts, scene, &mut answers, &mut end)?;
+    told.extend_from_slice(answers.taken())?;
+    told.extend_from_slice(end.as_slice())?;
+    Ok(())
+}
+
+/// Answers, and tells how it ended.
+fn begin<const N: usize, const CAP: usize>(
+    alloc: Global,
+    steps: Steps,
+    acts: &[Act],
+    scene: &Scene,
+    answers: &mut Room,
+    end: &mut Vec<u8>,
+) -> Result<(), AllocError>
+    requires writer { room_has_failed answers.old ≡ false }
+{
+    match first_trial::<N, CAP>(alloc, scene) {
+        Some(trial) => weave(alloc, steps, trial, acts, scene, answers, end),
+        None => tell(end, b"no machine"),
+    }
+}
+
+fn weave<const N: usize, const CAP: usize>(
+    alloc: Global,
+    steps: Steps,
+    trial: Trial<N, CAP>,
+    acts: &[Act],
+    scene: &Scene,
+    answers: &mut Room,
+    end: &mut Vec<u8>,
+) -> Result<(), AllocError>
+    requires writer { room_has_failed answers.old ≡ false }
+{
     match cut(alloc, trial, acts, scene.split.min(255) as u8) {
-        Ok(exchange) => go_through(alloc, steps, exchange, scene, told),
-        Err(fault) => tell_refused(alloc, fault, told),
+        Ok(exchange) => go_through(alloc, steps, exchange, scene, answers, end),
+        Err(fault) => tell_refused(alloc, fault, end),
     }
 }
 
@@ -61,14 +96,14 @@ fn go_through<const N: usize, const CAP: usize>(
     steps: Steps,
     exchange: Exchange<N, CAP>,
     scene: &Scene,
-    told: &mut Vec<u8>,
-) -> Result<(), AllocError> {
-    let mut answers = scene.ends.sink(alloc)?;
-    let end = end_of(alloc, steps, exchange, scene, &mut answers);
-    told.extend_from_slice(answers.taken())?;
-    match end {
-        Ok(trial) => tell_left(alloc, &trial, scene, told),
-        Err(fault) => tell_refused(alloc, fault, told),
+    answers: &mut Room,
+    end: &mut Vec<u8>,
+) -> Result<(), AllocError>
+    requires writer { room_has_failed answers.old ≡ false }
+{
+    match end_of(alloc, steps, exchange, scene, answers) {
+        Ok(trial) => tell_left(alloc, &trial, scene, end),
+        Err(fault) => tell_refused(alloc, fault, end),
     }
 }
 

@@ -4,7 +4,7 @@ ghost use Rattle.std.specs.Prelude.{◌≡◌, false, IfOk};
 ghost use Rattle.cm_bits.specs.Doubles.{bytes_has_failed, room_has_failed};
 
 use crate::ends::{Ends, WHOLE};
-use crate::playing::tell;
+use crate::playing::{tell, tell_made};
 use crate::scene::Scene;
 use cm_bits::doubles::{Bytes, Room};
 use cm_bits::{Words, read_number};
@@ -42,12 +42,7 @@ impl What {
         if word == b"list".as_slice() {
             return Some(What::Listing);
         }
-        let number = u8::try_from(read_number(word)?).ok()?;
-        let line = match words.next() {
-            Some(word) => Some(read_number(word)?),
-            None => None,
-        };
-        Some(What::Refusal(number, line))
+        refusal_of(read_number(word)?, words.next())
     }
 
     /// What comes of the text.
@@ -72,21 +67,48 @@ impl What {
         requires writer { room_has_failed sink.old ≡ false }
     {
         match self {
-            What::Chip => {
-                let end = chip_session(alloc, source, sink);
-                let fault = match end {
-                    Ok(()) => None,
-                    Err(fault) => Some(ProgramFault::from(fault)),
-                };
-                Ok((format!(in alloc; "{end:?}")?, fault))
-            }
-            What::Listing => {
-                let end = list(alloc, source, sink);
-                Ok((format!(in alloc; "{end:?}")?, end.err()))
-            }
+            What::Chip => end_of_chip(alloc, source, sink),
+            What::Listing => end_of_listing(alloc, source, sink),
             What::Refusal(number, line) => { Ok((refusal(alloc, number, line, sink)?, None)) }
         }
     }
+}
+
+/// The refusal of this number, in the line of this word, if it stands in one.
+fn refusal_of(number: u64, line: Option<&[u8]>) -> Option<What> {
+    let number = u8::try_from(number).ok()?;
+    match line {
+        Some(word) => Some(What::Refusal(number, Some(read_number(word)?))),
+        None => Some(What::Refusal(number, None)),
+    }
+}
+
+fn end_of_chip(
+    alloc: Global,
+    source: &mut Bytes,
+    sink: &mut Room,
+) -> Result<(String, Option<ProgramFault>), AllocError>
+    requires reader { bytes_has_failed source.old ≡ false }
+    requires writer { room_has_failed sink.old ≡ false }
+{
+    let end = chip_session(alloc, source, sink);
+    let fault = match end {
+        Ok(()) => None,
+        Err(fault) => Some(ProgramFault::from(fault)),
+    };
+    Ok((format!(in alloc; "{end:?}")?, fault))
+}
+
+fn end_of_listing(
+    alloc: Global,
+    source: &mut Bytes,
+    sink: &mut Room,
+) -> Result<(String, Option<ProgramFault>), AllocError>
+    requires reader { bytes_has_failed source.old ≡ false }
+    requires writer { room_has_failed sink.old ≡ false }
+{
+    let end = list(alloc, source, sink);
+    Ok((format!(in alloc; "{end:?}")?, end.err()))
 }
 
 /// How the telling of a refusal ends: with a status.
@@ -121,7 +143,7 @@ pub(crate) fn tell_end(
 ) -> Result<(), AllocError> {
     let played = what.play(alloc, scene.program.as_slice(), scene.ends)?;
     told.extend_from_slice(played.written.taken())?;
-    tell(told, format!(in alloc; "= {}", played.end)?.as_bytes())?;
+    tell_made(told, format!(in alloc; "= {}", played.end))?;
     match played.fault {
         Some(fault) => tell_fault(alloc, fault, told),
         None => Ok(()),
@@ -137,7 +159,7 @@ pub(crate) fn tell_fault(
     let mut sink = Room::new(alloc, 100, 100)?;
     let end = report(fault.number(), fault.line(), &mut sink);
     told.extend_from_slice(sink.taken())?;
-    tell(told, format!(in alloc; "= {end:?}")?.as_bytes())
+    tell_made(told, format!(in alloc; "= {end:?}"))
 }
 
 /// Tells what the words of a command line ask for; each stands behind a bar.
@@ -146,8 +168,12 @@ pub(crate) fn tell_line(alloc: Global, line: &[u8], told: &mut Vec<u8>) -> Resul
     for word in line.split(|byte| *byte == b'|').skip(1) {
         words.push(str::from_utf8(word).unwrap_or("?"))?;
     }
-    let end = command(alloc, words.as_slice());
-    tell(told, format!(in alloc; "= {end:?}")?.as_bytes())?;
+    tell_command(alloc, words.as_slice(), told)
+}
+
+fn tell_command(alloc: Global, words: &[&str], told: &mut Vec<u8>) -> Result<(), AllocError> {
+    let end = command(alloc, words);
+    tell_made(told, format!(in alloc; "= {end:?}"))?;
     match end {
         Ok(_) => Ok(()),
         Err(fault) => tell_fault(alloc, ProgramFault::from(fault), told),
@@ -165,11 +191,21 @@ pub(crate) fn tell_each(
 ) -> Result<(), AllocError> {
     let text = scene.program.as_slice();
     let whole = what.play(alloc, text, WHOLE)?;
-    let pieces = pieces_alike(alloc, what, text, &whole)?;
+    tell_each_of(alloc, what, text, &whole, told)
+}
+
+fn tell_each_of(
+    alloc: Global,
+    what: What,
+    text: &[u8],
+    whole: &Played,
+    told: &mut Vec<u8>,
+) -> Result<(), AllocError> {
+    let pieces = pieces_alike(alloc, what, text, whole)?;
     let rooms = rooms_filled(alloc, what, text, whole.written.taken())?;
     let reads = reads_failed(alloc, what, text)?;
-    let line = format!(in alloc; "= {pieces} pieces, {rooms} rooms, {reads} failed reads")?;
-    tell(told, line.as_bytes())
+    let line = format!(in alloc; "= {pieces} pieces, {rooms} rooms, {reads} failed reads");
+    tell_made(told, line)
 }
 
 fn pieces_alike(
@@ -195,16 +231,28 @@ fn rooms_filled(
 ) -> Result<usize, AllocError> {
     for room in 0..written.len() {
         let played = what.play(alloc, text, Ends { room, ..WHOLE })?;
-        let end = match what {
-            What::Chip => format!(in alloc; "Err(Write({room}))")?,
-            What::Listing => String::from_str(alloc, "Err(Write)")?,
-            What::Refusal(_, _) => String::from_str(alloc, "Err(Failed)")?,
-        };
-        if !played.is(&written[..room], &end) {
+        if !is_filled(alloc, what, &played, &written[..room])? {
             return Ok(room);
         }
     }
     Ok(written.len())
+}
+
+/// Whether what was written is all that there was room for, and writing failed then.
+fn is_filled(
+    alloc: Global,
+    what: What,
+    played: &Played,
+    written: &[u8],
+) -> Result<bool, AllocError> {
+    match what {
+        What::Chip => {
+            let end = format!(in alloc; "Err(Write({}))", written.len())?;
+            Ok(played.is(written, &end))
+        }
+        What::Listing => Ok(played.is(written, "Err(Write)")),
+        What::Refusal(_, _) => Ok(played.is(written, "Err(Failed)")),
+    }
 }
 
 fn reads_failed(alloc: Global, what: What, text: &[u8]) -> Result<usize, AllocError> {
