@@ -62,7 +62,7 @@ const CYCLES: u64 = 6;
 // Where the drawing starts, with room for fifteen messages, of which none is referred.
 const ALONE: [u64; 3] = [31, 32, 33];
 
-pub(crate) const LOG_ROOM: usize = 512;
+const LOG_ROOM: usize = 512;
 
 const INSTRUCTIONS: u64 = 8;
 
@@ -89,12 +89,12 @@ pub(crate) struct Band {
     clock: u64,
 }
 
-// The sizes of a machine, if there is one of these.
-pub(crate) fn sizes(dims: u8, room: u8) -> Option<Sizes> {
-    if dims > 12 || room == 0 || room > 15 {
-        return None;
+// The sizes of a machine; numbers beyond what there is are cut to it.
+pub(crate) fn sizes(dims: u8, room: u8) -> Sizes {
+    Sizes {
+        dims: dims.min(12),
+        room: room.clamp(1, 15),
     }
-    Some(Sizes { dims, room })
 }
 
 // Whether so many chips of a machine stand from this one on.
@@ -130,6 +130,15 @@ pub(crate) fn ask(run: &mut Run, chip: u16, seed: u64, most: u64) {
     put_flag(run, chip, receiver, FlagNo::RECV, false);
 }
 
+// As many logs, with room for events.
+pub(crate) fn blank_logs(alloc: Global, chips: u16) -> Result<Vec<Vec<Event>>, Fail> {
+    let mut logs = Vec::new(alloc);
+    for _chip in 0..chips {
+        logs.push(Vec::with_capacity(alloc, LOG_ROOM)?)?;
+    }
+    Ok(logs)
+}
+
 impl Band {
     pub(crate) fn blank(
         alloc: Global,
@@ -139,18 +148,14 @@ impl Band {
         routes: Routes,
     ) -> Result<Band, Fail> {
         let chips: u16 = 1 << (span & 7);
-        let mut logs = Vec::new(alloc);
-        for _chip in 0..chips {
-            logs.push(Vec::with_capacity(alloc, LOG_ROOM)?)?;
-        }
         Ok(Band {
             sizes,
             span,
             first,
+            logs: blank_logs(alloc, chips)?,
             routing: routed(alloc, sizes.dims, routes)?,
-            run: Run::blank(alloc, chips)?,
             crossing: Crossing::new(alloc, usize::from(chips))?,
-            logs,
+            run: Run::blank(alloc, chips)?,
             clock: 0,
         })
     }
@@ -237,6 +242,20 @@ impl Band {
         }
         true
     }
+}
+
+// Runs of one machine, of so many dimensions each, from these chips on.
+fn blank_bands(
+    alloc: Global,
+    sizes: Sizes,
+    spans: &[(u8, u16)],
+    routes: Routes,
+) -> Result<Vec<Band>, Fail> {
+    let mut bands = Vec::new(alloc);
+    for (span, first) in spans {
+        bands.push(Band::blank(alloc, sizes, *span, *first, routes)?)?;
+    }
+    Ok(bands)
 }
 
 fn cross_one(
@@ -390,35 +409,16 @@ fn halves_stay_alike(whole: &mut Band, low: &mut Band, high: &mut Band, seed: u6
     true
 }
 
-// Each run is made by a function of its own and lent to the next.
-fn upper_half_goes_with(
-    alloc: Global,
-    whole: &mut Band,
-    low: &mut Band,
-    routes: Routes,
-    seed: u64,
-) -> Result<bool, Fail> {
-    let mut high = Band::blank(alloc, low.sizes, 3, 8, routes)?;
-    Ok(halves_stay_alike(whole, low, &mut high, seed))
-}
-
-fn halves_go_with(
-    alloc: Global,
-    whole: &mut Band,
-    routes: Routes,
-    seed: u64,
-) -> Result<bool, Fail> {
-    let mut low = Band::blank(alloc, whole.sizes, 3, 0, routes)?;
-    upper_half_goes_with(alloc, whole, &mut low, routes, seed)
-}
-
 // Two runs of eight chips, which exchange in dimension 3, beside the machine of sixteen chips that they are.
 fn halves_go_alike(alloc: Global, case: (u8, Routes, u64)) -> Result<bool, Fail> {
     let (room, routes, seed) = case;
-    let all = sizes(4, room).ok_or("no such machine")?;
-    let mut whole = Band::blank(alloc, all, 4, 0, routes)?;
-    let alike = halves_go_with(alloc, &mut whole, routes, seed)?;
-    Ok(alike && !whole.crossing.is_empty())
+    let mut bands = blank_bands(alloc, sizes(4, room), &[(4, 0), (3, 0), (3, 8)], routes)?;
+    Ok(match bands.as_mut_slice() {
+        [whole, low, high] => {
+            halves_stay_alike(whole, low, high, seed) && !whole.crossing.is_empty()
+        }
+        _ => false,
+    })
 }
 
 // An instruction on the processor and the payload of the sent record, which leaves the relative address as it is.
@@ -479,17 +479,14 @@ fn upper_half_stays_alike(whole: &mut Band, high: &mut Band, seed: u64) -> bool 
     true
 }
 
-fn upper_half_goes_beside(alloc: Global, whole: &mut Band, seed: u64) -> Result<bool, Fail> {
-    let mut high = Band::blank(alloc, whole.sizes, 3, 8, Routes::PLAIN)?;
-    Ok(upper_half_stays_alike(whole, &mut high, seed))
-}
-
 // Chips 8 to 15 of sixteen, beside the whole machine, where nobody sends out of these chips or into them: petit
 // cycles, and instructions after each. With room for fifteen no message is referred.
 fn upper_half_goes_alone(alloc: Global, seed: u64) -> Result<bool, Fail> {
-    let all = Sizes { dims: 4, room: 15 };
-    let mut whole = Band::blank(alloc, all, 4, 0, Routes::PLAIN)?;
-    upper_half_goes_beside(alloc, &mut whole, seed)
+    let mut bands = blank_bands(alloc, sizes(4, 15), &[(4, 0), (3, 8)], Routes::PLAIN)?;
+    Ok(match bands.as_mut_slice() {
+        [whole, high] => upper_half_stays_alike(whole, high, seed),
+        _ => false,
+    })
 }
 
 // A message as a chip would have it whose number is so much less.
@@ -513,15 +510,7 @@ fn moved_event(event: Event, first: u16) -> Event {
     }
 }
 
-fn has_moved_messages(left: &mut Crossing, right: &mut Crossing, chip: u16, first: u16) -> bool {
-    let chip = usize::from(chip);
-    left.gather();
-    right.gather();
-    if chip >= left.chips() || chip >= right.chips() {
-        return false;
-    }
-    let here = left.buffer(chip);
-    let there = right.buffer(chip);
+fn are_moved(here: &[Message], there: &[Message], first: u16) -> bool {
     here.len() == there.len()
         && here
             .iter()
@@ -529,16 +518,29 @@ fn has_moved_messages(left: &mut Crossing, right: &mut Crossing, chip: u16, firs
             .all(|(m, other)| moved(*m, first) == *other)
 }
 
-fn has_moved_events(left: &[Vec<Event>], right: &[Vec<Event>], chip: u16, first: u16) -> bool {
+fn has_moved_messages(left: &mut Crossing, right: &mut Crossing, chip: u16, first: u16) -> bool {
     let chip = usize::from(chip);
-    let (Some(here), Some(there)) = (left.get(chip), right.get(chip)) else {
-        return false;
-    };
+    left.gather();
+    right.gather();
+    chip < left.chips()
+        && chip < right.chips()
+        && are_moved(left.buffer(chip), right.buffer(chip), first)
+}
+
+fn are_moved_events(here: &[Event], there: &[Event], first: u16) -> bool {
     here.len() == there.len()
         && here
             .iter()
             .zip(there)
             .all(|(event, other)| moved_event(*event, first) == *other)
+}
+
+fn has_moved_events(left: &[Vec<Event>], right: &[Vec<Event>], chip: u16, first: u16) -> bool {
+    let chip = usize::from(chip);
+    match (left.get(chip), right.get(chip)) {
+        (Some(here), Some(there)) => are_moved_events(here, there, first),
+        _ => false,
+    }
 }
 
 // Drawn processors of both ask to send; the seed that comes next.
@@ -592,17 +594,14 @@ fn stay_moved(here: &mut Band, there: &mut Band, seed: u64) -> bool {
     true
 }
 
-fn goes_as_moved(alloc: Global, here: &mut Band, routes: Routes, seed: u64) -> Result<bool, Fail> {
-    let mut there = Band::blank(alloc, here.sizes, 1, 0, routes)?;
-    Ok(stay_moved(here, &mut there, seed))
-}
-
 // A run that begins at chip 5 has the planes of one that begins at chip 0, and other tags.
 fn begins_anywhere(alloc: Global, case: (u8, Routes, u64)) -> Result<bool, Fail> {
     let (room, routes, seed) = case;
-    let all = sizes(4, room).ok_or("no such machine")?;
-    let mut here = Band::blank(alloc, all, 1, 5, routes)?;
-    goes_as_moved(alloc, &mut here, routes, seed)
+    let mut bands = blank_bands(alloc, sizes(4, room), &[(1, 5), (1, 0)], routes)?;
+    Ok(match bands.as_mut_slice() {
+        [here, there] => stay_moved(here, there, seed),
+        _ => false,
+    })
 }
 
 #[test]

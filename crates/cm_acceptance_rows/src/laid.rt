@@ -20,69 +20,88 @@ const HERE: u64 = 1000;
 
 const THERE: u64 = 7000;
 
-fn number_of(run: &Run, chip: u16) -> Result<u64, Fail> {
-    if usize::from(chip) >= run.chips() {
-        return Ok(0);
+// The processor that has a number, and the field that it stands in.
+#[derive(Clone, Copy)]
+struct Numbered {
+    proc: Proc,
+    field: Field,
+}
+
+impl Numbered {
+    fn new() -> Result<Numbered, Fail> {
+        Ok(Numbered {
+            proc: Proc::new(3).ok_or("no processor")?,
+            field: Field::new(4080, 16)?,
+        })
     }
-    let proc = Proc::new(3).ok_or("no processor")?;
-    let view = run.view(chip);
-    let field = view.field(proc, Field::new(4080, 16)?);
-    Ok(if view.flag(proc, FlagNo::RECV) {
-        field
-    } else {
-        0
-    })
-}
 
-// Each chip has a number of its own in a field of one processor, and RECV is 1 there.
-fn numbered(alloc: Global, count: u16, base: u64) -> Result<Run, Fail> {
-    let proc = Proc::new(3).ok_or("no processor")?;
-    let field = Field::new(4080, 16)?;
-    let mut run = Run::blank(alloc, count)?;
-    number(&mut run, count, proc, field, base);
-    Ok(run)
-}
-
-fn number(run: &mut Run, count: u16, proc: Proc, field: Field, base: u64) {
-    for chip in 0..count {
-        if usize::from(chip) < run.chips() {
-            run.poke_field(chip, proc, field, base.wrapping_add(u64::from(chip)));
-            run.poke_flag_plane(chip, FlagNo::RECV, 8);
+    fn number_of(&self, run: &Run, chip: u16) -> u64 {
+        if usize::from(chip) >= run.chips() {
+            return 0;
         }
-    }
-}
-
-// Whether each of so many chips has the number that it should have then.
-fn have_numbers(run: &Run, lay: (u16, u16, u16, u16, u16)) -> Result<bool, Fail> {
-    let (here, at, _, first, count) = lay;
-    for chip in 0..here {
-        let wanted = if chip >= at && chip - at < count {
-            THERE + u64::from(first) + u64::from(chip - at)
+        let view = run.view(chip);
+        if view.flag(self.proc, FlagNo::RECV) {
+            view.field(self.proc, self.field)
         } else {
-            HERE + u64::from(chip)
-        };
-        if number_of(run, chip)? != wanted {
-            return Ok(false);
+            0
         }
     }
-    Ok(true)
+
+    // Each chip gets a number of its own, and RECV is 1 there.
+    fn number(&self, run: &mut Run, count: u16, base: u64) {
+        for chip in 0..count {
+            if usize::from(chip) < run.chips() {
+                let number = base.wrapping_add(u64::from(chip));
+                run.poke_field(chip, self.proc, self.field, number);
+                run.poke_flag_plane(chip, FlagNo::RECV, 8);
+            }
+        }
+    }
+
+    // Whether each of so many chips has the number that it should have then.
+    fn are_right(&self, run: &Run, lay: (u16, u16, u16, u16, u16)) -> bool {
+        let (here, at, _, first, count) = lay;
+        for chip in 0..here {
+            let wanted = if chip >= at && chip - at < count {
+                THERE + u64::from(first) + u64::from(chip - at)
+            } else {
+                HERE + u64::from(chip)
+            };
+            if self.number_of(run, chip) != wanted {
+                return false;
+            }
+        }
+        true
+    }
 }
 
-fn lays(alloc: Global, run: &mut Run, lay: (u16, u16, u16, u16, u16)) -> Result<bool, Fail> {
-    let (_, at, there, first, count) = lay;
-    let from = numbered(alloc, there, THERE)?;
+fn lays(run: &mut Run, from: &Run, lay: (u16, u16, u16, u16, u16)) -> bool {
+    let (_, at, _, first, count) = lay;
     if usize::from(at) + usize::from(count) > run.chips()
         || usize::from(first) + usize::from(count) > from.chips()
     {
-        return Ok(false);
+        return false;
     }
-    run.lay(at, &from, first, count);
-    Ok(true)
+    run.lay(at, from, first, count);
+    true
+}
+
+fn is_laid_into(
+    alloc: Global,
+    run: &mut Run,
+    lay: (u16, u16, u16, u16, u16),
+    numbered: &Numbered,
+) -> Result<bool, Fail> {
+    let mut from = Run::blank(alloc, lay.2)?;
+    numbered.number(&mut from, lay.2, THERE);
+    Ok(lays(run, &from, lay) && numbered.are_right(run, lay))
 }
 
 fn is_laid(alloc: Global, lay: (u16, u16, u16, u16, u16)) -> Result<bool, Fail> {
-    let mut run = numbered(alloc, lay.0, HERE)?;
-    Ok(lays(alloc, &mut run, lay)? && have_numbers(&run, lay)?)
+    let numbered = Numbered::new()?;
+    let mut run = Run::blank(alloc, lay.0)?;
+    numbered.number(&mut run, lay.0, HERE);
+    is_laid_into(alloc, &mut run, lay, &numbered)
 }
 
 #[test]

@@ -1,6 +1,6 @@
 //! Petit cycles on nodes, one for each chip, beside petit cycles on a machine's messages.
 
-use crate::bands::{Band, LOG_ROOM, ask, has_same_planes, next, sizes};
+use crate::bands::{Band, ask, blank_logs, has_same_planes, next, sizes};
 use crate::routes::{Routes, is_of_cube, routed};
 use cm_crossing::Sizes;
 use cm_element::Run;
@@ -68,21 +68,23 @@ struct Noded {
     clock: u64,
 }
 
+fn blank_nodes(alloc: Global, sizes: Sizes, chips: u16) -> Result<Vec<Node>, Fail> {
+    let mut nodes = Vec::new(alloc);
+    for _chip in 0..chips {
+        nodes.push(Node::new(sizes.room))?;
+    }
+    Ok(nodes)
+}
+
 impl Noded {
     fn blank(alloc: Global, sizes: Sizes, routes: Routes) -> Result<Noded, Fail> {
         let chips: u16 = 1 << (sizes.dims & 7);
-        let mut nodes = Vec::new(alloc);
-        let mut logs = Vec::new(alloc);
-        for _chip in 0..chips {
-            nodes.push(Node::new(sizes.room))?;
-            logs.push(Vec::with_capacity(alloc, LOG_ROOM)?)?;
-        }
         Ok(Noded {
             sizes,
+            nodes: blank_nodes(alloc, sizes, chips)?,
+            logs: blank_logs(alloc, chips)?,
             routing: routed(alloc, sizes.dims, routes)?,
             run: Run::blank(alloc, chips)?,
-            nodes,
-            logs,
             clock: 0,
         })
     }
@@ -120,25 +122,43 @@ impl Noded {
 }
 
 // The same asks on both sides, and a petit cycle after each.
-fn go_alike(alloc: Global, case: (u8, u8, Routes, u64)) -> Result<bool, Fail> {
-    let (dims, room, routes, seed) = case;
-    let sizes = sizes(dims, room).ok_or("no such machine")?;
-    let mut whole = Band::blank(alloc, sizes, dims, 0, routes)?;
-    let mut noded = Noded::blank(alloc, sizes, routes)?;
+fn stay_alike(whole: &mut Band, noded: &mut Noded, seed: u64) -> bool {
+    let chips: u16 = 1 << (noded.sizes.dims & 7);
     let mut seed = seed;
-    let mut alike = true;
     for _cycle in 0..CYCLES {
-        for chip in 0..1 << (dims & 7) {
+        for chip in 0..chips {
             seed = next(seed);
             ask(&mut whole.run, chip, seed, 15);
             ask(&mut noded.run, chip, seed, 15);
         }
-        alike = alike && whole.cycle() && noded.cycle();
-        for chip in 0..1 << (dims & 7) {
-            alike = alike && noded.is_as(&mut whole, chip);
+        if !whole.cycle() || !noded.cycle() {
+            return false;
+        }
+        for chip in 0..chips {
+            if !noded.is_as(whole, chip) {
+                return false;
+            }
         }
     }
-    Ok(alike)
+    true
+}
+
+fn noded_goes_with(
+    alloc: Global,
+    whole: &mut Band,
+    sizes: Sizes,
+    routes: Routes,
+    seed: u64,
+) -> Result<bool, Fail> {
+    let mut noded = Noded::blank(alloc, sizes, routes)?;
+    Ok(stay_alike(whole, &mut noded, seed))
+}
+
+fn go_alike(alloc: Global, case: (u8, u8, Routes, u64)) -> Result<bool, Fail> {
+    let (dims, room, routes, seed) = case;
+    let sizes = sizes(dims, room);
+    let mut whole = Band::blank(alloc, sizes, dims, 0, routes)?;
+    noded_goes_with(alloc, &mut whole, sizes, routes, seed)
 }
 
 #[test]

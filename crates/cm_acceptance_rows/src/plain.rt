@@ -69,9 +69,9 @@ impl Draws {
 /// The rows and the plain machine beside them, of which no contract tells anything.
 #[derive(Drop)]
 struct Beside<const N: usize> {
-    run: Run,
     sent: Vec<Plane>,
     incoming: Vec<Plane>,
+    run: Run,
     plain: PlainMachine<N>,
     draws: Draws,
 }
@@ -88,9 +88,9 @@ impl<const N: usize> Beside<N> {
         requires dimension { N ≤ 12 }
     {
         Ok(Beside {
-            run: Run::blank(alloc, chips)?,
             sent: row(alloc, chips)?,
             incoming: row(alloc, chips)?,
+            run: Run::blank(alloc, chips)?,
             plain: PlainMachine::blank(alloc, ADDRESSES)?,
             draws: Draws { state: 1985 },
         })
@@ -213,23 +213,33 @@ impl<const N: usize> Beside<N> {
         }
         Ok(self.are_same(chips))
     }
+
+    // With each pair of tables, under 'always' and under a condition, an instruction that writes each flag, and
+    // NEWS in each direction: how many pairs go the same way in both.
+    fn pairs_that_go(&mut self, alloc: Global, chips: u16) -> Option<usize>
+        requires chips { chips ≡ 2 ^ N }
+        requires dimension { N ≤ 12 }
+    {
+        let mut done: usize = 0;
+        for tables in &TABLES {
+            if self.goes(alloc, chips, *tables, 0).ok()?
+                && self.goes(alloc, chips, *tables, 1).ok()?
+            {
+                done = done.saturating_add(1);
+            }
+        }
+        Some(done)
+    }
 }
 
-// With each pair of tables, under 'always' and under a condition, an instruction that writes each flag, and
-// NEWS in each direction: how many pairs go the same way in both.
+// How many pairs of tables go the same way in both.
 fn pairs_that_go<const N: usize>(alloc: Global, chips: u16) -> Option<usize>
     requires chips { chips ≡ 2 ^ N }
     requires dimension { N ≤ 12 }
 {
     let mut both = Beside::<N>::blank(alloc, chips).ok()?;
     both.fill(chips);
-    let mut done: usize = 0;
-    for tables in &TABLES {
-        if both.goes(alloc, chips, *tables, 0).ok()? && both.goes(alloc, chips, *tables, 1).ok()? {
-            done = done.saturating_add(1);
-        }
-    }
-    Some(done)
+    both.pairs_that_go(alloc, chips)
 }
 
 #[test]

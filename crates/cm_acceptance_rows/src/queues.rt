@@ -180,30 +180,48 @@ fn cross_slots(slots: &mut Slots, span: u8, sizes: Sizes, dim: u8) {
     }
 }
 
+// Whether the tickets stand as the lists do now, after each dimension in which all cross, and in a copy.
+fn goes_alike(
+    alloc: Global,
+    slots: &mut Slots,
+    lists: &mut Vec<List>,
+    sizes: Sizes,
+) -> Result<bool, Fail> {
+    let mut alike = are_same(slots, lists);
+    for dim in 0..sizes.dims {
+        cross_slots(slots, sizes.dims, sizes, dim);
+        cross(alloc, lists, usize::from(sizes.room), dim)?;
+        alike = alike && are_same(slots, lists);
+    }
+    Ok(alike && are_same(&slots.copy(alloc)?, lists))
+}
+
+fn stay_alike(
+    alloc: Global,
+    slots: &mut Slots,
+    lists: &mut Vec<List>,
+    case: (u8, u8, u64, u64),
+) -> Result<bool, Fail> {
+    let (dims, room, most, seed) = case;
+    let sizes = sizes(dims, room);
+    let mut seed = seed;
+    let mut alike = slots.is_within(0) && are_same(slots, lists);
+    for _round in 0..ROUNDS {
+        seed = change(slots, usize::from(sizes.room), lists, most, seed)?;
+        alike = goes_alike(alloc, slots, lists, sizes)? && alike;
+    }
+    Ok(alike && !slots.is_within(0))
+}
+
 // Whether the tickets of all chips stand as the lists do after each step.
 fn go_alike(alloc: Global, case: (u8, u8, u64, u64)) -> Result<bool, Fail> {
-    let (dims, room, most, seed) = case;
-    let sizes = sizes(dims, room).ok_or("no such machine")?;
-    let most_there = usize::from(room);
-    let chips = 1 << (dims & 15);
+    let chips = 1 << (case.0 & 15);
     if chips > 4096 {
         return Ok(false);
     }
-    let mut slots = Slots::new(alloc, chips)?;
     let mut lists = lists(alloc, chips)?;
-    let mut seed = seed;
-    let mut alike = slots.is_within(0) && are_same(&slots, &lists);
-    for _round in 0..ROUNDS {
-        seed = change(&mut slots, most_there, &mut lists, most, seed)?;
-        alike = alike && are_same(&slots, &lists);
-        for dim in 0..dims {
-            cross_slots(&mut slots, dims, sizes, dim);
-            cross(alloc, &mut lists, most_there, dim)?;
-            alike = alike && are_same(&slots, &lists);
-        }
-        alike = alike && are_same(&slots.copy(alloc)?, &lists);
-    }
-    Ok(alike && !slots.is_within(0))
+    let mut slots = Slots::new(alloc, chips)?;
+    stay_alike(alloc, &mut slots, &mut lists, case)
 }
 
 #[test]

@@ -38,24 +38,30 @@ struct Beside {
     drawn: u32,
 }
 
+fn blank_chips(alloc: Global, count: u16) -> Result<Vec<Chip>, NoMemory> {
+    let mut chips = Vec::new(alloc);
+    for _ in 0..count {
+        let Ok(()) = chips.push(Chip::blank(alloc)?) else {
+            return Err(NoMemory);
+        };
+    }
+    Ok(chips)
+}
+
+fn blank_row(alloc: Global, count: u16) -> Result<Vec<Plane>, NoMemory> {
+    let Ok(row) = vec![in alloc; 0; usize::from(count)] else {
+        return Err(NoMemory);
+    };
+    Ok(row)
+}
+
 impl Beside {
     fn new(alloc: Global, count: u16) -> Result<Beside, NoMemory> {
-        let run = Run::blank(alloc, count)?;
-        let mut chips = Vec::new(alloc);
-        let mut row = Vec::new(alloc);
-        for _ in 0..count {
-            let Ok(()) = chips.push(Chip::blank(alloc)?) else {
-                return Err(NoMemory);
-            };
-            let Ok(()) = row.push(0) else {
-                return Err(NoMemory);
-            };
-        }
         Ok(Beside {
             count,
-            run,
-            chips,
-            row,
+            chips: blank_chips(alloc, count)?,
+            row: blank_row(alloc, count)?,
+            run: Run::blank(alloc, count)?,
             drawn: 1985,
         })
     }

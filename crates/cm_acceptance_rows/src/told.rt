@@ -76,10 +76,10 @@ impl Rowed {
         let chips: u16 = 1 << (sizes.dims & 7);
         Ok(Rowed {
             sizes,
-            routing: routed(alloc, sizes.dims, routes)?,
-            run: Run::blank(alloc, chips)?,
-            crossing: Crossing::new(alloc, usize::from(chips))?,
             row: Vec::with_capacity(alloc, ROW_ROOM)?,
+            routing: routed(alloc, sizes.dims, routes)?,
+            crossing: Crossing::new(alloc, usize::from(chips))?,
+            run: Run::blank(alloc, chips)?,
             clock: 0,
         })
     }
@@ -158,7 +158,7 @@ fn rowed_goes_with(
 
 fn go_alike(alloc: Global, case: (u8, u8, Routes, u64)) -> Result<bool, Fail> {
     let (dims, room, routes, seed) = case;
-    let sizes = sizes(dims, room).ok_or("no such machine")?;
+    let sizes = sizes(dims, room);
     let mut whole = Band::blank(alloc, sizes, dims, 0, routes)?;
     rowed_goes_with(alloc, &mut whole, sizes, routes, seed)
 }
