@@ -45,25 +45,27 @@ struct Trial {
 }
 
 impl Trial {
+    /// Whether all steps go as they say.
+    fn all_go(&mut self, alloc: Global, steps: &[Step]) -> Result<bool, Fail> {
+        for step in steps {
+            if !self.goes(alloc, *step)? {
+                return Ok(false);
+            }
+        }
+        Ok(true)
+    }
+
     /// Whether a step goes as it says.
     fn goes(&mut self, alloc: Global, step: Step) -> Result<bool, Fail> {
         match step {
             Step::Poke(proc, at) => self.poke(proc, at, true),
             Step::Clear(proc, at) => self.poke(proc, at, false),
             Step::PokeFlag(proc, number, bit, is_taken) => {
-                let poked = self.chip.poke_flag(processor(proc)?, flag(number)?, bit);
-                Ok(poked.is_ok() == is_taken)
+                Ok(self.takes_flag(proc, number, bit)? == is_taken)
             }
             Step::PokeFlagPlane(number, plane) => self.poke_flag_plane(number, plane),
-            Step::PokeField(proc, at, len, value) => {
-                let field = Field::new(at, len)?;
-                self.chip.poke_field(processor(proc)?, field, value);
-                Ok(true)
-            }
-            Step::Copy => {
-                self.other = self.chip.copy(alloc)?;
-                Ok(true)
-            }
+            Step::PokeField(proc, at, len, value) => self.poke_field(proc, at, len, value),
+            Step::Copy => self.copy(alloc),
             Step::Turn => {
                 mem::swap(&mut self.chip, &mut self.other);
                 Ok(true)
@@ -74,6 +76,23 @@ impl Trial {
 
     fn poke(&mut self, proc: u8, at: u16, bit: bool) -> Result<bool, Fail> {
         self.chip.poke(processor(proc)?, address(at)?, bit);
+        Ok(true)
+    }
+
+    /// Whether a poke of a flag is taken.
+    fn takes_flag(&mut self, proc: u8, number: u8, bit: bool) -> Result<bool, Fail> {
+        let (proc, number) = (processor(proc)?, flag(number)?);
+        Ok(self.chip.poke_flag(proc, number, bit).is_ok())
+    }
+
+    fn poke_field(&mut self, proc: u8, at: u16, len: u16, value: u64) -> Result<bool, Fail> {
+        let (proc, field) = (processor(proc)?, Field::new(at, len)?);
+        self.chip.poke_field(proc, field, value);
+        Ok(true)
+    }
+
+    fn copy(&mut self, alloc: Global) -> Result<bool, Fail> {
+        self.other = self.chip.copy(alloc)?;
         Ok(true)
     }
 
@@ -97,15 +116,15 @@ impl Trial {
                 let field = Field::new(at, len)?;
                 Ok(self.chip.field(processor(proc)?, field) == value)
             }
-            Step::Memory(planes) => has_memory(&self.chip, planes),
-            Step::Flags(planes) => has_flags(&self.chip, planes),
+            Step::Memory(planes) => Ok(has_memory(&self.chip, planes)),
+            Step::Flags(planes) => Ok(has_flags(&self.chip, planes)),
             _ => Ok(false),
         }
     }
 }
 
 /// Whether these addresses have these planes, all others 0.
-fn has_memory(chip: &Chip, planes: &[(u16, Plane)]) -> Result<bool, Fail> {
+fn has_memory(chip: &Chip, planes: &[(u16, Plane)]) -> bool {
     for at in 0u16..4096 {
         let mut wanted = 0;
         for (named, plane) in planes {
@@ -113,15 +132,15 @@ fn has_memory(chip: &Chip, planes: &[(u16, Plane)]) -> Result<bool, Fail> {
                 wanted = *plane;
             }
         }
-        if chip.plane(address(at)?) != wanted {
-            return Ok(false);
+        if chip.plane(cm_draws::address(at)) != wanted {
+            return false;
         }
     }
-    Ok(true)
+    true
 }
 
 /// Whether these flags have these planes, all others 0.
-fn has_flags(chip: &Chip, planes: &[(u8, Plane)]) -> Result<bool, Fail> {
+fn has_flags(chip: &Chip, planes: &[(u8, Plane)]) -> bool {
     for number in 0u8..16 {
         let mut wanted = 0;
         for (named, plane) in planes {
@@ -129,11 +148,11 @@ fn has_flags(chip: &Chip, planes: &[(u8, Plane)]) -> Result<bool, Fail> {
                 wanted = *plane;
             }
         }
-        if chip.flag_plane(flag(number)?) != wanted {
-            return Ok(false);
+        if chip.flag_plane(cm_draws::flag(number)) != wanted {
+            return false;
         }
     }
-    Ok(true)
+    true
 }
 
 /// Steps that begin with two blank chips.
@@ -152,12 +171,7 @@ impl Case for Scenario {
             chip: Chip::blank(alloc)?,
             other: Chip::blank(alloc)?,
         };
-        for step in self.steps {
-            if !trial.goes(alloc, *step)? {
-                return Ok(false);
-            }
-        }
-        Ok(true)
+        trial.all_go(alloc, self.steps)
     }
 }
 

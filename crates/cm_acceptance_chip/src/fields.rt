@@ -81,7 +81,8 @@ static MET: [Met; 5] = [
 fn fields_are_judged_by_length_then_end_and_meet_by_their_bits(
     rt: HostRuntime,
 ) -> Result<(), Fail> {
-    assert_eq!(rt; first_not_so(rt.alloc(), &JUDGED)?, None);
-    assert_eq!(rt; first_not_so(rt.alloc(), &MET)?, None);
+    let alloc = rt.alloc();
+    let not_so = [first_not_so(alloc, &JUDGED)?, first_not_so(alloc, &MET)?];
+    assert_eq!(rt; not_so, [None; 2]);
     Ok(())
 }

@@ -146,9 +146,13 @@ fn place(chip: u16, number: u8) -> Result<Place, Fail>
 
 #[test]
 fn steps_lead_round_the_torus(rt: HostRuntime) -> Result<(), Fail> {
-    assert_eq!(rt; first_not_so(rt.alloc(), &SENT)?, None);
-    assert_eq!(rt; first_not_so(rt.alloc(), &STEPPED)?, None);
-    assert_eq!(rt; first_not_so(rt.alloc(), &ALONE)?, None);
-    assert_eq!(rt; first_not_so(rt.alloc(), &WRAPPED)?, None);
+    let alloc = rt.alloc();
+    let not_so = [
+        first_not_so(alloc, &SENT)?,
+        first_not_so(alloc, &STEPPED)?,
+        first_not_so(alloc, &ALONE)?,
+        first_not_so(alloc, &WRAPPED)?,
+    ];
+    assert_eq!(rt; not_so, [None; 4]);
     Ok(())
 }

@@ -65,13 +65,17 @@ fn has_blank_chip(alloc: Global) -> bool {
 fn has_copied_chip(alloc: Global) -> Option<bool> {
     let mut chip = Chip::blank(alloc).ok()?;
     chip.poke(processor(3), address(77), true);
+    Some(is_copied_chip(alloc, &chip))
+}
+
+fn is_copied_chip(alloc: Global, chip: &Chip) -> bool {
     let made = match chip.copy(alloc) {
         Err(NoMemory) => chip.copy(alloc),
         made => made,
     };
     match made {
-        Ok(copy) => Some(copy.plane(address(77)) == 8 && chip.plane(address(77)) == 8),
-        Err(_) => Some(false),
+        Ok(copy) => copy.plane(address(77)) == 8 && chip.plane(address(77)) == 8,
+        Err(_) => false,
     }
 }
 
@@ -92,15 +96,19 @@ fn has_copied_run(alloc: Global) -> Option<bool> {
         return Some(false);
     }
     run.poke(8, processor(3), address(77), true);
+    Some(is_copied_run(alloc, &run))
+}
+
+fn is_copied_run(alloc: Global, run: &Run) -> bool {
     let made = match run.copy(alloc) {
         Err(NoMemory) => run.copy(alloc),
         made => made,
     };
     match made {
-        Ok(copy) => Some(
-            copy.chips() == 9 && copy.plane_row(address(77)) == run.plane_row(address(77)),
-        ),
-        Err(_) => Some(false),
+        Ok(copy) => {
+            copy.chips() == 9 && copy.plane_row(address(77)) == run.plane_row(address(77))
+        }
+        Err(_) => false,
     }
 }
 
@@ -177,20 +185,21 @@ fn reads_words(alloc: Global) -> bool {
         made => made,
     };
     match made {
-        Ok(
-            Line::Run {
-                image,
-                program,
-                split: 2,
-                workers: 3,
-                out,
-            },
-        ) => {
-            let is_out = match out {
-                Some(file) => file.as_str() == WORDS[9],
-                None => false,
-            };
-            image.as_str() == WORDS[2] && program.as_str() == WORDS[3] && is_out
+        Ok(line) => has_words(&line),
+        Err(_) => false,
+    }
+}
+
+fn has_words(line: &Line) -> bool {
+    match line {
+        Line::Run {
+            image,
+            program,
+            split: 2,
+            workers: 3,
+            out: Some(out),
+        } => {
+            image.as_str() == WORDS[2] && program.as_str() == WORDS[3] && out.as_str() == WORDS[9]
         }
         _ => false,
     }

@@ -1,9 +1,9 @@
 //! Instructions on one chip: what comes in, and a plain machine beside it.
 
 use crate::cases::{Case, first_not_so};
-use crate::numbers::{address, flag, processor};
-use cm_bits::{Dir, Plane};
-use cm_draws::Draws;
+use crate::numbers;
+use cm_bits::{Dir, Plane, Proc};
+use cm_draws::{Draws, address, flag, processor};
 use cm_element::{Chip, Outputs};
 use cm_model::Nano;
 use cm_plain::PlainMachine;
@@ -17,13 +17,12 @@ struct Copying(&'static str, u8, bool, Plane, Plane);
 impl Copying {
     fn nano(&self) -> Result<Nano, Fail> {
         let Copying(_, write, sense, _, _) = *self;
-        let nine = flag(9)?;
         Ok(Nano {
-            a: address(5)?,
-            b: address(6)?,
-            read: nine,
-            write: flag(write)?,
-            cond: nine,
+            a: address(5),
+            b: address(6),
+            read: flag(9),
+            write: numbers::flag(write)?,
+            cond: flag(9),
             sense,
             mem_table: 0xaa,
             flag_table: 0xaa,
@@ -39,6 +38,16 @@ impl Copying {
             holds: if sense { 0x00f0 } else { 0xff0f },
         }
     }
+
+    fn copies(&self, chip: &mut Chip, nano: &Nano) -> bool {
+        let Copying(_, _, _, in_flag, in_memory) = *self;
+        let outputs = chip.outputs(nano);
+        chip.store(nano, outputs, 0x5555);
+        outputs == self.outputs()
+            && chip.flag_plane(nano.write) == in_flag
+            && chip.plane(nano.a) == in_memory
+            && chip.flag_plane(nano.cond) == 0x00f0
+    }
 }
 
 impl Case for Copying {
@@ -47,27 +56,20 @@ impl Case for Copying {
     }
 
     fn is_so(&self, alloc: Global) -> Result<bool, Fail> {
-        let Copying(_, _, _, in_flag, in_memory) = *self;
         let nano = self.nano()?;
-        let mut chip = four_of_sixteen(alloc)?;
-        let outputs = chip.outputs(&nano);
-        chip.store(&nano, outputs, 0x5555);
-        Ok(
-            outputs == self.outputs()
-                && chip.flag_plane(nano.write) == in_flag
-                && chip.plane(nano.a) == in_memory
-                && chip.flag_plane(nano.cond) == 0x00f0,
-        )
+        let mut chip = Chip::blank(alloc)?;
+        Ok(has_flag_in_four(&mut chip) && self.copies(&mut chip, &nano))
     }
 }
 
-/// A chip in which processors 4 to 7 have flag 9.
-fn four_of_sixteen(alloc: Global) -> Result<Chip, Fail> {
-    let mut chip = Chip::blank(alloc)?;
+/// Processors 4 to 7 get flag 9: whether each takes it.
+fn has_flag_in_four(chip: &mut Chip) -> bool {
     for number in 4u8..8 {
-        chip.poke_flag(processor(number)?, flag(9)?, true)?;
+        if chip.poke_flag(processor(number), flag(9), true).is_err() {
+            return false;
+        }
     }
-    Ok(chip)
+    true
 }
 
 static COPYING: [Copying; 6] = [
@@ -121,59 +123,63 @@ impl Beside {
     }
 
     /// Whether one processor has the same first eight memory bits and the same flags in both.
-    fn agrees_at(&self, number: u8) -> Result<bool, Fail> {
-        let proc = processor(number)?;
+    fn agrees_at(&self, proc: Proc) -> bool {
         for at in 0u16..8 {
-            let at = address(at)?;
+            let at = address(at);
             if self.chip.read(proc, at) != self.plain.read(0, proc, at) {
-                return Ok(false);
+                return false;
             }
         }
         for number in 0u8..16 {
-            let number = flag(number)?;
+            let number = flag(number);
             if self.chip.flag(proc, number) != self.plain.flag(0, proc, number) {
-                return Ok(false);
+                return false;
             }
         }
-        Ok(true)
+        true
     }
 
-    fn agrees(&self) -> Result<bool, Fail> {
+    fn agrees(&self) -> bool {
         for number in 0u8..16 {
-            if !self.agrees_at(number)? {
-                return Ok(false);
+            if !self.agrees_at(processor(number)) {
+                return false;
             }
         }
-        Ok(true)
+        true
     }
 
     /// Whether a flag is 1 in some processor.
-    fn has_flags(&self) -> Result<bool, Fail> {
+    fn has_flags(&self) -> bool {
         for number in 0u8..16 {
-            if self.chip.flag_plane(flag(number)?) != 0 {
-                return Ok(true);
+            if self.chip.flag_plane(flag(number)) != 0 {
+                return true;
             }
         }
-        Ok(false)
+        false
+    }
+
+    /// The instruction after which the two differ first, and whether the last left a flag at 1: not all
+    /// of this was about zeros.
+    fn run(&mut self, alloc: Global) -> Result<(Option<u32>, bool), Fail> {
+        let mut draws = Draws::new(1985);
+        for round in 0u32..160 {
+            let (a, b) = (address(draws.below(8)), address(draws.below(8)));
+            self.step(alloc, &draws.nano(a, b))?;
+            if !self.agrees() {
+                return Ok((Some(round), true));
+            }
+        }
+        Ok((None, self.has_flags()))
     }
 }
 
-/// The instruction after which the two differ first, and whether the last left a flag at 1: not all
-/// of this was about zeros.
+/// The same of a blank chip and a blank plain machine.
 fn run_beside(alloc: Global) -> Result<(Option<u32>, bool), Fail> {
     let mut both = Beside {
         chip: Chip::blank(alloc)?,
         plain: PlainMachine::blank(alloc, 8)?,
     };
-    let mut draws = Draws::new(1985);
-    for round in 0u32..160 {
-        let (a, b) = (address(draws.below(8))?, address(draws.below(8))?);
-        both.step(alloc, &draws.nano(a, b))?;
-        if !both.agrees()? {
-            return Ok((Some(round), true));
-        }
-    }
-    Ok((None, both.has_flags()?))
+    both.run(alloc)
 }
 
 #[test]

@@ -188,8 +188,12 @@ static WHOLE: [Whole; 3] = [
 
 #[test]
 fn sinks_take_each_write_once_and_tell_how_far_it_came(rt: HostRuntime) -> Result<(), Fail> {
-    assert_eq!(rt; first_not_so(rt.alloc(), &IN_MEMORY)?, None);
-    assert_eq!(rt; first_not_so(rt.alloc(), &OF_STD)?, None);
-    assert_eq!(rt; first_not_so(rt.alloc(), &WHOLE)?, None);
+    let alloc = rt.alloc();
+    let not_so = [
+        first_not_so(alloc, &IN_MEMORY)?,
+        first_not_so(alloc, &OF_STD)?,
+        first_not_so(alloc, &WHOLE)?,
+    ];
+    assert_eq!(rt; not_so, [None; 3]);
     Ok(())
 }

@@ -143,8 +143,12 @@ static NUMBERED: [Numbered; 16] = [
 
 #[test]
 fn texts_have_their_lines_words_and_numbers(rt: HostRuntime) -> Result<(), Fail> {
-    assert_eq!(rt; first_not_so(rt.alloc(), &LINED)?, None);
-    assert_eq!(rt; first_not_so(rt.alloc(), &WORDED)?, None);
-    assert_eq!(rt; first_not_so(rt.alloc(), &NUMBERED)?, None);
+    let alloc = rt.alloc();
+    let not_so = [
+        first_not_so(alloc, &LINED)?,
+        first_not_so(alloc, &WORDED)?,
+        first_not_so(alloc, &NUMBERED)?,
+    ];
+    assert_eq!(rt; not_so, [None; 3]);
     Ok(())
 }

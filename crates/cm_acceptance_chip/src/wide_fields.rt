@@ -1,9 +1,8 @@
 //! Fields of all lengths, beside their bits one by one.
 
 use crate::cases::{Case, first_not_so};
-use crate::numbers::{address, processor};
 use cm_bits::{Field, Proc};
-use cm_draws::Draws;
+use cm_draws::{Draws, address, processor};
 use cm_element::Chip;
 use std::alloc::Global;
 use std::test::Fail;
@@ -25,51 +24,60 @@ static LENGTHS: [Length; 8] = [
 ];
 
 /// Processors 6, 7 and 8 have drawn bits in all of their memory.
-fn drawn_chip(alloc: Global) -> Result<Chip, Fail> {
-    let mut chip = Chip::blank(alloc)?;
+fn draw(chip: &mut Chip) {
     let mut draws = Draws::new(1985);
     for at in 0u16..4096 {
         for number in 6u8..9 {
-            chip.poke(processor(number)?, address(at)?, draws.once_in(2));
+            chip.poke(processor(number), address(at), draws.once_in(2));
         }
     }
-    Ok(chip)
 }
 
-fn field_bit_by_bit(chip: &Chip, proc: Proc, field: Field) -> Result<u64, Fail> {
+fn field_bit_by_bit(chip: &Chip, proc: Proc, field: Field) -> u64 {
     let mut value: u64 = 0;
     for i in 0..field.len() {
-        let at = address(field.at() + i)?;
+        let at = address(field.at() + i);
         value |= u64::from(chip.read(proc, at)) << i;
     }
-    Ok(value)
+    value
 }
 
-fn poke_bit_by_bit(chip: &mut Chip, proc: Proc, field: Field, value: u64) -> Result<(), Fail> {
+fn poke_bit_by_bit(chip: &mut Chip, proc: Proc, field: Field, value: u64) {
     for i in 0..field.len() {
-        let at = address(field.at() + i)?;
+        let at = address(field.at() + i);
         chip.poke(proc, at, value >> i & 1 == 1);
     }
-    Ok(())
 }
 
-fn have_same_memory(left: &Chip, right: &Chip) -> Result<bool, Fail> {
+fn have_same_memory(left: &Chip, right: &Chip) -> bool {
     for at in 0u16..4096 {
-        let at = address(at)?;
+        let at = address(at);
         if left.plane(at) != right.plane(at) {
-            return Ok(false);
+            return false;
         }
     }
-    Ok(true)
+    true
+}
+
+/// Whether another chip has the memory of this one once a number is put bit by bit.
+fn becomes(
+    alloc: Global,
+    chip: &Chip,
+    field: Field,
+    value: u64,
+    other: &Chip,
+) -> Result<bool, Fail> {
+    let mut one_by_one = chip.copy(alloc)?;
+    poke_bit_by_bit(&mut one_by_one, processor(7), field, value);
+    Ok(have_same_memory(other, &one_by_one))
 }
 
 impl Length {
     /// Whether the field at an address reads as its bits, and is put as its bits.
     fn is_so_at(&self, alloc: Global, chip: &Chip, at: u16) -> Result<bool, Fail> {
         let Length(_, len, _) = *self;
-        let proc = processor(7)?;
         let field = Field::new(at, len)?;
-        if chip.field(proc, field) != field_bit_by_bit(chip, proc, field)? {
+        if chip.field(processor(7), field) != field_bit_by_bit(chip, processor(7), field) {
             return Ok(false);
         }
         // Numbers of 64 bits that look random, another for each field.
@@ -77,10 +85,18 @@ impl Length {
             .wrapping_mul(6_364_136_223_846_793_005)
             .rotate_left(32);
         let mut at_once = chip.copy(alloc)?;
-        at_once.poke_field(proc, field, value);
-        let mut one_by_one = chip.copy(alloc)?;
-        poke_bit_by_bit(&mut one_by_one, proc, field, value)?;
-        have_same_memory(&at_once, &one_by_one)
+        at_once.poke_field(processor(7), field, value);
+        becomes(alloc, chip, field, value, &at_once)
+    }
+
+    fn are_so(&self, alloc: Global, chip: &Chip) -> Result<bool, Fail> {
+        let Length(_, _, last) = *self;
+        for at in STARTS {
+            if !self.is_so_at(alloc, chip, at)? {
+                return Ok(false);
+            }
+        }
+        self.is_so_at(alloc, chip, last)
     }
 }
 
@@ -90,14 +106,9 @@ impl Case for Length {
     }
 
     fn is_so(&self, alloc: Global) -> Result<bool, Fail> {
-        let Length(_, _, last) = *self;
-        let chip = drawn_chip(alloc)?;
-        for at in STARTS {
-            if !self.is_so_at(alloc, &chip, at)? {
-                return Ok(false);
-            }
-        }
-        self.is_so_at(alloc, &chip, last)
+        let mut chip = Chip::blank(alloc)?;
+        draw(&mut chip);
+        self.are_so(alloc, &chip)
     }
 }
 

@@ -2,6 +2,7 @@
 
 use crate::cases::{Case, first_not_so};
 use crate::numbers::{flag, processor};
+use cm_bits::{FlagNo, Proc};
 use cm_element::Run;
 use cm_wire::{chip_or, wire};
 use std::alloc::Global;
@@ -16,16 +17,27 @@ impl Case for Driven {
     }
 
     fn is_so(&self, alloc: Global) -> Result<bool, Fail> {
-        let Driven(_, at, proc, number, ors) = *self;
+        let Driven(_, _, proc, number, _) = *self;
+        let (proc, number) = (processor(proc)?, flag(number)?);
         let mut run = Run::blank(alloc, 2)?;
-        if run.chips() != 2 || at >= 2 || wire(&run) {
-            return Ok(false);
+        Ok(self.drives(&mut run, proc, number))
+    }
+}
+
+impl Driven {
+    fn drives(&self, run: &mut Run, proc: Proc, number: FlagNo) -> bool {
+        let Driven(_, at, _, _, ors) = *self;
+        if run.chips() != 2
+            || at >= 2
+            || wire(run)
+            || run.poke_flag(at, proc, number, true).is_err()
+        {
+            return false;
         }
-        run.poke_flag(at, processor(proc)?, flag(number)?, true)?;
-        let is_so = run.chips() == 2
+        run.chips() == 2
             && chip_or(&run.view(0)) == ors[0]
-            && chip_or(&run.view(1)) == ors[1];
-        Ok(is_so && wire(&run) == (ors[0] || ors[1]))
+            && chip_or(&run.view(1)) == ors[1]
+            && wire(run) == (ors[0] || ors[1])
     }
 }
 
