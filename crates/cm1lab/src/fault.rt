@@ -15,34 +15,41 @@ use thiserror::Error;
 #[derive(Debug, Drop, Error)]
 pub enum Fault {
     /// The words ask for nothing, or for help.
-    #[error("cm1lab: {0}")]
+    #[error(transparent)]
     Command(CommandFault),
-    #[error("cm1lab: {0}")]
+    #[error(transparent)]
     Fresh(FreshFault),
-    #[error("cm1lab: {0}")]
+    #[error(transparent)]
     Load(LoadFault),
     /// A rate that is too large.
-    #[error("cm1lab: a chip offers at most 16 messages in a petit cycle, not {whole}.{hundredths:02}")]
+    #[error("a chip offers at most 16 messages in a petit cycle, not {whole}.{hundredths:02}")]
     Rate { whole: u16, hundredths: u16 },
-    /// What is wrong with a file.
-    #[error("cm1lab: {path}: {what}")]
-    File { path: String, what: &'static str },
-    #[error("cm1lab: {path}: {fault}")]
-    Image { path: String, fault: LabFault },
-    #[error("cm1lab: {path}: {fault}")]
-    Machine { path: String, fault: ImageFault },
-    #[error("cm1lab: {path}: {fault}")]
-    Source { path: String, fault: SourceFault },
-    #[error("cm1lab: {path}: {fault}")]
-    Plot { path: String, fault: PlotFault },
-    #[error("cm1lab: standard input: {0}")]
+    #[error("{path}: {fault}")]
+    File { path: String, fault: FileFault },
+    #[error("standard input: {0}")]
     Numbers(NumbersFault),
-    #[error("cm1lab: standard input {0}")]
+    #[error("standard input {0}")]
     Input(&'static str),
-    #[error("cm1lab: standard output cannot be written")]
+    #[error("standard output cannot be written")]
     Output,
-    #[error("cm1lab: out of memory")]
+    #[error("out of memory")]
     Memory,
+}
+
+/// What is wrong with a file.
+#[derive(Clone, Copy, Debug, Error)]
+pub enum FileFault {
+    /// It cannot be opened, read or written, or it is too large.
+    #[error("{0}")]
+    Bytes(&'static str),
+    #[error(transparent)]
+    Image(LabFault),
+    #[error(transparent)]
+    Machine(ImageFault),
+    #[error(transparent)]
+    Source(SourceFault),
+    #[error(transparent)]
+    Plot(PlotFault),
 }
 
 impl Fault {
@@ -55,40 +62,36 @@ impl Fault {
     }
 
     /// What is wrong with a file.
-    pub fn file(alloc: Global, path: &str, what: &'static str) -> Fault {
+    pub fn file(alloc: Global, path: &str, fault: FileFault) -> Fault {
         match String::from_str(alloc, path) {
-            Ok(path) => Fault::File { path, what },
+            Ok(path) => Fault::File { path, fault },
             Err(_) => Fault::Memory,
         }
+    }
+
+    /// What is wrong with the bytes of a file.
+    pub fn bytes(alloc: Global, path: &str, what: &'static str) -> Fault {
+        Fault::file(alloc, path, FileFault::Bytes(what))
     }
 
     /// What is wrong with an image, or with a picture.
     pub fn image(alloc: Global, path: &str, fault: LabFault) -> Fault {
-        match String::from_str(alloc, path) {
-            Ok(path) => Fault::Image { path, fault },
-            Err(_) => Fault::Memory,
-        }
+        Fault::file(alloc, path, FileFault::Image(fault))
     }
 
     /// What is wrong with a source.
     pub fn source(alloc: Global, path: &str, fault: SourceFault) -> Fault {
-        if let SourceKind::Asm(AsmKind::Memory) = fault.kind {
-            return Fault::Memory;
-        }
-        match String::from_str(alloc, path) {
-            Ok(path) => Fault::Source { path, fault },
-            Err(_) => Fault::Memory,
+        match fault.kind {
+            SourceKind::Asm(AsmKind::Memory) => Fault::Memory,
+            _ => Fault::file(alloc, path, FileFault::Source(fault)),
         }
     }
 
     /// Why a text has no picture.
     pub fn plot(alloc: Global, path: &str, fault: PlotFault) -> Fault {
-        if fault == PlotFault::Memory {
-            return Fault::Memory;
-        }
-        match String::from_str(alloc, path) {
-            Ok(path) => Fault::Plot { path, fault },
-            Err(_) => Fault::Memory,
+        match fault {
+            PlotFault::Memory => Fault::Memory,
+            fault => Fault::file(alloc, path, FileFault::Plot(fault)),
         }
     }
 
@@ -98,10 +101,7 @@ impl Fault {
             FrontFault::Image(ImageFault::Memory)
             | FrontFault::Ended(SessionFault::Memory | SessionFault::NoThread)
             | FrontFault::Memory => Fault::Memory,
-            FrontFault::Image(fault) => match String::from_str(alloc, path) {
-                Ok(path) => Fault::Machine { path, fault },
-                Err(_) => Fault::Memory,
-            },
+            FrontFault::Image(fault) => Fault::file(alloc, path, FileFault::Machine(fault)),
             FrontFault::Room => Fault::image(alloc, path, LabFault::Room),
             FrontFault::Ended(SessionFault::Read) => Fault::Input("cannot be read"),
             FrontFault::Ended(SessionFault::TooMuch) => Fault::Input(
@@ -118,7 +118,12 @@ impl Fault {
             Fault::Command(CommandFault::Field(_)) => 1,
             Fault::Command(_) => 2,
             Fault::Memory => 3,
-            Fault::File { .. } | Fault::Input(_) | Fault::Output => 4,
+            Fault::File {
+                fault: FileFault::Bytes(_),
+                ..
+            }
+            | Fault::Input(_)
+            | Fault::Output => 4,
             _ => 1,
         }
     }
@@ -127,7 +132,7 @@ impl Fault {
     pub fn tell<R: Print + Eprint>(&self, rt: &R) -> io::Result<()> {
         match self {
             Fault::Command(CommandFault::Help) => rt.println(HELP),
-            fault => rt.eprintln(fault),
+            fault => eprintln!(rt; "cm1lab: {fault}"),
         }
     }
 }

@@ -28,12 +28,12 @@ pub fn read_file<R: Files>(
     too_much: &'static str,
 ) -> Result<Vec<u8>, Fault> {
     let Ok(file) = fs::open(rt, path) else {
-        return Err(Fault::file(alloc, path, "cannot be opened"));
+        return Err(Fault::bytes(alloc, path, "cannot be opened"));
     };
     match take(alloc, &mut Std::new(file), limit) {
         Ok(bytes) => Ok(bytes),
-        Err(TakeFault::Read) => Err(Fault::file(alloc, path, "cannot be read")),
-        Err(TakeFault::TooMuch) => Err(Fault::file(alloc, path, too_much)),
+        Err(TakeFault::Read) => Err(Fault::bytes(alloc, path, "cannot be read")),
+        Err(TakeFault::TooMuch) => Err(Fault::bytes(alloc, path, too_much)),
         Err(TakeFault::Memory) => Err(Fault::Memory),
     }
 }
@@ -51,7 +51,7 @@ enum WriteFault {
 pub fn write_file<R: Files + AllocGlobal>(rt: &R, path: &str, bytes: &[u8]) -> Result<(), Fault> {
     match put_file(rt, path, bytes) {
         Ok(()) => Ok(()),
-        Err(WriteFault::Write) => Err(Fault::file(rt.alloc(), path, "cannot be written")),
+        Err(WriteFault::Write) => Err(Fault::bytes(rt.alloc(), path, "cannot be written")),
         Err(WriteFault::Memory) => Err(Fault::Memory),
     }
 }
