@@ -22,10 +22,15 @@ struct Trial {
     machine: Machine<1, 1>,
 }
 
-/// With which fault a session ends, if with one, and what it writes. None where memory is wanting beside it.
-fn answered(alloc: Global, program: &Program) -> Option<(Option<SessionFault>, Room)> {
-    let machine = Machine::<1, 1>::blank(alloc).ok()?;
-    let mut trial = Trial { machine };
+/// How a session ends: with all answers, for want of memory behind a front of them, or in another way.
+#[derive(Clone, Copy)]
+enum Ending {
+    All,
+    Front,
+    Other,
+}
+
+fn ends_on(alloc: Global, trial: &mut Trial, program: &Program) -> Option<Ending> {
     let mut sink = Room::new(alloc, 4096, 4096).ok()?;
     let ended = session(
         alloc,
@@ -35,19 +40,31 @@ fn answered(alloc: Global, program: &Program) -> Option<(Option<SessionFault>, R
         &mut sink,
         &mut Plain,
     );
-    Some((ended.err(), sink))
+    Some(match ended {
+        Ok(()) if sink.taken() == ANSWERS => Ending::All,
+        Err(SessionFault::Memory) if ANSWERS.starts_with(sink.taken()) => Ending::Front,
+        _ => Ending::Other,
+    })
+}
+
+/// The same on a blank machine. None where memory is wanting beside the session.
+fn ends(alloc: Global, program: &Program) -> Option<Ending> {
+    let machine = Machine::<1, 1>::blank(alloc).ok()?;
+    ends_on(alloc, &mut Trial { machine }, program)
+}
+
+fn is_answered_by(alloc: Global, program: &Program) -> Option<bool> {
+    Some(match ends(alloc, program)? {
+        Ending::All => true,
+        Ending::Front => matches!(ends(alloc, program)?, Ending::All),
+        Ending::Other => false,
+    })
 }
 
 /// Whether it writes all answers; or else tells want of memory behind a front of them, and does when it is asked again.
 fn is_answered(alloc: Global) -> Option<bool> {
     let program = assemble(alloc, PROGRAM).ok()?;
-    let (fault, sink) = answered(alloc, &program)?;
-    let Some(fault) = fault else {
-        return Some(sink.taken() == ANSWERS);
-    };
-    let is_told = fault == SessionFault::Memory && ANSWERS.starts_with(sink.taken());
-    let (again, whole) = answered(alloc, &program)?;
-    Some(is_told && again.is_none() && whole.taken() == ANSWERS)
+    is_answered_by(alloc, &program)
 }
 
 // `.ci/refusals` refuses each growth in turn: one in all, so that the second time none is.

@@ -151,7 +151,7 @@ fn goes_as_plain<const N: usize, const CAP: usize>(
     alloc: Global,
     draws: &mut Draws,
     machine: &mut Machine<N, CAP>,
-    mut drawn: Drawn<N, CAP>,
+    drawn: &mut Drawn<'_, N, CAP>,
     program: &Program,
     chips: u16,
 ) -> bool
@@ -171,7 +171,21 @@ fn goes_as_plain<const N: usize, const CAP: usize>(
     answers(alloc, machine, program, texts, step) && are_alike(alloc, machine, &plain.machine)
 }
 
-/// Whether a drawn session on this machine answers as the plain debugger does, and leaves the same machine.
+/// Whether a drawn session with this program answers as the plain debugger does, and leaves the same machine.
+fn is_so_with<const N: usize, const CAP: usize>(
+    alloc: Global,
+    draws: &mut Draws,
+    machine: &mut Machine<N, CAP>,
+    program: &Program,
+    chips: u16,
+) -> Option<bool>
+    requires cube { chips ≡ 2 ^ N }
+{
+    let mut drawn = Drawn::new(alloc, machine.copy(alloc).ok()?, program).ok()?;
+    Some(goes_as_plain(alloc, draws, machine, &mut drawn, program, chips))
+}
+
+/// The same with a drawn program.
 fn is_so_on<const N: usize, const CAP: usize>(
     alloc: Global,
     draws: &mut Draws,
@@ -181,8 +195,7 @@ fn is_so_on<const N: usize, const CAP: usize>(
     requires cube { chips ≡ 2 ^ N }
 {
     let program = drawn_program(alloc, draws)?;
-    let drawn = Drawn::new(alloc, machine.copy(alloc).ok()?, &program).ok()?;
-    Some(goes_as_plain(alloc, draws, machine, drawn, &program, chips))
+    is_so_with(alloc, draws, machine, &program, chips)
 }
 
 /// The same of a drawn machine.
