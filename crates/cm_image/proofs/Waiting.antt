@@ -143,12 +143,12 @@ pub tile_pushed : (memory later_memory flags later_flags : List ℕ) (capacity l
     → count * 16 + 16 ≤ length later_flags → flag_room ≤ later_room
     → ((i : ℕ) → i < count * 16 → get_or later_flags i 0 ≡ get_or flags i 0)
     → get_or later_flags (count * 16 + 8) 0 ≡ 0 → IsTile later_memory later later_flags later_room (count + 1)
-tile_pushed memory later_memory flags later_flags capacity later flag_room later_room count tile few long room words flags_fit others none = record {
+tile_pushed memory later_memory flags later_flags capacity later spare more count tile few long room words fit others none = record {
   few = omega (arith, few);
   memory = omega (arith, long);
   room = omega (arith, tile.room, room);
   flag_words = omega (arith, words);
-  flag_room = omega (arith, tile.flag_room, flags_fit);
+  flag_room = omega (arith, tile.flag_room, fit);
   zero = λ c h. ⊎_elim
       (λ (l : c < count). others (c * 16 + 8) (omega (arith, l)) ∙ tile.zero c l)
       (λ (l : count ≤ c). let last : c ≡ count = omega (arith, h, l) in
