@@ -6,10 +6,10 @@ ghost use Rattle.cm_cli.specs.Sizes.{start_at};
 ghost use Rattle.cm_cli.specs.Sharing.{sharing_fault};
 
 use crate::meeting::{Cut, FOUR, Meeting, Notes, Waits, no_notes};
-use cm_asm::Program;
+use cm_asm::{Program, assemble};
 use cm_bits::doubles::{Bytes, Room};
 use cm_bits::{Sink, Source};
-use cm_cli::{Opened, Sharing, fresh, open_run, run_alone, run_shared};
+use cm_cli::{Opened, Sharing, fresh, go_alone, go_shared, image_at, open_image};
 use cm_draws::cut_in_two_places;
 use cm_image::dump;
 use cm_model::Rule;
@@ -107,8 +107,9 @@ fn begun(alloc: Global, row: &Shared) -> Option<(Opened, Program)>
     ensures shared { IfSome result (λ run. sharing_fault (start_at run.0).n row.now.sharing ≡ None) }
 {
     let image = row.image.bytes(alloc)?;
-    let text = row.text.to_vec(alloc).ok()?;
-    open_run(alloc, image, Ok(text), row.sharing).ok()
+    let machine = open_image(alloc, &image).ok()?;
+    row.sharing.check(machine.dims()).ok()?;
+    Some((machine, assemble(alloc, row.text).ok()?))
 }
 
 /// The image that one worker leaves, who answers the commands.
@@ -121,8 +122,9 @@ fn kept_alone<I: Source, O: Sink>(
     requires reader { I.has_failed commands.old ≡ false }
     requires writer { O.has_failed answers.old ≡ false }
 {
-    let (machine, program) = begun(alloc, row)?;
-    run_alone(alloc, machine, &program, commands, answers, true).ok()?
+    let (mut machine, program) = begun(alloc, row)?;
+    go_alone(alloc, &mut machine, &program, commands, answers).ok()?;
+    image_at(alloc, &machine).ok()
 }
 
 /// What one worker leaves.
@@ -161,19 +163,19 @@ fn kept_shared<R: Threads + Wait + Sync, I: Source, O: Sink>(
     requires reader { I.has_failed commands.old ≡ false }
     requires writer { O.has_failed answers.old ≡ false }
 {
-    let (machine, program) = begun(alloc, row)?;
-    run_shared(
+    let (mut machine, program) = begun(alloc, row)?;
+    go_shared(
         rt,
         alloc,
-        machine,
+        &mut machine,
         &program,
         row.sharing,
         passage,
         commands,
         answers,
-        true,
     )
-    .ok()?
+    .ok()?;
+    image_at(alloc, &machine).ok()
 }
 
 /// What several leave, who wait for one another.

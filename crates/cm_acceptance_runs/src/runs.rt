@@ -1,7 +1,8 @@
 //! Runs of images: what is answered, what is kept, and how they end.
 
+use crate::files::{Files, Text, run};
 use cm_bits::doubles::{Bytes, Room};
-use cm_cli::{Sharing, TakeFault, fresh, run_session};
+use cm_cli::fresh;
 use std::alloc::Global;
 use std::sync::Wait;
 use std::thread::Threads;
@@ -21,27 +22,42 @@ enum Given {
     Nothing,
 }
 
-/// The program's text, as it was read.
-type Text = Result<&'static [u8], TakeFault>;
-
 /// The image, the program, the commands, of which so many bytes come before a read fails, and how many bytes of answers
 /// can be written; what is written, and the number of the fault, 0 for none.
-type Row = (Given, Text, &'static [u8], usize, usize, &'static [u8], u8);
+type Row = (
+    Given,
+    Text<'static>,
+    &'static [u8],
+    usize,
+    usize,
+    &'static [u8],
+    u8,
+);
 
-const SUM: Text = Ok(b"field x 0 8\nfield y 8 8\nconst x 200\nconst y 100\nadd x y\n");
+const SUM: Text<'static> = (
+    b"field x 0 8\nfield y 8 8\nconst x 200\nconst y 100\nadd x y\n",
+    1000,
+);
+
+const NONE: Text<'static> = (b"", 1000);
+
+const JUMP: Text<'static> = (b"jump\n", 1000);
+
+/// Its first read fails.
+const UNREAD: Text<'static> = (b"", 0);
 
 const ASKS: &[u8] = b"run\nfield 0 0 0 8\nflag 0 0 7\n";
 
 const ANSWERS: &[u8] = b"end\nfield 44\nflag 1\n";
 
-static RUNS: [Row; 19] = [
+static RUNS: [Row; 18] = [
     // a sum on each of the program's own rooms, and on more chips
     (Given::Blank(0, 7), SUM, ASKS, 100, 100, ANSWERS, 0),
     (Given::Blank(0, 1), SUM, ASKS, 100, 100, ANSWERS, 0),
     (Given::Blank(3, 7), SUM, ASKS, 100, 100, ANSWERS, 0),
     (Given::Blank(5, 1), SUM, ASKS, 100, 100, ANSWERS, 0),
     // no program, no command
-    (Given::Blank(0, 7), Ok(b""), b"", 100, 100, b"", 0),
+    (Given::Blank(0, 7), NONE, b"", 100, 100, b"", 0),
     // an image that is refused, and nothing is written
     (Given::Cut, SUM, ASKS, 100, 100, b"", 21),
     (Given::Nothing, SUM, ASKS, 100, 100, b"", 21),
@@ -52,28 +68,11 @@ static RUNS: [Row; 19] = [
     // a room that the program has no machines of; before the rest of the image is looked at
     (Given::With(6, 2), SUM, ASKS, 100, 100, b"", 5),
     // a program that is refused, or was not read to its end
-    (Given::Blank(0, 7), Ok(b"jump\n"), ASKS, 100, 100, b"", 15),
-    (
-        Given::Blank(0, 7),
-        Err(TakeFault::Read),
-        ASKS,
-        100,
-        100,
-        b"",
-        30,
-    ),
-    (
-        Given::Blank(0, 7),
-        Err(TakeFault::TooMuch),
-        ASKS,
-        100,
-        100,
-        b"",
-        32,
-    ),
+    (Given::Blank(0, 7), JUMP, ASKS, 100, 100, b"", 15),
+    (Given::Blank(0, 7), UNREAD, ASKS, 100, 100, b"", 30),
     // the image's fault comes before the program's
-    (Given::Cut, Err(TakeFault::Read), ASKS, 100, 100, b"", 21),
-    (Given::With(6, 2), Ok(b"jump\n"), ASKS, 100, 100, b"", 5),
+    (Given::Cut, UNREAD, ASKS, 100, 100, b"", 21),
+    (Given::With(6, 2), JUMP, ASKS, 100, 100, b"", 5),
     // a read of commands that fails, and a write of answers
     (Given::Blank(0, 7), SUM, ASKS, 6, 100, b"end\n", 30),
     (Given::Blank(0, 7), SUM, ASKS, 100, 5, b"end\nf", 31),
@@ -84,9 +83,9 @@ const WHOLE: (u8, u8) = (0, 1);
 
 /// The image, the program, into how many blocks the machine is cut (2^k of them) and among how many workers; the number
 /// of the fault, 0 for none.
-type SharedRow = (Given, Text, (u8, u8), u8);
+type SharedRow = (Given, Text<'static>, (u8, u8), u8);
 
-static SHARED_RUNS: [SharedRow; 22] = [
+static SHARED_RUNS: [SharedRow; 17] = [
     // as many cuts as the cube has room for, and as many workers as there are blocks
     (Given::Blank(4, 7), SUM, (0, 1), 0),
     (Given::Blank(4, 7), SUM, (1, 1), 0),
@@ -99,21 +98,16 @@ static SHARED_RUNS: [SharedRow; 22] = [
     // too many cuts
     (Given::Blank(4, 7), SUM, (3, 1), 37),
     (Given::Blank(0, 7), SUM, (1, 1), 37),
-    (Given::Blank(12, 1), SUM, (7, 1), 37),
-    (Given::Blank(3, 7), SUM, (255, 1), 37),
     // no worker, or more than blocks
     (Given::Blank(4, 7), SUM, (2, 5), 36),
     (Given::Blank(4, 7), SUM, (0, 2), 36),
-    (Given::Blank(4, 7), SUM, (2, 0), 36),
-    (Given::Blank(12, 7), SUM, (6, 65), 36),
     // the cuts are looked at before the workers
-    (Given::Blank(4, 7), SUM, (3, 0), 37),
     (Given::Blank(4, 7), SUM, (3, 64), 37),
     // and both after the image and after the program
-    (Given::Cut, SUM, (9, 0), 21),
-    (Given::With(6, 2), SUM, (9, 0), 5),
-    (Given::Blank(0, 7), Ok(b"jump\n"), (9, 0), 15),
-    (Given::Blank(0, 7), Err(TakeFault::Read), (9, 0), 30),
+    (Given::Cut, SUM, (6, 64), 21),
+    (Given::With(6, 2), SUM, (6, 64), 5),
+    (Given::Blank(0, 7), JUMP, (6, 64), 15),
+    (Given::Blank(0, 7), UNREAD, (6, 64), 30),
 ];
 
 /// The bytes of an image.
@@ -135,19 +129,6 @@ fn bytes_of(alloc: Global, given: Given) -> Option<Vec<u8>> {
     Some(image)
 }
 
-/// The bytes of a text, as they were read.
-fn text_of(alloc: Global, text: Text) -> Option<Result<Vec<u8>, TakeFault>> {
-    match text {
-        Ok(bytes) => Some(Ok(bytes.to_vec(alloc).ok()?)),
-        Err(fault) => Some(Err(fault)),
-    }
-}
-
-/// The sharing of these numbers.
-fn shared((split, workers): (u8, u8)) -> Sharing {
-    Sharing { split, workers }
-}
-
 /// Whether a run writes and ends as its row says; and keeps an image only if it is to, and has no fault.
 fn is_so<R: Threads + Wait + Sync>(
     rt: &R,
@@ -157,23 +138,20 @@ fn is_so<R: Threads + Wait + Sync>(
     keeps: bool,
 ) -> Option<bool> {
     let (given, text, commands, good, room, wanted, number) = *row;
+    let image = bytes_of(alloc, given)?;
+    let files = Files {
+        alloc,
+        image: &image,
+        text,
+        sharing,
+        keeps,
+        left: None,
+    };
     let mut commands = Bytes::failing(commands, 3, good);
     let mut answers = Room::new(alloc, room, 5).ok()?;
-    let end = run_session(
-        rt,
-        alloc,
-        bytes_of(alloc, given)?,
-        text_of(alloc, text)?,
-        shared(sharing),
-        &mut commands,
-        &mut answers,
-        keeps,
-    );
-    let ended = match end {
-        Ok(kept) => number == 0 && kept.is_some() == keeps,
-        Err(fault) => number == fault.number(),
-    };
-    Some(ended && answers.taken() == wanted)
+    let ended = run(rt, files, &mut commands, &mut answers)?;
+    let keeps_one = keeps && number == 0;
+    Some(ended.number == number && ended.left.is_some() == keeps_one && answers.taken() == wanted)
 }
 
 /// The answers of a second session, on the image that a first one keeps.
@@ -183,36 +161,32 @@ fn goes_on<R: Threads + Wait + Sync>(
     first: &[u8],
     second: &[u8],
 ) -> Option<Room> {
-    let mut commands = Bytes::failing(first, 3, 100);
-    let mut answers = Room::new(alloc, 100, 5).ok()?;
-    let text = text_of(alloc, SUM)?;
     let image = bytes_of(alloc, Given::Blank(2, 7))?;
-    let kept = run_session(
-        rt,
+    let (left, _) = session(rt, alloc, &image, SUM, first)?;
+    let (_, answers) = session(rt, alloc, &left, NONE, second)?;
+    Some(answers)
+}
+
+/// The image that a session leaves, and its answers.
+fn session<R: Threads + Wait + Sync>(
+    rt: &R,
+    alloc: Global,
+    image: &[u8],
+    text: Text<'static>,
+    commands: &[u8],
+) -> Option<(Vec<u8>, Room)> {
+    let files = Files {
         alloc,
         image,
         text,
-        shared(WHOLE),
-        &mut commands,
-        &mut answers,
-        true,
-    )
-    .ok()??;
-    let mut commands = Bytes::failing(second, 3, 100);
+        sharing: WHOLE,
+        keeps: true,
+        left: None,
+    };
+    let mut commands = Bytes::failing(commands, 3, 100);
     let mut answers = Room::new(alloc, 100, 5).ok()?;
-    let text = text_of(alloc, Ok(b""))?;
-    run_session(
-        rt,
-        alloc,
-        kept,
-        text,
-        shared(WHOLE),
-        &mut commands,
-        &mut answers,
-        false,
-    )
-    .ok()?;
-    Some(answers)
+    let ended = run(rt, files, &mut commands, &mut answers)?;
+    Some((ended.left?, answers))
 }
 
 #[test]

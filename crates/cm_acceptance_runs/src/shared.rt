@@ -1,7 +1,7 @@
 //! Runs that are shared out in several ways, on whole machines, over cut wires and by either rule: the same bytes.
 
+use crate::files::{Files, run};
 use cm_bits::doubles::{Bytes, Room};
-use cm_cli::{Sharing, run_session};
 use std::alloc::{AllocError, Global};
 use std::sync::Wait;
 use std::thread::Threads;
@@ -229,27 +229,25 @@ impl Run {
         &self,
         rt: &R,
         alloc: Global,
-        (split, workers): (u8, u8),
+        sharing: (u8, u8),
     ) -> Option<Vec<u8>> {
-        let mut commands = Bytes::new(self.asks, 7);
-        let mut answers = Room::new(alloc, 1000, 100).ok()?;
         let image = self.image(alloc).ok()?;
         let text = self.program(alloc).ok()?;
-        let kept = run_session(
-            rt,
+        let files = Files {
             alloc,
-            image,
-            Ok(text),
-            Sharing { split, workers },
-            &mut commands,
-            &mut answers,
-            true,
-        )
-        .ok()??;
+            image: &image,
+            text: (&text, 100_000),
+            sharing,
+            keeps: true,
+            left: None,
+        };
+        let mut commands = Bytes::new(self.asks, 7);
+        let mut answers = Room::new(alloc, 1000, 100).ok()?;
+        let ended = run(rt, files, &mut commands, &mut answers)?;
         if answers.taken() != self.answers {
             return None;
         }
-        Some(kept)
+        ended.left
     }
 
     /// The first sharing by which it answers otherwise, or leaves another image than one block and one worker.

@@ -5,12 +5,10 @@ mod Fronts
 mod Programs
 mod Opening
 mod Lifting
-mod Refusing
 mod Leading
 mod Weaving
 mod ToTheEnd
 mod Sessions
 mod Going
 mod Putting
-mod Begun
 mod Sourcing

@@ -1,20 +1,18 @@
 -- How a session ends whose image is to be kept, of how the session by itself ended.
 use Rattle.std.proofs.Common.{◌≡◌, Bool, true, false, ℕ, List, Option, Result, Ok, Err, refl, sym, subst}
-use Rattle.std.specs.Prelude.{◌↔◌, IfSome, IsErrOf, cond}
+use Rattle.std.specs.Prelude.{◌↔◌, IfSome, IsErrOf}
 use Rattle.cm_model.specs.declared.act.Act.{Act}
 use Rattle.cm_model.specs.Machine.{Machine}
-use Rattle.cm_array.specs.Faults.{one_more_lacked}
 use Rattle.cm_session.specs.declared.fault.SessionFault.{SessionFault}
 use Rattle.cm_session.specs.declared.fault.SessionFault.TheVariants as session
-use Rattle.cm_session.specs.Ends.{Ends, EndsForSome, is_write, is_no_thread}
+use Rattle.cm_session.specs.Ends.{Ends, EndsForSome, is_write}
 use Rattle.cm_cli.specs.declared.program_fault.ProgramFault.{ProgramFault}
 use Rattle.cm_cli.specs.declared.program_fault.ProgramFault.TheVariants.{Read, Write, Memory, NoThread}
 use Rattle.cm_cli.specs.ProgramFault.{of_session}
 use Rattle.cm_cli.specs.Opened.{Start}
 use Rattle.cm_cli.specs.Run.{KeepsImage, IsToldAs}
 use Rattle.cm_cli.specs.Files.{Streams}
-use Rattle.cm_cli.specs.Deeds.{Deed}
-use Rattle.cm_cli.specs.Runs.{IsSession, RunsFrom}
+use Rattle.cm_cli.specs.Runs.{IsSession}
 use Rattle.cm_cli.proofs.Lifting.{lift_some}
 
 -- want of memory for the image
@@ -89,24 +87,3 @@ broken_off start acts streams keeps after fault told same ends read write =
       read = same_read _ fault read;
       write = same_write _ fault write;
     })
-
--- a thread was wanted where it is told
-pub wants_thread : (fault : SessionFault) (told : ProgramFault) (now before : ℕ) → told ≡ of_session fault
-    → now ≡ cond (is_no_thread fault) (one_more_lacked before) before
-    → IsErrOf {T = Option (List ℕ)} (Err told) NoThread → now ≡ one_more_lacked before
-wants_thread session.Read told now before same is e = absurd (cc)
-wants_thread (session.Write count) told now before same is e = absurd (cc)
-wants_thread session.TooMuch told now before same is e = absurd (cc)
-wants_thread session.Memory told now before same is e = absurd (cc)
-wants_thread session.NoThread told now before same is e = is
-
--- what follows where a thread is wanted
-pub wanted_so : {F P A B : Type 0} {start : Start} {acts : List Act} {streams : Streams} {part : Option P}
-    {result : Result (Unit {0}) ProgramFault} {deeds : List (Deed F P)} → (A → B)
-    → RunsFrom start acts A streams part result deeds → RunsFrom start acts B streams part result deeds
-wanted_so so runs = record {
-  ran = runs.ran;
-  session = runs.session;
-  threads = λ e. so (runs.threads e);
-  closes = runs.closes;
-}

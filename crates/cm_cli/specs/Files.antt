@@ -1,22 +1,15 @@
 -- What `cm1 run` does: its files, its session, and the file that it writes. Ours.
-use Rattle.std.specs.Prelude.{◌≡◌, ◌⊎◌, ◌↔◌, ℕ, Bool, true, Option, Some, None, IfSome, IsErrOf, Result, Ok, Err, Vec}
+use Rattle.std.specs.Prelude.{◌≡◌, ◌⊎◌, ℕ, Bool, Option, Some, None, Ok, Err}
 use Rattle.std.specs.Prelude.{List, [], ◌∷◌, ◌++◌, option_map, string_bytes}
-use Rattle.std.specs.Option.{is_some}
-use Rattle.std.specs.declared.alloc.Global.{Global}
-use Rattle.cm_model.specs.declared.act.Act.{Act}
 use Rattle.cm_language.specs.Program.{ProgramText}
 use Rattle.cm_cli.specs.declared.files.RunLine.{RunLine}
 use Rattle.cm_cli.specs.declared.outside.PutFault.{PutFault}
-use Rattle.cm_cli.specs.declared.sharing.Sharing.{Sharing}
 use Rattle.cm_cli.specs.declared.program_fault.ProgramFault.{ProgramFault}
-use Rattle.cm_cli.specs.declared.program_fault.ProgramFault.TheVariants.{Read, Write}
 use Rattle.cm_cli.specs.ProgramFault.{of_put}
 use Rattle.cm_cli.specs.Opened.{Start}
 use Rattle.cm_cli.specs.Sharing.{sharing_fault}
-use Rattle.cm_cli.specs.Run.{HasRun, HasBrokenOff}
 use Rattle.cm_cli.specs.Deeds.{Deed, Readied}
 use Rattle.cm_cli.specs.Takings.{Reads, OpensImage, RefusesImage, ReadsProgram, RefusesProgram}
-use Rattle.cm_cli.specs.Puttings.{Closes}
 
 -- what came in by standard input and went out by standard output
 pub record Streams : Type 0 where

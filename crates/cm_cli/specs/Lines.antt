@@ -1,31 +1,27 @@
 -- What the program does for a command line, what it tells on standard error, and the status that it ends with. Ours.
 use Rattle.std.specs.Prelude.{◌≡◌, ◌⊎◌, ◌↔◌, ℕ, Bool, true, false, Option, None, IfSome, IfOk, IsErrOf, IsOkUnless}
-use Rattle.std.specs.Prelude.{IsTrue, Result, Ok, Err, Vec, String, List, [], ◌∷◌, ◌++◌, map, option_map, string_bytes}
+use Rattle.std.specs.Prelude.{IsTrue, Result, Ok, Err, Vec, String, List, [], ◌∷◌, ◌++◌, string_bytes}
 use Rattle.std.specs.declared.alloc.Global.{Global}
-use Rattle.std.specs.Io.KnownBytes.{Appends, IsAtEnd}
+use Rattle.std.specs.Io.KnownBytes.{IsAtEnd}
 use Rattle.cm_bits.specs.declared.ends.Failed.{Failed}
 use Rattle.cm_model.specs.Machine.{blank_machine}
 use Rattle.cm_image_format.specs.Whole.{text_of}
 use Rattle.cm_language.specs.Program.{ProgramText}
-use Rattle.cm_line.specs.declared.fault.LineFault.{LineFault}
-use Rattle.cm_line.specs.declared.fault.LineFault.TheVariants.{BadLine}
 use Rattle.cm_line.specs.declared.line.Line.{Line}
 use Rattle.cm_line.specs.declared.line.Line.TheVariants as line
-use Rattle.cm_line.specs.Lines.{AsksFor, IsBadLine}
 use Rattle.cm_cli.specs.declared.files.RunLine.{RunLine}
 use Rattle.cm_cli.specs.declared.weaves.WeaveLine.{WeaveLine}
 use Rattle.cm_cli.specs.declared.fault.ChipFault.{ChipFault}
 use Rattle.cm_cli.specs.declared.fault.ChipFault.TheVariants as chip
 use Rattle.cm_cli.specs.declared.program_fault.ProgramFault.{ProgramFault}
 use Rattle.cm_cli.specs.declared.program_fault.ProgramFault.TheVariants.{Read, Memory}
-use Rattle.cm_cli.specs.ProgramFault.{of_chip, of_line, told_number, line_of}
-use Rattle.cm_cli.specs.Report.{HasFront, message_of, status_of}
+use Rattle.cm_cli.specs.ProgramFault.{of_chip}
 use Rattle.cm_cli.specs.Take.{ConsumesAtMost}
 use Rattle.cm_cli.specs.Session.{CHIP_LIMIT, Ends, has_read_all as has_heard_all, is_write as is_chip_write}
 use Rattle.cm_cli.specs.Listed.{PROGRAM_LIMIT, EndsListing, has_read_all, is_write}
 use Rattle.cm_cli.specs.Fresh.{fresh_fault}
 use Rattle.cm_cli.specs.Opened.{Start}
-use Rattle.cm_cli.specs.Deeds.{Deed, Asked, Opened}
+use Rattle.cm_cli.specs.Deeds.{Deed, Opened}
 use Rattle.cm_cli.specs.Takings.{Reads}
 use Rattle.cm_cli.specs.Puttings.{Flushes, Puts, let_go}
 use Rattle.cm_cli.specs.Files.{Streams, BeginsFiles, RefusesFiles}

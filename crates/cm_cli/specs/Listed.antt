@@ -6,9 +6,8 @@ use Rattle.cm_language.specs.Program.{ProgramText, program_of, IsFaultOf}
 use Rattle.cm_language.specs.Listing.{listing}
 use Rattle.cm_cli.specs.Report.{HasFront}
 use Rattle.cm_cli.specs.declared.program_fault.ProgramFault.{ProgramFault}
-use Rattle.cm_cli.specs.declared.program_fault.ProgramFault.TheVariants.{BadLine, Text, Image, Cap, Read, Write}
-use Rattle.cm_cli.specs.declared.program_fault.ProgramFault.TheVariants.{TooMuch, Memory, NoThread, Split, Workers}
-use Rattle.cm_cli.specs.declared.program_fault.ProgramFault.TheVariants.{Long, Clock, Unfinished}
+use Rattle.cm_cli.specs.declared.program_fault.ProgramFault.TheVariants.{Text, Read, Write}
+use Rattle.cm_cli.specs.declared.program_fault.ProgramFault.TheVariants.{TooMuch, Memory}
 
 -- the most bytes of a program text
 abbrev pub PROGRAM_LIMIT : ℕ
@@ -29,18 +28,7 @@ pub record HasProgram (text : List ℕ) : Type 0 where
 abbrev pub HasNoListing : List ℕ → ProgramFault → Type 0
 HasNoListing text (Text fault) = IsFaultOf text fault
 HasNoListing text Memory = HasProgram text
-HasNoListing text BadLine = ⊥
-HasNoListing text (Image fault) = ⊥
-HasNoListing text Cap = ⊥
-HasNoListing text NoThread = ⊥
-HasNoListing text Split = ⊥
-HasNoListing text Workers = ⊥
-HasNoListing text Long = ⊥
-HasNoListing text Clock = ⊥
-HasNoListing text Unfinished = ⊥
-HasNoListing text Read = ⊥
-HasNoListing text Write = ⊥
-HasNoListing text TooMuch = ⊥
+HasNoListing text _ = ⊥
 
 -- the whole listing was written
 pub record IsListed (text : List ℕ) (held holds : Option (List ℕ)) : Type 0 where
@@ -75,48 +63,16 @@ EndsListing text held holds (Err Read) = Keeps held holds
 EndsListing text held holds (Err Write) = IsListedInPart text held holds
 EndsListing text held holds (Err TooMuch) = IsTooLongToList text held holds
 EndsListing text held holds (Err Memory) = Keeps held holds
-EndsListing text held holds (Err BadLine) = ⊥
-EndsListing text held holds (Err (Image fault)) = ⊥
-EndsListing text held holds (Err Cap) = ⊥
-EndsListing text held holds (Err NoThread) = ⊥
-EndsListing text held holds (Err Split) = ⊥
-EndsListing text held holds (Err Workers) = ⊥
-EndsListing text held holds (Err Long) = ⊥
-EndsListing text held holds (Err Clock) = ⊥
-EndsListing text held holds (Err Unfinished) = ⊥
+EndsListing text held holds _ = ⊥
 
 -- it ended by a write
 abbrev pub is_write : Result (Unit {0}) ProgramFault → Bool
-is_write (Ok done) = false
-is_write (Err BadLine) = false
-is_write (Err (Image fault)) = false
-is_write (Err Cap) = false
-is_write (Err NoThread) = false
-is_write (Err Split) = false
-is_write (Err Workers) = false
-is_write (Err Long) = false
-is_write (Err Clock) = false
-is_write (Err Unfinished) = false
-is_write (Err (Text fault)) = false
-is_write (Err Read) = false
 is_write (Err Write) = true
-is_write (Err TooMuch) = false
-is_write (Err Memory) = false
+is_write _ = false
 
 -- it came to the end of the text: the text was listed, or refused for what stands in it
 abbrev pub has_read_all : Result (Unit {0}) ProgramFault → Bool
 has_read_all (Ok done) = true
-has_read_all (Err BadLine) = false
-has_read_all (Err (Image fault)) = false
-has_read_all (Err Cap) = false
-has_read_all (Err NoThread) = false
-has_read_all (Err Split) = false
-has_read_all (Err Workers) = false
-has_read_all (Err Long) = false
-has_read_all (Err Clock) = false
-has_read_all (Err Unfinished) = false
 has_read_all (Err (Text fault)) = true
-has_read_all (Err Read) = false
 has_read_all (Err Write) = true
-has_read_all (Err TooMuch) = false
-has_read_all (Err Memory) = false
+has_read_all _ = false

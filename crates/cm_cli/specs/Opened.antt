@@ -4,9 +4,8 @@ use Rattle.cm_model.specs.Machine.{Machine}
 use Rattle.cm_image_format.specs.declared.fault.ImageFault.{ImageFault}
 use Rattle.cm_image_format.specs.Whole.{read_shape, read_image, header_fault}
 use Rattle.cm_cli.specs.declared.program_fault.ProgramFault.{ProgramFault}
-use Rattle.cm_cli.specs.declared.program_fault.ProgramFault.TheVariants.{BadLine, Text, Image, Cap, Read}
-use Rattle.cm_cli.specs.declared.program_fault.ProgramFault.TheVariants.{Write, TooMuch, Memory, NoThread}
-use Rattle.cm_cli.specs.declared.program_fault.ProgramFault.TheVariants.{Split, Workers, Long, Clock, Unfinished}
+use Rattle.cm_cli.specs.declared.program_fault.ProgramFault.TheVariants.{Image, Cap}
+use Rattle.cm_cli.specs.declared.program_fault.ProgramFault.TheVariants.{Memory}
 
 -- the rooms of the program's own machines
 abbrev pub is_own_room : ℕ → Bool
@@ -46,17 +45,7 @@ abbrev pub IsUnopened : List ℕ → ProgramFault → Type 0
 IsUnopened image (Image fault) = opened image ≡ Err (Image fault)
 IsUnopened image Cap = opened image ≡ Err Cap
 IsUnopened image Memory = HasHeader image
-IsUnopened image (Text fault) = ⊥
-IsUnopened image Read = ⊥
-IsUnopened image TooMuch = ⊥
-IsUnopened image BadLine = ⊥
-IsUnopened image Write = ⊥
-IsUnopened image NoThread = ⊥
-IsUnopened image Split = ⊥
-IsUnopened image Workers = ⊥
-IsUnopened image Long = ⊥
-IsUnopened image Clock = ⊥
-IsUnopened image Unfinished = ⊥
+IsUnopened image _ = ⊥
 
 -- the image is one of a machine of the program's own
 pub record IsOpened (image : List ℕ) : Type 0 where

@@ -66,21 +66,15 @@ Ends text held holds (Err Memory) = Keeps held holds
 
 -- the session ended by a write
 abbrev pub is_write : Result (Unit {0}) ChipFault → Bool
-is_write (Ok done) = false
-is_write (Err (Text fault)) = false
-is_write (Err Read) = false
 is_write (Err (Write count)) = true
-is_write (Err TooMuch) = false
-is_write (Err Memory) = false
+is_write _ = false
 
 -- the session came to the end of its text: it was answered, or refused for what stands in it
 abbrev pub has_read_all : Result (Unit {0}) ChipFault → Bool
 has_read_all (Ok done) = true
 has_read_all (Err (Text fault)) = true
-has_read_all (Err Read) = false
 has_read_all (Err (Write count)) = true
-has_read_all (Err TooMuch) = false
-has_read_all (Err Memory) = false
+has_read_all _ = false
 
 -- every line of the text is accepted
 pub record IsAccepted (text : List ℕ) : Type 0 where
@@ -90,7 +84,5 @@ pub record IsAccepted (text : List ℕ) : Type 0 where
 -- why there is no answer to a text that was read: want of memory is told so only once all lines are accepted
 abbrev pub HasNoAnswer : List ℕ → ChipFault → Type 0
 HasNoAnswer text (Text fault) = IsChipFaultOf text fault
-HasNoAnswer text Read = ⊥
-HasNoAnswer text (Write count) = ⊥
-HasNoAnswer text TooMuch = ⊥
 HasNoAnswer text Memory = IsAccepted text
+HasNoAnswer text _ = ⊥

@@ -6,9 +6,8 @@ use Rattle.cm_image.specs.declared.pieces.SourceFault.TheVariants as source
 use Rattle.cm_image.specs.Pieces.{GivesAtMost, GivesRest}
 use Rattle.cm_cli.specs.declared.takes.TakeFault.{TakeFault}
 use Rattle.cm_cli.specs.declared.program_fault.ProgramFault.{ProgramFault}
-use Rattle.cm_cli.specs.declared.program_fault.ProgramFault.TheVariants.{BadLine, Text, Image, Cap, Read}
-use Rattle.cm_cli.specs.declared.program_fault.ProgramFault.TheVariants.{Write, TooMuch, Memory, NoThread}
-use Rattle.cm_cli.specs.declared.program_fault.ProgramFault.TheVariants.{Split, Workers, Long, Clock, Unfinished}
+use Rattle.cm_cli.specs.declared.program_fault.ProgramFault.TheVariants.{Image, Cap, Read}
+use Rattle.cm_cli.specs.declared.program_fault.ProgramFault.TheVariants.{TooMuch, Memory}
 use Rattle.cm_cli.specs.ProgramFault.{of_image}
 use Rattle.cm_cli.specs.Opened.{Start, opened}
 use Rattle.cm_cli.specs.Takings.{Reads, IMAGE_LIMIT, IsTaken, IsNoImage}
@@ -33,15 +32,7 @@ IsRefusedBehind front most old new Cap = GivesRest most old new (λ more. opened
 IsRefusedBehind front most old new Memory = GivesAtMost most old new
 IsRefusedBehind front most old new Read = GivesAtMost most old new
 IsRefusedBehind front most old new TooMuch = IfSome old (λ bytes. most < length bytes)
-IsRefusedBehind front most old new (Text fault) = ⊥
-IsRefusedBehind front most old new BadLine = ⊥
-IsRefusedBehind front most old new Write = ⊥
-IsRefusedBehind front most old new NoThread = ⊥
-IsRefusedBehind front most old new Split = ⊥
-IsRefusedBehind front most old new Workers = ⊥
-IsRefusedBehind front most old new Long = ⊥
-IsRefusedBehind front most old new Clock = ⊥
-IsRefusedBehind front most old new Unfinished = ⊥
+IsRefusedBehind front most old new _ = ⊥
 
 -- a fault of an image that a source has, as one of the program
 abbrev pub of_source : SourceFault → ProgramFault

@@ -43,7 +43,7 @@ struct Team<'a, R> {
 }
 
 /// A session by one worker, which needs no thread and waits for nobody.
-pub(crate) fn go_alone<I: Source, O: Sink>(
+pub fn go_alone<I: Source, O: Sink>(
     alloc: Global,
     machine: &mut Opened,
     program: &Program,
@@ -121,7 +121,7 @@ fn go_plain<const N: usize, const CAP: usize, I: Source, O: Sink>(
 }
 
 /// A session by several workers, each in a thread of its own, who go through the passage.
-pub(crate) fn go_shared<R: Threads + Wait + Sync, I: Source, O: Sink>(
+pub fn go_shared<R: Threads + Wait + Sync, I: Source, O: Sink>(
     rt: &R,
     alloc: Global,
     machine: &mut Opened,
@@ -228,7 +228,7 @@ fn shared_runner<'a, const N: usize, R: Threads + Wait + Sync>(
 }
 
 /// The image of a machine.
-pub(crate) fn image_at(alloc: Global, machine: &Opened) -> Result<Vec<u8>, ProgramFault>
+pub fn image_at(alloc: Global, machine: &Opened) -> Result<Vec<u8>, ProgramFault>
     ensures value { IfOk result (λ image. image.items
         ≡ text_of (start_at machine.now).n (start_at machine.now).cap (start_at machine.now).machine) }
     ensures otherwise { IsOkUnless result ProgramFault.Memory }

@@ -15,7 +15,7 @@ pub struct Sharing {
 
 impl Sharing {
     /// Looks whether a machine of 2^`n` chips can be shared out so.
-    pub(crate) fn check(&self, n: u8) -> Result<(), ProgramFault>
+    pub fn check(&self, n: u8) -> Result<(), ProgramFault>
         requires dimension { n ≤ 12 }
         ensures ok { OnOk result (sharing_fault n self.now ≡ None) }
         ensures err { IfErr result (λ fault. sharing_fault n self.now ≡ Some fault) }
