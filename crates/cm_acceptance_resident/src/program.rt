@@ -9,7 +9,7 @@ use crate::meeting::{Cut, FOUR, Meeting, Notes, Waits, no_notes};
 use cm_asm::{Program, assemble};
 use cm_bits::doubles::{Bytes, Room};
 use cm_bits::{Sink, Source};
-use cm_cli::{Opened, Sharing, fresh, go_alone, go_shared, image_at, open_image};
+use cm_cli::{AnyMachine, Sharing, fresh, go_alone, go_shared, image_at, open_image};
 use cm_draws::cut_in_two_places;
 use cm_image::dump;
 use cm_model::Rule;
@@ -103,7 +103,7 @@ impl Image {
 }
 
 /// The machine and the program with which a session begins.
-fn begun(alloc: Global, row: &Shared) -> Option<(Opened, Program)>
+fn begun(alloc: Global, row: &Shared) -> Option<(AnyMachine, Program)>
     ensures shared { IfSome result (λ run. sharing_fault (start_at run.0).n row.now.sharing ≡ None) }
 {
     let image = row.image.bytes(alloc)?;

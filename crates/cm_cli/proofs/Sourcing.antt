@@ -20,7 +20,7 @@ use Rattle.cm_cli.specs.Opened.{Start, opened, IsUnopened}
 use Rattle.cm_cli.specs.Sizes.{start_at}
 use Rattle.cm_cli.specs.Take.{ConsumesAtMost}
 use Rattle.cm_cli.specs.Takings.{Reads, IMAGE_LIMIT, IsTaken, IsNoImage}
-use Rattle.cm_cli.specs.declared.opened.Opened.{Opened}
+use Rattle.cm_cli.specs.declared.opened.AnyMachine.{AnyMachine}
 use Rattle.cm_cli.specs.Sourced.{OpensSource, RefusesSource, IsRefusedBehind, of_source}
 
 consumes-more : (a b c : Option (List ℕ)) (xs ys : List ℕ) → Consumes a b xs → Consumes b c ys → Consumes a c (xs ++ ys)
@@ -202,7 +202,7 @@ held_refused front bytes most a c Clock given is = absurd is
 held_refused front bytes most a c Unfinished given is = absurd is
 
 -- what is told of an image that was all taken is no failed read
-pub never_read : (bytes : List ℕ) (r : Result Opened ProgramFault) → IfErr r (IsUnopened bytes)
+pub never_read : (bytes : List ℕ) (r : Result AnyMachine ProgramFault) → IfErr r (IsUnopened bytes)
     → IsErrOf r Read → ⊥
 never_read bytes (Ok machine) unopened is = absurd (cc)
 never_read bytes (Err fault) unopened is =
@@ -268,7 +268,7 @@ reads_so has fault told is read = (
 -- ---- the whole of a source
 
 pub opens_result : {F : Type 0} (reads : Reads F) (alloc : Global) (first_source middle after : F) (front : List ℕ)
-    (left : ℕ) (r : Result Opened ProgramFault) → length front + left ≡ IMAGE_LIMIT
+    (left : ℕ) (r : Result AnyMachine ProgramFault) → length front + left ≡ IMAGE_LIMIT
     → Consumes (reads.left first_source) (reads.left middle) front
     → (reads.has_failed after ≡ true) ↔ IsErrOf r Read
     → IfOk r (λ machine. GivesRest left (reads.left middle) (reads.left after)
@@ -276,11 +276,11 @@ pub opens_result : {F : Type 0} (reads : Reads F) (alloc : Global) (first_source
     → IfOk r (λ machine. OpensSource reads first_source (start_at machine))
 opens_result reads alloc first_source middle after front left (Ok machine) parts first read given =
     opens reads alloc first_source middle after front left (start_at machine) parts first
-    (λ h. let wrong : ◌≡◌ {A = Result Opened ProgramFault} (Ok machine) (Err Read) = read.0 h in absurd (cc)) given
+    (λ h. let wrong : ◌≡◌ {A = Result AnyMachine ProgramFault} (Ok machine) (Err Read) = read.0 h in absurd (cc)) given
 opens_result reads alloc first_source middle after front left (Err fault) parts first read given = tt
 
 pub refuses_result : {F : Type 0} (reads : Reads F) (alloc : Global) (first_source middle after : F) (front : List ℕ)
-    (left : ℕ) (r : Result Opened ProgramFault) → length front + left ≡ IMAGE_LIMIT
+    (left : ℕ) (r : Result AnyMachine ProgramFault) → length front + left ≡ IMAGE_LIMIT
     → Consumes (reads.left first_source) (reads.left middle) front
     → (reads.has_failed after ≡ true) ↔ IsErrOf r Read
     → IfErr r (IsRefusedBehind front left (reads.left middle) (reads.left after))
@@ -288,7 +288,7 @@ pub refuses_result : {F : Type 0} (reads : Reads F) (alloc : Global) (first_sour
 refuses_result reads alloc first_source middle after front left (Ok machine) parts first read given = tt
 refuses_result reads alloc first_source middle after front left (Err fault) parts first read given =
     refuses reads alloc first_source middle after front left fault parts first
-    (λ h. let same : ◌≡◌ {A = Result Opened ProgramFault} (Err fault) (Err Read) = read.0 h in cc)
+    (λ h. let same : ◌≡◌ {A = Result AnyMachine ProgramFault} (Err fault) (Err Read) = read.0 h in cc)
     (λ is. read.1 (ap (λ f. Err f) is)) given
 
 keeps_none : (a b : Option (List ℕ)) → Keeps a b → Consumes a b []

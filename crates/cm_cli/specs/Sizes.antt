@@ -1,29 +1,34 @@
 -- The machines of the program, each of its own sizes, as where a session begins. Ours.
-use Rattle.std.specs.Prelude.{ℕ}
 use Rattle.cm_cli.specs.Opened.{Start}
-use Rattle.cm_cli.specs.declared.opened.Opened.{Opened}
-use Rattle.cm_cli.specs.declared.opened.Opened.TheVariants.{Room1, Room7}
-use Rattle.cm_cli.specs.declared.opened.OfRoom.{OfRoom}
-use Rattle.cm_cli.specs.declared.opened.OfRoom.TheVariants.{Dim0, Dim1, Dim2, Dim3, Dim4, Dim5, Dim6, Dim7, Dim8}
-use Rattle.cm_cli.specs.declared.opened.OfRoom.TheVariants.{Dim9, Dim10, Dim11, Dim12}
-
--- where a session on a machine of this room begins
-abbrev pub start_in : (room : ℕ) → OfRoom room → Start
-start_in room (Dim0 kept) = record { n = 0; cap = room; machine = kept.machine }
-start_in room (Dim1 kept) = record { n = 1; cap = room; machine = kept.machine }
-start_in room (Dim2 kept) = record { n = 2; cap = room; machine = kept.machine }
-start_in room (Dim3 kept) = record { n = 3; cap = room; machine = kept.machine }
-start_in room (Dim4 kept) = record { n = 4; cap = room; machine = kept.machine }
-start_in room (Dim5 kept) = record { n = 5; cap = room; machine = kept.machine }
-start_in room (Dim6 kept) = record { n = 6; cap = room; machine = kept.machine }
-start_in room (Dim7 kept) = record { n = 7; cap = room; machine = kept.machine }
-start_in room (Dim8 kept) = record { n = 8; cap = room; machine = kept.machine }
-start_in room (Dim9 kept) = record { n = 9; cap = room; machine = kept.machine }
-start_in room (Dim10 kept) = record { n = 10; cap = room; machine = kept.machine }
-start_in room (Dim11 kept) = record { n = 11; cap = room; machine = kept.machine }
-start_in room (Dim12 kept) = record { n = 12; cap = room; machine = kept.machine }
+use Rattle.cm_cli.specs.declared.opened.AnyMachine.{AnyMachine}
+use Rattle.cm_cli.specs.declared.opened.AnyMachine.TheVariants.{Dim0Room1, Dim1Room1, Dim2Room1, Dim3Room1, Dim4Room1, Dim5Room1, Dim6Room1, Dim7Room1, Dim8Room1, Dim9Room1, Dim10Room1, Dim11Room1, Dim12Room1}
+use Rattle.cm_cli.specs.declared.opened.AnyMachine.TheVariants.{Dim0Room7, Dim1Room7, Dim2Room7, Dim3Room7, Dim4Room7, Dim5Room7, Dim6Room7, Dim7Room7, Dim8Room7, Dim9Room7, Dim10Room7, Dim11Room7, Dim12Room7}
 
 -- where a session on a machine of the program's own begins
-abbrev pub start_at : Opened → Start
-start_at (Room1 machine) = start_in 1 machine
-start_at (Room7 machine) = start_in 7 machine
+abbrev pub start_at : AnyMachine → Start
+start_at (Dim0Room1 kept) = record { n = 0; cap = 1; machine = kept.machine }
+start_at (Dim1Room1 kept) = record { n = 1; cap = 1; machine = kept.machine }
+start_at (Dim2Room1 kept) = record { n = 2; cap = 1; machine = kept.machine }
+start_at (Dim3Room1 kept) = record { n = 3; cap = 1; machine = kept.machine }
+start_at (Dim4Room1 kept) = record { n = 4; cap = 1; machine = kept.machine }
+start_at (Dim5Room1 kept) = record { n = 5; cap = 1; machine = kept.machine }
+start_at (Dim6Room1 kept) = record { n = 6; cap = 1; machine = kept.machine }
+start_at (Dim7Room1 kept) = record { n = 7; cap = 1; machine = kept.machine }
+start_at (Dim8Room1 kept) = record { n = 8; cap = 1; machine = kept.machine }
+start_at (Dim9Room1 kept) = record { n = 9; cap = 1; machine = kept.machine }
+start_at (Dim10Room1 kept) = record { n = 10; cap = 1; machine = kept.machine }
+start_at (Dim11Room1 kept) = record { n = 11; cap = 1; machine = kept.machine }
+start_at (Dim12Room1 kept) = record { n = 12; cap = 1; machine = kept.machine }
+start_at (Dim0Room7 kept) = record { n = 0; cap = 7; machine = kept.machine }
+start_at (Dim1Room7 kept) = record { n = 1; cap = 7; machine = kept.machine }
+start_at (Dim2Room7 kept) = record { n = 2; cap = 7; machine = kept.machine }
+start_at (Dim3Room7 kept) = record { n = 3; cap = 7; machine = kept.machine }
+start_at (Dim4Room7 kept) = record { n = 4; cap = 7; machine = kept.machine }
+start_at (Dim5Room7 kept) = record { n = 5; cap = 7; machine = kept.machine }
+start_at (Dim6Room7 kept) = record { n = 6; cap = 7; machine = kept.machine }
+start_at (Dim7Room7 kept) = record { n = 7; cap = 7; machine = kept.machine }
+start_at (Dim8Room7 kept) = record { n = 8; cap = 7; machine = kept.machine }
+start_at (Dim9Room7 kept) = record { n = 9; cap = 7; machine = kept.machine }
+start_at (Dim10Room7 kept) = record { n = 10; cap = 7; machine = kept.machine }
+start_at (Dim11Room7 kept) = record { n = 11; cap = 7; machine = kept.machine }
+start_at (Dim12Room7 kept) = record { n = 12; cap = 7; machine = kept.machine }

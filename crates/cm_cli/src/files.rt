@@ -7,7 +7,7 @@ ghost use Rattle.cm_cli.specs.Takings.{reads_by};
 ghost use Rattle.cm_cli.specs.Files.{BeginsFiles, RefusesFiles, FailsToReady, IsUnready, Readies, streams};
 ghost use Rattle.cm_cli.specs.Runs.{DoesRun};
 
-use crate::opened::Opened;
+use crate::opened::AnyMachine;
 use crate::outside::Outside;
 use crate::program_fault::ProgramFault;
 use crate::saved::{save_alone, save_shared};
@@ -32,7 +32,7 @@ pub struct RunLine {
 /// What a session over files begins with: its machine, its program, and the file that was made ready, if one is named.
 #[derive(Drop)]
 pub(crate) struct Begun<P> {
-    pub(crate) machine: Opened,
+    pub(crate) machine: AnyMachine,
     pub(crate) program: Program,
     pub(crate) part: Option<P>,
 }

@@ -36,7 +36,7 @@ pub use laws::{chip_faults_are_faults, chip_texts_are_programs};
 pub use lent::{go_alone, go_shared, image_at};
 pub use lines::{chip_line, fresh_line, list_line, weave_line};
 pub use listed::list;
-pub use opened::{OfRoom, Opened, open_image};
+pub use opened::{AnyMachine, open_image};
 pub use outside::{Outside, PutFault};
 pub use performing::perform;
 pub use program_fault::ProgramFault;

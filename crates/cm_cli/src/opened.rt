@@ -3,78 +3,142 @@
 ghost use Rattle.std.specs.Prelude.{◌≡◌, ◌≤◌, true, Ok, IfOk, IfErr};
 ghost use Rattle.cm_image_format.specs.Whole.{read_shape};
 ghost use Rattle.cm_cli.specs.Opened.{is_own_room, opened, IsUnopened};
-ghost use Rattle.cm_cli.specs.Sizes.{start_in, start_at};
+ghost use Rattle.cm_cli.specs.Sizes.{start_at};
 
 use crate::program_fault::ProgramFault;
 use cm_array::Machine;
 use cm_image::{load, shape};
 use std::alloc::Global;
 
-/// A machine of the program's own sizes, by the room of its routers.
+/// A machine of one of the program's own sizes: its dimension, and the room of its routers.
 #[derive(Drop)]
-pub enum Opened {
-    Room1(OfRoom<1>),
-    Room7(OfRoom<7>),
+pub enum AnyMachine {
+    Dim0Room1(Machine<0, 1>),
+    Dim1Room1(Machine<1, 1>),
+    Dim2Room1(Machine<2, 1>),
+    Dim3Room1(Machine<3, 1>),
+    Dim4Room1(Machine<4, 1>),
+    Dim5Room1(Machine<5, 1>),
+    Dim6Room1(Machine<6, 1>),
+    Dim7Room1(Machine<7, 1>),
+    Dim8Room1(Machine<8, 1>),
+    Dim9Room1(Machine<9, 1>),
+    Dim10Room1(Machine<10, 1>),
+    Dim11Room1(Machine<11, 1>),
+    Dim12Room1(Machine<12, 1>),
+    Dim0Room7(Machine<0, 7>),
+    Dim1Room7(Machine<1, 7>),
+    Dim2Room7(Machine<2, 7>),
+    Dim3Room7(Machine<3, 7>),
+    Dim4Room7(Machine<4, 7>),
+    Dim5Room7(Machine<5, 7>),
+    Dim6Room7(Machine<6, 7>),
+    Dim7Room7(Machine<7, 7>),
+    Dim8Room7(Machine<8, 7>),
+    Dim9Room7(Machine<9, 7>),
+    Dim10Room7(Machine<10, 7>),
+    Dim11Room7(Machine<11, 7>),
+    Dim12Room7(Machine<12, 7>),
 }
 
-/// A machine whose routers have this room, by its dimension.
-#[derive(Drop)]
-pub enum OfRoom<const CAP: usize> {
-    Dim0(Machine<0, CAP>),
-    Dim1(Machine<1, CAP>),
-    Dim2(Machine<2, CAP>),
-    Dim3(Machine<3, CAP>),
-    Dim4(Machine<4, CAP>),
-    Dim5(Machine<5, CAP>),
-    Dim6(Machine<6, CAP>),
-    Dim7(Machine<7, CAP>),
-    Dim8(Machine<8, CAP>),
-    Dim9(Machine<9, CAP>),
-    Dim10(Machine<10, CAP>),
-    Dim11(Machine<11, CAP>),
-    Dim12(Machine<12, CAP>),
+/// The same for a machine of whatever size.
+#[macro_export]
+macro_rules! on_machine {
+    ($any:expr, $machine:ident => $do:expr) => {
+        match $any {
+            $crate::AnyMachine::Dim0Room1($machine) => $do,
+            $crate::AnyMachine::Dim1Room1($machine) => $do,
+            $crate::AnyMachine::Dim2Room1($machine) => $do,
+            $crate::AnyMachine::Dim3Room1($machine) => $do,
+            $crate::AnyMachine::Dim4Room1($machine) => $do,
+            $crate::AnyMachine::Dim5Room1($machine) => $do,
+            $crate::AnyMachine::Dim6Room1($machine) => $do,
+            $crate::AnyMachine::Dim7Room1($machine) => $do,
+            $crate::AnyMachine::Dim8Room1($machine) => $do,
+            $crate::AnyMachine::Dim9Room1($machine) => $do,
+            $crate::AnyMachine::Dim10Room1($machine) => $do,
+            $crate::AnyMachine::Dim11Room1($machine) => $do,
+            $crate::AnyMachine::Dim12Room1($machine) => $do,
+            $crate::AnyMachine::Dim0Room7($machine) => $do,
+            $crate::AnyMachine::Dim1Room7($machine) => $do,
+            $crate::AnyMachine::Dim2Room7($machine) => $do,
+            $crate::AnyMachine::Dim3Room7($machine) => $do,
+            $crate::AnyMachine::Dim4Room7($machine) => $do,
+            $crate::AnyMachine::Dim5Room7($machine) => $do,
+            $crate::AnyMachine::Dim6Room7($machine) => $do,
+            $crate::AnyMachine::Dim7Room7($machine) => $do,
+            $crate::AnyMachine::Dim8Room7($machine) => $do,
+            $crate::AnyMachine::Dim9Room7($machine) => $do,
+            $crate::AnyMachine::Dim10Room7($machine) => $do,
+            $crate::AnyMachine::Dim11Room7($machine) => $do,
+            $crate::AnyMachine::Dim12Room7($machine) => $do,
+        }
+    };
 }
 
-impl Opened {
+// What is made of these sizes, as a machine of whatever size.
+#[macro_export]
+macro_rules! made {
+    ($size:ident, $make:expr) => {
+        match $make {
+            Ok(machine) => Ok($crate::AnyMachine::$size(machine)),
+            Err(fault) => Err(fault),
+        }
+    };
+}
+
+// The same, where the sizes are told.
+macro_rules! at_size {
+    ($n:expr, $cap:expr, $make:expr, $other:expr) => {
+        match $cap {
+            1 => match $n {
+                0 => made!(Dim0Room1, $make),
+                1 => made!(Dim1Room1, $make),
+                2 => made!(Dim2Room1, $make),
+                3 => made!(Dim3Room1, $make),
+                4 => made!(Dim4Room1, $make),
+                5 => made!(Dim5Room1, $make),
+                6 => made!(Dim6Room1, $make),
+                7 => made!(Dim7Room1, $make),
+                8 => made!(Dim8Room1, $make),
+                9 => made!(Dim9Room1, $make),
+                10 => made!(Dim10Room1, $make),
+                11 => made!(Dim11Room1, $make),
+                _ => made!(Dim12Room1, $make),
+            },
+            7 => match $n {
+                0 => made!(Dim0Room7, $make),
+                1 => made!(Dim1Room7, $make),
+                2 => made!(Dim2Room7, $make),
+                3 => made!(Dim3Room7, $make),
+                4 => made!(Dim4Room7, $make),
+                5 => made!(Dim5Room7, $make),
+                6 => made!(Dim6Room7, $make),
+                7 => made!(Dim7Room7, $make),
+                8 => made!(Dim8Room7, $make),
+                9 => made!(Dim9Room7, $make),
+                10 => made!(Dim10Room7, $make),
+                11 => made!(Dim11Room7, $make),
+                _ => made!(Dim12Room7, $make),
+            },
+            _ => $other,
+        }
+    };
+}
+
+impl AnyMachine {
     /// It has 2^`dims` chips.
     pub fn dims(&self) -> u8
         ensures value { result ≡ (start_at self.now).n }
         ensures most { result ≤ 12 }
     {
-        match self {
-            Opened::Room1(machine) => machine.dims(),
-            Opened::Room7(machine) => machine.dims(),
-        }
-    }
-}
-
-impl<const CAP: usize> OfRoom<CAP> {
-    /// It has 2^`dims` chips.
-    pub fn dims(&self) -> u8
-        ensures value { result ≡ (start_in CAP self.now).n }
-        ensures most { result ≤ 12 }
-    {
-        match self {
-            OfRoom::Dim0(_) => 0,
-            OfRoom::Dim1(_) => 1,
-            OfRoom::Dim2(_) => 2,
-            OfRoom::Dim3(_) => 3,
-            OfRoom::Dim4(_) => 4,
-            OfRoom::Dim5(_) => 5,
-            OfRoom::Dim6(_) => 6,
-            OfRoom::Dim7(_) => 7,
-            OfRoom::Dim8(_) => 8,
-            OfRoom::Dim9(_) => 9,
-            OfRoom::Dim10(_) => 10,
-            OfRoom::Dim11(_) => 11,
-            OfRoom::Dim12(_) => 12,
-        }
+        on_machine!(self, machine => machine.dims())
     }
 }
 
 /// The machine of an image: its shape is looked at first, whether the program has machines of its room, then all of it.
 #[tactic(auto, using(crate::proofs::Opening::unshaped, crate::proofs::Opening::opened_foreign))]
-pub fn open_image(alloc: Global, image: &[u8]) -> Result<Opened, ProgramFault>
+pub fn open_image(alloc: Global, image: &[u8]) -> Result<AnyMachine, ProgramFault>
     ensures value { IfOk result (λ machine. opened image.now ≡ Ok (start_at machine)) }
     ensures refused { IfErr result (IsUnopened image.now) }
 {
@@ -82,85 +146,7 @@ pub fn open_image(alloc: Global, image: &[u8]) -> Result<Opened, ProgramFault>
         Ok(sizes) => sizes,
         Err(fault) => return Err(ProgramFault::from(fault)),
     };
-    match cap {
-        1 => match open_in_room(alloc, n, image) {
-            Ok(machine) => Ok(Opened::Room1(machine)),
-            Err(fault) => Err(fault),
-        },
-        7 => match open_in_room(alloc, n, image) {
-            Ok(machine) => Ok(Opened::Room7(machine)),
-            Err(fault) => Err(fault),
-        },
-        _ => Err(ProgramFault::Cap),
-    }
-}
-
-/// The same, where routers have this room.
-fn open_in_room<const CAP: usize>(
-    alloc: Global,
-    n: u8,
-    image: &[u8],
-) -> Result<OfRoom<CAP>, ProgramFault>
-    requires dimension { n ≤ 12 }
-    requires shape { read_shape image.now ≡ Ok (n, CAP) }
-    requires own { is_own_room CAP ≡ true }
-    ensures value { IfOk result (λ machine. opened image.now ≡ Ok (start_in CAP machine)) }
-    ensures refused { IfErr result (IsUnopened image.now) }
-{
-    match n {
-        0 => match machine_of(alloc, image) {
-            Ok(machine) => Ok(OfRoom::Dim0(machine)),
-            Err(fault) => Err(fault),
-        },
-        1 => match machine_of(alloc, image) {
-            Ok(machine) => Ok(OfRoom::Dim1(machine)),
-            Err(fault) => Err(fault),
-        },
-        2 => match machine_of(alloc, image) {
-            Ok(machine) => Ok(OfRoom::Dim2(machine)),
-            Err(fault) => Err(fault),
-        },
-        3 => match machine_of(alloc, image) {
-            Ok(machine) => Ok(OfRoom::Dim3(machine)),
-            Err(fault) => Err(fault),
-        },
-        4 => match machine_of(alloc, image) {
-            Ok(machine) => Ok(OfRoom::Dim4(machine)),
-            Err(fault) => Err(fault),
-        },
-        5 => match machine_of(alloc, image) {
-            Ok(machine) => Ok(OfRoom::Dim5(machine)),
-            Err(fault) => Err(fault),
-        },
-        6 => match machine_of(alloc, image) {
-            Ok(machine) => Ok(OfRoom::Dim6(machine)),
-            Err(fault) => Err(fault),
-        },
-        7 => match machine_of(alloc, image) {
-            Ok(machine) => Ok(OfRoom::Dim7(machine)),
-            Err(fault) => Err(fault),
-        },
-        8 => match machine_of(alloc, image) {
-            Ok(machine) => Ok(OfRoom::Dim8(machine)),
-            Err(fault) => Err(fault),
-        },
-        9 => match machine_of(alloc, image) {
-            Ok(machine) => Ok(OfRoom::Dim9(machine)),
-            Err(fault) => Err(fault),
-        },
-        10 => match machine_of(alloc, image) {
-            Ok(machine) => Ok(OfRoom::Dim10(machine)),
-            Err(fault) => Err(fault),
-        },
-        11 => match machine_of(alloc, image) {
-            Ok(machine) => Ok(OfRoom::Dim11(machine)),
-            Err(fault) => Err(fault),
-        },
-        _ => match machine_of(alloc, image) {
-            Ok(machine) => Ok(OfRoom::Dim12(machine)),
-            Err(fault) => Err(fault),
-        },
-    }
+    at_size!(n, cap, machine_of(alloc, image), Err(ProgramFault::Cap))
 }
 
 /// The machine of an image, at its sizes.

@@ -8,7 +8,7 @@ ghost use Rattle.cm_cli.specs.Files.{streams};
 ghost use Rattle.cm_cli.specs.Runs.{RunsFrom};
 
 use crate::lent::{close_at, go_alone, go_shared};
-use crate::opened::Opened;
+use crate::opened::AnyMachine;
 use crate::outside::Outside;
 use crate::program_fault::ProgramFault;
 use crate::puttings::break_off;
@@ -25,7 +25,7 @@ use std::thread::Threads;
 pub(crate) fn save_alone<H: Outside, I: Source, O: Sink>(
     alloc: Global,
     outside: &mut H,
-    mut machine: Opened,
+    mut machine: AnyMachine,
     program: &Program,
     part: Option<H::Part>,
     commands: &mut I,
@@ -49,7 +49,7 @@ pub(crate) fn save_shared<R: Threads + Wait + Sync, H: Outside, I: Source, O: Si
     rt: &R,
     alloc: Global,
     outside: &mut H,
-    mut machine: Opened,
+    mut machine: AnyMachine,
     program: &Program,
     sharing: Sharing,
     part: Option<H::Part>,

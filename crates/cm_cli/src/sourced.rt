@@ -4,11 +4,12 @@ ghost use Rattle.std.specs.Prelude.{◌≡◌, ◌↔◌, ◌≤◌, ◌++◌, t
 ghost use Rattle.cm_image_format.specs.Whole.{read_shape};
 ghost use Rattle.cm_image.specs.Pieces.{GivesRest};
 ghost use Rattle.cm_cli.specs.Opened.{is_own_room, opened};
-ghost use Rattle.cm_cli.specs.Sizes.{start_in, start_at};
+ghost use Rattle.cm_cli.specs.Sizes.{start_at};
 ghost use Rattle.cm_cli.specs.Takings.{reads_by};
 ghost use Rattle.cm_cli.specs.Sourced.{OpensSource, RefusesSource, IsRefusedBehind};
 
-use crate::opened::{OfRoom, Opened, open_image};
+use crate::made;
+use crate::opened::{AnyMachine, open_image};
 use crate::program_fault::ProgramFault;
 use cm_array::Machine;
 use cm_bits::Source;
@@ -21,14 +22,11 @@ const PIECE: usize = 16384;
 /// Most bytes of an image's file.
 const IMAGE_LIMIT: u64 = 134217728;
 
-/// Machines of at least so many dimensions may be read while their bytes come. Those of smaller ones are few.
-const LARGE: u8 = 10;
-
 /// The machine of an image that a source has, which is read to its end.
 pub(crate) fn open_image_source<I: Source>(
     alloc: Global,
     source: &mut I,
-) -> Result<Opened, ProgramFault>
+) -> Result<AnyMachine, ProgramFault>
     requires working { I.has_failed source.old ≡ false }
     ensures value { IfOk result (λ machine. OpensSource (reads_by I.left I.has_failed) source.old (start_at machine)) }
     ensures refused { IfErr result (λ fault. RefusesSource (reads_by I.left I.has_failed) source.old fault) }
@@ -40,13 +38,14 @@ pub(crate) fn open_image_source<I: Source>(
     }
 }
 
-/// The machine whose image these bytes are and all that a source has behind them.
+/// The machine whose image these bytes are and all that a source has behind them. Those of ten dimensions and more are
+/// read while their bytes come; others are few.
 fn open_behind<I: Source>(
     alloc: Global,
     front: &[u8],
     source: &mut I,
     most: u64,
-) -> Result<Opened, ProgramFault>
+) -> Result<AnyMachine, ProgramFault>
     requires few { length front.now ≤ 65536 }
     requires working { I.has_failed source.old ≡ false }
     ensures value { IfOk result (λ machine. GivesRest most (I.left source.old) (I.left source.new)
@@ -55,14 +54,12 @@ fn open_behind<I: Source>(
     ensures read { (I.has_failed source.new ≡ true) ↔ IsErrOf result ProgramFault.Read }
 {
     match shape(front) {
-        Ok((n, 1)) if n >= LARGE => match open_large(alloc, n, front, source, most) {
-            Ok(machine) => Ok(Opened::Room1(machine)),
-            Err(fault) => Err(fault),
-        },
-        Ok((n, 7)) if n >= LARGE => match open_large(alloc, n, front, source, most) {
-            Ok(machine) => Ok(Opened::Room7(machine)),
-            Err(fault) => Err(fault),
-        },
+        Ok((10, 1)) => made!(Dim10Room1, machine_behind(alloc, front, source, most)),
+        Ok((11, 1)) => made!(Dim11Room1, machine_behind(alloc, front, source, most)),
+        Ok((12, 1)) => made!(Dim12Room1, machine_behind(alloc, front, source, most)),
+        Ok((10, 7)) => made!(Dim10Room7, machine_behind(alloc, front, source, most)),
+        Ok((11, 7)) => made!(Dim11Room7, machine_behind(alloc, front, source, most)),
+        Ok((12, 7)) => made!(Dim12Room7, machine_behind(alloc, front, source, most)),
         _ => open_held(alloc, front, source, most),
     }
 }
@@ -73,7 +70,7 @@ fn open_held<I: Source>(
     front: &[u8],
     source: &mut I,
     most: u64,
-) -> Result<Opened, ProgramFault>
+) -> Result<AnyMachine, ProgramFault>
     requires working { I.has_failed source.old ≡ false }
     ensures value { IfOk result (λ machine. GivesRest most (I.left source.old) (I.left source.new)
         (λ more. opened (front.now ++ more) ≡ Ok (start_at machine))) }
@@ -86,42 +83,7 @@ fn open_held<I: Source>(
     }
 }
 
-/// The same of a large machine whose routers have this room.
-fn open_large<const CAP: usize, I: Source>(
-    alloc: Global,
-    n: u8,
-    front: &[u8],
-    source: &mut I,
-    most: u64,
-) -> Result<OfRoom<CAP>, ProgramFault>
-    requires dimension { n ≤ 12 }
-    requires large { 10 ≤ n }
-    requires shape { read_shape front.now ≡ Ok (n, CAP) }
-    requires own { is_own_room CAP ≡ true }
-    requires few { length front.now ≤ 65536 }
-    requires working { I.has_failed source.old ≡ false }
-    ensures value { IfOk result (λ machine. GivesRest most (I.left source.old) (I.left source.new)
-        (λ more. opened (front.now ++ more) ≡ Ok (start_in CAP machine))) }
-    ensures refused { IfErr result (IsRefusedBehind front.now most (I.left source.old) (I.left source.new)) }
-    ensures read { (I.has_failed source.new ≡ true) ↔ IsErrOf result ProgramFault.Read }
-{
-    match n {
-        10 => match machine_behind(alloc, front, source, most) {
-            Ok(machine) => Ok(OfRoom::Dim10(machine)),
-            Err(fault) => Err(fault),
-        },
-        11 => match machine_behind(alloc, front, source, most) {
-            Ok(machine) => Ok(OfRoom::Dim11(machine)),
-            Err(fault) => Err(fault),
-        },
-        _ => match machine_behind(alloc, front, source, most) {
-            Ok(machine) => Ok(OfRoom::Dim12(machine)),
-            Err(fault) => Err(fault),
-        },
-    }
-}
-
-/// The same, at its sizes.
+/// The same of a machine of these sizes, while its bytes come.
 fn machine_behind<const N: usize, const CAP: usize, I: Source>(
     alloc: Global,
     front: &[u8],

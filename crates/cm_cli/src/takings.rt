@@ -5,7 +5,7 @@ ghost use Rattle.cm_cli.specs.Sizes.{start_at};
 ghost use Rattle.cm_cli.specs.Deeds.{Did};
 ghost use Rattle.cm_cli.specs.Takings.{OpensImage, ReadsProgram, RefusesImage, RefusesProgram, TakesFile, reads_by};
 
-use crate::opened::Opened;
+use crate::opened::AnyMachine;
 use crate::outside::Outside;
 use crate::program_fault::ProgramFault;
 use crate::sourced::open_image_source;
@@ -21,7 +21,7 @@ pub fn open_image_file<H: Outside>(
     alloc: Global,
     outside: &mut H,
     path: &str,
-) -> Result<Opened, ProgramFault>
+) -> Result<AnyMachine, ProgramFault>
     ensures value { IfOk result (λ machine. Did H.does outside.old outside.new (OpensImage
         (reads_by H.File.left H.File.has_failed) path.now (start_at machine))) }
     ensures refused { IfErr result (λ fault. Did H.does outside.old outside.new (RefusesImage

@@ -1,14 +1,15 @@
 //! `cm1 weave`: the exchange of a machine's blocks, stepped by the lines of a file or by itself.
 
 ghost use Rattle.std.specs.Prelude.{◌≡◌, false, Some, None, IfOk, IfErr, IfSome, option_map, string_bytes};
-ghost use Rattle.cm_cli.specs.Sizes.{start_in, start_at};
+ghost use Rattle.cm_cli.specs.Sizes.{start_at};
 ghost use Rattle.cm_cli.specs.Deeds.{Did};
 ghost use Rattle.cm_cli.specs.Takings.{reads_by};
 ghost use Rattle.cm_cli.specs.Weaving.{outgoing};
 ghost use Rattle.cm_cli.specs.Weaves.{OpensSteps, RefusesSteps, WeavesAt, WeavesFrom, WeavesReady, WeavesWorld};
 
 use crate::files::make_ready;
-use crate::opened::{OfRoom, Opened};
+use crate::on_machine;
+use crate::opened::AnyMachine;
 use crate::outside::Outside;
 use crate::program_fault::ProgramFault;
 use crate::puttings::{break_off, close_files};
@@ -28,21 +29,13 @@ pub struct WeaveLine {
     pub out: Option<String>,
 }
 
-/// What the exchange of a machine's blocks is given beside that machine.
-#[derive(Drop)]
-struct Given<'a> {
-    alloc: Global,
-    line: &'a WeaveLine,
-    program: &'a Program,
-}
-
 /// Steps the exchange of a machine's blocks by the lines of a file or by itself, over what lies outside: the machine is
 /// cut; then the file is made ready that is to be written, and the steps are opened. It waits for nobody.
 pub fn weave_opened<H: Outside, O: Sink>(
     alloc: Global,
     outside: &mut H,
     line: &WeaveLine,
-    machine: Opened,
+    machine: AnyMachine,
     program: &Program,
     answers: &mut O,
 ) -> Result<(), ProgramFault>
@@ -51,60 +44,25 @@ pub fn weave_opened<H: Outside, O: Sink>(
         (start_at machine) program.now.acts
         (outgoing (O.contents answers.old) (O.contents answers.new) (O.has_failed answers.new)) result) }
 {
-    let given = Given {
-        alloc,
-        line,
-        program,
-    };
-    match machine {
-        Opened::Room1(machine) => weave_in_room(&given, outside, machine, answers),
-        Opened::Room7(machine) => weave_in_room(&given, outside, machine, answers),
-    }
-}
-
-/// The same, where routers have this room.
-fn weave_in_room<const CAP: usize, H: Outside, O: Sink>(
-    given: &Given<'_>,
-    outside: &mut H,
-    machine: OfRoom<CAP>,
-    answers: &mut O,
-) -> Result<(), ProgramFault>
-    requires writer { O.has_failed answers.old ≡ false }
-    ensures does { Did H.does outside.old outside.new (WeavesAt (reads_by H.File.left H.File.has_failed)
-        given.now.line.now (start_in CAP machine.entry) given.now.program.now.acts
-        (outgoing (O.contents answers.old) (O.contents answers.new) (O.has_failed answers.new)) result) }
-{
-    match machine {
-        OfRoom::Dim0(machine) => weave_machine(given, outside, machine, answers),
-        OfRoom::Dim1(machine) => weave_machine(given, outside, machine, answers),
-        OfRoom::Dim2(machine) => weave_machine(given, outside, machine, answers),
-        OfRoom::Dim3(machine) => weave_machine(given, outside, machine, answers),
-        OfRoom::Dim4(machine) => weave_machine(given, outside, machine, answers),
-        OfRoom::Dim5(machine) => weave_machine(given, outside, machine, answers),
-        OfRoom::Dim6(machine) => weave_machine(given, outside, machine, answers),
-        OfRoom::Dim7(machine) => weave_machine(given, outside, machine, answers),
-        OfRoom::Dim8(machine) => weave_machine(given, outside, machine, answers),
-        OfRoom::Dim9(machine) => weave_machine(given, outside, machine, answers),
-        OfRoom::Dim10(machine) => weave_machine(given, outside, machine, answers),
-        OfRoom::Dim11(machine) => weave_machine(given, outside, machine, answers),
-        OfRoom::Dim12(machine) => weave_machine(given, outside, machine, answers),
-    }
+    on_machine!(machine, machine => weave_machine(alloc, outside, line, machine, program, answers))
 }
 
 /// The same, on a machine of these sizes.
 fn weave_machine<const N: usize, const CAP: usize, H: Outside, O: Sink>(
-    given: &Given<'_>,
+    alloc: Global,
     outside: &mut H,
+    line: &WeaveLine,
     machine: Machine<N, CAP>,
+    program: &Program,
     answers: &mut O,
 ) -> Result<(), ProgramFault>
     requires writer { O.has_failed answers.old ≡ false }
     ensures does { Did H.does outside.old outside.new (WeavesAt (reads_by H.File.left H.File.has_failed)
-        given.now.line.now (record { n = N; cap = CAP; machine = machine.entry.machine }) given.now.program.now.acts
+        line.now (record { n = N; cap = CAP; machine = machine.entry.machine }) program.now.acts
         (outgoing (O.contents answers.old) (O.contents answers.new) (O.has_failed answers.new)) result) }
 {
-    match World::new(given.alloc, machine, given.program.acts(), given.line.split) {
-        Ok(world) => weave_world(given.alloc, outside, given.line, world, answers),
+    match World::new(alloc, machine, program.acts(), line.split) {
+        Ok(world) => weave_world(alloc, outside, line, world, answers),
         Err(refused) => Err(ProgramFault::from(refused.fault)),
     }
 }
