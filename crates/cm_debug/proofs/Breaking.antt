@@ -1,9 +1,8 @@
 -- Lines answered one more, and lines that break off.
 use Rattle.std.proofs.Common.{◌≡◌, ℕ, suc, ◌+◌, ◌-◌, ◌<◌, ◌⊎◌, inl, inr, false, List, [], ◌∷◌}
-use Rattle.std.proofs.Common.{◌++◌, length, take, drop, take-add, take-append-drop, get_or, Option, Result}
+use Rattle.std.proofs.Common.{◌++◌, length, take, Option, Result}
 use Rattle.std.proofs.Common.{refl, ap, ◌∙◌, sym, subst, arith}
 use Rattle.std.proofs.Common.{append_assoc, append-nil, length-append}
-use Rattle.std.proofs.lemmas.Grind.{common_steps}
 use Rattle.std.proofs.KnownBytes.{Appends-trans, Appends-nil}
 use Rattle.std.specs.Io.KnownBytes.{Appends, append_known}
 use Rattle.cm_bits.specs.Text.{is_line_end, lines_of, words_of, without_empty_last}
@@ -21,7 +20,7 @@ use Rattle.cm_session.specs.Ends.{IsStopped, IsBrokenOff, IsAnswered}
 use Rattle.cm_session.proofs.Lines.{after_lines-append, ended_lines-end, open_line-end, ended_lines-more}
 use Rattle.cm_session.proofs.Lines.{open_line-more, lines_of-open, ended_lines-append, ended_after}
 use Rattle.cm_debug.specs.Gathering.{BreaksOffBetween}
-use Rattle.cm_debug.proofs.Sending.{take_front, front_written, all_written, with_none, as_gathered}
+use Rattle.cm_debug.proofs.Sending.{take_front, front_written, all_written, with_none}
 use Rattle.cm_debug.specs.Telling.{IsTold, IsCutShort, IsGivenUp, IsUnended, BreaksOff, Stops}
 
 -- ---- one line more
@@ -123,16 +122,6 @@ told_part n cap acts start held taken session holds sent line (byte ∷ part) fr
     (λ k inside. free (suc k) (omega (arith, inside)))
     (told_byte n cap acts start held taken session holds sent line byte (free 0 (omega arith)) told')))
 
--- a piece is what was done of it and the rest
-pub rest_of : (taken piece rest : List ℕ) (done : ℕ) → rest ≡ take (length piece - done) (drop done piece)
-    → (taken ++ take done piece) ++ rest ≡ taken ++ piece
-rest_of taken piece rest done is =
-    append_assoc taken (take done piece) rest
-    ∙ ap (λ (xs : List ℕ). taken ++ xs) (ap (λ (xs : List ℕ). take done piece ++ xs) (is ∙ whole_piece done piece)
-    ∙ take-append-drop done piece) where
-      whole_piece : (k : ℕ) (xs : List ℕ) → take (length xs - k) (drop k xs) ≡ drop k xs
-      whole_piece k xs = grind (arith, common_steps)
-
 -- behind what was kept of its line
 pub told_more : (n cap : ℕ) (acts : List Act) (start : Machine) (held : Option (List ℕ)) (taken : List ℕ)
     (session : Session) (holds : Option (List ℕ)) (sent : ℕ) (line part grown : List ℕ) → IsUnended part
@@ -142,22 +131,6 @@ pub told_more : (n cap : ℕ) (acts : List Act) (start : Machine) (held : Option
 told_more n cap acts start held taken session holds sent line part grown free is told' =
     subst (λ (l : List ℕ). IsTold n cap acts start held (taken ++ part) session holds sent l) (sym is)
     (told_part n cap acts start held taken session holds sent line part free told')
-
--- the rest of a piece
-pub told_rest : (n cap : ℕ) (acts : List Act) (start : Machine) (held : Option (List ℕ)) (taken piece rest : List ℕ)
-    (done len : ℕ) (session : Session) (holds : Option (List ℕ)) (sent : ℕ) (line grown : List ℕ)
-    → rest ≡ take (length piece - done) (drop done piece) → len ≡ length rest → IsUnended (take len rest)
-    → grown ≡ line ++ rest
-    → IsTold n cap acts start held (taken ++ take done piece) session holds sent line
-    → IsTold n cap acts start held (taken ++ piece) session holds sent grown
-told_rest n cap acts start held taken piece rest done len session holds sent line grown is long free grows told' =
-    let whole : take len rest ≡ rest = all_first rest len long in
-    subst (λ (t : List ℕ). IsTold n cap acts start held t session holds sent grown)
-    (rest_of taken piece rest done is)
-    (told_more n cap acts start held (taken ++ take done piece) session holds sent line rest grown
-    (subst IsUnended whole free) grows told') where
-      all_first : (xs : List ℕ) (k : ℕ) → k ≡ length xs → take k xs ≡ xs
-      all_first xs k h = grind (arith, common_steps)
 
 -- what is gathered or written is told all the same
 pub told_still : (n cap : ℕ) (acts : List Act) (start : Machine) (held : Option (List ℕ)) (taken : List ℕ)
@@ -182,16 +155,6 @@ told_none n cap acts start held taken session holds sent kept line none told' =
     told_still n cap acts start held taken session holds (append_known holds kept) sent (sent + length kept) line
     (subst (λ (known : Option (List ℕ)). Appends holds known []) (sym (with_none holds kept none)) (Appends-nil holds))
     (omega (arith, ap length none)) told'
-
--- where it was written
-pub told_sent : (n cap : ℕ) (acts : List Act) (start : Machine) (held : Option (List ℕ)) (taken : List ℕ)
-    (session : Session) (holds on : Option (List ℕ)) (sent now : ℕ) (kept line : List ℕ)
-    → Appends holds on kept → now ≡ sent + length kept
-    → IsTold n cap acts start held taken session (append_known holds kept) (sent + length kept) line
-    → IsTold n cap acts start held taken session on now line
-told_sent n cap acts start held taken session holds on sent now kept line wrote count told' =
-    told_still n cap acts start held taken session (append_known holds kept) on (sent + length kept) now line
-    (as_gathered holds on kept wrote) count told'
 
 -- ---- lines that break off
 
@@ -535,67 +498,3 @@ pub nothing_told : (n cap : ℕ) (acts : List Act) (start : Machine) (held : Opt
 unfolding after_lines ended_lines open_line
 nothing_told n cap acts start held =
     record { written = Appends-nil held; session_is = refl; sent_is = refl; line_is = refl }
-
--- ---- a piece, line by line
-
--- the line that begins at a place of a piece
-line_at : (taken piece rest : List ℕ) (done len : ℕ) → rest ≡ take (length piece - done) (drop done piece)
-    → len < length rest → get_or rest len 0 ≡ 10
-    → ((taken ++ take done piece) ++ take len rest) ++ 10 ∷ [] ≡ taken ++ take (done + (len + 1)) piece
-line_at taken piece rest done len is inside ends =
-    let whole : rest ≡ drop done piece = is ∙ whole_piece done piece in
-    let one : take len rest ++ 10 ∷ [] ≡ take (len + 1) rest =
-    ap (λ (b : ℕ). take len rest ++ b ∷ []) (sym ends) ∙ sym (take_one rest len inside) in
-    append_assoc (taken ++ take done piece) (take len rest) (10 ∷ [])
-    ∙ append_assoc taken (take done piece) (take len rest ++ 10 ∷ [])
-    ∙ ap (λ (xs : List ℕ). taken ++ (take done piece ++ xs)) (one ∙ ap (take (len + 1)) whole)
-    ∙ ap (λ (xs : List ℕ). taken ++ xs) (sym (take-add done (len + 1) piece)) where
-      whole_piece : (k : ℕ) (xs : List ℕ) → take (length xs - k) (drop k xs) ≡ drop k xs
-      whole_piece k xs = grind (arith, common_steps)
-
-      take_one : (xs : List ℕ) (k : ℕ) → k < length xs → take (k + 1) xs ≡ take k xs ++ get_or xs k 0 ∷ []
-      take_one xs k h = grind (arith, common_steps)
-
--- it is answered
-pub told_at : (n cap : ℕ) (acts : List Act) (start : Machine) (held : Option (List ℕ)) (taken piece rest part : List ℕ)
-    (done len : ℕ) (session : Session) (holds : Option (List ℕ)) (sent : ℕ) (line : List ℕ)
-    → rest ≡ take (length piece - done) (drop done piece) → part ≡ take len rest
-    → len < length rest → get_or rest len 0 ≡ 10
-    → IsTold n cap acts start held (((taken ++ take done piece) ++ part) ++ 10 ∷ []) session holds sent line
-    → IsTold n cap acts start held (taken ++ take (done + (len + 1)) piece) session holds sent line
-told_at n cap acts start held taken piece rest part done len session holds sent line is front inside ends told' =
-    subst (λ (t : List ℕ). IsTold n cap acts start held t session holds sent line)
-    (ap (λ (xs : List ℕ). ((taken ++ take done piece) ++ xs) ++ 10 ∷ []) front
-    ∙ line_at taken piece rest done len is inside ends) told'
-
--- what stops in it stops in the piece
-pub stops_at : (n cap : ℕ) (acts : List Act) (start : Machine) (held : Option (List ℕ)) (taken piece rest part : List ℕ)
-    (done len : ℕ) (machine : Machine) (on : Option (List ℕ)) (fault : SessionFault)
-    → rest ≡ take (length piece - done) (drop done piece) → part ≡ take len rest
-    → len < length rest → get_or rest len 0 ≡ 10
-    → Stops n cap acts start held (ended_lines (((taken ++ take done piece) ++ part) ++ 10 ∷ [])) machine on fault
-    → Stops n cap acts start held (ended_lines (taken ++ piece)) machine on fault
-stops_at n cap acts start held taken piece rest part done len machine on fault is front inside ends stops =
-    let count : ℕ = done + (len + 1) in
-    let whole : (taken ++ take count piece) ++ drop count piece ≡ taken ++ piece =
-    append_assoc taken (take count piece) (drop count piece)
-    ∙ ap (λ (xs : List ℕ). taken ++ xs) (take-append-drop count piece) in
-    subst (λ (t : List ℕ). Stops n cap acts start held (ended_lines t) machine on fault) whole
-    (stops_in_front n cap acts start held (taken ++ take count piece) (drop count piece) machine on fault
-    (subst (λ (t : List ℕ). Stops n cap acts start held (ended_lines t) machine on fault)
-    (ap (λ (xs : List ℕ). ((taken ++ take done piece) ++ xs) ++ 10 ∷ []) front
-    ∙ line_at taken piece rest done len is inside ends) stops))
-
--- what stops before the rest of a piece stops in it
-pub stops_in_rest : (n cap : ℕ) (acts : List Act) (start : Machine) (held : Option (List ℕ)) (taken piece : List ℕ)
-    (done : ℕ) (session : Session) (holds on : Option (List ℕ)) (sent : ℕ) (kept line : List ℕ) (fault : SessionFault)
-    → IsTold n cap acts start held (taken ++ take done piece) session (append_known holds kept) (sent + length kept)
-    line
-    → BreaksOffBetween sent kept holds on fault
-    → Stops n cap acts start held (ended_lines (taken ++ piece)) session.machine on fault
-stops_in_rest n cap acts start held taken piece done session holds on sent kept line fault told' breaks =
-    subst (λ (t : List ℕ). Stops n cap acts start held (ended_lines t) session.machine on fault)
-    (append_assoc taken (take done piece) (drop done piece)
-    ∙ ap (λ (xs : List ℕ). taken ++ xs) (take-append-drop done piece))
-    (stops_before n cap acts start held (taken ++ take done piece) (drop done piece) session holds on sent kept line
-    fault told' breaks)

@@ -14,6 +14,10 @@ use Rattle.cm_session.specs.Answer.{at_line, end_line, refused_line, CLOCK}
 use Rattle.cm_session.specs.Stretches.{IsStretch, acts_on, arrived}
 use Rattle.cm_session.specs.Ends.{IsOnTheWay}
 use Rattle.cm_session.proofs.Stretching.{going-stretch, going-rises, arrived-rises}
+use Rattle.cm_debug.specs.declared.want.Want.{Want}
+use Rattle.cm_debug.specs.declared.debugger.Stops.{Stops}
+use Rattle.cm_debug.specs.Longest.{IsLongest, HasRun}
+use Rattle.cm_debug.specs.State.{State, session_in, state, stops_at, Goes, IsLeft}
 
 -- acts whose first ones are a stretch
 pub stretch_first : (n cap : ℕ) (stops : ℕ → Bool) (session : Session) (acts : List Act) (first : Act) (count : ℕ)
@@ -195,3 +199,51 @@ either_way (Err fault) X x = x
 -- lists that are one are as long
 pub same_length : (xs ys : List Bool) → xs ≡ ys → length xs ≡ length ys
 same_length xs ys is = ap length is
+
+-- ---- states
+
+-- it is left for a want
+pub left_by : (n cap : ℕ) (one : Answered) (before after : State) (result : Result (Unit {0}) Want) (want : Want)
+    → result ≡ Err want → IsLeft n cap one before after want → Goes n cap one before after result
+left_by n cap one before after result want is left =
+    subst (λ (r : Result (Unit {0}) Want). Goes n cap one before after r) (sym is) left
+
+-- a stretch is run
+pub has_run : (n cap : ℕ) (stops : Stops) (before : State) (rest : List Act) (first : Act) (count clock : ℕ)
+    (machine : Machine) (text : List ℕ) (lacked : ℕ)
+    → before.debugger.position < length before.debugger.acts.now
+    → rest ≡ take (length before.debugger.acts.now - before.debugger.position)
+    (drop before.debugger.position before.debugger.acts.now)
+    → first ≡ slice_index_or rest 0 first → 0 < count → count ≤ length rest → clock ≡ before.machine.clock
+    → IsStretch (stops_at stops before.debugger.breakpoints.items) before.debugger.trace before.debugger.position clock
+    (take count rest)
+    → IsLongest (stops_at stops before.debugger.breakpoints.items) before.debugger.trace before.debugger.position clock
+    rest count
+    → text ≡ before.answer ++ told_by (session_in before) first
+    → machine ≡ run_of n cap before.machine (take count rest) → lacked ≡ before.lacked
+    → HasRun n cap stops before
+    (state machine (record before.debugger { position = before.debugger.position + count }) text lacked)
+has_run n cap stops before rest first count clock machine text lacked inside is head above within at stretch longest
+    says ran same =
+    let at_place : ℕ = before.debugger.position in
+    let acts : List Act = before.debugger.acts.now in
+    let all : rest ≡ drop at_place acts = is ∙ whole_rest at_place acts in
+    let counted : count ≡ (at_place + count) - at_place = omega arith in
+    let told' = stretch_told n cap (stops_at stops before.debugger.breakpoints.items) (session_in before) acts rest first
+    count before.answer text machine clock inside is head above within at stretch says ran in
+    record {
+      answer = told'.0;
+      session = told'.1;
+      machine = ran ∙ (λ i. run_of n cap before.machine (take (counted i) (all i)));
+      further = omega (arith, above);
+      longest = subst (λ (k : ℕ). IsLongest (stops_at stops before.debugger.breakpoints.items) before.debugger.trace
+          at_place before.machine.clock (drop at_place acts) k) counted
+          (subst (λ (xs : List Act). IsLongest (stops_at stops before.debugger.breakpoints.items)
+          before.debugger.trace at_place before.machine.clock xs count) all
+          (subst (λ (k : ℕ). IsLongest (stops_at stops before.debugger.breakpoints.items) before.debugger.trace at_place k
+          rest count) at longest));
+      inside = omega (arith, within, inside, ap length all, length-drop at_place acts);
+      acts = refl;
+      breaks = refl;
+      lacked = same;
+    }

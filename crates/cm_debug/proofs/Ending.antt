@@ -14,8 +14,8 @@ use Rattle.cm_session.specs.declared.fault.SessionFault.TheVariants.{Read, Write
 use Rattle.cm_session.specs.Session.{Session, opening}
 use Rattle.cm_session.specs.Ends.{LIMIT, ended_lines, heard_lines, IsAnswered, Ends}
 use Rattle.cm_session.proofs.Lines.{heard_first, heard_whole}
-use Rattle.cm_debug.specs.declared.desk.Desk.{Desk}
-use Rattle.cm_debug.specs.Desk.{session_of, IsDeskOf}
+use Rattle.cm_debug.specs.declared.debugger.Debugger.{Debugger}
+use Rattle.cm_debug.specs.State.{session_of, IsInProgram}
 use Rattle.cm_debug.specs.Telling.{IsTold, Stops}
 use Rattle.cm_debug.proofs.Breaking.{all_told, closed_told, lines_at_last, nothing_told}
 use Rattle.cm_debug.proofs.Breaking.{stops_first, stops_further}
@@ -145,14 +145,14 @@ ends_first n cap acts start held (Some text) =
     stops_first n cap acts start held (heard_lines text)
 
 -- nothing is told
-pub told_first : (n cap : ℕ) (acts : List Act) (start : Machine) (held : Option (List ℕ)) (desk : Desk) (line : List ℕ)
-    → desk.position ≡ 0
-    → desk.breaks.items ≡ replicate (length acts) false → desk.report ≡ false → line ≡ []
-    → IsTold n cap acts start held [] (session_of start desk) held 0 line
-told_first n cap acts start held desk line position breaks report none =
-    let is : session_of start desk ≡ opening start (length acts) =
-    (λ i. record { machine = start; position = position i; breaks = breaks i; report = report i }) in
-    subst (λ (l : List ℕ). IsTold n cap acts start held [] (session_of start desk) held 0 l) (sym none)
+pub told_first : (n cap : ℕ) (acts : List Act) (start : Machine) (held : Option (List ℕ)) (debugger : Debugger)
+    (line : List ℕ) → debugger.position ≡ 0
+    → debugger.breakpoints.items ≡ replicate (length acts) false → debugger.trace ≡ false → line ≡ []
+    → IsTold n cap acts start held [] (session_of start debugger) held 0 line
+told_first n cap acts start held debugger line position breaks trace none =
+    let is : session_of start debugger ≡ opening start (length acts) =
+    (λ i. record { machine = start; position = position i; breaks = breaks i; report = trace i }) in
+    subst (λ (l : List ℕ). IsTold n cap acts start held [] (session_of start debugger) held 0 l) (sym none)
     (subst (λ (s : Session). IsTold n cap acts start held [] s held 0 []) (sym is) (nothing_told n cap acts start held))
 
 -- ---- what a read gave
@@ -254,13 +254,15 @@ ends_broken n cap acts start held before now after taken buf count used session 
     (subst (λ (ls : List (List ℕ)). Stops n cap acts start held ls machine gone fault)
     (sym (lines_at_last taken line some told'.line_is)) stops)
 
--- a desk for so many acts
-pub desk_first : (acts : List Act) (desk : Desk) → desk.position ≡ 0
-    → desk.breaks.items ≡ replicate (length acts) false → IsDeskOf acts desk
-desk_first acts desk position breaks = record {
+-- a debugger of so many acts
+pub debugger_first : (acts : List Act) (debugger : Debugger) → debugger.acts.now ≡ acts → debugger.position ≡ 0
+    → debugger.breakpoints.items ≡ replicate (length acts) false → IsInProgram debugger
+debugger_first acts debugger same position breaks = record {
   within = omega (arith, position);
-  breaks = grind (arith, common_steps);
-}
+  breaks = ap length breaks ∙ long (length acts) ∙ sym (ap length same);
+} where
+  long : (k : ℕ) → length (replicate k false) ≡ k
+  long k = grind (arith, common_steps)
 
 -- ---- whether a line is open
 

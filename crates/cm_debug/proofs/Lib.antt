@@ -3,6 +3,7 @@ pub mod Telling
 pub mod Sending
 pub mod Coming
 pub mod Breaking
+pub mod Taking
 pub mod Ending
 pub mod Hearing
 pub mod Finding

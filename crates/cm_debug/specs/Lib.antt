@@ -1,4 +1,5 @@
-pub mod Desk
+pub mod State
 pub mod Longest
 pub mod Gathering
 pub mod Telling
+pub mod Taking

@@ -1,125 +1,151 @@
 //! What a command does and is answered.
 
-ghost use Rattle.std.specs.Prelude.{◌≡◌, ◌≢◌, ◌<◌, ◌^◌, ◌++◌, ◌∷◌, [], length, slice_set, codes, decimal, IfSome};
-ghost use Rattle.std.specs.Prelude.{cond, IsErrOf, IsTrue, MatchResult, OnOk, OnErr};
+ghost use Rattle.std.specs.Prelude.{◌≡◌, ◌≢◌, ◌<◌, ◌^◌, ◌++◌, ◌∷◌, [], length, slice_set, codes, decimal, IfOk, IfSome};
+ghost use Rattle.std.specs.Prelude.{IsErrOf, IsTrue, OnOk};
 ghost use Rattle.cm_bits.specs.Bit.{bit_number};
 ghost use Rattle.cm_model.specs.Processor.{ZERO, flag, field_value};
 ghost use Rattle.cm_model.specs.Array.{list_at, processor_of, wire};
 ghost use Rattle.cm_model.specs.Found.{found_in};
-ghost use Rattle.cm_array.specs.Faults.{one_more_lacked};
 ghost use Rattle.cm_array.specs.Pokes.{machine_with_memory_bit, machine_with_flag};
 ghost use Rattle.cm_session.specs.Answer.{line, buffer_lines, log_lines, found_line, refused_line};
 ghost use Rattle.cm_session.specs.Bounds.{IsFor};
-ghost use Rattle.cm_session.specs.Session.{obeyed};
-ghost use Rattle.cm_session.specs.Ends.{IsOnTheWay};
-ghost use Rattle.cm_debug.specs.Desk.{session_of, IsDeskOf};
-ghost use Rattle.cm_debug.specs.Telling.{is_thread, runs_acts};
+ghost use Rattle.cm_session.specs.Session.{answered, obeyed};
+ghost use Rattle.cm_debug.specs.State.{session_of, state, Goes, IsInProgram};
+ghost use Rattle.cm_debug.specs.Telling.{asks_for_acts, runs_acts};
 
 use crate::answers::{push_bit, push_buffer, push_found, push_log, push_number, push_word};
-use crate::desk::{Desk, Stops};
-use crate::running::run_on;
+use crate::debugger::{Debugger, Stops};
 use crate::want::Want;
 use cm_array::{Log, Machine, Runner};
 use cm_bits::{Addr, Field, FlagNo, NoMemory, Place};
-use cm_model::{Act, Found, Tag};
-use cm_session::Command;
+use cm_model::{Found, Tag};
+use cm_session::{Command, Refusal};
 use std::alloc::AllocError;
 
-/// Does what a command asks for, and tells what it is answered. After an `Err` the machine is as it was, or some of the
-/// acts that the command runs are run.
-pub fn obey<const N: usize, const CAP: usize, R: Runner<N, CAP>>(
-    machine: &mut Machine<N, CAP>,
-    acts: &[Act],
-    runner: &mut R,
-    desk: &mut Desk,
-    command: Command,
-    text: &mut Vec<u8>,
-) -> Result<(), Want>
-    requires runner { R.ready }
-    requires desk { IsDeskOf acts.now desk.old }
-    requires operands { IsFor N (length acts.now) command }
-    ensures answer { OnOk result (text.new.items ≡ text.old.items
-        ++ (obeyed N CAP acts.now (session_of machine.old.machine desk.old) command).answer) }
-    ensures session { OnOk result (session_of machine.new.machine desk.new
-        ≡ (obeyed N CAP acts.now (session_of machine.old.machine desk.old) command).session) }
-    ensures desk { OnOk result (IsDeskOf acts.now desk.new) }
-    ensures err { OnErr result (IsOnTheWay N CAP acts.now (session_of machine.old.machine desk.old)
-        (obeyed N CAP acts.now (session_of machine.old.machine desk.old) command).session machine.new.machine) }
-    ensures thread { MatchResult result
-        (λ _. R.threads_lacked runner.new ≡ R.threads_lacked runner.old)
-        (λ want. R.threads_lacked runner.new
-        ≡ cond (is_thread want) (one_more_lacked (R.threads_lacked runner.old)) (R.threads_lacked runner.old)) }
-    ensures acts { IsErrOf result Want.Thread → IsTrue (runs_acts command) }
-{
-    match command {
-        Command::Step => run_on(machine, acts, runner, desk, Stops::Everywhere, text),
-        Command::Run => run_on(machine, acts, runner, desk, Stops::AtBreaks, text),
-        Command::Break(index) => {
-            desk.breaks[index] = true;
-            push_number(text, b"break", index as u64)?;
-            Ok(())
+impl Debugger<'_> {
+    /// Answers what was read of a line. After an `Err` the machine is as it was, or some of the acts that the line runs
+    /// are run.
+    pub fn answer<const N: usize, const CAP: usize, R: Runner<N, CAP>>(
+        &mut self,
+        machine: &mut Machine<N, CAP>,
+        runner: &mut R,
+        asked: Result<Option<Command>, Refusal>,
+        text: &mut Vec<u8>,
+    ) -> Result<(), Want>
+        requires runner { R.ready }
+        requires program { IsInProgram self.old }
+        requires operands { IfOk asked (λ command. IfSome command (IsFor N (length self.old.acts.now))) }
+        ensures goes { Goes N CAP (answered N CAP self.old.acts.now (session_of machine.old.machine self.old) asked)
+            (state machine.old.machine self.old text.old.items (R.threads_lacked runner.old))
+            (state machine.new.machine self.new text.new.items (R.threads_lacked runner.new)) result }
+        ensures acts { IsErrOf result Want.Thread → IsTrue (asks_for_acts asked) }
+    {
+        match asked {
+            Ok(None) => Ok(()),
+            Ok(Some(command)) => self.obey(machine, runner, command, text),
+            Err(refusal) => {
+                push_number(text, b"?", u64::from(refusal.number()))?;
+                Ok(())
+            }
         }
-        Command::Clear(index) => {
-            desk.breaks[index] = false;
-            push_number(text, b"clear", index as u64)?;
-            Ok(())
-        }
-        Command::WireOn => {
-            desk.report = true;
-            push_wire(text, b"on")?;
-            Ok(())
-        }
-        Command::WireOff => {
-            desk.report = false;
-            push_wire(text, b"off")?;
-            Ok(())
-        }
-        Command::WireShow => {
-            push_bit(text, b"wire", machine.wire())?;
-            Ok(())
-        }
-        Command::Field(place, field) => {
-            push_field(text, machine, place, field)?;
-            Ok(())
-        }
-        Command::Flag(place, number) => {
-            push_flag(text, machine, place, number)?;
-            Ok(())
-        }
-        Command::Poke(place, at, bit) => {
-            push_word(text, b"ok")?;
-            machine.poke(place.chip, place.proc, at, bit);
-            Ok(())
-        }
-        Command::PokeFlag(place, number, bit) => {
-            push_word(text, b"ok")?;
-            poke_flag(machine, place, number, bit);
-            Ok(())
-        }
-        Command::Buffer(chip) => {
-            push_buffer(text, machine.buffer(chip))?;
-            Ok(())
-        }
-        Command::Find(tag) => {
-            push_found(text, whereabouts(machine, tag))?;
-            Ok(())
-        }
-        Command::Events(chip) => {
-            push_events(text, machine, chip)?;
-            Ok(())
-        }
-        Command::Rule => {
-            push_number(text, b"rule", u64::from(machine.rule().number()))?;
-            Ok(())
+    }
+
+    /// Does what a command asks for, and tells what it is answered.
+    fn obey<const N: usize, const CAP: usize, R: Runner<N, CAP>>(
+        &mut self,
+        machine: &mut Machine<N, CAP>,
+        runner: &mut R,
+        command: Command,
+        text: &mut Vec<u8>,
+    ) -> Result<(), Want>
+        requires runner { R.ready }
+        requires program { IsInProgram self.old }
+        requires operands { IsFor N (length self.old.acts.now) command }
+        ensures goes { Goes N CAP (obeyed N CAP self.old.acts.now (session_of machine.old.machine self.old) command)
+            (state machine.old.machine self.old text.old.items (R.threads_lacked runner.old))
+            (state machine.new.machine self.new text.new.items (R.threads_lacked runner.new)) result }
+        ensures acts { IsErrOf result Want.Thread → IsTrue (runs_acts command) }
+    {
+        match command {
+            Command::Step => self.run_on(machine, runner, Stops::Everywhere, text),
+            Command::Run => self.run_on(machine, runner, Stops::AtBreaks, text),
+            Command::Break(index) => {
+                self.breakpoints[index] = true;
+                push_number(text, b"break", index as u64)?;
+                Ok(())
+            }
+            Command::Clear(index) => {
+                self.breakpoints[index] = false;
+                push_number(text, b"clear", index as u64)?;
+                Ok(())
+            }
+            Command::WireOn => {
+                self.trace = true;
+                push_wire(text, b"on")?;
+                Ok(())
+            }
+            Command::WireOff => {
+                self.trace = false;
+                push_wire(text, b"off")?;
+                Ok(())
+            }
+            Command::WireShow => {
+                push_bit(text, b"wire", machine.wire())?;
+                Ok(())
+            }
+            Command::Field(place, field) => {
+                push_field(text, machine, place, field)?;
+                Ok(())
+            }
+            Command::Flag(place, number) => {
+                push_flag(text, machine, place, number)?;
+                Ok(())
+            }
+            Command::Poke(place, at, bit) => {
+                push_word(text, b"ok")?;
+                machine.poke(place.chip, place.proc, at, bit);
+                Ok(())
+            }
+            Command::PokeFlag(place, number, bit) => {
+                push_word(text, b"ok")?;
+                poke_flag(machine, place, number, bit);
+                Ok(())
+            }
+            Command::Buffer(chip) => {
+                push_buffer(text, machine.buffer(chip))?;
+                Ok(())
+            }
+            Command::Find(tag) => {
+                push_found(text, whereabouts(machine, tag))?;
+                Ok(())
+            }
+            Command::Events(chip) => {
+                push_events(text, machine, chip)?;
+                Ok(())
+            }
+            Command::Rule => {
+                push_number(text, b"rule", u64::from(machine.rule().number()))?;
+                Ok(())
+            }
         }
     }
 }
 
 /// Whether the command runs acts.
-pub fn runs_acts(command: Command) -> bool
+fn runs_acts(command: Command) -> bool
     ensures value { result ≡ runs_acts command }
 {
     matches!(command, Command::Step | Command::Run)
+}
+
+/// Whether a line asks for a command that runs acts.
+pub fn asks_for_acts(asked: &Result<Option<Command>, Refusal>) -> bool
+    ensures value { result ≡ asks_for_acts asked.now }
+{
+    match asked {
+        Ok(Some(command)) => runs_acts(*command),
+        Ok(None) | Err(_) => false,
+    }
 }
 
 /// Where the message of a tag is. A birth that is still to come is of none: then nothing is looked through.

@@ -3,10 +3,9 @@
 
 mod answers;
 mod commands;
-mod desk;
-mod feeding;
+mod console;
+mod debugger;
 mod gathering;
-mod lines;
 mod reader;
 mod reader_operands;
 mod running;
@@ -16,9 +15,8 @@ mod want;
 
 pub use answers::{push_bit, push_number, push_word};
 pub use cm_session::SessionFault;
-pub use desk::Desk;
+pub use debugger::Debugger;
 pub use gathering::{CutOff, Gathered};
-pub use lines::answer;
 pub use reader::read_command;
 pub use sessions::session;
 pub use want::Want;

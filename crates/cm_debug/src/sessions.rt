@@ -5,9 +5,7 @@ ghost use Rattle.std.specs.Io.KnownBytes.{IsAtEnd};
 ghost use Rattle.cm_array.specs.Faults.{one_more_lacked};
 ghost use Rattle.cm_session.specs.Ends.{Ends, EndsForSome, is_no_thread, is_write};
 
-use crate::desk::Desk;
-use crate::feeding::feed;
-use crate::gathering::Gathered;
+use crate::console::Console;
 use cm_array::{Machine, Runner};
 use cm_asm::Program;
 use cm_bits::{Sink, Source};
@@ -75,11 +73,9 @@ fn answer_all<const N: usize, const CAP: usize, R: Runner<N, CAP>, I: Source, O:
         (λ fault. R.threads_lacked runner.new
         ≡ cond (is_no_thread fault) (one_more_lacked (R.threads_lacked runner.old)) (R.threads_lacked runner.old)) }
 {
-    let Ok(mut desk) = Desk::new(alloc, acts.len()) else {
+    let Ok(mut console) = Console::new(alloc, acts) else {
         return Err(SessionFault::Memory);
     };
-    let mut line = Vec::new(alloc);
-    let mut answers = Gathered::new(alloc);
     let mut taken = 0;
     let mut piece = [0u8; PIECE];
     loop {
@@ -90,16 +86,7 @@ fn answer_all<const N: usize, const CAP: usize, R: Runner<N, CAP>, I: Source, O:
             break;
         }
         let room = count.min(LIMIT - taken);
-        match feed(
-            machine,
-            acts,
-            runner,
-            &mut desk,
-            &piece[..room],
-            &mut line,
-            &mut answers,
-            out,
-        ) {
+        match console.feed(machine, runner, &piece[..room], out) {
             Ok(()) => taken += room,
             Err(fault) => return Err(fault),
         }
@@ -107,20 +94,11 @@ fn answer_all<const N: usize, const CAP: usize, R: Runner<N, CAP>, I: Source, O:
             return Err(SessionFault::TooMuch);
         }
     }
-    if line.is_empty() {
+    if console.line.is_empty() {
         return Ok(());
     }
     // the end of the bytes ends the line that is open
-    match feed(
-        machine,
-        acts,
-        runner,
-        &mut desk,
-        b"\n",
-        &mut line,
-        &mut answers,
-        out,
-    ) {
+    match console.feed(machine, runner, b"\n", out) {
         Ok(()) => Ok(()),
         Err(fault) => Err(fault),
     }

@@ -6,10 +6,10 @@ ghost use Rattle.cm_model.specs.declared.act.Act.TheVariants as act;
 ghost use Rattle.cm_array.specs.Acts.{cycles_in, is_cycle, is_long};
 ghost use Rattle.cm_session.specs.Session.{lacks_room};
 ghost use Rattle.cm_session.specs.Stretches.{is_look, looks_at, IsStretch};
-ghost use Rattle.cm_debug.specs.Desk.{stops_at};
+ghost use Rattle.cm_debug.specs.State.{stops_at};
 ghost use Rattle.cm_debug.specs.Longest.{IsLongest};
 
-use crate::desk::{Desk, Stops};
+use crate::debugger::{Debugger, Stops};
 use cm_model::Act;
 
 const LONGEST: usize = 4096;
@@ -37,24 +37,31 @@ pub fn is_look(act: &Act) -> bool
 
 #[tactic(auto, using(crate::proofs::Growing::begins, crate::proofs::Growing::one_more))]
 /// How many of the first acts, of which there is one, a runner takes at once so that nothing is told or stops within.
-pub fn stretch_len(acts: &[Act], desk: &Desk, stops: Stops, clock: u64) -> usize
+pub fn stretch_len(acts: &[Act], debugger: &Debugger<'_>, stops: Stops, clock: u64) -> usize
     requires some { 0 < length acts.now }
     requires room { lacks_room clock (slice_index_or acts.now 0 act.Cycle) ≡ false }
     requires clock { clock < 2 ^ 63 }
-    requires place { desk.now.position + length acts.now < 2 ^ 64 }
+    requires place { debugger.now.position + length acts.now < 2 ^ 64 }
     ensures some { 0 < result }
     ensures within { result ≤ length acts.now }
-    ensures stretch { IsStretch (stops_at stops desk.now.breaks.items) desk.now.report desk.now.position clock
+    ensures stretch { IsStretch (stops_at stops debugger.now.breakpoints.items) debugger.now.trace debugger.now.position clock
         (take result acts.now) }
     ensures short { IsFalse (is_long (take result acts.now)) }
-    ensures longest { IsLongest (stops_at stops desk.now.breaks.items) desk.now.report desk.now.position clock
+    ensures longest { IsLongest (stops_at stops debugger.now.breakpoints.items) debugger.now.trace debugger.now.position clock
         acts.now result }
 {
     let mut cycles = cycle_count(&acts[0]);
     let mut count = 1;
     while count < acts.len() && count < LONGEST {
         let act = &acts[count];
-        if ends_at(act, desk, stops, desk.position + count, clock, cycles) {
+        if ends_at(
+            act,
+            debugger,
+            stops,
+            debugger.position + count,
+            clock,
+            cycles,
+        ) {
             break;
         }
         cycles += cycle_count(act);
@@ -64,19 +71,26 @@ pub fn stretch_len(acts: &[Act], desk: &Desk, stops: Stops, clock: u64) -> usize
 }
 
 /// Whether this act is left for the next stretch, after so many petit cycles of this one.
-fn ends_at(act: &Act, desk: &Desk, stops: Stops, index: usize, clock: u64, cycles: u64) -> bool
+fn ends_at(
+    act: &Act,
+    debugger: &Debugger<'_>,
+    stops: Stops,
+    index: usize,
+    clock: u64,
+    cycles: u64,
+) -> bool
     requires cycles { cycles ≤ 64 }
     requires clock { clock < 2 ^ 63 }
-    ensures silent { IsFalse result → (desk.now.report && is_look act.now) ≡ false }
-    ensures goes { IsFalse result → stops_at stops desk.now.breaks.items index ≡ false }
+    ensures silent { IsFalse result → (debugger.now.trace && is_look act.now) ≡ false }
+    ensures goes { IsFalse result → stops_at stops debugger.now.breakpoints.items index ≡ false }
     ensures few { IsFalse result → cycles + cond (is_cycle act.now) 1 0 ≤ 64 }
     ensures room { IsFalse result → clock + (cycles + cond (is_cycle act.now) 1 0) < 2 ^ 63 }
-    ensures ends { IsTrue result → ((desk.now.report && is_look act.now) ≡ true)
-        ⊎ (stops_at stops desk.now.breaks.items index ≡ true)
+    ensures ends { IsTrue result → ((debugger.now.trace && is_look act.now) ≡ true)
+        ⊎ (stops_at stops debugger.now.breakpoints.items index ≡ true)
         ⊎ (64 < cycles + cond (is_cycle act.now) 1 0)
         ⊎ (2 ^ 63 ≤ clock + (cycles + cond (is_cycle act.now) 1 0)) }
 {
-    if desk.report && is_look(act) || desk.stops(stops, index) {
+    if debugger.trace && is_look(act) || debugger.stops(stops, index) {
         return true;
     }
     let cycles = cycles + cycle_count(act);

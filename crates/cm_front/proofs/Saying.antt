@@ -107,9 +107,9 @@ none_left : (k p : ℕ) (acts : List Act) → acts ≡ [] → take k (drop p act
 none_left k p acts none = ap (λ (xs : List Act). take k (drop p xs)) none ∙ ap (take k) (drop-nil p) ∙ take-nil k
 
 -- without acts a session that breaks off leaves the machine as it was
-pub still : (n cap : ℕ) (before after : Session) (machine : Machine) → IsMachine n cap before.machine
-    → IsOnTheWay n cap [] before after machine → machine ≡ before.machine
-still n cap before after machine whole (inl is) = is
-still n cap before after machine whole (inr amid) =
-    amid.machine_is ∙ ap (run_of n cap before.machine) (none_left amid.count before.position [] refl)
+pub still : (n cap : ℕ) (acts : List Act) (before after : Session) (machine : Machine) → acts ≡ []
+    → IsMachine n cap before.machine → IsOnTheWay n cap acts before after machine → machine ≡ before.machine
+still n cap acts before after machine none whole (inl is) = is
+still n cap acts before after machine none whole (inr amid) =
+    amid.machine_is ∙ ap (run_of n cap before.machine) (none_left amid.count before.position acts none)
     ∙ run_of-nil n cap before.machine whole.buffer_count

@@ -13,7 +13,7 @@ ghost use Rattle.cm_front.specs.Front.{front_of, said, after_line, acts_line, af
 use crate::questions::{is_of_program, own_number, read_question};
 use cm_array::{Machine, RunFault, Runner};
 use cm_asm::Reader;
-use cm_debug::{Desk, Want, answer, push_bit, push_number, push_word};
+use cm_debug::{Debugger, Want, push_bit, push_number, push_word};
 use cm_model::Act;
 use std::alloc::{AllocError, Global};
 use std::marker::Model;
@@ -181,14 +181,10 @@ fn ask<const N: usize, const CAP: usize, R: Runner<N, CAP>>(
         ≡ cond (is_thread want) (one_more_lacked (R.threads_lacked runner.old)) (R.threads_lacked runner.old)) }
 {
     machine.clock();
-    let mut desk = Desk::new(alloc, 0)?;
     let acts: &[Act] = &[];
-    answer(
-        machine,
-        acts,
-        runner,
-        &mut desk,
-        read_question(line, N),
-        text,
-    )
+    let mut debugger = Debugger::new(alloc, acts)?;
+    match debugger.answer(machine, runner, read_question(line, N), text) {
+        Ok(()) => Ok(()),
+        Err(want) => Err(want),
+    }
 }

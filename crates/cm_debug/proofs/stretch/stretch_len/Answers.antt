@@ -1,6 +1,6 @@
 use Rattle.std.proofs.Common.{◌≡◌, ◌+◌, take, cond, refl, arith}
 use Rattle.cm_array.specs.Acts.{cycles_in, is_cycle}
-use Rattle.cm_debug.specs.Desk.{stops_at}
+use Rattle.cm_debug.specs.State.{stops_at}
 use Rattle.cm_debug.proofs.Growing.{grows, one_more, ends_here}
 use Rattle.cm_debug.proofs.stretch.stretch_len.Goals as goal
 
@@ -25,6 +25,6 @@ loop-count-preserved c =
 pub returns-then-ends_at-clause-longest : goal.returns-then-ends_at-clause-longest
 returns-then-ends_at-clause-longest c =
     let l = c.loop-count in
-    ends_here (stops_at c.args.stops c.args.desk.now.breaks.items) c.args.desk.now.report c.args.desk.now.position
+    ends_here (stops_at c.args.stops c.args.debugger.now.breakpoints.items) c.args.debugger.now.trace c.args.debugger.now.position
     c.args.clock c.args.acts.now l.count l.cycles c.index-acts-count.result l.invariant.some c.loop-count-test.true
     c.index-acts-count.is l.invariant.cycles (c.ends_at.ensures.ends c.if-ends_at.true)
