@@ -1,11 +1,11 @@
 -- How far acts have come that are run stretch by stretch.
 use Rattle.std.proofs.Common.{◌≡◌, ℕ, zero, suc, ◌+◌, ◌-◌, ◌<◌, ◌≤◌, ◌⊎◌, inl, inr, ◌&&◌, Bool, true, false, cond}
-use Rattle.std.proofs.Common.{List, [], ◌∷◌, ◌++◌, length, take, drop, length-drop}
+use Rattle.std.proofs.Common.{List, [], ◌∷◌, ◌++◌, length, take, drop, length-drop, Result, Err}
 use Rattle.std.proofs.Common.{drop-drop, take-add, take-append-drop}
 use Rattle.std.proofs.Common.{slice_index_or, refl, ap, ◌∙◌, sym, subst, arith, append_assoc, nat_lt, lt-ltb, le-ltb}
-use Rattle.std.proofs.Common.{Result, Ok, Err, OnErr}
 use Rattle.std.proofs.lemmas.Bool.{cases_lt}
 use Rattle.std.proofs.lemmas.Grind.{common_steps}
+use Rattle.cm_array.specs.Faults.{one_more_lacked}
 use Rattle.cm_model.specs.declared.act.Act.{Act}
 use Rattle.cm_model.specs.Machine.{Machine, run_of}
 use Rattle.cm_model.proofs.Runs.{run_of-append}
@@ -17,7 +17,8 @@ use Rattle.cm_session.proofs.Stretching.{going-stretch, going-rises, arrived-ris
 use Rattle.cm_debug.specs.declared.want.Want.{Want}
 use Rattle.cm_debug.specs.declared.debugger.Stops.{Stops}
 use Rattle.cm_debug.specs.Longest.{IsLongest, HasRun}
-use Rattle.cm_debug.specs.State.{State, session_in, state, stops_at, Goes, IsLeft}
+use Rattle.cm_debug.specs.State.{State, stops_at, gone, come, Goes, IsDone, IsLeft}
+use Rattle.cm_debug.specs.Telling.{is_thread}
 
 -- acts whose first ones are a stretch
 pub stretch_first : (n cap : ℕ) (stops : ℕ → Bool) (session : Session) (acts : List Act) (first : Act) (count : ℕ)
@@ -171,79 +172,164 @@ pub goes_on : (n cap : ℕ) (stops : ℕ → Bool) (session : Session) (rest : L
 goes_on n cap stops session rest is =
     ap (λ (b : Bool). cond b (told session (at_line session.position)) (going n cap stops session rest)) is
 
--- ---- where a session is when it breaks off
-
-pub broken : (n cap : ℕ) (stops : ℕ → Bool) (acts rest : List Act) (before session : Session) (after : Session)
-    → before.position ≤ session.position
-    → (going n cap stops session rest).session ≡ after
-    → HasCome n cap acts before.machine before.position session.position session.machine
-    → IsOnTheWay n cap acts before after session.machine
-broken n cap stops acts rest before session after rises same come =
-    on_the_way n cap acts before after session.position session.machine rises
-    (omega (arith, going-rises n cap stops session rest, ap (λ (s : Session). s.position) same)) come
-
-pub broken_at : (n cap : ℕ) (stops : ℕ → Bool) (acts rest : List Act) (before session : Session) (after : Session)
-    → before.position ≤ session.position
-    → (arrived n cap stops session rest).session ≡ after
-    → HasCome n cap acts before.machine before.position session.position session.machine
-    → IsOnTheWay n cap acts before after session.machine
-broken_at n cap stops acts rest before session after rises same come =
-    on_the_way n cap acts before after session.position session.machine rises
-    (omega (arith, arrived-rises n cap stops session rest, ap (λ (s : Session). s.position) same)) come
-
--- what holds whatever the result holds after an error
-pub either_way : {A E : Type 0} (result : Result A E) (X : Type 0) → X → OnErr result X
-either_way (Ok value) X x = tt
-either_way (Err fault) X x = x
-
--- lists that are one are as long
-pub same_length : (xs ys : List Bool) → xs ≡ ys → length xs ≡ length ys
-same_length xs ys is = ap length is
-
 -- ---- states
 
 -- it is left for a want
-pub left_by : (n cap : ℕ) (one : Answered) (before after : State) (result : Result (Unit {0}) Want) (want : Want)
+left_by : (n cap : ℕ) (one : Answered) (before after : State) (result : Result (Unit {0}) Want) (want : Want)
     → result ≡ Err want → IsLeft n cap one before after want → Goes n cap one before after result
 left_by n cap one before after result want is left =
     subst (λ (r : Result (Unit {0}) Want). Goes n cap one before after r) (sym is) left
 
 -- a stretch is run
 pub has_run : (n cap : ℕ) (stops : Stops) (before : State) (rest : List Act) (first : Act) (count clock : ℕ)
-    (machine : Machine) (text : List ℕ) (lacked : ℕ)
-    → before.debugger.position < length before.debugger.acts.now
-    → rest ≡ take (length before.debugger.acts.now - before.debugger.position)
-    (drop before.debugger.position before.debugger.acts.now)
-    → first ≡ slice_index_or rest 0 first → 0 < count → count ≤ length rest → clock ≡ before.machine.clock
-    → IsStretch (stops_at stops before.debugger.breakpoints.items) before.debugger.trace before.debugger.position clock
+    (machine : Machine) (text : List ℕ) (lacked : ℕ) → before.session.position < length before.acts
+    → rest ≡ take (length before.acts - before.session.position) (drop before.session.position before.acts)
+    → first ≡ slice_index_or rest 0 first → 0 < count → count ≤ length rest → clock ≡ before.session.machine.clock
+    → IsStretch (stops_at stops before.session.breaks) before.session.report before.session.position clock
     (take count rest)
-    → IsLongest (stops_at stops before.debugger.breakpoints.items) before.debugger.trace before.debugger.position clock
-    rest count
-    → text ≡ before.answer ++ told_by (session_in before) first
-    → machine ≡ run_of n cap before.machine (take count rest) → lacked ≡ before.lacked
-    → HasRun n cap stops before
-    (state machine (record before.debugger { position = before.debugger.position + count }) text lacked)
+    → IsLongest (stops_at stops before.session.breaks) before.session.report before.session.position clock rest count
+    → text ≡ before.answer ++ told_by before.session first
+    → machine ≡ run_of n cap before.session.machine (take count rest) → lacked ≡ before.lacked
+    → HasRun n cap stops before (record before {
+      session = record before.session { machine = machine; position = before.session.position + count };
+      answer = text;
+      lacked = lacked;
+    })
 has_run n cap stops before rest first count clock machine text lacked inside is head above within at stretch longest
     says ran same =
-    let at_place : ℕ = before.debugger.position in
-    let acts : List Act = before.debugger.acts.now in
-    let all : rest ≡ drop at_place acts = is ∙ whole_rest at_place acts in
-    let counted : count ≡ (at_place + count) - at_place = omega arith in
-    let told' = stretch_told n cap (stops_at stops before.debugger.breakpoints.items) (session_in before) acts rest first
-    count before.answer text machine clock inside is head above within at stretch says ran in
+    let place : ℕ = before.session.position in
+    let here : ℕ → Bool = stops_at stops before.session.breaks in
+    let all : rest ≡ drop place before.acts = is ∙ whole_rest place before.acts in
+    let counted : count ≡ (place + count) - place = omega arith in
+    let told' = stretch_told n cap here before.session before.acts rest first count before.answer text machine clock
+    inside is head above within at stretch says ran in
     record {
       answer = told'.0;
       session = told'.1;
-      machine = ran ∙ (λ i. run_of n cap before.machine (take (counted i) (all i)));
+      machine = ran ∙ (λ i. run_of n cap before.session.machine (take (counted i) (all i)));
       further = omega (arith, above);
-      longest = subst (λ (k : ℕ). IsLongest (stops_at stops before.debugger.breakpoints.items) before.debugger.trace
-          at_place before.machine.clock (drop at_place acts) k) counted
-          (subst (λ (xs : List Act). IsLongest (stops_at stops before.debugger.breakpoints.items)
-          before.debugger.trace at_place before.machine.clock xs count) all
-          (subst (λ (k : ℕ). IsLongest (stops_at stops before.debugger.breakpoints.items) before.debugger.trace at_place k
-          rest count) at longest));
-      inside = omega (arith, within, inside, ap length all, length-drop at_place acts);
+      longest = subst (λ (k : ℕ). IsLongest here before.session.report place before.session.machine.clock
+          (drop place before.acts) k) counted
+          (subst (λ (xs : List Act). IsLongest here before.session.report place before.session.machine.clock xs count)
+          all (subst (λ (k : ℕ). IsLongest here before.session.report place k rest count) at longest));
       acts = refl;
-      breaks = refl;
       lacked = same;
+    }
+
+-- acts were run from one state to another, after which it goes on as it would have before
+pub record HasGone (n cap : ℕ) (stops : Stops) (before now : State) : Type 0 where
+  pub answer : now.answer ++ (gone n cap stops now).answer ≡ before.answer ++ (gone n cap stops before).answer
+  pub session : (gone n cap stops now).session ≡ (gone n cap stops before).session
+  pub rises : before.session.position ≤ now.session.position
+  pub come : HasCome n cap before.acts before.session.machine before.session.position now.session.position
+      now.session.machine
+  pub acts : now.acts ≡ before.acts
+  pub lacked : now.lacked ≡ before.lacked
+
+-- none yet
+pub none_gone : (n cap : ℕ) (stops : Stops) (before : State) → HasGone n cap stops before before
+none_gone n cap stops before = record {
+  answer = refl;
+  session = refl;
+  rises = omega arith;
+  come = inl (refl, refl);
+  acts = refl;
+  lacked = refl;
+}
+
+-- by a stretch more
+further_come : {n cap : ℕ} {stops : Stops} {before now after : State} → HasGone n cap stops before now
+    → HasRun n cap stops now after
+    → HasCome n cap before.acts before.session.machine before.session.position after.session.position
+    after.session.machine
+further_come {n} {cap} {stops} {before} {now} {after} gone run =
+    comes n cap before.acts before.session.machine before.session.position now.session.position after.session.position
+    now.session.machine after.session.machine gone.rises (omega (arith, run.further)) gone.come
+    (run.machine ∙ ap (λ (xs : List Act). run_of n cap now.session.machine
+    (take (after.session.position - now.session.position) (drop now.session.position xs))) gone.acts)
+
+-- which does not stop where it ends
+pub gone_on : {n cap : ℕ} {stops : Stops} {before now after : State} → HasGone n cap stops before now
+    → HasRun n cap stops now after
+    → (stops_at stops after.session.breaks after.session.position
+    && has_acts (drop after.session.position after.acts)) ≡ false
+    → HasGone n cap stops before after
+gone_on {n} {cap} {stops} {before} {now} {after} gone run on =
+    let same = goes_on n cap (stops_at stops after.session.breaks) after.session
+    (drop after.session.position after.acts) on in
+    record {
+      answer = ap (λ (a : Answered). after.answer ++ a.answer) (sym same) ∙ sym run.answer ∙ gone.answer;
+      session = ap (λ (a : Answered). a.session) (sym same) ∙ sym run.session ∙ gone.session;
+      rises = omega (arith, gone.rises, run.further);
+      come = further_come gone run;
+      acts = run.acts ∙ gone.acts;
+      lacked = run.lacked ∙ gone.lacked;
+    }
+
+-- and is given up before the next stretch
+pub gone_left : {n cap : ℕ} {stops : Stops} {before now : State} (after : State) (result : Result (Unit {0}) Want)
+    (want : Want) → result ≡ Err want → HasGone n cap stops before now → after.session.machine ≡ now.session.machine
+    → after.lacked ≡ cond (is_thread want) (one_more_lacked now.lacked) now.lacked
+    → Goes n cap (gone n cap stops before) before after result
+gone_left {n} {cap} {stops} {before} {now} after result want is gone' stays lacked = left_by n cap
+    (gone n cap stops before) before after result want is (record {
+      machine = subst (IsOnTheWay n cap before.acts before.session (gone n cap stops before).session) (sym stays)
+          (on_the_way n cap before.acts before.session (gone n cap stops before).session now.session.position
+          now.session.machine gone'.rises
+          (omega (
+            arith,
+            going-rises n cap (stops_at stops now.session.breaks) now.session (drop now.session.position now.acts),
+            ap (λ (s : Session). s.position) gone'.session,
+          )) gone'.come);
+      lacked = lacked ∙ ap (λ (k : ℕ). cond (is_thread want) (one_more_lacked k) k) gone'.lacked;
+    })
+
+-- or where it is to be told that it stops
+pub stop_left : {n cap : ℕ} {stops : Stops} {before now after : State} (last : State)
+    (result : Result (Unit {0}) Want) (want : Want) → result ≡ Err want → HasGone n cap stops before now
+    → HasRun n cap stops now after
+    → last.session.machine ≡ after.session.machine
+    → last.lacked ≡ cond (is_thread want) (one_more_lacked after.lacked) after.lacked
+    → Goes n cap (gone n cap stops before) before last result
+stop_left {n} {cap} {stops} {before} {now} {after} last result want is gone' run stays lacked =
+    left_by n cap (gone n cap stops before) before last result want is (record {
+      machine = subst (IsOnTheWay n cap before.acts before.session (gone n cap stops before).session) (sym stays)
+          (on_the_way n cap before.acts before.session (gone n cap stops before).session after.session.position
+          after.session.machine (omega (arith, gone'.rises, run.further))
+          (omega (
+            arith,
+            arrived-rises n cap (stops_at stops after.session.breaks) after.session
+                (drop after.session.position after.acts),
+            ap (λ (s : Session). s.position) (sym run.session ∙ gone'.session),
+          )) (further_come gone' run));
+      lacked = lacked
+          ∙ ap (λ (k : ℕ). cond (is_thread want) (one_more_lacked k) k) (run.lacked ∙ gone'.lacked);
+    })
+
+-- nothing more is run, and this is told
+pub gone_done : {n cap : ℕ} {stops : Stops} {before now : State} {line text : List ℕ} → HasGone n cap stops before now
+    → gone n cap stops now ≡ told now.session line → text ≡ now.answer ++ line
+    → IsDone (gone n cap stops before) before (record now { answer = text })
+gone_done {n} {cap} {stops} {before} {now} {line} {text} gone' ended says = record {
+  session = ap (λ (a : Answered). a.session) (sym ended) ∙ gone'.session;
+  answer = says ∙ ap (λ (a : Answered). now.answer ++ a.answer) (sym ended) ∙ gone'.answer;
+  acts = gone'.acts;
+  lacked = gone'.lacked;
+}
+
+-- it stops where a stretch ends, and this is told
+pub stop_done : {n cap : ℕ} {stops : Stops} {before now after : State} {text : List ℕ} → HasGone n cap stops before now
+    → HasRun n cap stops now after
+    → (stops_at stops after.session.breaks after.session.position
+    && has_acts (drop after.session.position after.acts)) ≡ true
+    → text ≡ after.answer ++ at_line after.session.position
+    → IsDone (gone n cap stops before) before (record after { answer = text })
+stop_done {n} {cap} {stops} {before} {now} {after} {text} gone' run stop says =
+    let same = stopped_here n cap (stops_at stops after.session.breaks) after.session
+    (drop after.session.position after.acts) stop in
+    record {
+      session = ap (λ (a : Answered). a.session) (sym same) ∙ sym run.session ∙ gone'.session;
+      answer = says ∙ ap (λ (a : Answered). after.answer ++ a.answer) (sym same) ∙ sym run.answer ∙ gone'.answer;
+      acts = run.acts ∙ gone'.acts;
+      lacked = run.lacked ∙ gone'.lacked;
     }

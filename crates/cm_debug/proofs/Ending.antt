@@ -1,268 +1,288 @@
--- How a session ends, by what was read and told before.
-use Rattle.std.proofs.Common.{◌≡◌, ℕ, ◌+◌, ◌-◌, ◌<◌, ◌≤◌, min, Bool, true, false, ◌==◌, List, [], ◌∷◌, ◌++◌, length}
-use Rattle.std.proofs.Common.{take, drop, replicate, Option, Some, None, Ok, Err, IfSome, ap, ◌∙◌, sym, subst, arith}
-use Rattle.std.proofs.Common.{append_assoc, append-nil, length-append, length-drop, take-append-drop, take-take}
+-- How a session ends, by what was read and taken before.
+use Rattle.std.proofs.Common.{◌≡◌, ℕ, ◌+◌, ◌-◌, ◌<◌, ◌≤◌, min, inl, inr, Bool, true, false, ◌==◌, List, [], ◌∷◌, ◌++◌, length}
+use Rattle.std.proofs.Common.{take, drop, replicate, Option, Some, None, Result, Ok, Err, IfSome, refl, ap, ◌∙◌, sym, subst}
+use Rattle.std.proofs.Common.{arith, append_assoc, append-nil, length-append, length-drop, take-append-drop, take-take}
 use Rattle.std.proofs.lemmas.Grind.{common_steps}
 use Rattle.std.proofs.lemmas.Bool.{false≢true}
-use Rattle.std.proofs.KnownBytes.{Consumes-kept}
-use Rattle.std.specs.Io.KnownBytes.{Consumes, Keeps, IsAtEnd}
+use Rattle.std.proofs.KnownBytes.{Appends-nil, Consumes-kept, Consumes-nil, Consumes-trans}
+use Rattle.std.specs.Prelude.{◌↔◌, IsErrOf}
+use Rattle.std.specs.Io.KnownBytes.{Appends, Consumes, Keeps, IsAtEnd}
 use Rattle.cm_bits.specs.Text.{lines_of}
 use Rattle.cm_model.specs.declared.act.Act.{Act}
 use Rattle.cm_model.specs.Machine.{Machine}
 use Rattle.cm_session.specs.declared.fault.SessionFault.{SessionFault}
 use Rattle.cm_session.specs.declared.fault.SessionFault.TheVariants.{Read, Write, TooMuch, Memory, NoThread}
-use Rattle.cm_session.specs.Session.{Session, opening}
-use Rattle.cm_session.specs.Ends.{LIMIT, ended_lines, heard_lines, IsAnswered, Ends}
+use Rattle.cm_session.specs.Session.{Session, opening, after_lines}
+use Rattle.cm_session.specs.Ends.{LIMIT, ended_lines, open_line, heard_lines, IsAnswered, Ends, EndsForSome}
 use Rattle.cm_session.proofs.Lines.{heard_first, heard_whole}
-use Rattle.cm_debug.specs.declared.debugger.Debugger.{Debugger}
-use Rattle.cm_debug.specs.State.{session_of, IsInProgram}
-use Rattle.cm_debug.specs.Telling.{IsTold, Stops}
-use Rattle.cm_debug.proofs.Breaking.{all_told, closed_told, lines_at_last, nothing_told}
-use Rattle.cm_debug.proofs.Breaking.{stops_first, stops_further}
+use Rattle.cm_debug.specs.Taking.{Talk, Setting, setting, after_all, IsTold, IsBroken, BreaksOffAmong, HasTaken, HasStopped}
+use Rattle.cm_debug.specs.Hearing.{MayBeLeft, HasEnded, HasTakenAll}
+use Rattle.cm_debug.proofs.Breaking.{among_more, broken_first}
+use Rattle.cm_debug.proofs.Lines.{lines_of-closed, lines_at_last}
+use Rattle.cm_debug.proofs.Sending.{with_none}
 
--- by a read
-pub ends_read : (n cap : ℕ) (acts : List Act) (start : Machine) (held : Option (List ℕ))
-    (before now after : Option (List ℕ)) (taken : List ℕ) (session : Session) (holds : Option (List ℕ)) (sent : ℕ)
-    (line : List ℕ) → Consumes before now taken → Keeps now after → length taken ≤ LIMIT
-    → IsTold n cap acts start held taken session holds sent line
-    → IfSome before (λ text. Ends n cap acts text after start held session.machine holds (Err Read))
-ends_read n cap acts start held None now after taken session holds sent line consumed kept few told' = tt
-ends_read n cap acts start held (Some text) now after taken session holds sent line consumed kept few told' = record {
-  taken = taken;
-  consumed = Consumes-kept (Some text) now after taken consumed kept;
-  within = few;
-  answered = all_told n cap acts start held taken session holds sent line told';
+-- ---- what was told is an end
+
+-- all lines that have ended are answered, where nothing is gathered
+all_told : {n cap : ℕ} {first : Setting} {taken : List ℕ} {a : Talk} → a.kept ≡ [] → IsTold n cap first taken a
+    → IsAnswered n cap first.acts first.machine first.out (ended_lines taken) a.session.machine a.out
+all_told {n} {cap} {first} {taken} {a} none told' = record {
+  written = subst (λ (on : Option (List ℕ)). Appends first.out on (after_all n cap first (ended_lines taken)).answer)
+      (with_none a.out a.kept none) told'.written;
+  machine_is = ap (λ (s : Session). s.machine) told'.session;
 }
 
--- what stops is an end
-stop_ends : (n cap : ℕ) (acts : List Act) (text : List ℕ) (rest : Option (List ℕ))
-    (start : Machine) (held : Option (List ℕ)) (machine : Machine) (holds : Option (List ℕ)) (fault : SessionFault)
-    → Stops n cap acts start held (heard_lines text) machine holds fault
-    → Ends n cap acts text rest start held machine holds (Err fault)
-stop_ends n cap acts text rest start held machine holds (Write count) stops = stops
-stop_ends n cap acts text rest start held machine holds Memory stops = stops
-stop_ends n cap acts text rest start held machine holds NoThread stops = stops
-stop_ends n cap acts text rest start held machine holds Read stops = absurd stops
-stop_ends n cap acts text rest start held machine holds TooMuch stops = absurd stops
+-- what breaks off among the lines that are heard is an end
+off_ends : (n cap : ℕ) (first : Setting) (text : List ℕ) (rest : Option (List ℕ)) (machine : Machine)
+    (holds : Option (List ℕ)) (fault : SessionFault)
+    → BreaksOffAmong n cap first (heard_lines text) machine holds fault
+    → Ends n cap first.acts text rest first.machine first.out machine holds (Err fault)
+off_ends n cap first text rest machine holds (Write count) off = off
+off_ends n cap first text rest machine holds Memory off = off
+off_ends n cap first text rest machine holds NoThread off = off
+off_ends n cap first text rest machine holds Read off = absurd off
+off_ends n cap first text rest machine holds TooMuch off = absurd off
 
--- a text whose front was taken, and then a piece of which a part was fed
-parted_text : (text left rest taken piece fed more : List ℕ) → text ≡ taken ++ left
-    → left ≡ piece ++ rest → piece ≡ fed ++ more
-    → text ≡ (taken ++ fed) ++ (more ++ rest)
-parted_text text left rest taken piece fed more first second is =
-    first ∙ ap (λ (xs : List ℕ). taken ++ xs) (second ∙ ap (λ (xs : List ℕ). xs ++ rest) is
-    ∙ append_assoc fed more rest)
-    ∙ sym (append_assoc taken fed (more ++ rest))
+not_read : (n cap : ℕ) (first : Setting) (lines : List (List ℕ)) (now : Talk) (fault : SessionFault)
+    → IsBroken n cap first lines now fault → IsErrOf {T = Unit {0}} (Err fault) Read → ⊥
+not_read n cap first lines now Read off is = off.breaks
+not_read n cap first lines now (Write count) off is = absurd (cc)
+not_read n cap first lines now TooMuch off is = absurd (cc)
+not_read n cap first lines now Memory off is = absurd (cc)
+not_read n cap first lines now NoThread off is = absurd (cc)
 
--- in the midst of what was read
-pub ends_within : (n cap : ℕ) (acts : List Act) (start : Machine) (held : Option (List ℕ))
-    (before now after : Option (List ℕ)) (taken piece fed more : List ℕ) (machine : Machine) (holds : Option (List ℕ))
-    (fault : SessionFault) → Consumes before now taken
-    → Consumes now after piece → piece ≡ fed ++ more → length (taken ++ fed) ≤ LIMIT
-    → Stops n cap acts start held (ended_lines (taken ++ fed)) machine holds fault
-    → IfSome before (λ text. Ends n cap acts text after start held machine holds (Err fault))
-ends_within n cap acts start held None now after taken piece fed more machine holds fault first second is few stops = tt
-ends_within n cap acts start held (Some text) None after taken piece fed more machine holds fault first second is
-    few stops = absurd first
-ends_within n cap acts start held (Some text) (Some left) None taken piece fed more machine holds fault first second is
-    few stops = absurd second
-ends_within n cap acts start held (Some text) (Some left) (Some rest)
-    taken piece fed more machine holds fault first second is few stops =
-    let begins = heard_first (taken ++ fed) (more ++ rest) few in
-    stop_ends n cap acts text (Some rest) start held machine holds fault
-    (subst (λ (ls : List (List ℕ)). Stops n cap acts start held ls machine holds fault)
-    (sym (ap heard_lines (parted_text text left rest taken piece fed more first second is) ∙ begins.is))
-    (stops_further n cap acts start held (ended_lines (taken ++ fed)) begins.more machine holds fault stops))
-
-take_all : (xs ys : List ℕ) (k : ℕ) → k ≡ length xs → take k (xs ++ ys) ≡ xs
-take_all xs ys k is = grind (arith, common_steps)
-
--- by more than the limit
-pub ends_too_much : (n cap : ℕ) (acts : List Act) (start : Machine) (held : Option (List ℕ))
-    (before now after : Option (List ℕ)) (taken piece fed more : List ℕ) (session : Session) (holds : Option (List ℕ))
-    (sent : ℕ) (line : List ℕ) → Consumes before now taken
-    → Consumes now after piece → piece ≡ fed ++ more → length taken + length fed ≡ LIMIT → 0 < length more
-    → IsTold n cap acts start held (taken ++ fed) session holds sent line
-    → IfSome before (λ text. Ends n cap acts text after start held session.machine holds (Err TooMuch))
-ends_too_much n cap acts start held None now after taken piece fed more session holds sent line first
-    second is full some told' = tt
-ends_too_much n cap acts start held (Some text) None after taken piece fed more session holds sent line first second is
-    full some told' = absurd first
-ends_too_much n cap acts start held (Some text) (Some left) None taken piece fed more session holds sent line first
-    second is full some told' = absurd second
-ends_too_much n cap acts start held (Some text) (Some left) (Some rest)
-    taken piece fed more session holds sent line first second is full some told' =
-    let whole : text ≡ (taken ++ fed) ++ (more ++ rest) =
-    parted_text text left rest taken piece fed more first second is in
-    let long : LIMIT ≡ length (taken ++ fed) = sym full ∙ sym (length-append taken fed) in
-    let front : take LIMIT text ≡ taken ++ fed = ap (take LIMIT) whole
-    ∙ take_all (taken ++ fed) (more ++ rest) LIMIT long in (
-      omega (arith, ap length whole, length-append (taken ++ fed) (more ++ rest), length-append more rest, long, some),
-      subst (λ (t : List ℕ). IsAnswered n cap acts start held (ended_lines t) session.machine holds) (sym front)
-          (all_told n cap acts start held (taken ++ fed) session holds sent line told'),
-    )
-
--- at the end of the text
-pub ends_at_end : (n cap : ℕ) (acts : List Act) (start : Machine) (held : Option (List ℕ))
-    (before now after : Option (List ℕ)) (taken : List ℕ) (machine : Machine) (holds : Option (List ℕ))
-    → Consumes before now taken → Consumes now after [] → IsAtEnd after
-    → length taken ≤ LIMIT → IsAnswered n cap acts start held (lines_of taken) machine holds
-    → IfSome before (λ text. Ends n cap acts text after start held machine holds (Ok tt))
-ends_at_end n cap acts start held None now after taken machine holds first second end few is = tt
-ends_at_end n cap acts start held (Some text) None after taken machine holds first second end few is = absurd first
-ends_at_end n cap acts start held (Some text) (Some left)
-    None taken machine holds first second end few is = absurd second
-ends_at_end n cap acts start held (Some text) (Some left) (Some rest) taken machine holds first second end few is =
-    let whole : taken ≡ text = sym (first ∙ ap (λ (xs : List ℕ). taken ++ xs) (second ∙ end) ∙ append-nil taken) in (
-      subst (λ (t : List ℕ). length t ≤ LIMIT) whole few,
-      subst (λ (t : List ℕ). IsAnswered n cap acts start held (lines_of t) machine holds) whole is,
-    )
-
-pub breaks_at_end : (n cap : ℕ) (acts : List Act) (start : Machine) (held : Option (List ℕ))
-    (before now after : Option (List ℕ)) (taken : List ℕ) (machine : Machine) (holds : Option (List ℕ))
-    (fault : SessionFault) → Consumes before now taken → Consumes now after []
-    → IsAtEnd after → length taken ≤ LIMIT → Stops n cap acts start held (lines_of taken) machine holds fault
-    → IfSome before (λ text. Ends n cap acts text after start held machine holds (Err fault))
-breaks_at_end n cap acts start held None now after taken machine holds fault first second end few stops = tt
-breaks_at_end n cap acts start held (Some text) None after taken machine holds fault first second end
-    few stops = absurd first
-breaks_at_end n cap acts start held (Some text) (Some left)
-    None taken machine holds fault first second end few stops = absurd second
-breaks_at_end n cap acts start held (Some text) (Some left) (Some rest)
-    taken machine holds fault first second end few stops =
-    let whole : taken ≡ text = sym (first ∙ ap (λ (xs : List ℕ). taken ++ xs) (second ∙ end) ∙ append-nil taken) in
-    stop_ends n cap acts text (Some rest) start held machine holds fault
-    (subst (λ (ls : List (List ℕ)). Stops n cap acts start held ls machine holds fault)
-    (sym (heard_whole taken few) ∙ ap heard_lines whole) stops)
+-- no read failed, and what broke off is none
+pub read_on : {n cap : ℕ} {first : Setting} {lines : List (List ℕ)} {now : Talk} (fault : SessionFault)
+    (failed : Bool) → failed ≡ false → IsBroken n cap first lines now fault
+    → ((failed ≡ true) ↔ IsErrOf {T = Unit {0}} (Err fault) Read)
+read_on {n} {cap} {first} {lines} {now} fault failed fine off =
+    (λ wrong. absurd (false≢true (sym fine ∙ wrong)), λ is. absurd (not_read n cap first lines now fault off is))
 
 -- ---- before the first byte
 
 -- without memory
-pub ends_first : (n cap : ℕ) (acts : List Act) (start : Machine) (held : Option (List ℕ)) (before : Option (List ℕ))
-    → IfSome before (λ text. Ends n cap acts text before start held start held (Err Memory))
-ends_first n cap acts start held None = tt
-ends_first n cap acts start held (Some text) =
-    stops_first n cap acts start held (heard_lines text)
+pub ended_first : (n cap : ℕ) (first : Setting) (source : Option (List ℕ))
+    → HasEnded n cap first source source first (Err Memory)
+ended_first n cap first source = record {
+  text = [];
+  read = Consumes-nil source;
+  ends = λ more _. broken_first n cap first (heard_lines more);
+  end = tt;
+  lacked = refl;
+}
 
--- nothing is told
-pub told_first : (n cap : ℕ) (acts : List Act) (start : Machine) (held : Option (List ℕ)) (debugger : Debugger)
-    (line : List ℕ) → debugger.position ≡ 0
-    → debugger.breakpoints.items ≡ replicate (length acts) false → debugger.trace ≡ false → line ≡ []
-    → IsTold n cap acts start held [] (session_of start debugger) held 0 line
-told_first n cap acts start held debugger line position breaks trace none =
-    let is : session_of start debugger ≡ opening start (length acts) =
-    (λ i. record { machine = start; position = position i; breaks = breaks i; report = trace i }) in
-    subst (λ (l : List ℕ). IsTold n cap acts start held [] (session_of start debugger) held 0 l) (sym none)
-    (subst (λ (s : Session). IsTold n cap acts start held [] s held 0 []) (sym is) (nothing_told n cap acts start held))
+-- nothing is taken
+pub told_first : (n cap : ℕ) (first : Setting) (now : Talk) → now.acts ≡ first.acts
+    → now.session ≡ opening first.machine (length first.acts) → now.line ≡ [] → now.out ≡ first.out → now.kept ≡ []
+    → now.sent ≡ 0 → now.lacked ≡ first.lacked → IsTold n cap first [] now
+unfolding after_lines ended_lines open_line
+told_first n cap first now acts session line out kept sent lacked = record {
+  acts = acts;
+  session = session;
+  line = line;
+  written = subst (λ (on : Option (List ℕ)). Appends first.out on []) (sym (with_none now.out now.kept kept ∙ out))
+      (Appends-nil first.out);
+  count = omega (arith, sent, ap length kept);
+  lacked = lacked;
+}
 
--- ---- what a read gave
+-- ---- in the midst of the text
 
--- a part of it, and the rest
+-- a read failed
+pub ended_read : {n cap : ℕ} {first : Setting} {taken : List ℕ} {a : Talk} (source left rest : Option (List ℕ))
+    → Consumes source left taken → Keeps left rest → length taken ≤ LIMIT → a.kept ≡ [] → IsTold n cap first taken a
+    → HasEnded n cap first source rest (setting first.acts a.session.machine a.out a.lacked) (Err Read)
+ended_read {n} {cap} {first} {taken} {a} source left rest read kept few none told' = record {
+  text = taken;
+  read = Consumes-kept source left rest taken read kept;
+  ends = λ more _. record { taken = taken; consumed = refl; within = few; answered = all_told none told' };
+  end = tt;
+  lacked = told'.lacked;
+}
+
+-- a part of what a read gave, and the rest
 front_and_rest : (buf : List ℕ) (room count : ℕ) → room ≤ count
     → take count buf ≡ take room buf ++ drop room (take count buf)
 front_and_rest buf room count within =
     sym (take-append-drop room (take count buf))
     ∙ ap (λ (xs : List ℕ). xs ++ drop room (take count buf)) (take-take room count buf within)
 
--- the first bytes that it gave broke off
-pub ends_in_read : (n cap : ℕ) (acts : List Act) (start : Machine) (held : Option (List ℕ))
-    (before now after : Option (List ℕ)) (taken buf : List ℕ) (count room used : ℕ) (machine : Machine)
-    (holds : Option (List ℕ)) (fault : SessionFault)
-    → room ≡ min count (LIMIT - used) → used ≡ length taken → used ≤ LIMIT
-    → Consumes before now taken → Consumes now after (take count buf)
-    → Stops n cap acts start held (ended_lines (taken ++ take room buf)) machine holds fault
-    → IfSome before (λ text. Ends n cap acts text after start held machine holds (Err fault))
-ends_in_read n cap acts start held before now after taken buf count room used machine holds fault is so
-    few first second stops =
-    ends_within n cap acts start held before now after taken (take count buf) (take room buf)
-    (drop room (take count buf)) machine holds fault
-    first second (front_and_rest buf room count (omega (arith, is)))
-    (omega (arith, is, so, few, length-append taken (take room buf), short room buf)) stops where
+-- the text, parted where that part ends
+parted : (taken buf more : List ℕ) (room count : ℕ) → room ≤ count
+    → (taken ++ take count buf) ++ more ≡ (taken ++ take room buf) ++ (drop room (take count buf) ++ more)
+parted taken buf more room count within =
+    append_assoc taken (take count buf) more
+    ∙ ap (λ (xs : List ℕ). taken ++ (xs ++ more)) (front_and_rest buf room count within)
+    ∙ ap (λ (xs : List ℕ). taken ++ xs) (append_assoc (take room buf) (drop room (take count buf)) more)
+    ∙ sym (append_assoc taken (take room buf) (drop room (take count buf) ++ more))
+
+-- that part breaks off
+pub ended_in_read : {n cap : ℕ} {first : Setting} {c : Talk} {fault : SessionFault}
+    (source left rest : Option (List ℕ)) (taken buf : List ℕ) (count room used : ℕ) → room ≡ min count (LIMIT - used)
+    → used ≡ length taken → used ≤ LIMIT → Consumes source left taken → Consumes left rest (take count buf)
+    → IsBroken n cap first (ended_lines (taken ++ take room buf)) c fault
+    → HasEnded n cap first source rest (setting first.acts c.session.machine c.out c.lacked) (Err fault)
+ended_in_read {n} {cap} {first} {c} {fault} source left rest taken buf count room used is so few read more_read off =
+    record {
+      text = taken ++ take count buf;
+      read = Consumes-trans source left rest taken (take count buf) read more_read;
+      ends = λ more _.
+          let begins = heard_first (taken ++ take room buf) (drop room (take count buf) ++ more)
+          (omega (arith, is, so, few, length-append taken (take room buf), short room buf)) in
+          off_ends n cap first ((taken ++ take count buf) ++ more) (Some more) c.session.machine c.out fault
+          (subst (λ (ls : List (List ℕ)). BreaksOffAmong n cap first ls c.session.machine c.out fault)
+          (sym (ap heard_lines (parted taken buf more room count (omega (arith, is))) ∙ begins.is))
+          (among_more n cap first (ended_lines (taken ++ take room buf)) begins.more c.session.machine c.out fault
+          off.breaks));
+      end = tt;
+      lacked = off.lacked;
+    } where
       short : (k : ℕ) (xs : List ℕ) → length (take k xs) ≤ k
       short k xs = grind (arith, common_steps)
 
+take_all : (xs ys : List ℕ) (k : ℕ) → k ≡ length xs → take k (xs ++ ys) ≡ xs
+take_all xs ys k is = grind (arith, common_steps)
+
 -- it gave more than there was room for
-pub ends_over : (n cap : ℕ) (acts : List Act) (start : Machine) (held : Option (List ℕ))
-    (before now after : Option (List ℕ)) (taken buf : List ℕ) (count room used : ℕ) (session : Session)
-    (holds : Option (List ℕ)) (sent : ℕ) (line : List ℕ) → count ≤ length buf
-    → room ≡ min count (LIMIT - used) → room < count → used ≡ length taken → used ≤ LIMIT
-    → Consumes before now taken → Consumes now after (take count buf)
-    → IsTold n cap acts start held (taken ++ take room buf) session holds sent line
-    → IfSome before (λ text. Ends n cap acts text after start held session.machine holds (Err TooMuch))
-ends_over n cap acts start held before now after taken buf count room used session holds sent line inside is less so
-    few first second told' =
+pub ended_over : {n cap : ℕ} {first : Setting} {a : Talk} (source left rest : Option (List ℕ))
+    (taken buf : List ℕ) (count room used : ℕ) → count ≤ length buf → room ≡ min count (LIMIT - used) → room < count
+    → used ≡ length taken → used ≤ LIMIT → Consumes source left taken → Consumes left rest (take count buf)
+    → a.kept ≡ [] → IsTold n cap first (taken ++ take room buf) a
+    → HasEnded n cap first source rest (setting first.acts a.session.machine a.out a.lacked) (Err TooMuch)
+ended_over {n} {cap} {first} {a} source left rest taken buf count room used inside is less so few read more_read none
+    told' =
     let fed : length (take room buf) ≡ room = long room buf (omega (arith, less, inside)) in
-    let all : length (take count buf) ≡ count = long count buf inside in
-    ends_too_much n cap acts start held before now after taken (take count buf) (take room buf)
-    (drop room (take count buf)) session holds sent line
-    first second (front_and_rest buf room count (omega (arith, less))) (omega (arith, fed, is, less, so, few))
-    (omega (arith, length-drop room (take count buf), all, less)) told' where
+    let front : List ℕ = taken ++ take room buf in
+    let size : LIMIT ≡ length front = omega (arith, is, less, so, few, fed, length-append taken (take room buf)) in
+    record {
+      text = taken ++ take count buf;
+      read = Consumes-trans source left rest taken (take count buf) read more_read;
+      ends = λ more _.
+          let behind : List ℕ = drop room (take count buf) ++ more in
+          let whole : (taken ++ take count buf) ++ more ≡ front ++ behind =
+          parted taken buf more room count (omega (arith, less)) in (
+            omega (
+              arith,
+              ap length whole,
+              length-append front behind,
+              size,
+              length-append (drop room (take count buf)) more,
+              length-drop room (take count buf),
+              long count buf inside,
+              less,
+            ),
+            subst (λ (t : List ℕ).
+                IsAnswered n cap first.acts first.machine first.out (ended_lines t) a.session.machine a.out)
+                (sym (ap (take LIMIT) whole ∙ take_all front behind LIMIT size)) (all_told none told'),
+          );
+      end = tt;
+      lacked = told'.lacked;
+    } where
       long : (k : ℕ) (xs : List ℕ) → k ≤ length xs → length (take k xs) ≡ k
       long k xs h = grind (arith, common_steps)
 
--- it gave nothing
-nothing_read : (now after : Option (List ℕ)) (buf : List ℕ) (count : ℕ) → count ≡ 0
-    → Consumes now after (take count buf) → Consumes now after []
-nothing_read now after buf count none read = subst (λ (k : ℕ). Consumes now after (take k buf)) none read
+-- ---- at the end of the text
 
--- and no line is open
-pub ends_closed : (n cap : ℕ) (acts : List Act) (start : Machine) (held : Option (List ℕ))
-    (before now after : Option (List ℕ)) (taken buf : List ℕ) (count used : ℕ) (session : Session)
-    (holds : Option (List ℕ)) (sent : ℕ) (line : List ℕ) → count ≡ 0
-    → used ≡ length taken → used ≤ LIMIT → Consumes before now taken → Consumes now after (take count buf)
-    → IsAtEnd after → line ≡ []
-    → IsTold n cap acts start held taken session holds sent line
-    → IfSome before (λ text. Ends n cap acts text after start held session.machine holds (Ok tt))
-ends_closed n cap acts start held before now after taken buf count used session holds sent line none so few first
-    second end empty told' =
-    ends_at_end n cap acts start held before now after taken session.machine holds first
-    (nothing_read now after buf count none second) end
-    (omega (arith, so, few)) (closed_told n cap acts start held taken session holds sent line empty told')
+-- a read gave nothing
+pub taken_all : {n cap : ℕ} {first : Setting} {taken : List ℕ} {a : Talk} (source left rest : Option (List ℕ))
+    (buf : List ℕ) (count : ℕ) → count ≡ 0 → Consumes source left taken → Consumes left rest (take count buf)
+    → IsAtEnd rest → length taken ≤ LIMIT → IsTold n cap first taken a → HasTakenAll n cap first source rest a
+taken_all {n} {cap} {first} {taken} {a} source left rest buf count none read more_read end few told' = record {
+  text = taken;
+  read = subst (Consumes source rest) (append-nil taken)
+      (Consumes-trans source left rest taken [] read
+      (subst (λ (k : ℕ). Consumes left rest (take k buf)) none more_read));
+  end = end;
+  within = few;
+  told = told';
+}
 
--- and the line that is open is answered
-pub ends_answered : (n cap : ℕ) (acts : List Act) (start : Machine) (held : Option (List ℕ))
-    (before now after : Option (List ℕ)) (taken buf : List ℕ) (count used : ℕ) (session on : Session)
-    (holds gone : Option (List ℕ)) (sent more : ℕ) (line last : List ℕ) → count ≡ 0
-    → used ≡ length taken → used ≤ LIMIT → Consumes before now taken → Consumes now after (take count buf)
-    → IsAtEnd after → 0 < length line
-    → IsTold n cap acts start held taken session holds sent line
-    → IsTold n cap acts start held (taken ++ 10 ∷ []) on gone more last
-    → IfSome before (λ text. Ends n cap acts text after start held on.machine gone (Ok tt))
-ends_answered n cap acts start held before now after taken buf count used session on holds gone sent more line last none
-    so few first second end some told' ended =
-    ends_at_end n cap acts start held before now after taken on.machine gone first
-    (nothing_read now after buf count none second) end
-    (omega (arith, so, few))
-    (subst (λ (ls : List (List ℕ)). IsAnswered n cap acts start held ls on.machine gone)
-    (sym (lines_at_last taken line some told'.line_is))
-    (all_told n cap acts start held (taken ++ 10 ∷ []) on gone more last ended))
+-- nothing follows
+no_more : (rest : Option (List ℕ)) (text more : List ℕ) → IsAtEnd rest → MayBeLeft rest more → text ≡ text ++ more
+no_more rest text more end (inl none) = sym (ap (λ (xs : List ℕ). text ++ xs) none ∙ append-nil text)
+no_more rest text more end (inr known) =
+    sym (ap (λ (xs : List ℕ). text ++ xs) (subst IsAtEnd known end) ∙ append-nil text)
 
--- and the line that is open breaks off
-pub ends_broken : (n cap : ℕ) (acts : List Act) (start : Machine) (held : Option (List ℕ))
-    (before now after : Option (List ℕ)) (taken buf : List ℕ) (count used : ℕ) (session : Session)
-    (holds gone : Option (List ℕ)) (sent : ℕ) (line : List ℕ) (machine : Machine)
-    (fault : SessionFault) → count ≡ 0 → used ≡ length taken → used ≤ LIMIT → Consumes before now taken
-    → Consumes now after (take count buf) → IsAtEnd after → 0 < length line
-    → IsTold n cap acts start held taken session holds sent line
-    → Stops n cap acts start held (ended_lines (taken ++ 10 ∷ [])) machine gone fault
-    → IfSome before (λ text. Ends n cap acts text after start held machine gone (Err fault))
-ends_broken n cap acts start held before now after taken buf count used session holds gone sent line machine fault none
-    so few first second end some told' stops =
-    breaks_at_end n cap acts start held before now after taken machine gone fault first
-    (nothing_read now after buf count none second) end
-    (omega (arith, so, few))
-    (subst (λ (ls : List (List ℕ)). Stops n cap acts start held ls machine gone fault)
-    (sym (lines_at_last taken line some told'.line_is)) stops)
+answered_all : {n cap : ℕ} {first : Setting} {source rest : Option (List ℕ)} {a : Talk} (last : Setting)
+    (all : HasTakenAll n cap first source rest a)
+    → IsAnswered n cap first.acts first.machine first.out (lines_of all.text) last.machine last.out
+    → last.lacked ≡ first.lacked → HasEnded n cap first source rest last (Ok tt)
+answered_all {n} {cap} {first} {source} {rest} {a} last all is lacked = record {
+  text = all.text;
+  read = all.read;
+  ends = λ more may. subst (λ (t : List ℕ). Ends n cap first.acts t (Some more) first.machine first.out last.machine
+      last.out (Ok tt)) (no_more rest all.text more all.end may) (all.within, is);
+  end = all.end;
+  lacked = lacked;
+}
 
--- a debugger of so many acts
-pub debugger_first : (acts : List Act) (debugger : Debugger) → debugger.acts.now ≡ acts → debugger.position ≡ 0
-    → debugger.breakpoints.items ≡ replicate (length acts) false → IsInProgram debugger
-debugger_first acts debugger same position breaks = record {
-  within = omega (arith, position);
-  breaks = ap length breaks ∙ long (length acts) ∙ sym (ap length same);
-} where
-  long : (k : ℕ) → length (replicate k false) ≡ k
-  long k = grind (arith, common_steps)
+-- no line is open
+pub ended_closed : {n cap : ℕ} {first : Setting} {source rest : Option (List ℕ)} {a : Talk}
+    → HasTakenAll n cap first source rest a → a.kept ≡ [] → a.line ≡ []
+    → HasEnded n cap first source rest (setting first.acts a.session.machine a.out a.lacked) (Ok tt)
+ended_closed {n} {cap} {first} {source} {rest} {a} all none empty =
+    answered_all (setting first.acts a.session.machine a.out a.lacked) all
+    (subst (λ (ls : List (List ℕ)). IsAnswered n cap first.acts first.machine first.out ls a.session.machine a.out)
+    (sym (lines_of-closed all.text (sym all.told.line ∙ empty))) (all_told none all.told)) all.told.lacked
+
+-- the line that is open is answered
+pub ended_answered : {n cap : ℕ} {first : Setting} {source rest : Option (List ℕ)} {a c : Talk}
+    → HasTakenAll n cap first source rest a → 0 < length a.line → HasTaken n cap a (10 ∷ []) c → c.kept ≡ []
+    → HasEnded n cap first source rest (setting first.acts c.session.machine c.out c.lacked) (Ok tt)
+ended_answered {n} {cap} {first} {source} {rest} {a} {c} all some taken none =
+    let told' = taken.told first all.text all.told in
+    answered_all (setting first.acts c.session.machine c.out c.lacked) all
+    (subst (λ (ls : List (List ℕ)). IsAnswered n cap first.acts first.machine first.out ls c.session.machine c.out)
+    (sym (lines_at_last all.text a.line some all.told.line)) (all_told none told')) told'.lacked
+
+-- or breaks off
+pub ended_broken : {n cap : ℕ} {first : Setting} {source rest : Option (List ℕ)} {a c : Talk} {fault : SessionFault}
+    → HasTakenAll n cap first source rest a → 0 < length a.line → HasStopped n cap a (10 ∷ []) c fault
+    → HasEnded n cap first source rest (setting first.acts c.session.machine c.out c.lacked) (Err fault)
+ended_broken {n} {cap} {first} {source} {rest} {a} {c} {fault} all some stopped =
+    let off = stopped.broken first all.text all.told in
+    record {
+      text = all.text;
+      read = all.read;
+      ends = λ more may. subst (λ (t : List ℕ). Ends n cap first.acts t (Some more) first.machine first.out
+          c.session.machine c.out (Err fault)) (no_more rest all.text more all.end may)
+          (off_ends n cap first all.text (Some more) c.session.machine c.out fault
+          (subst (λ (ls : List (List ℕ)). BreaksOffAmong n cap first ls c.session.machine c.out fault)
+          (sym (heard_whole all.text all.within ∙ lines_at_last all.text a.line some all.told.line)) off.breaks));
+      end = tt;
+      lacked = off.lacked;
+    }
+
+-- ---- of a source that tells its bytes, and of any
+
+pub ends_known : {n cap : ℕ} {first last : Setting} {result : Result (Unit {0}) SessionFault}
+    (source rest : Option (List ℕ)) → HasEnded n cap first source rest last result
+    → IfSome source (λ text. Ends n cap first.acts text rest first.machine first.out last.machine last.out result)
+ends_known {n} {cap} {first} {last} {result} None rest ended = tt
+ends_known {n} {cap} {first} {last} {result} (Some all) None ended = absurd ended.read
+ends_known {n} {cap} {first} {last} {result} (Some all) (Some more) ended =
+    subst (λ (t : List ℕ). Ends n cap first.acts t (Some more) first.machine first.out last.machine last.out result)
+    (sym ended.read) (ended.ends more (inr refl))
+
+pub ends_some : {n cap : ℕ} {first last : Setting} {source rest : Option (List ℕ)}
+    {result : Result (Unit {0}) SessionFault} → HasEnded n cap first source rest last result
+    → EndsForSome n cap first.acts source rest first.machine first.out last.machine last.out result
+ends_some {n} {cap} {first} {last} {source} {rest} {result} ended = record {
+  text = ended.text;
+  read = ended.read;
+  ends = subst (λ (t : List ℕ). Ends n cap first.acts t (Some []) first.machine first.out last.machine last.out result)
+      (append-nil ended.text) (ended.ends [] (inl refl));
+  end = ended.end;
+}
+
+-- a session of the same acts
+pub of_acts : {n cap : ℕ} {first : Setting} {source rest : Option (List ℕ)} {machine : Machine} {out : Option (List ℕ)}
+    {lacked : ℕ} {result : Result (Unit {0}) SessionFault} (acts : List Act) → first.acts ≡ acts
+    → HasEnded n cap first source rest (setting first.acts machine out lacked) result
+    → HasEnded n cap (record first { acts = acts }) source rest (setting acts machine out lacked) result
+of_acts {n} {cap} {first} {source} {rest} {machine} {out} {lacked} {result} acts is ended =
+    subst (λ (xs : List Act). HasEnded n cap (record first { acts = xs }) source rest
+    (setting xs machine out lacked) result) is ended
 
 -- ---- whether a line is open
 

@@ -2,8 +2,8 @@ pub mod Growing
 pub mod Telling
 pub mod Sending
 pub mod Coming
+pub mod Lines
 pub mod Breaking
 pub mod Taking
 pub mod Ending
-pub mod Hearing
 pub mod Finding

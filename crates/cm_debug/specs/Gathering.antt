@@ -2,7 +2,7 @@
 use Rattle.std.specs.Prelude.{◌≡◌, ℕ, ◌+◌, ◌<◌, Option, List, length, take}
 use Rattle.std.specs.Io.KnownBytes.{Appends, append_known}
 use Rattle.cm_session.specs.declared.fault.SessionFault.{SessionFault}
-use Rattle.cm_session.specs.declared.fault.SessionFault.TheVariants.{Read, Write, TooMuch, Memory, NoThread}
+use Rattle.cm_session.specs.declared.fault.SessionFault.TheVariants.{Write, Memory, NoThread}
 use Rattle.cm_debug.specs.declared.gathering.Gathered.{Gathered}
 
 -- the bytes of a sink, and behind them those that are gathered
@@ -25,5 +25,4 @@ abbrev pub BreaksOffBetween : ℕ → List ℕ → Option (List ℕ) → Option 
 BreaksOffBetween sent kept held holds (Write count) = IsCutOff sent kept held holds count
 BreaksOffBetween sent kept held holds Memory = Appends held holds kept
 BreaksOffBetween sent kept held holds NoThread = Appends held holds kept
-BreaksOffBetween sent kept held holds Read = ⊥
-BreaksOffBetween sent kept held holds TooMuch = ⊥
+BreaksOffBetween sent kept held holds _ = ⊥

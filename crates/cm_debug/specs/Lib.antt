@@ -1,5 +1,6 @@
+pub mod Telling
 pub mod State
 pub mod Longest
 pub mod Gathering
-pub mod Telling
 pub mod Taking
+pub mod Hearing

@@ -1,5 +1,5 @@
 -- How many acts a session hands to its runner at once: as many as may be; and what one such stretch does. Ours.
-use Rattle.std.specs.Prelude.{◌≡◌, ℕ, ◌+◌, ◌-◌, ◌<◌, ◌≤◌, Bool, IsFalse, Result, Ok, Err, List, ◌++◌, cond, drop, length, take}
+use Rattle.std.specs.Prelude.{◌≡◌, ℕ, ◌+◌, ◌-◌, ◌<◌, Bool, IsFalse, Result, Ok, Err, List, ◌++◌, cond, drop, length, take}
 use Rattle.cm_model.specs.declared.act.Act.{Act}
 use Rattle.cm_model.specs.Machine.{run_of}
 use Rattle.cm_array.specs.Acts.{is_long}
@@ -18,25 +18,20 @@ IsLongest stops report position clock acts count =
 
 -- a stretch is run, after which the debugger goes on as it would have before
 pub record HasRun (n cap : ℕ) (stops : Stops) (before after : State) : Type 0 where
-  pub answer : before.answer ++ (gone n cap stops before.machine before.debugger).answer
-      ≡ after.answer ++ (come n cap stops after.machine after.debugger).answer
-  pub session : (gone n cap stops before.machine before.debugger).session
-      ≡ (come n cap stops after.machine after.debugger).session
-  pub machine : after.machine ≡ run_of n cap before.machine
-      (take (after.debugger.position - before.debugger.position)
-      (drop before.debugger.position before.debugger.acts.now))
-  pub further : before.debugger.position < after.debugger.position
-  pub longest : IsLongest (stops_at stops before.debugger.breakpoints.items) before.debugger.trace
-      before.debugger.position before.machine.clock (drop before.debugger.position before.debugger.acts.now)
-      (after.debugger.position - before.debugger.position)
-  pub inside : after.debugger.position ≤ length before.debugger.acts.now
-  pub acts : after.debugger.acts.now ≡ before.debugger.acts.now
-  pub breaks : after.debugger.breakpoints.items ≡ before.debugger.breakpoints.items
+  pub answer : before.answer ++ (gone n cap stops before).answer ≡ after.answer ++ (come n cap stops after).answer
+  pub session : (gone n cap stops before).session ≡ (come n cap stops after).session
+  pub machine : after.session.machine ≡ run_of n cap before.session.machine
+      (take (after.session.position - before.session.position) (drop before.session.position before.acts))
+  pub further : before.session.position < after.session.position
+  pub longest : IsLongest (stops_at stops before.session.breaks) before.session.report before.session.position
+      before.session.machine.clock (drop before.session.position before.acts)
+      (after.session.position - before.session.position)
+  pub acts : after.acts ≡ before.acts
   pub lacked : after.lacked ≡ before.lacked
 
 -- it is not
 pub record IsRefused (before after : State) (want : Want) : Type 0 where
-  pub machine : after.machine ≡ before.machine
+  pub machine : after.session.machine ≡ before.session.machine
   pub lacked : after.lacked ≡ cond (is_thread want) (one_more_lacked before.lacked) before.lacked
 
 -- how a stretch is run

@@ -1,7 +1,7 @@
 //! What a command does and is answered.
 
 ghost use Rattle.std.specs.Prelude.{◌≡◌, ◌≢◌, ◌<◌, ◌^◌, ◌++◌, ◌∷◌, [], length, slice_set, codes, decimal, IfOk, IfSome};
-ghost use Rattle.std.specs.Prelude.{IsErrOf, IsTrue, OnOk};
+ghost use Rattle.std.specs.Prelude.{IsErrOf, IsFalse, IsTrue, OnErr, OnOk};
 ghost use Rattle.cm_bits.specs.Bit.{bit_number};
 ghost use Rattle.cm_model.specs.Processor.{ZERO, flag, field_value};
 ghost use Rattle.cm_model.specs.Array.{list_at, processor_of, wire};
@@ -10,7 +10,7 @@ ghost use Rattle.cm_array.specs.Pokes.{machine_with_memory_bit, machine_with_fla
 ghost use Rattle.cm_session.specs.Answer.{line, buffer_lines, log_lines, found_line, refused_line};
 ghost use Rattle.cm_session.specs.Bounds.{IsFor};
 ghost use Rattle.cm_session.specs.Session.{answered, obeyed};
-ghost use Rattle.cm_debug.specs.State.{session_of, state, Goes, IsInProgram};
+ghost use Rattle.cm_debug.specs.State.{session_of, state, Goes, IsDone};
 ghost use Rattle.cm_debug.specs.Telling.{asks_for_acts, runs_acts};
 
 use crate::answers::{push_bit, push_buffer, push_found, push_log, push_number, push_word};
@@ -33,7 +33,6 @@ impl Debugger<'_> {
         text: &mut Vec<u8>,
     ) -> Result<(), Want>
         requires runner { R.ready }
-        requires program { IsInProgram self.old }
         requires operands { IfOk asked (λ command. IfSome command (IsFor N (length self.old.acts.now))) }
         ensures goes { Goes N CAP (answered N CAP self.old.acts.now (session_of machine.old.machine self.old) asked)
             (state machine.old.machine self.old text.old.items (R.threads_lacked runner.old))
@@ -42,7 +41,12 @@ impl Debugger<'_> {
     {
         match asked {
             Ok(None) => Ok(()),
-            Ok(Some(command)) => self.obey(machine, runner, command, text),
+            Ok(Some(Command::Step)) => self.run_on(machine, runner, Stops::Everywhere, text),
+            Ok(Some(Command::Run)) => self.run_on(machine, runner, Stops::AtBreaks, text),
+            Ok(Some(command)) => {
+                self.obey(machine, command, text)?;
+                Ok(())
+            }
             Err(refusal) => {
                 push_number(text, b"?", u64::from(refusal.number()))?;
                 Ok(())
@@ -50,57 +54,42 @@ impl Debugger<'_> {
         }
     }
 
-    /// Does what a command asks for, and tells what it is answered.
-    fn obey<const N: usize, const CAP: usize, R: Runner<N, CAP>>(
+    /// Does what a command asks for that runs no acts, and tells what it is answered.
+    fn obey<const N: usize, const CAP: usize>(
         &mut self,
         machine: &mut Machine<N, CAP>,
-        runner: &mut R,
         command: Command,
         text: &mut Vec<u8>,
-    ) -> Result<(), Want>
-        requires runner { R.ready }
-        requires program { IsInProgram self.old }
+    ) -> Result<(), AllocError>
         requires operands { IsFor N (length self.old.acts.now) command }
-        ensures goes { Goes N CAP (obeyed N CAP self.old.acts.now (session_of machine.old.machine self.old) command)
-            (state machine.old.machine self.old text.old.items (R.threads_lacked runner.old))
-            (state machine.new.machine self.new text.new.items (R.threads_lacked runner.new)) result }
-        ensures acts { IsErrOf result Want.Thread → IsTrue (runs_acts command) }
+        requires still { IsFalse (runs_acts command) }
+        ensures ok { OnOk result (IsDone
+            (obeyed N CAP self.old.acts.now (session_of machine.old.machine self.old) command)
+            (state machine.old.machine self.old text.old.items 0)
+            (state machine.new.machine self.new text.new.items 0)) }
+        ensures err { OnErr result (machine.new.machine ≡ machine.old.machine) }
     {
         match command {
-            Command::Step => self.run_on(machine, runner, Stops::Everywhere, text),
-            Command::Run => self.run_on(machine, runner, Stops::AtBreaks, text),
+            Command::Step | Command::Run => unreachable!(),
             Command::Break(index) => {
                 self.breakpoints[index] = true;
-                push_number(text, b"break", index as u64)?;
-                Ok(())
+                push_number(text, b"break", index as u64)
             }
             Command::Clear(index) => {
                 self.breakpoints[index] = false;
-                push_number(text, b"clear", index as u64)?;
-                Ok(())
+                push_number(text, b"clear", index as u64)
             }
             Command::WireOn => {
                 self.trace = true;
-                push_wire(text, b"on")?;
-                Ok(())
+                push_wire(text, b"on")
             }
             Command::WireOff => {
                 self.trace = false;
-                push_wire(text, b"off")?;
-                Ok(())
+                push_wire(text, b"off")
             }
-            Command::WireShow => {
-                push_bit(text, b"wire", machine.wire())?;
-                Ok(())
-            }
-            Command::Field(place, field) => {
-                push_field(text, machine, place, field)?;
-                Ok(())
-            }
-            Command::Flag(place, number) => {
-                push_flag(text, machine, place, number)?;
-                Ok(())
-            }
+            Command::WireShow => push_bit(text, b"wire", machine.wire()),
+            Command::Field(place, field) => push_field(text, machine, place, field),
+            Command::Flag(place, number) => push_flag(text, machine, place, number),
             Command::Poke(place, at, bit) => {
                 push_word(text, b"ok")?;
                 machine.poke(place.chip, place.proc, at, bit);
@@ -111,22 +100,10 @@ impl Debugger<'_> {
                 poke_flag(machine, place, number, bit);
                 Ok(())
             }
-            Command::Buffer(chip) => {
-                push_buffer(text, machine.buffer(chip))?;
-                Ok(())
-            }
-            Command::Find(tag) => {
-                push_found(text, whereabouts(machine, tag))?;
-                Ok(())
-            }
-            Command::Events(chip) => {
-                push_events(text, machine, chip)?;
-                Ok(())
-            }
-            Command::Rule => {
-                push_number(text, b"rule", u64::from(machine.rule().number()))?;
-                Ok(())
-            }
+            Command::Buffer(chip) => push_buffer(text, machine.buffer(chip)),
+            Command::Find(tag) => push_found(text, whereabouts(machine, tag)),
+            Command::Events(chip) => push_events(text, machine, chip),
+            Command::Rule => push_number(text, b"rule", u64::from(machine.rule().number())),
         }
     }
 }

@@ -9,7 +9,7 @@ ghost use Rattle.cm_session.specs.Commands.{command_of};
 ghost use Rattle.cm_session.specs.Session.{answered};
 ghost use Rattle.cm_session.specs.Ends.{is_write};
 ghost use Rattle.cm_debug.specs.Gathering.{answered_bytes, with_gathered, IsCutOff};
-ghost use Rattle.cm_debug.specs.State.{session_of, IsInProgram};
+ghost use Rattle.cm_debug.specs.State.{session_of};
 ghost use Rattle.cm_debug.specs.Taking.{talk, Takes, Tells};
 ghost use Rattle.cm_debug.specs.Telling.{asks_for_acts, asks_to_run, IsUnended};
 
@@ -63,7 +63,6 @@ impl<'a> Console<'a> {
         out: &mut O,
     ) -> Result<(), SessionFault>
         requires runner { R.ready }
-        requires program { IsInProgram self.old.debugger }
         requires writer { O.has_failed out.old ≡ false }
         requires room { answered_bytes self.old.output + (length piece.now + 1) * 2 ^ 64 < 2 ^ 128 }
         ensures takes { Takes N CAP
@@ -91,7 +90,6 @@ impl<'a> Console<'a> {
         out: &mut O,
     ) -> Result<(), SessionFault>
         requires runner { R.ready }
-        requires program { IsInProgram self.old.debugger }
         requires writer { O.has_failed out.old ≡ false }
         requires room { answered_bytes self.old.output + (length piece.now + 1) * 2 ^ 64 < 2 ^ 128 }
         ensures takes { Takes N CAP
@@ -128,7 +126,6 @@ impl<'a> Console<'a> {
         out: &mut O,
     ) -> Result<(), SessionFault>
         requires runner { R.ready }
-        requires program { IsInProgram self.old.debugger }
         requires writer { O.has_failed out.old ≡ false }
         requires unended { IsUnended part.now }
         requires room { answered_bytes self.old.output + 2 ^ 64 < 2 ^ 128 }
@@ -165,7 +162,6 @@ impl<'a> Console<'a> {
         out: &mut O,
     ) -> Result<(), SessionFault>
         requires runner { R.ready }
-        requires program { IsInProgram self.old.debugger }
         requires operands { IfOk asked (λ command. IfSome command (IsFor N (length self.old.debugger.acts.now))) }
         requires none { ((before after : R) → R.threads_lacked before ≡ R.threads_lacked after)
             ⊎ (IsTrue (asks_for_acts asked) → self.old.output.bytes.items ≡ []) }

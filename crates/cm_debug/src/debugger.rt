@@ -1,7 +1,6 @@
 //! A debugger of programs: its position in one, and where and what it stops at and tells.
 
-ghost use Rattle.std.specs.Prelude.{◌≡◌, length, false, replicate, IfOk};
-ghost use Rattle.cm_debug.specs.State.{stops_at};
+ghost use Rattle.std.specs.Prelude.{◌≡◌, ◌≤◌, length, false, replicate, IfOk};
 
 use cm_model::Act;
 use std::alloc::{AllocError, Global};
@@ -14,6 +13,8 @@ pub struct Debugger<'a> {
     /// By act, whether it has a breakpoint.
     pub breakpoints: Vec<bool>,
     pub trace: bool,
+    ghost within: { position ≤ length acts.now },
+    ghost each: { length breakpoints.items ≡ length acts.now },
 }
 
 /// Where acts stop that are run.
@@ -24,6 +25,8 @@ pub enum Stops {
 }
 
 impl<'a> Debugger<'a> {
+    ghost use Rattle.cm_debug.specs.State.{stops_at};
+
     /// Before the first line.
     pub fn new(alloc: Global, acts: &'a [Act]) -> Result<Debugger<'a>, AllocError>
         ensures acts { IfOk result (λ debugger. debugger.acts.now ≡ acts.now) }

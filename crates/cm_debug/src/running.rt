@@ -1,13 +1,13 @@
 //! Acts that are run until the session stops.
 
-ghost use Rattle.std.specs.Prelude.{◌≡◌, ◌<◌, ◌+◌, ◌-◌, ◌^◌, ◌++◌, ◌&&◌, false, length, take, drop, slice_index_or};
+ghost use Rattle.std.specs.Prelude.{◌≡◌, ◌<◌, ◌++◌, ◌&&◌, false, drop, length, slice_index_or};
 ghost use Rattle.std.specs.Prelude.{cond, IsFalse, MatchResult, OnOk, OnErr};
 ghost use Rattle.cm_model.specs.Machine.{run_of};
 ghost use Rattle.cm_model.specs.declared.act.Act.TheVariants as act;
 ghost use Rattle.cm_array.specs.Acts.{is_late, is_long};
 ghost use Rattle.cm_array.specs.Faults.{one_more_lacked};
 ghost use Rattle.cm_session.specs.Session.{has_acts, lacks_room, told_by};
-ghost use Rattle.cm_debug.specs.State.{come, gone, session_of, state, stops_at, Goes, IsInProgram};
+ghost use Rattle.cm_debug.specs.State.{gone, session_of, state, stops_at, Goes};
 ghost use Rattle.cm_debug.specs.Longest.{Ran};
 ghost use Rattle.cm_debug.specs.Telling.{is_thread};
 
@@ -31,8 +31,7 @@ impl Debugger<'_> {
         text: &mut Vec<u8>,
     ) -> Result<(), Want>
         requires runner { R.ready }
-        requires program { IsInProgram self.old }
-        ensures goes { Goes N CAP (gone N CAP stops machine.old.machine self.old)
+        ensures goes { Goes N CAP (gone N CAP stops (state machine.old.machine self.old text.old.items 0))
             (state machine.old.machine self.old text.old.items (R.threads_lacked runner.old))
             (state machine.new.machine self.new text.new.items (R.threads_lacked runner.new)) result }
     {
@@ -62,8 +61,8 @@ impl Debugger<'_> {
         self.position < self.acts.len() && self.stops(stops, self.position)
     }
 
-    /// Runs the next stretch of acts, and tells what its first act tells.
-    /// A runner that refuses leaves the machine as it was.
+    /// Runs the next stretch of acts, and tells what its first act tells. A runner that refuses leaves the machine as it
+    /// was.
     fn run_stretch<const N: usize, const CAP: usize, R: Runner<N, CAP>>(
         &mut self,
         machine: &mut Machine<N, CAP>,

@@ -1,9 +1,11 @@
 //! A session, from the bytes of a source to those of a sink.
 
-ghost use Rattle.std.specs.Prelude.{◌≡◌, ◌↔◌, cond, true, false, IfSome, IsErrOf, MatchResult, OnOk};
+ghost use Rattle.std.specs.Prelude.{◌≡◌, ◌≤◌, ◌*◌, ◌^◌, ◌↔◌, cond, true, false, length, [], IfSome, IsErrOf, MatchResult, OnOk};
 ghost use Rattle.std.specs.Io.KnownBytes.{IsAtEnd};
 ghost use Rattle.cm_array.specs.Faults.{one_more_lacked};
 ghost use Rattle.cm_session.specs.Ends.{Ends, EndsForSome, is_no_thread, is_write};
+ghost use Rattle.cm_debug.specs.Taking.{setting, talk, IsTold};
+ghost use Rattle.cm_debug.specs.Hearing.{HasEnded, TakesAll};
 
 use crate::console::Console;
 use cm_array::{Machine, Runner};
@@ -36,8 +38,8 @@ pub fn session<const N: usize, const CAP: usize, R: Runner<N, CAP>, I: Source, O
     requires writer { O.has_failed out.old ≡ false }
     ensures ends { IfSome (I.left commands.old) (λ text. Ends N CAP program.now.acts text (I.left commands.new)
         machine.old.machine (O.contents out.old) machine.new.machine (O.contents out.new) result) }
-    ensures heard { EndsForSome N CAP program.now.acts machine.old.machine (O.contents out.old) machine.new.machine
-        (O.contents out.new) result }
+    ensures heard { EndsForSome N CAP program.now.acts (I.left commands.old) (I.left commands.new) machine.old.machine
+        (O.contents out.old) machine.new.machine (O.contents out.new) result }
     ensures end { OnOk result (IsAtEnd (I.left commands.new)) }
     ensures read { (I.has_failed commands.new ≡ true) ↔ IsErrOf result SessionFault.Read }
     ensures write { O.has_failed out.new ≡ is_write result }
@@ -61,38 +63,19 @@ fn answer_all<const N: usize, const CAP: usize, R: Runner<N, CAP>, I: Source, O:
     requires runner { R.ready }
     requires reader { I.has_failed commands.old ≡ false }
     requires writer { O.has_failed out.old ≡ false }
-    ensures ends { IfSome (I.left commands.old) (λ text. Ends N CAP acts.now text (I.left commands.new)
-        machine.old.machine (O.contents out.old) machine.new.machine (O.contents out.new) result) }
-    ensures heard { EndsForSome N CAP acts.now machine.old.machine (O.contents out.old) machine.new.machine
-        (O.contents out.new) result }
-    ensures end { OnOk result (IsAtEnd (I.left commands.new)) }
+    ensures ended { HasEnded N CAP
+        (setting acts.now machine.old.machine (O.contents out.old) (R.threads_lacked runner.old))
+        (I.left commands.old) (I.left commands.new)
+        (setting acts.now machine.new.machine (O.contents out.new) (R.threads_lacked runner.new)) result }
     ensures read { (I.has_failed commands.new ≡ true) ↔ IsErrOf result SessionFault.Read }
     ensures write { O.has_failed out.new ≡ is_write result }
-    ensures thread { MatchResult result
-        (λ _. R.threads_lacked runner.new ≡ R.threads_lacked runner.old)
-        (λ fault. R.threads_lacked runner.new
-        ≡ cond (is_no_thread fault) (one_more_lacked (R.threads_lacked runner.old)) (R.threads_lacked runner.old)) }
 {
     let Ok(mut console) = Console::new(alloc, acts) else {
         return Err(SessionFault::Memory);
     };
-    let mut taken = 0;
-    let mut piece = [0u8; PIECE];
-    loop {
-        let Ok(count) = commands.read(&mut piece) else {
-            return Err(SessionFault::Read);
-        };
-        if count == 0 {
-            break;
-        }
-        let room = count.min(LIMIT - taken);
-        match console.feed(machine, runner, &piece[..room], out) {
-            Ok(()) => taken += room,
-            Err(fault) => return Err(fault),
-        }
-        if room < count {
-            return Err(SessionFault::TooMuch);
-        }
+    match console.hear_all(machine, runner, commands, out) {
+        Ok(()) => {}
+        Err(fault) => return Err(fault),
     }
     if console.line.is_empty() {
         return Ok(());
@@ -101,5 +84,52 @@ fn answer_all<const N: usize, const CAP: usize, R: Runner<N, CAP>, I: Source, O:
     match console.feed(machine, runner, b"\n", out) {
         Ok(()) => Ok(()),
         Err(fault) => Err(fault),
+    }
+}
+
+impl Console<'_> {
+    /// Answers the lines that end in the bytes of a source, until that is at its end, and keeps the line that is open.
+    fn hear_all<const N: usize, const CAP: usize, R: Runner<N, CAP>, I: Source, O: Sink>(
+        &mut self,
+        machine: &mut Machine<N, CAP>,
+        runner: &mut R,
+        commands: &mut I,
+        out: &mut O,
+    ) -> Result<(), SessionFault>
+        requires runner { R.ready }
+        requires reader { I.has_failed commands.old ≡ false }
+        requires writer { O.has_failed out.old ≡ false }
+        requires first { IsTold N CAP (setting self.old.debugger.acts.now machine.old.machine (O.contents out.old)
+            (R.threads_lacked runner.old)) []
+            (talk machine.old.machine self.old (O.contents out.old) (R.threads_lacked runner.old)) }
+        requires none { self.old.output.bytes.items ≡ [] }
+        requires sent { self.old.output.sent ≡ 0 }
+        ensures takes { TakesAll N CAP (setting self.old.debugger.acts.now machine.old.machine (O.contents out.old)
+            (R.threads_lacked runner.old)) (I.left commands.old) (I.left commands.new)
+            (talk machine.new.machine self.new (O.contents out.new) (R.threads_lacked runner.new)) result }
+        ensures none { OnOk result (self.new.output.bytes.items ≡ []) }
+        ensures few { OnOk result (self.new.output.sent ≤ 2 ^ 20 * 2 ^ 64) }
+        ensures reading { OnOk result (I.has_failed commands.new ≡ false) }
+        ensures read { (I.has_failed commands.new ≡ true) ↔ IsErrOf result SessionFault.Read }
+        ensures write { O.has_failed out.new ≡ is_write result }
+    {
+        let mut taken = 0;
+        let mut piece = [0u8; PIECE];
+        loop {
+            let Ok(count) = commands.read(&mut piece) else {
+                return Err(SessionFault::Read);
+            };
+            if count == 0 {
+                return Ok(());
+            }
+            let room = count.min(LIMIT - taken);
+            match self.feed(machine, runner, &piece[..room], out) {
+                Ok(()) => taken += room,
+                Err(fault) => return Err(fault),
+            }
+            if room < count {
+                return Err(SessionFault::TooMuch);
+            }
+        }
     }
 }

@@ -1,8 +1,8 @@
 -- How a session ends: what it wrote and the machine that it left, after each of its faults too. Ours.
 use Rattle.std.specs.Prelude.{◌≡◌, ℕ, ◌+◌, ◌<◌, ◌≤◌, ◌⊎◌, Bool, true, false, if◌then◌else◌, nat_le, Option, Some}
-use Rattle.std.specs.Prelude.{Result, Ok, Err, List, [], ◌∷◌, ◌++◌, length, take, drop}
+use Rattle.std.specs.Prelude.{Result, Ok, Err, OnOk, List, [], ◌∷◌, ◌++◌, length, take, drop}
 use Rattle.std.specs.List.{slice_split}
-use Rattle.std.specs.Io.KnownBytes.{Appends, Consumes}
+use Rattle.std.specs.Io.KnownBytes.{Appends, Consumes, IsAtEnd}
 use Rattle.cm_bits.specs.Text.{is_line_end, lines_of}
 use Rattle.cm_model.specs.declared.act.Act.{Act}
 use Rattle.cm_model.specs.Machine.{Machine, run_of}
@@ -114,11 +114,15 @@ Ends n cap acts text rest start held machine holds (Err Memory) =
 Ends n cap acts text rest start held machine holds (Err NoThread) =
     IsBrokenOff n cap acts start held (heard_lines text) machine holds
 
--- it ends so for some text, all of which was read: this can be said of a source that does not tell its bytes
-pub record EndsForSome (n cap : ℕ) (acts : List Act) (start : Machine) (held : Option (List ℕ)) (machine : Machine)
-    (holds : Option (List ℕ)) (result : Result (Unit {0}) SessionFault) : Type 0 where
+-- a source, of which this was left in the end, gave some text, and it ended so as of that text and nothing more; after Ok
+-- nothing is left. This can be said of a source that does not tell its bytes
+pub record EndsForSome (n cap : ℕ) (acts : List Act) (source rest : Option (List ℕ)) (start : Machine)
+    (held : Option (List ℕ)) (machine : Machine) (holds : Option (List ℕ)) (result : Result (Unit {0}) SessionFault)
+    : Type 0 where
   pub text : List ℕ
+  pub read : Consumes source rest text
   pub ends : Ends n cap acts text (Some []) start held machine holds result
+  pub end : OnOk result (IsAtEnd rest)
 
 -- it ended by a write
 abbrev pub is_write : Result (Unit {0}) SessionFault → Bool

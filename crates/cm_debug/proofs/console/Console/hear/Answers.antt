@@ -1,5 +1,4 @@
 use Rattle.std.proofs.Common.{refl, arith}
-use Rattle.cm_debug.specs.Taking.{talk}
 use Rattle.cm_debug.proofs.Taking.{line_more, nothing_taken, part_taken, piece_taken, rest_stopped, rest_taken}
 use Rattle.cm_debug.proofs.Taking.{stopped_between, stopped_in_line, unended}
 use Rattle.cm_debug.proofs.console.Console.hear.Goals as goal
@@ -8,21 +7,19 @@ pub loop-done-init : goal.loop-done-init
 loop-done-init g c = record {
   working = c.requires.writer;
   within = omega arith;
-  taken = nothing_taken g.row.N g.row.CAP _ c.requires.program;
+  taken = nothing_taken g.row.N g.row.CAP _;
 }
 
 pub returns-in-Ok-clause-takes : goal.returns-in-Ok-clause-takes
 returns-in-Ok-clause-takes g c =
-    let inv = c.loop-done.invariant in
-    rest_taken c.args.piece.now _ c.loop-done.done refl inv.taken
-    (part_taken g.row.N g.row.CAP (talk c.loop-done.machine.machine c.loop-done.self
-    (g.O.Sink.contents c.loop-done.out) (g.R.Runner.threads_lacked c.loop-done.runner)) c.extend_from_slice.new.self _
-    (unended _ _ c.if-len-rest.true c.line_len-len.ensures.unended) inv.taken.program c.in-Ok.ensures.items)
+    rest_taken c.args.piece.now _ c.loop-done.done refl c.loop-done.invariant.taken
+    (part_taken g.row.N g.row.CAP _ _ c.extend_from_slice.new.self.items
+    (unended _ _ c.if-len-rest.true c.line_len-len.ensures.unended) c.in-Ok.ensures.items)
 
 pub returns-in-Err-clause-takes : goal.returns-in-Err-clause-takes
 returns-in-Err-clause-takes g c =
     rest_stopped c.args.piece.now _ c.loop-done.done refl c.loop-done.invariant.taken
-    (stopped_between g.row.N g.row.CAP _ _ _ _ c.give_up.ensures.value refl c.give_up.ensures.thread refl)
+    (stopped_between _ _ _ c.give_up.ensures.value refl c.give_up.ensures.thread refl)
 
 pub returns-in-Err-end_line-clause-takes : goal.returns-in-Err-end_line-clause-takes
 returns-in-Err-end_line-clause-takes g c =
