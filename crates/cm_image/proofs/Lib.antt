@@ -14,3 +14,4 @@ mod Listing
 mod Lengths
 mod Counting
 mod Blanks
+mod Longest

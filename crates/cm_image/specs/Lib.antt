@@ -5,3 +5,4 @@ pub mod Cuts
 pub mod Pieces
 pub mod Taken
 pub mod Sending
+pub mod Longest
