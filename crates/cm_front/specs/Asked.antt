@@ -2,9 +2,8 @@
 use Rattle.std.specs.Prelude.{ℕ, ◌==◌, ◌&&◌, ◌||◌, Bool, true, false, if◌then◌else◌, Option, Some, None}
 use Rattle.std.specs.Prelude.{Result, Ok, Err, List, [], ◌∷◌, length, codes, bytes_eq}
 use Rattle.std.specs.Option.{is_some}
-use Rattle.cm_language.specs.declared.fault.AsmKind.{AsmKind}
-use Rattle.cm_language.specs.declared.fault.AsmKind.TheVariants as kind
 use Rattle.cm_language.specs.Lines.{verb_of}
+pub use Rattle.cm_refusals.specs.Refusals.{kind_number}
 use Rattle.cm_session.specs.declared.command.Command.{Command}
 use Rattle.cm_session.specs.declared.command.Command.TheVariants as command
 use Rattle.cm_session.specs.declared.command.Refusal.{Refusal}
@@ -38,19 +37,3 @@ abbrev pub question_of : ℕ → List (List ℕ) → Result (Option Command) Ref
 question_of n [] = Ok None
 question_of n (word ∷ operands) =
     if is_of_acts word then Err Word else as_question (command_of n 0 (word ∷ operands))
-
--- the number of a refusal of a line of a program
-abbrev pub kind_number : AsmKind → ℕ
-kind_number kind.Width = 1
-kind_number kind.Range = 2
-kind_number kind.Overlap = 10
-kind_number kind.Lengths = 11
-kind_number kind.Scratch = 12
-kind_number kind.Context = 13
-kind_number kind.Memory = 14
-kind_number kind.Word = 15
-kind_number kind.Operands = 16
-kind_number kind.Number = 17
-kind_number kind.Name = 18
-kind_number kind.Twice = 19
-kind_number kind.TooLong = 20

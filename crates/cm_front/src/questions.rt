@@ -9,6 +9,7 @@ ghost use Rattle.cm_front.specs.Asked.{is_of_acts, is_of_program, kind_number, q
 use cm_asm::{AsmKind, verb_of};
 use cm_bits::Words;
 use cm_debug::read_command;
+use cm_refusals::kind_number;
 use cm_session::{Command, Refusal};
 
 /// Whether the line is one of a program.
@@ -64,18 +65,7 @@ pub fn own_number(kind: AsmKind) -> Option<u64>
     ensures none { result ≡ None → kind ≡ AsmKind.Memory }
 {
     match kind {
-        AsmKind::Width => Some(1),
-        AsmKind::Range => Some(2),
-        AsmKind::Overlap => Some(10),
-        AsmKind::Lengths => Some(11),
-        AsmKind::Scratch => Some(12),
-        AsmKind::Context => Some(13),
         AsmKind::Memory => None,
-        AsmKind::Word => Some(15),
-        AsmKind::Operands => Some(16),
-        AsmKind::Number => Some(17),
-        AsmKind::Name => Some(18),
-        AsmKind::Twice => Some(19),
-        AsmKind::TooLong => Some(20),
+        _ => Some(u64::from(kind_number(kind))),
     }
 }

@@ -1,0 +1,4 @@
+mod Going
+mod Lines
+mod Whole
+mod Example

@@ -1,0 +1,4 @@
+pub mod Inputs
+pub mod Acts
+pub mod Whole
+pub mod Example
