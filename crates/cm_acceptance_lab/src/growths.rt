@@ -68,9 +68,48 @@ static CUT: [u8; 21] = [
     0x43, 0x4d, 0x31, 0x49, 2, 1, 15, 0, 0, 0, 0, 0, 0, 0, 0, 0, 0, 1, 0, 0, 0,
 ];
 
-static SENT: &str = "field x 0 8\nconst x 100\nfield 0 5 0 8\ncycle\nbuf 0\n";
+/// Lines, and what is answered to them.
+struct Talk {
+    sent: &'static str,
+    told: &'static str,
+}
 
-static TOLD: &str = "ok\nok\nfield 100\nok\nbuf 0\n";
+static LINES: Talk = Talk {
+    sent: "field x 0 8\nconst x 100\nfield 0 5 0 8\ncycle\nbuf 0\n",
+    told: "ok\nok\nfield 100\nok\nbuf 0\n",
+};
+
+static FOR_ALL: Talk = Talk {
+    sent: "put 0 2 0 1 2 3 0 1 2 3 0 1 2 3 0 1 2 3
+get 0 2
+image
+set 12
+cycle
+get flag 12
+get buffers
+standing
+clock
+forget
+events 0
+",
+    told: "ok
+numbers 1
+0 1 2 3 0 1 2 3 0 1 2 3 0 1 2 3
+image 2
+434d314901000700000000000000000000000000000000000000000000000000
+0000000000000000000000000000000000020000aaaa0001cccc00
+ok
+ok
+numbers 1
+0 0 0 0 1 1 1 1 1 1 1 1 1 1 1 1
+numbers 1
+3
+standing 3 12
+clock 1
+ok
+events 0
+",
+};
 
 /// What takes memory.
 #[derive(Clone, Copy, Debug, PartialEq, Eq)]
@@ -85,9 +124,10 @@ enum Grown {
     Load,
     Blank,
     Front,
+    ForAll,
 }
 
-static GROWN: [Grown; 10] = [
+static GROWN: [Grown; 11] = [
     Grown::Read,
     Grown::Numbers,
     Grown::Picture,
@@ -98,6 +138,7 @@ static GROWN: [Grown; 10] = [
     Grown::Load,
     Grown::Blank,
     Grown::Front,
+    Grown::ForAll,
 ];
 
 impl Call for Grown {
@@ -112,7 +153,8 @@ impl Call for Grown {
             Grown::Source => Some(is_expanded(alloc)),
             Grown::Load => is_measured(alloc),
             Grown::Blank => is_blank(alloc),
-            Grown::Front => is_answered(alloc),
+            Grown::Front => is_answered(alloc, &LINES),
+            Grown::ForAll => is_answered(alloc, &FOR_ALL),
         }
     }
 }
@@ -239,9 +281,9 @@ fn is_blank(alloc: Global) -> Option<bool> {
 // ---- a front end
 
 /// With which fault a front end ends, if with one, and what it answers.
-fn answered(alloc: Global) -> Option<(Option<FrontFault>, Room)> {
+fn answered(alloc: Global, lines: &str) -> Option<(Option<FrontFault>, Room)> {
     let mut sink = Room::new(alloc, 1000, 1000).ok()?;
-    let mut source = Bytes::new(SENT.as_bytes(), 5);
+    let mut source = Bytes::new(lines.as_bytes(), 5);
     let ended = front_image(alloc, &BLANK, &mut source, &mut sink);
     Some((ended.err(), sink))
 }
@@ -258,14 +300,15 @@ fn wants_memory(fault: FrontFault) -> bool {
 
 /// Whether all lines are answered; or else want of memory is told behind a front of the answers, and they are when they are
 /// sent again.
-fn is_answered(alloc: Global) -> Option<bool> {
-    let (fault, sink) = answered(alloc)?;
+fn is_answered(alloc: Global, talk: &Talk) -> Option<bool> {
+    let told = talk.told.as_bytes();
+    let (fault, sink) = answered(alloc, talk.sent)?;
     let Some(fault) = fault else {
-        return Some(sink.taken() == TOLD.as_bytes());
+        return Some(sink.taken() == told);
     };
-    let is_told = wants_memory(fault) && TOLD.as_bytes().starts_with(sink.taken());
-    let (again, whole) = answered(alloc)?;
-    Some(is_told && again.is_none() && whole.taken() == TOLD.as_bytes())
+    let is_told = wants_memory(fault) && told.starts_with(sink.taken());
+    let (again, whole) = answered(alloc, talk.sent)?;
+    Some(is_told && again.is_none() && whole.taken() == told)
 }
 
 // `.ci/refusals` refuses each growth in turn.

@@ -17,6 +17,7 @@ use Rattle.cm_front.specs.Asked.{is_of_acts, is_report, as_question, question_of
 use Rattle.cm_front.specs.Front.{Front, Answered, asked, answered_to}
 use Rattle.cm_front.specs.Laws.{is_of_machine, AnswerAlike, FrontsAnswerAsSessions}
 use Rattle.cm_front.proofs.Saying.{after_asked}
+use Rattle.cm_front.proofs.Words.{asked_singly}
 
 -- ---- the machine alone bears on the answer
 
@@ -120,7 +121,8 @@ fronts_answer_as_sessions n cap front acts here line it is other asks about =
     let both = alike n cap acts here front it (question_of n (words_of line))
     (command_of n (length acts) (words_of line)) is about asks
     (heard n (length acts) (words_of line) it about asks) in
+    let question = after_asked n cap front line other (asked_singly n (words_of line) it asks) in
     record {
-      answer = ap (λ (a : Answered). a.answer) (after_asked n cap front line other) ∙ both.answer;
-      machine = ap (λ (a : Answered). a.front.machine) (after_asked n cap front line other) ∙ both.machine;
+      answer = ap (λ (a : Answered). a.answer) question ∙ both.answer;
+      machine = ap (λ (a : Answered). a.front.machine) question ∙ both.machine;
     }

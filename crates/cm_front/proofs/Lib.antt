@@ -1,5 +1,9 @@
 pub mod Lines
 pub mod Saying
+pub mod Words
+pub mod Counting
+pub mod Giving
+pub mod ReadingBack
 pub mod Told
 pub mod Ending
 pub mod Running

@@ -30,11 +30,15 @@ use Rattle.cm_session.specs.Session as session
 use Rattle.cm_session.specs.Session.{going}
 use Rattle.cm_session.specs.Whole.{asks_poke, is_poke}
 use Rattle.cm_front.specs.Asked.{is_of_program, question_of}
-use Rattle.cm_front.specs.Front.{Front, Answered, front_of, opening, without_acts, said, answered_to}
+use Rattle.cm_front.specs.declared.for_all.Asked.{Asked}
+use Rattle.cm_front.specs.declared.for_all.Asked.TheVariants.{Get, GetFlag, GetBuffers, Put, Standing, Clock, Image}
+use Rattle.cm_front.specs.declared.for_all.Asked.TheVariants.{Forget}
+use Rattle.cm_front.specs.ForAll.{is_for_all, asked_of}
+use Rattle.cm_front.specs.Front.{Front, Answered, front_of, opening, without_acts, said, answered_to, obeyed, for_all}
 use Rattle.cm_front.specs.Front.{after_line, after_lines}
-use Rattle.cm_front.specs.Laws.{is_program_line, program_lines, HaveNoPoke, refuses_acts, AreRun}
+use Rattle.cm_front.specs.Laws.{is_program_line, program_lines, is_change, asks_change, changes, HaveNoChange, refuses_acts, AreRun}
 use Rattle.cm_front.specs.Laws.{FrontsRunTheirPrograms}
-use Rattle.cm_front.proofs.Saying.{after_said, after_asked}
+use Rattle.cm_front.proofs.Saying.{after_said, after_for_all, after_asked}
 
 -- ---- a line is read alike without the acts before it
 
@@ -127,6 +131,24 @@ question_keeps n cap machine (Err refusal) pokeless = refl
 question_keeps n cap machine (Ok None) pokeless = refl
 question_keeps n cap machine (Ok (Some it)) pokeless = unpoked n cap machine it pokeless
 
+-- and so does what is told of all processors
+untouched : (n cap : ℕ) (machine : Machine) (it : Asked) (numbers : List ℕ) → is_change it ≡ false
+    → (obeyed n cap machine it numbers).machine ≡ machine
+untouched n cap machine (Get field) numbers other = refl
+untouched n cap machine (GetFlag number) numbers other = refl
+untouched n cap machine GetBuffers numbers other = refl
+untouched n cap machine (Put field) numbers other = absurd (false≢true (sym other))
+untouched n cap machine Standing numbers other = refl
+untouched n cap machine Clock numbers other = refl
+untouched n cap machine Image numbers other = refl
+untouched n cap machine Forget numbers other = absurd (false≢true (sym other))
+
+all_keep : (n cap : ℕ) (machine : Machine) (read : Reading) (q : Result (Asked × List ℕ) AsmKind)
+    → asks_change q ≡ false → (for_all n cap (front_of machine read) q).front ≡ front_of machine read
+all_keep n cap machine read (Err fault) changeless = refl
+all_keep n cap machine read (Ok it) changeless =
+    ap (λ (m : Machine). front_of m read) (untouched n cap machine it.0 it.1 changeless)
+
 -- ---- lines
 
 -- the front end after the text so far
@@ -150,14 +172,21 @@ program_line_runs n cap start r after line of_program reads taken =
     ∙ ap (λ (m : Machine). front_of m (without_acts after))
     (sym (run_of-append n cap start r.acts grows.more) ∙ ap (run_of n cap start) (sym grows.is))
 
--- a question
+-- a question, or a line for all processors that tells something
 question_line_keeps : (n cap : ℕ) (start : Machine) (r : Reading) (line : List ℕ)
-    → is_of_program (words_of line) ≡ false → asks_poke (question_of n (words_of line)) ≡ false
+    → is_of_program (words_of line) ≡ false → changes n (words_of line) ≡ false
     → (after_line n cap (come n cap start r) line).front ≡ come n cap start r
-question_line_keeps n cap start r line other pokeless =
-    ap (λ (a : Answered). a.front) (after_asked n cap (come n cap start r) line other)
-    ∙ ap (λ (m : Machine). front_of m (without_acts r))
-    (question_keeps n cap (run_of n cap start r.acts) (question_of n (words_of line)) pokeless)
+question_line_keeps n cap start r line other same = by (is_for_all (words_of line)) refl same where
+  by : (b : Bool) → is_for_all (words_of line) ≡ b
+      → (if b then asks_change (asked_of n (words_of line)) else asks_poke (question_of n (words_of line))) ≡ false
+      → (after_line n cap (come n cap start r) line).front ≡ come n cap start r
+  by true is changeless =
+      ap (λ (a : Answered). a.front) (after_for_all n cap (come n cap start r) line other is)
+      ∙ all_keep n cap (run_of n cap start r.acts) (without_acts r) (asked_of n (words_of line)) changeless
+  by false is pokeless =
+      ap (λ (a : Answered). a.front) (after_asked n cap (come n cap start r) line other is)
+      ∙ ap (λ (m : Machine). front_of m (without_acts r))
+      (question_keeps n cap (run_of n cap start r.acts) (question_of n (words_of line)) pokeless)
 
 -- what a text that is accepted says
 abbrev read_or : Reading → Result Reading AsmFault → Reading
@@ -191,7 +220,7 @@ program_goes n cap number start r read line lines (Ok s) runs of_program is run 
 -- behind any line
 line_goes : (n cap number : ℕ) (start : Machine) (r read : Reading) (line : List ℕ) (lines : List (List ℕ)) (b : Bool)
     → RunsOn n cap start read lines → is_of_program (words_of line) ≡ b
-    → asks_poke (question_of n (words_of line)) ≡ false → AreRun n cap (come n cap start r) (line ∷ lines)
+    → changes n (words_of line) ≡ false → AreRun n cap (come n cap start r) (line ∷ lines)
     → language.after_lines r number (cond b (line ∷ program_lines lines) (program_lines lines)) ≡ Ok read
     → (after_lines n cap (after_line n cap (come n cap start r) line).front lines).front ≡ come n cap start read
 line_goes n cap number start r read line lines true runs is pokeless run h =
@@ -201,7 +230,7 @@ line_goes n cap number start r read line lines false runs is pokeless run h =
     (question_line_keeps n cap start r line is pokeless) runs h run.1
 
 lines_run : (n cap number : ℕ) (start : Machine) (r read : Reading) (lines : List (List ℕ))
-    → language.after_lines r number (program_lines lines) ≡ Ok read → HaveNoPoke n lines
+    → language.after_lines r number (program_lines lines) ≡ Ok read → HaveNoChange n lines
     → AreRun n cap (come n cap start r) lines
     → (after_lines n cap (come n cap start r) lines).front ≡ come n cap start read
 unfolding after_lines

@@ -14,7 +14,8 @@ use Rattle.cm_session.specs.Answer.{refused_line}
 use Rattle.cm_session.specs.Session.{Session}
 use Rattle.cm_session.specs.Ends.{IsOnTheWay}
 use Rattle.cm_front.specs.Asked.{is_of_program, question_of, kind_number}
-use Rattle.cm_front.specs.Front.{Front, front_of, without_acts, said, asked, after_line, acts_line, after_acts}
+use Rattle.cm_front.specs.ForAll.{is_for_all, asked_of}
+use Rattle.cm_front.specs.Front.{Front, front_of, without_acts, said, for_all, asked, after_line, acts_line, after_acts}
 
 -- the acts are forgotten
 pub forgotten : (old new before : Reading) → without_acts old ≡ before → new.fields ≡ old.fields
@@ -66,6 +67,22 @@ own_fault kind.Name W q own is = is
 own_fault kind.Twice W q own is = is
 own_fault kind.TooLong W q own is = is
 
+-- and is none of want of memory
+pub own_is : (k : AsmKind) → IsOwnFault k → k ≡ kind.Memory → ⊥
+own_is kind.Memory own is = absurd own
+own_is kind.Width own is = absurd (let e : kind.Width ≡ kind.Memory = is in cc)
+own_is kind.Range own is = absurd (let e : kind.Range ≡ kind.Memory = is in cc)
+own_is kind.Overlap own is = absurd (let e : kind.Overlap ≡ kind.Memory = is in cc)
+own_is kind.Lengths own is = absurd (let e : kind.Lengths ≡ kind.Memory = is in cc)
+own_is kind.Scratch own is = absurd (let e : kind.Scratch ≡ kind.Memory = is in cc)
+own_is kind.Context own is = absurd (let e : kind.Context ≡ kind.Memory = is in cc)
+own_is kind.Word own is = absurd (let e : kind.Word ≡ kind.Memory = is in cc)
+own_is kind.Operands own is = absurd (let e : kind.Operands ≡ kind.Memory = is in cc)
+own_is kind.Number own is = absurd (let e : kind.Number ≡ kind.Memory = is in cc)
+own_is kind.Name own is = absurd (let e : kind.Name ≡ kind.Memory = is in cc)
+own_is kind.Twice own is = absurd (let e : kind.Twice ≡ kind.Memory = is in cc)
+own_is kind.TooLong own is = absurd (let e : kind.TooLong ≡ kind.Memory = is in cc)
+
 -- it is refused
 pub said_err : (n cap : ℕ) (machine : Machine) (before new left : Reading) (words : List (List ℕ)) (k : AsmKind)
     → new ≡ before → IsOwnFault k → IsLineFault new (after_words new words) k → left ≡ before
@@ -85,21 +102,37 @@ said_err_answer n cap machine before new words k number text same own is so tell
     ∙ sym (ap (λ (q : Result Reading AsmKind). (said n cap (front_of machine before) q).answer)
     (is_read before new words (Err k) same (own_fault k _ (after_words new words) own is)))
 
--- ---- a line of a program, or a question
+-- ---- a line of a program, one for all processors, or a question
 
 pub after_said : (n cap : ℕ) (front : Front) (line : List ℕ) → is_of_program (words_of line) ≡ true
     → after_line n cap front line ≡ said n cap front (after_words front.reading (words_of line))
 unfolding after_line
 after_said n cap front line is =
     ap (λ (b : Bool). if b then said n cap front (after_words front.reading (words_of line))
+    else (if is_for_all (words_of line) then for_all n cap front (asked_of n (words_of line))
+    else asked n cap front (question_of n (words_of line)))) is
+
+pub after_for_all : (n cap : ℕ) (front : Front) (line : List ℕ) → is_of_program (words_of line) ≡ false
+    → is_for_all (words_of line) ≡ true
+    → after_line n cap front line ≡ for_all n cap front (asked_of n (words_of line))
+unfolding after_line
+after_for_all n cap front line other is =
+    ap (λ (b : Bool). if b then said n cap front (after_words front.reading (words_of line))
+    else (if is_for_all (words_of line) then for_all n cap front (asked_of n (words_of line))
+    else asked n cap front (question_of n (words_of line)))) other
+    ∙ ap (λ (b : Bool). if b then for_all n cap front (asked_of n (words_of line))
     else asked n cap front (question_of n (words_of line))) is
 
 pub after_asked : (n cap : ℕ) (front : Front) (line : List ℕ) → is_of_program (words_of line) ≡ false
+    → is_for_all (words_of line) ≡ false
     → after_line n cap front line ≡ asked n cap front (question_of n (words_of line))
 unfolding after_line
-after_asked n cap front line is =
+after_asked n cap front line other single =
     ap (λ (b : Bool). if b then said n cap front (after_words front.reading (words_of line))
-    else asked n cap front (question_of n (words_of line))) is
+    else (if is_for_all (words_of line) then for_all n cap front (asked_of n (words_of line))
+    else asked n cap front (question_of n (words_of line)))) other
+    ∙ ap (λ (b : Bool). if b then for_all n cap front (asked_of n (words_of line))
+    else asked n cap front (question_of n (words_of line))) single
 
 -- ---- no acts
 

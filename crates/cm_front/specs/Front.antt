@@ -1,11 +1,14 @@
 -- A front end: what it does and answers line by line. Ours.
-use Rattle.std.specs.Prelude.{ℕ, ◌||◌, if◌then◌else◌, Option, Result, Ok, Err, List, [], ◌∷◌, ◌++◌, codes, decimal}
+use Rattle.std.specs.Prelude.{ℕ, ◌^◌, ◌||◌, if◌then◌else◌, Option, Result, Ok, Err, List, [], ◌∷◌, ◌++◌, codes, decimal}
 use Rattle.cm_bits.specs.Bit.{bit_number}
 use Rattle.cm_bits.specs.Text.{words_of}
 use Rattle.cm_model.specs.declared.act.Act.{Act}
 use Rattle.cm_model.specs.Array.{wire}
+use Rattle.cm_model.specs.Place.{chip_columns}
 use Rattle.cm_model.specs.Machine.{Machine, run_of}
 use Rattle.cm_array.specs.Acts.{is_late, is_long}
+use Rattle.cm_array.specs.Behind.{unlogged}
+use Rattle.cm_image_format.specs.Whole.{text_of}
 use Rattle.cm_language.specs.declared.fault.AsmKind.{AsmKind}
 use Rattle.cm_language.specs.Program.{Reading, nothing_read, after_words}
 use Rattle.cm_session.specs.declared.command.Command.{Command}
@@ -13,7 +16,15 @@ use Rattle.cm_session.specs.declared.command.Refusal.{Refusal}
 use Rattle.cm_session.specs.Answer.{line, refused_line, CLOCK}
 use Rattle.cm_session.specs.Session as session
 use Rattle.cm_session.specs.Stretches.{looks_at}
+use Rattle.cm_lab.specs.declared.order.Order.TheVariants.{Chips as by_chips}
+use Rattle.cm_lab.specs.Data.{numbers_of, flags_of, machine_with_numbers}
+use Rattle.cm_lab.specs.Pictures.{chip_rows, buffered}
 use Rattle.cm_front.specs.Asked.{is_of_program, question_of, kind_number}
+use Rattle.cm_front.specs.declared.for_all.Asked.{Asked}
+use Rattle.cm_front.specs.declared.for_all.Asked.TheVariants.{Get, GetFlag, GetBuffers, Put, Standing, Clock, Image}
+use Rattle.cm_front.specs.declared.for_all.Asked.TheVariants.{Forget}
+use Rattle.cm_front.specs.ForAll.{is_for_all, asked_of}
+use Rattle.cm_front.specs.Telling.{numbers_lines, standing_line, image_lines}
 
 -- a front end between two lines
 pub record Front : Type 0 where
@@ -88,13 +99,51 @@ asked n cap front question =
     told (front_of (answered_to n cap front.machine question).session.machine front.reading)
     (answered_to n cap front.machine question).answer
 
+-- ---- a line for all processors
+
+-- a machine after it, and what was answered to it
+pub record Done : Type 0 where
+  pub machine : Machine
+  pub answer : List ℕ
+
+-- a machine, and this answer
+abbrev pub done : Machine → List ℕ → Done
+done machine answer = record { machine = machine; answer = answer }
+
+-- nothing is told
+abbrev pub ok_line : List ℕ
+ok_line = line (codes "ok" ∷ [])
+
+-- what is done and answered on a cube of n dimensions, where these numbers are given
+abbrev pub obeyed : ℕ → ℕ → Machine → Asked → List ℕ → Done
+obeyed n cap machine (Get field) numbers =
+    done machine (numbers_lines (2 ^ n) 16 (numbers_of n by_chips field.at field.len machine.chips))
+obeyed n cap machine (GetFlag number) numbers =
+    done machine (numbers_lines (2 ^ n) 16 (flags_of n by_chips number machine.chips))
+obeyed n cap machine GetBuffers numbers =
+    done machine (numbers_lines (chip_rows n) (chip_columns n) (buffered n machine))
+obeyed n cap machine (Put field) numbers =
+    done (machine_with_numbers n by_chips field.at field.len numbers machine) ok_line
+obeyed n cap machine Standing numbers = done machine (standing_line n machine)
+obeyed n cap machine Clock numbers = done machine (line (codes "clock" ∷ decimal machine.clock ∷ []))
+obeyed n cap machine Image numbers = done machine (image_lines (text_of n cap machine))
+obeyed n cap machine Forget numbers = done (unlogged n machine) ok_line
+
+-- the fields and the context stay; a line that is refused changes nothing
+abbrev pub for_all : ℕ → ℕ → Front → Result (Asked × List ℕ) AsmKind → Answered
+for_all n cap front (Ok it) =
+    told (front_of (obeyed n cap front.machine it.0 it.1).machine front.reading)
+    (obeyed n cap front.machine it.0 it.1).answer
+for_all n cap front (Err kind) = told front (refused_line (kind_number kind))
+
 -- ---- lines
 
 -- after a line, by its words
 abbrev pub after_words_of : ℕ → ℕ → Front → List (List ℕ) → Answered
 after_words_of n cap front words =
     if is_of_program words then said n cap front (after_words front.reading words)
-    else asked n cap front (question_of n words)
+    else (if is_for_all words then for_all n cap front (asked_of n words)
+    else asked n cap front (question_of n words))
 
 -- after a line
 unfoldable pub after_line : ℕ → ℕ → Front → List ℕ → Answered

@@ -1,6 +1,7 @@
 -- Laws over the definitions, each the contract of a function of its name. Ours.
-use Rattle.std.specs.Prelude.{◌≡◌, ℕ, ◌||◌, Bool, true, false, Some, Result, Ok, Err, List, [], ◌∷◌}
+use Rattle.std.specs.Prelude.{◌≡◌, ℕ, ◌^◌, ◌||◌, Bool, true, false, if◌then◌else◌, Some, Result, Ok, Err, List, [], ◌∷◌}
 use Rattle.std.specs.List.{filter}
+use Rattle.cm_bits.specs.Span.{Span}
 use Rattle.cm_bits.specs.Text.{words_of}
 use Rattle.cm_model.specs.declared.act.Act.{Act}
 use Rattle.cm_model.specs.Machine.{Machine, run_of}
@@ -12,7 +13,11 @@ use Rattle.cm_session.specs.declared.command.Command.{Command}
 use Rattle.cm_session.specs.declared.command.Command.TheVariants as command
 use Rattle.cm_session.specs.Session as session
 use Rattle.cm_session.specs.Whole.{asks_poke}
+use Rattle.cm_front.specs.declared.for_all.Asked.{Asked}
+use Rattle.cm_front.specs.declared.for_all.Asked.TheVariants.{Get, Put, Forget}
 use Rattle.cm_front.specs.Asked.{is_of_program, question_of}
+use Rattle.cm_front.specs.ForAll.{is_for_all, asked_of}
+use Rattle.cm_front.specs.Telling.{numbers_lines}
 use Rattle.cm_front.specs.Front.{Front, Answered, front_of, opening, without_acts, after_line, after_lines}
 
 -- the line is one of a program
@@ -23,10 +28,24 @@ is_program_line line = is_of_program (words_of line)
 abbrev pub program_lines : List (List ℕ) → List (List ℕ)
 program_lines lines = filter is_program_line lines
 
--- no line asks for a poke
-abbrev pub HaveNoPoke : ℕ → List (List ℕ) → Type 0
-HaveNoPoke n [] = Unit {0}
-HaveNoPoke n (line ∷ lines) = (asks_poke (question_of n (words_of line)) ≡ false) × HaveNoPoke n lines
+-- what is asked of all processors changes the machine: numbers are put, or the logs emptied
+abbrev pub is_change : Asked → Bool
+is_change (Put field) = true
+is_change Forget = true
+is_change _ = false
+
+abbrev pub asks_change : Result (Asked × List ℕ) AsmKind → Bool
+asks_change (Ok it) = is_change it.0
+asks_change (Err kind) = false
+
+-- the words of a line that is none of a program poke a bit, put numbers, or empty the logs
+abbrev pub changes : ℕ → List (List ℕ) → Bool
+changes n words = if is_for_all words then asks_change (asked_of n words) else asks_poke (question_of n words)
+
+-- no line does so
+abbrev pub HaveNoChange : ℕ → List (List ℕ) → Type 0
+HaveNoChange n [] = Unit {0}
+HaveNoChange n (line ∷ lines) = (changes n (words_of line) ≡ false) × HaveNoChange n lines
 
 -- what a line adds is accepted, and its acts are refused: they are too many, or the counter has no room
 abbrev pub refuses_acts : Front → Result language.Reading AsmKind → Bool
@@ -40,13 +59,13 @@ AreRun n cap front (line ∷ lines) =
     (refuses_acts front (language.after_words front.reading (words_of line)) ≡ false)
     × AreRun n cap (after_line n cap front line).front lines
 
--- where the program lines, as one text, are accepted, no acts are refused and nothing is poked, the machine is that
--- after a run of the text's acts, and the fields and the context are those of the text: what is asked in between
--- changes nothing
+-- where the program lines, as one text, are accepted, no acts are refused and nothing is poked, put or forgotten, the
+-- machine is that after a run of the text's acts, and the fields and the context are those of the text: what is asked
+-- in between changes nothing
 abbrev pub FrontsRunTheirPrograms : Type 0
 FrontsRunTheirPrograms = (n cap : ℕ) (start : Machine) (lines : List (List ℕ)) (read : language.Reading)
     → IsMachine n cap start → language.after_lines language.nothing_read 1 (program_lines lines) ≡ Ok read
-    → HaveNoPoke n lines → AreRun n cap (opening start) lines
+    → HaveNoChange n lines → AreRun n cap (opening start) lines
     → (after_lines n cap (opening start) lines).front ≡ front_of (run_of n cap start read.acts) (without_acts read)
 
 -- what is asked of the machine alone, and a poke; not what bears on the acts of a session
@@ -70,3 +89,10 @@ FrontsAnswerAsSessions = (n cap : ℕ) (front : Front) (acts : List Act) (here :
     (it : Command) → here.machine ≡ front.machine → is_program_line line ≡ false
     → question_of n (words_of line) ≡ Ok (Some it) → is_of_machine it ≡ true
     → AnswerAlike (after_line n cap front line) (session.after_line n cap acts here line)
+
+-- `get` tells the numbers that `put` put into the same field
+abbrev pub FrontsReadBack : Type 0
+FrontsReadBack = (n cap : ℕ) (front : Front) (putting getting : List ℕ) (field : Span) (numbers : List ℕ)
+    → IsMachine n cap front.machine → asked_of n (words_of putting) ≡ Ok (Put field, numbers)
+    → asked_of n (words_of getting) ≡ Ok (Get field, [])
+    → (after_line n cap (after_line n cap front putting).front getting).answer ≡ numbers_lines (2 ^ n) 16 numbers

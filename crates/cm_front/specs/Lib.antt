@@ -1,4 +1,6 @@
 pub mod Asked
+pub mod ForAll
+pub mod Telling
 pub mod Front
 pub mod Ends
 pub mod Hearing

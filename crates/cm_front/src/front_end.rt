@@ -4,16 +4,22 @@ ghost use Rattle.std.specs.Prelude.{◌≡◌, [], cond, false, IfErr, MatchResu
 ghost use Rattle.cm_bits.specs.Text.{words_of};
 ghost use Rattle.cm_model.specs.Machine.{run_of};
 ghost use Rattle.cm_array.specs.Faults.{one_more_lacked};
-ghost use Rattle.cm_language.specs.Program.{nothing_read, after_words};
+ghost use Rattle.cm_language.specs.Program.{Reading, nothing_read, after_words};
 ghost use Rattle.cm_session.specs.Answer.{refused_line};
 ghost use Rattle.cm_debug.specs.Telling.{is_thread};
 ghost use Rattle.cm_front.specs.Asked.{question_of};
+ghost use Rattle.cm_front.specs.ForAll.{asked_of, AreFor};
 ghost use Rattle.cm_front.specs.Front.{front_of, said, after_line, acts_line, after_acts, done_line, answered_to};
+ghost use Rattle.cm_front.specs.Front.{for_all, obeyed, told};
 
+use crate::for_all::{Asked, is_for_all, read_asked};
 use crate::questions::{is_of_program, own_number, read_question};
+use crate::telling::{push_buffers, push_field, push_flags, push_image, push_standing};
 use cm_array::{Machine, RunFault, Runner};
 use cm_asm::Reader;
+use cm_bits::NoMemory;
 use cm_debug::{Debugger, Want, push_bit, push_number, push_word};
+use cm_lab::{Order, put};
 use cm_model::Act;
 use std::alloc::{AllocError, Global};
 use std::marker::Model;
@@ -71,6 +77,8 @@ impl FrontEnd {
         text.clear();
         if is_of_program(line) {
             self.say(alloc, machine, runner, line, text)
+        } else if is_for_all(line) {
+            do_for_all(alloc, machine, line, text)
         } else {
             ask(alloc, machine, runner, line, text)
         }
@@ -158,6 +166,75 @@ fn refuse(text: &mut Vec<u8>, number: u64) -> Result<(), Want>
     text.clear();
     push_number(text, b"?", number)?;
     Ok(())
+}
+
+/// A line for all processors.
+fn do_for_all<const N: usize, const CAP: usize>(
+    alloc: Global,
+    machine: &mut Machine<N, CAP>,
+    line: &[u8],
+    text: &mut Vec<u8>,
+) -> Result<(), Want>
+    requires none { text.old.items ≡ [] }
+    ensures done { OnOk result ((read : Reading) → for_all N CAP (front_of machine.old.machine read)
+        (asked_of N (words_of line.now)) ≡ told (front_of machine.new.machine read) text.new.items) }
+    ensures err { OnErr result (machine.new.machine ≡ machine.old.machine) }
+    ensures memory { IfErr result (λ want. is_thread want ≡ false) }
+{
+    // a machine that is looked at has at most 12 dimensions
+    machine.clock();
+    let mut numbers = Vec::new(alloc);
+    let asked = match read_asked(line, N, &mut numbers) {
+        Ok(asked) => asked,
+        Err(kind) => {
+            let Some(number) = own_number(kind) else {
+                return Err(Want::Memory);
+            };
+            return refuse(text, number);
+        }
+    };
+    match obey(alloc, machine, asked, numbers.as_slice(), text) {
+        Ok(()) => Ok(()),
+        Err(NoMemory) => Err(Want::Memory),
+    }
+}
+
+/// Does what is asked of all processors, and tells it. After an `Err` the machine is as it was.
+fn obey<const N: usize, const CAP: usize>(
+    alloc: Global,
+    machine: &mut Machine<N, CAP>,
+    asked: Asked,
+    numbers: &[u64],
+    text: &mut Vec<u8>,
+) -> Result<(), NoMemory>
+    requires numbers { AreFor N asked numbers.now }
+    requires none { text.old.items ≡ [] }
+    ensures answer { OnOk result (text.new.items ≡ (obeyed N CAP machine.old.machine asked numbers.now).answer) }
+    ensures machine { OnOk result (machine.new.machine
+        ≡ (obeyed N CAP machine.old.machine asked numbers.now).machine) }
+    ensures err { OnErr result (machine.new.machine ≡ machine.old.machine) }
+{
+    match asked {
+        Asked::Get(field) => push_field(alloc, text, machine, field),
+        Asked::GetFlag(number) => push_flags(alloc, text, machine, number),
+        Asked::GetBuffers => push_buffers(alloc, text, machine),
+        Asked::Put(field) => {
+            push_word(text, b"ok")?;
+            put(machine, Order::Chips, field, numbers);
+            Ok(())
+        }
+        Asked::Standing => push_standing(text, machine),
+        Asked::Clock => {
+            push_number(text, b"clock", machine.clock())?;
+            Ok(())
+        }
+        Asked::Image => push_image(alloc, text, machine),
+        Asked::Forget => {
+            push_word(text, b"ok")?;
+            machine.set_logs_aside(alloc, 0)?;
+            Ok(())
+        }
+    }
 }
 
 /// A line that asks: it is answered as in a session without acts.
