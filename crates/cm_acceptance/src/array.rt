@@ -8,8 +8,6 @@ use cm_bits::{Dir, Field};
 use cm_draws::{address, flag, poke_field, processor};
 use cm_model::{Act, Nano};
 use std::alloc::{AllocError, Global};
-use std::fmt::Display;
-use std::test::Fail;
 
 // ---- scenarios
 
@@ -146,46 +144,6 @@ fn the_dimension_is_refused_before_the_room(rt: HostRuntime) {
         None,
     ];
     assert_eq!(rt; faults, wanted);
-}
-
-static RUN_FAULTS: [(RunFault, &str); 4] = [
-    (
-        RunFault::Long,
-        "more than 4,096 acts or 64 petit cycles in one stretch",
-    ),
-    (RunFault::Clock, "more than 2^63 - 1 petit cycles in all"),
-    (RunFault::Memory, "out of memory"),
-    (
-        RunFault::NoThread,
-        "a thread was not admitted or not started",
-    ),
-];
-
-static MACHINE_FAULTS: [(MachineFault, &str); 3] = [
-    (MachineFault::Dim, "more than 12 dimensions"),
-    (
-        MachineFault::Cap,
-        "a router's buffer has room for 1 to 15 messages",
-    ),
-    (MachineFault::Memory, "out of memory"),
-];
-
-/// The place of the first fault that tells another cause, or else how many there are.
-fn told<T: Display>(alloc: Global, faults: &[(T, &str)]) -> Result<usize, Fail> {
-    for (place, (fault, cause)) in faults.iter().enumerate() {
-        if format!(in alloc; "{fault}")?.as_str() != *cause {
-            return Ok(place);
-        }
-    }
-    Ok(faults.len())
-}
-
-#[test]
-fn faults_tell_their_causes(rt: HostRuntime) -> Result<(), Fail> {
-    let runs = told(rt.alloc(), RUN_FAULTS.as_slice())?;
-    let machines = told(rt.alloc(), MACHINE_FAULTS.as_slice())?;
-    assert_eq!(rt; (runs, machines), (RUN_FAULTS.len(), MACHINE_FAULTS.len()));
-    Ok(())
 }
 
 // ---- the longest stretch on the largest machine

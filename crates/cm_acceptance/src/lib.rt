@@ -12,6 +12,8 @@ mod both;
 #[cfg(test)]
 mod building;
 #[cfg(test)]
+mod faults;
+#[cfg(test)]
 mod growths;
 #[cfg(test)]
 mod machines;

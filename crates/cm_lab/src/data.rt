@@ -25,6 +25,7 @@ pub fn get<const N: usize, const CAP: usize>(
         ≡ numbers_of N order field.at field.len machine.now.machine.chips) }
     ensures count { IfOk result (λ numbers. length numbers.items ≡ processors N) }
 {
+    // For the prover alone: a call brings in what holds of every machine.
     let _dims = machine.dims();
     let count = processors::<N>();
     let mut numbers = Vec::with_capacity(alloc, count)?;
@@ -48,6 +49,7 @@ pub fn flags<const N: usize, const CAP: usize>(
     ensures value { IfOk result (λ flags. flags.items ≡ flags_of N order number machine.now.machine.chips) }
     ensures count { IfOk result (λ flags. length flags.items ≡ processors N) }
 {
+    // For the prover alone: a call brings in what holds of every machine.
     let _dims = machine.dims();
     let count = processors::<N>();
     let mut flags = Vec::with_capacity(alloc, count)?;
@@ -79,6 +81,7 @@ pub fn put<const N: usize, const CAP: usize>(
       machine = machine_with_numbers N order field.at field.len numbers.now machine.old.machine;
     } }
 {
+    // For the prover alone: a call brings in what holds of every machine.
     let _clock = machine.clock();
     let chips = (processors::<N>() / 16) as u16;
     for chip in 0..chips {
@@ -133,6 +136,7 @@ fn put_number<const N: usize, const CAP: usize>(
 {
     pokes_keep_machines();
     let at = field.at();
+    // For the prover alone: this brings in that the number is below 16.
     let _proc = proc.get();
     for i in 0..field.len() {
         machine.poke(chip, proc, Addr::new(at + i).unwrap(), bit_of(number, i));

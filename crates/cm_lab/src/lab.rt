@@ -225,6 +225,7 @@ fn told<const N: usize, const CAP: usize>(
         (λ text. work_of N CAP (task.Get order field) [] machine.now.machine ≡ Ok text.items) }
     ensures memory { IfErr result (λ fault. fault ≡ LabFault.Memory) }
 {
+    // For the prover alone: a call brings in what holds of every machine.
     let _clock = machine.clock();
     let Ok(numbers) = get(alloc, machine, order, field) else {
         return Err(LabFault::Memory);
@@ -246,6 +247,7 @@ fn flagged<const N: usize, const CAP: usize>(
         (λ text. work_of N CAP (task.Flags order number) [] machine.now.machine ≡ Ok text.items) }
     ensures memory { IfErr result (λ fault. fault ≡ LabFault.Memory) }
 {
+    // For the prover alone: a call brings in what holds of every machine.
     let _clock = machine.clock();
     let Ok(flags) = flags(alloc, machine, order, number) else {
         return Err(LabFault::Memory);
@@ -269,6 +271,7 @@ fn filled<const N: usize, const CAP: usize>(
     ensures refused { IfErr result (λ fault. fault ≢ LabFault.Memory
         → work_of N CAP (task.Put order field) given.now machine.old.machine ≡ Err fault) }
 {
+    // For the prover alone: a call brings in what holds of every machine.
     let _clock = machine.clock();
     let numbers = match read_numbers(alloc, given, field.len(), processors::<N>()) {
         Ok(numbers) => numbers,
@@ -326,6 +329,7 @@ fn painted<const N: usize, const CAP: usize>(
     ensures refused { IfErr result (λ fault. fault ≢ LabFault.Memory
         → work_of N CAP (task.Paint at) given.now machine.old.machine ≡ Err fault) }
 {
+    // For the prover alone: a call brings in what holds of every machine.
     let _clock = machine.clock();
     let picture = match read_grid::<N>(alloc, given) {
         Ok(picture) => picture,

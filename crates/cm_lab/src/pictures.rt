@@ -58,6 +58,7 @@ pub fn show<const N: usize, const CAP: usize>(
     ensures wide { IfErr result (λ fault. fault ≢ ShowFault.Memory
         → (fault ≡ ShowFault.Wide) × (is_narrow shown ≡ false)) }
 {
+    // For the prover alone: a call brings in what holds of every machine.
     let _clock = machine.clock();
     match shown {
         Shown::Flag(number) => {

@@ -24,6 +24,7 @@ impl Model for Constants {
 }
 
 impl Constants {
+    /// Where no line has defined any.
     pub fn new(alloc: Global) -> Constants
         ensures { result ≡ [] }
     {

@@ -39,6 +39,7 @@ impl Model for Expanding {
 }
 
 impl Expanding {
+    /// Before the first line.
     pub fn new(alloc: Global) -> Expanding
         ensures { result ≡ nothing_out }
     {
@@ -127,6 +128,7 @@ impl Expanding {
         }
     }
 
+    /// What came out.
     pub fn into_text(self) -> Vec<u8>
         ensures value { result.items ≡ self.text }
     {

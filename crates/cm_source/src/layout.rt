@@ -53,6 +53,7 @@ impl Model for Layout {
 }
 
 impl Layout {
+    /// Before the first line.
     pub fn new(alloc: Global) -> Layout
         ensures { result ≡ nothing_laid }
     {

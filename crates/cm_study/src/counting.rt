@@ -37,6 +37,7 @@ pub(crate) fn log_lengths<const N: usize, const CAP: usize>(
 ) -> Result<Vec<usize>, NoMemory>
     ensures value { IfOk result (λ lengths. lengths.items ≡ log_lengths N machine.now.machine) }
 {
+    // For the prover alone: a call brings in what holds of every machine.
     let _dims = machine.dims();
     let chips = chip_count::<N>();
     let mut lengths = Vec::with_capacity(alloc, usize::from(chips))?;
@@ -56,6 +57,7 @@ pub(crate) fn counts<const N: usize, const CAP: usize>(
 ) -> Result<Counts, NoMemory>
     ensures value { IfOk result (λ counts. counts ≡ counts_of N CAP before.now ways.now machine.now.machine) }
 {
+    // For the prover alone: a call brings in what holds of every machine.
     let _dims = machine.dims();
     let mut counts = Counts::NONE;
     for chip in 0..chip_count::<N>() {

@@ -59,6 +59,7 @@ pub fn route<const N: usize, const CAP: usize, W: Watch>(
     ensures refused { IfErr result (λ fault. fault ≢ RouteFault.Memory
         → route_of N CAP tag machine.old.machine acts.now ≡ Err fault) }
 {
+    // For the prover alone: a call brings in what holds of every machine.
     let _dims = machine.dims();
     let chips = chip_count::<N>();
     if tag.chip >= chips {

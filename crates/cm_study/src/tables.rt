@@ -38,6 +38,7 @@ pub(crate) fn push_delivered<const N: usize, const CAP: usize>(
     ensures ok { OnOk result (text.new.items
         ≡ text.old.items ++ delivered_text N clock before.now ways.now machine.now.machine) }
 {
+    // For the prover alone: a call brings in what holds of every machine.
     let _dims = machine.dims();
     for chip in 0..chip_count::<N>() {
         let events = events_behind(before, machine, chip)?;
@@ -109,6 +110,7 @@ pub(crate) fn push_standing<const N: usize, const CAP: usize>(
 ) -> Result<(), NoMemory>
     ensures ok { OnOk result (text.new.items ≡ text.old.items ++ standing_text N ways.now machine.now.machine) }
 {
+    // For the prover alone: a call brings in what holds of every machine.
     let _dims = machine.dims();
     for chip in 0..chip_count::<N>() {
         push_buffer(text, ways, chip, machine.buffer(chip))?;

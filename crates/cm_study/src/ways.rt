@@ -63,6 +63,7 @@ impl Ways {
     ) -> Result<Ways, NoMemory>
         ensures value { IfOk result (λ ways. ways ≡ traces_after N self.now machine.now.machine) }
     {
+        // For the prover alone: a call brings in what holds of every machine.
         let _dims = machine.dims();
         let mut next = Ways::blank::<N>(alloc)?;
         for chip in 0..chip_count::<N>() {

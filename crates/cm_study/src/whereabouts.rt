@@ -30,6 +30,7 @@ pub(crate) fn stand_in<const N: usize, const CAP: usize>(
 ) -> Option<Stand>
     ensures value { result ≡ stand_in N tag.now machine.now.machine }
 {
+    // For the prover alone: a call brings in what holds of every machine.
     let _dims = machine.dims();
     for chip in 0..chip_count::<N>() {
         if let Some(stand) = stand_at(chip, machine.buffer(chip), tag) {
@@ -65,6 +66,7 @@ pub(crate) fn delivery_in<const N: usize, const CAP: usize>(
 ) -> Result<Option<Place>, NoMemory>
     ensures value { IfOk result (λ place. place ≡ delivery_in N tag.now before.now machine.now.machine) }
 {
+    // For the prover alone: a call brings in what holds of every machine.
     let _dims = machine.dims();
     for chip in 0..chip_count::<N>() {
         let events = events_behind(before, machine, chip)?;
