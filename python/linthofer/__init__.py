@@ -9,5 +9,5 @@ from .messages import Message, Received
 from .refusals import Collision, Failed, Fault, NotArrived, Refused, Unavailable
 from .tables import Picture, Route, Svg, Table, acts_of, expand, load_curve, plot_of
 
-__all__ = ["Collision", "Failed", "Fault", "Field", "Machine", "Message", "NotArrived", "Picture", "Received", "Refused",
-           "Route", "Svg", "Table", "Unavailable", "acts_of", "expand", "load_curve", "plot_of"]
+__all__ = ["Collision", "Failed", "Fault", "Field", "Machine", "Message", "NotArrived", "Picture", "Received",
+           "Refused", "Route", "Svg", "Table", "Unavailable", "acts_of", "expand", "load_curve", "plot_of"]

@@ -1,8 +1,8 @@
 """Parallel variables.
 
 An expression, as `x + y` or `x < 7`, is a new field, worked out in all processors. An assignment, as `x[:] = y` or
-`x += y`, is carried out where `Machine.where` says. Numbers are those of docs/MACHINE.md: a field of so many bits has 0 to
-2**bits - 1, and what does not fit is lost, as 255 + 1 in eight bits is 0.
+`x += y`, is carried out where `Machine.where` says. Numbers are those of docs/MACHINE.md: a field of so many bits has
+0 to 2**bits - 1, and what does not fit is lost, as 255 + 1 in eight bits is 0.
 """
 from __future__ import annotations
 
@@ -26,9 +26,9 @@ Value = Union["Field", int]
 class Field:
     """The same memory bits of every processor, `bits` of them from address `at` up, the lowest bit first.
 
-    The bits are free again when no variable has the field any more. What a new field has is anything: assign before you
-    read. The fields of one operation have one length, else refusal 11 (`widened`, `part`); a number beside a field is one
-    that it can have, 0 to 2**bits - 1, else refusal 11 as well.
+    The bits are free again when no variable has the field any more. What a new field has is anything: assign before
+    you read. The fields of one operation have one length, else refusal 11 (`widened`, `part`); a number beside a field
+    is one that it can have, 0 to 2**bits - 1, else refusal 11 as well.
     """
 
     __slots__ = ("machine", "at", "bits", "_whole", "_is_lent", "__weakref__")
@@ -110,7 +110,7 @@ class Field:
         """
         if isinstance(where, slice):
             if where != slice(None):
-                raise IndexError("field[:] are all processors, field[chip, processor] is one; there are no other slices")
+                raise IndexError("field[:] is for all processors, field[chip, processor] for one; no other slice is")
             self._assign(value)
         else:
             chip, processor = self.machine.checked_place(where)
@@ -135,8 +135,8 @@ class Field:
         """Puts a number into each processor, whatever `where` says.
 
         `numbers` has 16 * 2**dims whole numbers, chip by chip or with `rows` row by row; or it is a list of rows, or a
-        NumPy array of two dimensions, of the shape `Machine.shape`. ValueError where there are more or fewer, refusal 11
-        where one is not 0 to 2**bits - 1.
+        NumPy array of two dimensions, of the shape `Machine.shape`. ValueError where there are more or fewer, refusal
+        11 where one is not 0 to 2**bits - 1.
         """
         self.machine.put_numbers(self, numbers, rows)
 

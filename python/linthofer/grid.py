@@ -1,7 +1,7 @@
 """Where the processors stand on the grid (docs/MACHINE.md, "Grid").
 
-A *place* is 16 times the chip and the processor on it, so numbers of all processors in a flat list stand by place, "chip
-by chip". Rows of the grid begin with the north row, and a row with its west end.
+A *place* is 16 times the chip and the processor on it, so numbers of all processors in a flat list stand by place,
+"chip by chip". Rows of the grid begin with the north row, and a row with its west end.
 """
 from __future__ import annotations
 

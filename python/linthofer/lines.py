@@ -103,7 +103,8 @@ class Lines:
     def ask_text(self, text: str) -> List[str]:
         """The answers to the lines of a text, under `always` before and afterwards.
 
-        Blank lines and comments have none. A `field` line that was told before is left out, so that a text may come again.
+        Blank lines and comments have none. A `field` line that was told before is left out, so that a text may come
+        again.
         """
         wanted = []
         for line in text.splitlines():

@@ -125,8 +125,8 @@ class Machine:
     def field(self, bits: int, at: Optional[int] = None) -> Field:
         """A field of 1 to 64 bits (else refusal 1): free ones, or with `at` those from this address up.
 
-        Free bits are below 3,968; MemoryError where there are not so many in one piece. Bits that are asked for by their
-        address, here or by a line `field` of a text, are lent to no other field from then on.
+        Free bits are below 3,968; MemoryError where there are not so many in one piece. Bits that are asked for by
+        their address, here or by a line `field` of a text, are lent to no other field from then on.
         """
         if not 1 <= bits <= MOST_BITS:
             raise Refused(1, f"field({bits})")
@@ -153,8 +153,8 @@ class Machine:
         """`with m.where(condition):` what is assigned, sent or looked at within is meant where the condition is 1.
 
         The condition is a field of one bit, as a comparison makes one (else TypeError), and is looked at once, at the
-        beginning. Within another `where` both have to hold. At most seven stand within one another (else `Unavailable`); they
-        take flags 15, 5, 4, 3, 2, 1, 0, in this order.
+        beginning. Within another `where` both have to hold. At most seven stand within one another (else
+        `Unavailable`); they take flags 15, 5, 4, 3, 2, 1, 0, in this order.
         """
         _check_one_bit(condition)
         if not self._flags:
@@ -221,13 +221,14 @@ class Machine:
 
     def send(self, value: Field, to: Value, combine: str = "only", bits: Optional[int] = None,
              most: int = 100_000) -> Received:
-        """Each processor that `where` says sends `value` to the one whose place `to` tells; petit cycles run until all has come.
+        """Each processor that `where` says sends `value` to the one whose place `to` tells.
 
-        `value` has at most 32 bits (refusal 1). `to` is a field of 4 + dims bits, as `place()` is (refusal 11), or a number.
-        Where several come to one processor, `combine` says what becomes of them: "add", "or", "max", "min", "last" (one of
-        those that came last), or "only", which raises `Collision`. `bits` is how many the received field has, where a sum
-        wants more. Raises `NotArrived` after `most` petit cycles, and where messages of before stand in routers. Flags
-        SEND and RECV are 0 before and afterwards.
+        Petit cycles run until no message stands in a router and nobody asks; what came is in `Received`. `value` has
+        at most 32 bits (refusal 1). `to` is a field of 4 + dims bits, as `place()` is (refusal 11), or a number. Where
+        several come to one processor, `combine` says what becomes of them: "add", "or", "max", "min", "last" (one of
+        those that came last), or "only", which raises `Collision`. `bits` is how many the received field has, where a
+        sum wants more. Raises `NotArrived` after `most` petit cycles, and where messages of before stand in routers.
+        Flags SEND and RECV are 0 before and afterwards.
         """
         return send(self, value, to, combine, bits, most)
 
@@ -263,7 +264,7 @@ class Machine:
         return self.lines.numbers("get buffers")
 
     def messages(self, chip: Optional[int] = None) -> List[Message]:
-        """The messages that stand in the router of a chip, from the front of its buffer; of all chips where none is given."""
+        """The messages that stand in the router of a chip, from the front of its buffer; without a chip, in all."""
         chips = range(self.chips) if chip is None else [chip]
         answers = self.lines.ask(*(f"buf {at}" for at in chips))
         return [message for at, answer in zip(chips, answers) for message in messages_of(at, answer)]
@@ -286,13 +287,17 @@ class Machine:
     def ask(self, text: str) -> List[str]:
         """The answers to lines of a program and questions, as docs/LABORATORY.md tells them in "A front end".
 
-        Each line is done as it comes: where one is refused (`Refused`), those before it have been done. A `field` line that
-        was told before is left out. The context is `always` before and afterwards, whatever `where` says.
+        Each line is done as it comes: where one is refused (`Refused`), those before it have been done. A `field` line
+        that was told before is left out. The context is `always` before and afterwards, whatever `where` says.
         """
         return self.lines.ask_text(text)
 
     def run(self, source: str) -> None:
-        """Runs a source, with `repeat` and `constant` (docs/LABORATORY.md, "Sources"); it is judged whole before anything is done."""
+        """Runs a source, with `repeat` and `constant` (docs/LABORATORY.md, "Sources").
+
+        All of it is judged before anything is done: `Failed` for a fault in it, refusal 19 for a name of its fields
+        that was told with another place. The context is `always` before and afterwards, whatever `where` says.
+        """
         if source not in self._programs:
             self._programs[source] = expand(source).splitlines()
         program = [line.partition(" ;")[0] for line in self._programs[source]]
@@ -375,9 +380,9 @@ class Machine:
     def study(self, source: str, messages: bool = False) -> Table:
         """What the router would do under a source, a record for each petit cycle, or with `messages` for each message.
 
-        The machine stays as it is: the source runs on an image of it (`cm1lab study`). Columns by petit cycle: cycle, taken,
-        delivered, referred, standing, full, asking; by message: chip, processor, taken, to chip, to processor, delivered
-        (None where it stands in a router), crossed, referred.
+        The machine stays as it is: the source runs on an image of it (`cm1lab study`). Columns by petit cycle: cycle,
+        taken, delivered, referred, standing, full, asking; by message: chip, processor, taken, to chip, to processor,
+        delivered (None where it stands in a router), crossed, referred.
         """
         options = ["--messages"] if messages else []
         with TextFile(expand(source), "the program") as program, TextFile(self.image(), "the machine") as image:
@@ -386,8 +391,8 @@ class Machine:
     def route(self, tag: Tuple[int, int, int], source: str) -> Route:
         """The way that a message would go under a source, on an image of the machine (`cm1lab route`).
 
-        `tag` is who sends it, chip and processor, and its birth, the petit cycle in which it is taken in: `m.cycles` for the
-        next one. `Failed` where there is no such message.
+        `tag` is who sends it, chip and processor, and its birth, the petit cycle in which it is taken in: `m.cycles`
+        for the next one. `Failed` where there is no such message.
         """
         with TextFile(expand(source), "the program") as program, TextFile(self.image(), "the machine") as image:
             return Route(command("cm1lab", "route", image, program, *tag).decode())

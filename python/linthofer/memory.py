@@ -13,7 +13,7 @@ class Memory:
         self._kept = bytearray(ALL_BITS)        # 1 for a bit that is not lent any more
 
     def take(self, bits: int) -> int:
-        """The address of so many free bits in one piece, which are lent from now on; MemoryError where there are none."""
+        """The address of so many free bits in one piece, which are lent now; MemoryError where there are none."""
         at = self._used.rfind(bytes(bits), 0, FREE_BITS)
         if at < 0:
             raise MemoryError(f"no {bits} of the {FREE_BITS} free memory bits are left in one piece; "

@@ -1,6 +1,6 @@
 """Messages through the router: what one is told of them, and `send`.
 
-The loop of `send` is worked out here, in Python; the README of the package tells it among what is tested and not proved.
+The loop of `send` is worked out here, in Python: it is tested, and not proved (README of the package).
 """
 from __future__ import annotations
 
@@ -78,8 +78,8 @@ def send(machine: "Machine", value: "Field", to: "Value", combine: str, bits: Op
     _write_messages(machine, value, machine.as_place(to))
     cycles = _run_until_quiet(machine, inbox, most)
     if combine == "only" and machine.is_anywhere(inbox.again):
-        raise Collision("several messages came to one processor: combine=\"add\" (or, max, min, last) says what becomes "
-                        "of them")
+        raise Collision("several messages came to one processor: combine=\"add\", \"or\", \"max\", \"min\" or \"last\" "
+                        "says what becomes of them")
     return Received(inbox.value, inbox.arrived, cycles)
 
 

@@ -1,7 +1,7 @@
 """Single instructions as lines (docs/PROGRAMMING.md, "One instruction").
 
-The table of an expression of memory bit A, memory bit B and flag F is that expression of the three bytes below: `A & ~F`
-is the table of "A and not F".
+The table of an expression of memory bit A, memory bit B and flag F is that expression of the three bytes below, as
+`A & ~F` is the table of "A and not F".
 """
 from __future__ import annotations
 

@@ -1,4 +1,4 @@
-"""What docs/REFUSALS.md tells of each number: its name, its cause, what to do. Made by tests/refusals_of_document.py."""
+"""By number, what docs/REFUSALS.md tells: name, cause, what to do. Made by tests/refusals_of_document.py."""
 from typing import Dict, Tuple
 
 REFUSALS: Dict[int, Tuple[str, str, str]] = {

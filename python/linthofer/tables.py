@@ -57,7 +57,8 @@ class Picture:
 class Table(List[Dict[str, Number]]):
     """A table of `cm1lab study` or `cm1lab load`: a list with a dict for each line, by the names of the columns.
 
-    A number with a point is a float, an empty cell is None. `csv` is the table as it was told, `columns` has the names.
+    A number with a point is a float, an empty cell is None. `csv` is the table as it was told, `columns` has the
+    names.
     """
 
     def __init__(self, csv: str) -> None:
@@ -161,13 +162,14 @@ def load_curve(dims: int, room: int, rates: Sequence[float], cycles: int, *, rul
                until: Optional[int] = None, seed: int = 1) -> Table:
     """How the routers of a blank machine bear loads: a record for each rate (`cm1lab load`).
 
-    `dims` is 0 to 12, `room` 1 to 15; `rates`, the messages that a chip offers in a petit cycle, are 0 to 16 with at most two
-    digits behind the point; `cycles`, how many petit cycles each load has, is 1 to 1,000,000. `pattern` is "uniform", "hotspot",
-    "transpose" or "reversal"; messages are offered in the first `until` petit cycles alone, if that is given. Columns:
-    rate, offered, taken, delivered, throughput, mean, p95, greatest, deepest (docs/LABORATORY.md, "Loads").
+    `dims` is 0 to 12, `room` 1 to 15; `rates`, the messages that a chip offers in a petit cycle, are 0 to 16 with at
+    most two digits behind the point; `cycles`, how many petit cycles each load has, is 1 to 1,000,000. `pattern` is
+    "uniform", "hotspot", "transpose" or "reversal"; messages are offered in the first `until` petit cycles alone, if
+    that is given. Columns: rate, offered, taken, delivered, throughput, mean, p95, greatest, deepest
+    (docs/LABORATORY.md, "Loads").
     """
-    words: List[object] = [dims, room, ",".join(f"{rate:g}" for rate in rates), cycles, "--rule", rule, "--pattern", pattern,
-                           "--seed", seed]
+    told_rates = ",".join(f"{rate:g}" for rate in rates)
+    words: List[object] = [dims, room, told_rates, cycles, "--rule", rule, "--pattern", pattern, "--seed", seed]
     if until is not None:
         words += ["--until", until]
     return Table(command("cm1lab", "load", *words).decode())

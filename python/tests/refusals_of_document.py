@@ -1,4 +1,4 @@
-"""The table of docs/REFUSALS.md as a module: `python3 tests/refusals_of_document.py` writes linthofer/refusal_table.py."""
+"""docs/REFUSALS.md as a module: `python3 tests/refusals_of_document.py` writes linthofer/refusal_table.py."""
 import pathlib
 import re
 
@@ -6,7 +6,7 @@ TOP = pathlib.Path(__file__).resolve().parents[2]
 DOCUMENT = TOP / "docs" / "REFUSALS.md"
 MODULE = TOP / "python" / "linthofer" / "refusal_table.py"
 ROW = re.compile(r"^\| (\d+) \| (\w+) \| (.*?) \| .*? \| (.*?) \|$", re.MULTILINE)
-HEAD = '''"""What docs/REFUSALS.md tells of each number: its name, its cause, what to do. Made by tests/refusals_of_document.py."""
+HEAD = '''"""By number, what docs/REFUSALS.md tells: name, cause, what to do. Made by tests/refusals_of_document.py."""
 from typing import Dict, Tuple
 
 REFUSALS: Dict[int, Tuple[str, str, str]] = {
@@ -20,8 +20,9 @@ def rows():
 
 def module():
     """The text of the module."""
-    lines = [f"    {number}: ({name!r},\n        {cause!r},\n        {advice!r}),\n" for number, (name, cause, advice) in rows().items()]
-    return HEAD + "".join(lines) + "}\n"
+    entries = [f"    {number}: ({name!r},\n        {cause!r},\n        {advice!r}),\n"
+               for number, (name, cause, advice) in rows().items()]
+    return HEAD + "".join(entries) + "}\n"
 
 
 if __name__ == "__main__":

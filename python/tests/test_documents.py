@@ -26,7 +26,7 @@ def parts():
 
 @pytest.mark.parametrize("program", parts())
 def test_the_document_shows_what_comes_out(program, tmp_path, monkeypatch):
-    """The programs of one part are one program; what stands behind `# ` on a line with `print` is what that line prints."""
+    """The programs of one part are one program; behind `# ` on a line with `print` stands what it prints."""
     monkeypatch.chdir(tmp_path)
     told = io.StringIO()
     with contextlib.redirect_stdout(told):

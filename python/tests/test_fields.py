@@ -66,8 +66,8 @@ def test_an_expression_may_be_its_own_operand(four, draw):
 
 # ---- conditions
 
-CHANGES = [("iadd", operator.add), ("isub", operator.sub), ("imul", operator.mul), ("iand", operator.and_), ("ior", operator.or_),
-           ("ixor", operator.xor), ("ilshift", operator.lshift), ("irshift", operator.rshift)]
+CHANGES = [("iadd", operator.add), ("isub", operator.sub), ("imul", operator.mul), ("iand", operator.and_),
+           ("ior", operator.or_), ("ixor", operator.xor), ("ilshift", operator.lshift), ("irshift", operator.rshift)]
 
 
 @pytest.mark.parametrize("word, does", CHANGES)
@@ -170,7 +170,10 @@ def test_rows_go_in_and_out(five):
     assert (x.numpy(rows=True) == picture).all()
 
 
-@pytest.mark.parametrize("bits, kind", [(1, "uint8"), (8, "uint8"), (9, "uint16"), (32, "uint32"), (33, "uint64"), (64, "uint64")])
+TYPES = [(1, "uint8"), (8, "uint8"), (9, "uint16"), (32, "uint32"), (33, "uint64"), (64, "uint64")]
+
+
+@pytest.mark.parametrize("bits, kind", TYPES)
 def test_arrays_have_the_least_type(four, draw, bits, kind):
     x, one = four.field(bits), draw(four, 2**bits)
     x[:] = numpy.array(one, dtype=kind)
@@ -245,10 +248,18 @@ def overlapping(x):
     x.part(0, 4)[:] = x.part(2, 6)
 
 
-REFUSED = [(1, lambda x: x.machine.field(65)), (1, lambda x: x.machine.field(0)), (2, lambda x: x.machine.field(8, at=4090)),
-           (2, lambda x: x[16, 0]), (2, lambda x: x[0, -1]), (10, overlapping), (11, lambda x: x + x.part(0, 4)),
-           (11, lambda x: x == 256), (11, lambda x: x - (-1)), (11, lambda x: x.put([256] * 256)),
-           (11, lambda x: x.put([-1] * 256)), (11, lambda x: x.__setitem__((0, 0), 256))]
+REFUSED = [(1, lambda x: x.machine.field(65)),
+           (1, lambda x: x.machine.field(0)),
+           (2, lambda x: x.machine.field(8, at=4090)),
+           (2, lambda x: x[16, 0]),
+           (2, lambda x: x[0, -1]),
+           (10, overlapping),
+           (11, lambda x: x + x.part(0, 4)),
+           (11, lambda x: x == 256),
+           (11, lambda x: x - (-1)),
+           (11, lambda x: x.put([256] * 256)),
+           (11, lambda x: x.put([-1] * 256)),
+           (11, lambda x: x.__setitem__((0, 0), 256))]
 
 
 @pytest.mark.parametrize("number, does", REFUSED)
@@ -260,10 +271,18 @@ def test_what_cannot_be_is_refused(four, number, does):
     assert told.value.number == number and set(x) == {5}
 
 
-WRONG = [(TypeError, lambda x: bool(x == 1)), (TypeError, lambda x: x + 1.5), (TypeError, lambda x: x + numpy.ones(256)),
-         (TypeError, lambda x: numpy.ones(256, int) + x), (TypeError, lambda x: x.put([0.5] * 256)), (TypeError, lambda x: x[3]),
-         (TypeError, lambda x: x.machine.any(x)), (ValueError, lambda x: x.put([1, 2])), (ValueError, lambda x: x.part(3, 9)),
-         (ValueError, lambda x: x.put(numpy.ones((8, 32), int))), (ValueError, lambda x: x << -1), (ValueError, lambda x: x.widened(7)),
+WRONG = [(TypeError, lambda x: bool(x == 1)),
+         (TypeError, lambda x: x + 1.5),
+         (TypeError, lambda x: x + numpy.ones(256)),
+         (TypeError, lambda x: numpy.ones(256, int) + x),
+         (TypeError, lambda x: x.put([0.5] * 256)),
+         (TypeError, lambda x: x[3]),
+         (TypeError, lambda x: x.machine.any(x)),
+         (ValueError, lambda x: x.put([1, 2])),
+         (ValueError, lambda x: x.put(numpy.ones((8, 32), int))),
+         (ValueError, lambda x: x.part(3, 9)),
+         (ValueError, lambda x: x << -1),
+         (ValueError, lambda x: x.widened(7)),
          (IndexError, lambda x: x.__setitem__(slice(0, 5), 1))]
 
 

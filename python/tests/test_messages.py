@@ -79,9 +79,12 @@ def test_messages_that_do_not_arrive_are_told(four):
         four.send(four.place(), to=3, combine="add")
 
 
-WRONG = [(Refused, lambda m: m.send(m.field(33), to=3)), (Refused, lambda m: m.send(m.field(8), to=3, bits=33)),
-         (Refused, lambda m: m.send(m.field(8), to=256)), (Refused, lambda m: m.send(m.field(8), to=m.field(9))),
-         (ValueError, lambda m: m.send(m.field(8), to=3, bits=7)), (ValueError, lambda m: m.send(m.field(8), to=3, combine="sum")),
+WRONG = [(Refused, lambda m: m.send(m.field(33), to=3)),
+         (Refused, lambda m: m.send(m.field(8), to=3, bits=33)),
+         (Refused, lambda m: m.send(m.field(8), to=256)),
+         (Refused, lambda m: m.send(m.field(8), to=m.field(9))),
+         (ValueError, lambda m: m.send(m.field(8), to=3, bits=7)),
+         (ValueError, lambda m: m.send(m.field(8), to=3, combine="sum")),
          (ValueError, lambda m: m.send(m.field(8), to=3, most=0))]
 
 

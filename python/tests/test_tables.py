@@ -22,7 +22,7 @@ def test_a_study_by_petit_cycles():
         assert table.columns == ["cycle", "taken", "delivered", "referred", "standing", "full", "asking"]
         assert table.column("taken") == [16] + [0] * 7
         assert table.column("delivered") == [5, 3, 3, 3, 1, 1, 0, 0]
-        assert table[1] == {"cycle": 1, "taken": 0, "delivered": 3, "referred": 0, "standing": 8, "full": 0, "asking": 0}
+        assert table[1] == dict(zip(table.columns, [1, 0, 3, 0, 8, 0, 0]))
         assert machine.cycles == 0
 
 
@@ -41,7 +41,8 @@ def test_a_study_by_messages_and_a_route():
 
 def test_a_curve_of_loads(tmp_path):
     table = load_curve(8, 7, [0.5, 1], 400)
-    assert table.csv.splitlines()[1:] == ["0.50,51084,51084,51010,0.498,1.40,2,5,0", "1.00,102128,102127,101868,0.994,1.89,3,6,1"]
+    assert table.csv.splitlines()[1:] == ["0.50,51084,51084,51010,0.498,1.40,2,5,0",
+                                          "1.00,102128,102127,101868,0.994,1.89,3,6,1"]
     assert table.column("mean") == [1.4, 1.89]
     table.save(tmp_path / "table.csv")
     table.plot().save(tmp_path / "table.svg")

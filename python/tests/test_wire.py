@@ -63,7 +63,7 @@ def test_a_line_that_waited_is_told_with_the_next_question(four):
 
 def test_names_in_lines_that_did_not_go_out_are_told_again(four):
     x = four.field(8)
-    with pytest.raises(Refused):                        # more than one piece; the refusal is in the first, the name in the last
+    with pytest.raises(Refused):                        # two pieces: the refusal is in the first, the name in the other
         four.lines.tell("jump", *["poke 0 0 0 0"] * 6000, f"field f{x.at}_8 {x.at} 8")
     x[:] = 5
     assert x[0, 0] == 5
@@ -105,7 +105,8 @@ def test_images(four, tmp_path):
     four.save(tmp_path / "a.image")
     with Machine.load(tmp_path / "a.image") as again:
         assert again.field(16, at=x.at).list() == list(range(256)) and again.cycles == 3
-        assert (again.dims, again.room, again.rule, again.chips, again.size, again.shape) == (4, 7, 0, 16, 256, (16, 16))
+        assert (again.dims, again.room, again.rule) == (4, 7, 0)
+        assert (again.chips, again.size, again.shape) == (16, 256, (16, 16))
         assert again.image() == (tmp_path / "a.image").read_bytes()
     assert os.listdir(tmp_path) == ["a.image"]
 
