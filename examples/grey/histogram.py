@@ -3,10 +3,9 @@ counts its grey: for grey g that is processor 0 of chip 16 * g.
 """
 import sys
 
-sys.path.insert(0, "..")
-import front
+from linthofer import Machine
 
-with front.Machine(*sys.argv[1:3]) as machine:
+with Machine.load(sys.argv[1]) as machine:
     machine.ask("""
         field dot 0 8                                       ; put there before, and one's own number at 80
         field count 96 16
@@ -35,9 +34,9 @@ with front.Machine(*sys.argv[1:3]) as machine:
             clear 14""")
         quiet = 0 if machine.wire() else quiet + 1
     print(cycles, "petit cycles", file=sys.stderr)
-    counts = machine.ask("\n".join(f"field {16 * grey} 0 96 16" for grey in range(256)))
-numbers = [int(count.removeprefix("field ")) for count in counts]
-for grey, number in enumerate(numbers):
-    print(grey, number)
-if sum(numbers) != 65536:
-    sys.exit(f"{sum(numbers)} of 65536 were counted: has each processor its own number at 80?")
+    counts = machine.numbers(96, 16)[::256]                 # those of the processors 0 of every sixteenth chip
+    machine.save(sys.argv[2])
+for grey, count in enumerate(counts):
+    print(grey, count)
+if sum(counts) != 65536:
+    sys.exit(f"{sum(counts)} of 65536 were counted: has each processor its own number at 80?")

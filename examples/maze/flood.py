@@ -3,8 +3,7 @@ that it is in the south-east; then the way is marked back from there.
 """
 import sys
 
-sys.path.insert(0, "..")
-import front
+from linthofer import Machine
 
 WAYS = {"n": 4, "e": 5, "s": 6, "w": 7}                     # where each keeps that the water came in this direction
 BACK = {"n": "s", "e": "w", "s": "n", "w": "e"}
@@ -36,7 +35,7 @@ back += """
     nano 9 8 8 8 8 0 0xfc 0x00 n                            ; way := way or mark
     nano 8 8 8 9 8 0 0xf0 0xf0 n                            ; GLOBAL := mark"""
 
-with front.Machine(*sys.argv[1:3]) as machine:
+with Machine.load(sys.argv[1]) as machine:
     machine.ask(f"""
         field wall 0 1                                      ; painted before
         field wet 1 1                                       ; walls too
@@ -74,3 +73,4 @@ with front.Machine(*sys.argv[1:3]) as machine:
         const shade 3
         nano 0 0 8 0 8 0 0xf0 0xf0 n
         const shade 0""")
+    machine.save(sys.argv[2])

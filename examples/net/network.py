@@ -3,8 +3,7 @@ into a processor of its own, and answers questions by marks that go along the st
 """
 import sys
 
-sys.path.insert(0, "..")
-import front
+from linthofer import Machine
 
 statements = [line.split() for line in open(sys.argv[1])]
 things = sorted({thing for subject, _, object in statements for thing in (subject, object)})
@@ -81,7 +80,7 @@ def answer(machine, words):
     return [thing for thing, it in zip(things, told) if it == "field 1"]
 
 
-with front.Machine(*sys.argv[3:]) as machine:
+with Machine.load(sys.argv[3]) as machine:
     machine.ask("\n".join(f"field {name} {at} {length}" for name, (at, length) in FIELDS.items()))
     for name, (at, length) in FIELDS.items():
         if length == 8:
@@ -91,3 +90,4 @@ with front.Machine(*sys.argv[3:]) as machine:
                               for name, value in record.items() for bit in range(FIELDS[name][1])))
     for line in open(sys.argv[2]):
         print(line.strip() + ":", *answer(machine, line.split()))
+    machine.save(sys.argv[4])

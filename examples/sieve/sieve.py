@@ -3,11 +3,10 @@ wire, and has its multiples struck out; then the next.
 """
 import sys
 
-sys.path.insert(0, "..")
-import front
+from linthofer import Machine
 
 BITS = 17                                       # of a number
-with front.Machine(*sys.argv[1:3]) as machine:
+with Machine.load(sys.argv[1]) as machine:
     machine.ask(f"""
         field number 0 {BITS}                   ; put there before
         field rest   {BITS} {BITS}
@@ -41,3 +40,4 @@ with front.Machine(*sys.argv[1:3]) as machine:
                 always""")
         machine.ask("equal rest zero\nif 7\nclear 2\nalways")           # itself and its multiples
     machine.ask("if 2\nconst prime 1\nalways")                          # what nothing up to 256 divides is prime
+    machine.save(sys.argv[2])

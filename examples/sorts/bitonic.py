@@ -3,10 +3,9 @@ one whose number differs in one bit, which comes by a message.
 """
 import sys
 
-sys.path.insert(0, "..")
-import front
+from linthofer import Machine
 
-with front.Machine(*sys.argv[1:3]) as machine:
+with Machine.load(sys.argv[1]) as machine:
     machine.ask("""
         field number 0 13                                       ; put there before; bit 12 is 0
         field place 0 4
@@ -35,4 +34,5 @@ with front.Machine(*sys.argv[1:3]) as machine:
                 move key came
                 always
                 clear 14""")
+    machine.save(sys.argv[2])
     print(steps, "steps", cycles, "petit cycles")

@@ -1,0 +1,198 @@
+"""What the laboratory tells, as values that a notebook shows: tables, routes, pictures (docs/LABORATORY.md)."""
+from __future__ import annotations
+
+import base64
+import html
+import os
+import tempfile
+from types import TracebackType
+from typing import Any, Dict, Iterable, List, Optional, Sequence, Type, Union
+
+from .refusals import Failed
+from .wire import command
+
+MOST_LINES_SHOWN = 30       # of a table in a notebook
+LEAST_WIDTH_SHOWN = 256     # of a picture in a notebook, in dots of the screen
+
+Number = Union[int, float, None]
+
+
+class Svg:
+    """A picture made of lines, which a notebook and a browser show; `text` is its SVG."""
+
+    def __init__(self, text: str) -> None:
+        self.text = text
+
+    def save(self, path: Union[str, "os.PathLike[str]"]) -> None:
+        with open(path, "w", encoding="utf-8") as file:
+            file.write(self.text)
+
+    def _repr_svg_(self) -> str:
+        return self.text
+
+
+class Picture:
+    """A picture with a dot for each processor or chip, as `cm1lab picture --png` makes it; `png` are its bytes."""
+
+    def __init__(self, png: bytes) -> None:
+        self.png = png
+        self.width = int.from_bytes(png[16:20], "big")      # both stand at the head of each PNG
+        self.height = int.from_bytes(png[20:24], "big")
+
+    def save(self, path: Union[str, "os.PathLike[str]"]) -> None:
+        with open(path, "wb") as file:
+            file.write(self.png)
+
+    def _repr_png_(self) -> bytes:
+        return self.png
+
+    def _repr_html_(self) -> str:
+        """The same, large enough to be looked at: each dot becomes a square."""
+        scale = max(1, LEAST_WIDTH_SHOWN // self.width)
+        data = base64.b64encode(self.png).decode()
+        return (f'<img src="data:image/png;base64,{data}" width="{scale * self.width}" height="{scale * self.height}" '
+                f'alt="{self.width} by {self.height} dots" style="image-rendering: pixelated">')
+
+
+class Table(List[Dict[str, Number]]):
+    """A table of `cm1lab study` or `cm1lab load`: a list with a dict for each line, by the names of the columns.
+
+    A number with a point is a float, an empty cell is None. `csv` is the table as it was told, `columns` has the
+    names.
+    """
+
+    def __init__(self, csv: str) -> None:
+        head, *lines = csv.splitlines()
+        self.csv = csv
+        self.columns = head.split(",")
+        super().__init__(dict(zip(self.columns, map(_number, line.split(",")))) for line in lines)
+
+    def column(self, name: str) -> List[Number]:
+        """The numbers of one column; KeyError where there is none of this name."""
+        if name not in self.columns:
+            raise KeyError(f"no column {name}; there are {', '.join(self.columns)}")
+        return [record[name] for record in self]
+
+    def pandas(self) -> Any:
+        """The same as a pandas.DataFrame, where pandas is installed."""
+        import pandas
+        return pandas.DataFrame(list(self), columns=self.columns)
+
+    def plot(self) -> Svg:
+        """The picture that `cm1lab plot` makes of it; `Failed` where there is nothing to be drawn."""
+        return plot_of(self.csv)
+
+    def save(self, path: Union[str, "os.PathLike[str]"]) -> None:
+        """Writes the table into a file, as CSV."""
+        with open(path, "w", encoding="utf-8") as file:
+            file.write(self.csv)
+
+    def _repr_html_(self) -> str:
+        shown = [["" if it is None else it for it in record.values()] for record in self[:MOST_LINES_SHOWN]]
+        rows = [_html_row("th", self.columns), *(_html_row("td", cells) for cells in shown)]
+        more = f"<p>{len(self)} lines, of which these are the first</p>" if len(self) > MOST_LINES_SHOWN else ""
+        return f"<table>{''.join(rows)}</table>{more}{_picture_if_any(self.csv)}"
+
+
+class Route(List[str]):
+    """The way of one message as `cm1lab route` tells it: a list of its lines; `text` has them all."""
+
+    def __init__(self, text: str) -> None:
+        self.text = text
+        super().__init__(text.splitlines())
+
+    def chips(self) -> List[int]:
+        """The chips on its way, in the order in which it comes there."""
+        way: List[int] = []
+        for line in self:
+            if line.startswith("cycle"):
+                chips, _, _ = line.partition(": ")[2].partition(",")
+                for chip in map(int, chips.split(" -> ")):
+                    if not way or way[-1] != chip:
+                        way.append(chip)
+        return way
+
+    def plot(self) -> Svg:
+        """The picture that `cm1lab plot` makes of it."""
+        return plot_of(self.text)
+
+    def __str__(self) -> str:
+        return self.text
+
+    def _repr_html_(self) -> str:
+        return f"<pre>{html.escape(self.text)}</pre>{_picture_if_any(self.text)}"
+
+
+class TextFile:
+    """A text, or bytes, as a file that is there while a command reads it: `with TextFile(text) as path`.
+
+    A command tells faults with the path; here they are told with `name` in its place.
+    """
+
+    def __init__(self, content: Union[str, bytes], name: str = "the text") -> None:
+        self.name = name
+        descriptor, self.path = tempfile.mkstemp(prefix="linthofer-")
+        with os.fdopen(descriptor, "wb") as file:
+            file.write(content.encode() if isinstance(content, str) else content)
+
+    def __enter__(self) -> str:
+        return self.path
+
+    def __exit__(self, kind: Optional[Type[BaseException]], fault: Optional[BaseException],
+                 trace: Optional[TracebackType]) -> None:
+        os.unlink(self.path)
+        if isinstance(fault, Failed):
+            raise Failed(fault.told.replace(self.path, self.name), fault.status) from None
+
+
+def expand(source: str) -> str:
+    """The program of a source, with the number of the source's line behind each of its lines (`cm1lab expand`)."""
+    with TextFile(source, "the source") as path:
+        return command("cm1lab", "expand", path).decode()
+
+
+def acts_of(program: str) -> List[str]:
+    """The acts of a program, each as a line that names no field (`cm1 list`)."""
+    with TextFile(program, "the program") as path:
+        listing = command("cm1", "list", path).decode()
+    return [line.partition(" ;")[0] for line in listing.splitlines() if not line.startswith("field ")]
+
+
+def load_curve(dims: int, room: int, rates: Sequence[float], cycles: int, *, rule: int = 0, pattern: str = "uniform",
+               until: Optional[int] = None, seed: int = 1) -> Table:
+    """How the routers of a blank machine bear loads: a record for each rate (`cm1lab load`).
+
+    `dims` is 0 to 12, `room` 1 to 15; `rates`, the messages that a chip offers in a petit cycle, are 0 to 16 with at
+    most two digits behind the point; `cycles`, how many petit cycles each load has, is 1 to 1,000,000. `pattern` is
+    "uniform", "hotspot", "transpose" or "reversal"; messages are offered in the first `until` petit cycles alone, if
+    that is given. Columns: rate, offered, taken, delivered, throughput, mean, p95, greatest, deepest
+    (docs/LABORATORY.md, "Loads").
+    """
+    told_rates = ",".join(f"{rate:g}" for rate in rates)
+    words: List[object] = [dims, room, told_rates, cycles, "--rule", rule, "--pattern", pattern, "--seed", seed]
+    if until is not None:
+        words += ["--until", until]
+    return Table(command("cm1lab", "load", *words).decode())
+
+
+def plot_of(text: str) -> Svg:
+    """The picture that `cm1lab plot` makes of a table or a route; of a table of one's own, too."""
+    return Svg(command("cm1lab", "plot", given=text.encode()).decode())
+
+
+def _picture_if_any(text: str) -> str:
+    """The picture, or nothing where there is nothing to be drawn: a notebook shows the rest all the same."""
+    try:
+        return plot_of(text).text
+    except Failed:
+        return ""
+
+
+def _html_row(tag: str, cells: Iterable[object]) -> str:
+    return "<tr>" + "".join(f"<{tag}>{html.escape(str(cell))}</{tag}>" for cell in cells) + "</tr>"
+
+
+def _number(word: str) -> Number:
+    if not word:
+        return None
+    return float(word) if "." in word else int(word)
