@@ -1,8 +1,8 @@
-"""The front panel: `python3 -m linthofer.panel IMAGE [SOURCE]` serves one page on the loopback interface (docs/PANEL.md).
+"""The front panel: `python3 -m linthofer.panel IMAGE [SOURCE]` serves one page on the loopback interface.
 
-The page has no data. All that it shows comes by `POST /do`, which asks for a token. The token stands in the fragment of the
-address that is printed, so it is in no request line, log or Referer. Host and Origin have to be this server's own: so no other
-page of the browser gets an answer, nor a name that is made to lead here.
+The page has no data. All that it shows comes by `POST /do`, which asks for a token. The token stands in the fragment of
+the address that is printed, so it is in no request line, log or Referer. Host and Origin have to be this server's own:
+so no other page of the browser gets an answer, nor a name that is made to lead here. docs/PANEL.md has what to type.
 """
 from __future__ import annotations
 
@@ -10,6 +10,7 @@ import argparse
 import hmac
 import http.server
 import json
+import re
 import secrets
 import sys
 import threading
@@ -17,11 +18,10 @@ from typing import Any, Callable, Dict
 
 from .recording import page, policy
 from .refusals import Fault
-from .stepping import JsonObject, Layer, PROCESSORS, Stepping, number
+from .stepping import PROCESSORS, JsonObject, Layer, Stepping, number, number_of
 
 LOOPBACK = "127.0.0.1"
 LONGEST_BODY = 65_536                   # bytes of a request
-LATEST_BIRTH = 2**63
 
 
 # ---- what the page may ask for
@@ -62,8 +62,10 @@ class Session:
 
     def _begin(self, asked: JsonObject) -> JsonObject:
         stepping, machine = self.stepping, self.stepping.machine
-        fields = [{"name": name, "address": int(at, 0), "length": int(length, 0)} for _, name, at, length in stepping.fields]
-        return {"title": stepping.title, "source": stepping.source, "fields": fields, "room": machine.room, "rule": machine.rule}
+        fields = [{"name": name, "address": number_of(at), "length": number_of(length)}
+                  for _, name, at, length in stepping.fields]
+        return {"title": stepping.title, "source": stepping.source, "fields": fields,
+                "room": machine.room, "rule": machine.rule}
 
     def _run(self, asked: JsonObject) -> JsonObject:
         return {"stopped": self.stepping.run()}
@@ -83,11 +85,12 @@ class Session:
         return {"answer": self.stepping.ask(line)}
 
     def _way(self, asked: JsonObject) -> JsonObject:
+        chip = number(asked, "chip", self.stepping.machine.chips)
+        processor = number(asked, "processor", PROCESSORS)
         birth = asked.get("birth")
-        if not (isinstance(birth, str) and birth.isascii() and birth.isdigit() and len(birth) < 20 and int(birth) < LATEST_BIRTH):
+        if not (isinstance(birth, str) and re.fullmatch("[0-9]{1,19}", birth)):
             raise Fault("a birth is the number of a petit cycle")
-        way = self.stepping.way(number(asked, "chip", self.stepping.machine.chips), number(asked, "processor", PROCESSORS),
-                                int(birth))
+        way = self.stepping.way(chip, processor, int(birth))
         return {"way": list(way), "chips": way.chips()}
 
 
@@ -105,6 +108,16 @@ class Server(http.server.ThreadingHTTPServer):
         self.token = secrets.token_urlsafe(16)          # 128 bits
         self.lock = threading.Lock()                    # one request after another
         self.hosts = {f"{name}:{self.server_port}" for name in (LOOPBACK, "localhost")}
+
+    def handle_error(self, request: Any, client_address: Any) -> None:
+        """A browser that went away in the middle of an answer is no fault."""
+        if not isinstance(sys.exc_info()[1], ConnectionError):
+            super().handle_error(request, client_address)
+
+    def end(self) -> None:
+        """Ends the machine, behind the request that it works on."""
+        with self.lock:
+            self.session.stepping.close()
 
     @property
     def address(self) -> str:
@@ -193,9 +206,10 @@ class Handler(http.server.BaseHTTPRequestHandler):
 
 def main() -> None:
     """Prints one address, and serves it until Ctrl-C."""
-    parser = argparse.ArgumentParser(prog="python3 -m linthofer.panel", description="The lamps of a machine in a browser.")
+    parser = argparse.ArgumentParser(prog="python3 -m linthofer.panel",
+                                     description="Shows the lamps of a machine in a browser.")
     parser.add_argument("image", metavar="IMAGE", help="an image, as cm1 fresh makes one; it stays as it is")
-    parser.add_argument("source", metavar="SOURCE", nargs="?", help="a program or a source (docs/LABORATORY.md) to step through")
+    parser.add_argument("source", metavar="SOURCE", nargs="?", help="a program or a source, to step through")
     parser.add_argument("--port", metavar="P", type=int, default=0, help="the port; a free one where none is given")
     given = parser.parse_args()
     try:
@@ -203,15 +217,18 @@ def main() -> None:
     except (Fault, OSError) as fault:
         sys.exit(f"panel: {fault}")
     try:
-        with Server(Session(stepping), given.port) as server:
-            print(server.address, flush=True)
-            server.serve_forever()
+        server = Server(Session(stepping), given.port)
+    except (OSError, OverflowError) as fault:
+        stepping.close()
+        sys.exit(f"panel: port {given.port}: {fault}")
+    try:
+        print(server.address, flush=True)
+        server.serve_forever()
     except KeyboardInterrupt:
         pass
-    except (OSError, OverflowError) as fault:
-        sys.exit(f"panel: port {given.port}: {fault}")
     finally:
-        stepping.close()
+        server.server_close()
+        server.end()
 
 
 if __name__ == "__main__":

@@ -1,4 +1,7 @@
-"""A run as one HTML file, which needs no server and no network: `Recording` (docs/PANEL.md). The page of the panel is the same."""
+"""A run as one HTML file, which needs no server and no network: `Recording` (docs/PANEL.md).
+
+The page is that of the panel.
+"""
 from __future__ import annotations
 
 import base64
@@ -39,7 +42,7 @@ def page(nonce: str) -> str:
 
 
 def page_of_recording(recording: Dict[str, Any]) -> str:
-    """The page with a recording in it. It may run its own script and no other, known by its hash, and connects to nothing."""
+    """The page with a recording in it. It may run its own script alone, known by its hash, and connects to nothing."""
     text = PAGE.read_text(encoding="utf-8").replace(' nonce="__NONCE__"', "")
     hashes = {tag: _hash(text, tag) for tag in ("style", "script")}
     content = html.escape(POLICY.format(connect="'none'", **hashes))
@@ -95,14 +98,15 @@ class Recording:
             layer, what = "flag", " ".join(["flag", str(shown), FLAG_NAMES.get(shown, "")]).strip()
         else:
             raise ValueError("a picture shows a field, a flag by its number from 0 to 15, or \"buffers\"")
-        self.frames.append({"caption": caption, "clock": self.machine.cycles, "layer": layer, "what": what, "most": most,
-                            "lamps": packed(lamps, 9)})
+        self.frames.append({"caption": caption, "clock": self.machine.cycles, "layer": layer, "what": what,
+                            "most": most, "lamps": packed(lamps, 9)})
 
     def html(self) -> str:
         """The recording as a page. The same recording has the same bytes."""
         if not self.frames:
             raise ValueError("nothing was taken")
-        return page_of_recording({"title": self.title, "note": self.note, "dims": self.machine.dims, "frames": self.frames})
+        return page_of_recording({"title": self.title, "note": self.note, "dims": self.machine.dims,
+                                  "frames": self.frames})
 
     def save(self, path: str) -> None:
         """Writes the page into a file."""
@@ -110,5 +114,6 @@ class Recording:
 
     def _repr_html_(self) -> str:
         """A notebook shows the page in a frame of its own, in which its script can reach nothing of the notebook."""
-        return (f'<iframe title="{html.escape(self.title)}" srcdoc="{html.escape(self.html())}" sandbox="allow-scripts" '
+        title, page_text = html.escape(self.title), html.escape(self.html())
+        return (f'<iframe title="{title}" srcdoc="{page_text}" sandbox="allow-scripts" '
                 'style="width:100%;height:52rem;border:0"></iframe>')

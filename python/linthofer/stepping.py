@@ -1,7 +1,7 @@
 """A machine and a source that are stepped act by act, forward and back: what the page of the panel asks for.
 
-Nothing here computes what the machine does. The source becomes a program by `cm1lab expand`, the program becomes acts by
-`cm1 list`, and the acts go to one `cm1lab front`, line by line.
+Nothing here computes what the machine does. The source becomes a program by `cm1lab expand`, the program becomes acts
+by `cm1 list`, and the acts go to one `cm1lab front`, line by line.
 """
 from __future__ import annotations
 
@@ -52,16 +52,21 @@ class Layer(NamedTuple):
     @classmethod
     def asked(cls, given: object) -> Layer:
         """The layer that a request names. A field that would end behind the last memory bit is cut there."""
-        words = given if isinstance(given, dict) else {}
-        what = words.get("what", "field")
+        layer = given if isinstance(given, dict) else {}
+        what = layer.get("what", "field")
         if what not in ("field", "flag", "buffers"):
             raise Fault("the lamps show a field, a flag or buffers")
-        address = number(words, "address", FLAGS if what == "flag" else MEMORY_BITS, 0)
-        length = number(words, "length", LONGEST_FIELD + 1, 1)
+        address = number(layer, "address", FLAGS if what == "flag" else MEMORY_BITS, 0)
+        length = number(layer, "length", LONGEST_FIELD + 1, 1)
         return cls(what, address, max(1, min(length, MEMORY_BITS - address)))
 
 
 # ---- the acts of a source
+
+
+def number_of(word: str) -> int:
+    """The number of a word of a program that was accepted: decimal, or hexadecimal behind `0x`."""
+    return int(word[2:], 16) if word.startswith("0x") else int(word)
 
 
 class Act(NamedTuple):
@@ -86,8 +91,8 @@ def has_acts(line: str) -> bool:
 def acts_of_lines(lines: Sequence[str]) -> List[List[str]]:
     """The acts of each line of a program.
 
-    A copy of the program has a look at the wire behind each line that has acts. These looks cut the listing of the copy into
-    the acts of its lines. A copy that has too many acts is listed in two parts.
+    A copy of the program has a look at the wire behind each line that has acts. These looks cut the listing of the copy
+    into the acts of its lines. A copy that has too many acts is listed in two parts.
     """
     marked = [line + ("\nsense" if has_acts(line) else "") for line in map(" ".join, map(words_of, lines))]
     try:
@@ -119,9 +124,10 @@ def acts_of_parts(lines: Sequence[str]) -> List[List[str]]:
 
 
 def acts_by_source(source: Sequence[str], program: Sequence[str]) -> List[Act]:
-    """The acts of the program that a source was expanded to. Each line of it has the number of the source's line as a comment.
+    """The acts of the program that a source was expanded to.
 
-    Lines that a phrase became are one step: they are instructions, and the source's line is none.
+    Each line of the program has the number of the source's line as a comment. Lines that a phrase became are one step:
+    they are instructions, and the source's line is none.
     """
     acts: List[Act] = []
     step, before = 0, -1
@@ -158,10 +164,10 @@ class Stepping:
     """
 
     def __init__(self, image: str, source: Optional[str] = None):
-        """Begins with the machine of the file `image`, which stays as it is, before the first act of the file `source`."""
+        """Begins with the machine of the file `image`, before the first act of the file `source`. Both stay as is."""
         self._folder = tempfile.TemporaryDirectory(prefix="linthofer-panel-")
         self._first_image = str(Path(self._folder.name, "first.image"))
-        shutil.copyfile(image, self._first_image)
+        shutil.copyfile(image, self._first_image)       # so that the way back does not change with the file
         self.title = Path(source or image).name
         self.source = Path(source).read_text(errors="replace").splitlines() if source else []
         program = command("cm1lab", "expand", source).decode().splitlines() if source else []
@@ -169,7 +175,7 @@ class Stepping:
         self.acts = acts_by_source(self.source, program)
         self.breakpoints: set[int] = set()
         self.chip = 0
-        self.machine = Machine.load(self._first_image)
+        self.machine = Machine.load(image)
         self._begin()
 
     def close(self) -> None:
@@ -195,7 +201,7 @@ class Stepping:
     # ---- forward and back
 
     def _advance(self, count: int) -> None:
-        """Runs so many acts, or those that are left. One that is refused leaves the machine as it was before all of them."""
+        """Runs so many acts, or those that are left. Where one is refused the machine is as it was before them."""
         acts = self.acts[self.position:self.position + count]
         try:
             self.machine.ask("\n".join(act.text for act in acts))
@@ -205,8 +211,10 @@ class Stepping:
         self.position += len(acts)
 
     def _run_until(self, is_end: Callable[[int], bool]) -> bool:
-        """Runs at least one act and goes on to the first position that is an end, or for a while; whether it came to an end
-        or to the program's."""
+        """Runs at least one act, and on to the first position that is an end, or for a while.
+
+        It is true where it came to an end, or to the program's.
+        """
         end = self.position + 1
         while end < len(self.acts) and not is_end(end) and end - self.position < ACTS_AT_ONCE:
             end += 1
@@ -243,7 +251,7 @@ class Stepping:
 
     def run(self) -> bool:
         """Runs to the next breakpoint; whether it came there, or to the program's end."""
-        return self._run_until(lambda position: self.acts[position].line in self.breakpoints and self.is_start(position))
+        return self._run_until(lambda at: self.acts[at].line in self.breakpoints and self.is_start(at))
 
     def step_back(self) -> None:
         """Goes back by one act."""
@@ -262,7 +270,7 @@ class Stepping:
     # ---- lines that are typed
 
     def ask(self, text: str) -> str:
-        """Sends one line, and tells its answer. A line `if F`, `unless F` or `always` holds for those that are typed later."""
+        """Sends one line, and tells its answer. `if F`, `unless F` and `always` hold for lines that are typed later."""
         line = " ".join(words_of(text))
         if len(line) > LONGEST_LINE or not (line.isascii() and line.isprintable()):
             raise Fault(f"a line has at most {LONGEST_LINE} printable ASCII characters")
@@ -284,8 +292,10 @@ class Stepping:
     # ---- what the page shows
 
     def way(self, chip: int, processor: int, birth: int) -> Route:
-        """The way of the message with this tag, by `cm1lab route` over all acts that were done; after a poke, which no program
-        has, from there on."""
+        """The way of the message with this tag, by `cm1lab route` over all acts that were done.
+
+        After a poke, which no program has, it is told from there on.
+        """
         acts_before, typed_before = self._poked_at
         done = list(map(" ".join, self.fields)) if self._poked is None else []
         for position in range(acts_before, self.position + 1):
@@ -315,16 +325,18 @@ class Stepping:
         is_end = self.position >= len(self.acts)
         machine = self.machine
         return {**self.lamps(layer), "dims": machine.dims, "clock": machine.cycles, "wire": int(machine.wire()),
-                "standing": machine.standing(), "asking": machine.asking(), "position": self.position, "acts": len(self.acts),
+                "standing": machine.standing(), "asking": machine.asking(),
+                "position": self.position, "acts": len(self.acts),
                 "next": "" if is_end else self.acts[self.position].text,
                 "line": -1 if is_end else self.acts[self.position].line,
                 "breakpoints": sorted(self.breakpoints), "context": self.context, "chip": self._chip(layer)}
 
     def _chip(self, layer: Layer) -> JsonObject:
-        """The chip that is looked at: number and flags of each of its processors, and its router from the front of the buffer."""
+        """The chip that is looked at: number and flags of each processor, and the messages in its router."""
         field = layer if layer.what == "field" else Layer("field", 0, 1)
-        questions = [f"field {self.chip} {processor} {field.address} {field.length}" for processor in range(PROCESSORS)]
-        questions += [f"flag {self.chip} {processor} {flag}" for processor in range(PROCESSORS) for flag in range(FLAGS)]
+        places = [f"{self.chip} {processor}" for processor in range(PROCESSORS)]
+        questions = [f"field {place} {field.address} {field.length}" for place in places]
+        questions += [f"flag {place} {flag}" for place in places for flag in range(FLAGS)]
         told = [it.split()[1] for it in self.machine.ask("\n".join(questions))]
         flags = list(map(int, told[PROCESSORS:]))
         return {"chip": self.chip, "address": field.address, "length": field.length,

@@ -32,8 +32,8 @@ cycle
 @pytest.fixture(scope="module")
 def browser():
     options = webdriver.ChromeOptions()
-    for word in ("--headless=new", "--no-sandbox", "--disable-gpu", "--disable-dev-shm-usage", "--window-size=1400,1300"):
-        options.add_argument(word)
+    for word in ("headless=new", "no-sandbox", "disable-gpu", "disable-dev-shm-usage", "window-size=1400,1300"):
+        options.add_argument(f"--{word}")
     options.set_capability("goog:loggingPrefs", {"browser": "ALL"})
     driver = webdriver.Chrome(service=webdriver.chrome.service.Service(shutil.which("chromedriver")), options=options)
     yield driver
@@ -66,6 +66,10 @@ class Page:
                 return
             self.keys(Keys.TAB)
         raise AssertionError(f"the tabulator does not come to {name}")
+
+    def next_line(self):
+        """The words of the source's line that comes next."""
+        return self.browser.find_element(By.CSS_SELECTOR, "#program [aria-current]").text.split()[1:]
 
     def has_no_complaint(self):
         return [it for it in self.browser.get_log("browser") if it["level"] == "SEVERE"] == []
@@ -102,7 +106,7 @@ def test_the_keyboard_alone_is_enough(browser, open_panel):
     page.keys("a")
     page.sees_text("position", "before act 1 of")
     page.keys("l")
-    page.sees(lambda: browser.find_element(By.CSS_SELECTOR, "#program [aria-current]").text.split()[1:] == ["set", "12"])
+    page.sees(lambda: page.next_line() == ["set", "12"])
     page.keys("c")
     page.sees(lambda: page.text("clock") == "1")
     page.tabs_to("lamps")
@@ -137,13 +141,10 @@ def test_a_breakpoint_stops_a_run_and_back_goes_back(browser, open_panel):
     line = browser.find_elements(By.CSS_SELECTOR, "#program button")[7]
     line.send_keys(Keys.ENTER)
     page.sees(lambda: line.get_attribute("aria-pressed") == "true")
-
-    def next_line():
-        return browser.find_element(By.CSS_SELECTOR, "#program [aria-current]").text.split()[1:]
     page.keys("r")
-    page.sees(lambda: next_line() == ["clear", "14"])
+    page.sees(lambda: page.next_line() == ["clear", "14"])
     page.keys("b")
-    page.sees(lambda: next_line() == ["sense"])
+    page.sees(lambda: page.next_line() == ["sense"])
     page.keys("0")
     page.sees_text("position", "before act 0 of")
     assert page.has_no_complaint()
@@ -162,14 +163,15 @@ def test_keys_can_be_turned_off(browser, open_panel):
 def test_another_page_of_the_same_browser_gets_no_answer(browser, open_panel):
     _, server = open_panel(0, PROGRAM)
     browser.get("data:text/html,another page")
-    told = browser.execute_async_script(
-        "fetch(arguments[0], {method: 'POST', headers: {'Content-Type': 'application/json', 'X-Linthofer-Token': arguments[1]},"
-        " body: '{}'}).then(() => arguments[2]('read'), () => arguments[2]('refused'))",
-        f"http://127.0.0.1:{server.server_port}/do", server.token)
+    told = browser.execute_async_script("""
+        const [address, token, done] = arguments;
+        const headers = {"Content-Type": "application/json", "X-Linthofer-Token": token};
+        fetch(address, {method: "POST", headers, body: "{}"}).then(() => done("read"), () => done("refused"));
+        """, f"http://127.0.0.1:{server.server_port}/do", server.token)
     assert told == "refused"
 
 
-def test_a_step_of_the_largest_machine_is_shown_soon(browser, open_panel, record_property):
+def test_a_step_of_the_largest_machine_is_shown_soon(browser, open_panel):
     page, server = open_panel(12, "set 9\nclear 9\n" * 12)
     bits = " ".join(str(place * 2_654_435_761 >> 20 & 1) for place in range(65_536))
     server.session.stepping.machine.ask(f"put 0 1 {bits}")
@@ -178,11 +180,10 @@ def test_a_step_of_the_largest_machine_is_shown_soon(browser, open_panel, record
         performance.clearMarks("shown");
         document.querySelector("#steps button").click();
         (function look() {
-            if (performance.getEntriesByName("shown").length) requestAnimationFrame(() => done(performance.now() - begin));
-            else setTimeout(look, 0);
+            const isShown = performance.getEntriesByName("shown").length;
+            if (isShown) requestAnimationFrame(() => done(performance.now() - begin)); else setTimeout(look, 0);
         })();""") for _ in range(11)]
     page.sees_text("position", "before act 11 of")
-    record_property("milliseconds", milliseconds)
     print("milliseconds from a key to the lamps:", *(f"{it:.0f}" for it in sorted(milliseconds)))
     assert statistics.median(milliseconds) < 400                  # 100 on a quiet computer; tests run on busy ones
 

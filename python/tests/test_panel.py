@@ -163,10 +163,11 @@ def session(begin):
 
 
 @pytest.mark.parametrize("asked", [
-    {}, {"do": "jump"}, {"do": ["act"]}, {"do": "chip", "chip": 4}, {"do": "chip", "chip": "0"}, {"do": "breakpoint", "line": True},
-    {"do": "look", "layer": {"address": -1}}, {"do": "look", "layer": {"what": "core"}}, {"do": "look", "layer": {"what": "flag", "address": 16}},
-    {"do": "ask", "line": 7}, {"do": "ask", "line": "jump"}, {"do": "way", "chip": 0, "processor": 0, "birth": 0},
-    {"do": "way", "chip": 0, "processor": 0, "birth": "9"}])
+    {}, {"do": "jump"}, {"do": ["act"]}, {"do": "chip", "chip": 4}, {"do": "chip", "chip": "0"},
+    {"do": "breakpoint", "line": True}, {"do": "look", "layer": {"address": -1}},
+    {"do": "look", "layer": {"what": "core"}}, {"do": "look", "layer": {"what": "flag", "address": 16}},
+    {"do": "ask", "line": 7}, {"do": "ask", "line": "jump"},
+    {"do": "way", "chip": 0, "processor": 0, "birth": 0}, {"do": "way", "chip": 0, "processor": 0, "birth": "9"}])
 def test_what_cannot_be_is_told(session, asked):
     assert session.do(asked)["fault"]
 
@@ -175,8 +176,9 @@ def test_a_refusal_comes_with_its_words(session):
     assert "? 16 Operands: an operand too few" in session.do({"do": "ask", "line": "add x"})["fault"]
 
 
-@pytest.mark.parametrize("layer, most", [({"what": "flag", "address": 9}, 1), ({"what": "buffers"}, 7), ({"address": 0, "length": 3}, 7),
-                                         ({"address": 0, "length": 64}, 255), ({"address": 4095, "length": 64}, 1)])
+@pytest.mark.parametrize("layer, most", [
+    ({"what": "flag", "address": 9}, 1), ({"what": "buffers"}, 7), ({"address": 0, "length": 3}, 7),
+    ({"address": 0, "length": 64}, 255), ({"address": 4095, "length": 64}, 1)])
 def test_lamps_have_a_byte_each(session, layer, most):
     assert session.do({"do": "look", "layer": layer})["state"]["most"] == most
 
@@ -198,9 +200,9 @@ def status(server):
     def of(body=b'{"do": "look"}', path="/do", method=None, **headers):
         given = {"Content-Type": "application/json", "X-Linthofer-Token": server.token,
                  **{name.replace("_", "-"): it for name, it in headers.items()}}
+        address = f"http://127.0.0.1:{server.server_port}{path}"
         try:
-            return urllib.request.urlopen(urllib.request.Request(f"http://127.0.0.1:{server.server_port}{path}", body, given,
-                                                                 method=method)).status
+            return urllib.request.urlopen(urllib.request.Request(address, body, given, method=method)).status
         except urllib.error.HTTPError as fault:
             return fault.code
     return of
