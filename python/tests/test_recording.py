@@ -3,11 +3,15 @@ import base64
 import json
 import re
 import zlib
+from pathlib import Path
 
 import pytest
 
 from linthofer import Machine
 from linthofer.recording import Recording
+
+
+DOCUMENT = Path(__file__).parents[2] / "docs" / "PANEL.md"
 
 
 @pytest.fixture
@@ -62,3 +66,11 @@ def test_a_recording_of_nothing_is_refused(film):
 def test_a_notebook_shows_it_in_a_frame_of_its_own(film):
     film.take(0)
     assert film._repr_html_().startswith("<iframe") and 'sandbox="allow-scripts"' in film._repr_html_()
+
+
+def test_the_program_of_the_document_makes_a_recording(tmp_path, monkeypatch):
+    monkeypatch.chdir(tmp_path)
+    program = re.search(r"^```python\n(.*?)^```$", DOCUMENT.read_text(), re.M | re.S)[1]
+    exec(compile(program.replace("import Machine, Recording", "import Machine"), str(DOCUMENT), "exec"),
+         {"Recording": Recording})
+    assert (tmp_path / "life.html").read_text().count("generation ") > 30
