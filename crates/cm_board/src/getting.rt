@@ -4,8 +4,9 @@ ghost use Rattle.std.specs.Arc.{arc_value};
 ghost use Rattle.cm_board.specs.Courses.{HasMore, due_now, one_more, unused};
 ghost use Rattle.cm_board.specs.Rule.{receiver};
 
-use crate::table::{Clear, Draw, LaneSeat, LaneTable};
+use crate::table::{Draw, LaneSeat, LaneTable};
 use crate::waiting::await_word;
+use crate::waking::put_empty;
 use std::alloc::Global;
 use std::marker::Model;
 use std::sync::{Arc, Wait};
@@ -122,9 +123,7 @@ impl<T: Drop> Emptying<T> {
             uses,
         } = end;
         lane.shared.exchange(&mut seat, 0, Some(parcel));
-        lane.shared
-            .compare_exchange::<Clear>(&mut seat, 0, 4 * uses + 3, 4 * uses + 4);
-        lane.shared.wake_one(0);
+        put_empty(&lane, &mut seat, uses).wake();
         ToEnd {
             lane,
             seat,

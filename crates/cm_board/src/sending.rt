@@ -4,8 +4,9 @@ ghost use Rattle.std.specs.Arc.{arc_value};
 ghost use Rattle.cm_board.specs.Courses.{HasMore, due_now, one_more, unused};
 ghost use Rattle.cm_board.specs.Rule.{sender};
 
-use crate::table::{File, Grip, LaneSeat, LaneTable};
+use crate::table::{Grip, LaneSeat, LaneTable};
 use crate::waiting::await_word;
+use crate::waking::put_full;
 use std::alloc::Global;
 use std::marker::Model;
 use std::sync::{Arc, Wait};
@@ -122,9 +123,7 @@ impl<T: Drop> Filling<T> {
             uses,
         } = end;
         lane.shared.exchange(&mut seat, 0, Some(parcel));
-        lane.shared
-            .compare_exchange::<File>(&mut seat, 0, 4 * uses + 1, 4 * uses + 2);
-        lane.shared.wake_one(0);
+        put_full(&lane, &mut seat, uses).wake();
         FromEnd {
             lane,
             seat,

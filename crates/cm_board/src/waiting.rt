@@ -1,6 +1,7 @@
 //! How an end waits for the other.
 ghost use Rattle.std.specs.Prelude.{◌≡◌};
 
+use crate::found::Found;
 use crate::table::LaneTable;
 use std::sync::Wait;
 use std::thread::yield_now;
@@ -10,17 +11,17 @@ const LOOKS: u32 = 200;
 
 /// Waits for the other end to come to this word: looks a few times, and lets other threads run between two looks, then
 /// parks until the word changes. It may also return for no reason.
-pub(crate) fn await_word<T: Drop, R: Wait>(rt: &R, table: &LaneTable<T>, word: u64)
-    requires words { table.now.shared.table_id.words ≡ 1 }
+pub(crate) fn await_word<T: Drop, R: Wait>(rt: &R, lane: &LaneTable<T>, word: u64)
+    requires words { lane.now.shared.table_id.words ≡ 1 }
 {
     for _look in 0..LOOKS {
-        if table.shared.peek(0) == word {
+        if Found::at(lane).is(word) {
             return;
         }
         yield_now();
     }
-    let found = table.shared.peek(0);
-    if found != word {
-        table.shared.park(rt, 0, (found & 0xffff_ffff) as u32);
+    let found = Found::at(lane);
+    if !found.is(word) {
+        found.park(rt, lane);
     }
 }
