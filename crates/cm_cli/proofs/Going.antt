@@ -28,7 +28,7 @@ pub off_so : (from to : Start) (acts : List Act) (streams : Streams) (keeps : Bo
     (told : ProgramFault) → told ≡ of_session fault → Goes from to acts streams (Err fault)
     → IsSession from acts streams keeps (Err told)
 off_so from to acts streams keeps fault told same goes =
-    broken_off from acts streams keeps to.machine fault told same goes.ends goes.read goes.write
+    broken_off from acts streams keeps to.machine fault told same goes.ends goes.heard goes.read goes.write
 
 -- no thread is wanted where none was
 pub no_thread : {X : Type 0} (fault : SessionFault) (told : ProgramFault) → told ≡ of_session fault

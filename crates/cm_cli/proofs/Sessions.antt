@@ -26,20 +26,30 @@ pub ended_well : (start : Start) (acts : List Act) (streams : Streams) (keeps : 
     (kept : Result (Option (List ℕ)) ProgramFault)
     → IfSome streams.lines (λ lines. Ends start.n start.cap acts lines streams.rest start.machine streams.held after
     streams.holds (Ok tt))
-    → EndsForSome start.n start.cap acts start.machine streams.held after streams.holds (Ok tt)
+    → EndsForSome start.n start.cap acts streams.lines streams.rest start.machine streams.held after streams.holds (Ok tt)
     → ((streams.read_failed ≡ true) ↔ IsErrOf {T = Unit {0}} {E = SessionFault} (Ok tt) session.Read)
     → streams.write_failed ≡ false → KeepsImage start.n start.cap after keeps kept
     → IsSession start acts streams keeps kept
 ended_well start acts streams keeps after (Ok image) ends heard read write is = record {
   ends = lift_some streams.lines (λ lines h. record { after = after; ends = h; kept = is }) ends;
-  heard = record { lines = heard.text; run = record { after = after; ends = heard.ends; kept = is } };
+  heard = record {
+    lines = heard.text;
+    read = heard.read;
+    end = heard.end;
+    run = record { after = after; ends = heard.ends; kept = is };
+  };
   read = (λ failed. absurd (let wrong = read.0 failed in cc), λ e. absurd (cc));
   write = (λ failed. absurd (cc), λ e. absurd (cc));
 }
 ended_well start acts streams keeps after (Err fault) ends heard read write is = record {
   ends = lift_some streams.lines
       (λ lines h. record { after = after; result = Ok tt; ends = h; told = wants_memory keeps fault is.0 is.1 }) ends;
-  heard = tt;
+  heard = record {
+    lines = heard.text;
+    read = heard.read;
+    run = record { after = after; result = Ok tt; ends = heard.ends; told = wants_memory keeps fault is.0 is.1 };
+    end = heard.end;
+  };
   read = (λ failed. absurd (let wrong = read.0 failed in cc), λ e. absurd (let same = is.1 in cc));
   write = (λ failed. absurd (cc), λ e. absurd (let same = is.1 in cc));
 }
@@ -77,13 +87,20 @@ pub broken_off : (start : Start) (acts : List Act) (streams : Streams) (keeps : 
     (fault : SessionFault) (told : ProgramFault) → told ≡ of_session fault
     → IfSome streams.lines (λ lines. Ends start.n start.cap acts lines streams.rest start.machine streams.held after
     streams.holds (Err fault))
+    → EndsForSome start.n start.cap acts streams.lines streams.rest start.machine streams.held after streams.holds
+    (Err fault)
     → ((streams.read_failed ≡ true) ↔ IsErrOf {T = Unit {0}} (Err fault) session.Read)
     → streams.write_failed ≡ is_write (Err fault) → IsSession start acts streams keeps (Err told)
-broken_off start acts streams keeps after fault told same ends read write =
+broken_off start acts streams keeps after fault told same ends heard read write =
     subst (λ (f : ProgramFault). IsSession start acts streams keeps (Err f)) (sym same) (record {
       ends = lift_some streams.lines
           (λ lines h. record { after = after; result = Err fault; ends = h; told = own_fault keeps fault }) ends;
-      heard = tt;
+      heard = record {
+        lines = heard.text;
+        read = heard.read;
+        run = record { after = after; result = Err fault; ends = heard.ends; told = own_fault keeps fault };
+        end = tt;
+      };
       read = same_read _ fault read;
       write = same_write _ fault write;
     })

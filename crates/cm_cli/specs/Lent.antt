@@ -15,6 +15,7 @@ pub record Goes (from to : Start) (acts : List Act) (streams : Streams) (result 
   pub cap : to.cap ≡ from.cap
   pub ends : IfSome streams.lines (λ lines. Ends from.n from.cap acts lines streams.rest from.machine streams.held
       to.machine streams.holds result)
-  pub heard : EndsForSome from.n from.cap acts from.machine streams.held to.machine streams.holds result
+  pub heard : EndsForSome from.n from.cap acts streams.lines streams.rest from.machine streams.held to.machine
+      streams.holds result
   pub read : (streams.read_failed ≡ true) ↔ IsErrOf result session.Read
   pub write : streams.write_failed ≡ is_write result

@@ -1,5 +1,6 @@
 -- What `cm1 run` does with an image, a program and commands: one session on the machine of the image. Ours.
-use Rattle.std.specs.Prelude.{◌≡◌, ℕ, Bool, true, false, Option, Some, None, Result, Ok, Err, Vec, List, []}
+use Rattle.std.specs.Prelude.{◌≡◌, ℕ, Bool, true, false, Option, Some, None, Result, Ok, Err, OnOk, Vec, List, []}
+use Rattle.std.specs.Io.KnownBytes.{Consumes, IsAtEnd}
 use Rattle.std.specs.declared.alloc.Global.{Global}
 use Rattle.cm_model.specs.declared.act.Act.{Act}
 use Rattle.cm_model.specs.Machine.{Machine}
@@ -33,11 +34,13 @@ pub record HasLeft (start : Start) (acts : List Act) (lines : List ℕ) (rest he
   pub ends : Ends start.n start.cap acts lines rest start.machine held after holds (Ok tt)
   pub kept : IsKept start.n start.cap after keeps image
 
--- all lines of some text were answered, and this image is kept of the machine that they left: this can be said of
--- commands that do not tell their bytes
-pub record HasLeftForSome (start : Start) (acts : List Act) (held holds : Option (List ℕ)) (keeps : Bool)
+-- the commands gave some text to their end, all of whose lines were answered, and this image is kept of the machine that
+-- they left: this can be said of commands that do not tell their bytes
+pub record HasLeftForSome (start : Start) (acts : List Act) (source rest held holds : Option (List ℕ)) (keeps : Bool)
     (image : Option (List ℕ)) : Type 0 where
   pub lines : List ℕ
+  pub read : Consumes source rest lines
+  pub end : IsAtEnd rest
   pub run : HasLeft start acts lines (Some []) held holds keeps image
 
 -- a session that ended so ends the program with this fault: its own, or want of memory for an image that is to be kept
@@ -53,6 +56,15 @@ pub record HasBrokenOff (start : Start) (acts : List Act) (lines : List ℕ) (re
   pub result : Result (Unit {0}) SessionFault
   pub ends : Ends start.n start.cap acts lines rest start.machine held after holds result
   pub told : IsToldAs keeps result fault
+
+-- the commands gave some text, and it broke off so as of that text and nothing more; if it is the image that memory was
+-- wanting for, the text is all that they had
+pub record HasBrokenOffForSome (start : Start) (acts : List Act) (source rest held holds : Option (List ℕ))
+    (keeps : Bool) (fault : ProgramFault) : Type 0 where
+  pub lines : List ℕ
+  pub read : Consumes source rest lines
+  pub run : HasBrokenOff start acts lines (Some []) held holds keeps fault
+  pub end : OnOk run.result (IsAtEnd rest)
 
 -- the text is refused with this fault: it was not read to its end, or is no program, or memory ran out
 abbrev pub IsRefusedText : Result (Vec ℕ Global) TakeFault → ProgramFault → Type 0

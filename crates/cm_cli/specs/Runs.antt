@@ -1,5 +1,5 @@
 -- What `cm1 run` does from its first file to its last. Ours.
-use Rattle.std.specs.Prelude.{◌≡◌, ◌⊎◌, ◌↔◌, Bool, true, false, Option, IfOk, IfSome, IsErrOf, Result, Ok}
+use Rattle.std.specs.Prelude.{◌≡◌, ◌⊎◌, ◌↔◌, Bool, true, false, Option, IfSome, IsErrOf, Result, Ok}
 use Rattle.std.specs.Prelude.{Err, ℕ, List, ◌++◌}
 use Rattle.std.specs.Option.{is_some}
 use Rattle.cm_model.specs.declared.act.Act.{Act}
@@ -8,7 +8,7 @@ use Rattle.cm_cli.specs.declared.files.RunLine.{RunLine}
 use Rattle.cm_cli.specs.declared.program_fault.ProgramFault.{ProgramFault}
 use Rattle.cm_cli.specs.declared.program_fault.ProgramFault.TheVariants.{Read, Write, NoThread}
 use Rattle.cm_cli.specs.Opened.{Start}
-use Rattle.cm_cli.specs.Run.{HasLeft, HasLeftForSome, HasBrokenOff}
+use Rattle.cm_cli.specs.Run.{HasLeft, HasLeftForSome, HasBrokenOff, HasBrokenOffForSome}
 use Rattle.cm_cli.specs.Deeds.{Deed}
 use Rattle.cm_cli.specs.Takings.{Reads}
 use Rattle.cm_cli.specs.Puttings.{Closes}
@@ -29,11 +29,18 @@ EndsSession start acts streams keeps (Ok kept) =
 EndsSession start acts streams keeps (Err fault) =
     IfSome streams.lines (λ lines. HasBrokenOff start acts lines streams.rest streams.held streams.holds keeps fault)
 
+-- the same of some text, whatever the commands tell of theirs
+abbrev pub HearsSession : Start → List Act → Streams → Bool → Result (Option (List ℕ)) ProgramFault → Type 0
+HearsSession start acts streams keeps (Ok kept) =
+    HasLeftForSome start acts streams.lines streams.rest streams.held streams.holds keeps kept
+HearsSession start acts streams keeps (Err fault) =
+    HasBrokenOffForSome start acts streams.lines streams.rest streams.held streams.holds keeps fault
+
 -- a session that begins here, from standard input to standard output
 pub record IsSession (start : Start) (acts : List Act) (streams : Streams) (keeps : Bool)
     (ran : Result (Option (List ℕ)) ProgramFault) : Type 0 where
   pub ends : EndsSession start acts streams keeps ran
-  pub heard : IfOk ran (HasLeftForSome start acts streams.held streams.holds keeps)
+  pub heard : HearsSession start acts streams keeps ran
   pub read : (streams.read_failed ≡ true) ↔ IsErrOf ran Read
   pub write : (streams.write_failed ≡ true) ↔ IsErrOf ran Write
 
