@@ -4,6 +4,7 @@ from __future__ import annotations
 from typing import TYPE_CHECKING, Dict, List, Optional, Sequence, Union
 
 from .memory import Memory
+from .phrases import Phrases, is_phrase
 from .refusals import Refused, Unavailable
 from .wire import Front, is_definition
 
@@ -23,6 +24,7 @@ class Lines:
     def __init__(self, image: str) -> None:
         self.condition: Optional[int] = None        # the flag of the innermost `where`
         self.memory = Memory()
+        self._phrases = Phrases()
         self._front: Optional[Front] = Front(image)
 
     @property
@@ -58,7 +60,12 @@ class Lines:
     def _tell_under(self, context: str, lines: Sequence[str]) -> None:
         if self.front.context != context:
             self.front.tell([context])
-        self.front.tell(lines)
+        for line in lines:
+            self.front.tell(self._instructions(line, context) if is_phrase(line) else [line])
+
+    def _instructions(self, phrase: str, context: str) -> List[str]:
+        definitions = [self.front.fields[word] for word in phrase.split()[1:] if word in self.front.fields]
+        return self._phrases.instructions(phrase, context, definitions)
 
     def tell(self, *lines: str) -> None:
         """Tells lines that do not ask for the context: instructions, pokes, petit cycles."""

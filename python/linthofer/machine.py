@@ -18,14 +18,14 @@ import os
 import tempfile
 from contextlib import contextmanager
 from types import TracebackType
-from typing import Any, Dict, Iterator, List, Optional, Sequence, Tuple, Type, Union
+from typing import Any, Dict, Iterable, Iterator, List, Optional, Sequence, Tuple, Type, Union
 
 from . import grid
 from .field import MOST_BITS, Field, Value
 from .lines import Lines
 from .messages import Message, Received, messages_of, send
 from .nano import A, F, GLOBAL, ZERO, nano
-from .refusals import Refused, Unavailable
+from .refusals import Failed, Refused, Unavailable
 from .tables import Picture, Route, Table, TextFile, expand
 from .wire import command
 
@@ -62,8 +62,11 @@ class Machine:
             words += ["--cut", chip, dimension]
         with tempfile.TemporaryDirectory(prefix="linthofer-") as folder:
             blank = os.path.join(folder, "blank.image")
-            command("cm1lab", "fresh", *words, blank)
-            self._begin(blank)
+            try:
+                command("cm1lab", "fresh", *words, blank)
+                self._begin(blank)
+            except Failed as fault:
+                raise Failed(fault.told.replace(blank, "a blank machine"), fault.status) from None
 
     @classmethod
     def load(cls, path: Path) -> "Machine":
@@ -409,12 +412,13 @@ def _flattened(numbers: Any, shape: Tuple[int, int]) -> Tuple[List[int], bool]:
         numbers = numbers.tolist()
     listed = list(numbers)
     if not listed or not hasattr(listed[0], "__iter__"):
-        return [_whole(it) for it in listed], False
-    rows = [[_whole(it) for it in row] for row in listed]
+        return _whole_numbers(listed), False
+    rows = [_whole_numbers(row) for row in listed]
     if len(rows) != shape[0] or any(len(row) != shape[1] for row in rows):
         raise ValueError(f"{len(rows)} rows of {len(rows[0])} numbers; the grid has {shape[0]} rows of {shape[1]}")
     return [number for row in rows for number in row], True
 
 
-def _whole(number: Any) -> int:
-    return int(operator.index(number))                  # of True it makes 1
+def _whole_numbers(numbers: Iterable[Any]) -> List[int]:
+    """Each as an int, True as 1; TypeError for what is no whole number."""
+    return list(map(int, map(operator.index, numbers)))

@@ -133,8 +133,10 @@ class _Inbox:
             less, greater = (self.value, self._came) if combine == "max" else (self._came, self.value)
             return ["clear 7", f"if {RECV}", line("less", less, greater), "if 7", line("move", self.value, self._came),
                     "always"]
-        word = {"add": "add", "or": "or"}.get(combine, "move")
-        return [f"if {RECV}", line(word, self.value, self._came), "always"]
+        if combine == "or":
+            return [nano(self.value.at + bit, self._came.at + bit, read=RECV, memory=A | B & F)
+                    for bit in range(self.value.bits)]
+        return [f"if {RECV}", line("add" if combine == "add" else "move", self.value, self._came), "always"]
 
 
 def _run_until_quiet(machine: "Machine", inbox: _Inbox, most: int) -> int:

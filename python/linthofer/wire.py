@@ -7,6 +7,9 @@ Two rules make it safe over two pipes:
   piece goes out. So a write never waits for the front end to read, and the two never wait for each other. A longer line
   is a piece of its own: the front end reads the whole of a line before it answers.
 * Some answers have several lines: the first tells how many follow.
+
+A front end reads at most 16,777,216 bytes. Before they are used up its machine goes into a new one, as an image: fields and
+context are told again, and the logs of the routers are empty then.
 """
 from __future__ import annotations
 
@@ -24,6 +27,8 @@ from .refusals import Refused, Unavailable, fault_of
 
 PIPE_BYTES = 65_536                                     # that a pipe of Linux holds
 LONGEST_WAIT = PIPE_BYTES // 2                          # bytes of lines that wait for the next question
+MOST_INPUT = 16_777_216                                 # bytes that one front end reads
+ASK_IMAGE = ["image"]
 HAVE_MORE_LINES = ("buf", "events", "numbers", "image")  # first words of answers that count the lines behind them
 UNKNOWN_CONTEXT = ""
 
@@ -58,11 +63,17 @@ class Front:
         self.fields: Dict[str, str] = {}        # by name, the `field` line that defined it
         self.context = "always"                 # the last `if`, `unless` or `always` that was told
         self._defined: Dict[str, str] = {}      # those of `fields` that were answered
+        self._held = "always"                   # the last context that was answered
         self._waiting: List[str] = []           # lines that were told and have not gone out
         self._waiting_bytes = 0
+        self._out = out
+        self._start(image)
+
+    def _start(self, image: str) -> None:
         words = [program("cm1lab"), "front", image]
-        if out is not None:
-            words += ["--out", out]
+        if self._out is not None:
+            words += ["--out", self._out]
+        self._input_left = MOST_INPUT
         self._errors = tempfile.TemporaryFile()
         # In a session of its own, so that Ctrl-C at the terminal does not end it.
         self._process = subprocess.Popen(words, stdin=subprocess.PIPE, stdout=subprocess.PIPE, stderr=self._errors,
@@ -103,14 +114,31 @@ class Front:
 
     def _exchange(self, piece: Sequence[str]) -> List[str]:
         """Sends one piece and reads all its answers."""
-        data = ("\n".join(piece) + "\n").encode()
+        data = _bytes_of(piece)
         with uninterrupted():
-            try:
-                self._to.write(data)
-                self._to.flush()
-            except (BrokenPipeError, ValueError):           # it has ended, or was closed
-                self._raise_its_end()
-            return [self._read_answer() for _ in piece]
+            if len(data) + len(_bytes_of(ASK_IMAGE)) > self._input_left:
+                self._begin_anew()
+            return self._answers(piece, data)
+
+    def _begin_anew(self) -> None:
+        """Goes on with a new process, on the image of the machine."""
+        _, *lines = self._answers(ASK_IMAGE, _bytes_of(ASK_IMAGE))[0].split("\n")
+        with tempfile.NamedTemporaryFile(prefix="linthofer-") as image:
+            image.write(bytes.fromhex("".join(lines)))
+            image.flush()
+            self.abandon()
+            self._start(image.name)
+            told = [*self._defined.values(), self._held]
+            self._answers(told, _bytes_of(told))            # it has read the image when it answers
+
+    def _answers(self, piece: Sequence[str], data: bytes) -> List[str]:
+        self._input_left -= len(data)
+        try:
+            self._to.write(data)
+            self._to.flush()
+        except (BrokenPipeError, ValueError):               # it has ended, or was closed
+            self._raise_its_end()
+        return [self._read_answer() for _ in piece]
 
     def _read_answer(self) -> str:
         first = self._read_line()
@@ -133,6 +161,8 @@ class Front:
                 self._note(line)
                 if is_definition(line):
                     self._defined[line.split()[1]] = line
+                elif is_context(line):
+                    self._held = line
             elif answer.startswith("?") and refused is None:
                 refused = Refused(int(answer[1:]), line)
         if refused is not None:
@@ -141,8 +171,7 @@ class Front:
             raise refused
 
     def _note(self, line: str) -> None:
-        first = line.partition(" ")[0]
-        if first in ("if", "unless", "always"):
+        if is_context(line):
             self.context = line
         elif is_definition(line):
             self.fields[line.split()[1]] = line
@@ -194,6 +223,11 @@ def is_definition(line: str) -> bool:
     return line.startswith("field ") and len(line.split()) == 4
 
 
+def is_context(line: str) -> bool:
+    """Whether it says where the lines behind it are carried out."""
+    return line.partition(" ")[0] in ("if", "unless", "always")
+
+
 def pieces(lines: Sequence[str]) -> Iterator[List[str]]:
     """These lines in pieces of at most 65,536 bytes each; a longer line is a piece of its own."""
     piece: List[str] = []
@@ -207,6 +241,10 @@ def pieces(lines: Sequence[str]) -> Iterator[List[str]]:
         size += length
     if piece:
         yield piece
+
+
+def _bytes_of(piece: Sequence[str]) -> bytes:
+    return ("\n".join(piece) + "\n").encode()
 
 
 @contextmanager

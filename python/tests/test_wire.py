@@ -5,7 +5,7 @@ import threading
 
 import pytest
 
-from linthofer import Failed, Machine, Refused, Unavailable
+from linthofer import Failed, Machine, Refused, Unavailable, wire
 from linthofer.wire import PIPE_BYTES, Front, command, pieces
 
 
@@ -18,6 +18,20 @@ def test_answers_with_several_lines_do_not_shift_the_others(four):
 def test_more_than_the_pipes_hold(four):
     assert four.ask("field 0 5 0 64\n" * 30_000) == ["field 0"] * 30_000
     assert four.ask("buf 3\n" * 20_000) == ["buf 0"] * 20_000
+
+
+def test_a_front_end_goes_on_in_a_new_one_before_its_input_ends(four, monkeypatch):
+    monkeypatch.setattr(wire, "MOST_INPUT", 10_000)
+    x = four.field(16)
+    x[:] = 0
+    four.cycle(3)
+    with four.where(four.place() < 5):
+        for _ in range(1_000):
+            x += 1
+        assert x.list() == [1_000] * 5 + [0] * 251 and four.cycles == 3
+        x += 7
+    assert four.ask("if 3\nconst " + four.lines.name_of(x) + " 9\nalways") == ["ok"] * 3
+    assert x[0, 4] == 1_007
 
 
 def test_pieces_are_what_a_pipe_holds():
