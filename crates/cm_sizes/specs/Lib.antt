@@ -1,0 +1,4 @@
+pub mod Sizes
+pub mod Opening
+pub mod Sourced
+pub mod Laws
