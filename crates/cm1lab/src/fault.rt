@@ -3,7 +3,7 @@
 use cm_fresh::FreshFault;
 use cm_front::{FrontFault, ImageFault, SessionFault};
 use cm_lab::{LabFault, NumbersFault};
-use cm_lab_line::{CommandFault, HELP};
+use cm_lab_line::CommandFault;
 use cm_load::LoadFault;
 use cm_plot::PlotFault;
 use cm_source::{AsmKind, SourceFault, SourceKind};
@@ -14,9 +14,11 @@ use thiserror::Error;
 /// A fault of the whole program.
 #[derive(Debug, Drop, Error)]
 pub enum Fault {
-    /// The words ask for nothing, or for help.
+    /// The words ask for nothing.
     #[error(transparent)]
     Command(CommandFault),
+    #[error("a word of the command line is no UTF-8 text; cm1lab --help tells all")]
+    Words,
     #[error(transparent)]
     Fresh(FreshFault),
     #[error(transparent)]
@@ -53,14 +55,6 @@ pub enum FileFault {
 }
 
 impl Fault {
-    /// Why the words of the command line ask for nothing.
-    pub fn command(fault: CommandFault) -> Fault {
-        match fault {
-            CommandFault::Memory => Fault::Memory,
-            fault => Fault::Command(fault),
-        }
-    }
-
     /// What is wrong with a file.
     pub fn file(alloc: Global, path: &str, fault: FileFault) -> Fault {
         match String::from_str(alloc, path) {
@@ -111,12 +105,11 @@ impl Fault {
         }
     }
 
-    /// The exit status: 2 for words that ask for nothing, 3 for want of memory, 4 for a file, else 1. Help is no fault.
+    /// The exit status: 2 for words that ask for nothing, 3 for want of memory, 4 for a file, else 1.
     pub fn status(&self) -> u8 {
         match self {
-            Fault::Command(CommandFault::Help) => 0,
             Fault::Command(CommandFault::Field(_)) => 1,
-            Fault::Command(_) => 2,
+            Fault::Command(_) | Fault::Words => 2,
             Fault::Memory => 3,
             Fault::File {
                 fault: FileFault::Bytes(_),
@@ -128,11 +121,8 @@ impl Fault {
         }
     }
 
-    /// Tells it on standard error; help goes to standard output.
-    pub fn tell<R: Print + Eprint>(&self, rt: &R) -> io::Result<()> {
-        match self {
-            Fault::Command(CommandFault::Help) => rt.println(HELP),
-            fault => eprintln!(rt; "cm1lab: {fault}"),
-        }
+    /// Tells it on standard error.
+    pub fn tell<R: Eprint>(&self, rt: &R) -> io::Result<()> {
+        eprintln!(rt; "cm1lab: {self}")
     }
 }

@@ -14,18 +14,19 @@ use crate::files::{read_file, write_file};
 use crate::loads::measure_all;
 use crate::progress::Progress;
 use cm_bits::{Std, write_all};
-use cm_cli::{TakeFault, take};
+use cm_cli::{LineFault, Outside, TakeFault, take};
 use cm_fresh::{FreshFault, fresh};
 use cm_front::front_image;
+use cm_host::Host;
 use cm_lab::{LabFault, RouteFault, perform_watched};
-use cm_lab_line::{Asked, Blank, Command, Given, Loads, read_words};
+use cm_lab_line::{Asked, Blank, Command, CommandFault, Given, HELP, Loads, read_words};
 use cm_source::expand;
 use cm_way::plot;
 use std::alloc::Global;
+use std::io;
 use std::io::Write;
 use std::process::ExitCode;
 use std::rt::{Clock, Env, Files};
-use std::{env, io};
 
 /// Most bytes of an image's file.
 const IMAGE_LIMIT: u64 = 134217728;
@@ -48,13 +49,10 @@ const SOURCE_LIMIT: u64 = 16777216;
 fn main(rt: HostRuntime) -> ExitCode {
     match run(&rt, rt.alloc()) {
         Ok(()) => ExitCode::SUCCESS,
-        Err(fault) => {
-            let status = fault.status();
-            match fault.tell(&rt) {
-                Ok(()) => ExitCode::from(status),
-                Err(_) => ExitCode::from(4),
-            }
-        }
+        Err(fault) => match fault.tell(&rt) {
+            Ok(()) => ExitCode::from(fault.status()),
+            Err(_) => ExitCode::from(4),
+        },
     }
 }
 
@@ -63,15 +61,11 @@ fn run<R: Input + Print + Eprint + Env + Files + Clock + AllocGlobal>(
     rt: &R,
     alloc: Global,
 ) -> Result<(), Fault> {
-    let Ok(given) = env::args(rt) else {
-        return Err(Fault::Memory);
+    let texts = match Host::new(rt).words(alloc) {
+        Ok(texts) => texts,
+        Err(LineFault::BadLine) => return Err(Fault::Words),
+        Err(LineFault::Memory) => return Err(Fault::Memory),
     };
-    let mut texts = Vec::new(alloc);
-    for text in given {
-        if texts.push(text).is_err() {
-            return Err(Fault::Memory);
-        }
-    }
     let mut words = Vec::new(alloc);
     for text in &texts {
         if words.push(text.as_str()).is_err() {
@@ -80,7 +74,17 @@ fn run<R: Input + Print + Eprint + Env + Files + Clock + AllocGlobal>(
     }
     match read_words(alloc, words.as_slice()) {
         Ok(command) => obey(rt, alloc, command),
-        Err(fault) => Err(Fault::command(fault)),
+        Err(CommandFault::Help) => help(rt),
+        Err(CommandFault::Memory) => Err(Fault::Memory),
+        Err(fault) => Err(Fault::Command(fault)),
+    }
+}
+
+/// Tells all commands, on standard output.
+fn help<R: Print>(rt: &R) -> Result<(), Fault> {
+    match rt.println(HELP) {
+        Ok(()) => Ok(()),
+        Err(_) => Err(Fault::Output),
     }
 }
 

@@ -11,19 +11,18 @@ use std::{fs, io};
 /// How many names are tried for a file beside another.
 const MOST_NAMES: u32 = 100;
 
-/// A file that was made ready.
+/// A file that was made ready, and is not yet where it was wanted.
 #[derive(Drop)]
-pub enum Part<F> {
-    Beside(NewFile<F>),
-    /// What is no plain file is written where it stands.
-    InPlace { path: String },
+pub struct PendingFile<F> {
+    path: String,
+    /// The file that is to take this place; none where what stands there is no plain file, and is written as it stands.
+    beside: Option<NewFile<F>>,
 }
 
-/// A new file beside the one whose place it is to take, under a name that no other had.
+/// A new file beside another, under a name that no other had.
 #[derive(Drop)]
-pub struct NewFile<F> {
+struct NewFile<F> {
     name: String,
-    path: String,
     file: F,
 }
 
@@ -35,7 +34,7 @@ pub fn make_ready<R: Files + AllocGlobal>(
     rt: &R,
     alloc: Global,
     path: &str,
-) -> Result<Part<R::File>, PutFault> {
+) -> Result<PendingFile<R::File>, PutFault> {
     if path.is_empty() {
         return Err(PutFault::Write);
     }
@@ -61,10 +60,24 @@ pub fn make_ready<R: Files + AllocGlobal>(
     }
 }
 
+/// Puts a file of these bytes where the path says: made ready, and filled at once.
+pub fn put_file<R: Files + AllocGlobal, T: Written>(
+    rt: &R,
+    alloc: Global,
+    path: &str,
+    image: T,
+) -> Result<(), PutFault> {
+    match make_ready(rt, alloc, path) {
+        Ok(pending) => pending.fill(rt, image),
+        Err(fault) => Err(fault),
+    }
+}
+
 /// What stands at the path, to be written there.
-fn in_place<F>(alloc: Global, path: &str) -> Result<Part<F>, PutFault> {
-    Ok(Part::InPlace {
+fn in_place<F>(alloc: Global, path: &str) -> Result<PendingFile<F>, PutFault> {
+    Ok(PendingFile {
         path: text(alloc, path)?,
+        beside: None,
     })
 }
 
@@ -74,15 +87,19 @@ fn beside<R: Files>(
     alloc: Global,
     path: &str,
     permissions: Option<Permissions>,
-) -> Result<Part<R::File>, PutFault> {
-    let new = create_beside(rt, alloc, path)?;
+) -> Result<PendingFile<R::File>, PutFault> {
+    let path = text(alloc, path)?;
+    let new = create_beside(rt, alloc, path.as_str())?;
     if let Some(permissions) = permissions {
         if new.file.set_permissions(permissions).is_err() {
             new.remove(rt);
             return Err(PutFault::Write);
         }
     }
-    Ok(Part::Beside(new))
+    Ok(PendingFile {
+        path,
+        beside: Some(new),
+    })
 }
 
 /// A new file beside that of this path, named as it with `.part` behind, or with `.part1`, `.part2` and so on.
@@ -91,7 +108,6 @@ fn create_beside<R: Files>(
     alloc: Global,
     path: &str,
 ) -> Result<NewFile<R::File>, PutFault> {
-    let path = text(alloc, path)?;
     for count in 0..MOST_NAMES {
         let name = match count {
             0 => format!(in alloc; "{path}.part"),
@@ -101,7 +117,7 @@ fn create_beside<R: Files>(
             return Err(PutFault::Memory);
         };
         match File::create_new(rt, name.as_str()) {
-            Ok(file) => return Ok(NewFile { name, path, file }),
+            Ok(file) => return Ok(NewFile { name, file }),
             Err(error) if error.kind() == ErrorKind::AlreadyExists => {}
             Err(_) => break,
         }
@@ -116,12 +132,13 @@ fn text(alloc: Global, path: &str) -> Result<String, PutFault> {
     }
 }
 
-impl<F: io::Write + Drop> Part<F> {
-    /// Puts the bytes of this where the file was wanted.
+impl<F: io::Write + Drop> PendingFile<F> {
+    /// Puts the bytes of this where the file was wanted. Where that cannot be done a new file is taken away again.
     pub fn fill<R: Files, T: Written>(self, rt: &R, image: T) -> Result<(), PutFault> {
-        match self {
-            Part::Beside(new) => new.fill(rt, image),
-            Part::InPlace { path } => match fs::create(rt, path.as_str()) {
+        let PendingFile { path, beside } = self;
+        match beside {
+            Some(new) => new.replace(rt, path.as_str(), image),
+            None => match fs::create(rt, path.as_str()) {
                 Ok(mut file) => write(&mut file, image),
                 Err(_) => Err(PutFault::Write),
             },
@@ -130,28 +147,32 @@ impl<F: io::Write + Drop> Part<F> {
 
     /// Takes a new file away; what stands where it was wanted is as it was.
     pub fn let_go<R: Files>(self, rt: &R) {
-        if let Part::Beside(new) = self {
+        if let Some(new) = self.beside {
             new.remove(rt);
         }
     }
 }
 
 impl<F: io::Write + Drop> NewFile<F> {
-    /// Gives it its bytes and then its place, or takes it away.
-    fn fill<R: Files, T: Written>(mut self, rt: &R, image: T) -> Result<(), PutFault> {
-        let put = match write(&mut self.file, image) {
-            Ok(()) => self.put(rt),
+    /// Takes these bytes, and then the place that the path says; or is taken away.
+    fn replace<R: Files, T: Written>(
+        mut self,
+        rt: &R,
+        path: &str,
+        image: T,
+    ) -> Result<(), PutFault> {
+        let replaced = match write(&mut self.file, image) {
+            Ok(()) => self.rename(rt, path),
             Err(fault) => Err(fault),
         };
-        if put.is_err() {
+        if replaced.is_err() {
             self.remove(rt);
         }
-        put
+        replaced
     }
 
-    /// Gives it its place.
-    fn put<R: Files>(&self, rt: &R) -> Result<(), PutFault> {
-        match fs::rename(rt, self.name.as_str(), self.path.as_str()) {
+    fn rename<R: Files>(&self, rt: &R, path: &str) -> Result<(), PutFault> {
+        match fs::rename(rt, self.name.as_str(), path) {
             Ok(()) => Ok(()),
             Err(_) => Err(PutFault::Write),
         }

@@ -1,7 +1,9 @@
-//! What lies outside of the program, by its runtime: the words of the command line, files, and the way on which
-//! standard output goes out.
+//! The outside of a program, as its runtime has it.
 
-use crate::parts::{Part, make_ready};
+ghost use Rattle.std.specs.Prelude.{◌≡◌, false, IfOk};
+ghost use Rattle.cm_bits.specs.Ends.{std_has_failed};
+
+use crate::pending::{PendingFile, make_ready};
 use cm_bits::{Failed, Sink, Std};
 use cm_cli::{LineFault, Outside, PutFault, Written};
 use std::alloc::Global;
@@ -16,6 +18,7 @@ pub struct Host<'a, R> {
 }
 
 impl<'a, R> Host<'a, R> {
+    /// The outside of the program of this runtime.
     pub fn new(rt: &'a R) -> Host<'a, R> {
         Host { rt }
     }
@@ -24,7 +27,7 @@ impl<'a, R> Host<'a, R> {
 impl<'a, R: Env + Files + Print + AllocGlobal> Outside for Host<'a, R> {
     type File = Std<R::File>;
 
-    type Part = Part<R::File>;
+    type Part = PendingFile<R::File>;
 
     // No contract tells what a runtime does: each call is trusted to do what it is named for.
     ghost does = { λ before deed after. Unit {0} };
@@ -38,10 +41,7 @@ impl<'a, R: Env + Files + Print + AllocGlobal> Outside for Host<'a, R> {
     }
 
     fn open(&mut self, path: &str) -> Result<Self::File, Failed> {
-        match fs::open(self.rt, path) {
-            Ok(file) => Ok(Std::new(file)),
-            Err(_) => Err(Failed),
-        }
+        open(self.rt, path)
     }
 
     fn ready(&mut self, alloc: Global, path: &str) -> Result<Self::Part, PutFault> {
@@ -61,5 +61,15 @@ impl<'a, R: Env + Files + Print + AllocGlobal> Outside for Host<'a, R> {
 
     fn let_go(&mut self, part: Self::Part) {
         part.let_go(self.rt);
+    }
+}
+
+/// Opens a file, to be read.
+pub fn open<R: Files>(rt: &R, path: &str) -> Result<Std<R::File>, Failed>
+    ensures working { IfOk result (λ file. std_has_failed file ≡ false) }
+{
+    match fs::open(rt, path) {
+        Ok(file) => Ok(Std::new(file)),
+        Err(_) => Err(Failed),
     }
 }
