@@ -3,7 +3,7 @@
 use cm_fresh::FreshFault;
 use cm_front::{FrontFault, ImageFault, SessionFault};
 use cm_lab::{LabFault, NumbersFault};
-use cm_lab_line::{CommandFault, HELP};
+use cm_lab_line::{CommandFault, HELP, VERSION};
 use cm_load::LoadFault;
 use cm_plot::PlotFault;
 use cm_source::{AsmKind, SourceFault, SourceKind};
@@ -14,7 +14,7 @@ use thiserror::Error;
 /// A fault of the whole program.
 #[derive(Debug, Drop, Error)]
 pub enum Fault {
-    /// The words ask for nothing, or for help.
+    /// The words ask for nothing, or for help or the version.
     #[error(transparent)]
     Command(CommandFault),
     #[error(transparent)]
@@ -111,10 +111,11 @@ impl Fault {
         }
     }
 
-    /// The exit status: 2 for words that ask for nothing, 3 for want of memory, 4 for a file, else 1. Help is no fault.
+    /// The exit status: 2 for words that ask for nothing, 3 for want of memory, 4 for a file, else 1. Help and the version
+    /// are no faults.
     pub fn status(&self) -> u8 {
         match self {
-            Fault::Command(CommandFault::Help) => 0,
+            Fault::Command(CommandFault::Help | CommandFault::Version) => 0,
             Fault::Command(CommandFault::Field(_)) => 1,
             Fault::Command(_) => 2,
             Fault::Memory => 3,
@@ -128,10 +129,11 @@ impl Fault {
         }
     }
 
-    /// Tells it on standard error; help goes to standard output.
+    /// Tells it on standard error; help and the version go to standard output.
     pub fn tell<R: Print + Eprint>(&self, rt: &R) -> io::Result<()> {
         match self {
             Fault::Command(CommandFault::Help) => rt.println(HELP),
+            Fault::Command(CommandFault::Version) => rt.println(VERSION),
             fault => eprintln!(rt; "cm1lab: {fault}"),
         }
     }
