@@ -82,6 +82,7 @@ def test_messages_that_do_not_arrive_are_told(four):
 WRONG = [(Refused, lambda m: m.send(m.field(33), to=3)),
          (Refused, lambda m: m.send(m.field(8), to=3, bits=33)),
          (Refused, lambda m: m.send(m.field(8), to=256)),
+         (TypeError, lambda m: m.send(5, to=3)),
          (Refused, lambda m: m.send(m.field(8), to=m.field(9))),
          (ValueError, lambda m: m.send(m.field(8), to=3, bits=7)),
          (ValueError, lambda m: m.send(m.field(8), to=3, combine="sum")),
@@ -93,6 +94,22 @@ def test_what_cannot_be_sent_is_refused(four, kind, does):
     with pytest.raises(kind):
         does(four)
     assert four.cycles == 0
+
+
+def test_what_is_too_long_is_sent_in_two_parts(four, draw):
+    value, numbers = four.field(40), draw(four, 2**40)
+    value[:], to = numbers, four.place() ^ 1
+    with pytest.raises(Refused, match=r"32 bits, not 40: send two parts, x.part\(0, 32\) and x.part\(32, 40\)"):
+        four.send(value, to)
+    low, high = (four.send(part, to).value.list() for part in (value.part(0, 32), value.part(32, 40)))
+    assert [a + (b << 32) for a, b in zip(low, high)] == [numbers[place ^ 1] for place in range(256)]
+
+
+def test_sums_that_do_not_fit_are_lost(four):
+    one = four.field(4)
+    one[:] = 1
+    assert four.send(one, to=3, combine="add").value[0, 3] == 0                 # 256 has nine bits
+    assert four.send(one, to=3, combine="add", bits=9).value[0, 3] == 256
 
 
 def test_messages_are_told_as_the_debugger_tells_them():
