@@ -8,8 +8,8 @@ Two rules make it safe over two pipes:
   is a piece of its own: the front end reads the whole of a line before it answers.
 * Some answers have several lines: the first tells how many follow.
 
-A front end reads at most 16,777,216 bytes. Before they are used up its machine goes into a new one, as an image: fields and
-context are told again, and the logs of the routers are empty then.
+A front end reads at most 16,777,216 bytes. Before they are used up its machine goes into a new one, as an image: fields
+and context are told again, and the logs of the routers are empty then.
 """
 from __future__ import annotations
 

@@ -1,4 +1,5 @@
 """Messages, and what is told of them."""
+import numpy
 import pytest
 
 from linthofer import Collision, Machine, Message, NotArrived, Refused
@@ -42,6 +43,35 @@ def test_what_comes_together_is_combined(four, draw, word, does):
         assert came.value[0, at] == does([number for number, it in zip(numbers, receivers) if it == at])
     assert came.value[9, 9] == (2**24 - 1 if word == "min" else 0)
     assert came.arrived.list() == [1] * 8 + [0] * 248
+
+
+def filled(machine, numbers):
+    field = machine.field(16)
+    field[:] = numbers
+    return field
+
+
+def test_assignments_by_place_are_those_of_numpy(four, draw):
+    numbers, before, receivers = draw(four, 2**12), draw(four, 2**12), draw(four, 256)
+    x, y, to = filled(four, numbers), filled(four, before), four.place()
+    expected = numpy.array(before)
+    with four.where(to < 100):
+        came = four.send(x, to ^ 255)
+    with four.where(came.arrived):
+        y[:] = came.value
+    expected[255 - numpy.arange(100)] = numbers[:100]
+    assert y.list() == expected.tolist()
+    to[:] = receivers
+    y, expected = filled(four, before), numpy.array(before)
+    y += four.send(x, to, combine="add").value
+    numpy.add.at(expected, receivers, numbers)
+    assert y.list() == expected.tolist()
+    y, expected = filled(four, before), numpy.array(before)
+    came = four.send(x, to, combine="max")
+    with four.where(came.arrived & (came.value > y)):
+        y[:] = came.value
+    numpy.maximum.at(expected, receivers, numbers)
+    assert y.list() == expected.tolist()
 
 
 def test_the_last_that_came_is_one_of_them(four, draw):
