@@ -6,8 +6,9 @@ does is computed here.
 from .field import Field
 from .machine import Machine
 from .messages import Message, Received
+from .recording import Recording
 from .refusals import Collision, Failed, Fault, NotArrived, Refused, Unavailable
 from .tables import Picture, Route, Svg, Table, acts_of, expand, load_curve, plot_of
 
 __all__ = ["Collision", "Failed", "Fault", "Field", "Machine", "Message", "NotArrived", "Picture", "Received",
-           "Refused", "Route", "Svg", "Table", "Unavailable", "acts_of", "expand", "load_curve", "plot_of"]
+           "Recording", "Refused", "Route", "Svg", "Table", "Unavailable", "acts_of", "expand", "load_curve", "plot_of"]

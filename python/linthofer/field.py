@@ -7,7 +7,7 @@ An expression, as `x + y` or `x < 7`, is a new field, worked out in all processo
 from __future__ import annotations
 
 import operator
-from typing import TYPE_CHECKING, Any, Iterator, List, Optional, Tuple, Union
+from typing import TYPE_CHECKING, Any, Iterator, List, NoReturn, Optional, Tuple, Union
 
 from . import grid
 from .nano import CARRY
@@ -21,6 +21,19 @@ MOST_BITS = 64          # of a field
 MOST_BITS_SHOWN = 16    # of a field of which there is a picture
 
 Value = Union["Field", int]
+
+# What is written here for a name that an array of NumPy has and a field has not.
+INSTEAD = {
+    "sum": 'sum(x), or m.send(x.widened(32), to=0, combine="add") on the machine',
+    "mean": "sum(x) / m.size",
+    "any": "m.any(x != 0)",
+    "all": "m.all(x != 0)",
+    "astype": "x.widened(bits), or x.part(low, high)",
+    "tolist": "x.list()",
+    "reshape": "x.rows(), or x.numpy(rows=True)",
+    "shape": "m.shape",
+    "size": "m.size",
+}
 
 
 class Field:
@@ -50,6 +63,11 @@ class Field:
     def __repr__(self) -> str:
         return f"<Field of {self.bits} bits from {self.at} up>"
 
+    if not TYPE_CHECKING:                       # for types a field has no other attributes
+        def __getattr__(self, name: str) -> NoReturn:
+            more = f"; write {INSTEAD[name]}" if name in INSTEAD else ""
+            raise AttributeError(f"a field has no {name}{more}")
+
     def is_same_or_apart(self, other: "Field") -> bool:
         """Whether both are the same bits, or have no bit in common."""
         return ((self.at, self.bits) == (other.at, other.bits)
@@ -72,7 +90,8 @@ class Field:
         """
         import numpy
         least = next(width for width in (8, 16, 32, 64) if self.bits <= width)
-        numbers = numpy.array(self.list(), dtype=f"uint{least}")
+        text = self.machine.lines.text_of_numbers(f"get {self.at} {self.bits}")
+        numbers = numpy.fromstring(text, dtype="uint64", sep=" ").astype(f"uint{least}")
         return numbers[numpy.array(grid.places_by_row(self.machine.dims))] if rows else numbers
 
     def __array__(self, dtype: Any = None, copy: Any = None) -> Any:
@@ -99,7 +118,7 @@ class Field:
     # ---- one processor, or all
 
     def __getitem__(self, place: Tuple[int, int]) -> int:
-        """`field[chip, processor]`: the number there; refusal 2 where there is no such place."""
+        """`field[chip, processor]`: the number there; refusal 2 where there is no such place, TypeError for a mask."""
         chip, processor = self.machine.checked_place(place)
         return self.machine.lines.number(f"field {chip} {processor} {self.at} {self.bits}")
 
@@ -223,6 +242,25 @@ class Field:
     def __rxor__(self, other: int) -> "Field":
         return self._changed("xor", other)
 
+    # There is no division, and there are no signs.
+
+    def __floordiv__(self, other: object) -> NoReturn:
+        raise _no_division("//", other)
+
+    def __truediv__(self, other: object) -> NoReturn:
+        raise _no_division("/", other)
+
+    def __mod__(self, other: object) -> NoReturn:
+        raise _no_division("%", other)
+
+    def __rfloordiv__(self, other: object) -> NoReturn:
+        raise _no_division("//", self)
+
+    __rtruediv__ = __rmod__ = __rfloordiv__
+
+    def __neg__(self) -> NoReturn:
+        raise TypeError("a field has no signs; 0 - x is what is to be added to x for 0, which is 2**bits - x")
+
     def __invert__(self) -> "Field":
         new = self.copy()
         lines = self.machine.lines
@@ -344,7 +382,10 @@ class Field:
 
     def _operand(self, value: Value) -> "Field":
         """The other side of an operation, as a field."""
-        return value if isinstance(value, Field) else self._number_as_field(value)
+        if not isinstance(value, Field):
+            return self._number_as_field(value)
+        self.machine.lines.refuse_foreign(self, value)
+        return value
 
     def _number_as_field(self, value: int) -> "Field":
         number = self.checked_number(value)
@@ -361,7 +402,7 @@ class Field:
             raise TypeError(f"a field goes with a field or a whole number, not with {type(value).__name__}; "
                             "data go into a field of their own first: y[:] = data") from None
         if not 0 <= number < 2**self.bits:
-            raise Refused(11, f"{number} beside a field of {self.bits} bits, which has 0 to {2**self.bits - 1}")
+            raise Refused(11, f"{number}", f"beside a field of {self.bits} bits, which has 0 to {2**self.bits - 1}")
         return number
 
 
@@ -373,6 +414,15 @@ def _compared(word: str, one: Field, other: Field, wanted: bool) -> Field:
     if not wanted:
         lines.everywhere(lines.line("not", new))
     return new
+
+
+def _no_division(word: str, divisor: object) -> TypeError:
+    """What to write instead of `x word divisor`."""
+    if isinstance(divisor, int) and divisor > 0 and divisor & (divisor - 1) == 0:
+        instead = f"x & {divisor - 1}" if word == "%" else f"x >> {divisor.bit_length() - 1}"
+        return TypeError(f"fields have no division; write {instead} for x {word} {divisor}")
+    return TypeError("fields have no division but by 2**n: x >> n is x // 2**n, and x & (2**n - 1) is x % 2**n; "
+                     "Python divides what x.list() or x.numpy() tells")
 
 
 def _checked_places(places: Any) -> int:

@@ -6,7 +6,8 @@ A *place* is 16 times the chip and the processor on it, so numbers of all proces
 from __future__ import annotations
 
 import functools
-from typing import List, Sequence, Tuple
+import operator
+from typing import Any, Callable, List, Sequence, Tuple
 
 PROCESSORS = 16         # of a chip
 SIDE = 4                # a chip is a square of four by four processors
@@ -38,10 +39,13 @@ def by_row(dims: int, numbers: Sequence[int]) -> List[List[int]]:
     return [[numbers[place] for place in row] for row in places_by_row(dims)]
 
 
+@functools.lru_cache(maxsize=1)
+def _picker_by_chip(dims: int) -> Callable[[Sequence[int]], Tuple[Any, ...]]:
+    """Takes numbers that stand row by row in the order of places; the one that was made last is kept."""
+    places = [place for row in places_by_row(dims) for place in row]
+    return operator.itemgetter(*sorted(range(len(places)), key=places.__getitem__))
+
+
 def by_chip(dims: int, numbers: Sequence[int]) -> List[int]:
     """Numbers that stand row by row, one row behind the other, chip by chip."""
-    places = [place for row in places_by_row(dims) for place in row]
-    found = [0] * len(places)
-    for place, number in zip(places, numbers):
-        found[place] = number
-    return found
+    return list(_picker_by_chip(dims)(numbers))

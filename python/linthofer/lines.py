@@ -1,6 +1,7 @@
 """What `Machine`, `Field` and `send` have in common: lines to one front end, each with the context that it wants."""
 from __future__ import annotations
 
+import json
 from typing import TYPE_CHECKING, Dict, List, Optional, Sequence, Union
 
 from .memory import Memory
@@ -12,6 +13,10 @@ if TYPE_CHECKING:
     from .field import Field
 
 Operand = Union["Field", int, str]
+
+FOREIGN = ("this field belongs to another machine (was m = Machine(..) run again?): "
+           "data go across by y[:] = x.list()")
+COMMAS = str.maketrans(" \n", ",,")
 
 
 class Lines:
@@ -81,13 +86,24 @@ class Lines:
 
     def numbers(self, question: str) -> List[int]:
         """The numbers in the lines of an answer `numbers R`."""
-        return list(map(int, self.ask(question)[0].split()[2:]))
+        found: List[int] = json.loads(f"[{self.text_of_numbers(question).translate(COMMAS)}]")
+        return found
+
+    def text_of_numbers(self, question: str) -> str:
+        """The same as a text, with one space or end of line between two numbers."""
+        return self.ask(question)[0].partition("\n")[2]
 
     def is_wire_up(self, *instructions: str) -> bool:
         """Whether flag GLOBAL is 1 in any processor behind these instructions."""
         return self.ask(*instructions, "sense")[-1] == "wire 1"
 
     # ---- lines of fields
+
+    def refuse_foreign(self, *operands: Operand) -> None:
+        """ValueError for a field of another machine: the same bits here would be others."""
+        for it in operands:
+            if not isinstance(it, (int, str)) and it.machine.lines is not self:
+                raise ValueError(FOREIGN)
 
     def name_of(self, field: "Field") -> str:
         """A field's name, which is its place: a text cannot forget a name, and so there are no more than places."""
@@ -98,11 +114,14 @@ class Lines:
 
     def line(self, word: str, *operands: Operand) -> str:
         """A macro or phrase. What the machine would refuse of its fields is refused here, where it is asked for."""
+        self.refuse_foreign(*operands)
         fields = [it for it in operands if not isinstance(it, (int, str))]
         line = " ".join([word, *(str(it) if isinstance(it, (int, str)) else self.name_of(it) for it in operands)])
         for one in fields:
             if one.bits != fields[0].bits:
-                raise Refused(11, f"{line}: {one.bits} bits beside {fields[0].bits}")
+                less, more = sorted((one.bits, fields[0].bits))
+                raise Refused(11, line, f"{fields[0].bits} bits beside {one.bits}; widened({more}) makes the shorter "
+                                        f"field longer, part(0, {less}) the longer one shorter")
             if not one.is_same_or_apart(fields[0]):
                 raise Refused(10, line)
         return line

@@ -32,6 +32,7 @@ from .wire import command
 __all__ = ["Field", "Machine", "Message", "Received", "messages_of"]
 
 CONDITION_FLAGS = (15, 5, 4, 3, 2, 1, 0)        # those of `where`, one for each that stands within another
+ROOMS = (1, 7)                                  # of a blank machine
 HEAD_BYTES = 8                                  # of an image, which tell its shape (docs/FORMATS.md, "Images")
 
 Path = Union[str, "os.PathLike[str]"]
@@ -52,11 +53,14 @@ class Machine:
                  _image: Optional[Path] = None) -> None:
         """A blank machine: `dims` 0 to 12, `room` 1 or 7, `rule` 0 or 1; `cut` names wires by a chip and a dimension.
 
-        Raises `Failed` for what there is not, and `Unavailable` where `cm1lab` is not on the path or too old.
+        `room` is how many messages a router holds. Raises ValueError for another room, `Failed` for what else there is
+        not, and `Unavailable` where `cm1lab` is not on the path or too old.
         """
         if _image is not None:
             self._begin(os.fspath(_image))
             return
+        if room not in ROOMS:
+            raise ValueError(f"Machine has room 1 or 7, not {room}; load_curve takes 1 to 15")
         words: List[object] = [dims, room, "--rule", rule]
         for chip, dimension in cut:
             words += ["--cut", chip, dimension]
@@ -132,11 +136,11 @@ class Machine:
         their address, here or by a line `field` of a text, are lent to no other field from then on.
         """
         if not 1 <= bits <= MOST_BITS:
-            raise Refused(1, f"field({bits})")
+            raise Refused(1, f"field({bits})", "a field has 1 to 64 bits; a longer number goes into two fields")
         if at is None:
             return Field(self, self.lines.memory.take(bits), bits, is_lent=True)
         if at < 0 or at + bits > 4096:
-            raise Refused(2, f"field({bits}, at={at})")
+            raise Refused(2, f"field({bits}, at={at})", "memory bits are 0 to 4095")
         self.lines.memory.keep(at, bits)
         return Field(self, at, bits)
 
@@ -159,7 +163,7 @@ class Machine:
         beginning. Within another `where` both have to hold. At most seven stand within one another (else
         `Unavailable`); they take flags 15, 5, 4, 3, 2, 1, 0, in this order.
         """
-        _check_one_bit(condition)
+        self._check_condition(condition)
         if not self._flags:
             raise Unavailable(f"at most {len(CONDITION_FLAGS)} conditions stand within one another")
         outer = self.lines.condition
@@ -177,13 +181,20 @@ class Machine:
 
     def any(self, condition: Field) -> bool:
         """Whether the condition, a field of one bit, is 1 in any processor that `where` says: a look at the wire."""
-        _check_one_bit(condition)
+        self._check_condition(condition)
         return self._is_wire_up(condition, A)
 
     def all(self, condition: Field) -> bool:
         """Whether the condition, a field of one bit, is 1 in all processors that `where` says: a look at the wire."""
-        _check_one_bit(condition)
+        self._check_condition(condition)
         return not self._is_wire_up(condition, ~A)
+
+    def _check_condition(self, condition: Any) -> None:
+        if not isinstance(condition, Field):
+            raise TypeError("a condition is a field of one bit, as a comparison makes one")
+        self.lines.refuse_foreign(condition)
+        if condition.bits != 1:
+            raise TypeError(f"a condition is a field of one bit, as x != 0 makes one; this has {condition.bits} bits")
 
     def _is_wire_up(self, condition: Field, table: int) -> bool:
         """Whether the table of the condition's bit is 1 in any processor that `where` says."""
@@ -243,7 +254,8 @@ class Machine:
             self.lines.everywhere(self.lines.line("const", place, place.checked_number(to)))
             return place
         if to.bits != bits:
-            raise Refused(11, f"send: `to` has {to.bits} bits, and a place of this machine has {bits}")
+            raise Refused(11, "send", f"`to` has {to.bits} bits, and a place of this machine has {bits}: "
+                                      + (f"widened({bits})" if to.bits < bits else f"part(0, {bits})"))
         return to
 
     def cycle(self, count: int = 1) -> None:
@@ -321,14 +333,19 @@ class Machine:
         """A flag of each processor, 0 or 1, chip by chip."""
         return self.lines.numbers(f"get flag {number}")
 
-    def checked_place(self, place: Tuple[int, int]) -> Tuple[int, int]:
+    def checked_place(self, place: Any) -> Tuple[int, int]:
         """Chip and processor; TypeError where it is no pair of numbers, refusal 2 where there is no such place."""
+        if isinstance(place, slice):
+            raise TypeError("x.list(), x.rows() or x.numpy() tells all numbers; x[:] is for assignments")
+        if isinstance(place, Field) or hasattr(place, "__iter__") and not isinstance(place, tuple):
+            raise TypeError("no masks in brackets: with m.where(mask): x[:] = ..")
         try:
             chip, processor = map(operator.index, place)
-        except TypeError:
-            raise TypeError("one processor is field[chip, processor], and all are field[:]") from None
+        except (TypeError, ValueError):
+            raise TypeError("one processor is x[chip, processor], and all are x[:]") from None
         if not (0 <= chip < self.chips and 0 <= processor < grid.PROCESSORS):
-            raise Refused(2, f"[{chip}, {processor}]: chips are 0 to {self.chips - 1}, processors 0 to 15")
+            raise Refused(2, f"[{chip}, {processor}]",
+                          f"chips of this machine are 0 to {self.chips - 1}, processors of a chip 0 to 15")
         return chip, processor
 
     def put_numbers(self, field: Field, numbers: Any, rows: bool) -> None:
@@ -336,11 +353,15 @@ class Machine:
         flat, is_nested = _flattened(numbers, self.shape)
         if len(flat) != self.size:
             raise ValueError(f"{len(flat)} numbers for {self.size} processors")
-        if min(flat) < 0 or max(flat) >> field.bits:
-            raise Refused(11, f"put: numbers of {field.bits} bits are 0 to {2**field.bits - 1}")
         if rows or is_nested:
             flat = grid.by_chip(self.dims, flat)
-        self.lines.tell(f"put {field.at} {field.bits} " + " ".join(map(str, flat)))
+        if min(flat) < 0 or max(flat) >> field.bits:
+            place = next(at for at, number in enumerate(flat) if not 0 <= number < 2**field.bits)
+            chip, processor = divmod(place, grid.PROCESSORS)
+            raise Refused(11, "put", f"{flat[place]} for place {place}, which is [{chip}, {processor}]; "
+                                     f"a field of {field.bits} bits has 0 to {2**field.bits - 1}")
+        # Of a list of ints, Python writes the text `[1, 2]` faster than a text for each.
+        self.lines.tell(f"put {field.at} {field.bits} " + repr(flat)[1:-1].replace(",", ""))
 
     # ---- images, pictures, studies
 
@@ -401,16 +422,11 @@ class Machine:
             return Route(command("cm1lab", "route", image, program, *tag).decode())
 
 
-def _check_one_bit(condition: Any) -> None:
-    if not isinstance(condition, Field) or condition.bits != 1:
-        raise TypeError("a condition is a field of one bit, as a comparison makes one")
-
-
 def _flattened(numbers: Any, shape: Tuple[int, int]) -> Tuple[List[int], bool]:
     """Whole numbers one after another, and whether they came as rows of the grid; ValueError for another shape."""
     if hasattr(numbers, "tolist"):                      # a NumPy array, or what is like one
         numbers = numbers.tolist()
-    listed = list(numbers)
+    listed = numbers if isinstance(numbers, list) else list(numbers)
     if not listed or not hasattr(listed[0], "__iter__"):
         return _whole_numbers(listed), False
     rows = [_whole_numbers(row) for row in listed]
@@ -421,4 +437,7 @@ def _flattened(numbers: Any, shape: Tuple[int, int]) -> Tuple[List[int], bool]:
 
 def _whole_numbers(numbers: Iterable[Any]) -> List[int]:
     """Each as an int, True as 1; TypeError for what is no whole number."""
-    return list(map(int, map(operator.index, numbers)))
+    listed = numbers if isinstance(numbers, list) else list(numbers)
+    if set(map(type, listed)) <= {int}:                 # most often; it is faster than to ask each
+        return listed
+    return list(map(int, map(operator.index, listed)))

@@ -65,9 +65,16 @@ def send(machine: "Machine", value: "Field", to: "Value", combine: str, bits: Op
     """What `Machine.send` says."""
     if combine not in COMBINES:
         raise ValueError(f"combine is one of {', '.join(COMBINES)}, not {combine!r}")
+    if not hasattr(value, "bits"):
+        raise TypeError(f"what is sent is a field, not {type(value).__name__}: a number goes into a field before")
+    machine.lines.refuse_foreign(value, to)
     bits = value.bits if bits is None else bits
-    if value.bits > PAYLOAD_BITS or bits > PAYLOAD_BITS:
-        raise Refused(1, f"send: a message carries {PAYLOAD_BITS} bits, not {max(value.bits, bits)}")
+    if value.bits > PAYLOAD_BITS:
+        raise Refused(1, "send", f"a message carries {PAYLOAD_BITS} bits, not {value.bits}: send two parts, "
+                                 f"x.part(0, {PAYLOAD_BITS}) and x.part({PAYLOAD_BITS}, {value.bits})")
+    if bits > PAYLOAD_BITS:
+        raise Refused(1, "send", f"what is received has at most {PAYLOAD_BITS} bits, not {bits}: for longer sums send "
+                                 "two parts, the lower and the upper bits")
     if bits < value.bits:
         raise ValueError(f"bits={bits} are fewer than the {value.bits} that are sent")
     if most < 1:

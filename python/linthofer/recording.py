@@ -85,6 +85,7 @@ class Recording:
         """Takes a picture of what all processors have: of a field of at most 8 bits, of a flag by its number, or with
         `"buffers"` of how many messages stand at each chip."""
         if isinstance(shown, Field):
+            self.machine.lines.refuse_foreign(shown)
             if shown.bits > BITS_SHOWN:
                 raise ValueError(f"a picture shows at most {BITS_SHOWN} bits; take a part of the field")
             lamps, most = shown.list(), 2**shown.bits - 1

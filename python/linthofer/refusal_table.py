@@ -94,7 +94,7 @@ REFUSALS: Dict[int, Tuple[str, str, str]] = {
         'is the file there, may it be read? Which of its two `cm1 run` does not say: `ls -l` both'),
     31: ('Write',
         'a write failed or took 0 bytes; a file cannot be made or replaced',
-        'is the folder there, may it be written, has it room?'),
+        'is the folder there, may it be written, has it room? Are FILE.part and FILE.part1 to FILE.part99 all taken? What a `cm1` that was killed left may be removed'),
     32: ('TooMuch',
         'input above its limit',
         'part it'),

@@ -24,19 +24,20 @@ class Fault(Exception):
 class Refused(Fault):
     """A line was refused.
 
-    `number`, `name`, `cause` and `advice` are those of docs/REFUSALS.md; `line` is the line, or what stands for it.
+    `number`, `name`, `cause` and `advice` are those of docs/REFUSALS.md; `line` is the line, or the call that stands
+    for it. `why` says what is wrong in this case, where Python knows more than the document.
     """
 
-    def __init__(self, number: int, line: str = "") -> None:
+    def __init__(self, number: int, line: str = "", why: str = "") -> None:
         self.number = number
         self.line = line
         self.name, self.cause, self.advice = REFUSALS.get(number, ("Unknown", "no refusal that is known here", ""))
-        text = f"? {number} {self.name}: {self.cause}"
-        if line:
-            text += f"\n  line: {_shortened(line)}"
-        if self.advice:
-            text += f"\n  what to do: {self.advice}"
-        super().__init__(text)
+        refusal = f"? {number} {self.name}: {self.cause}"
+        lines = [f"{_shortened(line)}: {why}" if why else _shortened(line)] if line else []
+        lines.append(f"  {refusal}" if line else refusal)
+        if self.advice and not why:
+            lines.append(f"  what to do: {self.advice}")
+        super().__init__("\n".join(lines))
 
 
 class Failed(Fault):

@@ -3,13 +3,16 @@ from __future__ import annotations
 
 import base64
 import html
+import math
 import os
 import tempfile
 from types import TracebackType
-from typing import Any, Dict, Iterable, List, Optional, Sequence, Type, Union
+from typing import Any, Dict, Iterable, List, Optional, Type, Union
 
 from .refusals import Failed
 from .wire import command
+
+FilePath = Union[str, "os.PathLike[str]"]
 
 MOST_LINES_SHOWN = 30       # of a table in a notebook
 LEAST_WIDTH_SHOWN = 256     # of a picture in a notebook, in dots of the screen
@@ -23,8 +26,9 @@ class Svg:
     def __init__(self, text: str) -> None:
         self.text = text
 
-    def save(self, path: Union[str, "os.PathLike[str]"]) -> None:
-        with open(path, "w", encoding="utf-8") as file:
+    def save(self, path: FilePath) -> None:
+        """Writes it into a file whose name ends in .svg (else ValueError)."""
+        with open(_checked_ending(path, ".svg"), "w", encoding="utf-8") as file:
             file.write(self.text)
 
     def _repr_svg_(self) -> str:
@@ -39,8 +43,9 @@ class Picture:
         self.width = int.from_bytes(png[16:20], "big")      # both stand at the head of each PNG
         self.height = int.from_bytes(png[20:24], "big")
 
-    def save(self, path: Union[str, "os.PathLike[str]"]) -> None:
-        with open(path, "wb") as file:
+    def save(self, path: FilePath) -> None:
+        """Writes it into a file whose name ends in .png (else ValueError)."""
+        with open(_checked_ending(path, ".png"), "wb") as file:
             file.write(self.png)
 
     def _repr_png_(self) -> bytes:
@@ -82,9 +87,9 @@ class Table(List[Dict[str, Number]]):
         """The picture that `cm1lab plot` makes of it; `Failed` where there is nothing to be drawn."""
         return plot_of(self.csv)
 
-    def save(self, path: Union[str, "os.PathLike[str]"]) -> None:
-        """Writes the table into a file, as CSV."""
-        with open(path, "w", encoding="utf-8") as file:
+    def save(self, path: FilePath) -> None:
+        """Writes the table into a file whose name ends in .csv (else ValueError)."""
+        with open(_checked_ending(path, ".csv"), "w", encoding="utf-8") as file:
             file.write(self.csv)
 
     def _repr_html_(self) -> str:
@@ -158,17 +163,18 @@ def acts_of(program: str) -> List[str]:
     return [line.partition(" ;")[0] for line in listing.splitlines() if not line.startswith("field ")]
 
 
-def load_curve(dims: int, room: int, rates: Sequence[float], cycles: int, *, rule: int = 0, pattern: str = "uniform",
-               until: Optional[int] = None, seed: int = 1) -> Table:
+def load_curve(dims: int, room: int, rates: Union[float, Iterable[float]], cycles: int, *, rule: int = 0,
+               pattern: str = "uniform", until: Optional[int] = None, seed: int = 1) -> Table:
     """How the routers of a blank machine bear loads: a record for each rate (`cm1lab load`).
 
-    `dims` is 0 to 12, `room` 1 to 15; `rates`, the messages that a chip offers in a petit cycle, are 0 to 16 with at
-    most two digits behind the point; `cycles`, how many petit cycles each load has, is 1 to 1,000,000. `pattern` is
+    `dims` is 0 to 12; `room`, how many messages a router holds, 1 to 15; `rates`, one or some, the messages that a chip
+    offers in a petit cycle, are 0 to 16 with at most two digits behind the point (else ValueError, above 16 `Failed`);
+    `cycles`, how many petit cycles each load has, is 1 to 1,000,000. `pattern` is
     "uniform", "hotspot", "transpose" or "reversal"; messages are offered in the first `until` petit cycles alone, if
     that is given. Columns: rate, offered, taken, delivered, throughput, mean, p95, greatest, deepest
     (docs/LABORATORY.md, "Loads").
     """
-    told_rates = ",".join(f"{rate:g}" for rate in rates)
+    told_rates = ",".join(map(_rate, rates if isinstance(rates, Iterable) else [rates]))
     words: List[object] = [dims, room, told_rates, cycles, "--rule", rule, "--pattern", pattern, "--seed", seed]
     if until is not None:
         words += ["--until", until]
@@ -176,8 +182,25 @@ def load_curve(dims: int, room: int, rates: Sequence[float], cycles: int, *, rul
 
 
 def plot_of(text: str) -> Svg:
-    """The picture that `cm1lab plot` makes of a table or a route; of a table of one's own, too."""
+    """The picture that `cm1lab plot` makes of a table or a route; of a table of one's own, too.
+
+    The first column of that is `rate`, which goes to the right, and each other one is a curve with its heading.
+    """
     return Svg(command("cm1lab", "plot", given=text.encode()).decode())
+
+
+def _rate(rate: float) -> str:
+    """The word of a rate; a sum of floats may miss its two digits by what floats miss."""
+    if not (0 <= rate < float("inf") and math.isclose(100 * rate, round(100 * rate), rel_tol=1e-7)):
+        raise ValueError(f"a rate is 0 to 16 with at most two digits behind the point, as 0.25, not {rate}")
+    return f"{rate:.2f}"
+
+
+def _checked_ending(path: FilePath, ending: str) -> FilePath:
+    if os.path.splitext(path)[1].lower() != ending:
+        raise ValueError(f"what is saved is a {ending[1:].upper()}: the name of its file ends in {ending}, "
+                         f"not as {os.fspath(path)!r}")
+    return path
 
 
 def _picture_if_any(text: str) -> str:

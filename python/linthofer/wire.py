@@ -8,8 +8,8 @@ Two rules make it safe over two pipes:
   is a piece of its own: the front end reads the whole of a line before it answers.
 * Some answers have several lines: the first tells how many follow.
 
-A front end reads at most 16,777,216 bytes. Before they are used up its machine goes into a new one, as an image: fields and
-context are told again, and the logs of the routers are empty then.
+A front end reads at most 16,777,216 bytes. Before they are used up its machine goes into a new one, as an image: fields
+and context are told again, and the logs of the routers are empty then.
 """
 from __future__ import annotations
 
@@ -20,6 +20,7 @@ import subprocess
 import tempfile
 import threading
 from contextlib import contextmanager
+from itertools import islice
 from types import FrameType
 from typing import Dict, Iterable, Iterator, List, NoReturn, Optional, Sequence
 
@@ -77,7 +78,7 @@ class Front:
         self._errors = tempfile.TemporaryFile()
         # In a session of its own, so that Ctrl-C at the terminal does not end it.
         self._process = subprocess.Popen(words, stdin=subprocess.PIPE, stdout=subprocess.PIPE, stderr=self._errors,
-                                         start_new_session=True)
+                                         bufsize=PIPE_BYTES, start_new_session=True)
         assert self._process.stdin is not None and self._process.stdout is not None
         self._to = self._process.stdin
         self._from = self._process.stdout
@@ -145,7 +146,11 @@ class Front:
         word, _, rest = first.partition(" ")
         if word not in HAVE_MORE_LINES:
             return first
-        return "\n".join([first, *(self._read_line() for _ in range(int(rest)))])
+        count = int(rest)
+        lines = list(islice(self._from, count))
+        if len(lines) < count or lines and not lines[-1].endswith(b"\n"):
+            self._raise_its_end()
+        return "\n".join([first, b"".join(lines)[:-1].decode()]) if lines else first
 
     def _read_line(self) -> str:
         line = self._from.readline()

@@ -297,3 +297,88 @@ def test_numbers_of_numpy_are_numbers(four):
     x = four.field(8)
     x[:] = numpy.uint8(7)
     assert set(numpy.int64(2) * x + numpy.int64(3)) == {17}
+
+
+# ---- a field belongs to the machine that made it
+
+MEANT_HERE = [*[lambda m, x, word=word: getattr(operator, word)(x, m.field(8)) for word in OPERATORS + COMPARISONS],
+              *[lambda m, x, word=word: getattr(operator, word)(m.field(8), x) for word in OPERATORS + COMPARISONS],
+              *[lambda m, x, word=word: getattr(operator, word)(m.field(8), x)
+                for word in ("iadd", "isub", "imul", "iand", "ior", "ixor")],
+              lambda m, x: m.field(8).__setitem__(slice(None), x),
+              lambda m, x: m.where(x == 1).__enter__(),
+              lambda m, x: m.any(x == 1),
+              lambda m, x: m.all(x == 1),
+              lambda m, x: m.send(x, to=m.place()),
+              lambda m, x: m.send(m.field(8), to=x)]
+
+
+@pytest.mark.parametrize("does", MEANT_HERE)
+def test_a_field_of_another_machine_is_refused(four, does):
+    with Machine(dims=4) as other:
+        x = other.field(8)
+        x[:] = 1
+        with pytest.raises(ValueError, match=r"belongs to another machine .* y\[:\] = x\.list\(\)"):
+            does(four, x)
+        assert set(x) == {1} and four.cycles == 0
+
+
+def test_a_field_of_a_closed_machine_is_told_in_the_same_words(four):
+    with Machine(dims=4) as other:
+        x = other.field(8)
+    for does in MEANT_HERE[6], MEANT_HERE[0]:
+        with pytest.raises(ValueError, match="belongs to another machine"):
+            does(four, x)
+
+
+def test_numbers_go_from_one_machine_to_another(four, draw):
+    with Machine(dims=4) as other:
+        x, y = other.field(8), four.field(8)
+        x[:] = numbers = draw(other, 256)
+        y[:] = x.list()
+        assert y.list() == numbers
+
+
+# ---- what is told says what to write
+
+TOLD = [(Refused, "widened\\(16\\)", lambda x: x + x.machine.field(16)),
+        (Refused, "16 bits beside 8", lambda x: x.machine.field(16) * x),
+        (Refused, "300 for place 17, which is \\[1, 1\\]; a field of 8 bits has 0 to 255",
+         lambda x: x.put([0] * 17 + [300] * 239)),
+        (Refused, "-1 for place 16, which is \\[1, 0\\]", lambda x: x.put([0] * 4 + [-1] + [0] * 251, rows=True)),
+        (Refused, "^\\[99, 0\\]: chips of this machine are 0 to 15", lambda x: x[99, 0]),
+        (Refused, "^256: beside a field of 8 bits", lambda x: x + 256),
+        (TypeError, "no masks in brackets: with m.where\\(mask\\)", lambda x: x[x == 3]),
+        (TypeError, "no masks in brackets", lambda x: x.__setitem__(x == 3, 1)),
+        (TypeError, "no masks in brackets", lambda x: x.__setitem__(numpy.ones(256, bool), 1)),
+        (TypeError, "x.list\\(\\)", lambda x: x[:]),
+        (TypeError, "x\\[chip, processor\\]", lambda x: x[1, 2, 3]),
+        (TypeError, "write x >> 3 for x // 8", lambda x: x // 8),
+        (TypeError, "write x >> 0 for x / 1", lambda x: x / 1),
+        (TypeError, "write x & 7 for x % 8", lambda x: x % 8),
+        (TypeError, "no division but by", lambda x: x // 10),
+        (TypeError, "no division but by", lambda x: x % x),
+        (TypeError, "no division but by", lambda x: 8 // x),
+        (TypeError, "no signs", lambda x: -x),
+        (TypeError, "this has 8 bits", lambda x: x.machine.any(x)),
+        (AttributeError, "write sum\\(x\\), or m.send", lambda x: x.sum()),
+        (AttributeError, "write m.shape", lambda x: x.shape),
+        (AttributeError, "has no words$", lambda x: x.words)]
+
+
+@pytest.mark.parametrize("kind, text, does", TOLD)
+def test_errors_say_what_to_write(four, kind, text, does):
+    x = four.field(8)
+    x[:] = 5
+    with pytest.raises(kind, match=text):
+        does(x)
+    assert set(x) == {5}
+
+
+def test_a_mask_that_changes_in_its_own_where_says_what_it_said(four):
+    mask, x = four.place() < 3, four.field(4)
+    x[:] = 0
+    with four.where(mask):
+        mask[:] = 0
+        x[:] = 1
+    assert x.list() == [1] * 3 + [0] * 253 and not four.any(mask)

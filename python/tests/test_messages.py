@@ -1,4 +1,5 @@
 """Messages, and what is told of them."""
+import numpy
 import pytest
 
 from linthofer import Collision, Machine, Message, NotArrived, Refused
@@ -44,6 +45,35 @@ def test_what_comes_together_is_combined(four, draw, word, does):
     assert came.arrived.list() == [1] * 8 + [0] * 248
 
 
+def filled(machine, numbers):
+    field = machine.field(16)
+    field[:] = numbers
+    return field
+
+
+def test_assignments_by_place_are_those_of_numpy(four, draw):
+    numbers, before, receivers = draw(four, 2**12), draw(four, 2**12), draw(four, 256)
+    x, y, to = filled(four, numbers), filled(four, before), four.place()
+    expected = numpy.array(before)
+    with four.where(to < 100):
+        came = four.send(x, to ^ 255)
+    with four.where(came.arrived):
+        y[:] = came.value
+    expected[255 - numpy.arange(100)] = numbers[:100]
+    assert y.list() == expected.tolist()
+    to[:] = receivers
+    y, expected = filled(four, before), numpy.array(before)
+    y += four.send(x, to, combine="add").value
+    numpy.add.at(expected, receivers, numbers)
+    assert y.list() == expected.tolist()
+    y, expected = filled(four, before), numpy.array(before)
+    came = four.send(x, to, combine="max")
+    with four.where(came.arrived & (came.value > y)):
+        y[:] = came.value
+    numpy.maximum.at(expected, receivers, numbers)
+    assert y.list() == expected.tolist()
+
+
 def test_the_last_that_came_is_one_of_them(four, draw):
     value, to, numbers, receivers = four.field(16), four.field(8), draw(four, 2**16), draw(four, 8)
     value[:], to[:] = numbers, receivers
@@ -82,6 +112,7 @@ def test_messages_that_do_not_arrive_are_told(four):
 WRONG = [(Refused, lambda m: m.send(m.field(33), to=3)),
          (Refused, lambda m: m.send(m.field(8), to=3, bits=33)),
          (Refused, lambda m: m.send(m.field(8), to=256)),
+         (TypeError, lambda m: m.send(5, to=3)),
          (Refused, lambda m: m.send(m.field(8), to=m.field(9))),
          (ValueError, lambda m: m.send(m.field(8), to=3, bits=7)),
          (ValueError, lambda m: m.send(m.field(8), to=3, combine="sum")),
@@ -93,6 +124,22 @@ def test_what_cannot_be_sent_is_refused(four, kind, does):
     with pytest.raises(kind):
         does(four)
     assert four.cycles == 0
+
+
+def test_what_is_too_long_is_sent_in_two_parts(four, draw):
+    value, numbers = four.field(40), draw(four, 2**40)
+    value[:], to = numbers, four.place() ^ 1
+    with pytest.raises(Refused, match=r"32 bits, not 40: send two parts, x.part\(0, 32\) and x.part\(32, 40\)"):
+        four.send(value, to)
+    low, high = (four.send(part, to).value.list() for part in (value.part(0, 32), value.part(32, 40)))
+    assert [a + (b << 32) for a, b in zip(low, high)] == [numbers[place ^ 1] for place in range(256)]
+
+
+def test_sums_that_do_not_fit_are_lost(four):
+    one = four.field(4)
+    one[:] = 1
+    assert four.send(one, to=3, combine="add").value[0, 3] == 0                 # 256 has nine bits
+    assert four.send(one, to=3, combine="add", bits=9).value[0, 3] == 256
 
 
 def test_messages_are_told_as_the_debugger_tells_them():

@@ -58,6 +58,11 @@ def test_nine_bits_are_too_many(film):
         film.take(film.machine.field(9))
 
 
+def test_a_field_of_another_machine_is_refused(film):
+    with Machine(dims=2) as other, pytest.raises(ValueError, match="belongs to another machine"):
+        film.take(other.field(1))
+
+
 def test_a_recording_of_nothing_is_refused(film):
     with pytest.raises(ValueError):
         film.html()
@@ -71,6 +76,5 @@ def test_a_notebook_shows_it_in_a_frame_of_its_own(film):
 def test_the_program_of_the_document_makes_a_recording(tmp_path, monkeypatch):
     monkeypatch.chdir(tmp_path)
     program = re.search(r"^```python\n(.*?)^```$", DOCUMENT.read_text(), re.M | re.S)[1]
-    exec(compile(program.replace("import Machine, Recording", "import Machine"), str(DOCUMENT), "exec"),
-         {"Recording": Recording})
-    assert (tmp_path / "life.html").read_text().count("generation ") > 30
+    exec(compile(program, str(DOCUMENT), "exec"), {})
+    assert (tmp_path / "life.html").read_text().count("generation ") == 30

@@ -3,7 +3,7 @@ import pathlib
 
 import pytest
 
-from linthofer import Failed, Machine, Table, acts_of, expand, load_curve
+from linthofer import Failed, Machine, Svg, Table, acts_of, expand, load_curve, plot_of
 
 EXAMPLES = pathlib.Path(__file__).resolve().parents[2] / "examples"
 HOT_SPOT = (EXAMPLES / "hot_spot" / "program.txt").read_text()
@@ -51,6 +51,39 @@ def test_a_curve_of_loads(tmp_path):
         table.column("latency")
     with pytest.raises(Failed):
         load_curve(8, 7, [17], 400)
+
+
+RATES = [(1, "1.00"), ([0.25], "0.25"), ((2,), "2.00"), ([0.1 + 0.2], "0.30"), (0, "0.00")]
+
+
+@pytest.mark.parametrize("rates, told", RATES)
+def test_rates_have_two_digits(rates, told):
+    assert load_curve(2, 2, rates, 5).csv.splitlines()[1].startswith(told + ",")
+
+
+@pytest.mark.parametrize("rate", [0.125, 0.001, -1, float("nan"), float("inf")])
+def test_other_rates_are_refused(rate):
+    with pytest.raises(ValueError, match="at most two digits behind the point"):
+        load_curve(2, 7, [1, rate], 5)
+
+
+def test_a_table_of_ones_own_has_a_curve_for_each_column():
+    svg = plot_of("rate:petit cycles,room 1,room 7\n1,2.5,1.9\n2,9.75,5\n").text
+    assert all(word in svg for word in ("petit cycles", "room 1", "room 7"))
+
+
+ENDINGS = [(".svg", lambda m: Svg("<svg/>")), (".csv", lambda m: Table("rate\n1\n")),
+           (".png", lambda m: m.place().picture())]
+
+
+@pytest.mark.parametrize("ending, made", ENDINGS)
+def test_a_file_is_named_as_what_is_in_it(four, tmp_path, ending, made):
+    for name in "a", "a.jpg", "a" + ending + ".old":
+        with pytest.raises(ValueError, match=f"ends in {ending}, not as .*{name}"):
+            made(four).save(tmp_path / name)
+    for name in "a" + ending, "A" + ending.upper():
+        made(four).save(str(tmp_path / name))
+        assert (tmp_path / name).stat().st_size > 0
 
 
 def test_a_table_is_a_data_frame(four):

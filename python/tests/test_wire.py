@@ -148,6 +148,8 @@ def test_a_file_that_is_no_image(tmp_path, content):
 def test_machines_that_there_are_not():
     with pytest.raises(Failed):
         Machine(dims=13)
+    with pytest.raises(ValueError, match="Machine has room 1 or 7, not 2; load_curve takes 1 to 15"):
+        Machine(room=2)
     with pytest.raises(Failed):
         Machine.load("no/such.image")
 
