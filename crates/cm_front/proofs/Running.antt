@@ -1,5 +1,5 @@
 -- A line of a program is read alike whatever acts came before it; so lines run one by one are the run of their text.
-use Rattle.std.proofs.Common.{◌≡◌, ℕ, ◌+◌, Bool, true, false, cond, ◌||◌, nat_lt, if◌then◌else◌, IfOk}
+use Rattle.std.proofs.Common.{◌≡◌, ℕ, Bool, true, false, cond, ◌||◌, nat_lt, if◌then◌else◌, IfOk}
 use Rattle.std.proofs.Common.{Option, Some, None, Result, Ok, Err, List, [], ◌∷◌, ◌++◌, length, codes, bytes_eq}
 use Rattle.std.proofs.Common.{refl, ap, ◌∙◌, sym, subst, arith, append-nil, length-append}
 use Rattle.std.proofs.lemmas.Bool.Decides.{nat_tests}
@@ -14,15 +14,19 @@ use Rattle.cm_language.specs.declared.macros.Macro.{Macro}
 use Rattle.cm_language.specs.declared.fault.MacroFault.{MacroFault}
 use Rattle.cm_language.specs.declared.fault.AsmKind.{AsmKind}
 use Rattle.cm_language.specs.declared.fault.AsmKind.TheVariants as kind
-use Rattle.cm_language.specs.declared.fault.AsmFault.{AsmFault}
 use Rattle.cm_language.specs.declared.statement.Statement.{Statement}
 use Rattle.cm_language.specs.declared.statement.Statement.TheVariants as statement
 use Rattle.cm_language.specs.Acts.{acts_of}
 use Rattle.cm_language.specs.Faults.{first_fault}
 use Rattle.cm_language.specs.Lines.{◌>>=◌, verb_of, statement_of, definition_of}
-use Rattle.cm_language.specs.Program as language
+use Rattle.cm_phrases.specs.declared.phrase.Phrase.{Phrase}
+use Rattle.cm_phrases.specs.Acts as phrases
+use Rattle.cm_phrases.specs.Faults as faults
+use Rattle.cm_source.specs.declared.verb.PhraseVerb.{PhraseVerb}
+use Rattle.cm_source.specs.Says as says
+use Rattle.cm_source.specs.Expansion.{with_phrase}
 use Rattle.cm_language.specs.Program.{MOST_ACTS, Reading, nothing_read, with_acts, with_macro, after_statement}
-use Rattle.cm_language.specs.Program.{after_definition, after_words, unless_faulty}
+use Rattle.cm_language.specs.Program.{after_definition, after_words}
 use Rattle.cm_session.specs.declared.command.Command.{Command}
 use Rattle.cm_session.specs.declared.command.Command.TheVariants as command
 use Rattle.cm_session.specs.declared.command.Refusal.{Refusal}
@@ -35,8 +39,9 @@ use Rattle.cm_front.specs.declared.for_all.Asked.TheVariants.{Get, GetFlag, GetB
 use Rattle.cm_front.specs.declared.for_all.Asked.TheVariants.{Forget}
 use Rattle.cm_front.specs.ForAll.{is_for_all, asked_of}
 use Rattle.cm_front.specs.Front.{Front, Answered, front_of, opening, without_acts, said, answered_to, obeyed, for_all}
-use Rattle.cm_front.specs.Front.{after_line, after_lines}
+use Rattle.cm_front.specs.Front.{after_line, after_lines, read_by, read_more}
 use Rattle.cm_front.specs.Laws.{is_program_line, program_lines, is_change, asks_change, changes, HaveNoChange, refuses_acts, AreRun}
+use Rattle.cm_front.specs.Laws.{read_lines}
 use Rattle.cm_front.specs.Laws.{FrontsRunTheirPrograms}
 use Rattle.cm_front.proofs.Saying.{after_said, after_for_all, after_asked}
 
@@ -99,10 +104,24 @@ words_grow r (word ∷ operands) = by (bytes_eq word (codes "field")) where
       (λ v. bound_grows r (statement_of r.fields v operands) (after_statement r) (after_statement (without_acts r))
       (λ s. statement_grows r s))
 
-grown : (r after : Reading) (words : List (List ℕ)) → after_words r words ≡ Ok after
-    → Grows r (after_words (without_acts r) words) after
+phrase_grows : (r : Reading) (said : Phrase) (o : Option MacroFault)
+    → IfOk (with_phrase r said o) (Grows r (with_phrase (without_acts r) said o))
+phrase_grows r said (Some fault) = tt
+phrase_grows r said None = acts_grow r (phrases.acts_of said r.context)
+
+more_grows : (r : Reading) (words : List (List ℕ))
+    → IfOk (read_more r words) (Grows r (read_more (without_acts r) words))
+more_grows r words = by (says.verb_of words) where
+  by : (o : Option PhraseVerb) → IfOk (read_by r o words) (Grows r (read_by (without_acts r) o words))
+  by None = words_grow r words
+  by (Some asked) =
+      bound_grows r (says.phrase_of r.fields asked words) _ _
+      (λ said. phrase_grows r said (faults.first_fault said r.context))
+
+grown : (r after : Reading) (words : List (List ℕ)) → read_more r words ≡ Ok after
+    → Grows r (read_more (without_acts r) words) after
 grown r after words is =
-    subst (λ (q : Result Reading AsmKind). IfOk q (Grows r (after_words (without_acts r) words))) is (words_grow r words)
+    subst (λ (q : Result Reading AsmKind). IfOk q (Grows r (read_more (without_acts r) words))) is (more_grows r words)
 
 -- ---- a question leaves the machine
 
@@ -157,12 +176,12 @@ come n cap start r = front_of (run_of n cap start r.acts) (without_acts r)
 
 -- a line of the program
 program_line_runs : (n cap : ℕ) (start : Machine) (r after : Reading) (line : List ℕ)
-    → is_of_program (words_of line) ≡ true → after_words r (words_of line) ≡ Ok after
-    → refuses_acts (come n cap start r) (after_words (without_acts r) (words_of line)) ≡ false
+    → is_of_program (words_of line) ≡ true → read_more r (words_of line) ≡ Ok after
+    → refuses_acts (come n cap start r) (read_more (without_acts r) (words_of line)) ≡ false
     → (after_line n cap (come n cap start r) line).front ≡ come n cap start after
 program_line_runs n cap start r after line of_program reads taken =
     let front : Front = come n cap start r in
-    let grows : Grows r (after_words (without_acts r) (words_of line)) after = grown r after (words_of line) reads in
+    let grows : Grows r (read_more (without_acts r) (words_of line)) after = grown r after (words_of line) reads in
     let free : (is_long grows.more || is_late front.machine.clock grows.more) ≡ false =
     sym (ap (refuses_acts front) grows.alone) ∙ taken in
     ap (λ (a : Answered). a.front) (after_said n cap front line of_program)
@@ -189,60 +208,60 @@ question_line_keeps n cap start r line other same = by (is_for_all (words_of lin
       (question_keeps n cap (run_of n cap start r.acts) (question_of n (words_of line)) pokeless)
 
 -- what a text that is accepted says
-abbrev read_or : Reading → Result Reading AsmFault → Reading
+abbrev read_or : Reading → Result Reading AsmKind → Reading
 read_or other (Ok r) = r
 read_or other (Err fault) = other
 
 -- from here on the lines run
 abbrev RunsOn : ℕ → ℕ → Machine → Reading → List (List ℕ) → Type 0
-RunsOn n cap start read lines = (s : Reading) (k : ℕ) → language.after_lines s k (program_lines lines) ≡ Ok read
+RunsOn n cap start read lines = (s : Reading) → read_lines s (program_lines lines) ≡ Ok read
     → AreRun n cap (come n cap start s) lines → (after_lines n cap (come n cap start s) lines).front ≡ come n cap start read
 
-onwards : (n cap : ℕ) (start : Machine) (read s : Reading) (k : ℕ) (there : Front) (lines : List (List ℕ))
+onwards : (n cap : ℕ) (start : Machine) (read s : Reading) (there : Front) (lines : List (List ℕ))
     → there ≡ come n cap start s → RunsOn n cap start read lines
-    → language.after_lines s k (program_lines lines) ≡ Ok read → AreRun n cap there lines
+    → read_lines s (program_lines lines) ≡ Ok read → AreRun n cap there lines
     → (after_lines n cap there lines).front ≡ come n cap start read
-onwards n cap start read s k there lines is runs reads run =
+onwards n cap start read s there lines is runs reads run =
     ap (λ (f : Front). (after_lines n cap f lines).front) is
-    ∙ runs s k reads (subst (λ (f : Front). AreRun n cap f lines) is run)
+    ∙ runs s reads (subst (λ (f : Front). AreRun n cap f lines) is run)
 
 -- behind a line of the program
-program_goes : (n cap number : ℕ) (start : Machine) (r read : Reading) (line : List ℕ) (lines : List (List ℕ))
+program_goes : (n cap : ℕ) (start : Machine) (r read : Reading) (line : List ℕ) (lines : List (List ℕ))
     (q : Result Reading AsmKind) → RunsOn n cap start read lines → is_of_program (words_of line) ≡ true
-    → after_words r (words_of line) ≡ q → AreRun n cap (come n cap start r) (line ∷ lines)
-    → unless_faulty number q (λ s. language.after_lines s (number + 1) (program_lines lines)) ≡ Ok read
+    → read_more r (words_of line) ≡ q → AreRun n cap (come n cap start r) (line ∷ lines)
+    → (q >>= λ s. read_lines s (program_lines lines)) ≡ Ok read
     → (after_lines n cap (after_line n cap (come n cap start r) line).front lines).front ≡ come n cap start read
-program_goes n cap number start r read line lines (Err fault) runs of_program is run h = absurd cc
-program_goes n cap number start r read line lines (Ok s) runs of_program is run h =
-    onwards n cap start read s (number + 1) (after_line n cap (come n cap start r) line).front lines
+program_goes n cap start r read line lines (Err fault) runs of_program is run h = absurd cc
+program_goes n cap start r read line lines (Ok s) runs of_program is run h =
+    onwards n cap start read s (after_line n cap (come n cap start r) line).front lines
     (program_line_runs n cap start r s line of_program is run.0) runs h run.1
 
 -- behind any line
-line_goes : (n cap number : ℕ) (start : Machine) (r read : Reading) (line : List ℕ) (lines : List (List ℕ)) (b : Bool)
+line_goes : (n cap : ℕ) (start : Machine) (r read : Reading) (line : List ℕ) (lines : List (List ℕ)) (b : Bool)
     → RunsOn n cap start read lines → is_of_program (words_of line) ≡ b
     → changes n (words_of line) ≡ false → AreRun n cap (come n cap start r) (line ∷ lines)
-    → language.after_lines r number (cond b (line ∷ program_lines lines) (program_lines lines)) ≡ Ok read
+    → read_lines r (cond b (line ∷ program_lines lines) (program_lines lines)) ≡ Ok read
     → (after_lines n cap (after_line n cap (come n cap start r) line).front lines).front ≡ come n cap start read
-line_goes n cap number start r read line lines true runs is pokeless run h =
-    program_goes n cap number start r read line lines (after_words r (words_of line)) runs is refl run h
-line_goes n cap number start r read line lines false runs is pokeless run h =
-    onwards n cap start read r number (after_line n cap (come n cap start r) line).front lines
+line_goes n cap start r read line lines true runs is pokeless run h =
+    program_goes n cap start r read line lines (read_more r (words_of line)) runs is refl run h
+line_goes n cap start r read line lines false runs is pokeless run h =
+    onwards n cap start read r (after_line n cap (come n cap start r) line).front lines
     (question_line_keeps n cap start r line is pokeless) runs h run.1
 
-lines_run : (n cap number : ℕ) (start : Machine) (r read : Reading) (lines : List (List ℕ))
-    → language.after_lines r number (program_lines lines) ≡ Ok read → HaveNoChange n lines
+lines_run : (n cap : ℕ) (start : Machine) (r read : Reading) (lines : List (List ℕ))
+    → read_lines r (program_lines lines) ≡ Ok read → HaveNoChange n lines
     → AreRun n cap (come n cap start r) lines
     → (after_lines n cap (come n cap start r) lines).front ≡ come n cap start read
 unfolding after_lines
-lines_run n cap number start r read [] reads pokeless run = ap (λ q. come n cap start (read_or r q)) reads
-lines_run n cap number start r read (line ∷ lines) reads pokeless run =
-    line_goes n cap number start r read line lines (is_program_line line)
-    (λ s k rest on. lines_run n cap k start s read lines rest pokeless.1 on) refl pokeless.0 run reads
+lines_run n cap start r read [] reads pokeless run = ap (λ q. come n cap start (read_or r q)) reads
+lines_run n cap start r read (line ∷ lines) reads pokeless run =
+    line_goes n cap start r read line lines (is_program_line line)
+    (λ s rest on. lines_run n cap start s read lines rest pokeless.1 on) refl pokeless.0 run reads
 
 pub fronts_run_their_programs : FrontsRunTheirPrograms
 fronts_run_their_programs n cap start lines read whole reads pokeless run =
     let first : opening start ≡ come n cap start nothing_read =
     ap (λ (m : Machine). front_of m nothing_read) (sym (run_of-nil n cap start whole.buffer_count)) in
     ap (λ (f : Front). (after_lines n cap f lines).front) first
-    ∙ lines_run n cap 1 start nothing_read read lines reads pokeless
+    ∙ lines_run n cap start nothing_read read lines reads pokeless
     (subst (λ (f : Front). AreRun n cap f lines) first run)

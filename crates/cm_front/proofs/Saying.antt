@@ -9,13 +9,14 @@ use Rattle.cm_model.specs.Keeping.{IsMachine}
 use Rattle.cm_model.proofs.Runs.{run_of-nil}
 use Rattle.cm_language.specs.declared.fault.AsmKind.{AsmKind}
 use Rattle.cm_language.specs.declared.fault.AsmKind.TheVariants as kind
-use Rattle.cm_language.specs.Program.{Reading, after_words, IsLineFault, IsOwnFault, MatchKind}
+use Rattle.cm_language.specs.Program.{Reading, IsOwnFault}
 use Rattle.cm_session.specs.Answer.{refused_line}
 use Rattle.cm_session.specs.Session.{Session}
 use Rattle.cm_session.specs.Ends.{IsOnTheWay}
 use Rattle.cm_front.specs.Asked.{is_of_program, question_of, kind_number}
 use Rattle.cm_front.specs.ForAll.{is_for_all, asked_of}
-use Rattle.cm_front.specs.Front.{Front, front_of, without_acts, said, for_all, asked, after_line, acts_line, after_acts}
+use Rattle.cm_front.specs.Front.{Front, front_of, without_acts, read_more, said, for_all, asked, after_line, acts_line}
+use Rattle.cm_front.specs.Front.{after_acts}
 
 -- the acts are forgotten
 pub forgotten : (old new before : Reading) → without_acts old ≡ before → new.fields ≡ old.fields
@@ -31,43 +32,26 @@ stays old new left before is fields context fields' context' =
 
 -- the line is read by what was kept
 is_read : (before new : Reading) (words : List (List ℕ)) (q : Result Reading AsmKind) → new ≡ before
-    → after_words new words ≡ q → after_words before words ≡ q
-is_read before new words q same is = ap (λ (r : Reading). after_words r words) (sym same) ∙ is
+    → read_more new words ≡ q → read_more before words ≡ q
+is_read before new words q same is = ap (λ (r : Reading). read_more r words) (sym same) ∙ is
 
 -- it is accepted
 pub said_ok : (n cap : ℕ) (machine after : Machine) (before new read : Reading) (words : List (List ℕ))
-    → new ≡ before → after_words new words ≡ Ok read → after ≡ after_acts n cap machine read.acts
-    → front_of after (without_acts read) ≡ (said n cap (front_of machine before) (after_words before words)).front
+    → new ≡ before → read_more new words ≡ Ok read → after ≡ after_acts n cap machine read.acts
+    → front_of after (without_acts read) ≡ (said n cap (front_of machine before) (read_more before words)).front
 said_ok n cap machine after before new read words same taken is =
     ap (λ (m : Machine). front_of m (without_acts read)) is
     ∙ sym (ap (λ (q : Result Reading AsmKind). (said n cap (front_of machine before) q).front)
     (is_read before new words (Ok read) same taken))
 
 pub said_ok_answer : (n cap : ℕ) (machine : Machine) (before new read : Reading) (words : List (List ℕ)) (text : List ℕ)
-    → new ≡ before → after_words new words ≡ Ok read → text ≡ acts_line machine read.acts
-    → text ≡ (said n cap (front_of machine before) (after_words before words)).answer
+    → new ≡ before → read_more new words ≡ Ok read → text ≡ acts_line machine read.acts
+    → text ≡ (said n cap (front_of machine before) (read_more before words)).answer
 said_ok_answer n cap machine before new read words text same taken is =
     is ∙ sym (ap (λ (q : Result Reading AsmKind). (said n cap (front_of machine before) q).answer)
     (is_read before new words (Ok read) same taken))
 
--- an own fault is told as it is
-own_fault : (k : AsmKind) (W : Type 0) (q : Result Reading AsmKind) → IsOwnFault k → MatchKind k W (q ≡ Err k)
-    → q ≡ Err k
-own_fault kind.Memory W q own is = absurd own
-own_fault kind.Width W q own is = is
-own_fault kind.Range W q own is = is
-own_fault kind.Overlap W q own is = is
-own_fault kind.Lengths W q own is = is
-own_fault kind.Scratch W q own is = is
-own_fault kind.Context W q own is = is
-own_fault kind.Word W q own is = is
-own_fault kind.Operands W q own is = is
-own_fault kind.Number W q own is = is
-own_fault kind.Name W q own is = is
-own_fault kind.Twice W q own is = is
-own_fault kind.TooLong W q own is = is
-
--- and is none of want of memory
+-- an own fault is none of want of memory
 pub own_is : (k : AsmKind) → IsOwnFault k → k ≡ kind.Memory → ⊥
 own_is kind.Memory own is = absurd own
 own_is kind.Width own is = absurd (let e : kind.Width ≡ kind.Memory = is in cc)
@@ -85,30 +69,30 @@ own_is kind.TooLong own is = absurd (let e : kind.TooLong ≡ kind.Memory = is i
 
 -- it is refused
 pub said_err : (n cap : ℕ) (machine : Machine) (before new left : Reading) (words : List (List ℕ)) (k : AsmKind)
-    → new ≡ before → IsOwnFault k → IsLineFault new (after_words new words) k → left ≡ before
-    → front_of machine left ≡ (said n cap (front_of machine before) (after_words before words)).front
+    → new ≡ before → IsOwnFault k → ((k ≡ kind.Memory → ⊥) → read_more new words ≡ Err k) → left ≡ before
+    → front_of machine left ≡ (said n cap (front_of machine before) (read_more before words)).front
 said_err n cap machine before new left words k same own is stays =
     ap (front_of machine) stays
     ∙ sym (ap (λ (q : Result Reading AsmKind). (said n cap (front_of machine before) q).front)
-    (is_read before new words (Err k) same (own_fault k _ (after_words new words) own is)))
+    (is_read before new words (Err k) same (is (own_is k own))))
 
 pub said_err_answer : (n cap : ℕ) (machine : Machine) (before new : Reading) (words : List (List ℕ)) (k : AsmKind)
     (number : ℕ) (text : List ℕ)
-    → new ≡ before → IsOwnFault k → IsLineFault new (after_words new words) k → number ≡ kind_number k
+    → new ≡ before → IsOwnFault k → ((k ≡ kind.Memory → ⊥) → read_more new words ≡ Err k) → number ≡ kind_number k
     → text ≡ refused_line number
-    → text ≡ (said n cap (front_of machine before) (after_words before words)).answer
+    → text ≡ (said n cap (front_of machine before) (read_more before words)).answer
 said_err_answer n cap machine before new words k number text same own is so tells =
     tells ∙ ap refused_line so
     ∙ sym (ap (λ (q : Result Reading AsmKind). (said n cap (front_of machine before) q).answer)
-    (is_read before new words (Err k) same (own_fault k _ (after_words new words) own is)))
+    (is_read before new words (Err k) same (is (own_is k own))))
 
 -- ---- a line of a program, one for all processors, or a question
 
 pub after_said : (n cap : ℕ) (front : Front) (line : List ℕ) → is_of_program (words_of line) ≡ true
-    → after_line n cap front line ≡ said n cap front (after_words front.reading (words_of line))
+    → after_line n cap front line ≡ said n cap front (read_more front.reading (words_of line))
 unfolding after_line
 after_said n cap front line is =
-    ap (λ (b : Bool). if b then said n cap front (after_words front.reading (words_of line))
+    ap (λ (b : Bool). if b then said n cap front (read_more front.reading (words_of line))
     else (if is_for_all (words_of line) then for_all n cap front (asked_of n (words_of line))
     else asked n cap front (question_of n (words_of line)))) is
 
@@ -117,7 +101,7 @@ pub after_for_all : (n cap : ℕ) (front : Front) (line : List ℕ) → is_of_pr
     → after_line n cap front line ≡ for_all n cap front (asked_of n (words_of line))
 unfolding after_line
 after_for_all n cap front line other is =
-    ap (λ (b : Bool). if b then said n cap front (after_words front.reading (words_of line))
+    ap (λ (b : Bool). if b then said n cap front (read_more front.reading (words_of line))
     else (if is_for_all (words_of line) then for_all n cap front (asked_of n (words_of line))
     else asked n cap front (question_of n (words_of line)))) other
     ∙ ap (λ (b : Bool). if b then for_all n cap front (asked_of n (words_of line))
@@ -128,7 +112,7 @@ pub after_asked : (n cap : ℕ) (front : Front) (line : List ℕ) → is_of_prog
     → after_line n cap front line ≡ asked n cap front (question_of n (words_of line))
 unfolding after_line
 after_asked n cap front line other single =
-    ap (λ (b : Bool). if b then said n cap front (after_words front.reading (words_of line))
+    ap (λ (b : Bool). if b then said n cap front (read_more front.reading (words_of line))
     else (if is_for_all (words_of line) then for_all n cap front (asked_of n (words_of line))
     else asked n cap front (question_of n (words_of line)))) other
     ∙ ap (λ (b : Bool). if b then for_all n cap front (asked_of n (words_of line))

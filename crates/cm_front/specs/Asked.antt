@@ -4,17 +4,22 @@ use Rattle.std.specs.Prelude.{Result, Ok, Err, List, [], ◌∷◌, length, code
 use Rattle.std.specs.Option.{is_some}
 use Rattle.cm_language.specs.Lines.{verb_of}
 pub use Rattle.cm_refusals.specs.Refusals.{kind_number}
+use Rattle.cm_source.specs.Says as says
 use Rattle.cm_session.specs.declared.command.Command.{Command}
 use Rattle.cm_session.specs.declared.command.Command.TheVariants as command
 use Rattle.cm_session.specs.declared.command.Refusal.{Refusal}
 use Rattle.cm_session.specs.declared.command.Refusal.TheVariants.{Word, Operands}
 use Rattle.cm_session.specs.Commands.{command_of}
 
--- a line of a program: `field` with a name, an address and a length, or what begins with any other word of the language
-abbrev pub is_of_program : List (List ℕ) → Bool
-is_of_program [] = false
-is_of_program (word ∷ operands) =
+-- a line of the program language: `field` with a name, an address and a length, or what begins with any other of its words
+abbrev pub is_of_language : List (List ℕ) → Bool
+is_of_language [] = false
+is_of_language (word ∷ operands) =
     is_some (verb_of word) || bytes_eq word (codes "field") && length operands == 3
+
+-- a line of a program: one of the language, or a phrase as a source has it
+abbrev pub is_of_program : List (List ℕ) → Bool
+is_of_program words = is_some (says.verb_of words) || is_of_language words
 
 -- a word that goes on in a program, or stops in it: here no acts are still to come
 abbrev pub is_of_acts : List ℕ → Bool

@@ -1,5 +1,5 @@
 -- A front end: what it does and answers line by line. Ours.
-use Rattle.std.specs.Prelude.{ℕ, ◌^◌, ◌||◌, if◌then◌else◌, Option, Result, Ok, Err, List, [], ◌∷◌, ◌++◌, codes, decimal}
+use Rattle.std.specs.Prelude.{ℕ, ◌^◌, ◌||◌, if◌then◌else◌, Option, Some, None, Result, Ok, Err, List, [], ◌∷◌, ◌++◌, codes, decimal}
 use Rattle.cm_bits.specs.Bit.{bit_number}
 use Rattle.cm_bits.specs.Text.{words_of}
 use Rattle.cm_model.specs.declared.act.Act.{Act}
@@ -10,7 +10,12 @@ use Rattle.cm_array.specs.Acts.{is_late, is_long}
 use Rattle.cm_array.specs.Behind.{unlogged}
 use Rattle.cm_image_format.specs.Whole.{text_of}
 use Rattle.cm_language.specs.declared.fault.AsmKind.{AsmKind}
+use Rattle.cm_language.specs.Lines.{◌>>=◌}
 use Rattle.cm_language.specs.Program.{Reading, nothing_read, after_words}
+use Rattle.cm_phrases.specs.Faults.{first_fault}
+use Rattle.cm_source.specs.declared.verb.PhraseVerb.{PhraseVerb}
+use Rattle.cm_source.specs.Says.{verb_of, phrase_of}
+use Rattle.cm_source.specs.Expansion.{with_phrase}
 use Rattle.cm_session.specs.declared.command.Command.{Command}
 use Rattle.cm_session.specs.declared.command.Refusal.{Refusal}
 use Rattle.cm_session.specs.Answer.{line, refused_line, CLOCK}
@@ -54,6 +59,16 @@ abbrev pub preceded_by : List ℕ → Answered → Answered
 preceded_by first rest = told rest.front (first ++ rest.answer)
 
 -- ---- a line of the program
+
+-- what is read with a line of this verb more, which says a phrase; or else with one of the language
+abbrev pub read_by : Reading → Option PhraseVerb → List (List ℕ) → Result Reading AsmKind
+read_by r None words = after_words r words
+read_by r (Some asked) words =
+    phrase_of r.fields asked words >>= λ said. with_phrase r said (first_fault said r.context)
+
+-- with one line more, by its words
+abbrev pub read_more : Reading → List (List ℕ) → Result Reading AsmKind
+read_more r words = read_by r (verb_of words) words
 
 -- names and context stay
 abbrev pub without_acts : Reading → Reading
@@ -141,7 +156,7 @@ for_all n cap front (Err kind) = told front (refused_line (kind_number kind))
 -- after a line, by its words
 abbrev pub after_words_of : ℕ → ℕ → Front → List (List ℕ) → Answered
 after_words_of n cap front words =
-    if is_of_program words then said n cap front (after_words front.reading words)
+    if is_of_program words then said n cap front (read_more front.reading words)
     else (if is_for_all words then for_all n cap front (asked_of n words)
     else asked n cap front (question_of n words))
 

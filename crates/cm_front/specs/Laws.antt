@@ -8,7 +8,8 @@ use Rattle.cm_model.specs.Machine.{Machine, run_of}
 use Rattle.cm_model.specs.Keeping.{IsMachine}
 use Rattle.cm_array.specs.Acts.{is_late, is_long}
 use Rattle.cm_language.specs.declared.fault.AsmKind.{AsmKind}
-use Rattle.cm_language.specs.Program as language
+use Rattle.cm_language.specs.Lines.{◌>>=◌}
+use Rattle.cm_language.specs.Program.{Reading, nothing_read}
 use Rattle.cm_session.specs.declared.command.Command.{Command}
 use Rattle.cm_session.specs.declared.command.Command.TheVariants as command
 use Rattle.cm_session.specs.Session as session
@@ -18,7 +19,7 @@ use Rattle.cm_front.specs.declared.for_all.Asked.TheVariants.{Get, Put, Forget}
 use Rattle.cm_front.specs.Asked.{is_of_program, question_of}
 use Rattle.cm_front.specs.ForAll.{is_for_all, asked_of}
 use Rattle.cm_front.specs.Telling.{numbers_lines}
-use Rattle.cm_front.specs.Front.{Front, Answered, front_of, opening, without_acts, after_line, after_lines}
+use Rattle.cm_front.specs.Front.{Front, Answered, front_of, opening, without_acts, read_more, after_line, after_lines}
 
 -- the line is one of a program
 abbrev pub is_program_line : List ℕ → Bool
@@ -47,8 +48,13 @@ abbrev pub HaveNoChange : ℕ → List (List ℕ) → Type 0
 HaveNoChange n [] = Unit {0}
 HaveNoChange n (line ∷ lines) = (changes n (words_of line) ≡ false) × HaveNoChange n lines
 
+-- what is read when these lines, of programs and phrases, were read too
+abbrev pub read_lines : Reading → List (List ℕ) → Result Reading AsmKind
+read_lines r [] = Ok r
+read_lines r (line ∷ lines) = read_more r (words_of line) >>= λ next. read_lines next lines
+
 -- what a line adds is accepted, and its acts are refused: they are too many, or the counter has no room
-abbrev pub refuses_acts : Front → Result language.Reading AsmKind → Bool
+abbrev pub refuses_acts : Front → Result Reading AsmKind → Bool
 refuses_acts front (Ok read) = is_long read.acts || is_late front.machine.clock read.acts
 refuses_acts front (Err kind) = false
 
@@ -56,15 +62,15 @@ refuses_acts front (Err kind) = false
 abbrev pub AreRun : ℕ → ℕ → Front → List (List ℕ) → Type 0
 AreRun n cap front [] = Unit {0}
 AreRun n cap front (line ∷ lines) =
-    (refuses_acts front (language.after_words front.reading (words_of line)) ≡ false)
+    (refuses_acts front (read_more front.reading (words_of line)) ≡ false)
     × AreRun n cap (after_line n cap front line).front lines
 
--- where the program lines, as one text, are accepted, no acts are refused and nothing is poked, put or forgotten, the
+-- where the program lines and phrases, as one text, are accepted, no acts are refused and nothing is poked, put or forgotten, the
 -- machine is that after a run of the text's acts, and the fields and the context are those of the text: what is asked
 -- in between changes nothing
 abbrev pub FrontsRunTheirPrograms : Type 0
-FrontsRunTheirPrograms = (n cap : ℕ) (start : Machine) (lines : List (List ℕ)) (read : language.Reading)
-    → IsMachine n cap start → language.after_lines language.nothing_read 1 (program_lines lines) ≡ Ok read
+FrontsRunTheirPrograms = (n cap : ℕ) (start : Machine) (lines : List (List ℕ)) (read : Reading)
+    → IsMachine n cap start → read_lines nothing_read (program_lines lines) ≡ Ok read
     → HaveNoChange n lines → AreRun n cap (opening start) lines
     → (after_lines n cap (opening start) lines).front ≡ front_of (run_of n cap start read.acts) (without_acts read)
 

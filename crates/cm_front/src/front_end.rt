@@ -4,16 +4,17 @@ ghost use Rattle.std.specs.Prelude.{◌≡◌, [], cond, false, IfErr, MatchResu
 ghost use Rattle.cm_bits.specs.Text.{words_of};
 ghost use Rattle.cm_model.specs.Machine.{run_of};
 ghost use Rattle.cm_array.specs.Faults.{one_more_lacked};
-ghost use Rattle.cm_language.specs.Program.{Reading, nothing_read, after_words};
+ghost use Rattle.cm_language.specs.Program.{Reading, nothing_read};
 ghost use Rattle.cm_session.specs.Answer.{refused_line};
 ghost use Rattle.cm_debug.specs.Telling.{is_thread};
 ghost use Rattle.cm_front.specs.Asked.{question_of};
 ghost use Rattle.cm_front.specs.ForAll.{asked_of, AreFor};
 ghost use Rattle.cm_front.specs.Front.{front_of, said, after_line, acts_line, after_acts, done_line, answered_to};
-ghost use Rattle.cm_front.specs.Front.{for_all, obeyed, told};
+ghost use Rattle.cm_front.specs.Front.{for_all, obeyed, read_more, told};
 
 use crate::for_all::{Asked, is_for_all, read_asked};
 use crate::questions::{is_of_program, own_number, read_question};
+use crate::reading::read_line;
 use crate::telling::{push_buffers, push_field, push_flags, push_image, push_standing};
 use cm_array::{Machine, RunFault, Runner};
 use cm_asm::Reader;
@@ -96,9 +97,9 @@ impl FrontEnd {
         requires runner { R.ready }
         requires none { text.old.items ≡ [] }
         ensures answer { OnOk result (text.new.items ≡ (said N CAP (front_of machine.old.machine self.old)
-            (after_words self.old (words_of line.now))).answer) }
+            (read_more self.old (words_of line.now))).answer) }
         ensures front { OnOk result (front_of machine.new.machine self.new
-            ≡ (said N CAP (front_of machine.old.machine self.old) (after_words self.old (words_of line.now))).front) }
+            ≡ (said N CAP (front_of machine.old.machine self.old) (read_more self.old (words_of line.now))).front) }
         ensures err { OnErr result (machine.new.machine ≡ machine.old.machine) }
         ensures thread { MatchResult result
             (λ _. R.threads_lacked runner.new ≡ R.threads_lacked runner.old)
@@ -106,7 +107,7 @@ impl FrontEnd {
             ≡ cond (is_thread want) (one_more_lacked (R.threads_lacked runner.old)) (R.threads_lacked runner.old)) }
     {
         self.reader.forget_acts();
-        if let Err(kind) = self.reader.read_line(alloc, line) {
+        if let Err(kind) = read_line(&mut self.reader, alloc, line) {
             let Some(number) = own_number(kind) else {
                 return Err(Want::Memory);
             };

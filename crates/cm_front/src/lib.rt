@@ -8,6 +8,7 @@ mod hearing;
 mod images;
 mod laws;
 mod questions;
+mod reading;
 mod talk;
 mod telling;
 

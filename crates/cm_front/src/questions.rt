@@ -4,7 +4,7 @@ ghost use Rattle.std.specs.Prelude.{◌≡◌, ◌≤◌, ◌==◌, length, IfOk
 ghost use Rattle.cm_bits.specs.Text.{words_left, words_of};
 ghost use Rattle.cm_language.specs.Program.{IsOwnFault};
 ghost use Rattle.cm_session.specs.Bounds.{IsFor};
-ghost use Rattle.cm_front.specs.Asked.{is_of_acts, is_of_program, kind_number, question_of};
+ghost use Rattle.cm_front.specs.Asked.{is_of_acts, is_of_language, is_of_program, kind_number, question_of};
 
 use cm_asm::{AsmKind, verb_of};
 use cm_bits::Words;
@@ -12,9 +12,16 @@ use cm_debug::read_command;
 use cm_refusals::kind_number;
 use cm_session::{Command, Refusal};
 
-/// Whether the line is one of a program.
+/// Whether the line is one of a program, or says a phrase.
 pub fn is_of_program(line: &[u8]) -> bool
     ensures value { result ≡ is_of_program (words_of line.now) }
+{
+    cm_source::verb_of(line).is_some() || is_of_language(line)
+}
+
+/// Whether the line is one of the program language.
+fn is_of_language(line: &[u8]) -> bool
+    ensures value { result ≡ is_of_language (words_of line.now) }
 {
     let mut words = Words::new(line);
     let Some(word) = words.next() else {

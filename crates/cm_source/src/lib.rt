@@ -13,6 +13,10 @@ mod plain;
 mod says;
 mod verb;
 
+pub use acts::acts_of;
 pub use cm_language::AsmKind;
 pub use expansion::expand;
 pub use fault::{SourceFault, SourceKind};
+pub use fits::fault_of;
+pub use says::{phrase_of, verb_of};
+pub use verb::PhraseVerb;

@@ -22,7 +22,7 @@ returns-in-Err-clause-front g c =
     (words_of c.args.line.now) c.in-Err.kind
     (forgotten c.self.inside.reader c.forget_acts.new.self c.args.self.now c.self.view_is forgot.fields forgot.context
     forgot.acts) c.in-Some.ensures.own c.in-Err.ensures.fault
-    (stays c.self.inside.reader c.forget_acts.new.self c.read_line.new.self c.args.self.now c.self.view_is forgot.fields
+    (stays c.self.inside.reader c.forget_acts.new.self c.read_line.new.reader c.args.self.now c.self.view_is forgot.fields
     forgot.context c.in-Err.ensures.fields c.in-Err.ensures.context)) c.refuse.ensures.ok
 
 pub returns-clause-answer : goal.returns-clause-answer
@@ -30,7 +30,7 @@ returns-clause-answer g c =
     let forgot = c.forget_acts.ensures in
     on_ok_weaker c.run_at_once.result
     (λ tells. said_ok_answer g.row.N g.row.CAP c.args.machine.now.machine c.args.self.now c.forget_acts.new.self
-    c.read_line.new.self (words_of c.args.line.now) c.run_at_once.new.text.items
+    c.read_line.new.reader (words_of c.args.line.now) c.run_at_once.new.text.items
     (forgotten c.self.inside.reader c.forget_acts.new.self c.args.self.now c.self.view_is forgot.fields forgot.context
     forgot.acts) c.in_default.ensures.ok (tells ∙ ap (acts_line c.args.machine.now.machine) c.acts.ensures.value))
     c.run_at_once.ensures.answer
@@ -40,7 +40,7 @@ returns-clause-front g c =
     let forgot = c.forget_acts.ensures in
     on_ok_weaker c.run_at_once.result
     (λ is. said_ok g.row.N g.row.CAP c.args.machine.now.machine c.run_at_once.new.machine.machine c.args.self.now
-    c.forget_acts.new.self c.read_line.new.self (words_of c.args.line.now)
+    c.forget_acts.new.self c.read_line.new.reader (words_of c.args.line.now)
     (forgotten c.self.inside.reader c.forget_acts.new.self c.args.self.now c.self.view_is forgot.fields forgot.context
     forgot.acts) c.in_default.ensures.ok
     (is ∙ ap (after_acts g.row.N g.row.CAP c.args.machine.now.machine) c.acts.ensures.value)) c.run_at_once.ensures.machine
