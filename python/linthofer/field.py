@@ -402,7 +402,7 @@ class Field:
             raise TypeError(f"a field goes with a field or a whole number, not with {type(value).__name__}; "
                             "data go into a field of their own first: y[:] = data") from None
         if not 0 <= number < 2**self.bits:
-            raise Refused(11, f"{number}", f"beside a field of {self.bits} bits, which has 0 to {2**self.bits - 1}")
+            raise Refused(11, f"the number {number}", f"a field of {self.bits} bits has 0 to {2**self.bits - 1}")
         return number
 
 
