@@ -426,7 +426,11 @@ def _no_division(word: str, divisor: object) -> TypeError:
 
 
 def _checked_places(places: Any) -> int:
-    count = operator.index(places)
+    try:
+        count = operator.index(places)
+    except TypeError:
+        raise TypeError(f"a shift goes by a whole number, the same in all processors, not by {type(places).__name__}"
+                        ) from None
     if count < 0:
         raise ValueError("a shift goes by 0 places or more")
     return count
