@@ -402,7 +402,7 @@ class Field:
             raise TypeError(f"a field goes with a field or a whole number, not with {type(value).__name__}; "
                             "data go into a field of their own first: y[:] = data") from None
         if not 0 <= number < 2**self.bits:
-            raise Refused(11, f"{number}", f"beside a field of {self.bits} bits, which has 0 to {2**self.bits - 1}")
+            raise Refused(11, f"the number {number}", f"a field of {self.bits} bits has 0 to {2**self.bits - 1}")
         return number
 
 
@@ -426,7 +426,11 @@ def _no_division(word: str, divisor: object) -> TypeError:
 
 
 def _checked_places(places: Any) -> int:
-    count = operator.index(places)
+    try:
+        count = operator.index(places)
+    except TypeError:
+        raise TypeError(f"a shift goes by a whole number, the same in all processors, not by {type(places).__name__}"
+                        ) from None
     if count < 0:
         raise ValueError("a shift goes by 0 places or more")
     return count

@@ -440,4 +440,7 @@ def _whole_numbers(numbers: Iterable[Any]) -> List[int]:
     listed = numbers if isinstance(numbers, list) else list(numbers)
     if set(map(type, listed)) <= {int}:                 # most often; it is faster than to ask each
         return listed
-    return list(map(int, map(operator.index, listed)))
+    try:
+        return list(map(int, map(operator.index, listed)))
+    except TypeError as fault:
+        raise TypeError(f"data are whole numbers, as data.astype(int) makes them: {fault}") from None
