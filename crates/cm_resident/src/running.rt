@@ -57,7 +57,7 @@ impl Ready {
     {
         let Ready { worker, mut waiter } = self;
         let blocks = match waiter.await_release(rt) {
-            Some(begun) => Some(worker.release(begun).work(rt, passage)),
+            Some(begun) => Some(worker.work(begun, rt, passage)),
             None => None,
         };
         Left { blocks, waiter }
@@ -312,7 +312,7 @@ pub(crate) fn work_all<R: Threads + Wait + Sync>(
             ensures { IfOk result (λ shares. length shares.items ≡ length all.readies.items)
                 × IfOk result (λ shares. (w : ℕ) (d : _) (e : _) → w < length all.readies.items
                 → HasWorked (get_or all.readies.items w d).worker (get_or shares.items w e).items)
-                × IfOk result (λ _. (gate : _) → passage.now ≡ Passage.Gated gate
+                × IfOk result (λ _. (gate : _) → passage.entry.now ≡ Passage.Gated gate
                 → (w : ℕ) (d : _) → w < length all.readies.items
                 → admits (gate.vtable, gate.value) (get_or all.readies.items w d).worker.id) }
         { start_and_join(scope, rt, passage, all) },
