@@ -2,17 +2,18 @@
 
 ghost use Rattle.std.specs.Prelude.{◌≡◌, false, None, IfSome};
 ghost use Rattle.std.specs.Thread.{IsSync};
-ghost use Rattle.cm_cli.specs.Sizes.{start_at};
+ghost use Rattle.cm_sizes.specs.Sizes.{sized};
 ghost use Rattle.cm_cli.specs.Sharing.{sharing_fault};
 
 use crate::meeting::{Cut, FOUR, Meeting, Notes, Waits, no_notes};
 use cm_asm::{Program, assemble};
 use cm_bits::doubles::{Bytes, Room};
 use cm_bits::{Sink, Source};
-use cm_cli::{AnyMachine, Sharing, fresh, go_alone, go_shared, image_at, open_image};
+use cm_cli::{Alone, SessionRunner, Several, Sharing, fresh};
 use cm_draws::cut_in_two_places;
 use cm_image::dump;
 use cm_model::Rule;
+use cm_sizes::{AnyMachine, open_image};
 use cm_workers::Passage;
 use std::alloc::Global;
 use std::sync::{Arc, Wait};
@@ -104,7 +105,7 @@ impl Image {
 
 /// The machine and the program with which a session begins.
 fn begun(alloc: Global, row: &Shared) -> Option<(AnyMachine, Program)>
-    ensures shared { IfSome result (λ run. sharing_fault (start_at run.0).n row.now.sharing ≡ None) }
+    ensures shared { IfSome result (λ run. sharing_fault (sized run.0).n row.now.sharing ≡ None) }
 {
     let image = row.image.bytes(alloc)?;
     let machine = open_image(alloc, &image).ok()?;
@@ -123,8 +124,10 @@ fn kept_alone<I: Source, O: Sink>(
     requires writer { O.has_failed answers.old ≡ false }
 {
     let (mut machine, program) = begun(alloc, row)?;
-    go_alone(alloc, &mut machine, &program, commands, answers).ok()?;
-    image_at(alloc, &machine).ok()
+    Alone
+        .go(alloc, &mut machine, &program, commands, answers)
+        .ok()?;
+    machine.image(alloc).ok()
 }
 
 /// What one worker leaves.
@@ -164,18 +167,15 @@ fn kept_shared<R: Threads + Wait + Sync, I: Source, O: Sink>(
     requires writer { O.has_failed answers.old ≡ false }
 {
     let (mut machine, program) = begun(alloc, row)?;
-    go_shared(
+    let several = Several {
         rt,
-        alloc,
-        &mut machine,
-        &program,
-        row.sharing,
+        sharing: row.sharing,
         passage,
-        commands,
-        answers,
-    )
-    .ok()?;
-    image_at(alloc, &machine).ok()
+    };
+    several
+        .go(alloc, &mut machine, &program, commands, answers)
+        .ok()?;
+    machine.image(alloc).ok()
 }
 
 /// What several leave, who wait for one another.
