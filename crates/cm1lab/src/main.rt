@@ -14,7 +14,7 @@ use crate::files::{read_file, write_file};
 use crate::loads::measure_all;
 use crate::progress::Progress;
 use cm_bits::{Std, write_all};
-use cm_cli::{LineFault, Outside, TakeFault, take};
+use cm_outside::{LineFault, Outside, TakeFault, take};
 use cm_fresh::{FreshFault, fresh};
 use cm_front::front_image;
 use cm_host::Host;

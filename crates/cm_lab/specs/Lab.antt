@@ -1,5 +1,5 @@
 -- What the laboratory does with an image: the text that it tells, or the image that it leaves. Ours.
-use Rattle.std.specs.Prelude.{◌≡◌, ℕ, ◌==◌, ◌||◌, Bool, Option, Some, None, Result, Ok, Err, List, if◌then◌else◌}
+use Rattle.std.specs.Prelude.{◌≡◌, ℕ, Option, Some, None, Result, Ok, Err, List, if◌then◌else◌}
 use Rattle.cm_bits.specs.declared.field.FieldFault.{FieldFault}
 use Rattle.cm_bits.specs.Field.{field_fault}
 use Rattle.cm_model.specs.Place.{rows, columns}
@@ -12,8 +12,11 @@ use Rattle.cm_study.specs.declared.studies.StudyFault.TheVariants as study
 use Rattle.cm_study.specs.Study.{table_of}
 use Rattle.cm_study.specs.declared.routes.RouteFault.{RouteFault}
 use Rattle.cm_study.specs.Routes.{route_of}
-use Rattle.cm_image_format.specs.declared.fault.ImageFault.{ImageFault}
-use Rattle.cm_image_format.specs.Whole.{read_shape, read_image, text_of}
+use Rattle.cm_image_format.specs.Whole.{text_of}
+use Rattle.cm_sizes.specs.declared.opening.OpenFault.{OpenFault}
+use Rattle.cm_sizes.specs.declared.opening.OpenFault.TheVariants as unopened
+use Rattle.cm_sizes.specs.Sizes.{SizedMachine}
+use Rattle.cm_sizes.specs.Opening.{opened}
 use Rattle.cm_figures.specs.declared.numbers.NumbersFault.{NumbersFault}
 use Rattle.cm_lab.specs.declared.lab.Task.{Task}
 use Rattle.cm_lab.specs.declared.lab.Task.TheVariants.{Get, Flags, Put, Show, Paint, Study, Route}
@@ -89,26 +92,20 @@ work_of n cap (Study table) given machine =
 work_of n cap (Route tag) given machine =
     of_program (λ acts. of_route (route_of n cap tag machine acts)) (program_of given)
 
--- the rooms of the laboratory's machines
-abbrev pub is_own_room : ℕ → Bool
-is_own_room cap = cap == 1 || cap == 7
+-- what it makes of a machine of any size
+abbrev pub work_on : Task → List ℕ → SizedMachine → Result (List ℕ) LabFault
+work_on task given any = work_of any.n any.cap task given any.machine
+
+-- why an image is refused
+abbrev pub refusal_of : OpenFault → LabFault
+refusal_of (unopened.Image fault) = Image fault
+refusal_of unopened.Room = Room
 
 -- what is made of the machine of an image, if it is one
-abbrev pub of_machine : (Machine → Result (List ℕ) LabFault) → Result Machine ImageFault → Result (List ℕ) LabFault
-of_machine made (Ok machine) = made machine
-of_machine made (Err fault) = Err (Image fault)
-
--- bytes that are no image are refused with this fault
-abbrev pub IsRefused : Result Machine ImageFault → LabFault → Type 0
-IsRefused read fault = (made : Machine → Result (List ℕ) LabFault) → of_machine made read ≡ Err fault
-
--- of an image of this shape: another room is refused before all of it is read
-abbrev pub of_shape : Task → List ℕ → List ℕ → Result (ℕ × ℕ) ImageFault → Result (List ℕ) LabFault
-of_shape task given image (Ok shape) =
-    if is_own_room shape.1
-    then of_machine (work_of shape.0 shape.1 task given) (read_image shape.0 shape.1 image) else Err Room
-of_shape task given image (Err fault) = Err (Image fault)
+abbrev pub of_opened : Task → List ℕ → Result SizedMachine OpenFault → Result (List ℕ) LabFault
+of_opened task given (Ok any) = work_on task given any
+of_opened task given (Err fault) = Err (refusal_of fault)
 
 -- what a task makes of an image and of what is given; the image is judged first
 unfoldable pub done_with : Task → List ℕ → List ℕ → Result (List ℕ) LabFault
-done_with task given image = of_shape task given image (read_shape image)
+done_with task given image = of_opened task given (opened image)

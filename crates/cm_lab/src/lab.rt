@@ -1,14 +1,14 @@
 //! What the laboratory does with an image: from bytes to bytes.
 
-ghost use Rattle.std.specs.Prelude.{◌≡◌, ◌≢◌, ◌≤◌, ◌<◌, ◌*◌, true, [], Ok, Err, IfOk, IfErr, length};
+ghost use Rattle.std.specs.Prelude.{◌≡◌, ◌≢◌, ◌≤◌, ◌<◌, ◌*◌, [], Ok, Err, IfOk, IfErr, length};
 ghost use Rattle.cm_model.specs.Place.{rows, columns};
 ghost use Rattle.cm_figures.specs.Pictures.{seen};
 ghost use Rattle.cm_figures.specs.Formats.{picture_bytes};
 ghost use Rattle.cm_figures.specs.PictureReading.{picture_in};
 ghost use Rattle.cm_lab.specs.Data.{processors};
-ghost use Rattle.cm_image_format.specs.Whole.{read_shape, read_image};
 ghost use Rattle.cm_lab.specs.declared.lab.Task.TheVariants as task;
-ghost use Rattle.cm_lab.specs.Lab.{is_own_room, work_of, done_with, IsRefused, IsNoPicture};
+ghost use Rattle.cm_sizes.specs.Sizes.{sized};
+ghost use Rattle.cm_lab.specs.Lab.{work_of, work_on, refusal_of, done_with, IsNoPicture};
 
 use crate::data::{flags, get, put};
 use crate::order::{Order, columns, processors, rows};
@@ -20,9 +20,10 @@ use cm_figures::{
     Format, NumbersFault, Picture, PictureFault, read_numbers, read_picture, write_in,
     write_numbers,
 };
-use cm_image::{ImageFault, dump, load, shape};
+use cm_image::{ImageFault, dump};
 use cm_language::{AsmFault, AsmKind};
 use cm_model::Tag;
+use cm_sizes::{AnyMachine, OpenFault, on_machine, open_image};
 use cm_study::{RouteFault, StudyFault, Table, Unwatched, Watch, route, study};
 use std::alloc::Global;
 use thiserror::Error;
@@ -103,66 +104,39 @@ pub fn perform_watched<W: Watch>(
     ensures value { IfOk result (λ text. done_with task given.now image.now ≡ Ok text.items) }
     ensures refused { IfErr result (λ fault. fault ≢ LabFault.Memory → done_with task given.now image.now ≡ Err fault) }
 {
-    let (n, cap) = match shape(image) {
-        Ok(sizes) => sizes,
-        Err(fault) => return Err(LabFault::Image(fault)),
-    };
-    match cap {
-        1 => perform_sized::<1, W>(alloc, n, task, image, given, watch),
-        7 => perform_sized::<7, W>(alloc, n, task, image, given, watch),
-        _ => Err(LabFault::Room),
+    match open_image(alloc, image) {
+        Ok(machine) => work_on(alloc, machine, task, given, watch),
+        Err(fault) => Err(of_open(fault)),
     }
 }
 
-/// The same, where routers have this room.
-fn perform_sized<const CAP: usize, W: Watch>(
+/// Does with a machine of any size what is asked.
+fn work_on<W: Watch>(
     alloc: Global,
-    n: u8,
+    machine: AnyMachine,
     task: Task,
-    image: &[u8],
     given: &[u8],
     watch: &mut W,
 ) -> Result<Vec<u8>, LabFault>
-    requires dimension { n ≤ 12 }
-    requires shape { read_shape image.now ≡ Ok (n, CAP) }
-    requires own { is_own_room CAP ≡ true }
-    ensures value { IfOk result (λ text. done_with task given.now image.now ≡ Ok text.items) }
-    ensures refused { IfErr result (λ fault. fault ≢ LabFault.Memory → done_with task given.now image.now ≡ Err fault) }
+    ensures value { IfOk result (λ text. work_on task given.now (sized machine) ≡ Ok text.items) }
+    ensures refused { IfErr result (λ fault. fault ≢ LabFault.Memory
+        → work_on task given.now (sized machine) ≡ Err fault) }
 {
-    match n {
-        0 => perform_on::<0, CAP, W>(alloc, task, image, given, watch),
-        1 => perform_on::<1, CAP, W>(alloc, task, image, given, watch),
-        2 => perform_on::<2, CAP, W>(alloc, task, image, given, watch),
-        3 => perform_on::<3, CAP, W>(alloc, task, image, given, watch),
-        4 => perform_on::<4, CAP, W>(alloc, task, image, given, watch),
-        5 => perform_on::<5, CAP, W>(alloc, task, image, given, watch),
-        6 => perform_on::<6, CAP, W>(alloc, task, image, given, watch),
-        7 => perform_on::<7, CAP, W>(alloc, task, image, given, watch),
-        8 => perform_on::<8, CAP, W>(alloc, task, image, given, watch),
-        9 => perform_on::<9, CAP, W>(alloc, task, image, given, watch),
-        10 => perform_on::<10, CAP, W>(alloc, task, image, given, watch),
-        11 => perform_on::<11, CAP, W>(alloc, task, image, given, watch),
-        _ => perform_on::<12, CAP, W>(alloc, task, image, given, watch),
-    }
+    on_machine!(machine, machine => work_sized(alloc, machine, task, given, watch))
 }
 
 /// The same, on a machine of these sizes.
-fn perform_on<const N: usize, const CAP: usize, W: Watch>(
+fn work_sized<const N: usize, const CAP: usize, W: Watch>(
     alloc: Global,
+    mut machine: Machine<N, CAP>,
     task: Task,
-    image: &[u8],
     given: &[u8],
     watch: &mut W,
 ) -> Result<Vec<u8>, LabFault>
-    requires shape { read_shape image.now ≡ Ok (N, CAP) }
-    requires own { is_own_room CAP ≡ true }
-    ensures value { IfOk result (λ text. done_with task given.now image.now ≡ Ok text.items) }
-    ensures refused { IfErr result (λ fault. fault ≢ LabFault.Memory → done_with task given.now image.now ≡ Err fault) }
+    ensures value { IfOk result (λ text. work_of N CAP task given.now machine.entry.machine ≡ Ok text.items) }
+    ensures refused { IfErr result (λ fault. fault ≢ LabFault.Memory
+        → work_of N CAP task given.now machine.entry.machine ≡ Err fault) }
 {
-    let mut machine = match machine_of::<N, CAP>(alloc, image) {
-        Ok(machine) => machine,
-        Err(fault) => return Err(fault),
-    };
     work(alloc, &mut machine, task, given, watch)
 }
 
@@ -189,28 +163,15 @@ fn work<const N: usize, const CAP: usize, W: Watch>(
     }
 }
 
-/// The machine of an image.
-fn machine_of<const N: usize, const CAP: usize>(
-    alloc: Global,
-    image: &[u8],
-) -> Result<Machine<N, CAP>, LabFault>
-    ensures value { IfOk result (λ kept. read_image N CAP image.now ≡ Ok kept.machine) }
-    ensures refused { IfErr result (λ fault. fault ≢ LabFault.Memory → IsRefused (read_image N CAP image.now) fault) }
-{
-    match load(alloc, image) {
-        Ok(machine) => Ok(machine),
-        Err(fault) => Err(of_image(fault)),
-    }
-}
-
-/// Why an image is none: want of memory is the same everywhere.
-fn of_image(fault: ImageFault) -> LabFault
-    ensures memory { fault ≡ ImageFault.Memory → result ≡ LabFault.Memory }
-    ensures other { fault ≢ ImageFault.Memory → result ≡ LabFault.Image fault }
+/// Why an image has no machine: want of memory is the same everywhere.
+fn of_open(fault: OpenFault) -> LabFault
+    ensures memory { fault ≡ OpenFault.Image ImageFault.Memory → result ≡ LabFault.Memory }
+    ensures other { fault ≢ OpenFault.Image ImageFault.Memory → result ≡ refusal_of fault }
 {
     match fault {
-        ImageFault::Memory => LabFault::Memory,
-        other => LabFault::Image(other),
+        OpenFault::Image(ImageFault::Memory) => LabFault::Memory,
+        OpenFault::Image(own) => LabFault::Image(own),
+        OpenFault::Room => LabFault::Room,
     }
 }
 

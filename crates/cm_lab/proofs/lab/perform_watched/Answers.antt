@@ -1,15 +1,27 @@
-use Rattle.std.proofs.Common.{◌≡◌, false, arith}
-use Rattle.std.proofs.lemmas.Bool.Decides.{nat_tests}
-use Rattle.cm_lab.specs.Lab.{is_own_room}
-use Rattle.cm_lab.proofs.Doing.{done_shapeless, done_foreign}
+use Rattle.std.proofs.Common.{◌≡◌, ◌≢◌, Ok, Err, ◌∙◌}
+use Rattle.cm_sizes.specs.Sizes.{sized}
+use Rattle.cm_lab.specs.declared.lab.LabFault.TheVariants.{Memory}
+use Rattle.cm_lab.specs.Lab.{work_on, done_with}
+use Rattle.cm_lab.proofs.Doing.{where_ok, where_err, opened_so, refused_so}
 use Rattle.cm_lab.proofs.lab.perform_watched.Goals as goal
 
 pub returns-in-Err-clause-refused : goal.returns-in-Err-clause-refused
-returns-in-Err-clause-refused g c = λ other.
-    done_shapeless c.args.task c.args.given.now c.args.image.now c.in-Err.fault c.in-Err.ensures.value
+returns-in-Err-clause-refused g c =
+    refused_so c.args.task c.args.given.now c.args.image.now c.in-Err.fault c.of_open.result c.in-Err.ensures.refused
+    c.of_open.ensures.memory c.of_open.ensures.other
 
-pub returns-in_default-clause-refused : goal.returns-in_default-clause-refused
-returns-in_default-clause-refused g c = λ other.
-    let others = c.in_default in
-    let own : is_own_room c.in-Ok.sizes.1 ≡ false = grind (arith, nat_tests) in
-    done_foreign c.args.task c.args.given.now c.args.image.now c.in-Ok.sizes.0 c.in-Ok.sizes.1 c.in-Ok.ensures.value own
+pub returns-in-Ok-clause-value : goal.returns-in-Ok-clause-value
+returns-in-Ok-clause-value g c =
+    where_ok (λ text. work_on c.args.task c.args.given.now (sized c.in-Ok.machine) ≡ Ok text.items)
+    (λ text. done_with c.args.task c.args.given.now c.args.image.now ≡ Ok text.items) c.work_on.result
+    (λ text done. opened_so c.args.task c.args.given.now c.args.image.now (sized c.in-Ok.machine) c.in-Ok.ensures.value
+    ∙ done)
+    c.work_on.ensures.value
+
+pub returns-in-Ok-clause-refused : goal.returns-in-Ok-clause-refused
+returns-in-Ok-clause-refused g c =
+    where_err (λ fault. fault ≢ Memory → work_on c.args.task c.args.given.now (sized c.in-Ok.machine) ≡ Err fault)
+    (λ fault. fault ≢ Memory → done_with c.args.task c.args.given.now c.args.image.now ≡ Err fault) c.work_on.result
+    (λ fault told other. opened_so c.args.task c.args.given.now c.args.image.now (sized c.in-Ok.machine)
+    c.in-Ok.ensures.value ∙ told other)
+    c.work_on.ensures.refused
