@@ -185,13 +185,7 @@ fn kept_shared<R: Threads + Wait + Sync, I: Source, O: Sink>(
 }
 
 /// The same, on a machine of these sizes.
-fn left_by_all<
-    const N: usize,
-    const CAP: usize,
-    R: Threads + Wait + Sync,
-    I: Source,
-    O: Sink,
->(
+fn left_by_all<const N: usize, const CAP: usize, R: Threads + Wait + Sync, I: Source, O: Sink>(
     rt: &R,
     alloc: Global,
     row: &Shared,

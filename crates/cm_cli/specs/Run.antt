@@ -12,14 +12,14 @@ use Rattle.cm_outside.specs.ProgramFault.{of_session}
 use Rattle.cm_sizes.specs.Sizes.{SizedMachine}
 
 -- all commands were answered, and this image is kept of the machine that they left
-pub record HasLeft (start : SizedMachine) (acts : List Act) (lines : List ℕ) (rest held holds : Option (List ℕ)) (keeps : Bool)
-    (image : Option (List ℕ)) : Type 0 where
+pub record HasLeft (start : SizedMachine) (acts : List Act) (lines : List ℕ) (rest held holds : Option (List ℕ))
+    (keeps : Bool) (image : Option (List ℕ)) : Type 0 where
   pub after : Machine
   pub ends : Ends start.n start.cap acts lines rest start.machine held after holds (Ok tt)
   pub kept : IsKept start.n start.cap after keeps image
 
--- the commands gave some text to their end, all of whose lines were answered, and this image is kept of the machine that
--- they left: this can be said of commands that do not tell their bytes
+-- the commands gave some text to their end, all of whose lines were answered, and this image is kept of the machine
+-- that they left: this can be said of commands that do not tell their bytes
 pub record HasLeftForSome (start : SizedMachine) (acts : List Act) (source rest held holds : Option (List ℕ))
     (keeps : Bool)
     (image : Option (List ℕ)) : Type 0 where

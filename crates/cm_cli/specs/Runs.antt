@@ -37,8 +37,8 @@ pub record IsSession (start : SizedMachine) (acts : List Act) (streams : Streams
   pub read : (streams.read_failed ≡ true) ↔ IsErrOf ran Read
   pub write : (streams.write_failed ≡ true) ↔ IsErrOf ran Write
 
--- the deeds once a session that begins here has ended: standard output goes out, and the file is written, if one was made
--- ready. It wants a thread only where this is so
+-- the deeds once a session that begins here has ended: standard output goes out, and the file is written, if one was
+-- made ready. It wants a thread only where this is so
 pub record RunsFrom {F P : Type 0} (start : SizedMachine) (acts : List Act) (WantsThread : Type 0) (streams : Streams)
     (part : Option P) (result : Result (Unit {0}) ProgramFault) (deeds : List (Deed F P)) : Type 0 where
   pub ran : Result (Option (List ℕ)) ProgramFault

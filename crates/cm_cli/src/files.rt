@@ -29,7 +29,8 @@ pub struct RunLine {
     pub out: Option<String>,
 }
 
-/// What a session over files begins with: its machine and its program, and the file that was made ready, if one is named.
+/// What a session over files begins with: its machine and its program, and the file that was made ready, if one is
+/// named.
 #[derive(Drop)]
 struct Begun<M, P> {
     taken: Taken<M>,
@@ -57,7 +58,9 @@ pub fn run_files<S: SessionRunner, H: Outside, I: Source, O: Sink>(
         Ok(begun) => {
             let Begun { taken, part } = begun;
             let Taken { machine, program } = taken;
-            run_any(alloc, outside, machine, &program, part, runner, commands, answers)
+            run_any(
+                alloc, outside, machine, &program, part, runner, commands, answers,
+            )
         }
         Err(fault) => Err(fault),
     }
@@ -108,8 +111,8 @@ fn begin_taken<H: Outside, M: Drop>(
     }
 }
 
-/// Runs a session on a machine of any size; and then the image of the machine goes into the file that was made ready, if
-/// one was.
+/// Runs a session on a machine of any size; and then the image of the machine goes into the file that was made ready,
+/// if one was.
 fn run_any<S: SessionRunner, H: Outside, I: Source, O: Sink>(
     alloc: Global,
     outside: &mut H,

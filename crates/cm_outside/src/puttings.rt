@@ -1,10 +1,10 @@
-//! What is written outside: a file is made ready; once the program's work has ended standard output goes out, and the file
-//! gets its place.
+//! What is written outside: a file is made ready; once the program's work has ended standard output goes out, and the
+//! file gets its place.
 
 ghost use Rattle.std.specs.Prelude.{◌≡◌, IfOk, IfErr, Some, option_map, string_bytes};
 ghost use Rattle.cm_outside.specs.Deeds.{Did};
-ghost use Rattle.cm_outside.specs.Puttings.{BreaksOff, ClosesLeft, ClosesWell, Fills, FlushesOut, IsUnready, Puts, Readies};
-ghost use Rattle.cm_outside.specs.Puttings.{let_go};
+ghost use Rattle.cm_outside.specs.Puttings.{BreaksOff, ClosesLeft, ClosesWell, Fills, FlushesOut, IsUnready, Puts};
+ghost use Rattle.cm_outside.specs.Puttings.{Readies, let_go};
 
 use crate::outside::Outside;
 use crate::program_fault::ProgramFault;

@@ -10,11 +10,13 @@ returns-in-Ok g c =
     let both = did_so c.in-Ok.ensures.value
     (λ deeds took. taken_of c.as_str.ensures.value c.as_str-2.ensures.value took) in
     record {
-      value = begun_so c.begin_taken.new.outside (reads_by g.H.File.Source.left g.H.File.Source.has_failed) c.args.line.now c.in-Ok.taken
-          c.dims.result c.dims.ensures.value c.begin_taken.result both c.begin_taken.ensures.same
+      value = begun_so c.begin_taken.new.outside (reads_by g.H.File.Source.left g.H.File.Source.has_failed)
+          c.args.line.now c.in-Ok.taken c.dims.result c.dims.ensures.value c.begin_taken.result both
+          c.begin_taken.ensures.same
           c.begin_taken.ensures.shared c.begin_taken.ensures.value;
-      refused = unbegun_so c.begin_taken.new.outside (reads_by g.H.File.Source.left g.H.File.Source.has_failed) c.args.line.now c.in-Ok.taken
-          c.dims.result c.dims.ensures.value c.begin_taken.result both c.begin_taken.ensures.refused;
+      refused = unbegun_so c.begin_taken.new.outside (reads_by g.H.File.Source.left g.H.File.Source.has_failed)
+          c.args.line.now c.in-Ok.taken c.dims.result c.dims.ensures.value c.begin_taken.result both
+          c.begin_taken.ensures.refused;
     }
 
 pub returns-in-Err : goal.returns-in-Err
