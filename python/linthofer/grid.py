@@ -5,6 +5,7 @@ A *place* is 16 times the chip and the processor on it, so numbers of all proces
 """
 from __future__ import annotations
 
+import functools
 from typing import List, Sequence, Tuple
 
 PROCESSORS = 16         # of a chip
@@ -25,10 +26,11 @@ def place_at(dims: int, row: int, column: int) -> int:
     return PROCESSORS * chip + SIDE * (row % SIDE) + column % SIDE
 
 
-def places_by_row(dims: int) -> List[List[int]]:
-    """The places row by row of the grid."""
+@functools.lru_cache(maxsize=1)
+def places_by_row(dims: int) -> Tuple[Tuple[int, ...], ...]:
+    """The places row by row of the grid; those of the last machine that was asked for are kept."""
     rows, columns = shape_of(dims)
-    return [[place_at(dims, row, column) for column in range(columns)] for row in range(rows)]
+    return tuple(tuple(place_at(dims, row, column) for column in range(columns)) for row in range(rows))
 
 
 def by_row(dims: int, numbers: Sequence[int]) -> List[List[int]]:

@@ -1,7 +1,6 @@
 """What goes over the pipes, and what happens when something goes wrong there."""
 import os
 import signal
-import threading
 
 import pytest
 
@@ -83,12 +82,17 @@ def test_names_in_lines_that_did_not_go_out_are_told_again(four):
     assert x[0, 0] == 5
 
 
-def test_an_interrupted_question_leaves_no_answer_behind(four):
-    lines = "field 0 5 0 64\n" * 4000
-    threading.Timer(0.02, os.kill, (os.getpid(), signal.SIGINT)).start()
+def test_an_interrupted_question_leaves_no_answer_behind(four, monkeypatch):
+    read_line, once = Front._read_line, iter([True])
+
+    def read_line_and_press_ctrl_c(front):
+        if next(once, False):
+            os.kill(os.getpid(), signal.SIGINT)
+        return read_line(front)
+
+    monkeypatch.setattr(Front, "_read_line", read_line_and_press_ctrl_c)
     with pytest.raises(KeyboardInterrupt):
-        while True:
-            four.ask(lines)
+        four.ask("field 0 5 0 64\n" * 4000)
     assert four.ask("wire show\nrule") == ["wire 0", "rule 0"]
 
 

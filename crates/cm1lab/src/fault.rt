@@ -99,7 +99,7 @@ impl Fault {
             FrontFault::Room => Fault::image(alloc, path, LabFault::Room),
             FrontFault::Ended(SessionFault::Read) => Fault::Input("cannot be read"),
             FrontFault::Ended(SessionFault::TooMuch) => Fault::Input(
-                "has more than 16777216 bytes",
+                "has a line of more than 16777216 bytes",
             ),
             FrontFault::Ended(SessionFault::Write(_)) => Fault::Output,
         }

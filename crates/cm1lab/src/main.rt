@@ -18,7 +18,7 @@ use cm_fresh::{FreshFault, fresh};
 use cm_front::front_image;
 use cm_host::Host;
 use cm_lab::{LabFault, RouteFault, perform_watched};
-use cm_lab_line::{Asked, Blank, Command, CommandFault, Given, HELP, Loads, read_words};
+use cm_lab_line::{Asked, Blank, Command, CommandFault, Given, HELP, Loads, VERSION, read_words};
 use cm_outside::{LineFault, Outside, TakeFault, take};
 use cm_source::expand;
 use cm_way::plot;
@@ -74,15 +74,16 @@ fn run<R: Input + Print + Eprint + Env + Files + Clock + AllocGlobal>(
     }
     match read_words(alloc, words.as_slice()) {
         Ok(command) => obey(rt, alloc, command),
-        Err(CommandFault::Help) => help(rt),
+        Err(CommandFault::Help) => tell(rt, HELP),
+        Err(CommandFault::Version) => tell(rt, VERSION),
         Err(CommandFault::Memory) => Err(Fault::Memory),
         Err(fault) => Err(Fault::Command(fault)),
     }
 }
 
-/// Tells all commands, on standard output.
-fn help<R: Print>(rt: &R) -> Result<(), Fault> {
-    match rt.println(HELP) {
+/// Tells a text on standard output.
+fn tell<R: Print>(rt: &R, text: &str) -> Result<(), Fault> {
+    match rt.println(text) {
         Ok(()) => Ok(()),
         Err(_) => Err(Fault::Output),
     }

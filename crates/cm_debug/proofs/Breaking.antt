@@ -11,7 +11,8 @@ use Rattle.cm_session.specs.Session.{Session, Answered, preceded_by, opening, af
 use Rattle.cm_session.specs.Ends.{ended_lines, open_line, IsBeforeOrAmid, IsOnTheWay, IsStopped, IsBrokenOff}
 use Rattle.cm_session.proofs.Lines.{ended_lines-end}
 use Rattle.cm_debug.specs.Gathering.{IsCutOff, BreaksOffBetween}
-use Rattle.cm_debug.specs.Taking.{Talk, Setting, holds_of, after_all, IsTold, BreaksOffIn, BreaksOffAmong}
+use Rattle.cm_debug.specs.Talk.{Talk, Setting, after_all, IsTold, BreaksOffAmong}
+use Rattle.cm_debug.specs.Taking.{BreaksOffIn}
 use Rattle.cm_debug.proofs.Lines.{next, lines-more, answers-append, answers-longer}
 use Rattle.cm_debug.proofs.Sending.{take_front, front_written, all_written}
 

@@ -1,6 +1,6 @@
 -- How a session ends, by what was read and taken before.
 use Rattle.std.proofs.Common.{◌≡◌, ℕ, ◌+◌, ◌-◌, ◌<◌, ◌≤◌, min, inl, inr, Bool, true, false, ◌==◌, List, [], ◌∷◌, ◌++◌, length}
-use Rattle.std.proofs.Common.{take, drop, replicate, Option, Some, None, Result, Ok, Err, IfSome, refl, ap, ◌∙◌, sym, subst}
+use Rattle.std.proofs.Common.{take, drop, Option, Some, None, Result, Ok, Err, IfSome, refl, ap, ◌∙◌, sym, subst}
 use Rattle.std.proofs.Common.{arith, append_assoc, append-nil, length-append, length-drop, take-append-drop, take-take}
 use Rattle.std.proofs.lemmas.Grind.{common_steps}
 use Rattle.std.proofs.lemmas.Bool.{false≢true}
@@ -15,8 +15,8 @@ use Rattle.cm_session.specs.declared.fault.SessionFault.TheVariants.{Read, Write
 use Rattle.cm_session.specs.Session.{Session, opening, after_lines}
 use Rattle.cm_session.specs.Ends.{LIMIT, ended_lines, open_line, heard_lines, IsAnswered, Ends, EndsForSome}
 use Rattle.cm_session.proofs.Lines.{heard_first, heard_whole}
-use Rattle.cm_debug.specs.Taking.{Talk, Setting, setting, after_all, IsTold, IsBroken, BreaksOffAmong, HasTaken, HasStopped}
-use Rattle.cm_debug.specs.Hearing.{MayBeLeft, HasEnded, HasTakenAll}
+use Rattle.cm_debug.specs.Talk.{Talk, Setting, setting, after_all, IsTold, IsBroken, BreaksOffAmong, MayBeLeft, HasEnded, HasTakenAll}
+use Rattle.cm_debug.specs.Taking.{HasTaken, HasStopped}
 use Rattle.cm_debug.proofs.Breaking.{among_more, broken_first}
 use Rattle.cm_debug.proofs.Lines.{lines_of-closed, lines_at_last}
 use Rattle.cm_debug.proofs.Sending.{with_none}

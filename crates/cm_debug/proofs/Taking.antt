@@ -1,5 +1,5 @@
 -- What a console has taken, piece after piece, and where it stops.
-use Rattle.std.proofs.Common.{◌≡◌, ℕ, ◌+◌, ◌-◌, ◌*◌, ◌^◌, ◌<◌, ◌≤◌, Bool, false, cond, List, [], ◌∷◌, ◌++◌, length}
+use Rattle.std.proofs.Common.{◌≡◌, ℕ, ◌+◌, ◌-◌, ◌<◌, ◌≤◌, Bool, false, cond, List, [], ◌∷◌, ◌++◌, length}
 use Rattle.std.proofs.Common.{take, drop, take-add, take-append-drop, get_or, Option, Result}
 use Rattle.std.proofs.Common.{refl, ap, ◌∙◌, sym, subst, arith, append_assoc, append-nil, length-append}
 use Rattle.std.proofs.lemmas.Grind.{common_steps}
@@ -16,11 +16,11 @@ use Rattle.cm_session.specs.Session.{Answered, preceded_by, answered, after_line
 use Rattle.cm_session.specs.Ends.{ended_lines, is_no_thread}
 use Rattle.cm_session.proofs.Lines.{ended_lines-append, ended_lines-end, open_line-end, ended_after}
 use Rattle.cm_debug.specs.Gathering.{BreaksOffBetween}
-use Rattle.cm_debug.specs.Taking.{Talk, Setting, holds_of, count_of, after_all, IsTold, IsBroken, BreaksOffIn}
-use Rattle.cm_debug.specs.Taking.{HasTaken, HasStopped, HasAnswered, HasBrokenOff, BreaksOffAmong}
+use Rattle.cm_debug.specs.Talk.{Talk, Setting, holds_of, count_of, after_all, IsTold, IsBroken, BreaksOffAmong}
+use Rattle.cm_debug.specs.Taking.{BreaksOffIn, HasTaken, HasStopped, HasAnswered, HasBrokenOff}
 use Rattle.cm_debug.specs.Telling.{IsUnended}
 use Rattle.cm_debug.proofs.Breaking.{among_more, breaks_in, breaks_between}
-use Rattle.cm_debug.proofs.Lines.{ended_lines-part, open_line-part, lines-more, next, answered_line}
+use Rattle.cm_debug.proofs.Lines.{ended_lines-part, open_line-part, lines-more, answered_line}
 use Rattle.cm_debug.proofs.Sending.{as_gathered, with_none}
 
 take_whole : (xs : List ℕ) (k : ℕ) → length xs ≤ k → take k xs ≡ xs

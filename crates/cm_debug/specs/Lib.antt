@@ -2,5 +2,5 @@ pub mod Telling
 pub mod State
 pub mod Longest
 pub mod Gathering
+pub mod Talk
 pub mod Taking
-pub mod Hearing

@@ -10,7 +10,8 @@ ghost use Rattle.cm_session.specs.Session.{answered};
 ghost use Rattle.cm_session.specs.Ends.{is_write};
 ghost use Rattle.cm_debug.specs.Gathering.{answered_bytes, with_gathered, IsCutOff};
 ghost use Rattle.cm_debug.specs.State.{session_of};
-ghost use Rattle.cm_debug.specs.Taking.{talk, Takes, Tells};
+ghost use Rattle.cm_debug.specs.Talk.{talk};
+ghost use Rattle.cm_debug.specs.Taking.{Takes, Tells};
 ghost use Rattle.cm_debug.specs.Telling.{asks_for_acts, asks_to_run, IsUnended};
 
 use crate::commands::asks_for_acts;

@@ -4,8 +4,7 @@ ghost use Rattle.std.specs.Prelude.{◌≡◌, ◌≤◌, ◌*◌, ◌^◌, ◌�
 ghost use Rattle.std.specs.Io.KnownBytes.{IsAtEnd};
 ghost use Rattle.cm_array.specs.Faults.{one_more_lacked};
 ghost use Rattle.cm_session.specs.Ends.{Ends, EndsForSome, is_no_thread, is_write};
-ghost use Rattle.cm_debug.specs.Taking.{setting, talk, IsTold};
-ghost use Rattle.cm_debug.specs.Hearing.{HasEnded, TakesAll};
+ghost use Rattle.cm_debug.specs.Talk.{setting, talk, IsTold, HasEnded, TakesAll};
 
 use crate::console::Console;
 use cm_array::{Machine, Runner};

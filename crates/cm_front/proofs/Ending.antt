@@ -1,21 +1,22 @@
 -- How a front end ends, by what was heard and told before.
 use Rattle.std.proofs.Common.{◌≡◌, ℕ, ◌+◌, ◌-◌, ◌<◌, ◌≤◌, List, [], ◌∷◌, ◌++◌, length, take, drop, get_or, Option, Result}
 use Rattle.std.proofs.Common.{Ok, Err, refl, ap, ◌∙◌, sym, subst, arith, append_assoc, append-nil, length-append}
-use Rattle.std.proofs.Common.{take-append-drop, drop-drop, length-drop, Bool, true, false}
+use Rattle.std.proofs.Common.{take-append-drop, drop-drop, length-drop, Bool, true, false, ◌⊎◌, inl, inr}
 use Rattle.std.proofs.lemmas.Grind.{common_steps}
+use Rattle.std.proofs.lemmas.List.Elements.{All-push}
 use Rattle.std.proofs.KnownBytes.{Appends-nil, Consumes-kept, Consumes-trans}
 use Rattle.std.specs.Io.KnownBytes.{Appends, Consumes}
 use Rattle.cm_bits.specs.Text.{lines_of}
 use Rattle.cm_model.specs.Machine.{Machine}
 use Rattle.cm_session.specs.declared.fault.SessionFault.{SessionFault}
 use Rattle.cm_session.specs.declared.fault.SessionFault.TheVariants.{Read, Write, TooMuch, Memory, NoThread}
-use Rattle.cm_session.specs.Ends.{ended_lines}
+use Rattle.cm_session.specs.Ends.{ended_lines, open_line}
 use Rattle.cm_debug.specs.Gathering.{IsCutOff}
 use Rattle.cm_debug.specs.Telling.{IsUnended}
 use Rattle.cm_front.specs.Front.{Front}
-use Rattle.cm_front.specs.Ends.{LIMIT, Ends, IsAnswered}
+use Rattle.cm_front.specs.Ends.{LIMIT, ALL, AreShort, Ends, IsAnswered}
 use Rattle.cm_front.specs.Hearing.{BreaksOff, HasHeard, HearingStops}
-use Rattle.cm_front.proofs.Lines.{AreLinesOf, line_more, last_line, all_ended, no_open}
+use Rattle.cm_front.proofs.Lines.{AreLinesOf, line_more, last_line, all_ended, left_open, no_open}
 use Rattle.cm_front.proofs.Told.{IsTold, answered_all, stopped, broken_off, line_stops}
 
 -- ---- a line of what was heard
@@ -41,6 +42,20 @@ a_line_on heard given rest line place len is part inside ends =
     sym (take-append-drop (len + 1) (drop place heard))
     ∙ (λ i. sym one i ++ drop-drop (len + 1) place heard i) in
     ap (λ (xs : List ℕ). given ++ xs) parts ∙ sym (append_assoc given (line ++ 10 ∷ []) (drop (place + (len + 1)) heard))
+
+-- of a line none is seen to end
+pub none_seen : (bytes : List ℕ) → IsUnended (take 0 bytes)
+none_seen bytes k h = absurd (omega (arith, h, no_length bytes)) where
+  no_length : (bytes : List ℕ) → length (take 0 bytes) ≡ 0
+  no_length bytes = grind (arith, common_steps)
+
+-- what was seen stands at the front
+pub seen_more : (rest heard bytes : List ℕ) (len : ℕ) → heard ≡ rest ++ bytes → len ≡ length rest → IsUnended rest
+    → IsUnended (take len (drop 0 heard))
+seen_more rest heard bytes len is all free = subst IsUnended (sym (front rest heard bytes len is all)) free where
+  front : (rest heard bytes : List ℕ) (len : ℕ) → heard ≡ rest ++ bytes → len ≡ length rest
+      → take len (drop 0 heard) ≡ rest
+  front rest heard bytes len is all = grind (arith, common_steps)
 
 -- where no line has ended
 pub unended_rest : (heard rest : List ℕ) (place len : ℕ) → rest ≡ take (length heard - place) (drop place heard)
@@ -79,43 +94,41 @@ send_ends n cap start held before after given rest done front holds on sent kept
       (lines.all rest) told' cut;
 }
 
-take_front : (xs ys : List ℕ) (k : ℕ) → k ≡ length xs → take k (xs ++ ys) ≡ xs
-take_front xs ys k is = grind (arith, common_steps)
-
 nothing_appended : (holds : Option (List ℕ)) (kept : List ℕ) → kept ≡ [] → Appends holds holds kept
 nothing_appended holds kept none = subst (Appends holds holds) (sym none) (Appends-nil holds)
 
+-- the lines that ended before are short
+short_ended : (given rest : List ℕ) (done : List (List ℕ)) → IsUnended rest → AreLinesOf given done → AreShort done
+    → AreShort (ended_lines (given ++ rest))
+short_ended given rest done free lines short = subst AreShort (sym (all_ended given rest done free lines)) short
+
+-- they are answered
+ended_answered : (n cap : ℕ) (start : Machine) (held : Option (List ℕ)) (given rest : List ℕ) (done : List (List ℕ))
+    (front : Front) (holds : Option (List ℕ)) (sent : ℕ) (kept : List ℕ) → kept ≡ [] → IsUnended rest
+    → AreLinesOf given done → IsTold n cap start held done front holds sent kept
+    → IsAnswered n cap start held (ended_lines (given ++ rest)) front.machine holds
+ended_answered n cap start held given rest done front holds sent kept none free lines told' =
+    subst (λ (ls : List (List ℕ)). IsAnswered n cap start held ls front.machine holds)
+    (sym (all_ended given rest done free lines)) (answered_all n cap start held done front holds sent kept none told')
+
 -- no more is heard
 pub hearing_ends : (n cap : ℕ) (start : Machine) (held before mid after : Option (List ℕ)) (given rest : List ℕ)
-    (taken : ℕ) (done : List (List ℕ)) (front : Front) (holds : Option (List ℕ)) (sent : ℕ) (kept : List ℕ)
+    (done : List (List ℕ)) (front : Front) (holds : Option (List ℕ)) (sent : ℕ) (kept : List ℕ)
     (fault : SessionFault) → kept ≡ [] → IsUnended rest → AreLinesOf given done → Consumes before mid (given ++ rest)
-    → taken ≡ length (given ++ rest) → taken ≤ LIMIT → IsTold n cap start held done front holds sent kept
-    → HearingStops mid after taken fault → Ends n cap before after start held front.machine holds (Err fault)
-hearing_ends n cap start held before mid after given rest taken done front holds sent kept Read none free lines consumed
-    count within told' stops = record {
+    → AreShort done → length rest ≤ LIMIT → IsTold n cap start held done front holds sent kept
+    → HearingStops mid after fault → Ends n cap before after start held front.machine holds (Err fault)
+hearing_ends n cap start held before mid after given rest done front holds sent kept Read none free lines consumed
+    short within told' stops = record {
       taken = given ++ rest;
       consumed = Consumes-kept before mid after (given ++ rest) consumed stops;
       over = (
-        omega (arith, count, within),
-        subst (λ (ls : List (List ℕ)). IsAnswered n cap start held ls front.machine holds)
-            (sym (all_ended given rest done free lines))
-            (answered_all n cap start held done front holds sent kept none told'),
+        short_ended given rest done free lines short,
+        omega (arith, within, ap length (left_open given rest done free lines)),
+        ended_answered n cap start held given rest done front holds sent kept none free lines told',
       );
     }
-hearing_ends n cap start held before mid after given rest taken done front holds sent kept TooMuch none free lines
-    consumed count within told' stops = record {
-      taken = (given ++ rest) ++ stops.bytes;
-      consumed = Consumes-trans before mid after (given ++ rest) stops.bytes consumed stops.consumed;
-      over = (
-        omega (arith, count, stops.full, stops.some, length-append (given ++ rest) stops.bytes),
-        subst (λ (ls : List (List ℕ)). IsAnswered n cap start held ls front.machine holds)
-            (sym (ap ended_lines (take_front (given ++ rest) stops.bytes LIMIT (sym stops.full ∙ count))
-            ∙ all_ended given rest done free lines))
-            (answered_all n cap start held done front holds sent kept none told'),
-      );
-    }
-hearing_ends n cap start held before mid after given rest taken done front holds sent kept Memory none free lines consumed
-    count within told' stops = record {
+hearing_ends n cap start held before mid after given rest done front holds sent kept Memory none free lines consumed
+    short within told' stops = record {
       taken = (given ++ rest) ++ stops.bytes;
       consumed = Consumes-trans before mid after (given ++ rest) stops.bytes consumed stops.consumed;
       over = broken_off n cap start held done (lines_of (rest ++ stops.bytes)) (lines_of ((given ++ rest) ++ stops.bytes))
@@ -123,24 +136,55 @@ hearing_ends n cap start held before mid after given rest taken done front holds
           (ap lines_of (append_assoc given rest stops.bytes) ∙ lines.all (rest ++ stops.bytes)) told'
           (nothing_appended holds kept none);
     }
-hearing_ends n cap start held before mid after given rest taken done front holds sent kept (Write cut) none free lines
-    consumed count within told' stops = absurd stops
-hearing_ends n cap start held before mid after given rest taken done front holds sent kept NoThread none free lines
-    consumed count within told' stops = absurd stops
+hearing_ends n cap start held before mid after given rest done front holds sent kept TooMuch none free lines consumed
+    short within told' stops = absurd stops
+hearing_ends n cap start held before mid after given rest done front holds sent kept (Write cut) none free lines
+    consumed short within told' stops = absurd stops
+hearing_ends n cap start held before mid after given rest done front holds sent kept NoThread none free lines
+    consumed short within told' stops = absurd stops
+
+-- a line is too long, or all are too many
+too_many : (given rest : List ℕ) (done : List (List ℕ)) → IsUnended rest → AreLinesOf given done
+    → (LIMIT < length rest) ⊎ (ALL ≤ length (given ++ rest))
+    → (LIMIT < length (open_line (given ++ rest))) ⊎ (ALL ≤ length (given ++ rest))
+too_many given rest done free lines (inl long) =
+    inl (omega (arith, long, ap length (left_open given rest done free lines)))
+too_many given rest done free lines (inr many) = inr many
+
+pub over_is : (len bytes taken all : ℕ) → len ≡ bytes → taken ≡ all → (LIMIT < len) ⊎ (ALL ≤ taken)
+    → (LIMIT < bytes) ⊎ (ALL ≤ all)
+over_is len bytes taken all same so (inl long) = inl (omega (arith, long, same))
+over_is len bytes taken all same so (inr many) = inr (omega (arith, many, so))
+
+pub over_ends : (n cap : ℕ) (start : Machine) (held before after : Option (List ℕ)) (given rest : List ℕ)
+    (done : List (List ℕ)) (front : Front) (holds : Option (List ℕ)) (sent : ℕ) (kept : List ℕ) → kept ≡ []
+    → IsUnended rest → AreLinesOf given done → Consumes before after (given ++ rest) → AreShort done
+    → (LIMIT < length rest) ⊎ (ALL ≤ length (given ++ rest)) → IsTold n cap start held done front holds sent kept
+    → Ends n cap before after start held front.machine holds (Err TooMuch)
+over_ends n cap start held before after given rest done front holds sent kept none free lines consumed short over told' =
+    record {
+      taken = given ++ rest;
+      consumed = consumed;
+      over = (
+        short_ended given rest done free lines short,
+        too_many given rest done free lines over,
+        ended_answered n cap start held given rest done front holds sent kept none free lines told',
+      );
+    }
 
 -- ---- more is heard
 
-pub heard_more : (before mid after : Option (List ℕ)) (given rest heard : List ℕ) (taken count : ℕ)
-    → Consumes before mid (given ++ rest) → HasHeard mid after rest heard taken count
+pub heard_more : (before mid after : Option (List ℕ)) (given rest heard : List ℕ) (count : ℕ)
+    → Consumes before mid (given ++ rest) → HasHeard mid after rest heard count
     → Consumes before after (given ++ heard)
-heard_more before mid after given rest heard taken count consumed more =
+heard_more before mid after given rest heard count consumed more =
     subst (Consumes before after)
     (append_assoc given rest more.bytes ∙ ap (λ (xs : List ℕ). given ++ xs) (sym more.heard_is))
     (Consumes-trans before mid after (given ++ rest) more.bytes consumed more.consumed)
 
-pub heard_len : (before after : Option (List ℕ)) (rest heard : List ℕ) (taken count : ℕ)
-    → HasHeard before after rest heard taken count → length heard ≡ length rest + count
-heard_len before after rest heard taken count more =
+pub heard_len : (before after : Option (List ℕ)) (rest heard : List ℕ) (count : ℕ)
+    → HasHeard before after rest heard count → length heard ≡ length rest + count
+heard_len before after rest heard count more =
     ap length more.heard_is ∙ length-append rest more.bytes ∙ ap (λ (k : ℕ). length rest + k) (sym more.count_is)
 
 none_there : (rest bytes : List ℕ) → length bytes ≡ 0 → rest ++ bytes ≡ rest
@@ -148,9 +192,9 @@ none_there rest [] zero = append-nil rest
 none_there rest (byte ∷ bytes) zero = absurd (omega (arith, zero))
 
 -- where no more came
-pub heard_none : (before after : Option (List ℕ)) (rest heard : List ℕ) (taken count : ℕ) → count ≡ 0
-    → HasHeard before after rest heard taken count → heard ≡ rest
-heard_none before after rest heard taken count zero more =
+pub heard_none : (before after : Option (List ℕ)) (rest heard : List ℕ) (count : ℕ) → count ≡ 0
+    → HasHeard before after rest heard count → heard ≡ rest
+heard_none before after rest heard count zero more =
     more.heard_is ∙ none_there rest more.bytes (sym more.count_is ∙ zero)
 
 -- ---- the end of the bytes
@@ -158,14 +202,14 @@ heard_none before after rest heard taken count zero more =
 -- no line is open
 pub closed_ends : (n cap : ℕ) (start : Machine) (held before after : Option (List ℕ)) (given heard : List ℕ)
     (done : List (List ℕ)) (front : Front) (holds : Option (List ℕ)) (sent : ℕ) (kept : List ℕ) → kept ≡ []
-    → heard ≡ [] → AreLinesOf given done → Consumes before after (given ++ heard) → length (given ++ heard) ≤ LIMIT
+    → heard ≡ [] → AreLinesOf given done → Consumes before after (given ++ heard) → AreShort done
     → IsTold n cap start held done front holds sent kept → Ends n cap before after start held front.machine holds (Ok tt)
-closed_ends n cap start held before after given heard done front holds sent kept none empty lines consumed within told' =
+closed_ends n cap start held before after given heard done front holds sent kept none empty lines consumed short told' =
     record {
       taken = given ++ heard;
       consumed = consumed;
       over = (
-        within,
+        subst AreShort (sym (ap (λ (xs : List ℕ). lines_of (given ++ xs)) empty ∙ no_open given done lines)) short,
         subst (λ (ls : List (List ℕ)). IsAnswered n cap start held ls front.machine holds)
             (sym (ap (λ (xs : List ℕ). lines_of (given ++ xs)) empty ∙ no_open given done lines))
             (answered_all n cap start held done front holds sent kept none told'),
@@ -192,18 +236,23 @@ last_ends n cap start held before after given heard done front holds on sent kep
           (last_parts given heard done free some lines) told' breaks;
     }
 
+-- a short line more
+pub short_more : (line : List ℕ) (done : List (List ℕ)) → AreShort done → length line ≤ LIMIT
+    → AreShort (done ++ line ∷ [])
+short_more line done short within = All-push (λ (l : List ℕ). length l ≤ LIMIT) done line short within
+
 -- it is answered, and the answer written
 pub answered_ends : (n cap : ℕ) (start : Machine) (held before after : Option (List ℕ)) (given heard : List ℕ)
     (done : List (List ℕ)) (front : Front) (holds : Option (List ℕ)) (sent : ℕ) (kept : List ℕ) → kept ≡ []
     → IsUnended heard → 0 < length heard → AreLinesOf given done → Consumes before after (given ++ heard)
-    → length (given ++ heard) ≤ LIMIT → IsTold n cap start held (done ++ heard ∷ []) front holds sent kept
+    → AreShort done → length heard ≤ LIMIT → IsTold n cap start held (done ++ heard ∷ []) front holds sent kept
     → Ends n cap before after start held front.machine holds (Ok tt)
-answered_ends n cap start held before after given heard done front holds sent kept none free some lines consumed within
-    told' = record {
+answered_ends n cap start held before after given heard done front holds sent kept none free some lines consumed short
+    within told' = record {
       taken = given ++ heard;
       consumed = consumed;
       over = (
-        within,
+        subst AreShort (sym (last_line given heard done free some lines)) (short_more heard done short within),
         subst (λ (ls : List (List ℕ)). IsAnswered n cap start held ls front.machine holds)
             (sym (last_line given heard done free some lines))
             (answered_all n cap start held (done ++ heard ∷ []) front holds sent kept none told'),

@@ -5,16 +5,17 @@ use Rattle.std.specs.List.{slice_split, All}
 use Rattle.std.proofs.lemmas.List.Splits.{slice_split_at, slice_split_none, length-slice_split}
 use Rattle.std.proofs.lemmas.List.Elements.{All-from_get_or}
 use Rattle.cm_bits.specs.Text.{is_line_end, lines_of, without_empty_last}
-use Rattle.cm_session.specs.Ends.{ended_lines, but_last}
+use Rattle.cm_session.specs.Ends.{ended_lines, open_line, but_last, last_of}
 use Rattle.cm_debug.specs.Telling.{IsUnended}
 
 -- bytes that end with the end of a line, or are none, are these lines, whatever follows
 pub record AreLinesOf (given : List ℕ) (done : List (List ℕ)) : Type 0 where
   pub all : (rest : List ℕ) → lines_of (given ++ rest) ≡ done ++ lines_of rest
   pub ended : (rest : List ℕ) → ended_lines (given ++ rest) ≡ done ++ ended_lines rest
+  pub still_open : (rest : List ℕ) → open_line (given ++ rest) ≡ open_line rest
 
 pub no_lines : AreLinesOf [] []
-no_lines = record { all = λ rest. refl; ended = λ rest. refl }
+no_lines = record { all = λ rest. refl; ended = λ rest. refl; still_open = λ rest. refl }
 
 free_of : (bytes : List ℕ) → IsUnended bytes → All (λ (byte : ℕ). is_line_end byte ≡ false) bytes
 free_of bytes free = All-from_get_or (λ (byte : ℕ). is_line_end byte ≡ false) bytes 0 free
@@ -32,6 +33,10 @@ not_last_ended : (line : List ℕ) (parts : List (List ℕ)) → 0 < length part
 not_last_ended line [] some = absurd (omega arith)
 not_last_ended line (part ∷ parts) some = refl
 
+not_last_open : (line : List ℕ) (parts : List (List ℕ)) → 0 < length parts → last_of (line ∷ parts) ≡ last_of parts
+not_last_open line [] some = absurd (omega arith)
+not_last_open line (part ∷ parts) some = refl
+
 first_line : (line rest : List ℕ) → IsUnended line → lines_of (line ++ 10 ∷ rest) ≡ line ∷ lines_of rest
 first_line line rest free =
     ap without_empty_last (slice_split_at is_line_end line 10 rest (free_of line free) refl)
@@ -42,6 +47,12 @@ unfolding ended_lines
 first_ended line rest free =
     ap but_last (slice_split_at is_line_end line 10 rest (free_of line free) refl)
     ∙ not_last_ended line (slice_split is_line_end rest) (some_parts rest)
+
+first_open : (line rest : List ℕ) → IsUnended line → open_line (line ++ 10 ∷ rest) ≡ open_line rest
+unfolding open_line
+first_open line rest free =
+    ap last_of (slice_split_at is_line_end line 10 rest (free_of line free) refl)
+    ∙ not_last_open line (slice_split is_line_end rest) (some_parts rest)
 
 behind : (given line rest : List ℕ)
     → (given ++ (line ++ 10 ∷ [])) ++ rest ≡ given ++ (line ++ 10 ∷ rest)
@@ -60,6 +71,8 @@ line_more given line done free is = record {
       ap ended_lines (behind given line rest) ∙ is.ended (line ++ 10 ∷ rest)
       ∙ ap (λ (ls : List (List ℕ)). done ++ ls) (first_ended line rest free)
       ∙ sym (append_assoc done (line ∷ []) (ended_lines rest));
+  still_open = λ rest.
+      ap open_line (behind given line rest) ∙ is.still_open (line ++ 10 ∷ rest) ∙ first_open line rest free;
 }
 
 -- ---- the end
@@ -84,6 +97,15 @@ pub all_ended : (given last : List ℕ) (done : List (List ℕ)) → IsUnended l
     → ended_lines (given ++ last) ≡ done
 all_ended given last done free is =
     is.ended last ∙ ap (λ (ls : List (List ℕ)). done ++ ls) (none_ended last free) ∙ append-nil done
+
+-- what is open
+open_is : (last : List ℕ) → IsUnended last → open_line last ≡ last
+unfolding open_line
+open_is last free = ap last_of (slice_split_none is_line_end last (free_of last free))
+
+pub left_open : (given last : List ℕ) (done : List (List ℕ)) → IsUnended last → AreLinesOf given done
+    → open_line (given ++ last) ≡ last
+left_open given last done free is = is.still_open last ∙ open_is last free
 
 -- where none are open
 pub no_open : (given : List ℕ) (done : List (List ℕ)) → AreLinesOf given done → lines_of (given ++ []) ≡ done

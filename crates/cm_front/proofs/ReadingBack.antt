@@ -1,6 +1,5 @@
 -- Numbers that were put into a field are those that are told of it.
-use Rattle.std.proofs.Common.{◌≡◌, ℕ, ◌^◌, true, Ok, List, [], ap, ◌∙◌}
-use Rattle.cm_bits.specs.Span.{Span}
+use Rattle.std.proofs.Common.{◌≡◌, ◌^◌, true, Ok, [], ap, ◌∙◌}
 use Rattle.cm_bits.specs.Text.{words_of}
 use Rattle.cm_lab.specs.declared.order.Order.TheVariants.{Chips as by_chips}
 use Rattle.cm_lab.specs.Data.{numbers_of}

@@ -1,5 +1,5 @@
 -- Why an image is refused.
-use Rattle.std.proofs.Common.{◌≡◌, ℕ, Bool, true, false, if◌then◌else◌, Some, Result, Ok, Err, List, ap, ◌∙◌}
+use Rattle.std.proofs.Common.{◌≡◌, ℕ, Bool, true, false, if◌then◌else◌, Some, Ok, Err, List, ap, ◌∙◌}
 use Rattle.cm_image_format.specs.declared.fault.ImageFault.{ImageFault}
 use Rattle.cm_image_format.specs.Whole.{read_shape, image_fault}
 use Rattle.cm_front.specs.declared.images.FrontFault.TheVariants.{Image, Room}

@@ -1,6 +1,6 @@
 -- What a line says, as it is read.
 use Rattle.std.proofs.Common.{◌≡◌, ℕ, true, false, Bool, Result, Ok, Err, List, [], take, drop, inl, inr}
-use Rattle.std.proofs.Common.{refl, ap, ◌∙◌, sym, if◌then◌else◌}
+use Rattle.std.proofs.Common.{ap, ◌∙◌, sym, if◌then◌else◌}
 use Rattle.std.proofs.Math.Seq.{drop-nil, take-nil}
 use Rattle.cm_bits.specs.Text.{words_of}
 use Rattle.cm_model.specs.declared.act.Act.{Act}

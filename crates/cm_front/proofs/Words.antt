@@ -1,12 +1,11 @@
 -- The words of lines for all processors: no program and no session has them.
-use Rattle.std.proofs.Common.{◌≡◌, ℕ, Bool, true, false, ◌||◌, if◌then◌else◌, Option, Some, None, Result, Ok, Err}
+use Rattle.std.proofs.Common.{◌≡◌, ℕ, Bool, true, false, ◌||◌, if◌then◌else◌, Some, Result, Ok, Err}
 use Rattle.std.proofs.Common.{List, [], ◌∷◌, codes, bytes_eq, refl, sym, ap, ◌∙◌, subst, ⊎_elim, IfOk, IfErr, drop}
 use Rattle.std.proofs.lemmas.Bool.{cases_Bool, false≢true}
 use Rattle.std.proofs.lemmas.Slice.Eq.{bytes_eq-Decides}
 use Rattle.cm_language.specs.declared.fault.AsmKind.{AsmKind}
 use Rattle.cm_language.specs.declared.fault.AsmKind.TheVariants as kind
 use Rattle.cm_session.specs.declared.command.Command.{Command}
-use Rattle.cm_session.specs.declared.command.Refusal.{Refusal}
 use Rattle.cm_session.specs.declared.command.Refusal.TheVariants.{Word}
 use Rattle.cm_front.specs.declared.for_all.Asked.{Asked}
 use Rattle.cm_front.specs.declared.for_all.Asked.TheVariants.{Standing, Clock, Image, Forget}

@@ -1,16 +1,25 @@
 -- How a front end ends: what it took, what it wrote and the machine that it left, after each of its faults too. Ours.
-use Rattle.std.specs.Prelude.{◌≡◌, ℕ, ◌<◌, ◌≤◌, Option, Result, Ok, Err, List, ◌++◌, length, take}
+use Rattle.std.specs.Prelude.{◌≡◌, ℕ, ◌<◌, ◌≤◌, ◌⊎◌, Option, Result, Ok, Err, List, ◌++◌, length, take}
+use Rattle.std.specs.List.{All}
 use Rattle.std.specs.Io.KnownBytes.{Appends, Consumes}
 use Rattle.cm_bits.specs.Text.{lines_of}
 use Rattle.cm_model.specs.Machine.{Machine}
 use Rattle.cm_session.specs.declared.fault.SessionFault.{SessionFault}
 use Rattle.cm_session.specs.declared.fault.SessionFault.TheVariants.{Read, Write, TooMuch, Memory, NoThread}
-use Rattle.cm_session.specs.Ends.{ended_lines}
+use Rattle.cm_session.specs.Ends.{ended_lines, open_line}
 use Rattle.cm_front.specs.Front.{answers, left}
 
--- the most bytes of lines
+-- the most bytes of a line
 abbrev pub LIMIT : ℕ
 LIMIT = 16777216
+
+-- the bytes of all lines after which no more are asked for: a counter has room for no more
+abbrev pub ALL : ℕ
+ALL = 9223372036854775808
+
+-- no line has more bytes
+abbrev pub AreShort : List (List ℕ) → Type 0
+AreShort lines = All (λ line. length line ≤ LIMIT) lines
 
 -- these lines are all answered, and the machine is that after them
 pub record IsAnswered (n cap : ℕ) (start : Machine) (held : Option (List ℕ)) (lines : List (List ℕ))
@@ -40,13 +49,15 @@ pub record IsBrokenOff (n cap : ℕ) (start : Machine) (held : Option (List ℕ)
 abbrev pub EndsOver : ℕ → ℕ → List ℕ → Machine → Option (List ℕ) → Machine → Option (List ℕ)
     → Result (Unit {0}) SessionFault → Type 0
 EndsOver n cap taken start held machine holds (Ok done) =
-    (length taken ≤ LIMIT) × IsAnswered n cap start held (lines_of taken) machine holds
+    AreShort (lines_of taken) × IsAnswered n cap start held (lines_of taken) machine holds
 EndsOver n cap taken start held machine holds (Err Read) =
-    (length taken ≤ LIMIT) × IsAnswered n cap start held (ended_lines taken) machine holds
+    AreShort (ended_lines taken) × (length (open_line taken) ≤ LIMIT)
+    × IsAnswered n cap start held (ended_lines taken) machine holds
 EndsOver n cap taken start held machine holds (Err (Write count)) =
     IsStopped n cap start held (lines_of taken) machine holds count
 EndsOver n cap taken start held machine holds (Err TooMuch) =
-    (LIMIT < length taken) × IsAnswered n cap start held (ended_lines (take LIMIT taken)) machine holds
+    AreShort (ended_lines taken) × ((LIMIT < length (open_line taken)) ⊎ (ALL ≤ length taken))
+    × IsAnswered n cap start held (ended_lines taken) machine holds
 EndsOver n cap taken start held machine holds (Err Memory) =
     IsBrokenOff n cap start held (lines_of taken) machine holds
 EndsOver n cap taken start held machine holds (Err NoThread) =

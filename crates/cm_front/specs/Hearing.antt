@@ -1,5 +1,5 @@
 -- Bytes of lines as they come, and how a line breaks off. Ours.
-use Rattle.std.specs.Prelude.{◌≡◌, ℕ, ◌+◌, ◌<◌, ◌≤◌, ◌⊎◌, Option, List, ◌++◌, length}
+use Rattle.std.specs.Prelude.{◌≡◌, ℕ, ◌+◌, ◌≤◌, ◌⊎◌, Option, List, ◌++◌, length}
 use Rattle.std.specs.Io.KnownBytes.{Appends, Consumes, IsAtEnd, Keeps}
 use Rattle.cm_model.specs.Machine.{Machine}
 use Rattle.cm_session.specs.declared.fault.SessionFault.{SessionFault}
@@ -9,12 +9,13 @@ use Rattle.cm_front.specs.Front.{Front, after_line}
 use Rattle.cm_front.specs.Ends.{LIMIT}
 
 -- after so many bytes more were taken from a source, and stand behind the rest
-pub record HasHeard (before after : Option (List ℕ)) (rest heard : List ℕ) (taken count : ℕ) : Type 0 where
+pub record HasHeard (before after : Option (List ℕ)) (rest heard : List ℕ) (count : ℕ) : Type 0 where
   pub bytes : List ℕ
   pub consumed : Consumes before after bytes
   pub heard_is : heard ≡ rest ++ bytes
   pub count_is : count ≡ length bytes
-  pub within : taken + count ≤ LIMIT
+  pub within : length heard ≤ LIMIT + 1
+  pub few : count ≤ 65536
   pub end : count ≡ 0 → IsAtEnd after
 
 -- bytes were taken, and not heard
@@ -22,20 +23,13 @@ pub record HasLost (before after : Option (List ℕ)) : Type 0 where
   pub bytes : List ℕ
   pub consumed : Consumes before after bytes
 
--- after the most bytes that there may be more came
-pub record IsOver (before after : Option (List ℕ)) (taken : ℕ) : Type 0 where
-  pub bytes : List ℕ
-  pub consumed : Consumes before after bytes
-  pub some : 0 < length bytes
-  pub full : taken ≡ LIMIT
-
 -- why no more is heard
-abbrev pub HearingStops : Option (List ℕ) → Option (List ℕ) → ℕ → SessionFault → Type 0
-HearingStops before after taken Read = Keeps before after
-HearingStops before after taken TooMuch = IsOver before after taken
-HearingStops before after taken Memory = HasLost before after
-HearingStops before after taken (Write count) = ⊥
-HearingStops before after taken NoThread = ⊥
+abbrev pub HearingStops : Option (List ℕ) → Option (List ℕ) → SessionFault → Type 0
+HearingStops before after Read = Keeps before after
+HearingStops before after Memory = HasLost before after
+HearingStops before after TooMuch = ⊥
+HearingStops before after (Write count) = ⊥
+HearingStops before after NoThread = ⊥
 
 -- how a line breaks off: before it, with what was gathered written or a front of that; or after it, with a front
 -- written

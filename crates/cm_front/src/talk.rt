@@ -1,29 +1,33 @@
 //! A front end, from the bytes of a source to those of a sink.
 
-ghost use Rattle.std.specs.Prelude.{◌≡◌, ◌+◌, ◌<◌, ◌≤◌, ◌^◌, ◌↔◌, false, length, true, Err, IfErr, IsErrOf, OnOk};
+ghost use Rattle.std.specs.Prelude.{◌≡◌, ◌+◌, ◌<◌, ◌≤◌, ◌^◌, ◌↔◌, ◌⊎◌, false, length, true, Err, IfErr, IsErrOf};
+ghost use Rattle.std.specs.Prelude.{IsFalse, IsTrue, OnOk};
 ghost use Rattle.std.specs.Io.KnownBytes.{Appends, IsAtEnd};
 ghost use Rattle.cm_array.specs.Faults.{one_more_lacked};
 ghost use Rattle.cm_session.specs.Ends.{is_no_thread, is_write};
 ghost use Rattle.cm_debug.specs.Gathering.{answered_bytes, with_gathered, BreaksOffBetween};
 ghost use Rattle.cm_debug.specs.Telling.{is_thread};
 ghost use Rattle.cm_front.specs.Front.{front_of, after_line};
-ghost use Rattle.cm_front.specs.Ends.{Ends};
+ghost use Rattle.cm_front.specs.Ends.{LIMIT, ALL, Ends};
 ghost use Rattle.cm_front.specs.Hearing.{BreaksOff};
 
 use crate::front_end::FrontEnd;
-use crate::hearing::{hear, line_len};
+use crate::hearing::{LIMIT, hear, line_len};
 use cm_array::{Machine, Runner};
 use cm_bits::{Sink, Source};
 use cm_debug::{Gathered, Want};
 use cm_session::SessionFault;
 use std::alloc::Global;
 
-/// Does and answers the lines of a source one after another, at most 16,777,216 bytes of them, and leaves the machine
+/// Most bytes of all lines.
+const ALL: u64 = 1 << 63;
+
+/// Does and answers the lines of a source one after another, each of at most 16,777,216 bytes, and leaves the machine
 /// as they leave it. All answers are written before more bytes are asked for.
 ///
-/// After a fault of reading, and after too much, the lines that ended before are done and answered. After a failed
-/// write, or for want of memory or of a thread, a front of the answers is written, and the machine is that after a
-/// front of the lines.
+/// After a fault of reading, at a line that is too long and after 2^63 bytes in all, the lines that ended before are
+/// done and answered. After a failed write, or for want of memory or of a thread, a front of the answers is written,
+/// and the machine is that after a front of the lines.
 pub fn front<const N: usize, const CAP: usize, R: Runner<N, CAP>, I: Source, O: Sink>(
     alloc: Global,
     machine: &mut Machine<N, CAP>,
@@ -48,10 +52,11 @@ pub fn front<const N: usize, const CAP: usize, R: Runner<N, CAP>, I: Source, O: 
     let mut answers = Gathered::new(alloc);
     let mut heard = Vec::new(alloc);
     let mut place = 0;
-    let mut taken = 0;
+    let mut seen = 0;
+    let mut taken = 0u64;
     loop {
         let rest = &heard[place..];
-        let len = line_len(rest);
+        let len = line_len(rest, seen);
         if len < rest.len() {
             match tell_line(
                 alloc,
@@ -66,20 +71,25 @@ pub fn front<const N: usize, const CAP: usize, R: Runner<N, CAP>, I: Source, O: 
                 Err(fault) => return Err(fault),
             }
             place += len + 1;
+            seen = 0;
         } else {
             match answers.send(out) {
                 Ok(()) => {}
                 Err(cut) => return Err(SessionFault::Write(cut.0)),
             }
-            let count = match hear(alloc, commands, &mut heard, place, taken) {
+            if is_too_much(len, taken) {
+                return Err(SessionFault::TooMuch);
+            }
+            let count = match hear(alloc, commands, &mut heard, place) {
                 Ok(count) => count,
                 Err(fault) => return Err(fault),
             };
             place = 0;
+            seen = len;
             if count == 0 {
                 break;
             }
-            taken += count;
+            taken += count as u64;
         }
     }
     if heard.is_empty() {
@@ -102,6 +112,15 @@ pub fn front<const N: usize, const CAP: usize, R: Runner<N, CAP>, I: Source, O: 
         Ok(()) => Ok(()),
         Err(cut) => Err(SessionFault::Write(cut.0)),
     }
+}
+
+/// Whether no more bytes are asked for, where so many are of an open line, and so many came in all.
+fn is_too_much(bytes: usize, taken: u64) -> bool
+    ensures over { IsTrue result → (LIMIT < bytes) ⊎ (ALL ≤ taken) }
+    ensures short { IsFalse result → bytes ≤ LIMIT }
+    ensures few { IsFalse result → taken < ALL }
+{
+    bytes > LIMIT || taken >= ALL
 }
 
 /// Does a line, and its answer is gathered.

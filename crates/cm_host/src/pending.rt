@@ -147,7 +147,11 @@ impl<F: io::Write + Drop> PendingFile<F> {
 
     /// Takes a new file away; what stands where it was wanted is as it was.
     pub fn let_go<R: Files>(self, rt: &R) {
-        if let Some(new) = self.beside {
+        let PendingFile {
+            path: _path,
+            beside,
+        } = self;
+        if let Some(new) = beside {
             new.remove(rt);
         }
     }

@@ -5,7 +5,7 @@ use Rattle.std.specs.Prelude.{List, [], ◌∷◌, ◌++◌, codes, bytes_eq, sl
 use Rattle.std.specs.List.{list_any}
 use Rattle.std.specs.Bool.{MatchBool}
 use Rattle.cm_lab_line.specs.Refusals.{Text, Refusal, Help, Memory, Twice, UnknownCommand, UnknownOption, Usage}
-use Rattle.cm_lab_line.specs.Refusals.{Words, ◌>>=◌}
+use Rattle.cm_lab_line.specs.Refusals.{Version, Words, ◌>>=◌}
 use Rattle.cm_lab_line.specs.Requests.{Do, Expand, Fresh, Front, Load, Plot, Request}
 use Rattle.cm_lab_line.specs.Operands.{file_named, is_option}
 use Rattle.cm_lab_line.specs.Tasks.{task_of}
@@ -48,6 +48,11 @@ abbrev pub helping : List Text → Result Request Refusal
 helping [] = Err Help
 helping (word ∷ words) = Err Words
 
+-- a call for the version alone
+abbrev pub versioning : List Text → Result Request Refusal
+versioning [] = Err Version
+versioning (word ∷ words) = Err Words
+
 -- what the words behind a command's name ask for
 abbrev pub named : Text → List Text → Result Request Refusal
 named command words =
@@ -59,7 +64,8 @@ named command words =
     else (if bytes_eq command (codes "--help") then helping words
     else (if bytes_eq command (codes "-h") then helping words
     else (if bytes_eq command (codes "help") then helping words
-    else task_of command words >>= (λ asked. Ok (Do asked)))))))))
+    else (if bytes_eq command (codes "--version") then versioning words
+    else task_of command words >>= (λ asked. Ok (Do asked))))))))))
 
 -- what all words ask for, of which the first is the program's name
 abbrev pub request_of : List Text → Result Request Refusal

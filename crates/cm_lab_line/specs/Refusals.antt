@@ -12,6 +12,7 @@ Text = List ℕ
 -- why words ask for nothing
 pub data Refusal : Type 0 where
   Help : Refusal
+  Version : Refusal
   Words : Refusal
   UnknownCommand : Text → Refusal
   UnknownOption : Text → Text → Refusal
@@ -24,6 +25,7 @@ pub data Refusal : Type 0 where
 -- what a fault tells
 abbrev pub told : CommandFault → Refusal
 told fault.Help = Help
+told fault.Version = Version
 told fault.Words = Words
 told (fault.UnknownCommand word) = UnknownCommand (string_bytes word)
 told (fault.UnknownOption word usage) = UnknownOption (string_bytes word) (string_bytes usage)

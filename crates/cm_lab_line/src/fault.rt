@@ -14,6 +14,9 @@ pub enum CommandFault {
     /// The words ask for help, which is no fault.
     #[error("help")]
     Help,
+    /// The words ask for the version, which is no fault either.
+    #[error("version")]
+    Version,
     /// There are no words.
     #[error("what is to be done? cm1lab --help tells what can be")]
     Words,

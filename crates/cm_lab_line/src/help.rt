@@ -9,6 +9,9 @@ use crate::operands::is_option;
 use cm_bits::NoMemory;
 use std::alloc::Global;
 
+/// What is told of the version: that of `python/pyproject.toml`.
+pub const VERSION: &str = "cm1lab 0";
+
 /// What help tells.
 pub const HELP: &str = "\
 Data and pictures of all processors, out of the image of a machine and into it

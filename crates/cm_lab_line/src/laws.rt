@@ -10,7 +10,7 @@ ghost use Rattle.cm_lab.specs.declared.lab.Task.TheVariants as task;
 ghost use Rattle.cm_lab.specs.declared.order.Order.TheVariants as order;
 ghost use Rattle.cm_lab.specs.declared.pictures.Shown.TheVariants as shown;
 ghost use Rattle.cm_lab_line.specs.declared.operands.Operand.TheVariants as operand;
-ghost use Rattle.cm_lab_line.specs.Refusals.{Field, Help, Wanted, Words};
+ghost use Rattle.cm_lab_line.specs.Refusals.{Field, Help, Version, Wanted, Words};
 ghost use Rattle.cm_lab_line.specs.Requests.{Do, Expand, Fresh, Front, Load, Nothing, Numbers, Picture, Plot, Program};
 ghost use Rattle.cm_lab_line.specs.Tasks.{left_by, told_of};
 ghost use Rattle.cm_lab_line.specs.Commands.{given_twice, is_command, request_of, unknown_option};
@@ -113,6 +113,8 @@ pub fn lines_are_refused()
     ensures unknown { request_of (codes "cm1lab" ∷ codes "pictur" ∷ codes "a.image" ∷ []) ≡ Err Words }
     ensures help { request_of (codes "cm1lab" ∷ codes "--help" ∷ []) ≡ Err Help }
     ensures short_help { request_of (codes "cm1lab" ∷ codes "-h" ∷ []) ≡ Err Help }
+    ensures version { request_of (codes "cm1lab" ∷ codes "--version" ∷ []) ≡ Err Version }
+    ensures version_of_a_command { request_of (codes "cm1lab" ∷ codes "--version" ∷ codes "get" ∷ []) ≡ Err Words }
     ensures help_and_more { request_of (codes "cm1lab" ∷ codes "help" ∷ codes "get" ∷ []) ≡ Err Words }
     ensures few { request_of (codes "cm1lab" ∷ codes "get" ∷ codes "a.image" ∷ codes "0" ∷ []) ≡ Err Words }
     ensures option_for_a_file { request_of

@@ -13,7 +13,7 @@ mod tasks;
 
 pub use blanks::Blank;
 pub use fault::CommandFault;
-pub use help::HELP;
+pub use help::{HELP, VERSION};
 pub use laws::{lines_are_refused, lines_ask_for};
 pub use loads::Loads;
 pub use operands::Operand;

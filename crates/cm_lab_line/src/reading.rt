@@ -7,7 +7,7 @@ ghost use Rattle.cm_lab_line.specs.Refusals.{Memory, Tells, told};
 ghost use Rattle.cm_lab_line.specs.Requests.{requested};
 ghost use Rattle.cm_lab_line.specs.Commands.{Explains, IsExplained, Refuses, expanding, freshening, fronting};
 ghost use Rattle.cm_lab_line.specs.Commands.{given_twice, helping, is_single};
-ghost use Rattle.cm_lab_line.specs.Commands.{loading, named, plotting, request_of};
+ghost use Rattle.cm_lab_line.specs.Commands.{loading, named, plotting, request_of, versioning};
 
 use crate::blanks::{Blank, read_blank};
 use crate::fault::CommandFault;
@@ -165,6 +165,7 @@ fn read_named<'a>(
         "--help" => read_helping(words),
         "-h" => read_helping(words),
         "help" => read_helping(words),
+        "--version" => read_versioning(words),
         _ => {
             let asked = read_task(alloc, command, words)?;
             Ok(Command::Task(asked))
@@ -253,6 +254,18 @@ fn read_helping<'a>(words: &[&'a str]) -> Result<Command<'a>, CommandFault>
 {
     if words.is_empty() {
         Err(CommandFault::Help)
+    } else {
+        Err(CommandFault::Words)
+    }
+}
+
+/// So is the version.
+fn read_versioning<'a>(words: &[&'a str]) -> Result<Command<'a>, CommandFault>
+    ensures value { IfOk result (λ command. versioning (texts words.now) ≡ Ok (requested command)) }
+    ensures refused { IfErr result (Tells (versioning (texts words.now))) }
+{
+    if words.is_empty() {
+        Err(CommandFault::Version)
     } else {
         Err(CommandFault::Words)
     }

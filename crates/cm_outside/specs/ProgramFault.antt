@@ -2,8 +2,6 @@
 use Rattle.std.specs.Prelude.{ℕ, Option, Some, None}
 use Rattle.cm_line.specs.declared.fault.LineFault.{LineFault}
 use Rattle.cm_line.specs.declared.fault.LineFault.TheVariants as line
-use Rattle.cm_language.specs.declared.fault.AsmKind.{AsmKind}
-use Rattle.cm_language.specs.declared.fault.AsmKind.TheVariants as kind
 use Rattle.cm_image_format.specs.declared.fault.ImageFault.{ImageFault}
 use Rattle.cm_image_format.specs.declared.fault.ImageFault.TheVariants as image
 use Rattle.cm_image.specs.declared.pieces.SourceFault.TheVariants as source
@@ -15,6 +13,7 @@ use Rattle.cm_weave.specs.declared.first.WorldFault.{WorldFault}
 use Rattle.cm_weave.specs.declared.first.WorldFault.TheVariants as world
 use Rattle.cm_steps.specs.declared.fault.WeaveFault.{WeaveFault}
 use Rattle.cm_steps.specs.declared.fault.WeaveFault.TheVariants as weave
+use Rattle.cm_refusals.specs.Refusals.{kind_number, image_number}
 use Rattle.cm_outside.specs.declared.outside.PutFault.{PutFault}
 use Rattle.cm_outside.specs.declared.outside.PutFault.TheVariants as put
 use Rattle.cm_outside.specs.declared.fault.ChipFault.{ChipFault}
@@ -25,35 +24,6 @@ use Rattle.cm_outside.specs.declared.program_fault.ProgramFault.{ProgramFault}
 use Rattle.cm_outside.specs.declared.program_fault.ProgramFault.TheVariants.{BadLine, Text, Image, Cap, Read, Write}
 use Rattle.cm_outside.specs.declared.program_fault.ProgramFault.TheVariants.{TooMuch, Memory, NoThread, Split, Workers}
 use Rattle.cm_outside.specs.declared.program_fault.ProgramFault.TheVariants.{Long, Clock, Unfinished}
-
--- the number of what is wrong with a line
-abbrev pub kind_number : AsmKind → ℕ
-kind_number kind.Width = 1
-kind_number kind.Range = 2
-kind_number kind.Overlap = 10
-kind_number kind.Lengths = 11
-kind_number kind.Scratch = 12
-kind_number kind.Context = 13
-kind_number kind.Memory = 14
-kind_number kind.Word = 15
-kind_number kind.Operands = 16
-kind_number kind.Number = 17
-kind_number kind.Name = 18
-kind_number kind.Twice = 19
-kind_number kind.TooLong = 20
-
--- the number of what is wrong with an image
-abbrev pub image_number : ImageFault → ℕ
-image_number image.Short = 21
-image_number image.Magic = 22
-image_number image.Version = 23
-image_number image.Shape = 24
-image_number image.Order = 25
-image_number image.Count = 26
-image_number image.Value = 27
-image_number image.TagTwice = 28
-image_number image.Extra = 29
-image_number image.Memory = 33
 
 -- the number of a fault
 abbrev pub told_number : ProgramFault → ℕ

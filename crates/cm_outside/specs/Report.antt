@@ -1,22 +1,8 @@
 -- What the program writes on standard error, and the status it ends with, by the number of the fault. Ours.
-use Rattle.std.specs.Prelude.{ℕ, T, ◌-◌, ◌==◌, ◌||◌, ◌&&◌, nat_le, if◌then◌else◌, Option, Some, None, List, [], ◌∷◌}
-use Rattle.std.specs.Prelude.{◌++◌, codes, decimal, ◌<◌, get_or, length, take}
+use Rattle.std.specs.Prelude.{ℕ, T, ◌==◌, ◌||◌, ◌&&◌, nat_le, if◌then◌else◌, Option, Some, None, List, []}
+use Rattle.std.specs.Prelude.{◌++◌, codes, decimal, ◌<◌, length, take}
 use Rattle.std.specs.Io.KnownBytes.{Appends}
-
--- the names of the faults, the first of them number 1
-abbrev pub fault_names : List (List ℕ)
-fault_names =
-    codes "Width" ∷ codes "Range" ∷ codes "ZeroFlag" ∷ codes "Dim" ∷ codes "Cap" ∷ codes "Long" ∷
-    codes "Clock" ∷ codes "Memory" ∷ codes "NoThread" ∷ codes "Overlap" ∷ codes "Lengths" ∷ codes "Scratch" ∷
-    codes "Context" ∷ codes "Memory" ∷ codes "Word" ∷ codes "Operands" ∷ codes "Number" ∷ codes "Name" ∷
-    codes "Twice" ∷ codes "TooLong" ∷ codes "Short" ∷ codes "Magic" ∷ codes "Version" ∷ codes "Shape" ∷
-    codes "Order" ∷ codes "Count" ∷ codes "Value" ∷ codes "TagTwice" ∷ codes "Extra" ∷ codes "Read" ∷
-    codes "Write" ∷ codes "TooMuch" ∷ codes "Memory" ∷ codes "NotNow" ∷ codes "Unfinished" ∷ codes "Workers" ∷
-    codes "Split" ∷ codes "BadLine" ∷ []
-
--- the name of a fault
-abbrev pub name_of : ℕ → List ℕ
-name_of number = get_or fault_names (number - 1) []
+pub use Rattle.cm_refusals.specs.Refusals.{name_of}
 
 -- what is told of a fault: its number and its name
 abbrev pub fault_text : ℕ → List ℕ

@@ -2,15 +2,16 @@
 
 ghost use Rattle.std.specs.Prelude.{◌≡◌, ◌≤◌, IfSome};
 ghost use Rattle.cm_outside.specs.Report.{HasLine};
-ghost use Rattle.cm_outside.specs.ProgramFault.{told_number, kind_number, image_number, line_of};
+ghost use Rattle.cm_outside.specs.ProgramFault.{told_number, line_of};
 
 use crate::fault::ChipFault;
 use crate::outside::PutFault;
 use crate::takes::TakeFault;
 use cm_image::SourceFault;
 use cm_image_format::ImageFault;
-use cm_language::{AsmFault, AsmKind};
+use cm_language::AsmFault;
 use cm_line::LineFault;
+use cm_refusals::{image_number, kind_number};
 use cm_session::SessionFault;
 use cm_sizes::OpenSourceFault;
 use cm_steps::WeaveFault;
@@ -50,7 +51,7 @@ impl ProgramFault {
     {
         match self {
             ProgramFault::BadLine => 38,
-            ProgramFault::Text(fault) => asm_number(fault.kind),
+            ProgramFault::Text(fault) => kind_number(fault.kind),
             ProgramFault::Image(fault) => image_number(*fault),
             ProgramFault::Cap => 5,
             ProgramFault::Read => 30,
@@ -75,43 +76,6 @@ impl ProgramFault {
             ProgramFault::Text(fault) => Some(fault.line),
             _ => None,
         }
-    }
-}
-
-fn asm_number(kind: AsmKind) -> u8
-    ensures value { result ≡ kind_number kind }
-{
-    match kind {
-        AsmKind::Width => 1,
-        AsmKind::Range => 2,
-        AsmKind::Overlap => 10,
-        AsmKind::Lengths => 11,
-        AsmKind::Scratch => 12,
-        AsmKind::Context => 13,
-        AsmKind::Memory => 14,
-        AsmKind::Word => 15,
-        AsmKind::Operands => 16,
-        AsmKind::Number => 17,
-        AsmKind::Name => 18,
-        AsmKind::Twice => 19,
-        AsmKind::TooLong => 20,
-    }
-}
-
-fn image_number(fault: ImageFault) -> u8
-    ensures value { result ≡ image_number fault }
-{
-    match fault {
-        ImageFault::Short => 21,
-        ImageFault::Magic => 22,
-        ImageFault::Version => 23,
-        ImageFault::Shape => 24,
-        ImageFault::Order => 25,
-        ImageFault::Count => 26,
-        ImageFault::Value => 27,
-        ImageFault::TagTwice => 28,
-        ImageFault::Extra => 29,
-        ImageFault::Memory => 33,
     }
 }
 

@@ -2,9 +2,10 @@
 
 ghost use Rattle.std.specs.Prelude.{◌≡◌, ◌≤◌, ◌++◌, ◌==◌, false, codes, decimal, IfOk, OnErr, OnOk, IfSome, is_err};
 ghost use Rattle.std.specs.Io.KnownBytes.{Appends};
-ghost use Rattle.cm_outside.specs.Report.{HasFront, HasLine, name_of, fault_text, place_of, message_of, status_of};
+ghost use Rattle.cm_outside.specs.Report.{HasFront, HasLine, fault_text, place_of, message_of, status_of};
 
 use cm_bits::{Failed, Sink, write_all};
+use cm_refusals::fault_name;
 use itoa::Buffer;
 
 const BAD_LINE: u8 = 38;
@@ -36,53 +37,6 @@ fn exit_status(number: u8) -> u8
         8 | 9 | 14 | 33 => 3,
         30 | 31 => 4,
         _ => 1,
-    }
-}
-
-fn fault_name(number: u8) -> &'static str
-    requires some { 1 ≤ number }
-    requires known { number ≤ 38 }
-    ensures value { result.now ≡ name_of number }
-{
-    match number {
-        1 => "Width",
-        2 => "Range",
-        3 => "ZeroFlag",
-        4 => "Dim",
-        5 => "Cap",
-        6 => "Long",
-        7 => "Clock",
-        8 => "Memory",
-        9 => "NoThread",
-        10 => "Overlap",
-        11 => "Lengths",
-        12 => "Scratch",
-        13 => "Context",
-        14 => "Memory",
-        15 => "Word",
-        16 => "Operands",
-        17 => "Number",
-        18 => "Name",
-        19 => "Twice",
-        20 => "TooLong",
-        21 => "Short",
-        22 => "Magic",
-        23 => "Version",
-        24 => "Shape",
-        25 => "Order",
-        26 => "Count",
-        27 => "Value",
-        28 => "TagTwice",
-        29 => "Extra",
-        30 => "Read",
-        31 => "Write",
-        32 => "TooMuch",
-        33 => "Memory",
-        34 => "NotNow",
-        35 => "Unfinished",
-        36 => "Workers",
-        37 => "Split",
-        _ => "BadLine",
     }
 }
 

@@ -1,5 +1,5 @@
 use Rattle.std.proofs.Common.{ℕ, length, replicate, false, refl, ap, sym, ◌∙◌, arith}
-use Rattle.cm_debug.specs.Taking.{setting, talk}
+use Rattle.cm_debug.specs.Talk.{setting, talk}
 use Rattle.cm_debug.proofs.Ending.{ended_first, told_first, ended_closed, ended_answered, ended_broken, of_acts}
 use Rattle.cm_debug.proofs.Ending.{is_none, has_some, read_on}
 use Rattle.cm_debug.proofs.sessions.answer_all.Goals as goal

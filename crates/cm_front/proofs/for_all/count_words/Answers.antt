@@ -1,4 +1,4 @@
-use Rattle.std.proofs.Common.{◌≤◌, inl, arith}
+use Rattle.std.proofs.Common.{inl, arith}
 use Rattle.cm_front.proofs.Counting.{few_words}
 use Rattle.cm_front.proofs.for_all.count_words.Goals as goal
 

@@ -1,4 +1,4 @@
-use Rattle.std.proofs.Common.{◌≡◌, ℕ, List, ap, sym, ◌∙◌, subst, lit<}
+use Rattle.std.proofs.Common.{ℕ, List, ap, sym, ◌∙◌, subst, lit<}
 use Rattle.std.proofs.lemmas.Result.{on_ok_weaker}
 use Rattle.cm_bits.specs.Text.{words_of}
 use Rattle.cm_session.specs.Answer.{refused_line}

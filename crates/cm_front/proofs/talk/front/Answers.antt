@@ -1,4 +1,4 @@
-use Rattle.std.proofs.Common.{◌≡◌, ℕ, ◌+◌, ◌-◌, ◌<◌, List, [], ◌∷◌, ◌++◌, length, take, drop, refl, ap, ◌∙◌, sym}
+use Rattle.std.proofs.Common.{◌≡◌, ℕ, ◌+◌, ◌-◌, ◌<◌, ◌≤◌, List, [], ◌∷◌, ◌++◌, length, take, drop, refl, ap, ◌∙◌, sym}
 use Rattle.std.proofs.Common.{subst, arith, length-append, length-drop}
 use Rattle.std.proofs.KnownBytes.{Consumes-nil}
 use Rattle.std.specs.Io.KnownBytes.{Consumes}
@@ -6,12 +6,15 @@ use Rattle.cm_session.specs.declared.fault.SessionFault.TheVariants.{Read}
 use Rattle.cm_debug.specs.Telling.{IsUnended}
 use Rattle.cm_debug.proofs.Ending.{is_none, has_some}
 use Rattle.cm_front.specs.Front.{Front, front_of}
+use Rattle.std.proofs.lemmas.List.Elements.{All-nil}
+use Rattle.cm_front.specs.Ends.{LIMIT}
 use Rattle.cm_front.specs.Hearing.{BreaksOff}
 use Rattle.cm_front.proofs.Lines.{no_lines, line_more}
 use Rattle.cm_front.proofs.Told.{IsTold, nothing_told, told_line, told_sent}
 use Rattle.cm_front.proofs.Ending.{a_line_on, unended_rest, line_ends, send_ends, hearing_ends, heard_more, heard_len}
 use Rattle.cm_front.proofs.Ending.{heard_none, closed_ends, last_ends, answered_ends, cut_ends, rest_len, line_len_is}
-use Rattle.cm_front.proofs.Ending.{all_len, no_fault, not_failed}
+use Rattle.cm_front.proofs.Ending.{all_len, no_fault, not_failed, none_seen, seen_more, over_ends, over_is}
+use Rattle.cm_front.proofs.Ending.{short_more}
 use Rattle.cm_front.proofs.talk.front.Goals as goal
 
 pub loop-front-init : goal.loop-front-init
@@ -30,6 +33,10 @@ loop-front-init g c =
           c.new-answers.ensures.sent c.new-answers.ensures.none);
       within = omega arith;
       taken = omega (arith, ap length c.new-heard.ensures.items);
+      short = All-nil (λ (l : List ℕ). length l ≤ LIMIT);
+      open_len = omega (arith, ap length c.new-heard.ensures.items);
+      seen_in = omega arith;
+      seen = none_seen (drop 0 c.new-heard.result.items);
       few = omega arith;
       sent = omega (arith, c.new-answers.ensures.sent, ap length c.new-answers.ensures.none);
       reading = c.requires.reader;
@@ -83,6 +90,10 @@ loop-front-preserved-then-len-rest g c =
           ended.count;
       within = omega (arith, inside, size, so.within);
       taken = omega (arith, so.taken, grown);
+      short = short_more line so.done so.short (omega (arith, count, inside, size, so.open_len));
+      open_len = omega (arith, so.open_len);
+      seen_in = omega (arith, inside, size, so.within);
+      seen = none_seen (drop (place + (len + 1)) heard);
       few = so.few;
       sent = omega (arith, ended.few, so.sent, grown);
       reading = so.reading;
@@ -100,6 +111,34 @@ returns-in-Err-send-clause-ends g c =
     (g.O.Sink.contents c.send.new.out) c.loop-front.answers.sent c.loop-front.answers.bytes.items c.in-Err-send.cut.0
     so.lines so.consumed so.told c.in-Err-send.ensures.err
 
+pub returns-then-is_too_much-clause-ends : goal.returns-then-is_too_much-clause-ends
+returns-then-is_too_much-clause-ends g c =
+    let so = c.loop-front.invariant in
+    let heard = c.loop-front.heard.items in
+    let place = c.loop-front.place in
+    let len = c.line_len-len.result in
+    let front = front_of c.loop-front.machine.machine c.loop-front.front in
+    let held = g.O.Sink.contents c.args.out.now in
+    let start = c.args.machine.now.machine in
+    let rest : List ℕ = take (length c.deref.result.now - place) (drop place c.deref.result.now) in
+    let is : rest ≡ take (length heard - place) (drop place heard) =
+    ap (λ (xs : List ℕ). take (length xs - place) (drop place xs)) c.deref.ensures.value in
+    let free : IsUnended (drop place heard) =
+    unended_rest heard rest place len is (omega (arith, c.if-len-rest.false)) c.line_len-len.ensures.within
+    c.line_len-len.ensures.unended in
+    let open_is : len ≡ length (drop place heard) =
+    omega (arith, c.if-len-rest.false, c.line_len-len.ensures.within, rest_len heard rest place is, length-drop place heard) in
+    over_ends g.row.N g.row.CAP start held (g.I.Source.left c.args.commands.now)
+    (g.I.Source.left c.loop-front.commands) so.given (drop place heard)
+    so.done front (g.O.Sink.contents c.send.new.out) c.send.new.self.sent
+    c.send.new.self.bytes.items c.in-Ok-send.ensures.none free so.lines so.consumed so.short
+    (over_is len (length (drop place heard)) c.loop-front.taken (length (so.given ++ drop place heard)) open_is
+    (all_len heard so.given place c.loop-front.taken so.within so.taken)
+    (c.is_too_much.ensures.over c.if-is_too_much.true))
+    (told_sent g.row.N g.row.CAP start held so.done front (g.O.Sink.contents c.loop-front.out)
+    (g.O.Sink.contents c.send.new.out) c.loop-front.answers.sent c.send.new.self.sent c.loop-front.answers.bytes.items
+    c.send.new.self.bytes.items c.in-Ok-send.ensures.written c.in-Ok-send.ensures.none c.in-Ok-send.ensures.sent so.told)
+
 pub returns-in-Err-hear-clause-ends : goal.returns-in-Err-hear-clause-ends
 returns-in-Err-hear-clause-ends g c =
     let so = c.loop-front.invariant in
@@ -115,11 +154,13 @@ returns-in-Err-hear-clause-ends g c =
     let free : IsUnended (drop place heard) =
     unended_rest heard rest place len is (omega (arith, c.if-len-rest.false)) c.line_len-len.ensures.within
     c.line_len-len.ensures.unended in
+    let open_is : len ≡ length (drop place heard) =
+    omega (arith, c.if-len-rest.false, c.line_len-len.ensures.within, rest_len heard rest place is, length-drop place heard) in
     hearing_ends g.row.N g.row.CAP start held (g.I.Source.left c.args.commands.now)
     (g.I.Source.left c.loop-front.commands) (g.I.Source.left c.hear.new.commands) so.given (drop place heard)
-    c.loop-front.taken so.done front (g.O.Sink.contents c.send.new.out) c.send.new.self.sent
+    so.done front (g.O.Sink.contents c.send.new.out) c.send.new.self.sent
     c.send.new.self.bytes.items c.in-Err-hear.fault c.in-Ok-send.ensures.none free so.lines so.consumed
-    (all_len heard so.given place c.loop-front.taken so.within so.taken) so.few
+    so.short (omega (arith, open_is, c.is_too_much.ensures.short c.if-is_too_much.false))
     (told_sent g.row.N g.row.CAP start held so.done front (g.O.Sink.contents c.loop-front.out)
     (g.O.Sink.contents c.send.new.out) c.loop-front.answers.sent c.send.new.self.sent c.loop-front.answers.bytes.items
     c.send.new.self.bytes.items c.in-Ok-send.ensures.written c.in-Ok-send.ensures.none c.in-Ok-send.ensures.sent so.told)
@@ -135,20 +176,33 @@ loop-front-preserved g c =
     let mid = g.I.Source.left c.loop-front.commands in
     let after = g.I.Source.left c.hear.new.commands in
     let longer : length c.hear.new.heard.items ≡ length (drop place heard) + c.in-Ok-hear.count =
-    heard_len mid after (drop place heard) c.hear.new.heard.items c.loop-front.taken c.in-Ok-hear.count more in
+    heard_len mid after (drop place heard) c.hear.new.heard.items c.in-Ok-hear.count more in
+    let len = c.line_len-len.result in
+    let rest : List ℕ = take (length c.deref.result.now - place) (drop place c.deref.result.now) in
+    let is : rest ≡ take (length heard - place) (drop place heard) =
+    ap (λ (xs : List ℕ). take (length xs - place) (drop place xs)) c.deref.ensures.value in
+    let free : IsUnended (drop place heard) =
+    unended_rest heard rest place len is (omega (arith, c.if-len-rest.false)) c.line_len-len.ensures.within
+    c.line_len-len.ensures.unended in
+    let open_is : len ≡ length (drop place heard) =
+    omega (arith, c.if-len-rest.false, c.line_len-len.ensures.within, rest_len heard rest place is, length-drop place heard) in
     record {
       given = so.given;
       done = so.done;
       lines = so.lines;
       consumed = heard_more (g.I.Source.left c.args.commands.now) mid after so.given (drop place heard)
-          c.hear.new.heard.items c.loop-front.taken c.in-Ok-hear.count so.consumed more;
+          c.hear.new.heard.items c.in-Ok-hear.count so.consumed more;
       told = told_sent g.row.N g.row.CAP c.args.machine.now.machine (g.O.Sink.contents c.args.out.now) so.done front
           (g.O.Sink.contents c.loop-front.out) (g.O.Sink.contents c.send.new.out) c.loop-front.answers.sent
           c.send.new.self.sent c.loop-front.answers.bytes.items c.send.new.self.bytes.items
           c.in-Ok-send.ensures.written c.in-Ok-send.ensures.none c.in-Ok-send.ensures.sent so.told;
       within = omega arith;
       taken = omega (arith, longer, length-drop place heard, so.within, so.taken);
-      few = more.within;
+      short = so.short;
+      open_len = omega (arith, more.within);
+      seen_in = omega (arith, longer);
+      seen = seen_more (drop place heard) c.hear.new.heard.items more.bytes len more.heard_is open_is free;
+      few = omega (arith, more.few, c.is_too_much.ensures.few c.if-is_too_much.false);
       sent = omega (arith, c.in-Ok-send.ensures.sent, ap length c.in-Ok-send.ensures.none, so.sent);
       reading = not_failed _ (λ fails. no_fault c.in-Ok-hear.count Read (c.in-Ok-hear.ensures.failed.0 fails));
       writing = c.in-Ok-send.ensures.failed;
@@ -169,13 +223,13 @@ returns-then-is_empty-clause-ends g c =
     let mid = g.I.Source.left c.loop-front.commands in
     let after = g.I.Source.left c.hear.new.commands in
     let longer : length now ≡ length (drop place heard) + c.in-Ok-hear.count =
-    heard_len mid after (drop place heard) now c.loop-front.taken c.in-Ok-hear.count more in
+    heard_len mid after (drop place heard) now c.in-Ok-hear.count more in
     closed_ends g.row.N g.row.CAP start held before after so.given now so.done front (g.O.Sink.contents c.send.new.out)
     c.send.new.self.sent c.send.new.self.bytes.items c.in-Ok-send.ensures.none
     (is_none now c.hear.new.heard.len c.is_empty.result (omega (arith, c.hear.new.heard.ok.0)) c.is_empty.ensures
     c.if-is_empty.true) so.lines
-    (heard_more before mid after so.given (drop place heard) now c.loop-front.taken c.in-Ok-hear.count so.consumed more)
-    (omega (arith, longer, length-drop place heard, so.within, so.taken, more.within, length-append so.given now))
+    (heard_more before mid after so.given (drop place heard) now c.in-Ok-hear.count so.consumed more)
+    so.short
     (told_sent g.row.N g.row.CAP start held so.done front (g.O.Sink.contents c.loop-front.out)
     (g.O.Sink.contents c.send.new.out) c.loop-front.answers.sent c.send.new.self.sent c.loop-front.answers.bytes.items
     c.send.new.self.bytes.items c.in-Ok-send.ensures.written c.in-Ok-send.ensures.none c.in-Ok-send.ensures.sent so.told)
@@ -201,13 +255,13 @@ returns-in-Err-tell_line-clause-ends g c =
     unended_rest heard rest place len is (omega (arith, c.if-len-rest.false)) c.line_len-len.ensures.within
     c.line_len-len.ensures.unended in
     let same : now ≡ drop place heard =
-    heard_none mid after (drop place heard) now c.loop-front.taken c.in-Ok-hear.count c.if-count-eq0.true more in
+    heard_none mid after (drop place heard) now c.in-Ok-hear.count c.if-count-eq0.true more in
     last_ends g.row.N g.row.CAP start held before after so.given now so.done front (g.O.Sink.contents c.send.new.out)
     (g.O.Sink.contents c.tell_line-2.new.out) c.send.new.self.sent c.send.new.self.bytes.items
     c.tell_line-2.new.machine.machine c.in-Err-tell_line.fault (subst IsUnended (sym same) free)
     (has_some now now c.hear.new.heard.len c.is_empty.result (omega (arith, c.hear.new.heard.ok.0)) c.is_empty.ensures
     c.if-is_empty.false refl) so.lines
-    (heard_more before mid after so.given (drop place heard) now c.loop-front.taken c.in-Ok-hear.count so.consumed more)
+    (heard_more before mid after so.given (drop place heard) now c.in-Ok-hear.count so.consumed more)
     (told_sent g.row.N g.row.CAP start held so.done front (g.O.Sink.contents c.loop-front.out)
     (g.O.Sink.contents c.send.new.out) c.loop-front.answers.sent c.send.new.self.sent c.loop-front.answers.bytes.items
     c.send.new.self.bytes.items c.in-Ok-send.ensures.written c.in-Ok-send.ensures.none c.in-Ok-send.ensures.sent so.told)
@@ -238,16 +292,24 @@ returns-in-Ok-send-2-clause-ends g c =
     unended_rest heard rest place len is (omega (arith, c.if-len-rest.false)) c.line_len-len.ensures.within
     c.line_len-len.ensures.unended in
     let same : now ≡ drop place heard =
-    heard_none mid after (drop place heard) now c.loop-front.taken c.in-Ok-hear.count c.if-count-eq0.true more in
+    heard_none mid after (drop place heard) now c.in-Ok-hear.count c.if-count-eq0.true more in
     let longer : length now ≡ length (drop place heard) + c.in-Ok-hear.count =
-    heard_len mid after (drop place heard) now c.loop-front.taken c.in-Ok-hear.count more in
+    heard_len mid after (drop place heard) now c.in-Ok-hear.count more in
     answered_ends g.row.N g.row.CAP start held before after so.given now so.done last
     (g.O.Sink.contents c.send-2.new.out) c.send-2.new.self.sent c.send-2.new.self.bytes.items
     c.in-Ok-send-2.ensures.none (subst IsUnended (sym same) free)
     (has_some now now c.hear.new.heard.len c.is_empty.result (omega (arith, c.hear.new.heard.ok.0)) c.is_empty.ensures
     c.if-is_empty.false refl) so.lines
-    (heard_more before mid after so.given (drop place heard) now c.loop-front.taken c.in-Ok-hear.count so.consumed more)
-    (omega (arith, longer, length-drop place heard, so.within, so.taken, more.within, length-append so.given now))
+    (heard_more before mid after so.given (drop place heard) now c.in-Ok-hear.count so.consumed more)
+    so.short (omega (
+      arith,
+      longer,
+      c.if-count-eq0.true,
+      rest_len heard rest place is,
+      length-drop place heard,
+      c.if-len-rest.false,
+      c.is_too_much.ensures.short c.if-is_too_much.false,
+    ))
     (told_sent g.row.N g.row.CAP start held (so.done ++ now ∷ []) last (g.O.Sink.contents c.tell_line-2.new.out)
     (g.O.Sink.contents c.send-2.new.out) c.tell_line-2.new.answers.sent c.send-2.new.self.sent
     c.tell_line-2.new.answers.bytes.items c.send-2.new.self.bytes.items c.in-Ok-send-2.ensures.written
@@ -286,13 +348,13 @@ returns-clause-ends g c =
     unended_rest heard rest place len is (omega (arith, c.if-len-rest.false)) c.line_len-len.ensures.within
     c.line_len-len.ensures.unended in
     let same : now ≡ drop place heard =
-    heard_none mid after (drop place heard) now c.loop-front.taken c.in-Ok-hear.count c.if-count-eq0.true more in
+    heard_none mid after (drop place heard) now c.in-Ok-hear.count c.if-count-eq0.true more in
     cut_ends g.row.N g.row.CAP start held before after so.given now so.done last
     (g.O.Sink.contents c.tell_line-2.new.out) (g.O.Sink.contents c.send-2.new.out) c.tell_line-2.new.answers.sent
     c.tell_line-2.new.answers.bytes.items c.in-Err-send-2.cut.0 (subst IsUnended (sym same) free)
     (has_some now now c.hear.new.heard.len c.is_empty.result (omega (arith, c.hear.new.heard.ok.0)) c.is_empty.ensures
     c.if-is_empty.false refl) so.lines
-    (heard_more before mid after so.given (drop place heard) now c.loop-front.taken c.in-Ok-hear.count so.consumed more)
+    (heard_more before mid after so.given (drop place heard) now c.in-Ok-hear.count so.consumed more)
     (subst (λ (l : List ℕ). IsTold g.row.N g.row.CAP start held (so.done ++ l ∷ []) last
     (g.O.Sink.contents c.tell_line-2.new.out) c.tell_line-2.new.answers.sent c.tell_line-2.new.answers.bytes.items)
     c.as_slice.ensures.value

@@ -1,8 +1,9 @@
-use Rattle.std.proofs.Common.{◌≡◌, ℕ, ◌+◌, ◌-◌, ◌*◌, ◌^◌, ◌≤◌, false, List, ◌++◌, drop, length}
+use Rattle.std.proofs.Common.{◌≡◌, ℕ, ◌+◌, ◌-◌, ◌*◌, ◌^◌, ◌≤◌, false, List, ◌++◌, take, drop, length}
 use Rattle.std.specs.Io.KnownBytes.{Consumes}
 use Rattle.cm_debug.specs.Gathering.{answered_bytes}
 use Rattle.cm_front.specs.Front.{front_of}
-use Rattle.cm_front.specs.Ends.{LIMIT}
+use Rattle.cm_debug.specs.Telling.{IsUnended}
+use Rattle.cm_front.specs.Ends.{LIMIT, ALL, AreShort}
 use Rattle.cm_front.proofs.Lines.{AreLinesOf}
 use Rattle.cm_front.proofs.Told.{IsTold}
 use Rattle.cm_front.proofs.talk.front.Given as goal
@@ -18,7 +19,11 @@ invariant-loop-front g l = record {
       (g.O.Sink.contents l.out) l.answers.sent l.answers.bytes.items;
   within : l.place ≤ length l.heard.items;
   taken : l.taken + l.place ≡ length given + length l.heard.items;
-  few : l.taken ≤ LIMIT;
+  short : AreShort done;
+  open_len : length l.heard.items ≤ l.place + (LIMIT + 1);
+  seen_in : l.place + l.seen ≤ length l.heard.items;
+  seen : IsUnended (take l.seen (drop l.place l.heard.items));
+  few : l.taken ≤ ALL + 65536;
   sent : answered_bytes l.answers ≤ length given * 2 ^ 64;
   reading : g.I.Source.has_failed l.commands ≡ false;
   writing : g.O.Sink.has_failed l.out ≡ false;
@@ -26,4 +31,4 @@ invariant-loop-front g l = record {
 }
 
 abbrev pub decreases-loop-front : goal.decreases-loop-front
-decreases-loop-front g l = 2 * (LIMIT - l.taken) + (length l.heard.items - l.place)
+decreases-loop-front g l = 2 * (ALL + 65536 - l.taken) + (length l.heard.items - l.place)

@@ -1,4 +1,4 @@
-use Rattle.std.proofs.Common.{◌≡◌, ◌+◌, refl, sym, ap, ◌∙◌, arith}
+use Rattle.std.proofs.Common.{◌+◌, refl, sym, ap, ◌∙◌, arith}
 use Rattle.cm_bits.specs.Bit.{bit, bit_number}
 use Rattle.cm_model.specs.Each.{each_from}
 use Rattle.cm_study.proofs.Sums.{sum-each_from-more}

@@ -1,4 +1,4 @@
-use Rattle.std.proofs.Common.{◌≡◌, ◌+◌, length, refl, sym, ap, ◌∙◌, arith}
+use Rattle.std.proofs.Common.{◌+◌, length, refl, sym, ap, ◌∙◌, arith}
 use Rattle.cm_model.specs.Each.{each_from}
 use Rattle.cm_study.specs.Counts.{standing_at}
 use Rattle.cm_study.proofs.Sums.{sum-each_from-more}

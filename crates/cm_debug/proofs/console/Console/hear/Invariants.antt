@@ -1,5 +1,6 @@
 use Rattle.std.proofs.Common.{◌≡◌, ◌-◌, ◌≤◌, false, length, take}
-use Rattle.cm_debug.specs.Taking.{talk, HasTaken}
+use Rattle.cm_debug.specs.Talk.{talk}
+use Rattle.cm_debug.specs.Taking.{HasTaken}
 use Rattle.cm_debug.proofs.console.Console.hear.Given as goal
 
 abbrev pub invariant-loop-done : goal.invariant-loop-done

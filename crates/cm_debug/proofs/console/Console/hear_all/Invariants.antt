@@ -1,7 +1,7 @@
 use Rattle.std.proofs.Common.{◌≡◌, ℕ, ◌-◌, ◌*◌, ◌^◌, ◌≤◌, false, List, [], length}
 use Rattle.std.specs.Io.KnownBytes.{Consumes}
 use Rattle.cm_session.specs.Ends.{LIMIT}
-use Rattle.cm_debug.specs.Taking.{setting, talk, IsTold}
+use Rattle.cm_debug.specs.Talk.{setting, talk, IsTold}
 use Rattle.cm_debug.proofs.console.Console.hear_all.Given as goal
 
 abbrev pub invariant-loop-count : goal.invariant-loop-count
