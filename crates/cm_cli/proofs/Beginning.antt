@@ -17,7 +17,8 @@ use Rattle.cm_cli.specs.Files.{TakesFiles, BeginsFiles, RefusesSharing, RefusesO
 
 -- it begins
 pub begun_so : {S F P : Type 0} {does : S → Deed F P → S → Type 0} {from next : S} (to : S) (reads : Reads F)
-    (line : RunLine) (taken : Taken AnyMachine) (n : ℕ) → n ≡ (sized taken.machine).n → (r : Result (Begun AnyMachine P) ProgramFault)
+    (line : RunLine) (taken : Taken AnyMachine) (n : ℕ) → n ≡ (sized taken.machine).n
+    → (r : Result (Begun AnyMachine P) ProgramFault)
     → Did does from next (TakesFiles reads line (sized taken.machine) taken.program)
     → IfOk r (λ begun. begun.taken ≡ taken) → OnOk r (sharing_fault n line.sharing ≡ None)
     → IfOk r (λ begun. Did does next to (Readies (option_map string_bytes line.out) begun.part))

@@ -2,7 +2,6 @@
 use Rattle.std.proofs.Common.{◌≡◌, Bool, ℕ, List, Option, Result, Ok, Err, refl, subst}
 use Rattle.std.specs.Prelude.{IsErrOf}
 use Rattle.cm_model.specs.declared.act.Act.{Act}
-use Rattle.cm_model.specs.Machine.{Machine}
 use Rattle.cm_session.specs.declared.fault.SessionFault.{SessionFault}
 use Rattle.cm_session.specs.declared.fault.SessionFault.TheVariants as session
 use Rattle.cm_outside.specs.declared.program_fault.ProgramFault.{ProgramFault}
@@ -14,10 +13,6 @@ use Rattle.cm_outside.specs.Streams.{Streams}
 use Rattle.cm_cli.specs.Runs.{IsSession}
 use Rattle.cm_cli.specs.Lent.{Goes}
 use Rattle.cm_cli.proofs.Sessions.{ended_well, broken_off}
-
--- a machine of these sizes
-abbrev pub of_sizes : ℕ → ℕ → Machine → SizedMachine
-of_sizes n cap machine = record { n = n; cap = cap; machine = machine }
 
 -- it ended well, and this was kept of the machine that it left
 pub left_so : (from to : SizedMachine) (acts : List Act) (streams : Streams) (keeps : Bool)

@@ -5,14 +5,13 @@ ghost use Rattle.cm_sizes.specs.Sizes.{SizedMachine, sized};
 ghost use Rattle.cm_cli.specs.Sharing.{sharing_fault};
 ghost use Rattle.cm_outside.specs.Deeds.{Did};
 ghost use Rattle.cm_outside.specs.Takings.{reads_by};
-ghost use Rattle.cm_outside.specs.Puttings.{Readies};
+ghost use Rattle.cm_outside.specs.Puttings.{ClosesLeft, Readies};
 ghost use Rattle.cm_cli.specs.Files.{BeginsFiles, RefusesFiles, RefusesTaken};
 ghost use Rattle.cm_outside.specs.Streams.{streams};
 ghost use Rattle.cm_cli.specs.Runs.{DoesRun, RunsFrom};
 
 use crate::lent::SessionRunner;
 use crate::sharing::Sharing;
-use cm_array::Machine;
 use cm_asm::Program;
 use cm_bits::{Sink, Source};
 use cm_outside::{Outside, ProgramFault, Taken, break_off, close_files, make_ready, take_both};
@@ -111,12 +110,11 @@ fn begin_taken<H: Outside, M: Drop>(
     }
 }
 
-/// Runs a session on a machine of any size; and then the image of the machine goes into the file that was made ready,
-/// if one was.
+/// Runs a session on a machine; and then the image of the machine goes into the file that was made ready, if one was.
 fn run_any<S: SessionRunner, H: Outside, I: Source, O: Sink>(
     alloc: Global,
     outside: &mut H,
-    machine: AnyMachine,
+    mut machine: AnyMachine,
     program: &Program,
     part: Option<H::Part>,
     runner: S,
@@ -130,30 +128,56 @@ fn run_any<S: SessionRunner, H: Outside, I: Source, O: Sink>(
         (streams (I.left commands.old) (I.left commands.new) (O.contents answers.old) (O.contents answers.new)
         (I.has_failed commands.new) (O.has_failed answers.new)) part result) }
 {
-    on_machine!(machine, machine => run_machine(alloc, outside, machine, program, part, runner, commands, answers))
+    let ended = run_lent(
+        alloc,
+        outside,
+        &mut machine,
+        program,
+        part,
+        runner,
+        commands,
+        answers,
+    );
+    // Taken apart, since the borrow checker counts each variant where one of another crate is dropped as it stands.
+    on_machine!(machine, machine => drop(machine));
+    ended
 }
 
-/// The same, on a machine of these sizes.
-fn run_machine<const N: usize, const CAP: usize, S: SessionRunner, H: Outside, I: Source, O: Sink>(
+/// The same on a machine that is lent to it.
+fn run_lent<S: SessionRunner, H: Outside, I: Source, O: Sink>(
     alloc: Global,
     outside: &mut H,
-    mut machine: Machine<N, CAP>,
+    machine: &mut AnyMachine,
     program: &Program,
     part: Option<H::Part>,
     runner: S,
     commands: &mut I,
     answers: &mut O,
 ) -> Result<(), ProgramFault>
-    requires can { S.can_run runner (record { n = N; cap = CAP; machine = machine.machine }) }
+    requires can { S.can_run runner (sized machine.old) }
     requires reader { I.has_failed commands.old ≡ false }
     requires writer { O.has_failed answers.old ≡ false }
-    ensures does { Did H.does outside.old outside.new (RunsFrom
-        (record { n = N; cap = CAP; machine = machine.entry.machine }) program.now.acts (S.may_want runner)
+    ensures does { Did H.does outside.old outside.new (RunsFrom (sized machine.old) program.now.acts
+        (S.may_want runner)
         (streams (I.left commands.old) (I.left commands.new) (O.contents answers.old) (O.contents answers.new)
         (I.has_failed commands.new) (O.has_failed answers.new)) part result) }
 {
-    match runner.go(alloc, &mut machine, program, commands, answers) {
-        Ok(()) => close_files(alloc, outside, part, answers, &machine),
+    match runner.go(alloc, machine, program, commands, answers) {
+        Ok(()) => close_any(alloc, outside, part, answers, machine),
         Err(fault) => break_off(outside, part, ProgramFault::from(fault)),
     }
+}
+
+/// Once a session has ended well, and left this machine: as `close_files`.
+fn close_any<H: Outside, O: Sink>(
+    alloc: Global,
+    outside: &mut H,
+    part: Option<H::Part>,
+    out: &O,
+    machine: &AnyMachine,
+) -> Result<(), ProgramFault>
+    ensures value { Did H.does outside.old outside.new (ClosesLeft (sized machine.now).n (sized machine.now).cap
+        (sized machine.now).machine part (O.contents out.now) result) }
+{
+    on_machine!(machine, machine => close_files(alloc, outside, part, out, machine))
 }

@@ -1,7 +1,7 @@
 //! Who runs a session: one worker, or several.
 
 ghost use Rattle.std.specs.Prelude.{◌≡◌, false, None, IsErrOf};
-ghost use Rattle.cm_sizes.specs.Sizes.{SizedMachine};
+ghost use Rattle.cm_sizes.specs.Sizes.{SizedMachine, sized};
 ghost use Rattle.cm_cli.specs.Sharing.{sharing_fault};
 ghost use Rattle.cm_outside.specs.Streams.{streams};
 ghost use Rattle.cm_cli.specs.Lent.{Goes};
@@ -12,12 +12,13 @@ use cm_asm::Program;
 use cm_bits::{Sink, Source};
 use cm_debug::{SessionFault, session};
 use cm_resident::Resident;
+use cm_sizes::{AnyMachine, on_machine};
 use cm_workers::Passage;
 use std::alloc::Global;
 use std::sync::Wait;
 use std::thread::Threads;
 
-/// Who runs a session.
+/// Who runs a session on a machine of any size.
 pub trait SessionRunner: Drop {
     // Whether it runs sessions on this machine.
     ghost can_run: { Self → SizedMachine → Type 0 };
@@ -26,19 +27,18 @@ pub trait SessionRunner: Drop {
     ghost may_want: { Self → Type 0 };
 
     /// A session on a machine that is lent to it.
-    fn go<const N: usize, const CAP: usize, I: Source, O: Sink>(
+    fn go<I: Source, O: Sink>(
         self,
         alloc: Global,
-        machine: &mut Machine<N, CAP>,
+        machine: &mut AnyMachine,
         program: &Program,
         commands: &mut I,
         out: &mut O,
     ) -> Result<(), SessionFault>
-        requires can { can_run self (record { n = N; cap = CAP; machine = machine.old.machine }) }
+        requires can { can_run self (sized machine.old) }
         requires reader { I.has_failed commands.old ≡ false }
         requires writer { O.has_failed out.old ≡ false }
-        ensures goes { Goes (record { n = N; cap = CAP; machine = machine.old.machine })
-            (record { n = N; cap = CAP; machine = machine.new.machine }) program.now.acts
+        ensures goes { Goes (sized machine.old) (sized machine.new) program.now.acts
             (streams (I.left commands.old) (I.left commands.new) (O.contents out.old) (O.contents out.new)
             (I.has_failed commands.new) (O.has_failed out.new)) result }
         ensures threads { IsErrOf result SessionFault.NoThread → may_want self };
@@ -53,15 +53,15 @@ impl SessionRunner for Alone {
 
     ghost may_want = { λ alone. ⊥ };
 
-    fn go<const N: usize, const CAP: usize, I: Source, O: Sink>(
+    fn go<I: Source, O: Sink>(
         self,
         alloc: Global,
-        machine: &mut Machine<N, CAP>,
+        machine: &mut AnyMachine,
         program: &Program,
         commands: &mut I,
         out: &mut O,
     ) -> Result<(), SessionFault> {
-        session(alloc, machine, program, commands, out, &mut Plain)
+        on_machine!(machine, machine => session(alloc, machine, program, commands, out, &mut Plain))
     }
 }
 
@@ -78,17 +78,37 @@ impl<'a, R: Threads + Wait + Sync> SessionRunner for Several<'a, R> {
 
     ghost may_want = { λ several. Unit {0} };
 
-    fn go<const N: usize, const CAP: usize, I: Source, O: Sink>(
+    fn go<I: Source, O: Sink>(
         self,
         alloc: Global,
-        machine: &mut Machine<N, CAP>,
+        machine: &mut AnyMachine,
         program: &Program,
         commands: &mut I,
         out: &mut O,
     ) -> Result<(), SessionFault> {
-        let mut runner = shared_runner::<N, R>(alloc, self);
-        session(alloc, machine, program, commands, out, &mut runner)
+        on_machine!(machine, machine => go_by_workers(alloc, machine, program, self, commands, out))
     }
+}
+
+/// The same, on a machine of these sizes.
+fn go_by_workers<const N: usize, const CAP: usize, R: Threads + Wait + Sync, I: Source, O: Sink>(
+    alloc: Global,
+    machine: &mut Machine<N, CAP>,
+    program: &Program,
+    several: Several<'_, R>,
+    commands: &mut I,
+    out: &mut O,
+) -> Result<(), SessionFault>
+    requires shared { sharing_fault N several.sharing ≡ None }
+    requires reader { I.has_failed commands.old ≡ false }
+    requires writer { O.has_failed out.old ≡ false }
+    ensures goes { Goes (record { n = N; cap = CAP; machine = machine.old.machine })
+        (record { n = N; cap = CAP; machine = machine.new.machine }) program.now.acts
+        (streams (I.left commands.old) (I.left commands.new) (O.contents out.old) (O.contents out.new)
+        (I.has_failed commands.new) (O.has_failed out.new)) result }
+{
+    let mut runner = shared_runner::<N, R>(alloc, several);
+    session(alloc, machine, program, commands, out, &mut runner)
 }
 
 /// The runner of as many workers as are asked for, on as many blocks of a machine of 2^`N` chips.
