@@ -22,8 +22,8 @@ returns-in-Ok g c = record {
   });
 }
 
-pub returns : goal.returns
-returns g c = record {
+pub returns-in-Err : goal.returns-in-Err
+returns-in-Err g c = record {
   does = did_so c.break_off.ensures.value (λ deeds broke. record {
     ran = Err c.from.result;
     session = off_so (sized c.args.machine.now) (sized c.go.new.machine) c.args.program.now.acts
