@@ -78,10 +78,7 @@ fn begin_files<H: Outside>(
         (reads_by H.File.left H.File.has_failed) line.now fault)) }
 {
     match take_both(alloc, outside, line.image.as_str(), line.program.as_str()) {
-        Ok(taken) => {
-            let n = taken.machine.dims();
-            begin_taken(alloc, outside, line, n, taken)
-        }
+        Ok(taken) => begin_taken(alloc, outside, line, taken.machine.dims(), taken),
         Err(fault) => Err(fault),
     }
 }
