@@ -12,6 +12,7 @@ import http.server
 import json
 import re
 import secrets
+import socket
 import sys
 import threading
 from typing import Any, Callable, Dict
@@ -22,6 +23,8 @@ from .stepping import PROCESSORS, JsonObject, Layer, Stepping, number, number_of
 
 LOOPBACK = "127.0.0.1"
 LONGEST_BODY = 65_536                   # bytes of a request
+LONGEST_WAIT = 1                        # seconds for what a refused client still sends
+MOST_PIECES = 16                        # of its body that are read, and thrown away
 
 
 # ---- what the page may ask for
@@ -152,6 +155,19 @@ class Handler(http.server.BaseHTTPRequestHandler):
             self.close_connection = True
         self.end_headers()
         self.wfile.write(body)
+        if status >= 400:
+            self._let_it_end()
+
+    def _let_it_end(self) -> None:
+        """Lets a refused client send its body to the end, so that it reads the answer and meets no broken pipe."""
+        try:
+            self.connection.shutdown(socket.SHUT_WR)
+            self.connection.settimeout(LONGEST_WAIT)
+            for _ in range(MOST_PIECES):
+                if not self.connection.recv(LONGEST_BODY):
+                    return
+        except OSError:                                 # it is gone, or sends nothing more
+            pass
 
     def _is_own(self) -> bool:
         """Whether the request was meant for this server, and comes from its own page or from no page."""
