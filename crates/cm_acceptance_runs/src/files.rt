@@ -1,5 +1,7 @@
 //! Runs over files in memory: an image, a program, and what is left in the file that is asked for.
 
+ghost use Rattle.std.specs.Prelude.{◌≡◌, false};
+
 use cm_bits::doubles::{Bytes, Room};
 use cm_bits::{Failed, Sink};
 use cm_cli::{LineFault, Outside, PutFault, Written, perform};
@@ -31,6 +33,23 @@ pub(crate) struct Ended {
     /// The number that standard error tells, 0 where it tells none.
     pub(crate) number: u8,
     pub(crate) left: Option<Vec<u8>>,
+}
+
+/// Files of which an image is to be left, by a text that comes whole.
+pub(crate) fn files_of<'a>(
+    alloc: Global,
+    image: &'a [u8],
+    text: &'a [u8],
+    sharing: (u8, u8),
+) -> Files<'a> {
+    Files {
+        alloc,
+        image,
+        text: (text, 100_000),
+        sharing,
+        keeps: true,
+        left: None,
+    }
 }
 
 impl Files<'_> {
@@ -111,7 +130,10 @@ pub(crate) fn run<R: Threads + Wait + Sync>(
     mut files: Files<'_>,
     commands: &mut Bytes<'_>,
     answers: &mut Room,
-) -> Option<Ended> {
+) -> Option<Ended>
+    requires reader { commands.old.failed ≡ false }
+    requires writer { answers.old.failed ≡ false }
+{
     let alloc = files.alloc;
     let mut errors = Room::new(alloc, 100, 100).ok()?;
     let status = perform(rt, alloc, &mut files, commands, answers, &mut errors);

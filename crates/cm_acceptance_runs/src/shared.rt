@@ -1,6 +1,6 @@
 //! Runs that are shared out in several ways, on whole machines, over cut wires and by either rule: the same bytes.
 
-use crate::files::{Files, run};
+use crate::files::{files_of, run};
 use cm_bits::doubles::{Bytes, Room};
 use std::alloc::{AllocError, Global};
 use std::sync::Wait;
@@ -233,14 +233,7 @@ impl Run {
     ) -> Option<Vec<u8>> {
         let image = self.image(alloc).ok()?;
         let text = self.program(alloc).ok()?;
-        let files = Files {
-            alloc,
-            image: &image,
-            text: (&text, 100_000),
-            sharing,
-            keeps: true,
-            left: None,
-        };
+        let files = files_of(alloc, image.as_slice(), text.as_slice(), sharing);
         let mut commands = Bytes::new(self.asks, 7);
         let mut answers = Room::new(alloc, 1000, 100).ok()?;
         let ended = run(rt, files, &mut commands, &mut answers)?;
