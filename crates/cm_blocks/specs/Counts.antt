@@ -19,10 +19,11 @@ is_delivery Inject = false
 is_delivery (Cross d) = false
 is_delivery Deliver = true
 
--- how many there are of each among some steps
+-- how many of some steps are injections
 abbrev pub injections : List Step → ℕ
 injections steps = count_by is_injection steps
 
+-- how many of some steps are deliveries: so much the counter goes up
 abbrev pub deliveries : List Step → ℕ
 deliveries steps = count_by is_delivery steps
 

@@ -51,6 +51,7 @@ pub record AreJoined (n k : ℕ) (machine : Machine) : Type 0 where
   pub buffers : flat_map (λ b. (block n k b machine).buffers) (range_with_len 0 (2 ^ k)) ≡ machine.buffers
   pub logs : flat_map (λ b. (block n k b machine).logs) (range_with_len 0 (2 ^ k)) ≡ machine.logs
 
+-- the 2 ^ k blocks of a machine of 2 ^ n chips, one after another, have all of its chips, buffers and logs
 abbrev pub BlocksAreTheWhole : Type 0
 BlocksAreTheWhole = (n k : ℕ) (machine : Machine) → k ≤ n → length machine.chips ≡ 2 ^ n
     → length machine.buffers ≡ 2 ^ n → length machine.logs ≡ 2 ^ n → AreJoined n k machine

@@ -18,12 +18,13 @@ pub data Parcel : Type 0 where
   Mail : List (Option Message) → Parcel
   Edge : List Bool → Parcel
 
--- what a parcel has at a place: no message and no bit where it has none
+-- the message that a parcel has at a place: none where it has no messages, or none there
 abbrev pub mail_in : Parcel → ℕ → Option Message
 mail_in Blank i = None
 mail_in (Mail lane) i = slice_index_or lane i None
 mail_in (Edge row) i = None
 
+-- the bit that a parcel has at a column of the grid: 0 where it has no bits, or none there
 abbrev pub bit_in : Parcel → ℕ → Bool
 bit_in Blank i = false
 bit_in (Mail lane) i = false

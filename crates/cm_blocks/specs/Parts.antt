@@ -52,11 +52,14 @@ is_within s c = nat_le s.first c && nat_lt c (s.first + s.count)
 abbrev pub list_in : {X : Type 0} → Part → List (List X) → ℕ → List X
 list_in s lists c = slice_index_or lists (c - s.first) []
 
+-- the processors of a chip of the part, by the chip's number in the whole
 abbrev pub chip_in : Part → ℕ → List Processor
 chip_in s c = list_in s s.chips c
 
+-- the messages that stand at a chip of the part, from the front
 abbrev pub buffer_in : Part → ℕ → List Message
 buffer_in s c = list_in s s.buffers c
 
+-- the events in the log of a chip of the part, the oldest first
 abbrev pub log_in : Part → ℕ → List Event
 log_in s c = list_in s s.logs c

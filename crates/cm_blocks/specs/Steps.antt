@@ -38,10 +38,11 @@ mail_for cap d parcel s c =
     (buffer_in s (bit_xor c (2 ^ d)))
     else mail_in parcel (c - s.first)
 
--- the processors whose messages are taken at a chip, and the messages
+-- the processors whose messages a chip takes at an injection
 abbrev pub taken_of : ℕ → Part → ℕ → List ℕ
 taken_of cap s c = taken_here cap (buffer_in s c) (chip_in s c)
 
+-- the messages that a chip takes from these processors
 abbrev pub sent_of : ℕ → ℕ → Part → ℕ → List Message
 sent_of n cap s c = sent_here n cap s.clock c (buffer_in s c) (chip_in s c)
 

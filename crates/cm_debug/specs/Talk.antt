@@ -53,6 +53,7 @@ pub record Setting : Type 0 where
   pub out : Option (List ℕ)
   pub lacked : ℕ
 
+-- the setting of this program, machine and sink, where the runner lacked a thread so often
 abbrev pub setting : List Act → Machine → Option (List ℕ) → ℕ → Setting
 setting acts machine out lacked = record { acts = acts; machine = machine; out = out; lacked = lacked }
 

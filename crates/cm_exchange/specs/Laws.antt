@@ -17,6 +17,7 @@ pub record ArePartners (k kind : ℕ) : Type 0 where
   pub back : (b : ℕ) → b < 2 ^ k → receiver k kind (giver k kind b) ≡ b
   pub on : (b : ℕ) → b < 2 ^ k → giver k kind (receiver k kind b) ≡ b
 
+-- in each kind of round every block has one giver and one receiver, and each of these two maps undoes the other
 abbrev pub LanesHaveTwoEnds : Type 0
 LanesHaveTwoEnds = (k kind : ℕ) → kind < kind_count k → ArePartners k kind
 
@@ -50,6 +51,7 @@ pub record AreTold (exchange : Exchange) (world : World) (step : Step) : Type 0 
   pub stage : is_possible exchange world step ≡ true
       → word_for exchange world step ≡ 4 * uses_now exchange (stand_of world (block_of step)) + stage_of step
 
+-- in every world that an exchange reaches, the word of a lane tells of each step what `AreTold` names
 abbrev pub WordsTellSteps : Type 0
 WordsTellSteps = (exchange : Exchange) (steps : List Step) (world : World) (step : Step) → IsExchange exchange
     → IsReached exchange steps world → AreTold exchange world step

@@ -23,10 +23,11 @@ stage_of (File b) = 1
 stage_of (Draw b) = 2
 stage_of (Clear b) = 3
 
--- the kind of the round of a block, and how often lanes of the kind were used in rounds before it
+-- the kind of the round at which a block stands
 abbrev pub kind_now : Exchange → Stand → ℕ
 kind_now exchange stand = kind_at exchange.kinds stand.round
 
+-- how often lanes of that kind were used in the rounds before
 abbrev pub uses_now : Exchange → Stand → ℕ
 uses_now exchange stand = uses exchange.kinds (kind_now exchange stand) stand.round
 
@@ -85,13 +86,15 @@ world_with exchange world stand step = record {
       (lane_of exchange.k world (kind_now exchange stand) (sender_of exchange stand step)));
 }
 
--- a step can be taken in a world; the world after it, if it can
+-- a step can be taken in a world
 unfoldable pub is_possible : Exchange → World → Step → Bool
 is_possible exchange world step = can_step exchange world (stand_of world (block_of step)) step
 
+-- the world after a step, whether the step can be taken or not
 unfoldable pub world_after : Exchange → World → Step → World
 world_after exchange world step = world_with exchange world (stand_of world (block_of step)) step
 
+-- the world after a step that can be taken; none after a step that cannot
 abbrev pub next_world : Exchange → World → Step → Option World
 next_world exchange world step =
     if is_possible exchange world step then Some (world_after exchange world step) else None

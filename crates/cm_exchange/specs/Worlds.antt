@@ -17,26 +17,30 @@ pub record World : Type 0 where
   pub stands : List Stand
   pub lanes : List Lane
 
--- the beginning
+-- where a block stands at the beginning: at stage 0 of its first round
 abbrev pub at_first : Stand
 at_first = record { round = 0; stage = 0 }
 
+-- a lane at the beginning: it is empty, and nothing was sent over it
 abbrev pub unused : Lane
 unused = record { word = 0; parcel = None }
 
+-- the world at the beginning: 2 ^ k blocks at their first round, and all lanes empty
 unfoldable pub first_world : Exchange → World
 first_world exchange = record {
   stands = replicate (2 ^ exchange.k) at_first;
   lanes = replicate (kind_count exchange.k * 2 ^ exchange.k) unused;
 }
 
--- where block b stands; the lane of a kind and a sender
+-- where block b stands
 abbrev pub stand_of : World → ℕ → Stand
 stand_of world b = slice_index_or world.stands b at_first
 
+-- the index among all lanes of the lane of a kind and a sender: each kind has 2 ^ k lanes, one for a sender
 abbrev pub lane_number : ℕ → ℕ → ℕ → ℕ
 lane_number k kind b = kind * 2 ^ k + b
 
+-- the lane of a kind and a sender, in a world of 2 ^ k blocks
 abbrev pub lane_of : ℕ → World → ℕ → ℕ → Lane
 lane_of k world kind b = slice_index_or world.lanes (lane_number k kind b) unused
 

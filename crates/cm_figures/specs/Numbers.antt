@@ -7,8 +7,8 @@ use Rattle.cm_figures.specs.declared.numbers.NumbersFault.TheVariants.{NotNumber
 
 -- ---- reading
 
--- what comes after, unless a fault came before
 infixl 10 ◌>>=◌
+-- what comes after, unless a fault came before
 abbrev pub ◌>>=◌ : {A B : Type 0} → Result A NumbersFault → (A → Result B NumbersFault) → Result B NumbersFault
 (Ok x) >>= f = f x
 (Err fault) >>= f = Err fault

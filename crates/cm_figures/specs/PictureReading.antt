@@ -16,8 +16,8 @@ use Rattle.cm_figures.specs.Pictures.{Dots, row_bytes}
 abbrev pub Gives : {X Y : Type 0} → (X → Y) → Result X PictureFault → Result Y PictureFault → Type 0
 Gives view result given = MatchResult result (λ x. given ≡ Ok (view x)) (λ fault. given ≡ Err fault)
 
--- what comes after, unless a fault came before
 infixl 10 ◌>>=◌
+-- what comes after, unless a fault came before
 abbrev pub ◌>>=◌ : {A B : Type 0} → Result A PictureFault → (A → Result B PictureFault) → Result B PictureFault
 (Ok x) >>= f = f x
 (Err fault) >>= f = Err fault
@@ -87,6 +87,7 @@ of_kind text width height None = Err Magic
 of_kind text width height (Some kind) =
     sizes_part text width height kind.1 (drop 2 text) >>= λ read. Ok (kind.0, read.0, read.1)
 
+-- what the header of a text tells, where the picture must have this width and height; the bytes behind it come last
 unfoldable pub header_part : List ℕ → ℕ → ℕ → Result (Form × ℕ × List ℕ) PictureFault
 header_part text width height = of_kind text width height (kind_of text)
 

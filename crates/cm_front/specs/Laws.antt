@@ -35,6 +35,7 @@ is_change (Put field) = true
 is_change Forget = true
 is_change _ = false
 
+-- a line, once read, asks all processors for a change; a line that is refused asks for none
 abbrev pub asks_change : Result (Asked × List ℕ) AsmKind → Bool
 asks_change (Ok it) = is_change it.0
 asks_change (Err kind) = false

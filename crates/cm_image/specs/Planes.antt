@@ -23,10 +23,11 @@ unfoldable pub planes_below : List Processor → ℕ → List Listed
 planes_below chip count =
     without_zeros (each_from 0 count (λ address. record { at = address; plane = memory_plane_of chip address }))
 
--- how they are listed, and how one is
+-- how they are listed
 unfoldable pub listed_below : List Processor → ℕ → List ℕ
 listed_below chip count = flat_map listed_text (planes_below chip count)
 
+-- how the plane of an address is listed: a plane that is 0 is not
 abbrev pub listing_of : ℕ → ℕ → List ℕ
 listing_of address plane = if plane == 0 then [] else listed_text (record { at = address; plane = plane })
 

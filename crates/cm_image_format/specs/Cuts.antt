@@ -28,6 +28,7 @@ abbrev pub cut_fault : ℕ → ℕ → ℕ → Check
 cut_fault n least chip dim =
     if nat_le n dim || bit chip dim then Some Value else if nat_lt (chip * 16 + dim) least then Some Order else None
 
+-- a cut wire as it is read: its chip and its dimension, which `cut_fault` judges
 abbrev pub cut_part : ℕ → ℕ → List ℕ → Read Wire
 cut_part n least = made (λ x. record { chip = x.0; dim = x.1 })
     (followed (chip_number_part n) (λ chip. part w8 (cut_fault n least chip)))
@@ -44,13 +45,15 @@ is_cut_count n rule k = nat_le k (n * 2 ^ n / 2) && not (k == 0 && rule == 0)
 abbrev pub listed_cuts_text : List Wire → List ℕ
 listed_cuts_text cuts = number w16 (length cuts) ++ flat_map cut_text cuts
 
+-- a count and as many cut wires as they are read, each pair above the one before
 abbrev pub listed_cuts_part : ℕ → ℕ → List ℕ → Read (List Wire)
 listed_cuts_part n rule = counted w16 (must Count (is_cut_count n rule)) after_cut (cut_part n) 0
 
--- in version 1 there are none
+-- how the cut wires are written: in version 1 there are none
 abbrev pub cuts_text : ℕ → List Wire → List ℕ
 cuts_text version cuts = if version == 1 then [] else listed_cuts_text cuts
 
+-- the cut wires as they are read: in version 1 no byte is read, and there are none
 abbrev pub cuts_part : ℕ → ℕ → ℕ → List ℕ → Read (List Wire)
 cuts_part version n rule bytes = if version == 1 then Ok ([], bytes) else listed_cuts_part n rule bytes
 
@@ -62,6 +65,7 @@ version_by First [] = 1
 version_by First (w ∷ ws) = 2
 version_by Oldest cuts = 2
 
+-- the version of the image of a machine that routes so
 abbrev pub version_of : Routing → ℕ
 version_of routing = version_by routing.rule routing.cuts
 
@@ -70,6 +74,7 @@ abbrev pub head_of : ℕ → ℕ → Routing → Head
 head_of n cap routing =
     record { version = version_of routing; dimension = n; room = cap; rule = rule_number routing.rule }
 
+-- how the cut wires of a routing are written; its rule stands in the head
 abbrev pub routing_text : Routing → List ℕ
 routing_text routing = cuts_text (version_of routing) routing.cuts
 

@@ -13,10 +13,11 @@ MAGIC = 0x434d3149
 abbrev pub is_version : ℕ → Bool
 is_version k = k == 1 || k == 2
 
--- a dimension of a cube, and room of a router
+-- a cube has 0 to 12 dimensions
 abbrev pub is_dimension : ℕ → Bool
 is_dimension n = nat_le n 12
 
+-- a router has room for 1 to 15 messages
 abbrev pub is_room : ℕ → Bool
 is_room cap = nat_le 1 cap && nat_le cap 15
 

@@ -22,6 +22,7 @@ pub record ChipImage : Type 0 where
 
 -- ---- a chip
 
+-- the plane of flag f as it is read: that of flag 8, ZERO, must be 0
 abbrev pub flag_part : ℕ → List ℕ → Read ℕ
 flag_part f = part w16 (must Value (λ plane. not (f == 8) || plane == 0))
 
@@ -29,19 +30,24 @@ flag_part f = part w16 (must Value (λ plane. not (f == 8) || plane == 0))
 abbrev pub address_fault : ℕ → Check
 address_fault least at = if nat_lt 4095 at then Some Value else if nat_lt at least then Some Order else None
 
+-- how a memory plane is written: its address, then its bits
 abbrev pub listed_text : Listed → List ℕ
 listed_text x = number w16 x.at ++ number w16 x.plane
 
+-- a memory plane as it is read: its address, which `address_fault` judges, and bits that are not all 0
 abbrev pub listed_part : ℕ → List ℕ → Read Listed
 listed_part least = made (λ x. record { at = x.0; plane = x.1 })
     (part w16 (address_fault least) ⨾ part w16 (must Order (λ plane. not (plane == 0))))
 
+-- the memory planes of a chip as they are read: a count of at most 4096, and as many planes
 abbrev pub memory_part : List ℕ → Read (List Listed)
 memory_part = counted w16 (must Count (λ k. nat_le k 4096)) (λ least x. x.at + 1) listed_part 0
 
+-- the number of a processor as it is read: it is below 16
 abbrev pub processor_part : List ℕ → Read ℕ
 processor_part = part w8 (must Value (λ k. nat_lt k 16))
 
+-- a message as it is read: its chips are chips of the cube, and its birth lies before the counter
 abbrev pub message_part : ℕ → ℕ → List ℕ → Read Message
 message_part n clock =
     made (λ x. record {
@@ -53,17 +59,21 @@ message_part n clock =
     (chip_number_part n ⨾ processor_part ⨾ number_at w32 ⨾ chip_number_part n ⨾ processor_part
     ⨾ part w64 (must Value (λ k. nat_lt k clock)))
 
+-- how a chip is written: its flag planes, its memory planes behind their count, its messages behind theirs
 abbrev pub chip_text : ChipImage → List ℕ
 chip_text chip =
     flat_map (number w16) chip.flags ++ ((number w16 (length chip.memory) ++ flat_map listed_text chip.memory)
     ++ (number w8 (length chip.messages) ++ flat_map message_text chip.messages))
 
+-- the sixteen flag planes of a chip as they are read, that of flag 0 first
 abbrev pub flags_part : List ℕ → Read (List ℕ)
 flags_part = many (λ f plane. f + 1) flag_part 16 0
 
+-- the messages of a chip as they are read: a count of at most the router's room, and as many messages
 abbrev pub messages_part : ℕ → ℕ → ℕ → List ℕ → Read (List Message)
 messages_part n cap clock = counted w8 (must Count (λ k. nat_le k cap)) (λ i m. i) (λ i. message_part n clock) 0
 
+-- a chip as it is read: its flag planes, its memory planes, its messages
 unfoldable pub chip_part : ℕ → ℕ → ℕ → List ℕ → Read ChipImage
 chip_part n cap clock =
     made (λ x. record { flags = x.0; memory = x.1.0; messages = x.1.1 })

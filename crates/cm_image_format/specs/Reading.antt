@@ -6,6 +6,7 @@ use Rattle.cm_image_format.specs.declared.fault.ImageFault.{ImageFault}
 use Rattle.cm_image_format.specs.declared.fault.ImageFault.TheVariants.{Short}
 
 infixl 10 ◌>>=◌
+-- what comes after, unless a fault came before
 abbrev pub ◌>>=◌ : {A B : Type 0} → Result A ImageFault → (A → Result B ImageFault) → Result B ImageFault
 (Ok x) >>= f = f x
 (Err fault) >>= f = Err fault
@@ -45,8 +46,8 @@ followed first second bytes = do
   b ← second a.0 a.1
   Ok ((a.0, b.0), b.1)
 
--- one reading after another
 infixr 5 ◌⨾◌
+-- one reading after another
 abbrev pub ◌⨾◌ : {A B : Type 0} → (List ℕ → Read A) → (List ℕ → Read B) → List ℕ → Read (A × B)
 first ⨾ second = followed first (λ _. second)
 

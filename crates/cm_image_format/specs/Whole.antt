@@ -25,10 +25,11 @@ use Rattle.cm_image_format.specs.Image.{Listed, ChipImage, chip_text, chip_part}
 abbrev pub without_zeros : List Listed → List Listed
 without_zeros planes = filter (λ x. not (x.plane == 0)) planes
 
--- the plane of a flag, and of a memory address
+-- the plane of a flag: bit p is that of processor p
 abbrev pub flag_plane_of : List Processor → ℕ → ℕ
 flag_plane_of chip f = plane_number (λ p. flag (processor_at chip p) f)
 
+-- the plane of a memory address: bit p is that of processor p
 abbrev pub memory_plane_of : List Processor → ℕ → ℕ
 memory_plane_of chip address = plane_number (λ p. memory_bit (processor_at chip p) address)
 
@@ -67,6 +68,7 @@ pub record Image : Type 0 where
   pub routing : Routing
   pub chips : List ChipImage
 
+-- what an image has of a machine of 2 ^ n chips: all but the logs
 abbrev pub image_of : ℕ → Machine → Image
 image_of n machine = record {
   clock = machine.clock;
@@ -74,6 +76,7 @@ image_of n machine = record {
   chips = each_chip n (λ c. image_of_chip (chip_at machine.chips c) (list_at machine.buffers c));
 }
 
+-- how an image is written: the head, the counter, the cut wires, and chip after chip
 unfoldable pub image_text : ℕ → ℕ → Image → List ℕ
 image_text n cap image = head_text (head_of n cap image.routing)
     ++ (number w64 image.clock ++ (routing_text image.routing ++ flat_map chip_text image.chips))

@@ -18,32 +18,39 @@ use Rattle.cm_language.specs.Effect.{CARRY, FACTOR}
 
 -- ---- truth tables, by the number of their byte
 
+-- each entry is A
 abbrev pub TABLE_OF_A : ℕ
 TABLE_OF_A = 0xf0
 
+-- each entry is B
 abbrev pub TABLE_OF_B : ℕ
 TABLE_OF_B = 0xcc
 
+-- each entry is F
 abbrev pub TABLE_OF_F : ℕ
 TABLE_OF_F = 0xaa
 
+-- each entry is 0
 abbrev pub ALWAYS_0 : ℕ
 ALWAYS_0 = 0x00
 
+-- each entry is 1
 abbrev pub ALWAYS_1 : ℕ
 ALWAYS_1 = 0xff
 
--- A + B + F: the sum's bit, and its carry
+-- A + B + F: the bit of the sum
 abbrev pub SUM : ℕ
 SUM = 0x96
 
+-- A + B + F: the carry of the sum
 abbrev pub SUM_CARRY : ℕ
 SUM_CARRY = 0xe8
 
--- A + not B + F: the difference's bit, and its carry
+-- A + not B + F: the bit of the difference
 abbrev pub DIFFERENCE : ℕ
 DIFFERENCE = 0x69
 
+-- A + not B + F: the carry of the difference
 abbrev pub DIFFERENCE_CARRY : ℕ
 DIFFERENCE_CARRY = 0xb2
 

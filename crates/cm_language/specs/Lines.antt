@@ -21,8 +21,8 @@ use Rattle.cm_language.specs.declared.fault.AsmKind.{AsmKind}
 use Rattle.cm_language.specs.declared.fault.AsmKind.TheVariants.{Width, Range, Operands, Number, Name, Twice}
 use Rattle.cm_language.specs.Names.{NamedField, is_name, field_named}
 
--- what comes after, unless there was a fault before
 infixl 10 ◌>>=◌
+-- what comes after, unless there was a fault before
 abbrev pub ◌>>=◌ : {A B : Type 0} → Result A AsmKind → (A → Result B AsmKind) → Result B AsmKind
 (Ok x) >>= f = f x
 (Err e) >>= f = Err e

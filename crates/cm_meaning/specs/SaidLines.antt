@@ -8,10 +8,11 @@ use Rattle.cm_language.specs.Program.{Reading}
 use Rattle.cm_phrases.specs.declared.phrase.Phrase.{Phrase}
 use Rattle.cm_meaning.specs.Laws.{SaysPhrase}
 
--- a field of eight bits, and the one behind it
+-- a field of eight bits, from address 0 on
 abbrev pub low : Span
 low = record { at = 0; len = 8 }
 
+-- the field of eight bits behind it, from address 8 on
 abbrev pub high : Span
 high = record { at = 8; len = 8 }
 

@@ -17,22 +17,27 @@ message_text m =
 unfoldable pub number_from : Width → ℕ → List ℕ → ℕ
 number_from w at bytes = from_be_bytes w (drop at bytes)
 
--- each part of a message, at its place
+-- the relative address of a message: bytes 0 and 1
 abbrev pub rel_in : List ℕ → ℕ
 rel_in bytes = number_from w16 0 bytes
 
+-- the number of the processor that a message goes to: byte 2
 abbrev pub proc_in : List ℕ → ℕ
 proc_in bytes = slice_index bytes 2
 
+-- the payload of a message: bytes 3 to 6
 abbrev pub payload_in : List ℕ → ℕ
 payload_in bytes = number_from w32 3 bytes
 
+-- the number of the chip that sent a message: bytes 7 and 8
 abbrev pub origin_chip_in : List ℕ → ℕ
 origin_chip_in bytes = number_from w16 7 bytes
 
+-- the number of the processor that sent a message: byte 9
 abbrev pub origin_proc_in : List ℕ → ℕ
 origin_proc_in bytes = slice_index bytes 9
 
+-- what the counter was when a message was taken in: bytes 10 to 17
 abbrev pub birth_in : List ℕ → ℕ
 birth_in bytes = number_from w64 10 bytes
 

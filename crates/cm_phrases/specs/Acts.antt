@@ -18,29 +18,35 @@ use Rattle.cm_phrases.specs.declared.phrase.Phrase.TheVariants.{News, Chain, And
 
 -- ---- truth tables, by the number of their byte
 
+-- each entry is 1 where A and B are
 abbrev pub A_AND_B : ℕ
 A_AND_B = 0xc0
 
+-- each entry is 1 where A or B is
 abbrev pub A_OR_B : ℕ
 A_OR_B = 0xfc
 
+-- each entry is 1 where A and B differ
 abbrev pub A_XOR_B : ℕ
 A_XOR_B = 0x3c
 
+-- each entry is 1 where A is 0
 abbrev pub NOT_A : ℕ
 NOT_A = 0x0f
 
--- A + 0 + F: the sum's bit, and its carry
+-- A + 0 + F: the bit of the sum
 abbrev pub SUM_WITH_0 : ℕ
 SUM_WITH_0 = 0x5a
 
+-- A + 0 + F: the carry of the sum
 abbrev pub CARRY_WITH_0 : ℕ
 CARRY_WITH_0 = 0xa0
 
--- A + 1 + F: the sum's bit, and its carry
+-- A + 1 + F: the bit of the sum
 abbrev pub SUM_WITH_1 : ℕ
 SUM_WITH_1 = 0xa5
 
+-- A + 1 + F: the carry of the sum
 abbrev pub CARRY_WITH_1 : ℕ
 CARRY_WITH_1 = 0xfa
 

@@ -2,6 +2,7 @@
 use Rattle.std.specs.Prelude.{ℕ, ◌<◌, ◌≤◌, List, length, map}
 use Rattle.cm_model.specs.declared.message.Message.{Message}
 
+-- what contracts see of the buffer of a node
 pub record Buffer : Type 0 where
   -- how many messages it has room for
   pub room : ℕ

@@ -10,8 +10,8 @@ use Rattle.cm_model.specs.Processor.{ZERO}
 use Rattle.cm_session.specs.declared.command.Refusal.{Refusal}
 use Rattle.cm_session.specs.declared.command.Refusal.TheVariants.{Width, Range, ZeroFlag, Number}
 
--- what comes after, unless a fault came before
 infixl 10 ◌>>=◌
+-- what comes after, unless a fault came before
 abbrev pub ◌>>=◌ : {A B : Type 0} → Result A Refusal → (A → Result B Refusal) → Result B Refusal
 (Ok x) >>= f = f x
 (Err refusal) >>= f = Err refusal

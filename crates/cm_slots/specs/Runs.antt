@@ -23,10 +23,11 @@ tile_at tiles t = slice_index_or tiles t no_tile
 abbrev pub leavers_at : List (Option (List ℕ)) → ℕ → Option (List ℕ)
 leavers_at leaving t = slice_index_or leaving t None
 
--- the tile across dimension d, and the place there
+-- the tile across dimension d from a tile: it is the same tile where d is below 6
 abbrev pub tile_across : ℕ → ℕ → ℕ
 tile_across d t = bit_xor t (2 ^ d / 64)
 
+-- the place across dimension d from a place: it is the same place where d is 6 or more
 abbrev pub place_across : ℕ → ℕ → ℕ
 place_across d i = bit_xor i (2 ^ d % 64)
 
@@ -34,10 +35,11 @@ place_across d i = bit_xor i (2 ^ d % 64)
 abbrev pub arriving : ℕ → List (Option (List ℕ)) → ℕ → ℕ → ℕ
 arriving d leaving t i = leaver_at (leavers_at leaving (tile_across d t)) (place_across d i)
 
--- who leaves a chip, by its number, 0 where nobody does; and as a ticket
+-- the number of who leaves a chip; 0 where nobody does
 abbrev pub number_leaving : List (Option (List ℕ)) → ℕ → ℕ
 number_leaving leaving c = leaver_at (leavers_at leaving (c / 64)) (c % 64)
 
+-- the ticket of who leaves a chip; none where nobody does
 abbrev pub ticket_leaving : List (Option (List ℕ)) → ℕ → Option Ticket
 ticket_leaving leaving c = ticket_in (number_leaving leaving c)
 
@@ -52,10 +54,11 @@ pub record HaveTakenIn (room : ℕ) (coming : ℕ → ℕ → ℕ) (old new : Li
   pub long : length new ≡ length old
   pub each : (t : ℕ) → t < length old → HasTakenIn room (coming t) (tile_at old t) (tile_at new t)
 
--- the numbers and the tickets of a chip
+-- the numbers that stand at a chip, from the front
 abbrev pub numbers_at : List Tile → ℕ → List ℕ
 numbers_at tiles c = standing_at (tile_at tiles (c / 64)) (c % 64)
 
+-- the tickets that stand at a chip, from the front
 abbrev pub tickets_of : List Tile → ℕ → List Ticket
 tickets_of tiles c = map ticket_of (numbers_at tiles c)
 

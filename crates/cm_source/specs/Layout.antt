@@ -12,8 +12,8 @@ use Rattle.cm_source.specs.declared.fault.SourceKind.TheVariants.{Asm, NoRepeat,
 use Rattle.cm_source.specs.declared.fault.SourceFault.{SourceFault}
 use Rattle.cm_source.specs.declared.layout.Opened.{Opened}
 
--- what comes after, unless there was a fault before
 infixl 10 ◌>>=◌
+-- what comes after, unless there was a fault before
 abbrev pub ◌>>=◌ : {A B : Type 0} → Result A SourceKind → (A → Result B SourceKind) → Result B SourceKind
 (Ok x) >>= f = f x
 (Err kind) >>= f = Err kind

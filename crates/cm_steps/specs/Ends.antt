@@ -26,12 +26,15 @@ heard_lines text = if nat_le (length text) LIMIT then lines_of text else ended_l
 abbrev pub is_finished : Exchange → World → Bool
 is_finished exchange world = list_all (λ stand. stand.round == round_count exchange) world.stands
 
+-- the last line, where every block is through all rounds
 abbrev pub finished_line : List ℕ
 finished_line = line (codes "finished" ∷ [])
 
+-- the last line, where some block is not through all rounds
 abbrev pub unfinished_line : List ℕ
 unfinished_line = line (codes "unfinished" ∷ [])
 
+-- the last line of a session that ends in this world
 abbrev pub last_line : Exchange → World → List ℕ
 last_line exchange world = if is_finished exchange world then finished_line else unfinished_line
 

@@ -38,11 +38,12 @@ with_line_ended exchange at = record {
   answers = at.answers ++ (after_line exchange at.world at.line).answer;
 }
 
--- a byte more, and bytes
+-- one byte more
 abbrev pub with_byte : Exchange → Hearing → ℕ → Hearing
 with_byte exchange at byte =
     if is_line_end byte then with_line_ended exchange at else record at { line = at.line ++ byte ∷ [] }
 
+-- so many bytes more, one after another
 unfoldable pub heard : Exchange → Hearing → List ℕ → Hearing
 heard exchange at [] = at
 heard exchange at (byte ∷ bytes) = heard exchange (with_byte exchange at byte) bytes

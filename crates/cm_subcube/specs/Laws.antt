@@ -25,6 +25,7 @@ pub record AreBlocksOf (n cap k : ℕ) (machine : Machine) : Type 0 where
   pub whole : AreWhole n cap (all_blocks n k machine)
   pub same : joined (all_blocks n k machine) ≡ machine
 
+-- the 2 ^ k blocks of every machine, joined in their order, are that machine
 abbrev pub BlocksAreJoined : Type 0
 BlocksAreJoined = (n cap k : ℕ) (machine : Machine) → k ≤ n → IsMachine n cap machine → AreBlocksOf n cap k machine
 

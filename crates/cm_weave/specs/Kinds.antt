@@ -7,6 +7,7 @@ use Rattle.cm_exchange.specs.declared.step.Step.{Step}
 use Rattle.cm_exchange.specs.declared.step.Step.TheVariants.{Grip, File, Draw, Clear}
 use Rattle.cm_exchange.specs.Lanes.{giver}
 
+-- the number of a kind of round: NEWS northward, NEWS southward, then the last k of n dimensions, the lowest first
 abbrev pub kind_number : ℕ → ℕ → Kind → ℕ
 kind_number n k kind.North = 0
 kind_number n k kind.South = 1

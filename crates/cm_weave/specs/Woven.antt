@@ -30,6 +30,7 @@ lane_seen lane = record {
   parcel = if nat_lt (lane.word % 4) 2 then None else Some lane.parcel;
 }
 
+-- what contracts see of a world: where each block stands, and each lane as `lane_seen` has it
 abbrev pub world_seen : List Stand → List Lane → World
 world_seen stands lanes = record { stands = stands; lanes = map lane_seen lanes }
 

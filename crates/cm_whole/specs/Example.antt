@@ -51,5 +51,6 @@ whole_sum = record {
 abbrev pub poked_sum : Inputs
 poked_sum = record whole_sum { commands = codes "step\npokeflag 0 0 7 1\nrun\n" }
 
+-- what is set up from these inputs: one chip, whose router has room for seven messages, and the program
 abbrev pub sum_setup : Setup
 sum_setup = record { n = 0; cap = 7; machine = machine_from blank_image; program = sum_program }
