@@ -25,6 +25,7 @@ impl Model for Fields {
 }
 
 impl Fields {
+    /// No field yet.
     pub fn new(alloc: Global) -> Fields
         ensures { result ≡ [] }
     {
@@ -53,6 +54,7 @@ impl Fields {
         Ok(())
     }
 
+    /// How many fields are defined.
     pub fn len(&self) -> usize
         ensures { result ≡ length self.now }
     {

@@ -164,6 +164,7 @@ pub fn read_any(word: &[u8]) -> Result<u64, AsmKind>
     read_number(word).ok_or(AsmKind::Number)
 }
 
+/// The flag whose number a word writes, 0 to 15. A word that is no number, or one too large, is a fault.
 pub fn read_flag(word: &[u8]) -> Result<FlagNo, AsmKind>
     ensures value { result ≡ operand_of 16 word.now }
     ensures own { IfErr result IsOwnFault }

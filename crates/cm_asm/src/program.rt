@@ -34,6 +34,7 @@ impl Program {
         Program { fields, acts }
     }
 
+    /// The acts of the program, in order.
     pub fn acts(&self) -> &[Act]
         ensures value { result.now ≡ self.now.acts }
     {

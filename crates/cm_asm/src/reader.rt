@@ -40,6 +40,7 @@ impl Model for Reader {
 }
 
 impl Reader {
+    /// A reader that has read no line: it knows no field, its context is always, and it has no act.
     pub fn new(alloc: Global) -> Reader
         ensures { result ≡ nothing_read }
     {
@@ -226,6 +227,7 @@ impl Reader {
         self.acts.clear();
     }
 
+    /// The program of the fields and the acts that were read.
     pub fn into_program(self) -> Program
         ensures { result ≡ record { fields = self.fields; acts = self.acts } }
     {

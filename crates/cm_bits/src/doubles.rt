@@ -22,6 +22,7 @@ pub struct Bytes<'a> {
 }
 
 impl<'a> Bytes<'a> {
+    /// A source of these bytes, which gives at most `step` of them a read, at least 1, and never fails.
     pub fn new(bytes: &'a [u8], step: usize) -> Bytes<'a>
         ensures left { bytes_left result ≡ bytes.entry.now }
         ensures good { bytes_good result ≡ None }

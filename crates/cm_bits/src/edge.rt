@@ -49,6 +49,7 @@ impl Edge {
         self.lower
     }
 
+    /// The dimension that the wire crosses, 0 to 11.
     pub fn dim(self) -> u8
         ensures value { result ≡ self.dim }
         ensures within { result < 12 }

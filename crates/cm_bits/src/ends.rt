@@ -58,6 +58,7 @@ pub struct Std<T> {
 }
 
 impl<T> Std<T> {
+    /// This end of std, which has not failed yet.
     pub fn new(inner: T) -> Std<T>
         ensures inner { std_inner result ≡ inner }
         ensures failed { std_has_failed result ≡ false }

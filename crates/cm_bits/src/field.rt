@@ -37,6 +37,7 @@ impl Model for Field {
 }
 
 impl Field {
+    /// The field of `len` bits from address `at` on. Other than 1 to 64 bits, or a bit above address 4095, is a fault.
     pub fn new(at: u16, len: u16) -> Result<Field, FieldFault>
         ensures ok { IfOk result (λ field. (field.at ≡ at) × (field.len ≡ len)) }
         ensures fault { result_err result ≡ field_fault at len }
@@ -53,6 +54,7 @@ impl Field {
         }
     }
 
+    /// The address of bit 0, which is the lowest.
     pub fn at(self) -> u16
         ensures value { result ≡ self.at }
         ensures within { result + self.len ≤ 4096 }
@@ -60,6 +62,7 @@ impl Field {
         self.first
     }
 
+    /// How many bits the field has, 1 to 64.
     pub fn len(self) -> u16
         ensures value { result ≡ self.len }
         ensures some { 1 ≤ result }
@@ -68,6 +71,7 @@ impl Field {
         self.bits
     }
 
+    /// How two fields meet: they are equal, have no bit in common, or have some.
     pub fn meets(&self, other: &Field) -> Meets
         ensures value { result ≡ meeting self.now other.now }
         ensures same { (result ≡ Meets.Same) ↔ (self.now ≡ other.now) }

@@ -21,6 +21,7 @@ impl Model for Addr {
 }
 
 impl Addr {
+    /// The address of this number, if it is below 4096.
     pub fn new(number: u16) -> Option<Addr>
         ensures in_range { IsSome result ↔ (number < 4096) }
         ensures value { IfSome result (λ n. n ≡ number) }
@@ -32,6 +33,7 @@ impl Addr {
         }
     }
 
+    /// The number of the address, below 4096.
     pub fn get(self) -> u16
         ensures value { result ≡ self }
         ensures in_range { result < 4096 }
@@ -78,6 +80,7 @@ impl FlagNo {
     /// Tells that a message was delivered, and keeps out the next.
     pub const RECV: FlagNo = FlagNo { flag: 14 };
 
+    /// The flag of this number, if it is below 16.
     pub fn new(number: u8) -> Option<FlagNo>
         ensures in_range { IsSome result ↔ (number < 16) }
         ensures value { IfSome result (λ n. n ≡ number) }
@@ -89,6 +92,7 @@ impl FlagNo {
         }
     }
 
+    /// The number of the flag, below 16.
     pub fn get(self) -> u8
         ensures value { result ≡ self }
         ensures in_range { result < 16 }
@@ -114,6 +118,7 @@ impl Model for Proc {
 }
 
 impl Proc {
+    /// The processor of this number, if it is below 16.
     pub fn new(number: u8) -> Option<Proc>
         ensures in_range { IsSome result ↔ (number < 16) }
         ensures value { IfSome result (λ n. n ≡ number) }
@@ -125,6 +130,7 @@ impl Proc {
         }
     }
 
+    /// The number of the processor, below 16.
     pub fn get(self) -> u8
         ensures value { result ≡ self }
         ensures in_range { result < 16 }

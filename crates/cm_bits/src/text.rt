@@ -14,6 +14,7 @@ pub struct Lines<'a> {
 }
 
 impl<'a> Lines<'a> {
+    /// The lines of a text, from the first on.
     pub fn new(text: &'a [u8]) -> Lines<'a>
         ensures { lines_left result ≡ lines_of text.entry.now }
     {
@@ -51,6 +52,7 @@ pub struct Words<'a> {
 }
 
 impl<'a> Words<'a> {
+    /// The words of a line that stand before its first `;`, from the first on.
     pub fn new(line: &'a [u8]) -> Words<'a>
         ensures { words_left result ≡ words_of line.entry.now }
     {

@@ -7,6 +7,7 @@ ghost use Rattle.cm_session.specs.Operands.{number, below, one_bit, place, field
 use cm_bits::{Addr, Field, FieldFault, FlagNo, Place, Proc, read_number};
 use cm_session::Refusal;
 
+/// The number that a word writes. A word that writes none is refused.
 pub fn number(word: &[u8]) -> Result<u64, Refusal>
     ensures value { result ≡ number word.now }
 {
@@ -43,6 +44,7 @@ pub fn place(chip_number: u64, proc: u64, dimensions: usize) -> Result<Place, Re
     }
 }
 
+/// The flag of a number below 16. A larger number is refused.
 pub fn flag(number: u64) -> Result<FlagNo, Refusal>
     ensures value { result ≡ below 16 number }
 {
@@ -50,6 +52,7 @@ pub fn flag(number: u64) -> Result<FlagNo, Refusal>
     FlagNo::new(flag as u8).ok_or(Refusal::Range)
 }
 
+/// The memory address of a number below 4096. A larger number is refused.
 pub fn address(number: u64) -> Result<Addr, Refusal>
     ensures value { result ≡ below 4096 number }
 {
@@ -57,6 +60,7 @@ pub fn address(number: u64) -> Result<Addr, Refusal>
     Addr::new(address as u16).ok_or(Refusal::Range)
 }
 
+/// The bit of 0 or 1. A larger number is refused.
 pub fn bit(number: u64) -> Result<bool, Refusal>
     ensures value { result ≡ one_bit number }
 {

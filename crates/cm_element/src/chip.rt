@@ -53,6 +53,7 @@ impl Chip {
         Ok(Chip { run })
     }
 
+    /// The memory bit of a processor at an address.
     pub fn read(&self, proc: Proc, at: Addr) -> bool
         ensures value { result ≡ memory_bit (processor_at self.now proc) at }
     {
@@ -73,6 +74,7 @@ impl Chip {
         self.run.field(0, proc, field)
     }
 
+    /// One flag of a processor.
     pub fn flag(&self, proc: Proc, number: FlagNo) -> bool
         ensures value { result ≡ flag (processor_at self.now proc) number }
         ensures whole { IsChip self.now }

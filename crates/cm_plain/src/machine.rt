@@ -76,6 +76,7 @@ impl<const N: usize> PlainMachine<N> {
         Ok(PlainMachine { chips })
     }
 
+    /// The memory bit of a processor at an address.
     pub fn read(&self, chip: u16, proc: Proc, at: Addr) -> bool
         requires chip { chip < 2 ^ N }
         ensures value { result ≡ memory_bit (processor_at (chip_at self.now chip) proc) at }
@@ -83,6 +84,7 @@ impl<const N: usize> PlainMachine<N> {
         self.processor(chip, proc).memory_bit(at)
     }
 
+    /// One flag of a processor.
     pub fn flag(&self, chip: u16, proc: Proc, number: FlagNo) -> bool
         requires chip { chip < 2 ^ N }
         ensures value { result ≡ flag (processor_at (chip_at self.now chip) proc) number }

@@ -84,6 +84,7 @@ impl<const N: usize, const CAP: usize> PlainRouter<N, CAP> {
         })
     }
 
+    /// The memory bit of a processor at an address.
     pub fn read(&self, chip: u16, proc: Proc, at: Addr) -> bool
         requires chip { chip < 2 ^ N }
         ensures value { result ≡ memory_bit (processor_at (chip_at self.now.chips chip) proc) at }
@@ -91,6 +92,7 @@ impl<const N: usize, const CAP: usize> PlainRouter<N, CAP> {
         self.chips.read(chip, proc, at)
     }
 
+    /// One flag of a processor.
     pub fn flag(&self, chip: u16, proc: Proc, number: FlagNo) -> bool
         requires chip { chip < 2 ^ N }
         ensures value { result ≡ flag (processor_at (chip_at self.now.chips chip) proc) number }

@@ -22,6 +22,7 @@ const SIXTEEN: usize = 16;
 pub struct ZeroFlag;
 
 impl Run {
+    /// The memory bit of a processor at an address. The chip goes by its place in the run.
     pub fn read(&self, chip: u16, proc: Proc, at: Addr) -> bool
         requires chip { chip < length self.now }
         ensures value { result ≡ memory_bit (processor_at (chip_at self.now chip) proc) at }
@@ -75,6 +76,7 @@ impl Run {
         bits_in(&planes, proc)
     }
 
+    /// One flag of a processor. The chip goes by its place in the run.
     pub fn flag(&self, chip: u16, proc: Proc, number: FlagNo) -> bool
         requires chip { chip < length self.now }
         ensures value { result ≡ flag (processor_at (chip_at self.now chip) proc) number }

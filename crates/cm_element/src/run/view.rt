@@ -43,6 +43,7 @@ impl Run {
 }
 
 impl<'a> ChipView<'a> {
+    /// The memory bit of a processor at an address.
     pub fn read(&self, proc: Proc, at: Addr) -> bool
         ensures value { result ≡ memory_bit (processor_at self.now proc) at }
     {
@@ -64,6 +65,7 @@ impl<'a> ChipView<'a> {
         self.run.field(self.chip, proc, field)
     }
 
+    /// One flag of a processor.
     pub fn flag(&self, proc: Proc, number: FlagNo) -> bool
         ensures value { result ≡ flag (processor_at self.now proc) number }
         ensures whole { IsChip self.now }
