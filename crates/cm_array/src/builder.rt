@@ -119,6 +119,7 @@ impl<const N: usize, const CAP: usize> Builder<N, CAP> {
         ensures value { self.new ≡ machine_with_cut self.old edge }
     {
         self.routing.cuts.add(edge);
+        // For the prover alone: a call brings in what holds of all cuts of a cube.
         let _dims = self.routing.cuts.dims();
     }
 
@@ -203,7 +204,10 @@ fn look_at<const N: usize>(message: &Message)
     requires origin { message.now.tag.chip < 2 ^ N }
     ensures message { IsMessage N message.now }
 {
+    // For the prover alone: reading a number brings in its range. A payload has 32 bits,
     let _payload = message.payload;
+    // the receiver's number is below 16,
     let _proc = message.proc.get();
+    // and so is the sender's.
     let _sender = message.tag.proc.get();
 }

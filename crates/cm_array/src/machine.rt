@@ -217,6 +217,7 @@ impl<const N: usize, const CAP: usize> Machine<N, CAP> {
         ensures log_room { IfOk result (λ kept. HaveLogRoom (cycles * (4 + CAP)) kept.log_rooms) }
         ensures gathered { IfOk result (λ kept. IsTrue kept.gathered) }
     {
+        // For the prover alone: reading a field brings in what holds of every machine.
         let _kept = &self.parts;
         let room = Room::of_used(alloc, count, used)?;
         self.lay_part(first, count, cycles, room)
@@ -420,6 +421,7 @@ impl<const N: usize, const CAP: usize> Machine<N, CAP> {
         ensures value { result ≡ N }
         ensures sizes { AreSizes N CAP }
     {
+        // For the prover alone: reading a field brings in what holds of every machine.
         let _kept = &self.parts;
         N as u8
     }

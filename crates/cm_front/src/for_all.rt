@@ -95,6 +95,7 @@ fn operands(line: &[u8]) -> Words<'_>
     ensures { words_left result ≡ drop 1 (words_of line.entry.now) }
 {
     let mut words = Words::new(line);
+    // The first word is known: the words go on behind it.
     let _first = words.next();
     words
 }

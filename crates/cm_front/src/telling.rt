@@ -36,6 +36,7 @@ pub fn push_field<const N: usize, const CAP: usize>(
     ensures ok { OnOk result (text.new.items ≡ text.old.items
         ++ numbers_lines (2 ^ N) 16 (numbers_of N Chips field.at field.len machine.now.machine.chips)) }
 {
+    // For the prover alone: a call brings in what holds of every machine.
     let _dims = machine.dims();
     let numbers = get(alloc, machine, Order::Chips, field)?;
     push_numbers(alloc, text, &numbers, chip_count::<N>(), PROCESSORS)
@@ -51,6 +52,7 @@ pub fn push_flags<const N: usize, const CAP: usize>(
     ensures ok { OnOk result (text.new.items ≡ text.old.items
         ++ numbers_lines (2 ^ N) 16 (flags_of N Chips number machine.now.machine.chips)) }
 {
+    // For the prover alone: a call brings in what holds of every machine.
     let _dims = machine.dims();
     let numbers = flags(alloc, machine, Order::Chips, number)?;
     push_numbers(alloc, text, &numbers, chip_count::<N>(), PROCESSORS)
@@ -107,6 +109,7 @@ pub fn push_standing<const N: usize, const CAP: usize>(
 fn standing<const N: usize, const CAP: usize>(machine: &Machine<N, CAP>) -> u128
     ensures value { result ≡ standing N machine.now.machine }
 {
+    // For the prover alone: a call brings in what holds of every machine.
     let _dims = machine.dims();
     let chips = chip_count::<N>() as u16;
     let mut total = 0;
@@ -120,6 +123,7 @@ fn standing<const N: usize, const CAP: usize>(machine: &Machine<N, CAP>) -> u128
 fn asking<const N: usize, const CAP: usize>(machine: &Machine<N, CAP>) -> u64
     ensures value { result ≡ asking N machine.now.machine }
 {
+    // For the prover alone: a call brings in what holds of every machine.
     let _dims = machine.dims();
     let chips = chip_count::<N>() as u16;
     let mut total = 0;

@@ -17,6 +17,7 @@ pub fn copy_by_blocks<const N: usize, const CAP: usize>(
     ensures err { OnErr result (to.new ≡ to.old) }
     ensures split { IsErrOf result SplitFault.Split ↔ (N - N / 2 < k) }
 {
+    // For the prover alone: a call brings in what holds of every machine.
     let _clock = from.clock();
     let blocks = split(alloc, from, k, 0)?;
     join(blocks, to);

@@ -132,6 +132,7 @@ fn first_blocks<const N: usize, const CAP: usize>(
     requires clock { machine.now.machine.clock + cycles < 2 ^ 63 }
     ensures value { IfOk result (λ blocks. AreBeginning N CAP k machine.now.machine acts.now (2 ^ k) blocks.items) }
 {
+    // For the prover alone: a call brings in what holds of every machine.
     let _clock = machine.clock();
     let mut blocks = match split(alloc, machine, k, cycles) {
         Ok(blocks) => blocks,

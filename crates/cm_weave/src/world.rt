@@ -153,6 +153,7 @@ impl<const N: usize, const CAP: usize> World<N, CAP> {
             blocks,
             ..
         } = self;
+        // For the prover alone: a call brings in what holds of every machine.
         let _clock = machine.clock();
         join(blocks, &mut machine);
         Ok(machine)
