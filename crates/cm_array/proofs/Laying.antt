@@ -40,19 +40,6 @@ length_come lists c ys inside = ap length (get_or-set_same lists c ys [] inside)
 
 -- ---- one list laid into another
 
--- a write behind what is laid
-pub one_more_laid : {X : Type 0} (at : ℕ) (piece old now : List (List X)) (i : ℕ) (x : List X)
-    → i < length piece → at + length piece ≤ length old → length now ≡ length old
-    → ((k : ℕ) → k < i → list_at now (at + k) ≡ list_at piece k)
-    → x ≡ list_at piece i
-    → (k : ℕ) → k < i + 1 → list_at (set now (at + i) x) (at + k) ≡ list_at piece k
-one_more_laid at piece old now i x inside fits same before is k l =
-    ⊎_elim
-    (λ (e : k ≡ i). subst (λ (j : ℕ). list_at (set now (at + i) x) (at + j) ≡ list_at piece j) (sym e)
-    (get_or-set_same now (at + i) x [] (omega arith) ∙ is))
-    (λ (e : k ≢ i). get_or-set_other now (at + i) (at + k) x [] (omega (arith, e)) ∙ before k (omega (arith, e)))
-    (cases_eq k i)
-
 -- what a cut is laid from
 pub laid_cut : {X : Type 0} (first count i : ℕ) (xs : List (List X)) → i < count
     → list_at (cut first count xs) i ≡ list_at xs (first + i)

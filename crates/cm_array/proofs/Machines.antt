@@ -60,27 +60,6 @@ IsMachine-with_chips n cap machine chips long whole h = record {
   injected = h.injected;
 }
 
--- with other logs, and another row, that tell the same
-pub machine_of-told : (parts : Parts) (logs : Vec Log) (row : Log)
-    → with_row (events_of logs.items) row.items ≡ with_row (events_of parts.logs.items) parts.row.items
-    → machine_of (record parts { logs = logs; row = row }) ≡ machine_of parts
-machine_of-told parts logs row same = λ i. record {
-  chips = parts.run;
-  buffers = parts.crossing.buffers;
-  logs = same i;
-  clock = parts.clock;
-  routing = routing_of parts.routing;
-}
-
-pub AreParts-told : (n cap : ℕ) (parts : Parts) (logs : Vec Log) (row : Log)
-    → with_row (events_of logs.items) row.items ≡ with_row (events_of parts.logs.items) parts.row.items
-    → AreParts n cap parts → AreParts n cap (record parts { logs = logs; row = row })
-AreParts-told n cap parts logs row same h = record {
-  sized = h.sized;
-  gathered = h.gathered;
-  machine = subst (λ (m : Machine). IsMachine n cap m) (sym (machine_of-told parts logs row same)) h.machine;
-}
-
 -- the parts of a machine between two lists of acts are so between two acts
 pub AreUnderWay-parts : (n cap : ℕ) (parts : Parts) → AreParts n cap parts → AreUnderWay n cap parts
 AreUnderWay-parts n cap parts h = record {

@@ -2,7 +2,6 @@
 use Rattle.std.proofs.Common.{◌≡◌, ℕ, zero, suc, ◌+◌, Bool, true, false, Vec, List, [], ◌∷◌, ◌++◌, map, drop, Option}
 use Rattle.std.proofs.Common.{Some, None, Result, Ok, Err, refl, ap, ◌∙◌, arith}
 use Rattle.std.specs.Prelude.{bytes_eq, slice_get, if◌then◌else◌}
-use Rattle.std.specs.Option.{option_map}
 use Rattle.std.specs.Result.{OnOk, is_err}
 use Rattle.std.specs.Map.{lookup}
 use Rattle.indexmap.specs.IndexMap.{insert_entry}
@@ -34,12 +33,6 @@ module _ {Z : Type 0} where
       (if b then (e.0, field) ∷ es else e ∷ insert_entry (λ x y. bytes_eq x.items y.items) es key field)) parts.0
       ∙ ap (λ fields. named e.0.items e.1 ∷ fields) (defined es key field parts.1)
 
-pub slice_get-map : {X Y : Type 0} (f : X → Y) (xs : List X) (i : ℕ)
-    → slice_get (map f xs) i ≡ option_map f (slice_get xs i)
-slice_get-map f [] i = refl
-slice_get-map f (x ∷ xs) zero = refl
-slice_get-map f (x ∷ xs) (suc i) = slice_get-map f xs i
-
 -- what an answer that is no error says
 pub of_ok : {T E : Type 0} (r : Result T E) (P : Type 0) → OnOk r P → is_err r ≡ false → P
 of_ok (Ok x) P h e = h
@@ -53,9 +46,3 @@ drop_some (y ∷ xs) zero x h = let e : y ≡ x = cc in ap (λ z. z ∷ xs) e
 drop_some (y ∷ xs) (suc i) x h =
     let e : i + 1 + 1 ≡ suc i + 1 = omega arith in
     drop_some xs i x h ∙ ap (λ (k : ℕ). x ∷ drop k (y ∷ xs)) (let more : suc (i + 1) ≡ suc i + 1 = omega arith in more)
-
-pub drop_none : {X : Type 0} (xs : List X) (i : ℕ) → slice_get xs i ≡ None → drop i xs ≡ []
-drop_none [] zero h = refl
-drop_none [] (suc i) h = refl
-drop_none (y ∷ xs) zero h = absurd cc
-drop_none (y ∷ xs) (suc i) h = drop_none xs i h

@@ -33,14 +33,6 @@ cut-cons x xs h =
     ap (λ (b : Bool). cond (not b) (1 + position_or_len is_comment_start xs) 0) h in
     ap (λ (n : ℕ). take n (x ∷ xs)) place ∙ grind (arith, common_steps)
 
--- a blank begins no comment
-blank_begins_none : (x : ℕ) → is_blank x ≡ true → is_comment_start x ≡ false
-blank_begins_none x h = false_from_ne_true (is_comment_start x) (λ e. absurd (grind (arith, nat_tests, h, e)))
-
--- a space at the front is in no word
-pub words_of-space : (xs : List ℕ) → words_of (32 ∷ xs) ≡ words_of xs
-words_of-space xs = ap words_in (cut-cons 32 xs refl) ∙ words_in-blank 32 (cut xs) refl
-
 -- what is cut at the comment, taken and dropped up to the end of its first word
 record CutAt (xs : List ℕ) (n : ℕ) : Type 0 where
   takes : take n (cut xs) ≡ take n xs
@@ -199,40 +191,6 @@ both true true _ _ = refl
 both true false _ e = absurd cc
 both false b e _ = absurd cc
 
-pub numeral_1 : (a p : ℕ) → IsDigit 10 a p → IsNumeral (a ∷ []) p
-numeral_1 a p h = record {
-  writes = number_of-decimal (a ∷ []) (and-false (a == 48) false refl)
-      ∙ number_in-digits 10 (a ∷ []) refl (both _ _ h.digit refl)
-      (omega (arith, digit-lt 10 a h.digit, value (digit_value a)))
-      ∙ ap (λ (n : ℕ). Some n) (value (digit_value a) ∙ sym h.is);
-  goes_on = each;
-} where
-  value : (v : ℕ) → 0 * 10 + v ≡ v
-  value v = omega arith
-
-  each : (k : ℕ) → k < 1 → is_word_end (get_or (a ∷ []) k 0) ≡ false
-  each zero l = digit_goes_on 10 a (omega arith) h.digit
-  each (suc k) l = absurd (omega arith)
-
-pub numeral_2 : (a b p q : ℕ) → IsDigit 10 a p → IsDigit 10 b q → IsNumeral (a ∷ b ∷ []) (p * 10 + q)
-numeral_2 a b p q h g = record {
-  writes = number_of-decimal (a ∷ b ∷ []) (and-false (a == 48) (b == 120) (no_x b g.digit))
-      ∙ number_in-digits 10 (a ∷ b ∷ []) refl (both _ _ h.digit (both _ _ g.digit refl))
-      (fits (digit_value a) (digit_value b) (digit-lt 10 a h.digit) (digit-lt 10 b g.digit))
-      ∙ ap (λ (n : ℕ). Some n) (value (digit_value a) (digit_value b) ∙ (λ i. sym h.is i * 10 + sym g.is i));
-  goes_on = each;
-} where
-  value : (v w : ℕ) → (0 * 10 + v) * 10 + w ≡ v * 10 + w
-  value v w = omega arith
-
-  fits : (v w : ℕ) → v < 10 → w < 10 → (0 * 10 + v) * 10 + w < 2 ^ 64
-  fits v w h g = omega arith
-
-  each : (k : ℕ) → k < 2 → is_word_end (get_or (a ∷ b ∷ []) k 0) ≡ false
-  each zero l = digit_goes_on 10 a (omega arith) h.digit
-  each (suc zero) l = digit_goes_on 10 b (omega arith) g.digit
-  each (suc (suc k)) l = absurd (omega arith)
-
 pub numeral_3 : (a b c p q r : ℕ) → IsDigit 10 a p → IsDigit 10 b q → IsDigit 10 c r
     → IsNumeral (a ∷ b ∷ c ∷ []) (p * 100 + q * 10 + r)
 numeral_3 a b c p q r h g f = record {
@@ -279,27 +237,6 @@ numeral_4 a b c d p q r s h g f e = record {
   each (suc zero) l = digit_goes_on 10 b (omega arith) g.digit
   each (suc (suc zero)) l = digit_goes_on 10 c (omega arith) f.digit
   each (suc (suc (suc zero))) l = digit_goes_on 10 d (omega arith) e.digit
-  each (suc (suc (suc (suc k)))) l = absurd (omega arith)
-
--- two hexadecimal digits after `0x`
-pub numeral_hex : (c d r s : ℕ) → IsDigit 16 c r → IsDigit 16 d s → IsNumeral (48 ∷ 120 ∷ c ∷ d ∷ []) (r * 16 + s)
-numeral_hex c d r s f e = record {
-  writes = number_in-digits 16 (c ∷ d ∷ []) refl (both _ _ f.digit (both _ _ e.digit refl))
-      (fits (digit_value c) (digit_value d) (digit-lt 16 c f.digit) (digit-lt 16 d e.digit))
-      ∙ ap (λ (n : ℕ). Some n) (value (digit_value c) (digit_value d) ∙ (λ i. sym f.is i * 16 + sym e.is i));
-  goes_on = each;
-} where
-  value : (v w : ℕ) → (0 * 16 + v) * 16 + w ≡ v * 16 + w
-  value v w = omega arith
-
-  fits : (v w : ℕ) → v < 16 → w < 16 → (0 * 16 + v) * 16 + w < 2 ^ 64
-  fits v w h g = omega arith
-
-  each : (k : ℕ) → k < 4 → is_word_end (get_or (48 ∷ 120 ∷ c ∷ d ∷ []) k 0) ≡ false
-  each zero l = refl
-  each (suc zero) l = refl
-  each (suc (suc zero)) l = digit_goes_on 16 c (omega arith) f.digit
-  each (suc (suc (suc zero))) l = digit_goes_on 16 d (omega arith) e.digit
   each (suc (suc (suc (suc k)))) l = absurd (omega arith)
 
 -- ---- an instruction

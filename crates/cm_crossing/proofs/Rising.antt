@@ -6,7 +6,7 @@ use Rattle.std.specs.List.{All}
 use Rattle.std.specs.Option.{option_map}
 use Rattle.std.proofs.lemmas.Bool.{cases_eq, cases_lt, lt-ltb, le-ltb}
 use Rattle.std.proofs.lemmas.Bool.Decides.{nat_tests}
-use Rattle.std.proofs.lemmas.List.{length-map, get_or_append_left, length-append}
+use Rattle.std.proofs.lemmas.List.{length-map}
 use Rattle.std.proofs.lemmas.List.Elements.{All-tail, All-cons}
 use Rattle.cm_model.specs.declared.message.Message.{Message}
 use Rattle.cm_model.specs.declared.message.Tag.{Tag}
@@ -21,7 +21,7 @@ use Rattle.cm_model.proofs.Leaving.{element_at-map}
 use Rattle.cm_model.proofs.Preferring.{older_itself, not_both_older}
 use Rattle.cm_slots.specs.declared.ticket.Ticket.{Ticket}
 use Rattle.cm_slots.specs.Choice.{is_lower_one, is_lower_or_none, lowest_place, highest_place, exchanged_by_number}
-use Rattle.cm_crossing.specs.Standing.{no_message, message_of, standing, all_standing, AreKept, IsKept}
+use Rattle.cm_crossing.specs.Standing.{message_of, standing, all_standing, AreKept, IsKept}
 use Rattle.cm_crossing.specs.Standing.{tag_at, AreRising}
 use Rattle.cm_crossing.specs.Ranking.{moved_ticket, HaveMoved}
 use Rattle.cm_crossing.specs.Routed.{tickets_crossed}
@@ -53,18 +53,6 @@ rising_more row n inside last was = record { within = omega (arith, inside); eac
     each i j h l =
         ⊎_elim (λ (e : j ≡ n). rw e (newest i (omega (arith, h, e))))
         (λ (e : j ≢ n). was.each i j h (omega (arith, e, l))) (cases_eq j n)
-
-pub rising_kept : (row more : List Message) (n : ℕ) → AreRising row n → AreRising (row ++ more) n
-rising_kept row more n was = record {
-  within = omega (arith, was.within, length-append row more);
-  each = λ i j h l.
-      let here : tag_at (row ++ more) i ≡ tag_at row i =
-      ap (λ (m : Message). m.tag) (get_or_append_left row more no_message i (omega (arith, h, l, was.within))) in
-      let there : tag_at (row ++ more) j ≡ tag_at row j =
-      ap (λ (m : Message). m.tag) (get_or_append_left row more no_message j (omega (arith, l, was.within))) in
-      ap (λ (s : Tag). is_older s (tag_at (row ++ more) j)) here
-      ∙ (ap (λ (t : Tag). is_older (tag_at row i) t) there ∙ was.each i j h l);
-}
 
 -- ---- who goes first and last is told by numbers
 

@@ -116,11 +116,3 @@ ends_here stops report position clock acts count cycles act some inside found co
         let more = one_more acts count act inside found in
         let room = stretch.room in
         omega (arith, more, late, room, counted)
-
--- so many acts are as many as a runner takes
-pub enough : (stops : ℕ → Bool) (report : Bool) (position clock : ℕ) (acts : List Act) (count : ℕ)
-    → 4096 ≤ count → IsLongest stops report position clock acts count
-enough stops report position clock acts count many below short stretch =
-    let few = (is_short (take (count + 1) acts) short).few_acts in
-    let longer : length (take (count + 1) acts) ≡ count + 1 = grind (arith, common_steps) in
-    omega (arith, many, few, longer)

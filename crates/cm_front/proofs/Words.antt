@@ -1,9 +1,8 @@
 -- The words of lines for all processors: no program and no session has them.
-use Rattle.std.proofs.Common.{◌≡◌, ℕ, Bool, true, false, ◌||◌, if◌then◌else◌, Some, Result, Ok, Err}
-use Rattle.std.proofs.Common.{List, [], ◌∷◌, codes, bytes_eq, refl, sym, ap, ◌∙◌, subst, ⊎_elim, IfOk, IfErr, drop}
+use Rattle.std.proofs.Common.{◌≡◌, ℕ, Bool, true, false, ◌||◌, if◌then◌else◌, Some, Ok, Err}
+use Rattle.std.proofs.Common.{List, [], ◌∷◌, codes, bytes_eq, refl, sym, ap, ◌∙◌, subst, ⊎_elim}
 use Rattle.std.proofs.lemmas.Bool.{cases_Bool, false≢true}
 use Rattle.std.proofs.lemmas.Slice.Eq.{bytes_eq-Decides}
-use Rattle.cm_language.specs.declared.fault.AsmKind.{AsmKind}
 use Rattle.cm_language.specs.declared.fault.AsmKind.TheVariants as kind
 use Rattle.cm_session.specs.declared.command.Command.{Command}
 use Rattle.cm_session.specs.declared.command.Refusal.TheVariants.{Word}
@@ -102,41 +101,3 @@ asked_of_all n words it is =
     (λ (e : is_for_all words ≡ false).
     let both : Err kind.Word ≡ Ok it = sym (other_word n words e) ∙ is in absurd (let f = both in cc))
     (cases_Bool (is_for_all words))
-
--- ---- by the first word
-
--- numbers are put
-pub by_put : (n : ℕ) (words : List (List ℕ)) (word : List ℕ) (left : List (List ℕ)) → words ≡ word ∷ left
-    → bytes_eq word (codes "put") ≡ true → asked_of n words ≡ put_of n (drop 1 words)
-by_put n words word left is put =
-    ap (asked_of n) is ∙ ap (λ (b : Bool). if b then put_of n left else bare (asked_by word left)) put
-    ∙ ap (λ (ws : List (List ℕ)). put_of n (drop 1 ws)) (sym is)
-
--- none are
-by_other : (n : ℕ) (words : List (List ℕ)) (word : List ℕ) (left : List (List ℕ)) → words ≡ word ∷ left
-    → bytes_eq word (codes "put") ≡ false → asked_of n words ≡ bare (asked_by word left)
-by_other n words word left is put =
-    ap (asked_of n) is ∙ ap (λ (b : Bool). if b then put_of n left else bare (asked_by word left)) put
-
-bare_is : (asked q : Result Asked AsmKind) (numbers : List ℕ) (all : Result (Asked × List ℕ) AsmKind) → asked ≡ q
-    → all ≡ bare q → numbers ≡ [] → IfOk asked (λ it. all ≡ Ok (it, numbers))
-bare_is (Ok it) q numbers all is so none =
-    so ∙ ap bare (sym is) ∙ ap (λ (xs : List ℕ). Ok (it, xs)) (sym none)
-bare_is (Err k) q numbers all is so none = tt
-
-pub bare_ok : (n : ℕ) (words : List (List ℕ)) (word : List ℕ) (left : List (List ℕ)) (asked : Result Asked AsmKind)
-    (numbers : List ℕ) → words ≡ word ∷ left → bytes_eq word (codes "put") ≡ false → asked ≡ asked_by word left
-    → numbers ≡ [] → IfOk asked (λ it. asked_of n words ≡ Ok (it, numbers))
-bare_ok n words word left asked numbers is put so none =
-    bare_is asked (asked_by word left) numbers (asked_of n words) so (by_other n words word left is put) none
-
-bare_not : (asked q : Result Asked AsmKind) (all : Result (Asked × List ℕ) AsmKind) → asked ≡ q → all ≡ bare q
-    → IfErr asked (λ k. (k ≡ kind.Memory → ⊥) → all ≡ Err k)
-bare_not (Ok it) q all is so = tt
-bare_not (Err k) q all is so = λ other. so ∙ ap bare (sym is)
-
-pub bare_err : (n : ℕ) (words : List (List ℕ)) (word : List ℕ) (left : List (List ℕ)) (asked : Result Asked AsmKind)
-    → words ≡ word ∷ left → bytes_eq word (codes "put") ≡ false → asked ≡ asked_by word left
-    → IfErr asked (λ k. (k ≡ kind.Memory → ⊥) → asked_of n words ≡ Err k)
-bare_err n words word left asked is put so =
-    bare_not asked (asked_by word left) (asked_of n words) so (by_other n words word left is put)

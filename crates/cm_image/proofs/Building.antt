@@ -26,11 +26,6 @@ use Rattle.cm_image.specs.Chips.{blank_at, put_chip}
 
 -- ---- a chip of planes
 
-at_processor : (memory flags : List ℕ) (p : ℕ) → p < 16
-    → processor_at (chip_of memory flags) p ≡ processor_in memory flags p
-unfolding chip_of
-at_processor memory flags p h = get_or-each_below 16 (processor_in memory flags) p no_processor h
-
 pub with_memory_plane-chip_of : (memory flags : List ℕ) (address plane : ℕ)
     → with_memory_plane (chip_of memory flags) address (bit plane) ≡ chip_of (set memory address plane) flags
 unfolding with_memory_plane chip_of
@@ -188,13 +183,6 @@ flags_none n c m flags h blank =
     sym (set-get_or m.chips c [])
     ∙ ap (λ (k : List Processor). set m.chips c k) (blank.chips c (omega arith) h ∙ blank_chip-chip_of) in
     ap (λ (chips : List (List Processor)). record m { chips = chips }) same
-
-pub flags_all : (c f : ℕ) (m : Machine) (flags : List ℕ) → 16 ≤ f → length flags ≡ 16 → f ≤ 16
-    → with_flags c m (flags_below f flags) ≡ with_flags c m flags
-flags_all c f m flags l long most =
-    let none : 16 - f ≡ 0 = omega arith in
-    ap (λ (k : List ℕ). with_flags c m k) (ap (λ (k : ℕ). take f flags ++ replicate k 0) none
-    ∙ (append-nil (take f flags) ∙ take_all f flags (omega (arith, long))))
 
 pub messages_all : (c : ℕ) (m : Machine) (ms : List Message) → c < length m.buffers
     → fold (with_message c) m ms ≡ record m { buffers = set m.buffers c (list_at m.buffers c ++ ms) }

@@ -4,8 +4,7 @@ use Rattle.std.proofs.Common.{take, Result, Err, refl, sym, ap, ◌∙◌, subst
 use Rattle.std.specs.Io.KnownBytes.{Consumes}
 use Rattle.std.proofs.lemmas.List.{length-append, drop-append-le, take-append-le, take_all, length-drop}
 use Rattle.std.proofs.lemmas.List.{length-take-le, drop-take, drop-drop}
-use Rattle.std.proofs.Math.Seq.{take-append-add, paste}
-use Rattle.std.proofs.lemmas.List.Edits.{take-paste}
+use Rattle.std.proofs.Math.Seq.{take-append-add}
 use Rattle.std.specs.Prelude.{is_ok}
 use Rattle.std.specs.Int.{w8}
 use Rattle.cm_model.specs.declared.message.Message.{Message}
@@ -197,14 +196,6 @@ between_keep from to count bytes order within few =
     ∙ (drop-take over count (drop from bytes)
     ∙ (ap (λ (xs : List ℕ). take count xs) (drop-drop over from bytes ∙ ap (λ (k : ℕ). drop k bytes) start)
     ∙ ap (λ (k : ℕ). take k (drop (to - count) bytes)) (sym end)))))
-
--- they come to stand at the front
-pub between_moved : (from to : ℕ) (bytes : List ℕ) → from ≤ to → to ≤ length bytes
-    → between 0 (to - from) (paste bytes 0 (drop from bytes) (to - from)) ≡ between from to bytes
-between_moved from to bytes order within =
-    let all : to - from - 0 ≡ 0 + (to - from) = omega arith in
-    ap (λ (k : ℕ). take k (paste bytes 0 (drop from bytes) (to - from))) all
-    ∙ take-paste bytes 0 (drop from bytes) (to - from) (omega arith) (omega (arith, length-drop from bytes, within))
 
 -- more bytes are written behind them
 between_more : (from to count : ℕ) (bytes written : List ℕ) → from ≤ to → to ≤ length bytes

@@ -106,10 +106,6 @@ counted_more chip n count more plane is told same =
       length-append (planes_below chip n) (cond (not (memory_plane_of chip n == 0)) (plane_entry chip n ∷ []) []),
     )
 
-pub listed_none : (chip : List Processor) (text : List ℕ) → text ≡ text ++ listed_below chip 0
-unfolding listed_below planes_below each_from
-listed_none chip text = sym (append-nil text)
-
 one_listed : (b : Bool) (e : Listed)
     → flat_map listed_text (cond (not b) (e ∷ []) []) ≡ (if b then [] else listed_text e)
 one_listed true e = refl

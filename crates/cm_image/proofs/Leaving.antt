@@ -19,14 +19,6 @@ use Rattle.cm_image.proofs.Dumping.{image_at, made_more, chips_none, chips_more,
 pub goes_none : (held : Option (List ℕ)) (bytes : List ℕ) → GoesOut held held bytes bytes
 goes_none held bytes = record { out = []; went = Appends-nil held; is = refl }
 
-pub goes_all : (held holds : Option (List ℕ)) (bytes left : List ℕ) → Appends held holds bytes → left ≡ []
-    → GoesOut held holds bytes left
-goes_all held holds bytes left went none = record {
-  out = bytes;
-  went = went;
-  is = sym (append-nil bytes) ∙ ap (λ (xs : List ℕ). bytes ++ xs) (sym none);
-}
-
 pub goes_to : (held holds : Option (List ℕ)) (bytes : List ℕ) (count : ℕ) → Appends held holds (take count bytes)
     → GoesOutInPart held holds bytes
 goes_to held holds bytes count went = record {

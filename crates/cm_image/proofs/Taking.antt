@@ -76,14 +76,6 @@ pub record IsListing (c count i least : ℕ) (machine : Machine) (rest : List �
 few : (count : ℕ) → count ≤ 4096 → must Count (λ k. nat_le k 4096) count ≡ None
 few count h = rw (le-leb count 4096 h) refl
 
-pub memory_start : (c count : ℕ) (machine : Machine) (rest : List ℕ) → IsListing c count 0 0 machine rest machine rest
-memory_start c count machine rest = record {
-  same = let all : count - 0 ≡ count = omega arith in
-      ap (λ (k : ℕ). fill next_address listed_part (with_listed c) k 0 machine rest) all;
-  buffers = refl;
-  clock = refl;
-}
-
 pub memory_on : (c count i least at plane : ℕ) (machine after_one first : Machine) (rest after bytes : List ℕ)
     → i < count → IsListing c count i least machine rest first bytes
     → listed_part least rest ≡ Ok (record { at = at; plane = plane }, after)
@@ -128,17 +120,6 @@ pub record IsStanding (n c clock count i : ℕ) (machine : Machine) (rest : List
 
 pub no_more : (cap count : ℕ) → count ≤ cap → must Count (λ k. nat_le k cap) count ≡ None
 no_more cap count h = rw (le-leb count cap h) refl
-
-pub messages_start : (n c clock count : ℕ) (machine : Machine) (rest : List ℕ) → length machine.buffers ≡ 2 ^ n
-    → list_at machine.buffers c ≡ [] → machine.clock ≡ clock
-    → IsStanding n c clock count 0 machine rest machine rest
-messages_start n c clock count machine rest long none time = record {
-  same = let all : count - 0 ≡ count = omega arith in
-      ap (λ (k : ℕ). fill same_place (λ j. message_part n clock) (with_message c) k 0 machine rest) all;
-  buffer_count = long;
-  standing = ap length none;
-  counter = time;
-}
 
 pub messages_on : (n c clock count i : ℕ) (m : Message) (machine after_one first : Machine)
     (rest after bytes : List ℕ) → c < 2 ^ n → i < count → IsStanding n c clock count i machine rest first bytes

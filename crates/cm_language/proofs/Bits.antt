@@ -18,10 +18,6 @@ pub length-reads : (m : List Bool) (a n : ℕ) → length (reads m a n) ≡ n
 length-reads m a zero = refl
 length-reads m a (suc n) = ap suc (length-reads m (a + 1) n)
 
-pub length-writes : (m : List Bool) (a : ℕ) (bs : List Bool) → length (writes m a bs) ≡ length m
-length-writes m a [] = refl
-length-writes m a (b ∷ bs) = length-writes (set m a b) (a + 1) bs ∙ length-set m a b
-
 -- a bit outside is not read
 pub reads-set : (m : List Bool) (k : ℕ) (b : Bool) (a n : ℕ) → (k < a) ⊎ (a + n ≤ k)
     → reads (set m k b) a n ≡ reads m a n

@@ -47,9 +47,6 @@ rounds_so_far f n =
     ap (flat_map f) (range_more n) ∙ flat_map-append f (range_with_len 0 n) (n ∷ [])
     ∙ ap (λ rest. flat_map f (range_with_len 0 n) ++ rest) (append-nil (f n))
 
-pub rounds_none : (xs : List Act) → xs ≡ xs ++ []
-rounds_none xs = sym (append-nil xs)
-
 pub rounds_more : (xs ys zs : List Act) (n : ℕ) (f : ℕ → List Nano)
     → ys ≡ xs ++ map act.Nano (flat_map f (range_with_len 0 n)) → zs ≡ ys ++ map act.Nano (f n)
     → zs ≡ xs ++ map act.Nano (flat_map f (range_with_len 0 (n + 1)))

@@ -1,10 +1,9 @@
 -- Sorting by since: what a filter, an append, a first and a last make of it.
-use Rattle.std.proofs.Common.{◌≡◌, ◌+◌, Bool, true, false, cond, List, [], ◌∷◌, ◌++◌, length, Option, Some, None, refl}
+use Rattle.std.proofs.Common.{◌≡◌, ◌+◌, Bool, true, false, List, [], ◌∷◌, ◌++◌, length, Option, Some, None, refl}
 use Rattle.std.proofs.Common.{sym, ◌∙◌, ap, ⊎_elim, arith}
 use Rattle.std.proofs.lemmas.Bool.{cases_Bool}
 use Rattle.std.proofs.lemmas.Bool.Decides.{nat_tests}
-use Rattle.std.proofs.lemmas.List.Sums.{sum_by-cons}
-use Rattle.std.specs.List.{filter, count_by}
+use Rattle.std.specs.List.{filter}
 use Rattle.cm_model.specs.Router.{Since, Standing, is_before, same_since, ahead, foremost, behind, hindmost}
 use Rattle.cm_model.specs.declared.rule.Rule.TheVariants.{First}
 use Rattle.cm_model.specs.Order.{put, in_order}
@@ -223,18 +222,3 @@ length-put r (x ∷ xs) =
 pub length-in_order : (xs : List Standing) → length (in_order xs) ≡ length xs
 length-in_order [] = refl
 length-in_order (x ∷ xs) = length-put x (in_order xs) ∙ (let ih = length-in_order xs in omega arith)
-
-pub count_by-put : (p : Standing → Bool) (r : Standing) (xs : List Standing)
-    → count_by p (put r xs) ≡ cond (p r) 1 0 + count_by p xs
-count_by-put p r [] = sum_by-cons (λ x. cond (p x) 1 0) r []
-count_by-put p r (x ∷ xs) =
-    let one = sum_by-cons (λ x. cond (p x) 1 0) in
-    ⊎_elim (λ (e : is_before x.since r.since ≡ true). rw e
-    (omega (arith, one x (put r xs), one x xs, count_by-put p r xs)))
-    (λ (e : is_before x.since r.since ≡ false). rw e (one r (x ∷ xs))) (cases_Bool (is_before x.since r.since))
-
-pub count_by-in_order : (p : Standing → Bool) (xs : List Standing) → count_by p (in_order xs) ≡ count_by p xs
-count_by-in_order p [] = refl
-count_by-in_order p (x ∷ xs) =
-    count_by-put p x (in_order xs)
-    ∙ (ap (λ k. cond (p x) 1 0 + k) (count_by-in_order p xs) ∙ sym (sum_by-cons (λ x. cond (p x) 1 0) x xs))

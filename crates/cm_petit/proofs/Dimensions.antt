@@ -1,5 +1,5 @@
 -- A dimension at a run of chips that begins at any chip, within it and each half by itself; and at nodes, pair by pair.
-use Rattle.std.proofs.Common.{◌≡◌, ℕ, ◌+◌, ◌-◌, ◌*◌, ◌/◌, ◌%◌, ◌^◌, ◌<◌, Bool, true, List, [], length, map, get_or}
+use Rattle.std.proofs.Common.{◌≡◌, ℕ, ◌+◌, ◌-◌, ◌*◌, ◌/◌, ◌%◌, ◌^◌, ◌<◌, Bool, true, List, [], length}
 use Rattle.std.proofs.Common.{refl, sym, ap, ◌∙◌, arith, ◌≢◌, ◌≤◌, min}
 use Rattle.std.specs.Prelude.{bit_xor}
 use Rattle.std.specs.Int.Bits.{xor_zero_r, xor_self}
@@ -22,13 +22,6 @@ use Rattle.cm_blocks.specs.Steps.{mail_for}
 use Rattle.cm_router.specs.Buffer.{Buffer, buffers_of}
 use Rattle.cm_petit.proofs.Making.{row_is}
 use Rattle.cm_petit.specs.Nodes.{no_node, node_at, exchanged}
-
--- what is made of each element is made by its number, wherever numbers begin
-pub mapped_from : {X Y : Type 0} (g : X → Y) (d : X) (e : Y) (first count : ℕ) (xs : List X) → length xs ≡ count
-    → map g xs ≡ each_from first count (λ c. g (get_or xs (c - first) d))
-mapped_from g d e first count xs long =
-    row_is e first count (λ c i. g (get_or xs i d)) (map g xs) (length-map xs g ∙ long)
-    (λ i h. get_or-map g xs i d e (omega (arith, long)))
 
 -- the same, of what a function of the place makes
 pub each_shifted : {X : Type 0} (d : X) (first count : ℕ) (f : ℕ → X) (g : ℕ → ℕ → X)

@@ -1,7 +1,6 @@
 -- The oldest and the youngest message of a buffer, gone through from behind.
 use Rattle.std.proofs.Common.{◌≡◌, ℕ, zero, suc, ◌+◌, ◌<◌, ◌≤◌, Bool, cond, not, ◌&&◌, List, [], ◌∷◌, length, drop, get_or}
 use Rattle.std.proofs.Common.{Option, Some, None, refl, sym, ◌∙◌, ap, arith, true, false}
-use Rattle.std.proofs.lemmas.List.{drop_all}
 use Rattle.std.proofs.Math.Seq.{drop-cons}
 use Rattle.std.specs.List.{slice_get}
 use Rattle.cm_model.specs.declared.message.Message.{Message}
@@ -63,12 +62,6 @@ youngest-more ms i m l e =
 pub whole : (o : Option ℕ) → place_behind 0 o ≡ o
 whole None = refl
 whole (Some k) = ap (λ (j : ℕ). Some j) (omega arith)
-
-pub oldest-none : (d : ℕ) (ms : List Message) (i : ℕ) → length ms ≤ i → oldest_from d ms i ≡ None
-oldest-none d ms i l = rw (drop_all i ms l) refl
-
-pub youngest-none : (ms : List Message) (i : ℕ) → length ms ≤ i → youngest_from ms i ≡ None
-youngest-none ms i l = rw (drop_all i ms l) refl
 
 -- the same by the answers of the tests
 pub oldest-found : (d : ℕ) (ms : List Message) (i : ℕ) (m : Message) (behind : Option ℕ) → i < length ms

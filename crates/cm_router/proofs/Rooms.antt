@@ -1,18 +1,13 @@
 -- How many events more logs take, as some of it is used.
-use Rattle.std.proofs.Common.{◌≡◌, ◌≢◌, ℕ, ◌+◌, ◌<◌, ◌≤◌, List, length, set, get_or, refl, arith}
+use Rattle.std.proofs.Common.{◌≡◌, ◌≢◌, ℕ, ◌+◌, ◌<◌, ◌≤◌, List, length, set, refl, arith}
 use Rattle.std.proofs.Common.{get_or-set_same, get_or-set_other}
 use Rattle.std.specs.Prelude.{slice_index}
-use Rattle.std.proofs.lemmas.List.{length-map, map-set, get_or-map}
+use Rattle.std.proofs.lemmas.List.{length-map, map-set}
 use Rattle.cm_router.specs.Logs.{Log, log_room, log_rooms_of, HaveLogRoom, LoseAtMost}
 
 -- how many the log of a chip takes
 abbrev pub room_at : List Log → ℕ → ℕ
 room_at logs c = slice_index (log_rooms_of logs) c
-
--- of the log that was read, of the one that was written, and of the others
-pub room_read : (logs : List Log) (i : ℕ) (log : Log) → i < length logs → log ≡ get_or logs i log
-    → room_at logs i ≡ log_room log
-room_read logs i log inside read = cc (get_or-map log_room logs i log 0 inside)
 
 pub room_written : (logs : List Log) (i : ℕ) (log : Log) → i < length logs → room_at (set logs i log) i ≡ log_room log
 room_written logs i log inside =
@@ -25,12 +20,6 @@ room_of_others logs i k log other = rw (map-set log_room logs i log, get_or-set_
 -- logs that are left alone lose nothing
 pub lost_nothing : (count : ℕ) (rooms : List ℕ) → LoseAtMost count rooms rooms
 lost_nothing count rooms = record { same = refl; few = λ i l. omega arith }
-
--- what is lost adds up
-pub lost_again : (most more all : ℕ) (first second third : List ℕ) → most + more ≡ all → LoseAtMost most first second
-    → LoseAtMost more second third → LoseAtMost all first third
-lost_again most more all first second third whole was is =
-    record { same = cc; few = λ i l. grind (arith, was.few i, is.few i) }
 
 -- the room that is left
 pub room_left : (most more all : ℕ) (old new : List ℕ) → most + more ≡ all → HaveLogRoom all old

@@ -91,10 +91,6 @@ pub next_is : (found : Option ℕ) (number : ℕ) (old new : List ℕ) → IfSom
 next_is None number old new is h = tt
 next_is (Some p) number old new is h = rw is h
 
--- where none asks, none is left
-pub none_asking : (left : ℕ) → take left (filter (bit 0) (range_with_len 0 16)) ≡ []
-none_asking left = rw (none_of (bit 0) 0 16 (λ p l. bit-zero p)) (take-nil left)
-
 -- where nobody asks nobody is taken
 pub nobody_taken : (room standing : ℕ) (chip : List Processor) → ((p : ℕ) → p < 16 → asks chip p ≡ false)
     → senders_taken room standing chip ≡ []

@@ -32,12 +32,6 @@ in_three n cap machine first middle last =
     run_of-append n cap machine first (middle ++ last)
     ∙ run_of-append n cap (run_of n cap machine first) middle last
 
--- no acts stand between a place and itself
-none_between : (at : ℕ) (acts : List Act) → acts_between at at acts ≡ []
-none_between at acts =
-    let none : at - at ≡ 0 = omega arith in
-    ap (λ k. take k (drop at acts)) none
-
 run_does_macro : (n cap : ℕ) (acts : List Act) (before after : Session) (at : ℕ) (m : Macro) (context : Context)
     → IsMachine n cap before.machine → HasRun n cap acts before after → StandsAt acts at m context
     → before.position ≤ at → at + length (acts_of m context) ≤ after.position

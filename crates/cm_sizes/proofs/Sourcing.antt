@@ -111,9 +111,6 @@ stopped_so most a c P Q source.TooMuch so stopped = stopped
 stopped_so most a c P Q (source.Image own) so stopped =
     (stopped.0, λ other. rest_so most a c (P own) (Q own) (so own) (stopped.1 other))
 
-same_image : {a b : ImageFault} → a ≡ b → Image a ≡ Image b
-same_image same = ap (λ f. Image f) same
-
 same_fault : {a b : ImageFault} → Image a ≡ Image b → a ≡ b
 same_fault {a} {b} h = let same : Image a ≡ Image b = h in cc
 

@@ -74,9 +74,6 @@ queues_over-both x y q inside =
     ∙ ap (λ (n : ℕ). each_from 0 n (λ c. map (ticket_over y) (list_at (queues_over x q) (bit_xor c y))))
     (sym (length-over x q))
 
-pub none_movable : (q : List (List Ticket)) → AreMovable 0 q
-none_movable q = record { inside = λ c h. rw (xor_zero_r c) h; few = λ some. absurd (some refl) }
-
 -- as many stand at each chip as at that where its tickets come from
 module _ (dims room : ℕ) (q : List (List Ticket)) (inside : (c : ℕ) → c < length q → bit_xor c dims < length q) where
   pub over_within : All (λ ts. length ts ≤ room) q → All (λ ts. length ts ≤ room) (queues_over dims q)

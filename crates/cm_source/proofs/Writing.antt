@@ -6,32 +6,12 @@ use Rattle.std.specs.Option.{option_map}
 use Rattle.std.proofs.lemmas.Option.{slice_get-map, slice_get_read, slice_get_past}
 use Rattle.std.proofs.lemmas.List.{drop_more, drop_all}
 use Rattle.cm_bits.specs.Text.{lines_of}
-use Rattle.cm_language.specs.declared.fault.AsmKind.{AsmKind}
 use Rattle.cm_language.specs.declared.fault.AsmKind.TheVariants as kind
-use Rattle.cm_language.specs.Program.{Reading, IsLineFault}
 use Rattle.cm_source.specs.declared.fault.SourceKind.{SourceKind}
-use Rattle.cm_source.specs.declared.fault.SourceKind.TheVariants.{Asm}
 use Rattle.cm_source.specs.declared.fault.SourceFault.{SourceFault}
 use Rattle.cm_source.specs.Layout.{NamedNumber, Layout, unless_faulty, layout_of}
 use Rattle.cm_source.specs.Expansion.{Expansion, nothing_out, after_place_of, after_places, carried_out, expanded, text_of}
 use Rattle.cm_source.specs.Expansion.{expansion_of}
-
--- a line's own fault is that of the language
-pub own_fault : (before : Reading) (read : Result Reading AsmKind) (k : AsmKind) → IsLineFault before read k
-    → (Asm k ≡ Asm kind.Memory → ⊥) → read ≡ Err k
-own_fault before read kind.Memory h other = absurd (other refl)
-own_fault before read kind.Width h other = h
-own_fault before read kind.Range h other = h
-own_fault before read kind.Overlap h other = h
-own_fault before read kind.Lengths h other = h
-own_fault before read kind.Scratch h other = h
-own_fault before read kind.Context h other = h
-own_fault before read kind.Word h other = h
-own_fault before read kind.Operands h other = h
-own_fault before read kind.Number h other = h
-own_fault before read kind.Name h other = h
-own_fault before read kind.Twice h other = h
-own_fault before read kind.TooLong h other = h
 
 -- one line more
 pub one_place : (lines : List (List ℕ)) (constants : List NamedNumber) (out : Expansion) (place : ℕ) (places : List ℕ)

@@ -3,12 +3,12 @@ use Rattle.std.proofs.Common.{◌≡◌, ℕ, ◌+◌, ◌≤◌, List, [], ◌+
 use Rattle.std.proofs.Common.{Option, ap, ◌∙◌, sym, subst, arith, append-nil, length-append}
 use Rattle.std.proofs.lemmas.Grind.{common_steps}
 use Rattle.std.proofs.Math.Seq.{take-append-add}
-use Rattle.std.proofs.KnownBytes.{Appends-trans, Appends-nil}
+use Rattle.std.proofs.KnownBytes.{Appends-trans}
 use Rattle.std.specs.Io.KnownBytes.{Appends}
 use Rattle.cm_steps.specs.declared.fault.WeaveFault.{WeaveFault}
 use Rattle.cm_steps.specs.declared.fault.WeaveFault.TheVariants.{Read, Write, TooMuch, Memory, Unfinished}
 use Rattle.cm_steps.specs.Ends.{IsCutBy}
-use Rattle.cm_steps.specs.Hearing.{BreaksOff, HasGone}
+use Rattle.cm_steps.specs.Hearing.{BreaksOff}
 
 front_of : (front rest : List ℕ) (count : ℕ) → count ≤ length front → take count (front ++ rest) ≡ take count front
 front_of front rest count within = grind (arith, common_steps)
@@ -41,13 +41,3 @@ cut_text whole gone text more held holds on sent Memory wrote long is none =
 cut_text whole gone text more held holds on sent Read wrote long is none = absurd none
 cut_text whole gone text more held holds on sent TooMuch wrote long is none = absurd none
 cut_text whole gone text more held holds on sent Unfinished wrote long is none = absurd none
-
--- a text of which nothing went out is kept
-pub none_gone : (text rest : List ℕ) (sent : ℕ) (held : Option (List ℕ)) → rest ≡ text
-    → HasGone text sent held held rest sent
-none_gone text rest sent held is = record {
-  gone = [];
-  written = Appends-nil held;
-  text_is = sym is;
-  count_is = omega arith;
-}

@@ -127,18 +127,3 @@ cycle_goes_through n k none =
           ∙ ap (λ (z : ℕ). Inject ∷ (map Cross (range_with_len 0 z) ++ Deliver ∷ [])) (sym all);
       through = through;
     }
-
--- ---- behind a round over a dimension
-
--- another round comes, or the act is at its end
-pub behind_stops : (n k d : ℕ) → n - k ≤ d → d + 1 < n
-    → (until_round n k (map Cross (range_with_len (d + 1) (n - d - 1)) ++ Deliver ∷ []) ≡ [])
-    × (is_through n k (map Cross (range_with_len (d + 1) (n - d - 1)) ++ Deliver ∷ []) ≡ false)
-behind_stops n k d from below =
-    crossings_high n k (d + 1) (n - d - 1) (Deliver ∷ []) (omega (arith, from)) (omega (arith, below))
-
-pub behind_ends : (n d : ℕ) → d < n → n ≤ d + 1
-    → map Cross (range_with_len (d + 1) (n - d - 1)) ++ Deliver ∷ [] ≡ Deliver ∷ []
-behind_ends n d below last =
-    ap (λ (z : ℕ). map Cross (range_with_len (d + 1) z) ++ Deliver ∷ [])
-    (let e : n - d - 1 ≡ 0 = omega (arith, below, last) in e)

@@ -7,8 +7,7 @@ use Rattle.std.specs.Prelude.{nat_lt, if◌then◌else◌}
 use Rattle.std.specs.List.{All, filter, range_with_len}
 use Rattle.std.proofs.lemmas.Bool.{cases_eq, cases_lt}
 use Rattle.std.proofs.lemmas.List.{length-map, length-append, length-set, get_or-map}
-use Rattle.std.proofs.lemmas.List.{get_or-replicate, get_or-set_same, get_or-set_other, get_or_append_left}
-use Rattle.std.proofs.lemmas.List.{get_or-append_right}
+use Rattle.std.proofs.lemmas.List.{get_or-replicate, get_or-set_same, get_or-set_other}
 use Rattle.std.proofs.lemmas.List.Elements.{All-get_or}
 use Rattle.std.proofs.lemmas.List.FromFn.{length-map-range_with_len}
 use Rattle.cm_model.specs.declared.act.Act.{Act}
@@ -37,7 +36,7 @@ use Rattle.cm_exchange.specs.Lanes.{exchange_of, kind_count}
 use Rattle.cm_exchange.specs.Worlds.{at_first, unused, first_world}
 use Rattle.cm_weave.specs.declared.lane.Lane.{Lane}
 use Rattle.cm_weave.specs.declared.first.Begun.{Begun}
-use Rattle.cm_weave.specs.First.{IsCut, HasBegun, AreBeginning, IsUnused, AreUnused, IsBegun}
+use Rattle.cm_weave.specs.First.{IsCut, HasBegun, AreBeginning, AreUnused, IsBegun}
 use Rattle.cm_weave.specs.Parts.{part_at}
 use Rattle.cm_weave.specs.Woven.{lane_seen, world_seen, StandsThere, AreWoven}
 use Rattle.cm_weave.proofs.Clocks.{clock_after_all}
@@ -189,25 +188,6 @@ one_more_begun n cap k b machine acts blocks d new l were gone = record {
       (cases_lt c b)
 
 -- ---- lanes that were not used
-
-pub one_more_unused : (n k count : ℕ) (lanes : List Lane) (lane : Lane) → AreUnused n k count lanes
-    → IsUnused n k count lane → AreUnused n k (count + 1) (lanes ++ lane ∷ [])
-one_more_unused n k count lanes lane were is = record {
-  len = length-append lanes (lane ∷ []) ∙ (let e = were.len in omega (arith, e));
-  each = λ i d l. ⊎_elim
-      (λ (less : i < length lanes).
-      subst (IsUnused n k i) (sym (get_or_append_left lanes (lane ∷ []) d i less)) (were.each i d less))
-      (λ (least : length lanes ≤ i).
-      let all = length-append lanes (lane ∷ []) in
-      let len = were.len in
-      let last : i ≡ count = omega (arith, l, least, all, len) in
-      let at : get_or (lanes ++ lane ∷ []) i d ≡ lane =
-      get_or-append_right lanes (lane ∷ []) (length lanes) i d refl least
-      ∙ ap (λ (z : ℕ). get_or (lane ∷ []) z d) (let zeroth : i - length lanes ≡ 0 = omega (arith, last, len) in
-      zeroth) in
-      subst (IsUnused n k i) (sym at) (subst (λ (z : ℕ). IsUnused n k z lane) (sym last) is))
-      (cases_lt i (length lanes));
-}
 
 seen_unused : (lane : Lane) → lane.word ≡ 0 → lane_seen lane ≡ unused
 seen_unused lane e = λ i. record { word = e i; parcel = none i } where

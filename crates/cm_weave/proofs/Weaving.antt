@@ -85,9 +85,6 @@ from_two word count rest e l m = omega (arith, e, l, m)
 is_below_two : (x : ℕ) → x < 2 → nat_lt x 2 ≡ true
 is_below_two x h = grind (arith, nat_tests)
 
-is_from_two : (x : ℕ) → 2 ≤ x → nat_lt x 2 ≡ false
-is_from_two x h = grind (arith, nat_tests)
-
 some_same : {X : Type 0} (x y : X) → Some x ≡ Some y → x ≡ y
 some_same {X} x y e = ap or_else e where
   or_else : Option X → X
