@@ -1,5 +1,6 @@
-//! Random machines beside the plain program of the router, with whole and with cut wires, by either rule: petit cycles, with
-//! instructions between them, leave the same bits, flags, buffers and logs, and every message is found where it is.
+//! Random machines beside the plain program of the router, with whole and with cut wires, by either rule: petit cycles,
+//! with instructions between them, leave the same bits, flags, buffers and logs, and every message is found where it
+//! is.
 
 ghost use Rattle.std.specs.Prelude.{◌≡◌, ◌<◌, ◌≤◌, ◌^◌};
 

@@ -10,8 +10,8 @@ use std::alloc::Global;
 
 const LAST: u64 = u64::MAX >> 1;
 
-/// A machine of so many chips with bits, flags and messages at each, of which one in two goes by the second rule and one in
-/// two has cut wires; in one of four the counter of petit cycles is near its end.
+/// A machine of so many chips with bits, flags and messages at each, of which one in two goes by the second rule and
+/// one in two has cut wires; in one of four the counter of petit cycles is near its end.
 pub(crate) fn machine<const N: usize, const CAP: usize>(
     alloc: Global,
     draws: &mut Draws,

@@ -1,5 +1,5 @@
-//! Drawn debugger sessions beside a plain program, the order of their reads and writes, and growths that are refused in one;
-//! it has no code of its own.
+//! Drawn debugger sessions beside a plain program, the order of their reads and writes, and growths that are refused in
+//! one; it has no code of its own.
 #![tactic(auto)]
 
 #[cfg(test)]

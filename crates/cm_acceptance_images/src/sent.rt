@@ -23,8 +23,8 @@ fn sent<const N: usize, const CAP: usize>(
     Some(dump_into(machine, room, sink))
 }
 
-/// Whether a sink with room for so many bytes has taken as many of these, and all were asked of it, or else a failed write
-/// was told.
+/// Whether a sink with room for so many bytes has taken as many of these, and all were asked of it, or else a failed
+/// write was told.
 fn is_sent<const N: usize, const CAP: usize>(
     alloc: Global,
     machine: &Machine<N, CAP>,

@@ -298,8 +298,8 @@ fn wants_memory(fault: FrontFault) -> bool {
     )
 }
 
-/// Whether all lines are answered; or else want of memory is told behind a front of the answers, and they are when they are
-/// sent again.
+/// Whether all lines are answered; or else want of memory is told behind a front of the answers, and they are when they
+/// are sent again.
 fn is_answered(alloc: Global, talk: &Talk) -> Option<bool> {
     let told = talk.told.as_bytes();
     let (fault, sink) = answered(alloc, talk.sent)?;

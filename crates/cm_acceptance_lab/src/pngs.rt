@@ -1,5 +1,5 @@
-//! Pictures as PNG beside the bytes that a program in another language made, by the checksums of its library: of one bit
-//! with and without a rest of eight, of one byte in proportion and as they are, of two bytes.
+//! Pictures as PNG beside the bytes that a program in another language made, by the checksums of its library: of one
+//! bit with and without a rest of eight, of one byte in proportion and as they are, of two bytes.
 
 use cm_lab::{Format, Picture, write_in};
 use std::alloc::Global;

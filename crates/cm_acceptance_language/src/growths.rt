@@ -1,5 +1,5 @@
-//! Growths of memory that are refused: while a macro is expanded, while a program text is read or listed, and while its acts
-//! run.
+//! Growths of memory that are refused: while a macro is expanded, while a program text is read or listed, and while its
+//! acts run.
 
 use cm_array::{Machine, Plain, RunFault, Runner};
 use cm_asm::{AsmFault, AsmKind, Program, assemble};

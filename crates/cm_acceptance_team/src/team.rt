@@ -16,8 +16,9 @@ use std::sync::Wait;
 use std::thread;
 use std::thread::Threads;
 
-/// A machine that is cut into 2^`k` blocks goes through acts by so many workers, or stays as it was where memory is wanting.
-/// Each needs a thread of its own: where none can be had its worker begins once another is done, which may wait for it.
+/// A machine that is cut into 2^`k` blocks goes through acts by so many workers, or stays as it was where memory is
+/// wanting. Each needs a thread of its own: where none can be had its worker begins once another is done, which may
+/// wait for it.
 pub fn run_by_team<const N: usize, const CAP: usize, R: Threads + Wait + Sync>(
     rt: &R,
     alloc: Global,

@@ -33,8 +33,8 @@ impl<const N: usize, const CAP: usize> Both<N, CAP> {
         Some(Both { world, plain })
     }
 
-    /// Whether the same step comes by itself, and a step is answered as in the plain world; and the world has no machine
-    /// before that.
+    /// Whether the same step comes by itself, and a step is answered as in the plain world; and the world has no
+    /// machine before that.
     fn goes_alike(&mut self, step: Step) -> bool {
         !self.world.finish()
             && self.world.next() == self.plain.next()

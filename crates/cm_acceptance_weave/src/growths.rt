@@ -42,8 +42,8 @@ fn asked(alloc: Global) -> Option<Vec<Machine<4, 7>>> {
     Some(machines)
 }
 
-/// Whether there is a world of two blocks for a petit cycle of such a machine; or else want of memory is told, the machine
-/// comes back as it was, and there is a world of it then. None where memory is wanting beside it.
+/// Whether there is a world of two blocks for a petit cycle of such a machine; or else want of memory is told, the
+/// machine comes back as it was, and there is a world of it then. None where memory is wanting beside it.
 fn is_made_or_comes_back(alloc: Global) -> Option<bool> {
     let machines = asked(alloc)?;
     let machine = machines.first()?;
@@ -95,7 +95,8 @@ fn woven(alloc: Global, own: bool) -> Option<(Option<WeaveFault>, Room)> {
     Some((fault, sink))
 }
 
-/// Whether it writes these answers; or else tells want of memory behind a front of them, and does when it is asked again.
+/// Whether it writes these answers; or else tells want of memory behind a front of them, and does when it is asked
+/// again.
 fn is_woven(alloc: Global, own: bool, answers: &[u8]) -> Option<bool> {
     let (fault, sink) = woven(alloc, own)?;
     let Some(fault) = fault else {

@@ -1,4 +1,5 @@
-//! In which order a session of steps reads and writes: what was answered goes out before more is asked for, and at once.
+//! In which order a session of steps reads and writes: what was answered goes out before more is asked for, and at
+//! once.
 
 ghost use Rattle.std.specs.Prelude.{None, false};
 
@@ -70,8 +71,8 @@ impl<'a> Sink for Counting<'a> {
     }
 }
 
-/// Of two chips in a petit cycle, a block each: the parts that are read, in how many calls their answers and the last line
-/// are written, and whether the exchange is finished then.
+/// Of two chips in a petit cycle, a block each: the parts that are read, in how many calls their answers and the last
+/// line are written, and whether the exchange is finished then.
 static ORDERS: [(&[Part], usize, bool); 4] = [
     // at a terminal: an answer stands before the next line is asked for
     (&[(b"grip 0\n", 0), (b"draw 0\n", 3), (b"", 8)], 3, false),

@@ -8,8 +8,8 @@ use cm_weave::{World, WorldFault};
 use std::alloc::Global;
 use std::test::Fail;
 
-/// A machine of sixteen chips that stands at a count of petit cycles, so many acts of which it is to go through, and into
-/// 2^k blocks; with what is refused.
+/// A machine of sixteen chips that stands at a count of petit cycles, so many acts of which it is to go through, and
+/// into 2^k blocks; with what is refused.
 static WORLDS: [(u64, usize, u8, Option<WorldFault>); 7] = [
     (0, 65, 3, Some(WorldFault::Long)),
     (u64::MAX >> 1, 65, 0, Some(WorldFault::Long)),

@@ -147,8 +147,8 @@ impl<const N: usize, const CAP: usize> Builder<N, CAP> {
         self.run.poke_flag_plane(chip, number, plane);
     }
 
-    /// Puts the planes of so many chips into the chips from `first` on. They lie chip by chip: those of memory `PITCH` words
-    /// of cm_element apart, sixteen of flags.
+    /// Puts the planes of so many chips into the chips from `first` on. They lie chip by chip: those of memory `PITCH`
+    /// words of cm_element apart, sixteen of flags.
     pub fn chips(&mut self, first: u16, memory: &[Plane], flags: &[Plane], count: u16)
         requires chips { first + count ≤ 2 ^ N }
         requires memory { count * 4128 ≤ length memory.now }

@@ -7,7 +7,8 @@ pub fn logs_are_never_read()
     ensures { LogsAreNeverRead }
 {}
 
-/// A run tells at most four events of a chip, and one for each message that its router has room for, in each petit cycle.
+/// A run tells at most four events of a chip, and one for each message that its router has room for, in each petit
+/// cycle.
 pub fn few_events_are_told()
     ensures { FewEventsAreTold }
 {}

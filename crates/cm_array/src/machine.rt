@@ -200,8 +200,8 @@ impl<const N: usize, const CAP: usize> Machine<N, CAP> {
         self.part_in(alloc, first, count, cycles, None)
     }
 
-    /// The same in the room of a part that is not needed any more, if it has as many chips: then memory is taken for the
-    /// logs alone, as far as they have to grow.
+    /// The same in the room of a part that is not needed any more, if it has as many chips: then memory is taken for
+    /// the logs alone, as far as they have to grow.
     pub fn part_in(
         &self,
         alloc: Global,
@@ -400,8 +400,8 @@ impl<const N: usize, const CAP: usize> Machine<N, CAP> {
         Log::of(chip, &self.parts.logs[usize::from(chip)], &self.parts.row)
     }
 
-    /// Deals events that lie in one row out to the logs of their chips, as far as memory is not refused. Who looks at logs
-    /// and has them dealt out before finds each whole (`Log::whole`).
+    /// Deals events that lie in one row out to the logs of their chips, as far as memory is not refused. Who looks at
+    /// logs and has them dealt out before finds each whole (`Log::whole`).
     pub fn deal_out(&mut self) -> Result<(), NoMemory>
         ensures machine { self.new.machine ≡ self.old.machine }
     {

@@ -34,8 +34,8 @@ impl IntoPart for Part {
     }
 }
 
-/// Puts one part into the place of the chips from `at` on, at which no messages stand, and tells where it ends. The part has
-/// the logs that were there then.
+/// Puts one part into the place of the chips from `at` on, at which no messages stand, and tells where it ends. The
+/// part has the logs that were there then.
 pub(crate) fn put_one(parts: &mut Parts, at: usize, piece: &mut Part) -> usize
     requires chips { at + length piece.old.part.chips ≤ length parts.old.run }
     requires buffers { length parts.old.crossing.buffers ≡ length parts.old.run }

@@ -62,8 +62,8 @@ fn lay<T: Drop>(alloc: Global, blank: T) -> Result<(LaneTable<T>, LaneSeat<T>), 
     }
 }
 
-/// Makes the one seat the sender's, and answers the receiver's. The caller picks the list `D.due`, so that no type of an
-/// end names the plan.
+/// Makes the one seat the sender's, and answers the receiver's. The caller picks the list `D.due`, so that no type of
+/// an end names the plan.
 fn deal<T: Drop, P: Plan<T>, D: Due<T>>(
     table: &LaneTable<T>,
     seat: &mut LaneSeat<T>,

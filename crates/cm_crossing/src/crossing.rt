@@ -39,8 +39,8 @@ const MOST_PLACES: usize = 65535;
 /// Most messages that a chip takes in at once.
 const MOST_INJECTED: usize = 4;
 
-/// So many dimensions, a petit cycle of the largest machine, are crossed chip by chip before the row is put in the order
-/// of age: this takes twice as long, and a list that ends before has no use for it.
+/// So many dimensions, a petit cycle of the largest machine, are crossed chip by chip before the row is put in the
+/// order of age: this takes twice as long, and a list that ends before has no use for it.
 const PATIENCE: u8 = 12;
 
 /// The messages of a run of chips, for as long as these live (ours). A message stays where it is kept; what
@@ -380,8 +380,8 @@ impl Crossing {
         acknowledge(run, chip, asking, taken);
     }
 
-    /// The messages cross a dimension that the 2^`span` chips span, as the machine routes. The first chip is chip `first`
-    /// of it.
+    /// The messages cross a dimension that the 2^`span` chips span, as the machine routes. The first chip is chip
+    /// `first` of it.
     pub fn cross(&mut self, sizes: Sizes, span: u8, routing: &Routing, first: u16, dim: u8)
         requires cube { routing.now.cuts.dims ≡ sizes.dims }
         requires dim { dim < span }

@@ -181,8 +181,8 @@ pub(crate) fn read_off(row: &[Message], tickets: &[Option<Ticket>], leavers: &mu
     }
 }
 
-/// Delivers to one chip, message by message. What is delivered is written down, and put down at its processors later: so
-/// the chip is told as it is after that.
+/// Delivers to one chip, message by message. What is delivered is written down, and put down at its processors later:
+/// so the chip is told as it is after that.
 pub(crate) fn give_out(
     row: &[Message],
     slots: &mut Slots,

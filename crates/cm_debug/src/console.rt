@@ -117,8 +117,8 @@ impl<'a> Console<'a> {
         Ok(())
     }
 
-    /// A line ends with these bytes, and is answered. A runner of threads may want one: before it is asked, the answers of
-    /// other lines are written, and before acts that may be many.
+    /// A line ends with these bytes, and is answered. A runner of threads may want one: before it is asked, the answers
+    /// of other lines are written, and before acts that may be many.
     fn end_line<const N: usize, const CAP: usize, R: Runner<N, CAP>, O: Sink>(
         &mut self,
         machine: &mut Machine<N, CAP>,
@@ -153,8 +153,8 @@ impl<'a> Console<'a> {
         }
     }
 
-    /// Does what was read of a line, and its answer is gathered, which is made whole first. Where acts are asked for that
-    /// may be many, or of a runner that may want a thread, nothing is gathered before.
+    /// Does what was read of a line, and its answer is gathered, which is made whole first. Where acts are asked for
+    /// that may be many, or of a runner that may want a thread, nothing is gathered before.
     fn tell<const N: usize, const CAP: usize, R: Runner<N, CAP>, O: Sink>(
         &mut self,
         machine: &mut Machine<N, CAP>,

@@ -88,8 +88,8 @@ impl Draws {
         }
     }
 
-    /// So many acts: petit cycles, looks at the wire, and instructions on records and on the first bits; more than half of
-    /// these go over the grid.
+    /// So many acts: petit cycles, looks at the wire, and instructions on records and on the first bits; more than half
+    /// of these go over the grid.
     pub fn acts(&mut self, alloc: Global, count: usize) -> Result<Vec<Act>, AllocError> {
         let mut acts = Vec::new(alloc);
         for _ in 0..count {

@@ -4,8 +4,8 @@ use std::alloc::Global;
 
 /// A call that takes memory.
 pub trait Call {
-    /// Whether it does what it is to do; or else tells want of memory, leaves what it was lent as it was, and does it when it
-    /// is made again. None where memory is wanting beside it.
+    /// Whether it does what it is to do; or else tells want of memory, leaves what it was lent as it was, and does it
+    /// when it is made again. None where memory is wanting beside it.
     fn is_so(&self, alloc: Global) -> Option<bool>;
 }
 

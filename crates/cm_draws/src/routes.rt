@@ -10,8 +10,8 @@ use cm_message::{Message, Tag};
 use cm_model::{Act, Found, Rule};
 use std::alloc::Global;
 
-/// A message of chip 0: the processor that sent it and the petit cycle in which it was taken in, how far it has to go, for
-/// which processor there, and its payload.
+/// A message of chip 0: the processor that sent it and the petit cycle in which it was taken in, how far it has to go,
+/// for which processor there, and its payload.
 #[derive(Clone, Copy)]
 struct Letter {
     sender: u8,

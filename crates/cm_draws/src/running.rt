@@ -8,8 +8,8 @@ use cm_array::{Machine, Plain, RunFault, Runner};
 use cm_model::Act;
 use std::alloc::Global;
 
-/// With what fault a runner refuses the acts, and whether it leaves the machine as the plain one does, or else as it was.
-/// None where memory is wanting beside it.
+/// With what fault a runner refuses the acts, and whether it leaves the machine as the plain one does, or else as it
+/// was. None where memory is wanting beside it.
 pub fn run_beside_plain<const N: usize, const CAP: usize, X: Runner<N, CAP>>(
     runner: &mut X,
     alloc: Global,
@@ -24,8 +24,8 @@ pub fn run_beside_plain<const N: usize, const CAP: usize, X: Runner<N, CAP>>(
     run_both(runner, alloc, machine, &mut wanted, acts, chips)
 }
 
-/// The same, beside a machine of the same state. Events are dealt out before many chips are compared, where memory is not
-/// wanting.
+/// The same, beside a machine of the same state. Events are dealt out before many chips are compared, where memory is
+/// not wanting.
 fn run_both<const N: usize, const CAP: usize, X: Runner<N, CAP>>(
     runner: &mut X,
     alloc: Global,
@@ -45,9 +45,9 @@ fn run_both<const N: usize, const CAP: usize, X: Runner<N, CAP>>(
     Some((refused, are_same(alloc, machine, wanted, chips)))
 }
 
-/// Whether a runner takes a blank machine of sixteen chips through the program of four messages of each; or else leaves it as
-/// it was, want of memory or of a thread being told, and takes it through when it is asked again. None where memory is
-/// wanting beside it.
+/// Whether a runner takes a blank machine of sixteen chips through the program of four messages of each; or else leaves
+/// it as it was, want of memory or of a thread being told, and takes it through when it is asked again. None where
+/// memory is wanting beside it.
 pub fn sends_or_stays<X: Runner<4, 7>>(runner: &mut X, alloc: Global) -> Option<bool>
     requires runner { X.ready }
 {

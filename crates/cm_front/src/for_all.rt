@@ -51,9 +51,9 @@ pub fn is_for_all(line: &[u8]) -> bool
         || word == b"forget".as_slice()
 }
 
-/// What a line asks, and into a list that was empty the numbers that are given in it, of a machine of so many dimensions.
-/// Of several faults the first is told: how many operands there are, a word that is no number, an address or a flag out
-/// of its range, a length, where a field ends, a number of too many bits.
+/// What a line asks, and into a list that was empty the numbers that are given in it, of a machine of so many
+/// dimensions. Of several faults the first is told: how many operands there are, a word that is no number, an address
+/// or a flag out of its range, a length, where a field ends, a number of too many bits.
 pub fn read_asked(line: &[u8], dimensions: usize, numbers: &mut Vec<u64>) -> Result<Asked, AsmKind>
     requires dimension { dimensions ≤ 12 }
     requires none { numbers.old.items ≡ [] }

@@ -39,8 +39,8 @@ fn end_of(bytes: &[u8]) -> usize
     }
 }
 
-/// Lets go of the first bytes, whose lines are answered, and asks for more behind the others, which begin a line that is
-/// not too long. Of that line not more than one byte too many is taken.
+/// Lets go of the first bytes, whose lines are answered, and asks for more behind the others, which begin a line that
+/// is not too long. Of that line not more than one byte too many is taken.
 pub fn hear<I: Source>(
     alloc: Global,
     commands: &mut I,

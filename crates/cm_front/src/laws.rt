@@ -7,8 +7,8 @@ pub fn fronts_run_their_programs()
     ensures { FrontsRunTheirPrograms }
 {}
 
-/// A question to a front end is answered as a session over the same machine answers it, whatever acts that has and wherever
-/// it stands in them.
+/// A question to a front end is answered as a session over the same machine answers it, whatever acts that has and
+/// wherever it stands in them.
 pub fn fronts_answer_as_sessions()
     ensures { FrontsAnswerAsSessions }
 {}

@@ -162,8 +162,8 @@ fn take_chip<'a, const N: usize, const CAP: usize>(
     take_listed_chip(builder, chip, chips, clock, &flags, rest)
 }
 
-/// Puts what an image has of each chip from this one on into it, and gives the bytes after the last. Those before it were
-/// put in, or wait.
+/// Puts what an image has of each chip from this one on into it, and gives the bytes after the last. Those before it
+/// were put in, or wait.
 pub(crate) fn take_chips<'a, const N: usize, const CAP: usize>(
     builder: &mut Builder<N, CAP>,
     tile: &mut Tile,
@@ -190,8 +190,8 @@ pub(crate) fn take_chips<'a, const N: usize, const CAP: usize>(
     Ok(rest)
 }
 
-/// Takes in a chip whose memory planes are all listed, if all of it stands in these bytes without a fault. How many bytes
-/// come after it.
+/// Takes in a chip whose memory planes are all listed, if all of it stands in these bytes without a fault. How many
+/// bytes come after it.
 fn take_full_chip<const N: usize, const CAP: usize>(
     builder: &mut Builder<N, CAP>,
     tile: &mut Tile,

@@ -149,8 +149,8 @@ fn take_memory(memory: &mut [Plane], place: usize, bytes: &[u8]) -> bool
     take_planes(memory, place, &bytes[2..])
 }
 
-/// Whether the first chip of bytes seems to list the memory planes of all addresses: whether its flag planes and this count
-/// stand there.
+/// Whether the first chip of bytes seems to list the memory planes of all addresses: whether its flag planes and this
+/// count stand there.
 pub(crate) fn lists_all(bytes: &[u8]) -> bool {
     bytes.len() >= 2 * FLAGS + 2 && count_at(&bytes[2 * FLAGS..]) == ADDRESSES
 }

@@ -8,9 +8,9 @@ use std::alloc::{AllocError, Global};
 /// How a session ends that goes well.
 const DONE: &[u8] = b"= Ok(())\n";
 
-/// Tells how many of these come out as they should, one after another: the commands and answers in pieces of 1 to 19 bytes,
-/// as they do whole; room for 0, 1 and more bytes of the answers, as their front; reading that fails after 0, 1 and more
-/// bytes of the commands up to all, as the lines that ended before do alone.
+/// Tells how many of these come out as they should, one after another: the commands and answers in pieces of 1 to 19
+/// bytes, as they do whole; room for 0, 1 and more bytes of the answers, as their front; reading that fails after 0, 1
+/// and more bytes of the commands up to all, as the lines that ended before do alone.
 pub(crate) fn tell_each_session(
     alloc: Global,
     scene: &mut Scene,

@@ -101,8 +101,8 @@ pub(crate) fn leave_from(first: &mut Row, rest: &mut [Row], count: usize, places
     }
 }
 
-/// At each chip, who is carried is carried on from the chip's place on; before it, who is carried stays in this row, and
-/// what was there is carried on.
+/// At each chip, who is carried is carried on from the chip's place on; before it, who is carried stays in this row,
+/// and what was there is carried on.
 #[inline(never)]
 fn pass_from(carried: &mut Row, row: &mut Row, places: &Row, place: u32)
     requires long { length carried.old ≡ 64 }

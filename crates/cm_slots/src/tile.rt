@@ -71,8 +71,8 @@ impl Tile {
         }
     }
 
-    /// The same where somebody stands, in the order of arrival. It stands apart so that a tile at which nobody does costs
-    /// no more than a look.
+    /// The same where somebody stands, in the order of arrival. It stands apart so that a tile at which nobody does
+    /// costs no more than a look.
     #[inline(never)]
     fn let_leave(&mut self, leavers: &mut Option<Row>, sizes: Sizes, dim: u8)
         requires dimension { dim < 12 }

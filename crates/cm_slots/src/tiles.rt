@@ -236,8 +236,8 @@ impl Tiles {
         move_over(&mut self.tiles, &mut self.leaving, dims);
     }
 
-    /// Whether of all tickets, of which one at most stands at each chip, one is that of a message that arrives across the
-    /// dimensions d of which bit d is set.
+    /// Whether of all tickets, of which one at most stands at each chip, one is that of a message that arrives across
+    /// the dimensions d of which bit d is set.
     pub fn has_arrival_over(&self, dims: u16) -> bool
         requires few { All (λ ts. length ts ≤ 1) self.now }
         ensures none { IsFalse result → (c : ℕ) → c < length self.now

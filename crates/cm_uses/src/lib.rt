@@ -44,8 +44,8 @@ impl From<RunFault> for UseFault {
     }
 }
 
-/// The machine that a text leaves, of four chips with room for seven messages each. A text of more than 4,096 acts or 64
-/// petit cycles is refused: its acts would be handed over in several lists.
+/// The machine that a text leaves, of four chips with room for seven messages each. A text of more than 4,096 acts or
+/// 64 petit cycles is refused: its acts would be handed over in several lists.
 pub fn machine_after(alloc: Global, text: &[u8]) -> Result<Machine<2, 7>, UseFault>
     ensures value { IfOk result (λ left. IfOk (program_of text.now)
         (λ program. left.machine ≡ run_of 2 7 (blank_machine 2) program.acts)) }

@@ -28,8 +28,8 @@ pub fn sessions_are_as_written()
     sessions_deliver();
 }
 
-/// What the law asks for is met by a session that is worked out: its image and its text are accepted, and its second line
-/// runs a sum whole; with a poke before that line it does so no longer.
+/// What the law asks for is met by a session that is worked out: its image and its text are accepted, and its second
+/// line runs a sum whole; with a poke before that line it does so no longer.
 pub fn sums_are_run_whole()
     ensures accepted { AreAccepted whole_sum sum_setup }
     ensures whole { RunWhole whole_sum sum_setup before_sum sum (codes "step" ∷ []) (codes "run" ∷ []) }
