@@ -12,7 +12,8 @@ use crate::sending::Filling;
 impl<T: Drop> Filling<T> {
     /// The parcel, to be filled.
     pub fn parcel(&mut self) -> &mut T
-        ensures* writes_back { sem 𝓛 (follows (FillingOf T.row) T.row self.entry.ghost_name result.ghost_name (filling_with self.old)) }
+        ensures* writes_back { sem 𝓛 (follows (FillingOf T.row) T.row self.entry.ghost_name result.ghost_name
+            (filling_with self.old)) }
         ensures value { result.now ≡ self.old.parcel }
     {
         &mut self.parcel
@@ -22,7 +23,8 @@ impl<T: Drop> Filling<T> {
 impl<T: Drop> Emptying<T> {
     /// The parcel, to be emptied.
     pub fn parcel(&mut self) -> &mut T
-        ensures* writes_back { sem 𝓛 (follows (EmptyingOf T.row) T.row self.entry.ghost_name result.ghost_name (emptying_with self.old)) }
+        ensures* writes_back { sem 𝓛 (follows (EmptyingOf T.row) T.row self.entry.ghost_name result.ghost_name
+            (emptying_with self.old)) }
         ensures value { result.now ≡ self.old.parcel }
     {
         &mut self.parcel

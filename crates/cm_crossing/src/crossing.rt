@@ -272,7 +272,8 @@ impl Crossing {
         ensures taken { IsPlane result (λ p. is_among p senders) }
         ensures value { self.new.buffers ≡ slice_set self.old.buffers at
             (list_at self.old.buffers at ++ messages_sent dims clock here chip.now senders) }
-        ensures log { log.new.items ≡ log.old.items ++ map event.Injected (messages_sent dims clock here chip.now senders) }
+        ensures log { log.new.items
+            ≡ log.old.items ++ map event.Injected (messages_sent dims clock here chip.now senders) }
         ensures len { vec_len log.new ≡ vec_len log.old + length senders }
         ensures capacity { vec_capacity log.old ≤ vec_capacity log.new }
     {
@@ -327,7 +328,8 @@ impl Crossing {
     fn is_passed_over(&self, sizes: Sizes, run: &Run, chip: u16) -> bool
         requires chip { chip < length self.now.buffers }
         requires run { length run.now ≡ length self.now.buffers }
-        ensures passed { IsTrue result → IsPassedOver sizes.room (list_at self.now.buffers chip) (chip_at run.now chip) }
+        ensures passed { IsTrue result
+            → IsPassedOver sizes.room (list_at self.now.buffers chip) (chip_at run.now chip) }
     {
         !chip_is_acknowledged(run, chip)
             && (!chip_asks(run, chip) || self.is_full(sizes, usize::from(chip)))

@@ -1,7 +1,7 @@
 //! A console, which takes the bytes of commands and writes their answers.
 
-ghost use Rattle.std.specs.Prelude.{◌≡◌, ◌<◌, ◌≤◌, ◌+◌, ◌*◌, ◌^◌, ◌++◌, ◌∷◌, ◌⊎◌, [], false, true, length, replicate, take};
-ghost use Rattle.std.specs.Prelude.{slice_index, is_err, IfOk, IfSome, IfErr, IsTrue, OnOk};
+ghost use Rattle.std.specs.Prelude.{◌≡◌, ◌<◌, ◌≤◌, ◌+◌, ◌*◌, ◌^◌, ◌++◌, ◌∷◌, ◌⊎◌, [], false, true, length, replicate};
+ghost use Rattle.std.specs.Prelude.{take, slice_index, is_err, IfOk, IfSome, IfErr, IsTrue, OnOk};
 ghost use Rattle.std.specs.Io.KnownBytes.{Appends};
 ghost use Rattle.cm_bits.specs.Text.{words_of};
 ghost use Rattle.cm_session.specs.Bounds.{IsFor};

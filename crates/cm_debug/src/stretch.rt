@@ -44,11 +44,11 @@ pub fn stretch_len(acts: &[Act], debugger: &Debugger<'_>, stops: Stops, clock: u
     requires place { debugger.now.position + length acts.now < 2 ^ 64 }
     ensures some { 0 < result }
     ensures within { result ≤ length acts.now }
-    ensures stretch { IsStretch (stops_at stops debugger.now.breakpoints.items) debugger.now.trace debugger.now.position clock
-        (take result acts.now) }
+    ensures stretch { IsStretch (stops_at stops debugger.now.breakpoints.items) debugger.now.trace
+        debugger.now.position clock (take result acts.now) }
     ensures short { IsFalse (is_long (take result acts.now)) }
-    ensures longest { IsLongest (stops_at stops debugger.now.breakpoints.items) debugger.now.trace debugger.now.position clock
-        acts.now result }
+    ensures longest { IsLongest (stops_at stops debugger.now.breakpoints.items) debugger.now.trace
+        debugger.now.position clock acts.now result }
 {
     let mut cycles = cycle_count(&acts[0]);
     let mut count = 1;

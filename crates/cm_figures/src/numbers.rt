@@ -74,7 +74,8 @@ fn push_words(
     line: u64,
 ) -> Result<(), NumbersFault>
     requires narrow { len ≤ 64 }
-    ensures ok { OnOk result (after_words len count line numbers.old.items (words_of bytes.now) ≡ Ok numbers.new.items) }
+    ensures ok { OnOk result (after_words len count line numbers.old.items (words_of bytes.now)
+        ≡ Ok numbers.new.items) }
     ensures err { IfErr result (λ fault. fault ≢ NumbersFault.Memory
         → after_words len count line numbers.old.items (words_of bytes.now) ≡ Err fault) }
 {

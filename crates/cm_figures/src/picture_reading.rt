@@ -1,12 +1,13 @@
 //! How a picture is read: its text is a PBM or a PGM, of numbers or of bytes.
 
-ghost use Rattle.std.specs.Prelude.{◌≡◌, ◌≢◌, ◌+◌, ◌-◌, ◌*◌, ◌/◌, ◌%◌, ◌<◌, ◌≤◌, ◌==◌, Ok, Err, IfOk, IfErr, OnOk, length};
-ghost use Rattle.std.specs.Prelude.{nat_lt, if◌then◌else◌, map, drop, false};
+ghost use Rattle.std.specs.Prelude.{◌≡◌, ◌≢◌, ◌+◌, ◌-◌, ◌*◌, ◌/◌, ◌%◌, ◌<◌, ◌≤◌, ◌==◌, Ok, Err, IfOk, IfErr, OnOk};
+ghost use Rattle.std.specs.Prelude.{length, nat_lt, if◌then◌else◌, map, drop, false};
 ghost use Rattle.std.specs.List.{All, position_or_len, range_with_len};
 ghost use Rattle.cm_bits.specs.Text.{has_bytes};
 ghost use Rattle.cm_figures.specs.Pictures.{seen, row_bytes};
 ghost use Rattle.cm_figures.specs.PictureReading.{Gives, is_space, behind_blanks, line_of_rest, number_at, number_part};
-ghost use Rattle.cm_figures.specs.PictureReading.{kind_of, greatest_part, sizes_part, header_part, plain_dot, digit_at, plain_dots};
+ghost use Rattle.cm_figures.specs.PictureReading.{kind_of, greatest_part, sizes_part, header_part, plain_dot, digit_at};
+ghost use Rattle.cm_figures.specs.PictureReading.{plain_dots};
 ghost use Rattle.cm_figures.specs.PictureReading.{raster_len, packed_dot, raw_dot, raw_dots, dots_part, first_large};
 ghost use Rattle.cm_figures.specs.PictureReading.{judged, picture_in};
 

@@ -58,7 +58,8 @@ pub fn read_asked(line: &[u8], dimensions: usize, numbers: &mut Vec<u64>) -> Res
     requires dimension { dimensions ≤ 12 }
     requires none { numbers.old.items ≡ [] }
     ensures value { IfOk result (λ asked. asked_of dimensions (words_of line.now) ≡ Ok (asked, numbers.new.items)) }
-    ensures refused { IfErr result (λ kind. kind ≢ AsmKind.Memory → asked_of dimensions (words_of line.now) ≡ Err kind) }
+    ensures refused { IfErr result (λ kind. kind ≢ AsmKind.Memory
+        → asked_of dimensions (words_of line.now) ≡ Err kind) }
 {
     let mut words = Words::new(line);
     let Some(word) = words.next() else {

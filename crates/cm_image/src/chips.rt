@@ -1,7 +1,7 @@
 //! The chips of an image.
 
-ghost use Rattle.std.specs.Prelude.{◌≡◌, ◌↔◌, ◌≤◌, ◌<◌, ◌+◌, ◌^◌, ℕ, List, [], IfOk, IfErr, OnOk, Ok, Err, fold, length};
-ghost use Rattle.std.specs.Prelude.{slice_index, IfSome, IsNone, IsErrOf, true, false};
+ghost use Rattle.std.specs.Prelude.{◌≡◌, ◌↔◌, ◌≤◌, ◌<◌, ◌+◌, ◌^◌, ℕ, List, [], IfOk, IfErr, OnOk, Ok, Err, fold};
+ghost use Rattle.std.specs.Prelude.{length, slice_index, IfSome, IsNone, IsErrOf, true, false};
 ghost use Rattle.cm_image_format.specs.Reading.{Gives, made};
 ghost use Rattle.cm_image_format.specs.Image.{flag_part, listed_part, flags_part, memory_part, chip_part};
 ghost use Rattle.cm_image.specs.Chips.{with_listed, with_flags, with_chip_image, IsBlankFrom, chips_onto};

@@ -1,7 +1,7 @@
 //! Writing the bytes of a machine.
 
-ghost use Rattle.std.specs.Prelude.{◌≡◌, ℕ, ◌==◌, ◌+◌, ◌*◌, ◌++◌, ◌^◌, ◌<◌, ◌≤◌, List, [], length, IfOk, IfErr, Ok, OnOk};
-ghost use Rattle.std.specs.Prelude.{IsErrOf, OnErr, vec_capacity};
+ghost use Rattle.std.specs.Prelude.{◌≡◌, ℕ, ◌==◌, ◌+◌, ◌*◌, ◌++◌, ◌^◌, ◌<◌, ◌≤◌, List, [], length, IfOk, IfErr, Ok};
+ghost use Rattle.std.specs.Prelude.{OnOk, IsErrOf, OnErr, vec_capacity};
 ghost use Rattle.std.specs.Prelude.{false, if◌then◌else◌, slice_index, Some};
 ghost use Rattle.std.specs.List.{flat_map};
 ghost use Rattle.std.specs.Int.{w8, w16, w32, w64};
@@ -334,8 +334,10 @@ fn push_chip(
     requires few { length buffer.now < 256 }
     ensures ok { OnOk result (text.new.items ≡ text.old.items ++ chip_text (image_of_chip chip.now buffer.now)) }
     ensures capacity { vec_capacity text.old ≤ vec_capacity text.new }
-    ensures grows { OnOk result (length text.new.items ≤ length text.old.items + (35 + 4 * length addresses.now + 18 * length buffer.now)) }
-    ensures full { OnErr result (vec_capacity text.old < length text.old.items + (35 + 4 * length addresses.now + 18 * length buffer.now)) }
+    ensures grows { OnOk result (length text.new.items
+        ≤ length text.old.items + (35 + 4 * length addresses.now + 18 * length buffer.now)) }
+    ensures full { OnErr result (vec_capacity text.old
+        < length text.old.items + (35 + 4 * length addresses.now + 18 * length buffer.now)) }
 {
     push_flags(text, chip)?;
     push_u16(text, planes)?;

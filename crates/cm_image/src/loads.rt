@@ -1,7 +1,7 @@
 //! Reading the bytes of a machine.
 
-ghost use Rattle.std.specs.Prelude.{◌≡◌, ◌≢◌, ◌≤◌, ◌^◌, ℕ, List, None, Some, Ok, Err, IfOk, IfErr, IfSome, IsOk, IsErrOf};
-ghost use Rattle.std.specs.Prelude.{IsOkUnless, true, false, length};
+ghost use Rattle.std.specs.Prelude.{◌≡◌, ◌≢◌, ◌≤◌, ◌^◌, ℕ, List, None, Some, Ok, Err, IfOk, IfErr, IfSome, IsOk};
+ghost use Rattle.std.specs.Prelude.{IsErrOf, IsOkUnless, true, false, length};
 ghost use Rattle.cm_model.specs.Unlogged.{standing_messages, has_tag_twice};
 ghost use Rattle.cm_image_format.specs.Whole.{read_image, image_fault, header_fault};
 ghost use Rattle.cm_image.specs.Chips.{IsBlankFrom, IsReadTo};

@@ -1,7 +1,7 @@
 //! Reading a machine of a source, whose bytes need not all be held.
 
-ghost use Rattle.std.specs.Prelude.{◌≡◌, ◌≢◌, ◌↔◌, ◌≤◌, ◌^◌, ◌++◌, ℕ, List, [], true, false, Ok, Err, IfOk, IfErr, IsErrOf, OnOk};
-ghost use Rattle.std.specs.Prelude.{length};
+ghost use Rattle.std.specs.Prelude.{◌≡◌, ◌≢◌, ◌↔◌, ◌≤◌, ◌^◌, ◌++◌, ℕ, List, [], true, false, Ok, Err, IfOk, IfErr};
+ghost use Rattle.std.specs.Prelude.{IsErrOf, OnOk, length};
 ghost use Rattle.cm_image_format.specs.Whole.{read_image};
 ghost use Rattle.cm_image.specs.Chips.{IsReadTo, IsBlankFrom};
 ghost use Rattle.cm_image.specs.Cuts.{header_of};
@@ -91,7 +91,8 @@ fn load_chips<const N: usize, const CAP: usize, I: Source>(
         (λ more. (whole : List ℕ) → IsReadTo N CAP (header_of N CAP header) 0 builder.entry (chips.now ++ more) whole
         → read_image N CAP whole ≡ Ok kept.machine)) }
     ensures refused { IfErr result (IsStopped most (I.left source.old) (I.left source.new)
-        (λ fault more. (whole : List ℕ) → IsReadTo N CAP (header_of N CAP header) 0 builder.entry (chips.now ++ more) whole
+        (λ fault more. (whole : List ℕ)
+        → IsReadTo N CAP (header_of N CAP header) 0 builder.entry (chips.now ++ more) whole
         → read_image N CAP whole ≡ Err fault)) }
     ensures read { (I.has_failed source.new ≡ true) ↔ IsErrOf result SourceFault.Read }
 {
@@ -125,7 +126,8 @@ fn load_in_pieces<const N: usize, const CAP: usize, I: Source>(
         (λ more. (whole : List ℕ) → IsReadTo N CAP (header_of N CAP header) 0 builder.entry (chips.now ++ more) whole
         → read_image N CAP whole ≡ Ok kept.machine)) }
     ensures refused { IfErr result (IsStopped most (I.left source.old) (I.left source.new)
-        (λ fault more. (whole : List ℕ) → IsReadTo N CAP (header_of N CAP header) 0 builder.entry (chips.now ++ more) whole
+        (λ fault more. (whole : List ℕ)
+        → IsReadTo N CAP (header_of N CAP header) 0 builder.entry (chips.now ++ more) whole
         → read_image N CAP whole ≡ Err fault)) }
     ensures read { (I.has_failed source.new ≡ true) ↔ IsErrOf result SourceFault.Read }
 {

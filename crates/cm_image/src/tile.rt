@@ -104,8 +104,9 @@ impl Tile {
     pub(crate) fn push(&mut self, flags: &[Plane; 16], bytes: &[u8]) -> bool
         requires room { length self.old < 256 }
         requires zero { slice_index flags.now 8 ≡ 0 }
-        ensures full { result ≡ true → made (λ listed. self.old ++ chip_of (planes_of listed) flags.now ∷ []) memory_part
-            bytes.now ≡ Ok (self.new, drop 16386 bytes.now) }
+        ensures full { result ≡ true
+            → made (λ listed. self.old ++ chip_of (planes_of listed) flags.now ∷ []) memory_part bytes.now
+            ≡ Ok (self.new, drop 16386 bytes.now) }
         ensures long { result ≡ true → 16386 ≤ length bytes.now }
         ensures other { result ≡ false → self.new ≡ self.old }
     {

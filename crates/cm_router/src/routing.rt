@@ -43,7 +43,8 @@ impl Routing {
     /// Whether no wire over a dimension is cut, and who came first goes first.
     pub fn is_plain_over(&self, dim: u8) -> bool
         requires dimension { dim < self.now.cuts.dims }
-        ensures value { result ≡ (rule_number self.now.rule == 0 && not (list_any (λ w. w.dim == dim) self.now.cuts.wires)) }
+        ensures value { result
+            ≡ (rule_number self.now.rule == 0 && not (list_any (λ w. w.dim == dim) self.now.cuts.wires)) }
         ensures plain { IsTrue result → (c : ℕ) → way_of (routing_of self.now) c dim ≡ plain_way }
     {
         match self.rule {

@@ -1,11 +1,12 @@
 //! What came out of a source so far.
 
-ghost use Rattle.std.specs.Prelude.{◌≡◌, ◌≢◌, ◌+◌, ◌<◌, ◌≤◌, ◌^◌, ◌++◌, ◌∷◌, [], Ok, Err, OnOk, IfErr, flat_map, length};
+ghost use Rattle.std.specs.Prelude.{◌≡◌, ◌≢◌, ◌+◌, ◌<◌, ◌≤◌, ◌^◌, ◌++◌, ◌∷◌, [], Ok, Err, OnOk, IfErr, flat_map};
+ghost use Rattle.std.specs.Prelude.{length};
 ghost use Rattle.cm_bits.specs.Text.{words_of};
 ghost use Rattle.cm_language.specs.declared.fault.AsmKind.TheVariants as asm;
 ghost use Rattle.cm_source.specs.declared.fault.SourceKind.TheVariants.{Asm};
-ghost use Rattle.cm_source.specs.Expansion.{nothing_out, after_line, after_phrase, after_plain, after_place, phrase_text};
-ghost use Rattle.cm_source.specs.Expansion.{within_bytes};
+ghost use Rattle.cm_source.specs.Expansion.{nothing_out, after_line, after_phrase, after_plain, after_place};
+ghost use Rattle.cm_source.specs.Expansion.{phrase_text, within_bytes};
 ghost use Rattle.cm_source.specs.Says.{verb_of};
 
 use crate::acts::acts_of;

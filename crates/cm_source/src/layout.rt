@@ -1,6 +1,7 @@
 //! The order in which the lines of a source are carried out.
 
-ghost use Rattle.std.specs.Prelude.{◌≡◌, ◌≢◌, ◌++◌, ◌∷◌, [], ◌+◌, ◌*◌, ◌^◌, ◌<◌, ◌≤◌, ◌↔◌, IsTrue, true, false, nat_lt, drop, length, Ok, Err, OnOk, IfOk, IfErr};
+ghost use Rattle.std.specs.Prelude.{◌≡◌, ◌≢◌, ◌++◌, ◌∷◌, [], ◌+◌, ◌*◌, ◌^◌, ◌<◌, ◌≤◌, ◌↔◌, IsTrue, true, false, nat_lt};
+ghost use Rattle.std.specs.Prelude.{drop, length, Ok, Err, OnOk, IfOk, IfErr};
 ghost use Rattle.cm_bits.specs.Text.{words_left, words_of};
 ghost use Rattle.cm_language.specs.declared.fault.AsmKind.TheVariants as asm;
 ghost use Rattle.cm_source.specs.declared.fault.SourceKind.TheVariants.{Asm, TooMany};

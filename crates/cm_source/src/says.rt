@@ -3,7 +3,8 @@
 ghost use Rattle.std.specs.Prelude.{◌≡◌};
 ghost use Rattle.cm_bits.specs.Text.{words_left, words_of};
 ghost use Rattle.cm_language.specs.Lines.{operand_of, field_operand, one_field, two_fields};
-ghost use Rattle.cm_source.specs.Says.{adds_number, verb_of, news_of, sum_of, tested_of, kept_of, phrase_with, phrase_of};
+ghost use Rattle.cm_source.specs.Says.{adds_number, verb_of, news_of, sum_of, tested_of, kept_of, phrase_with};
+ghost use Rattle.cm_source.specs.Says.{phrase_of};
 
 use crate::verb::PhraseVerb;
 use cm_asm::{Reader, read_direction};

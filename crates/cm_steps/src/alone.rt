@@ -1,6 +1,7 @@
 //! A world that takes its steps by itself.
 
-ghost use Rattle.std.specs.Prelude.{◌≡◌, ◌+◌, ◌<◌, ◌++◌, ◌∷◌, ◌^◌, [], false, true, codes, decimal, IfOk, IfErr, IsOk, OnOk};
+ghost use Rattle.std.specs.Prelude.{◌≡◌, ◌+◌, ◌<◌, ◌++◌, ◌∷◌, ◌^◌, [], false, true, codes, decimal, IfOk, IfErr, IsOk};
+ghost use Rattle.std.specs.Prelude.{OnOk};
 ghost use Rattle.cm_model.specs.Machine.{run_of};
 ghost use Rattle.std.specs.Io.KnownBytes.{Appends};
 ghost use Rattle.cm_exchange.specs.Steps.{is_possible, world_after};

@@ -24,7 +24,8 @@ pub fn apply_lanes<const L: usize>(
     requires f { length f ≡ L }
     ensures count { length result ≡ L }
     ensures value { (k : ℕ) → k < L → IsPlane (slice_index result k)
-        (λ p. entry table (bit (slice_index a.entry k) p) (bit (slice_index b.entry k) p) (bit (slice_index f.entry k) p)) }
+        (λ p. entry table (bit (slice_index a.entry k) p) (bit (slice_index b.entry k) p)
+        (bit (slice_index f.entry k) p)) }
 {
     changed_lanes(
         a,
@@ -45,7 +46,8 @@ fn changed_lanes<const L: usize>(
     requires difference { length difference ≡ L }
     ensures count { length result ≡ L }
     ensures value { (k : ℕ) → k < L → (p : ℕ) → bit (slice_index result k) p
-        ≡ differ (bit (slice_index word.entry k) p) (bit (slice_index choice.entry k) p && bit (slice_index difference.entry k) p) }
+        ≡ differ (bit (slice_index word.entry k) p)
+        (bit (slice_index choice.entry k) p && bit (slice_index difference.entry k) p) }
 {
     word ^ (choice & difference)
 }

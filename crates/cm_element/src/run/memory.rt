@@ -460,7 +460,8 @@ fn put_bits(
     ensures kept { (capacity used : ℕ) → AreSlots words.old capacity slots.now used stride
         → AreSlots words.new capacity slots.now used stride }
     ensures value { (capacity used : ℕ) → AreSlots words.old capacity slots.now used stride
-        → (flags : List ℕ) → (chips : ℕ) → AreRows (spread words.old slots.now stride) flags stride chips → place < chips
+        → (flags : List ℕ) → (chips : ℕ) → AreRows (spread words.old slots.now stride) flags stride chips
+        → place < chips
         → chips_of (spread words.new slots.now stride) flags stride chips
         ≡ slice_set (chips_of (spread words.old slots.now stride) flags stride chips) place (with_memory_field
         (chip_at (chips_of (spread words.old slots.now stride) flags stride chips) place) proc field.at result value) }
