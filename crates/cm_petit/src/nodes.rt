@@ -71,14 +71,7 @@ fn inject_into_nodes(
 }
 
 /// Messages cross a dimension: of each pair of chips both send who leaves before either takes in who comes.
-#[tactic(
-    auto,
-    using(
-        crate::proofs::Dimensions::across_differs,
-        crate::proofs::Dimensions::one_way,
-        cm_model::proofs::Flips::xor_twice
-    )
-)]
+#[tactic(auto, using(crate::proofs::Dimensions::across_differs, crate::proofs::Dimensions::one_way, cm_model::proofs::Flips::xor_twice))]
 fn cross_nodes(sizes: Sizes, routing: &Routing, nodes: &mut [Node], dim: u8)
     requires cube { routing.now.cuts.dims ≡ sizes.dims }
     requires dim { dim < sizes.dims }
