@@ -11,7 +11,7 @@ use cm_array::Machine;
 use cm_bits::{Addr, NoMemory, Plane};
 use std::alloc::Global;
 
-const ADDRESSES: u16 = 4096;
+pub(crate) const ADDRESSES: u16 = 4096;
 
 /// The addresses at which memory has rows, rising: at the others no plane is listed.
 pub(crate) fn addresses_in_use<const N: usize, const CAP: usize>(

@@ -10,6 +10,7 @@ ghost use Rattle.cm_image_format.specs.Whole.{memory_plane_of, image_of_chip, im
 ghost use Rattle.cm_image.specs.Planes.{AreCounted, chips_text, listing_of, listings, planes_below};
 ghost use Rattle.cm_image.specs.Sending.{GoesOut, GoesOutInPart, is_write};
 
+use crate::counts::ADDRESSES;
 use crate::dumps::{push, push_flags, push_messages, push_plane, push_u8, push_u16};
 use crate::numbers::chip_count;
 use crate::sending::{DumpFault, TILE, send_full};
@@ -20,8 +21,6 @@ use cm_message::Message;
 
 /// How many planes of 64 chips are written near: 528 KB, which a cache holds.
 pub(crate) const TILE_PLANES: usize = 64 * PITCH;
-
-const ADDRESSES: u16 = 4096;
 
 /// The bytes that list the planes of all addresses.
 const LISTED_LEN: usize = 16384;

@@ -20,6 +20,7 @@ ghost use Rattle.cm_image.specs.Planes.{listed_below, planes_below};
 ghost use Rattle.cm_image.specs.Sending.{front_text, GoesOut, GoesOutInPart, is_write};
 
 use crate::cuts::{cuts_len, push_cuts, version_of};
+use crate::header::MAGIC;
 use crate::numbers::chip_count;
 use crate::sending::{DumpFault, DumpRoom, TILE, send_all_chips, send_full, sizes};
 use cm_array::Machine;
@@ -29,8 +30,6 @@ use cm_image_format::texts_leave_out_logs;
 use cm_message::{Message, Rule, bytes};
 use cm_model::cuts_are_few;
 use std::alloc::Global;
-
-const MAGIC: u32 = 0x434d_3149;
 
 const FLAGS: u8 = 16;
 

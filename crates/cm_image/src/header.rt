@@ -14,7 +14,7 @@ use cm_image_format::ImageFault;
 use cm_message::Rule;
 
 /// The four bytes `CM1I`.
-const MAGIC: u32 = 0x434d_3149;
+pub(crate) const MAGIC: u32 = 0x434d_3149;
 
 /// What the header of an image tells beside its sizes.
 #[derive(Clone, Copy, Debug, PartialEq, Eq)]

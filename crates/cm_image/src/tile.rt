@@ -10,6 +10,7 @@ ghost use Rattle.cm_image_format.specs.Image.{listed_part, memory_part};
 ghost use Rattle.cm_image_format.specs.Whole.{planes_of};
 ghost use Rattle.cm_image.specs.Tile.{with_waiting, AreListedFrom};
 
+use crate::counts::ADDRESSES;
 use cm_array::Builder;
 use cm_bits::{NoMemory, Plane};
 use cm_element::PITCH;
@@ -20,8 +21,6 @@ use std::marker::Model;
 const WIDTH: u16 = 256;
 
 const FLAGS: usize = 16;
-
-const ADDRESSES: u16 = 4096;
 
 /// The bytes that list the planes of all addresses, behind their count.
 pub(crate) const LISTED_LEN: usize = 16386;

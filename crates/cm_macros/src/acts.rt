@@ -9,11 +9,11 @@ use cm_bits::{Addr, Dir, Field, FlagNo};
 use cm_language::Context;
 use cm_model::Nano;
 
-const CARRY_FLAG: u8 = 7;
+pub(crate) const CARRY_FLAG: u8 = 7;
 
-const FACTOR_FLAG: u8 = 6;
+pub(crate) const FACTOR_FLAG: u8 = 6;
 
-const ZERO_FLAG: u8 = 8;
+pub(crate) const ZERO_FLAG: u8 = 8;
 
 /// The truth table of memory and that of the flag.
 #[derive(Clone, Copy, Debug, PartialEq, Eq)]

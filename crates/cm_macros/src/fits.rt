@@ -6,14 +6,9 @@ ghost use Rattle.cm_language.specs.Faults.{is_conditional_product, first_fault, 
 ghost use Rattle.cm_language.specs.Faults.{is_fixed};
 ghost use Rattle.cm_bits.specs.Field.{meeting};
 
+use crate::acts::{CARRY_FLAG, FACTOR_FLAG, ZERO_FLAG};
 use cm_bits::{Field, FlagNo, Meets};
 use cm_language::{Context, Macro, MacroFault};
-
-const CARRY_FLAG: u8 = 7;
-
-const FACTOR_FLAG: u8 = 6;
-
-const ZERO_FLAG: u8 = 8;
 
 const NEWS_FLAG: u8 = 10;
 

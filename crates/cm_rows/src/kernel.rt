@@ -9,12 +9,12 @@ use crate::tile::{choose, find_outputs, merge};
 use cm_bits::Plane;
 
 /// So many words at once where the tables are known.
-const LANES: usize = 32;
+pub(crate) const LANES: usize = 32;
 
 /// And so many where they are not, in blocks and in words: what is found of them stays in the nearest cache.
-const BLOCKS: usize = 8;
+pub(crate) const BLOCKS: usize = 8;
 
-const TILE: usize = 256;
+pub(crate) const TILE: usize = 256;
 
 // The pairs of tables of the macros that write a flag are known to the compiler, each in a loop of its own.
 macro_rules! by_tables {

@@ -4,17 +4,10 @@ ghost use Rattle.std.specs.Prelude.{◌≡◌, ◌+◌, ◌*◌, ◌≤◌, leng
 ghost use Rattle.cm_rows.specs.Rows.{IsComputed, IsApart};
 
 use crate::block::{choice_lanes, choice_of, kept, kept_lanes, load, put};
+use crate::kernel::{BLOCKS, LANES, TILE};
 use crate::places::Places;
 use crate::tile::{choose, find_outputs, merge};
 use cm_bits::Plane;
-
-/// So many words at once where the table is known.
-const LANES: usize = 32;
-
-/// And so many where it is not, in blocks and in words: what is found of them stays in the nearest cache.
-const BLOCKS: usize = 8;
-
-const TILE: usize = 256;
 
 // The tables of the macros that write no flag, and that which keeps memory, are known to the compiler, each in a
 // loop of its own.

@@ -17,9 +17,9 @@ use cm_model::{Act, Nano};
 use cm_phrases::Phrase;
 use std::alloc::{AllocError, Global};
 
-const NEWS_FLAG: u8 = 10;
+pub(crate) const NEWS_FLAG: u8 = 10;
 
-const DAISY_FLAG: u8 = 11;
+pub(crate) const DAISY_FLAG: u8 = 11;
 
 /// A and B.
 const AND: u8 = 0xc0;

@@ -5,6 +5,7 @@ ghost use Rattle.cm_bits.specs.Field.{meeting};
 ghost use Rattle.cm_language.specs.Faults.{is_partly, lengths_differ, is_fixed};
 ghost use Rattle.cm_phrases.specs.Faults.{overlaps, misfits, writes, writes_condition, names_fixed, first_fault};
 
+use crate::acts::{DAISY_FLAG, NEWS_FLAG};
 use cm_bits::{Field, FlagNo, Meets};
 use cm_language::{Context, MacroFault};
 use cm_phrases::Phrase;
@@ -12,10 +13,6 @@ use cm_phrases::Phrase;
 const CARRY_FLAG: u8 = 7;
 
 const ZERO_FLAG: u8 = 8;
-
-const NEWS_FLAG: u8 = 10;
-
-const DAISY_FLAG: u8 = 11;
 
 /// The first cause to refuse a phrase under a context.
 pub fn fault_of(wanted: &Phrase, context: &Context) -> Option<MacroFault>

@@ -11,15 +11,12 @@ ghost use Rattle.cm_element.specs.Runs.{AreRows, chips_of};
 ghost use Rattle.cm_element.specs.Steps.{ArePlaces, AreMerged, AreLookedUp, along_chain};
 
 use crate::run::memory::MemoryRows;
+use crate::run::{ADDRESSES, FLAGS};
 use crate::word::{chosen, holding};
 use cm_bits::{FlagNo, Plane};
 use cm_model::Nano;
 use cm_rows::Places;
 use cm_truth::apply_into;
-
-const ADDRESSES: usize = 4096;
-
-const FLAGS: usize = 16;
 
 /// Where a row begins.
 pub(crate) fn row(number: usize, rows: usize, stride: usize) -> usize
