@@ -2,8 +2,14 @@
 use Rattle.std.specs.Prelude.{ℕ, ◌==◌, ◌||◌, Bool}
 use Rattle.cm_model.specs.Machine.{Machine}
 use Rattle.cm_sizes.specs.declared.any_machine.AnyMachine.{AnyMachine}
-use Rattle.cm_sizes.specs.declared.any_machine.AnyMachine.TheVariants.{Dim0Room1, Dim1Room1, Dim2Room1, Dim3Room1, Dim4Room1, Dim5Room1, Dim6Room1, Dim7Room1, Dim8Room1, Dim9Room1, Dim10Room1, Dim11Room1, Dim12Room1}
-use Rattle.cm_sizes.specs.declared.any_machine.AnyMachine.TheVariants.{Dim0Room7, Dim1Room7, Dim2Room7, Dim3Room7, Dim4Room7, Dim5Room7, Dim6Room7, Dim7Room7, Dim8Room7, Dim9Room7, Dim10Room7, Dim11Room7, Dim12Room7}
+use Rattle.cm_sizes.specs.declared.any_machine.AnyMachine.TheVariants.{Dim0Room1, Dim1Room1, Dim2Room1, Dim3Room1}
+use Rattle.cm_sizes.specs.declared.any_machine.AnyMachine.TheVariants.{Dim4Room1, Dim5Room1, Dim6Room1, Dim7Room1}
+use Rattle.cm_sizes.specs.declared.any_machine.AnyMachine.TheVariants.{Dim8Room1, Dim9Room1, Dim10Room1, Dim11Room1}
+use Rattle.cm_sizes.specs.declared.any_machine.AnyMachine.TheVariants.{Dim12Room1}
+use Rattle.cm_sizes.specs.declared.any_machine.AnyMachine.TheVariants.{Dim0Room7, Dim1Room7, Dim2Room7, Dim3Room7}
+use Rattle.cm_sizes.specs.declared.any_machine.AnyMachine.TheVariants.{Dim4Room7, Dim5Room7, Dim6Room7, Dim7Room7}
+use Rattle.cm_sizes.specs.declared.any_machine.AnyMachine.TheVariants.{Dim8Room7, Dim9Room7, Dim10Room7, Dim11Room7}
+use Rattle.cm_sizes.specs.declared.any_machine.AnyMachine.TheVariants.{Dim12Room7}
 
 -- a machine and its sizes: its dimension, and the room of its routers
 pub record SizedMachine : Type 0 where
