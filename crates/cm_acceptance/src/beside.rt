@@ -1,6 +1,5 @@
 //! Random machines beside the plain program of the router, with whole and with cut wires, by either rule: petit cycles,
-//! with instructions between them, leave the same bits, flags, buffers and logs, and every message is found where it
-//! is.
+//! with instructions between them, leave the same bits, flags, buffers and logs, and each message is found where it is.
 
 ghost use Rattle.std.specs.Prelude.{◌≡◌, ◌<◌, ◌≤◌, ◌^◌};
 

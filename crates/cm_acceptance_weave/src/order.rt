@@ -1,5 +1,4 @@
-//! In which order a session of steps reads and writes: what was answered goes out before more is asked for, and at
-//! once.
+//! In which order a session of steps reads and writes: answers go out at once, and before more is asked for.
 
 ghost use Rattle.std.specs.Prelude.{None, false};
 

@@ -30,8 +30,7 @@ pub(crate) struct Parts {
     pub(crate) run: Run,
     /// By chip, its events since the machine was made, as far as they are dealt out.
     pub(crate) logs: Vec<Vec<Event>>,
-    /// The events of all chips, in the order in which they were told, that are not dealt out to the logs; of a part
-    /// none.
+    /// The events of all chips that are not dealt out to the logs, in the order of their telling; a part has none.
     pub(crate) row: Vec<Event>,
     /// Petit cycles so far.
     pub(crate) clock: u64,

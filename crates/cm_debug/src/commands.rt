@@ -177,8 +177,7 @@ fn push_flag<const N: usize, const CAP: usize>(
     )
 }
 
-/// Deals a machine's events out, and tells those of a chip. Where memory is wanting for that, they are told from a
-/// copy.
+/// Deals a machine's events out and tells those of a chip; where memory is wanting for that, tells them from a copy.
 fn push_events<const N: usize, const CAP: usize>(
     text: &mut Vec<u8>,
     machine: &mut Machine<N, CAP>,

@@ -138,8 +138,7 @@ pub fn split<const N: usize, const CAP: usize>(
     split_in(alloc, machine, k, cycles, &mut Vec::new(alloc))
 }
 
-/// The same in the room of parts that are not needed any more, as far as there are such with as many chips as a block
-/// has.
+/// The same in the room of parts that are not needed any more, as far as there are parts of as many chips as a block.
 pub fn split_in<const N: usize, const CAP: usize>(
     alloc: Global,
     machine: &Machine<N, CAP>,
