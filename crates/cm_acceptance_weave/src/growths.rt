@@ -95,8 +95,7 @@ fn woven(alloc: Global, own: bool) -> Option<(Option<WeaveFault>, Room)> {
     Some((fault, sink))
 }
 
-/// Whether it writes these answers; or else tells want of memory behind a front of them, and does when it is asked
-/// again.
+/// Whether it writes these answers; or else tells want of memory behind a front of them, and all when asked once more.
 fn is_woven(alloc: Global, own: bool, answers: &[u8]) -> Option<bool> {
     let (fault, sink) = woven(alloc, own)?;
     let Some(fault) = fault else {

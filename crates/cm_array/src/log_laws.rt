@@ -7,8 +7,7 @@ pub fn logs_are_never_read()
     ensures { LogsAreNeverRead }
 {}
 
-/// A run tells at most four events of a chip, and one for each message that its router has room for, in each petit
-/// cycle.
+/// In each petit cycle a run tells at most four events of a chip, and one for each message its router has room for.
 pub fn few_events_are_told()
     ensures { FewEventsAreTold }
 {}

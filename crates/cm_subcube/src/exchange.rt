@@ -50,8 +50,7 @@ impl Block {
         }
     }
 
-    /// Takes in what stands in a parcel, which is blank then. Each chip for which a message stands there has room for
-    /// it.
+    /// Takes in what stands in a parcel, which is blank then. Each chip has room for a message that comes to it.
     pub fn absorb(&mut self, round: &Round, parcel: &mut Parcel)
         requires exchange { IsExchange self.old.kept.dims self.old.k round.now }
         requires lanes { IsOfKind self.old.kept.dims self.old.k round.now.kind parcel.old }
