@@ -61,7 +61,7 @@ impl Debugger<'_> {
         self.position < self.acts.len() && self.stops(stops, self.position)
     }
 
-    /// Runs the next stretch of acts, and tells what its first act tells. A runner that refuses changes no machine.
+    /// Runs the next stretch of acts, and tells what its first act tells. On a refusal the machine is as it was.
     fn run_stretch<const N: usize, const CAP: usize, R: Runner<N, CAP>>(
         &mut self,
         machine: &mut Machine<N, CAP>,
