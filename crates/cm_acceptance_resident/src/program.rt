@@ -1,18 +1,18 @@
 //! The program's own sharing: all workers that it is told to have meet in each round.
 
-ghost use Rattle.std.specs.Prelude.{◌≡◌, false, None, IfSome};
+ghost use Rattle.std.specs.Prelude.{◌≡◌, false};
 ghost use Rattle.std.specs.Thread.{IsSync};
-ghost use Rattle.cm_cli.specs.Sizes.{start_at};
-ghost use Rattle.cm_cli.specs.Sharing.{sharing_fault};
 
 use crate::meeting::{Cut, FOUR, Meeting, Notes, Waits, no_notes};
-use cm_asm::{Program, assemble};
+use cm_array::Machine;
+use cm_asm::assemble;
 use cm_bits::doubles::{Bytes, Room};
 use cm_bits::{Sink, Source};
-use cm_cli::{AnyMachine, Sharing, fresh, go_alone, go_shared, image_at, open_image};
+use cm_cli::{Alone, SessionRunner, Several, Sharing, fresh};
 use cm_draws::cut_in_two_places;
 use cm_image::dump;
 use cm_model::Rule;
+use cm_sizes::{on_machine, open_image};
 use cm_workers::Passage;
 use std::alloc::Global;
 use std::sync::{Arc, Wait};
@@ -102,16 +102,6 @@ impl Image {
     }
 }
 
-/// The machine and the program with which a session begins.
-fn begun(alloc: Global, row: &Shared) -> Option<(AnyMachine, Program)>
-    ensures shared { IfSome result (λ run. sharing_fault (start_at run.0).n row.now.sharing ≡ None) }
-{
-    let image = row.image.bytes(alloc)?;
-    let machine = open_image(alloc, &image).ok()?;
-    row.sharing.check(machine.dims()).ok()?;
-    Some((machine, assemble(alloc, row.text).ok()?))
-}
-
 /// The image that one worker leaves, who answers the commands.
 fn kept_alone<I: Source, O: Sink>(
     alloc: Global,
@@ -122,9 +112,31 @@ fn kept_alone<I: Source, O: Sink>(
     requires reader { I.has_failed commands.old ≡ false }
     requires writer { O.has_failed answers.old ≡ false }
 {
-    let (mut machine, program) = begun(alloc, row)?;
-    go_alone(alloc, &mut machine, &program, commands, answers).ok()?;
-    image_at(alloc, &machine).ok()
+    let image = row.image.bytes(alloc)?;
+    match open_image(alloc, &image) {
+        Ok(machine) => {
+            on_machine!(machine, machine => left_by_one(alloc, row, machine, commands, answers))
+        }
+        Err(_) => None,
+    }
+}
+
+/// The same, on a machine of these sizes.
+fn left_by_one<const N: usize, const CAP: usize, I: Source, O: Sink>(
+    alloc: Global,
+    row: &Shared,
+    mut machine: Machine<N, CAP>,
+    commands: &mut I,
+    answers: &mut O,
+) -> Option<Vec<u8>>
+    requires reader { I.has_failed commands.old ≡ false }
+    requires writer { O.has_failed answers.old ≡ false }
+{
+    let program = assemble(alloc, row.text).ok()?;
+    Alone
+        .go(alloc, &mut machine, &program, commands, answers)
+        .ok()?;
+    dump(alloc, &machine).ok()
 }
 
 /// What one worker leaves.
@@ -163,19 +175,40 @@ fn kept_shared<R: Threads + Wait + Sync, I: Source, O: Sink>(
     requires reader { I.has_failed commands.old ≡ false }
     requires writer { O.has_failed answers.old ≡ false }
 {
-    let (mut machine, program) = begun(alloc, row)?;
-    go_shared(
+    let image = row.image.bytes(alloc)?;
+    match open_image(alloc, &image) {
+        Ok(machine) => {
+            on_machine!(machine, machine => left_by_all(rt, alloc, row, machine, passage, commands, answers))
+        }
+        Err(_) => None,
+    }
+}
+
+/// The same, on a machine of these sizes.
+fn left_by_all<const N: usize, const CAP: usize, R: Threads + Wait + Sync, I: Source, O: Sink>(
+    rt: &R,
+    alloc: Global,
+    row: &Shared,
+    mut machine: Machine<N, CAP>,
+    passage: Passage,
+    commands: &mut I,
+    answers: &mut O,
+) -> Option<Vec<u8>>
+    requires threads { IsSync R.row }
+    requires reader { I.has_failed commands.old ≡ false }
+    requires writer { O.has_failed answers.old ≡ false }
+{
+    row.sharing.check(machine.dims()).ok()?;
+    let program = assemble(alloc, row.text).ok()?;
+    let several = Several {
         rt,
-        alloc,
-        &mut machine,
-        &program,
-        row.sharing,
+        sharing: row.sharing,
         passage,
-        commands,
-        answers,
-    )
-    .ok()?;
-    image_at(alloc, &machine).ok()
+    };
+    several
+        .go(alloc, &mut machine, &program, commands, answers)
+        .ok()?;
+    dump(alloc, &machine).ok()
 }
 
 /// What several leave, who wait for one another.

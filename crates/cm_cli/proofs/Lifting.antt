@@ -1,5 +1,5 @@
 -- What holds of a result, and so what follows from it.
-use Rattle.std.proofs.Common.{Option, Some, None, Result, Ok, Err, refl}
+use Rattle.std.proofs.Common.{Option, Some, None, Result, Ok, Err}
 use Rattle.std.specs.Prelude.{IfOk, IfErr, IfSome}
 
 pub lift_ok : {X E : Type 0} {P Q : X → Type 0} (result : Result X E) → ((x : X) → P x → Q x) → IfOk result P

@@ -6,12 +6,13 @@ use Rattle.cm_model.specs.Machine.{Machine}
 use Rattle.cm_session.specs.declared.fault.SessionFault.{SessionFault}
 use Rattle.cm_session.specs.declared.fault.SessionFault.TheVariants as session
 use Rattle.cm_session.specs.Ends.{Ends, EndsForSome, is_write}
-use Rattle.cm_cli.specs.declared.program_fault.ProgramFault.{ProgramFault}
-use Rattle.cm_cli.specs.declared.program_fault.ProgramFault.TheVariants.{Read, Write, Memory, NoThread}
-use Rattle.cm_cli.specs.ProgramFault.{of_session}
-use Rattle.cm_cli.specs.Opened.{Start}
-use Rattle.cm_cli.specs.Run.{KeepsImage, IsToldAs}
-use Rattle.cm_cli.specs.Files.{Streams}
+use Rattle.cm_outside.specs.declared.program_fault.ProgramFault.{ProgramFault}
+use Rattle.cm_outside.specs.declared.program_fault.ProgramFault.TheVariants.{Read, Write, Memory, NoThread}
+use Rattle.cm_outside.specs.ProgramFault.{of_session}
+use Rattle.cm_sizes.specs.Sizes.{SizedMachine}
+use Rattle.cm_outside.specs.Puttings.{KeepsImage}
+use Rattle.cm_cli.specs.Run.{IsToldAs}
+use Rattle.cm_outside.specs.Streams.{Streams}
 use Rattle.cm_cli.specs.Runs.{IsSession}
 use Rattle.cm_cli.proofs.Lifting.{lift_some}
 
@@ -22,7 +23,7 @@ wants_memory true fault is same = same
 wants_memory false fault is same = absurd (let wrong : false ≡ true = is in cc)
 
 -- it ended well
-pub ended_well : (start : Start) (acts : List Act) (streams : Streams) (keeps : Bool) (after : Machine)
+pub ended_well : (start : SizedMachine) (acts : List Act) (streams : Streams) (keeps : Bool) (after : Machine)
     (kept : Result (Option (List ℕ)) ProgramFault)
     → IfSome streams.lines (λ lines. Ends start.n start.cap acts lines streams.rest start.machine streams.held after
     streams.holds (Ok tt))
@@ -83,7 +84,7 @@ same_write failed session.Memory is = (λ f. absurd (cc), λ e. absurd (cc))
 same_write failed session.NoThread is = (λ f. absurd (cc), λ e. absurd (cc))
 
 -- it broke off, and this is told
-pub broken_off : (start : Start) (acts : List Act) (streams : Streams) (keeps : Bool) (after : Machine)
+pub broken_off : (start : SizedMachine) (acts : List Act) (streams : Streams) (keeps : Bool) (after : Machine)
     (fault : SessionFault) (told : ProgramFault) → told ≡ of_session fault
     → IfSome streams.lines (λ lines. Ends start.n start.cap acts lines streams.rest start.machine streams.held after
     streams.holds (Err fault))
