@@ -2,17 +2,18 @@
 
 ghost use Rattle.std.specs.Prelude.{◌≡◌, false};
 ghost use Rattle.std.specs.Thread.{IsSync};
+ghost use Rattle.cm_sizes.specs.Sizes.{sized};
 
 use crate::meeting::{Cut, FOUR, Meeting, Notes, Waits, no_notes};
-use cm_array::Machine;
-use cm_asm::assemble;
+use cm_asm::{Program, assemble};
 use cm_bits::doubles::{Bytes, Room};
 use cm_bits::{Sink, Source};
-use cm_cli::{Alone, SessionRunner, Several, Sharing, fresh};
+use cm_cli::{Alone, SessionRunner, Several, Sharing};
 use cm_draws::cut_in_two_places;
 use cm_image::dump;
 use cm_model::Rule;
-use cm_sizes::{on_machine, open_image};
+use cm_sizes::{AnyMachine, on_machine, open_image};
+use cm_tools::fresh;
 use cm_workers::Passage;
 use std::alloc::Global;
 use std::sync::{Arc, Wait};
@@ -102,6 +103,23 @@ impl Image {
     }
 }
 
+/// The image of what a session by this runner leaves of a machine.
+fn image_by<S: SessionRunner, I: Source, O: Sink>(
+    alloc: Global,
+    runner: S,
+    machine: &mut AnyMachine,
+    program: &Program,
+    commands: &mut I,
+    answers: &mut O,
+) -> Option<Vec<u8>>
+    requires can { S.can_run runner (sized machine.old) }
+    requires reader { I.has_failed commands.old ≡ false }
+    requires writer { O.has_failed answers.old ≡ false }
+{
+    runner.go(alloc, machine, program, commands, answers).ok()?;
+    machine.image(alloc).ok()
+}
+
 /// The image that one worker leaves, who answers the commands.
 fn kept_alone<I: Source, O: Sink>(
     alloc: Global,
@@ -113,30 +131,11 @@ fn kept_alone<I: Source, O: Sink>(
     requires writer { O.has_failed answers.old ≡ false }
 {
     let image = row.image.bytes(alloc)?;
-    match open_image(alloc, &image) {
-        Ok(machine) => {
-            on_machine!(machine, machine => left_by_one(alloc, row, machine, commands, answers))
-        }
-        Err(_) => None,
-    }
-}
-
-/// The same, on a machine of these sizes.
-fn left_by_one<const N: usize, const CAP: usize, I: Source, O: Sink>(
-    alloc: Global,
-    row: &Shared,
-    mut machine: Machine<N, CAP>,
-    commands: &mut I,
-    answers: &mut O,
-) -> Option<Vec<u8>>
-    requires reader { I.has_failed commands.old ≡ false }
-    requires writer { O.has_failed answers.old ≡ false }
-{
     let program = assemble(alloc, row.text).ok()?;
-    Alone
-        .go(alloc, &mut machine, &program, commands, answers)
-        .ok()?;
-    dump(alloc, &machine).ok()
+    let mut machine = open_image(alloc, &image).ok()?;
+    let kept = image_by(alloc, Alone, &mut machine, &program, commands, answers);
+    on_machine!(machine, machine => drop(machine));
+    kept
 }
 
 /// What one worker leaves.
@@ -162,7 +161,31 @@ fn gate_of(alloc: Global, row: &Shared, notes: &Arc<Notes, Global>) -> Option<Pa
     Some(Passage::Gated(Box::new(alloc, gate).ok()?))
 }
 
-/// The image that several workers leave.
+/// The image of what several workers leave of a machine.
+fn image_by_all<R: Threads + Wait + Sync, I: Source, O: Sink>(
+    rt: &R,
+    alloc: Global,
+    row: &Shared,
+    passage: Passage,
+    machine: &mut AnyMachine,
+    commands: &mut I,
+    answers: &mut O,
+) -> Option<Vec<u8>>
+    requires threads { IsSync R.row }
+    requires reader { I.has_failed commands.old ≡ false }
+    requires writer { O.has_failed answers.old ≡ false }
+{
+    let program = assemble(alloc, row.text).ok()?;
+    row.sharing.check(machine.dims()).ok()?;
+    let several = Several {
+        rt,
+        sharing: row.sharing,
+        passage,
+    };
+    image_by(alloc, several, machine, &program, commands, answers)
+}
+
+/// The same of a machine that is opened for them.
 fn kept_shared<R: Threads + Wait + Sync, I: Source, O: Sink>(
     rt: &R,
     alloc: Global,
@@ -176,39 +199,10 @@ fn kept_shared<R: Threads + Wait + Sync, I: Source, O: Sink>(
     requires writer { O.has_failed answers.old ≡ false }
 {
     let image = row.image.bytes(alloc)?;
-    match open_image(alloc, &image) {
-        Ok(machine) => {
-            on_machine!(machine, machine => left_by_all(rt, alloc, row, machine, passage, commands, answers))
-        }
-        Err(_) => None,
-    }
-}
-
-/// The same, on a machine of these sizes.
-fn left_by_all<const N: usize, const CAP: usize, R: Threads + Wait + Sync, I: Source, O: Sink>(
-    rt: &R,
-    alloc: Global,
-    row: &Shared,
-    mut machine: Machine<N, CAP>,
-    passage: Passage,
-    commands: &mut I,
-    answers: &mut O,
-) -> Option<Vec<u8>>
-    requires threads { IsSync R.row }
-    requires reader { I.has_failed commands.old ≡ false }
-    requires writer { O.has_failed answers.old ≡ false }
-{
-    row.sharing.check(machine.dims()).ok()?;
-    let program = assemble(alloc, row.text).ok()?;
-    let several = Several {
-        rt,
-        sharing: row.sharing,
-        passage,
-    };
-    several
-        .go(alloc, &mut machine, &program, commands, answers)
-        .ok()?;
-    dump(alloc, &machine).ok()
+    let mut machine = open_image(alloc, &image).ok()?;
+    let kept = image_by_all(rt, alloc, row, passage, &mut machine, commands, answers);
+    on_machine!(machine, machine => drop(machine));
+    kept
 }
 
 /// What several leave, who wait for one another.

@@ -1,4 +1,3 @@
-mod Lifting
 mod Sessions
 mod Going
 mod Beginning

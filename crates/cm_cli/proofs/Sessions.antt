@@ -1,5 +1,5 @@
 -- How a session ends whose image is to be kept, of how the session by itself ended.
-use Rattle.std.proofs.Common.{◌≡◌, Bool, true, false, ℕ, List, Option, Result, Ok, Err, refl, sym, subst}
+use Rattle.std.proofs.Common.{◌≡◌, Bool, true, false, ℕ, List, Option, Some, None, Result, Ok, Err, refl, sym, subst}
 use Rattle.std.specs.Prelude.{◌↔◌, IfSome, IsErrOf}
 use Rattle.cm_model.specs.declared.act.Act.{Act}
 use Rattle.cm_model.specs.Machine.{Machine}
@@ -14,7 +14,11 @@ use Rattle.cm_outside.specs.Puttings.{KeepsImage}
 use Rattle.cm_cli.specs.Run.{IsToldAs}
 use Rattle.cm_outside.specs.Streams.{Streams}
 use Rattle.cm_cli.specs.Runs.{IsSession}
-use Rattle.cm_cli.proofs.Lifting.{lift_some}
+
+-- what follows where there is a value
+lift_some : {X : Type 0} {P Q : X → Type 0} (o : Option X) → ((x : X) → P x → Q x) → IfSome o P → IfSome o Q
+lift_some (Some x) f h = f x h
+lift_some None f h = tt
 
 -- want of memory for the image
 wants_memory : (keeps : Bool) (fault : ProgramFault) → keeps ≡ true → fault ≡ Memory

@@ -1,6 +1,7 @@
 //! Who runs a session: one worker, or several.
 
 ghost use Rattle.std.specs.Prelude.{◌≡◌, false, None, IsErrOf};
+ghost use Rattle.std.specs.Thread.{IsSync};
 ghost use Rattle.cm_sizes.specs.Sizes.{SizedMachine, sized};
 ghost use Rattle.cm_cli.specs.Sharing.{sharing_fault};
 ghost use Rattle.cm_outside.specs.Streams.{streams};
@@ -74,7 +75,7 @@ pub struct Several<'a, R> {
 }
 
 impl<'a, R: Threads + Wait + Sync> SessionRunner for Several<'a, R> {
-    ghost can_run = { λ several any. sharing_fault any.n several.sharing ≡ None };
+    ghost can_run = { λ several any. (sharing_fault any.n several.sharing ≡ None) × IsSync R.row };
 
     ghost may_want = { λ several. Unit {0} };
 

@@ -36,6 +36,7 @@ pub record FailsToReady {F P : Type 0} (path : List ℕ) (fault : ProgramFault) 
   pub did : deeds ≡ Readied path (Err own) ∷ []
   pub told : fault ≡ of_put own
 
+-- the same of a file that is named; where none is, nothing fails
 abbrev pub IsUnready : {F P : Type 0} → Option (List ℕ) → ProgramFault → List (Deed F P) → Type 0
 IsUnready None fault deeds = ⊥
 IsUnready (Some path) fault deeds = FailsToReady path fault deeds
@@ -71,13 +72,14 @@ pub record Puts {F P : Type 0} (path bytes : List ℕ) (result : Result (Unit {0
   pub did : deeds ≡ Readied path part ∷ more
   pub then : FillsReady part bytes result more
 
--- once the program's work ended so: standard output goes out where it has no fault, and nothing more is done
+-- the deeds are that standard output goes out, and the program ends as that does
 pub record FlushesOut {F P : Type 0} (holds : Option (List ℕ)) (result : Result (Unit {0}) ProgramFault)
     (deeds : List (Deed F P)) : Type 0 where
   pub done : Result (Unit {0}) Failed
   pub did : deeds ≡ Flushed holds done ∷ []
   pub told : result ≡ flush_end done
 
+-- once the program's work ended so: standard output goes out where it has no fault, and nothing more is done
 abbrev pub Flushes : {F P : Type 0} → Option (List ℕ) → Result (Unit {0}) ProgramFault
     → Result (Unit {0}) ProgramFault → List (Deed F P) → Type 0
 Flushes holds (Ok done) result deeds = FlushesOut holds result deeds

@@ -10,6 +10,7 @@ pub record Streams : Type 0 where
   pub read_failed : Bool
   pub write_failed : Bool
 
+-- the same of their parts
 abbrev pub streams : Option (List ℕ) → Option (List ℕ) → Option (List ℕ) → Option (List ℕ) → Bool → Bool → Streams
 streams lines rest held holds read_failed write_failed = record {
   lines = lines;

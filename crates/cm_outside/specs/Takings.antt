@@ -1,5 +1,5 @@
 -- Files that are read to their end: which one, how much of it at most, and what came of it. Ours.
-use Rattle.std.specs.Prelude.{◌≡◌, ◌↔◌, ◌⊎◌, ℕ, ◌<◌, ◌≤◌, Bool, true, Option, IfSome, IsErrOf, Result, Ok, Err, Vec, List}
+use Rattle.std.specs.Prelude.{◌≡◌, ◌↔◌, ◌⊎◌, ℕ, ◌≤◌, Bool, true, Option, IsErrOf, Result, Ok, Err, Vec, List}
 use Rattle.std.specs.Prelude.{[], ◌∷◌, ◌++◌, length}
 use Rattle.std.specs.declared.alloc.Global.{Global}
 use Rattle.std.specs.Io.KnownBytes.{Consumes, IsAtEnd}
@@ -17,7 +17,7 @@ use Rattle.cm_outside.specs.declared.takes.TakeFault.TheVariants.{Read, TooMuch,
 use Rattle.cm_outside.specs.declared.program_fault.ProgramFault.{ProgramFault}
 use Rattle.cm_outside.specs.declared.program_fault.ProgramFault.TheVariants.{Text, Read as unread}
 use Rattle.cm_outside.specs.ProgramFault.{of_open, of_take}
-use Rattle.cm_outside.specs.Take.{ConsumesAtMost}
+use Rattle.cm_outside.specs.Take.{ConsumesAtMost, ConsumesBeyond}
 use Rattle.cm_outside.specs.Deeds.{Deed, Opened}
 
 -- the most bytes of a program text
@@ -29,6 +29,7 @@ pub record Reads (F : Type 0) : Type 0 where
   pub left : F → Option (List ℕ)
   pub has_failed : F → Bool
 
+-- the same of its parts
 abbrev pub reads_by : {F : Type 0} → (F → Option (List ℕ)) → (F → Bool) → Reads F
 reads_by left has_failed = record { left = left; has_failed = has_failed }
 
@@ -38,7 +39,7 @@ IsTakenTo reads limit file after (Ok bytes) =
     (length bytes.items ≤ limit) × Consumes (reads.left file) (reads.left after) bytes.items
     × IsAtEnd (reads.left after)
 IsTakenTo reads limit file after (Err Read) = ConsumesAtMost limit (reads.left file) (reads.left after)
-IsTakenTo reads limit file after (Err TooMuch) = IfSome (reads.left file) (λ bytes. limit < length bytes)
+IsTakenTo reads limit file after (Err TooMuch) = ConsumesBeyond limit (reads.left file) (reads.left after)
 IsTakenTo reads limit file after (Err Memory) = ConsumesAtMost limit (reads.left file) (reads.left after)
 
 -- what came of taking a file to its end, at most so many bytes

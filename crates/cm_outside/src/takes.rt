@@ -2,7 +2,7 @@
 
 ghost use Rattle.std.specs.Prelude.{◌≡◌, ◌<◌, ◌≤◌, ◌↔◌, true, false, length, IfOk, OnOk, IfSome, IsErrOf};
 ghost use Rattle.std.specs.Io.KnownBytes.{Consumes, IsAtEnd};
-ghost use Rattle.cm_outside.specs.Take.{ConsumesAtMost};
+ghost use Rattle.cm_outside.specs.Take.{ConsumesAtMost, ConsumesBeyond};
 
 use cm_bits::Source;
 use std::alloc::Global;
@@ -35,6 +35,8 @@ pub fn take<I: Source>(alloc: Global, source: &mut I, limit: u64) -> Result<Vec<
     ensures memory_within { IsErrOf result TakeFault.Memory
         → ConsumesAtMost limit (I.left source.old) (I.left source.new) }
     ensures too_much { IsErrOf result TakeFault.TooMuch → IfSome (I.left source.old) (λ bytes. limit < length bytes) }
+    ensures too_much_came { IsErrOf result TakeFault.TooMuch
+        → ConsumesBeyond limit (I.left source.old) (I.left source.new) }
 {
     let mut taken = Vec::new(alloc);
     let mut piece = [0u8; PIECE];

@@ -1,4 +1,5 @@
 mod Reading
+mod Heard
 mod Telling
 mod OneChip
 mod Programs

@@ -1,6 +1,6 @@
 -- What `cm1 list` writes, or why it refuses. Ours.
 use Rattle.std.specs.Prelude.{◌≡◌, ℕ, ◌<◌, ◌≤◌, Bool, true, false, Option, Result, Ok, Err, List, length}
-use Rattle.std.specs.Io.KnownBytes.{Appends, Keeps}
+use Rattle.std.specs.Io.KnownBytes.{Appends, Consumes, Keeps}
 use Rattle.cm_language.specs.declared.fault.AsmFault.{AsmFault}
 use Rattle.cm_language.specs.Program.{ProgramText, program_of, IsFaultOf}
 use Rattle.cm_language.specs.Listing.{listing}
@@ -61,6 +61,14 @@ EndsListing text held holds (Err Write) = IsListedInPart text held holds
 EndsListing text held holds (Err TooMuch) = IsTooLongToList text held holds
 EndsListing text held holds (Err Memory) = Keeps held holds
 EndsListing text held holds _ = ⊥
+
+-- a source, of which that is left in the end, gave some text, and it ended so as of that text and nothing more: this can
+-- be said of a source that does not tell its bytes
+pub record EndsListingForSome (source rest held holds : Option (List ℕ)) (result : Result (Unit {0}) ProgramFault)
+    : Type 0 where
+  pub text : List ℕ
+  pub read : Consumes source rest text
+  pub ends : EndsListing text held holds result
 
 -- it ended by a write
 abbrev pub is_write : Result (Unit {0}) ProgramFault → Bool

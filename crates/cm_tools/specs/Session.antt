@@ -1,6 +1,6 @@
 -- What a session of one chip writes, or why it refuses. Ours.
 use Rattle.std.specs.Prelude.{◌≡◌, ℕ, ◌<◌, ◌≤◌, Bool, true, false, Option, Result, Ok, Err, List, length, map, take}
-use Rattle.std.specs.Io.KnownBytes.{Appends, Keeps}
+use Rattle.std.specs.Io.KnownBytes.{Appends, Consumes, Keeps}
 use Rattle.cm_model.specs.declared.act.Nano.{Nano as Instruction}
 use Rattle.cm_model.specs.declared.act.Act.TheVariants.{Nano}
 use Rattle.cm_model.specs.Processor.{Processor}
@@ -63,6 +63,13 @@ Ends text held holds (Err Read) = Keeps held holds
 Ends text held holds (Err (Write count)) = IsCutShort text held holds count
 Ends text held holds (Err TooMuch) = IsTooLong text held holds
 Ends text held holds (Err Memory) = Keeps held holds
+
+-- a source, of which that is left in the end, gave some text, and it ended so as of that text and nothing more: this can
+-- be said of a source that does not tell its bytes
+pub record EndsForSome (source rest held holds : Option (List ℕ)) (result : Result (Unit {0}) ChipFault) : Type 0 where
+  pub text : List ℕ
+  pub read : Consumes source rest text
+  pub ends : Ends text held holds result
 
 -- the session ended by a write
 abbrev pub is_write : Result (Unit {0}) ChipFault → Bool

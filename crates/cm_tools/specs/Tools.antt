@@ -12,9 +12,10 @@ use Rattle.cm_outside.specs.declared.program_fault.ProgramFault.{ProgramFault}
 use Rattle.cm_outside.specs.declared.program_fault.ProgramFault.TheVariants.{Read, Memory}
 use Rattle.cm_outside.specs.ProgramFault.{of_chip}
 use Rattle.cm_outside.specs.Take.{ConsumesAtMost}
-use Rattle.cm_tools.specs.Session.{CHIP_LIMIT, Ends, has_read_all as has_heard_all, is_write as is_chip_write}
+use Rattle.cm_tools.specs.Session.{CHIP_LIMIT, Ends, EndsForSome, has_read_all as has_heard_all}
+use Rattle.cm_tools.specs.Session.{is_write as is_chip_write}
 use Rattle.cm_outside.specs.Takings.{PROGRAM_LIMIT}
-use Rattle.cm_tools.specs.Listed.{EndsListing, has_read_all, is_write}
+use Rattle.cm_tools.specs.Listed.{EndsListing, EndsListingForSome, has_read_all, is_write}
 use Rattle.cm_tools.specs.Fresh.{fresh_fault}
 use Rattle.cm_outside.specs.Deeds.{Deed, Opened}
 use Rattle.cm_outside.specs.Takings.{Reads}
@@ -31,6 +32,7 @@ pub record DoesChip {F P : Type 0} (streams : Streams) (result : Result (Unit {0
     (deeds : List (Deed F P)) : Type 0 where
   pub ended : Result (Unit {0}) ChipFault
   pub ends : IfSome streams.lines (λ text. Ends text streams.held streams.holds ended)
+  pub heard : EndsForSome streams.lines streams.rest streams.held streams.holds ended
   pub end : IsTrue (has_heard_all ended) → IsAtEnd streams.rest
   pub read : (streams.read_failed ≡ true) ↔ IsErrOf ended chip.Read
   pub read_within : IsErrOf ended chip.Read → ConsumesAtMost CHIP_LIMIT streams.lines streams.rest
@@ -44,6 +46,7 @@ pub record ListsOut {F P : Type 0} (reads : Reads F) (file : F) (held holds : Op
   pub after : F
   pub ended : Result (Unit {0}) ProgramFault
   pub ends : IfSome (reads.left file) (λ text. EndsListing text held holds ended)
+  pub heard : EndsListingForSome (reads.left file) (reads.left after) held holds ended
   pub end : IsTrue (has_read_all ended) → IsAtEnd (reads.left after)
   pub read : (reads.has_failed after ≡ true) ↔ IsErrOf ended Read
   pub read_within : IsErrOf ended Read → ConsumesAtMost PROGRAM_LIMIT (reads.left file) (reads.left after)

@@ -35,6 +35,7 @@ pub record FailsToOpen {F P : Type 0} (path : List ℕ) (deeds : List (Deed F P)
   pub none : Failed
   pub did : deeds ≡ Opened path (Err none) ∷ []
 
+-- the same of a file that is named; where none is, nothing fails
 abbrev pub RefusesSteps : {F P : Type 0} → Option (List ℕ) → List (Deed F P) → Type 0
 RefusesSteps None deeds = ⊥
 RefusesSteps (Some path) deeds = FailsToOpen path deeds
@@ -61,6 +62,7 @@ pub record ReadiesNot {F P : Type 0} (line : WeaveLine) (fault : ProgramFault) (
   pub opens : OpensSteps (option_map string_bytes line.steps) file first
   pub refused : IsUnready (option_map string_bytes line.out) fault second
 
+-- the steps cannot be opened, or they are, and the file cannot be made ready
 abbrev pub RefusesEnds : {F P : Type 0} → WeaveLine → ProgramFault → List (Deed F P) → Type 0
 RefusesEnds line fault deeds = OpensNoSteps line fault deeds ⊎ ReadiesNot line fault deeds
 

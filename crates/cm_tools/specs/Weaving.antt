@@ -21,6 +21,7 @@ pub record Outgoing : Type 0 where
   pub holds : Option (List ℕ)
   pub failed : Bool
 
+-- the same of its parts
 abbrev pub outgoing : Option (List ℕ) → Option (List ℕ) → Bool → Outgoing
 outgoing held holds failed = record { held = held; holds = holds; failed = failed }
 

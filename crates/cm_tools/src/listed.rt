@@ -3,7 +3,8 @@
 ghost use Rattle.std.specs.Prelude.{◌≡◌, ◌↔◌, true, false, IfSome, IsErrOf, IsTrue, MatchResult};
 ghost use Rattle.std.specs.Io.KnownBytes.{IsAtEnd};
 ghost use Rattle.cm_outside.specs.Take.{ConsumesAtMost};
-ghost use Rattle.cm_tools.specs.Listed.{EndsListing, IsListingOf, HasNoListing, has_read_all, is_write};
+ghost use Rattle.cm_tools.specs.Listed.{EndsListing, EndsListingForSome, IsListingOf, HasNoListing, has_read_all};
+ghost use Rattle.cm_tools.specs.Listed.{is_write};
 
 use cm_asm::assemble;
 use cm_bits::{Sink, Source, write_all};
@@ -23,6 +24,8 @@ pub fn list<I: Source, O: Sink>(
     requires writer { O.has_failed sink.old ≡ false }
     ensures ends { IfSome (I.left source.old) (λ text. EndsListing text (O.contents sink.old)
         (O.contents sink.new) result) }
+    ensures heard { EndsListingForSome (I.left source.old) (I.left source.new) (O.contents sink.old)
+        (O.contents sink.new) result }
     ensures end { IsTrue (has_read_all result) → IsAtEnd (I.left source.new) }
     ensures read { (I.has_failed source.new ≡ true) ↔ IsErrOf result ProgramFault.Read }
     ensures read_within { IsErrOf result ProgramFault.Read

@@ -3,7 +3,7 @@
 ghost use Rattle.std.specs.Prelude.{◌≡◌, ◌<◌, ◌^◌, ◌↔◌, true, false, length, Ok, IfSome, IsErrOf, IsTrue, MatchResult};
 ghost use Rattle.std.specs.Io.KnownBytes.{IsAtEnd};
 ghost use Rattle.cm_outside.specs.Take.{ConsumesAtMost};
-ghost use Rattle.cm_tools.specs.Session.{Ends, has_read_all, is_write, answer_of, HasNoAnswer};
+ghost use Rattle.cm_tools.specs.Session.{Ends, EndsForSome, has_read_all, is_write, answer_of, HasNoAnswer};
 
 use crate::one_chip::run_chip;
 use crate::program::read_program;
@@ -24,6 +24,8 @@ pub fn chip_session<I: Source, O: Sink>(
     requires reader { I.has_failed source.old ≡ false }
     requires writer { O.has_failed sink.old ≡ false }
     ensures ends { IfSome (I.left source.old) (λ text. Ends text (O.contents sink.old) (O.contents sink.new) result) }
+    ensures heard { EndsForSome (I.left source.old) (I.left source.new) (O.contents sink.old) (O.contents sink.new)
+        result }
     ensures end { IsTrue (has_read_all result) → IsAtEnd (I.left source.new) }
     ensures read { (I.has_failed source.new ≡ true) ↔ IsErrOf result ChipFault.Read }
     ensures read_within { IsErrOf result ChipFault.Read

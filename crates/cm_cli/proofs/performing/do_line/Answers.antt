@@ -33,7 +33,7 @@ returns-then-workers-eq1 g c = record { does = rw c.in-Run.is c.run_files.ensure
 
 pub run_files-2-requires : goal.run_files-2-requires
 run_files-2-requires g c = record {
-  can = λ any shared. shared;
+  can = λ any shared. (shared, c.requires.sync-R);
   alone = λ one wants. c.if-workers-eq1.false one;
   reader = c.requires.reader;
   writer = c.requires.writer;

@@ -15,7 +15,7 @@ returns-in-Ok g c = record {
       after = c.take.new.source;
       so = taken_to (reads_by g.H.File.Source.left g.H.File.Source.has_failed) c.args.limit c.in-Ok.file
           c.take.new.source c.take.result c.take.ensures.within c.take.ensures.ok c.take.ensures.end
-          c.take.ensures.read_within c.take.ensures.memory_within c.take.ensures.too_much;
+          c.take.ensures.read_within c.take.ensures.memory_within c.take.ensures.too_much_came;
       read = c.take.ensures.read;
     };
   };
