@@ -1,5 +1,4 @@
 mod Reading
-mod Heard
 mod Telling
 mod OneChip
 mod Programs

@@ -31,16 +31,8 @@ run_files-requires g c = record {
 pub returns-then-workers-eq1 : goal.returns-then-workers-eq1
 returns-then-workers-eq1 g c = record { does = rw c.in-Run.is c.run_files.ensures.does }
 
-pub run_files-2-requires : goal.run_files-2-requires
-run_files-2-requires g c = record {
-  can = λ any shared. (shared, c.requires.sync-R);
-  alone = λ one wants. c.if-workers-eq1.false one;
-  reader = c.requires.reader;
-  writer = c.requires.writer;
-}
-
 pub returns-else-workers-eq1 : goal.returns-else-workers-eq1
-returns-else-workers-eq1 g c = record { does = rw c.in-Run.is c.run_files-2.ensures.does }
+returns-else-workers-eq1 g c = record { does = rw c.in-Run.is c.run_files-in-Run.ensures.does }
 
 pub returns-in-Weave : goal.returns-in-Weave
 returns-in-Weave g c = record {
