@@ -20,7 +20,7 @@ use cm_array::{Machine, Plain};
 use cm_asm::Program;
 use cm_bits::{Sink, Source};
 use cm_debug::{SessionFault, session};
-use cm_resident::Resident;
+use cm_resident::Chooser;
 use cm_workers::Passage;
 use std::alloc::Global;
 use std::sync::Wait;
@@ -94,15 +94,15 @@ fn shared_runner<'a, const N: usize, R: Threads + Wait + Sync>(
     alloc: Global,
     sharing: Sharing,
     passage: Passage,
-) -> Resident<'a, R>
+) -> Chooser<'a, R>
     requires shared { sharing_fault N sharing ≡ None }
-    ensures blocks { result.k ≡ sharing.split }
-    ensures workers { result.workers ≡ sharing.workers }
-    ensures passage { result.passage ≡ passage }
+    ensures blocks { result.resident.k ≡ sharing.split }
+    ensures workers { result.resident.workers ≡ sharing.workers }
+    ensures passage { result.resident.passage ≡ passage }
 {
     let workers = u16::from(sharing.workers);
-    match Resident::new::<N>(rt, alloc, sharing.split, workers, passage) {
-        Ok(resident) => resident,
+    match Chooser::new::<N>(rt, alloc, sharing.split, workers, passage) {
+        Ok(chooser) => chooser,
         Err(_) => unreachable!(),
     }
 }
