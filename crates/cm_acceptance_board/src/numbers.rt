@@ -74,8 +74,8 @@ pub fn draw_all<R: Wait>(
     Ok(seen)
 }
 
-/// How often each end lets other threads run before it hands the cell over: where that is more often than the other looks, the
-/// other parks.
+/// How often each end lets other threads run before it hands the cell over: where that is more often than the other
+/// looks, the other parks.
 #[derive(Clone, Copy, Debug)]
 pub struct Lingers {
     pub files: u32,

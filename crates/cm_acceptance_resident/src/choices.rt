@@ -25,16 +25,16 @@ enum List {
     Northward(u16),
 }
 
-/// A machine of 4,096 chips goes through a list: whether all processors ask to send, and how often the gate of four workers was
-/// asked and passed.
+/// A machine of 4,096 chips goes through a list: whether all processors ask to send, and how often the gate of four
+/// workers was asked and passed.
 struct Choice {
     list: List,
     ask: bool,
     told: (u64, u64),
 }
 
-/// By the rule of DECISIONS, of four workers, who spare three quarters: a petit cycle counts as 448 acts here and has two
-/// rounds, and no row of memory is in use before a list.
+/// By the rule of DECISIONS, of four workers, who spare three quarters: a petit cycle counts as 448 acts here and has
+/// two rounds, and no row of memory is in use before a list.
 static CHOICES: [Choice; 8] = [
     Choice {
         list: List::Cycles(1),

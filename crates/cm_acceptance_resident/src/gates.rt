@@ -191,9 +191,9 @@ fn told<R: Threads + Wait + Sync>(
     gated(rt, alloc, kind, &mut machine, workers, refused, &calls)
 }
 
-/// Which of so many workers is not admitted, how often the gate was asked then, and after the second list, and how often it
-/// was passed in that, which has 128 rounds. The third has one. Workers that run on are admitted one by one, each before it is
-/// started: those before the refused one wait then, and are told that nobody begins.
+/// Which of so many workers is not admitted, how often the gate was asked then, and after the second list, and how
+/// often it was passed in that, which has 128 rounds. The third has one. Workers that run on are admitted one by one,
+/// each before it is started: those before the refused one wait then, and are told that nobody begins.
 static REFUSED: [(u16, u16, u64, u64, u64); 5] = [
     (2, 1, 2, 4, 256),
     (4, 0, 1, 5, 512),

@@ -30,7 +30,8 @@ fn has_team(alloc: Global) -> Option<bool> {
     Some(made == Some(2))
 }
 
-/// What two workers tell of the program of messages, which has 128 rounds, and where they refuse it, of the same once more.
+/// What two workers tell of the program of messages, which has 128 rounds, and where they refuse it, of the same once
+/// more.
 fn told_by<X: Runner<4, 7>>(
     runner: &mut X,
     alloc: Global,
@@ -50,8 +51,8 @@ fn told_by<X: Runner<4, 7>>(
     }
 }
 
-/// Whether it is what two workers have to tell: who refuses leaves the machine as it was and passes nobody. Where memory was
-/// wanting the gate was asked for nobody, where a thread was for all up to that one.
+/// Whether it is what two workers have to tell: who refuses leaves the machine as it was and passes nobody. Where
+/// memory was wanting the gate was asked for nobody, where a thread was for all up to that one.
 fn is_as_it_has_to_be(refused: Option<Listed>, last: Listed) -> bool {
     let asked = match refused {
         None => 0,

@@ -26,7 +26,7 @@ use Rattle.cm_workers.specs.Runs.{AreAfter}
 use Rattle.cm_resident.specs.declared.worker.Worker.{Worker}
 use Rattle.cm_resident.specs.declared.running.Ready.{Ready}
 use Rattle.cm_resident.specs.Lanes.{Run, before, rounds_in}
-use Rattle.cm_resident.specs.Teams.{IsOfTeam, IsTeam, HasWorked, HaveWorked}
+use Rattle.cm_resident.specs.Teams.{IsOfTeam, IsOfSome, IsTeam, HasWorked, HaveWorked}
 use Rattle.cm_resident.specs.Laws.{LeaveTheirMachine, TeamsLeaveTheirMachine}
 use Rattle.cm_resident.specs.Lineups.{AreLinedUp}
 
@@ -156,6 +156,16 @@ lined_up_leave run count readies shares some is_machine lined share_count have =
     let same_count : length readies ≡ count = lined.len ∙ lined.is.len in
     teams_leave_their_machine run count lined.team shares (omega (arith, some, same_count)) is_machine lined.is
     (have_worked lined.team readies shares lined.len share_count lined.each have)
+
+-- who waits for a start word is of some team
+pub lined_up_of_some : (run : Run) (count : ℕ) (readies : List Ready) → AreLinedUp run count readies
+    → (w : ℕ) (d : Ready) → w < length readies → IsOfSome (get_or readies w d).worker
+lined_up_of_some run count readies lined w d below =
+    let there : w < length lined.team = (let f = lined.len in omega (arith, below, f)) in
+    let e : Worker = first_of lined.team (omega (arith, there)) in
+    let one : w < count = (let f = lined.is.len in omega (arith, there, f)) in
+    subst (λ (x : Worker). IsOfSome x) (sym (lined.each w d e there))
+    (record { run = run; count = count; of = lined.is.each w e one })
 
 -- who waits for a start word has the number of its place
 pub lined_up_id : (run : Run) (count w : ℕ) (readies : List Ready) (d : Ready) → AreLinedUp run count readies

@@ -22,6 +22,7 @@ pub record LeaveTheirMachine (run : Run) (shares : List (Vec KeptBlock Global)) 
   pub machine : (blocks : List KeptBlock) → length blocks ≡ 2 ^ run.k → AreDealt (length shares) blocks shares
       → AreMachineAfter run blocks
 
+-- so it is of every team that has worked
 abbrev pub TeamsLeaveTheirMachine : Type 0
 TeamsLeaveTheirMachine =
     (run : Run) (count : ℕ) (team : List Worker) (shares : List (Vec KeptBlock Global)) → 0 < count
@@ -34,5 +35,6 @@ pub record AreOfExchange (run : Run) (b j : ℕ) : Type 0 where
   pub due_is : dues run b j ≡ exchange.due_list (exchange.exchange_of run.n run.room run.k run.machine run.acts) j b
   pub giver_is : givers run b j ≡ exchange.giver run.k j b
 
+-- so it is of every lane
 abbrev pub LanesAreOfTheExchange : Type 0
 LanesAreOfTheExchange = (run : Run) (b j : ℕ) → AreOfExchange run b j

@@ -20,8 +20,8 @@ use std::alloc::Global;
 use std::sync::Wait;
 use std::thread::Threads;
 
-/// The runner that chooses for each list: the thread of the caller goes through one that it has done before it was shared
-/// out, workers that run on through all others.
+/// The runner that chooses for each list: the thread of the caller goes through one that it has done before it was
+/// shared out, workers that run on through all others.
 #[derive(Drop)]
 pub struct Chooser<'a, R> {
     resident: Resident<'a, R>,
@@ -53,12 +53,12 @@ impl<'a, R> Chooser<'a, R> {
     fn goes_alone<const N: usize, const CAP: usize>(
         &self,
         machine: &Machine<N, CAP>,
-        acts: &[Act],
+        list: &[Act],
         cycles: usize,
     ) -> Result<bool, NoMemory> {
         let share = self.resident.share(machine.dims());
-        let rounds = rounds(self.resident.alloc(), machine.dims(), acts, share.k)?;
-        Ok(is_soon_done(machine, acts, share.workers, rounds.len(), cycles))
+        let rounds = rounds(self.resident.alloc(), machine.dims(), list, share.k)?;
+        Ok(is_soon_done(machine, list, share.workers, rounds.len(), cycles))
     }
 }
 
@@ -69,13 +69,13 @@ impl<'a, const N: usize, const CAP: usize, R: Threads + Wait + Sync> Runner<N, C
     ghost threads_lacked = { λ runner. runner.resident.threads_lacked };
 
     /// Takes memory to count the rounds, and then that of the runner that goes.
-    fn go(&mut self, machine: &mut Machine<N, CAP>, acts: &[Act]) -> Result<(), RunFault>
+    fn go(&mut self, machine: &mut Machine<N, CAP>, list: &[Act]) -> Result<(), RunFault>
         requires runner { IsSync R.row }
-        ensures long { (result ≡ Err RunFault.Long) ↔ IsTrue (is_long acts.now) }
+        ensures long { (result ≡ Err RunFault.Long) ↔ IsTrue (is_long list.now) }
         ensures clock { (result ≡ Err RunFault.Clock)
-            ↔ (IsFalse (is_long acts.now) × IsTrue (is_late machine.old.machine.clock acts.now)) }
-        ensures empty { acts.now ≡ [] → IsOk result }
-        ensures ok { OnOk result (machine.new.machine ≡ run_of N CAP machine.old.machine acts.now) }
+            ↔ (IsFalse (is_long list.now) × IsTrue (is_late machine.old.machine.clock list.now)) }
+        ensures empty { list.now ≡ [] → IsOk result }
+        ensures ok { OnOk result (machine.new.machine ≡ run_of N CAP machine.old.machine list.now) }
         ensures account { OnOk result (SameLines (account N machine.new.machine)
             (account N machine.old.machine ++ newly_injected N machine.old.machine machine.new.machine)) }
         ensures threads { MatchResult result
@@ -88,10 +88,10 @@ impl<'a, const N: usize, const CAP: usize, R: Threads + Wait + Sync> Runner<N, C
         ensures workers { self.new.resident.workers ≡ self.old.resident.workers }
         ensures passage { self.new.resident.passage ≡ self.old.resident.passage }
     {
-        let cycles = check_stretch(acts, machine.clock())?;
-        if acts.is_empty() || self.goes_alone(machine, acts, cycles)? {
-            return Plain.go(machine, acts);
+        let cycles = check_stretch(list, machine.clock())?;
+        if list.is_empty() || self.goes_alone(machine, list, cycles)? {
+            return Plain.go(machine, list);
         }
-        self.resident.go(machine, acts)
+        self.resident.go(machine, list)
     }
 }

@@ -10,8 +10,8 @@ use cm_workers::Passage;
 use std::marker::Model;
 use std::sync::Wait;
 
-/// A worker that waits. It works only if it was let begin, so one that is cancelled neither fills nor files. Contracts see
-/// the worker.
+/// A worker that waits. It works only if it was let begin, so one that is cancelled neither fills nor files. Contracts
+/// see the worker.
 #[derive(Drop)]
 pub(crate) struct Held {
     worker: Worker,

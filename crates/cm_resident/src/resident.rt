@@ -27,9 +27,9 @@ use std::alloc::Global;
 use std::sync::Wait;
 use std::thread::Threads;
 
-/// The runner whose workers run on: it cuts a copy of a machine into blocks, which workers run, each in a thread of its
-/// own to the end of the list; in each round blocks hand one another parcels over lanes. Then it puts them together again.
-/// So it does with every list that is not empty.
+/// The runner whose workers run on: it cuts a copy of a machine into blocks, which workers run, each in a thread of
+/// its own to the end of the list; in each round blocks hand one another parcels over lanes. Then it puts them
+/// together again. So it does with every list that is not empty.
 #[derive(Drop)]
 pub struct Resident<'a, R> {
     rt: &'a R,
@@ -112,10 +112,10 @@ impl<'a, const N: usize, const CAP: usize, R: Threads + Wait + Sync> Runner<N, C
 
     ghost threads_lacked = { λ runner. runner.threads_lacked };
 
-    /// Of a list that is not empty it takes memory for a copy of the machine, for the logs of all petit cycles in the list,
-    /// for what its blocks exchange, and for what its threads leave. Then each worker is admitted and its thread started,
-    /// one after the other; none begins before all are started. Where memory or a thread is wanting the machine stays as
-    /// it was.
+    /// Of a list that is not empty it takes memory for a copy of the machine, for the logs of all petit cycles in the
+    /// list, for what its blocks exchange, and for what its threads leave. Then each worker is admitted and its thread
+    /// started, one after the other; none begins before all are started. Where memory or a thread is wanting the
+    /// machine stays as it was.
     fn go(&mut self, machine: &mut Machine<N, CAP>, acts: &[Act]) -> Result<(), RunFault>
         requires runner { IsSync R.row }
         ensures long { (result ≡ Err RunFault.Long) ↔ IsTrue (is_long acts.now) }
@@ -235,14 +235,13 @@ fn share_out<const N: usize, const CAP: usize, R: Threads + Wait + Sync>(
         → (w : ℕ) → w < workers → admits (gate.vtable, gate.value) w) }
     ensures err { OnErr result (machine.new.machine ≡ machine.old.machine) }
 {
-    let _clock = machine.clock();
     let prepared = prepare(alloc, k, workers, machine, acts, used)?;
     run_prepared(rt, passage, machine, prepared, used)?;
     Ok(())
 }
 
-/// All that a list wants before the first of its threads is started: a team with its start words and room for what it leaves,
-/// and room for its 2^`k` blocks.
+/// All that a list wants before the first of its threads is started: a team with its start words and room for what it
+/// leaves, and room for its 2^`k` blocks.
 #[derive(Drop)]
 struct Prepared {
     k: u8,
@@ -267,7 +266,7 @@ fn prepare<const N: usize, const CAP: usize>(
     requires clock { IsFalse (is_late machine.now.machine.clock acts.now) }
     ensures k { IfOk result (λ prepared. prepared.k ≡ k) }
     ensures team { IfOk result (λ prepared. AreLinedUp
-        (record { n = N; k = k; room = CAP; machine = machine.now.machine; acts = acts.now })
+        (record { n = N; k = prepared.k; room = CAP; machine = machine.now.machine; acts = acts.now })
         workers prepared.all.readies.items) }
     ensures none { IfOk result (λ prepared.
         AreEmpty prepared.all.handles.items prepared.all.left.items prepared.all.shares.items) }
@@ -275,8 +274,9 @@ fn prepare<const N: usize, const CAP: usize>(
         (vec_capacity prepared.all.handles) (vec_capacity prepared.all.left) (vec_capacity prepared.all.shares)) }
     ensures untold { IfOk result (λ prepared. All (λ word. word ≡ 0) prepared.all.starters.items) }
     ensures no_places { IfOk result (λ prepared. prepared.places.items ≡ []) }
-    ensures place_room { IfOk result (λ prepared. 2 ^ k ≤ vec_capacity prepared.places) }
+    ensures place_room { IfOk result (λ prepared. 2 ^ prepared.k ≤ vec_capacity prepared.places) }
 {
+    // Who asks for the counter is told that the machine is whole, and of at most 12 dimensions.
     let _clock = machine.clock();
     let team = team_in(alloc, machine, acts, k, workers, used)?;
     let all = line_up(alloc, team)?;
@@ -310,6 +310,7 @@ fn run_prepared<const N: usize, const CAP: usize, R: Threads + Wait + Sync>(
         → admits (gate.vtable, gate.value) (get_or prepared.all.readies.items w d).worker.id) }
     ensures err { OnErr result (machine.new.machine ≡ machine.old.machine) }
 {
+    // Who asks for the counter is told that the machine is whole, and of at most 12 dimensions.
     let _clock = machine.clock();
     let Prepared { k, all, places } = prepared;
     let shares = work_all(rt, passage, all)?;

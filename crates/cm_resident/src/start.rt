@@ -183,8 +183,8 @@ impl Starter {
     }
 }
 
-/// A start word that was put, for which nobody was woken yet. It may not be let go: `wake` alone takes it. So no starter
-/// can forget its worker, or wake it before there is anything to see.
+/// A start word that was put, for which nobody was woken yet. It may not be let go: `wake` alone takes it. So no
+/// starter can forget its worker, or wake it before there is anything to see.
 struct Unwoken<'a> {
     table: &'a StartTable,
     ghost one: { table.now.shared.table_id.words ≡ 1 },

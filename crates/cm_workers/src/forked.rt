@@ -107,9 +107,10 @@ impl<'a, const N: usize, const CAP: usize, R: Threads + Wait> Runner<N, CAP> for
 
     ghost threads_lacked = { λ runner. runner.threads_lacked };
 
-    /// Of a list that is not empty it takes memory for a copy of the machine, for what its blocks exchange, and for the
-    /// logs of all petit cycles in the list. Then each worker is admitted, before any is started. A round takes memory to
-    /// deal the blocks out and to take them back. Where memory or a thread is wanting the machine stays as it was.
+    /// Of a list that is not empty it takes memory for a copy of the machine, for what its blocks exchange, and for
+    /// the logs of all petit cycles in the list. Then each worker is admitted, before any is started. A round takes
+    /// memory to deal the blocks out and to take them back. Where memory or a thread is wanting the machine stays as
+    /// it was.
     fn go(&mut self, machine: &mut Machine<N, CAP>, acts: &[Act]) -> Result<(), RunFault>
         requires runner { IsSync R.row }
         ensures long { (result ≡ Err RunFault.Long) ↔ IsTrue (is_long acts.now) }
@@ -201,7 +202,8 @@ fn fork<const N: usize, const CAP: usize, R: Threads + Wait>(
     Ok(())
 }
 
-/// Asks whether so many workers may begin, the one with the lowest number first; no further one once a worker was refused.
+/// Asks whether so many workers may begin, the one with the lowest number first; no further one once a worker was
+/// refused.
 fn admit_all(passage: &Passage, workers: u16) -> Result<(), NoThread>
     ensures open { passage.now ≡ Passage.Open → IsOk result }
     ensures admitted { IfOk result (λ _. (gate : _) → passage.now ≡ Passage.Gated gate

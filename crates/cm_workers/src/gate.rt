@@ -16,10 +16,10 @@ pub trait Gate: Sync + Send + Drop {
     // What it has of a worker of a number that came by, of a round as it was told, and of the worker's blocks.
     ghost saw: { Self → ℕ → ℕ → List KeptBlock → Type 0 } = { λ _ _ _ _. Unit {0} };
 
-    /// Whether a worker may begin. It is asked once for each list of acts that is shared out, the worker with the lowest
-    /// number first, once all memory that comes before the first thread was had, and before that worker is started; no
-    /// further one once a worker was refused. It is not asked for a list that is empty or refused as too long or too
-    /// late, nor for workers that a smaller machine has no blocks for.
+    /// Whether a worker may begin. It is asked once for each list of acts that is shared out, the worker with the
+    /// lowest number first, once all memory that comes before the first thread was had, and before that worker is
+    /// started; no further one once a worker was refused. It is not asked for a list that is empty or refused as too
+    /// long or too late, nor for workers that a smaller machine has no blocks for.
     fn admit(&self, worker: u16) -> bool
         ensures admitted { IsTrue result → admits self.now worker };
 

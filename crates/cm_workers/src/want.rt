@@ -12,8 +12,8 @@ enum Refusal {
     Starter,
 }
 
-/// A thread that was not admitted or not started. No refused growth makes one: it comes from `Passage::admit`, of what a
-/// start of a thread answers, and from a worker whose starter let nobody begin.
+/// A thread that was not admitted or not started. No refused growth makes one: it comes from `Passage::admit`, of what
+/// a start of a thread answers, and from a worker whose starter let nobody begin.
 #[derive(Clone, Copy, Debug, PartialEq, Eq, Error)]
 #[error("a thread was not admitted or not started")]
 pub struct NoThread {

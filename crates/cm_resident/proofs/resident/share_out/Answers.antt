@@ -27,9 +27,12 @@ pub returns-clause-admitted : goal.returns-clause-admitted
 returns-clause-admitted g c gate is w below =
     let lined = c.in_ok-prepared.ensures.team in
     let readies = c.in_ok-prepared.prepared.all.readies.items in
-    let run : Run = record { n = g.row.N; k = c.args.k; room = g.row.CAP; machine = c.args.machine.now.machine; acts = c.args.acts.now } in
+    let k = c.in_ok-prepared.prepared.k in
+    let run : Run =
+    record { n = g.row.N; k = k; room = g.row.CAP; machine = c.args.machine.now.machine; acts = c.args.acts.now } in
     let count : length readies ≡ c.args.workers = lined.len ∙ lined.is.len in
     let there : w < length readies = omega (arith, count, below) in
     let d : Ready = first_of readies (omega (arith, there)) in
-    subst (λ (v : ℕ). (goal.Gate-dyn g (gate.vtable, gate.value)).admits gate.value v) (lined_up_id run c.args.workers w readies d lined below)
+    subst (λ (v : ℕ). (goal.Gate-dyn g (gate.vtable, gate.value)).admits gate.value v)
+    (lined_up_id run c.args.workers w readies d lined below)
     (c.in_ok-run_prepared.ensures.admitted gate is w d there)
