@@ -7,15 +7,15 @@ use Rattle.std.specs.List.{filter, range_with_len}
 use Rattle.cm_bits.specs.declared.plane.Dir.{Dir}
 use Rattle.cm_bits.specs.declared.plane.Dir.TheVariants as dir
 use Rattle.cm_model.specs.Steps.{Step, Instruct, Look, Inject, Cross, Deliver, Phase}
-use Rattle.cm_blocks.specs.Parcels.{Parcel, due}
+use Rattle.cm_blocks.specs.Parcels.{due}
 use Rattle.cm_blocks.specs.Parts.{block}
 use Rattle.cm_blocks.specs.Rounds.{rounds}
 use Rattle.cm_subcube.specs.declared.round.Round.{Round}
-use Rattle.cm_subcube.specs.Rounds.{kind_over, kind_of, round_of, step_of}
+use Rattle.cm_subcube.specs.Rounds.{kind_over, kind_of, round_of}
 use Rattle.cm_subcube.proofs.Following.{round_is_followed}
 use Rattle.cm_exchange.specs.Lanes as exchange
 use Rattle.cm_resident.specs.Lanes.{Run, before, rounds_in, place_of, picks, is_over, sent_in, dues, givers}
-use Rattle.cm_resident.specs.Laws.{AreOfExchange, LanesAreOfTheExchange}
+use Rattle.cm_resident.specs.Laws.{LanesAreOfTheExchange}
 use Rattle.cm_resident.proofs.Going.{found}
 
 -- ---- what is picked is what passes a test of its number

@@ -1,4 +1,4 @@
-use Rattle.std.proofs.Common.{rules, ◌≡◌, ◌*◌, ◌%◌, ◌^◌, ℕ, subst, sym, arith, vec_capacity}
+use Rattle.std.proofs.Common.{◌≡◌, ◌*◌, ◌%◌, ◌^◌, ℕ, subst, sym, arith, vec_capacity}
 use Rattle.std.proofs.lemmas.Nat.{one_shl}
 use Rattle.cm_resident.specs.Gathering.{HaveRoom}
 use Rattle.cm_resident.proofs.resident.prepare.Goals as goal

@@ -1,18 +1,20 @@
-use Rattle.std.proofs.Common.{rules, ◌≡◌, ◌<◌, ℕ, length, get_or, subst, arith, ◌∙◌}
+use Rattle.std.proofs.Common.{rules, ◌≡◌, ◌<◌, ◌≤◌, ◌-◌, ◌/◌, ℕ, length, subst, arith, ◌∙◌}
 use Rattle.cm_resident.specs.declared.running.Ready.{Ready}
 use Rattle.cm_resident.specs.Lanes.{Run}
+use Rattle.cm_resident.specs.Lineups.{AreLinedUpForSome}
 use Rattle.cm_resident.proofs.Ending.{account_after, first_of, lined_up_id}
 use Rattle.cm_resident.proofs.resident.share_out.Goals as goal
 
-pub run_prepared-requires-clause-some : goal.run_prepared-requires-clause-some
-run_prepared-requires-clause-some g c =
-    let lined = c.in_ok-prepared.ensures.team in
-    let count : length c.in_ok-prepared.prepared.all.readies.items ≡ c.args.workers = lined.len ∙ lined.is.len in
-    omega (arith, count, c.requires.some)
-
-pub run_prepared-requires-clause-team : goal.run_prepared-requires-clause-team
-run_prepared-requires-clause-team g c =
-    record { acts = c.args.acts.now; count = c.args.workers; of = c.in_ok-prepared.ensures.team }
+pub run_prepared-requires-after_bounds : goal.run_prepared-requires-after_bounds
+run_prepared-requires-after_bounds g c =
+    let prepared = c.in_ok-prepared.prepared in let ensures = c.in_ok-prepared.ensures in
+    let lined = ensures.team in
+    let count : length prepared.all.readies.items ≡ c.args.workers = lined.len ∙ lined.is.len in
+    let within : prepared.k ≤ g.row.N - g.row.N / 2 = omega (arith, ensures.k, c.requires.within) in
+    let some : 0 < length prepared.all.readies.items = omega (arith, count, c.requires.some) in
+    let team : AreLinedUpForSome g.row.N prepared.k g.row.CAP c.args.machine.now.machine prepared.all.readies.items =
+    record { acts = c.args.acts.now; count = c.args.workers; of = lined } in
+    search (rules, within, some, team)
 
 pub returns-clause-ok : goal.returns-clause-ok
 returns-clause-ok g c =

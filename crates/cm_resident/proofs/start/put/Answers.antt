@@ -1,4 +1,4 @@
-use Rattle.std.proofs.Common.{rules, ap, ◌∙◌, []}
+use Rattle.std.proofs.Common.{rules, ap, ◌∙◌}
 use Rattle.cm_resident.specs.Starting.{starter}
 use Rattle.cm_resident.proofs.Starts.{tells}
 use Rattle.cm_resident.proofs.start.put.Goals as goal
