@@ -1,4 +1,4 @@
-//! The program's own sharing: all workers that it is told to have meet in each round.
+//! The program's own sharing: where it shares out a list, all workers that it is told to have meet in each round.
 
 ghost use Rattle.std.specs.Prelude.{◌≡◌, false};
 ghost use Rattle.std.specs.Thread.{IsSync};
@@ -23,7 +23,8 @@ use std::thread::Threads;
 /// All processors send to the chip across all of four dimensions, and across all of twelve.
 const OVER_FOUR: &[u8] = b"field rel 3968 16\nconst rel 15\nset 12\ncycle\n";
 
-const OVER_TWELVE: &[u8] = b"field rel 3968 16\nconst rel 4095\nset 12\ncycle\n";
+const OVER_TWELVE: &[u8] = b"field rel 3968 16\nconst rel 4095\nset 12\n\
+    cycle\ncycle\ncycle\ncycle\ncycle\ncycle\ncycle\ncycle\n";
 
 const TWICE_OVER_FOUR: &[u8] = b"field rel 3968 16\nconst rel 15\nset 12\ncycle\ncycle\n";
 
@@ -47,7 +48,7 @@ struct Shared {
     text: &'static [u8],
     sharing: Sharing,
     cut: Cut,
-    /// How often its workers come to a round.
+    /// How often its workers come to a round: never where one thread goes through the list sooner.
     came: u64,
 }
 
@@ -57,13 +58,23 @@ const BY_FOUR: Sharing = Sharing {
     workers: 4,
 };
 
-static SHARED: [Shared; 4] = [
+static SHARED: [Shared; 5] = [
     Shared {
         image: Image::Blank(4),
         text: OVER_FOUR,
         sharing: BY_FOUR,
         cut: FOUR,
-        came: 8,
+        came: 0,
+    },
+    Shared {
+        image: Image::Blank(12),
+        text: OVER_TWELVE,
+        sharing: BY_FOUR,
+        cut: Cut {
+            blocks: 4,
+            chips: 1024,
+        },
+        came: 64,
     },
     Shared {
         image: Image::Blank(12),
@@ -76,21 +87,21 @@ static SHARED: [Shared; 4] = [
             blocks: 64,
             chips: 64,
         },
-        came: 384,
+        came: 3072,
     },
     Shared {
         image: Image::Cut(Rule::First),
         text: TWICE_OVER_FOUR,
         sharing: BY_FOUR,
         cut: FOUR,
-        came: 16,
+        came: 0,
     },
     Shared {
         image: Image::Cut(Rule::Oldest),
         text: TWICE_OVER_FOUR,
         sharing: BY_FOUR,
         cut: FOUR,
-        came: 16,
+        came: 0,
     },
 ];
 

@@ -12,7 +12,7 @@ use cm_array::{Machine, Plain};
 use cm_asm::Program;
 use cm_bits::{Sink, Source};
 use cm_debug::{SessionFault, session};
-use cm_resident::Resident;
+use cm_resident::Chooser;
 use cm_sizes::{AnyMachine, on_machine};
 use cm_workers::Passage;
 use std::alloc::Global;
@@ -116,11 +116,11 @@ fn go_by_workers<const N: usize, const CAP: usize, R: Threads + Wait + Sync, I: 
 fn shared_runner<'a, const N: usize, R: Threads + Wait + Sync>(
     alloc: Global,
     several: Several<'a, R>,
-) -> Resident<'a, R>
+) -> Chooser<'a, R>
     requires shared { sharing_fault N several.sharing ≡ None }
-    ensures blocks { result.k ≡ several.entry.sharing.split }
-    ensures workers { result.workers ≡ several.entry.sharing.workers }
-    ensures passage { result.passage ≡ several.entry.passage }
+    ensures blocks { result.resident.k ≡ several.entry.sharing.split }
+    ensures workers { result.resident.workers ≡ several.entry.sharing.workers }
+    ensures passage { result.resident.passage ≡ several.entry.passage }
 {
     let Several {
         rt,
@@ -128,8 +128,8 @@ fn shared_runner<'a, const N: usize, R: Threads + Wait + Sync>(
         passage,
     } = several;
     let workers = u16::from(sharing.workers);
-    match Resident::new::<N>(rt, alloc, sharing.split, workers, passage) {
-        Ok(resident) => resident,
+    match Chooser::new::<N>(rt, alloc, sharing.split, workers, passage) {
+        Ok(chooser) => chooser,
         Err(_) => unreachable!(),
     }
 }
