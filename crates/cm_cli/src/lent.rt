@@ -109,7 +109,10 @@ fn go_by_workers<const N: usize, const CAP: usize, R: Threads + Wait + Sync, I: 
         (I.has_failed commands.new) (O.has_failed out.new)) result }
 {
     let mut runner = shared_runner::<N, R>(alloc, several);
-    session(alloc, machine, program, commands, out, &mut runner)
+    let ended = session(alloc, machine, program, commands, out, &mut runner);
+    // By a call, since the borrow checker does not follow parts of parts where one of another crate goes as it stands.
+    drop(runner);
+    ended
 }
 
 /// The runner of as many workers as are asked for, on as many blocks of a machine of 2^`N` chips.
