@@ -1,8 +1,8 @@
 //! Files of the user: one that is read whole, and one that is put where the user wants it.
 
 use crate::fault::Fault;
-use cm_cli::{PutFault, TakeFault, take};
 use cm_host::{open, put_file};
+use cm_outside::{PutFault, TakeFault, take};
 use std::alloc::Global;
 use std::rt::Files;
 

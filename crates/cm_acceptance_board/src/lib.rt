@@ -5,4 +5,4 @@ mod numbers;
 #[cfg(test)]
 mod tests;
 
-pub use numbers::{draw_all, file_all, opened, relay};
+pub use numbers::{Lingers, draw_all, file_all, opened, relay};

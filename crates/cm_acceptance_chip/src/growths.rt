@@ -2,9 +2,11 @@
 
 use cm_bits::NoMemory;
 use cm_bits::doubles::{Bytes, Room};
-use cm_cli::{AsmKind, ChipFault, Line, LineFault, TakeFault, chip_session, command, take};
 use cm_draws::{Call, address, first_not_so, flag, processor};
 use cm_element::{Chip, NearRun, Run, WideOutputs};
+use cm_line::{Line, LineFault, command};
+use cm_outside::{AsmKind, ChipFault, TakeFault, take};
+use cm_tools::chip_session;
 use std::alloc::{AllocError, Global};
 
 /// What takes memory.

@@ -3,9 +3,10 @@
 use crate::hostile::FOUR_CHIPS;
 use cm_array::Machine;
 use cm_bits::NoMemory;
-use cm_cli::{ProgramFault, fresh};
 use cm_draws::{Call, first_not_so};
 use cm_image::{ImageFault, dump, load};
+use cm_outside::ProgramFault;
+use cm_tools::fresh;
 use std::alloc::Global;
 
 /// What takes memory.

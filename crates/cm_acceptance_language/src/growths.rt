@@ -5,11 +5,12 @@ use cm_array::{Machine, Plain, RunFault, Runner};
 use cm_asm::{AsmFault, AsmKind, Program, assemble};
 use cm_bits::doubles::{Bytes, Room};
 use cm_bits::{Field, NoMemory};
-use cm_cli::{ProgramFault, list};
 use cm_draws::{Call, are_same, first_not_so, flag, processor};
 use cm_language::{Context, Macro, MacroFault};
 use cm_macros::expand;
 use cm_model::Act;
+use cm_outside::ProgramFault;
+use cm_tools::list;
 use std::alloc::{AllocError, Global};
 
 /// What takes memory.

@@ -1,14 +1,15 @@
 //! Gates that admit workers or do not.
 
-ghost use Rattle.std.specs.Prelude.{IsTrue};
+ghost use Rattle.std.specs.Prelude.{◌≡◌, ◌^◌, IsTrue};
 ghost use Rattle.std.specs.List.{All};
 ghost use Rattle.std.specs.Thread.{IsSync};
 ghost use Rattle.cm_workers.specs.Gates.{ComesBy};
 
+use crate::rows::sent_on;
 use crate::runners::Kind;
 use cm_array::{Machine, RunFault, Runner};
-use cm_bits::FlagNo;
-use cm_draws::{four_messages_each, poke_plane, run_beside_plain};
+use cm_bits::{Dir, FlagNo};
+use cm_draws::{flag, four_messages_each, poke_plane, run_beside_plain};
 use cm_model::Act;
 use cm_resident::Resident;
 use cm_subcube::Block;
@@ -21,19 +22,22 @@ use std::thread::Threads;
 
 /// How often a gate was asked, and how often it was passed.
 #[derive(Drop)]
-struct Calls {
+pub(crate) struct Calls {
     asked: AtomicU64,
     passed: AtomicU64,
 }
 
 impl Calls {
-    fn told(&self) -> (u64, u64) {
+    pub(crate) fn told(&self) -> (u64, u64) {
         (
             self.asked.load(Ordering::SeqCst),
             self.passed.load(Ordering::SeqCst),
         )
     }
 }
+
+/// The number of a worker that no machine has.
+pub(crate) const NOBODY: u16 = 64;
 
 /// A gate that does not admit a worker at its first question.
 #[derive(Drop)]
@@ -66,7 +70,7 @@ fn asking(alloc: Global) -> Option<Machine<4, 7>> {
     Some(machine)
 }
 
-fn no_calls(alloc: Global) -> Option<Arc<Calls, Global>> {
+pub(crate) fn no_calls(alloc: Global) -> Option<Arc<Calls, Global>> {
     let calls = Calls {
         asked: AtomicU64::new(0),
         passed: AtomicU64::new(0),
@@ -76,34 +80,42 @@ fn no_calls(alloc: Global) -> Option<Arc<Calls, Global>> {
 
 /// How a runner ends a list of acts, whether the machine is then as one thread leaves it, or else as it was; and how often
 /// the gate was asked and passed so far.
-type Listed = ((Option<RunFault>, bool), (u64, u64));
+pub(crate) type Listed = ((Option<RunFault>, bool), (u64, u64));
 
-/// What a list of acts tells.
-fn listed<X: Runner<4, 7>>(
+/// What a list of acts tells of a machine of so many chips.
+pub(crate) fn listed<const N: usize, X: Runner<N, 7>>(
     runner: &mut X,
     alloc: Global,
-    machine: &mut Machine<4, 7>,
+    machine: &mut Machine<N, 7>,
     acts: &[Act],
+    chips: u16,
     calls: &Arc<Calls, Global>,
 ) -> Option<Listed>
+    requires cube { chips ≡ 2 ^ N }
     requires runner { X.ready }
 {
-    let ran = run_beside_plain(runner, alloc, machine, acts, 16)?;
+    let ran = run_beside_plain(runner, alloc, machine, acts, chips)?;
     Some((ran, calls.told()))
 }
 
-/// What a petit cycle and the program of messages tell, one after the other.
+/// What a petit cycle, the program of messages and an instruction over the grid tell, one after the other.
 fn lists<X: Runner<4, 7>>(
     runner: &mut X,
     alloc: Global,
     machine: &mut Machine<4, 7>,
     calls: &Arc<Calls, Global>,
-) -> Option<[Listed; 2]>
+) -> Option<[Listed; 3]>
     requires runner { X.ready }
 {
-    let first = listed(runner, alloc, machine, &[Act::Cycle], calls)?;
+    let first = listed(runner, alloc, machine, &[Act::Cycle], 16, calls)?;
     let acts = four_messages_each(alloc).ok()?;
-    Some([first, listed(runner, alloc, machine, &acts, calls)?])
+    let second = listed(runner, alloc, machine, &acts, 16, calls)?;
+    let over_the_grid = [sent_on(flag(0), Dir::North)];
+    Some([
+        first,
+        second,
+        listed(runner, alloc, machine, &over_the_grid, 16, calls)?,
+    ])
 }
 
 /// The same by so many workers that are joined at each round.
@@ -114,7 +126,7 @@ fn lists_of_forked<R: Threads + Wait>(
     passage: Passage,
     machine: &mut Machine<4, 7>,
     calls: &Arc<Calls, Global>,
-) -> Option<[Listed; 2]>
+) -> Option<[Listed; 3]>
     requires threads { IsSync R.row }
 {
     let mut forked = Forked::new::<4>(rt, alloc, 2, workers, passage).ok()?;
@@ -129,7 +141,7 @@ fn lists_of_resident<R: Threads + Wait + Sync>(
     passage: Passage,
     machine: &mut Machine<4, 7>,
     calls: &Arc<Calls, Global>,
-) -> Option<[Listed; 2]>
+) -> Option<[Listed; 3]>
     requires threads { IsSync R.row }
 {
     let mut resident = Resident::new::<4>(rt, alloc, 2, workers, passage).ok()?;
@@ -137,7 +149,7 @@ fn lists_of_resident<R: Threads + Wait + Sync>(
 }
 
 /// A gate that does not admit this worker.
-fn gate_of(alloc: Global, refused: u16, calls: &Arc<Calls, Global>) -> Option<Passage> {
+pub(crate) fn gate_of(alloc: Global, refused: u16, calls: &Arc<Calls, Global>) -> Option<Passage> {
     let gate = Reluctant {
         refused,
         calls: Arc::try_clone(calls).ok()?,
@@ -154,7 +166,7 @@ fn gated<R: Threads + Wait + Sync>(
     workers: u16,
     refused: u16,
     calls: &Arc<Calls, Global>,
-) -> Option<[Listed; 2]>
+) -> Option<[Listed; 3]>
     requires threads { IsSync R.row }
 {
     let passage = gate_of(alloc, refused, calls)?;
@@ -171,7 +183,7 @@ fn told<R: Threads + Wait + Sync>(
     kind: Kind,
     workers: u16,
     refused: u16,
-) -> Option<[Listed; 2]>
+) -> Option<[Listed; 3]>
     requires threads { IsSync R.row }
 {
     let calls = no_calls(alloc)?;
@@ -179,8 +191,9 @@ fn told<R: Threads + Wait + Sync>(
     gated(rt, alloc, kind, &mut machine, workers, refused, &calls)
 }
 
-/// Which of so many workers is not admitted, how often the gate was asked then, and after the second list, and how often it
-/// was passed in that, which has 128 rounds.
+/// Which of so many workers is not admitted, how often the gate was asked then, and after the second list, and how
+/// often it was passed in that, which has 128 rounds. The third has one. Workers that run on are admitted one by one,
+/// each before it is started: those before the refused one wait then, and are told that nobody begins.
 static REFUSED: [(u16, u16, u64, u64, u64); 5] = [
     (2, 1, 2, 4, 256),
     (4, 0, 1, 5, 512),
@@ -195,9 +208,12 @@ fn a_worker_that_is_not_admitted_leaves_the_machine_as_it_was_and_may_be_admitte
 ) -> Result<(), Fail> {
     for row in &REFUSED {
         let (workers, refused, first, second, passed) = *row;
+        let more = u64::from(workers);
+        let third = (second.saturating_add(more), passed.saturating_add(more));
         let wanted = [
             ((Some(RunFault::NoThread), true), (first, 0)),
             ((None, true), (second, passed)),
+            ((None, true), third),
         ];
         let told = [
             told(&rt, rt.alloc(), Kind::Forked, workers, refused),
@@ -206,4 +222,32 @@ fn a_worker_that_is_not_admitted_leaves_the_machine_as_it_was_and_may_be_admitte
         assert_eq!(rt; told, [Some(wanted); 2], "worker {refused} of {workers}");
     }
     Ok(())
+}
+
+/// What a petit cycle of two chips tells, which a runner of four workers for sixteen chips runs.
+fn of_two_chips<R: Threads + Wait + Sync>(rt: &R, alloc: Global, kind: Kind) -> Option<Listed>
+    requires threads { IsSync R.row }
+{
+    let calls = no_calls(alloc)?;
+    let passage = gate_of(alloc, NOBODY, &calls)?;
+    let mut machine = Machine::<1, 7>::blank(alloc).ok()?;
+    match kind {
+        Kind::Forked => {
+            let mut forked = Forked::new::<4>(rt, alloc, 2, 4, passage).ok()?;
+            listed(&mut forked, alloc, &mut machine, &[Act::Cycle], 2, &calls)
+        }
+        Kind::Resident => {
+            let mut resident = Resident::new::<4>(rt, alloc, 2, 4, passage).ok()?;
+            listed(&mut resident, alloc, &mut machine, &[Act::Cycle], 2, &calls)
+        }
+    }
+}
+
+#[test]
+fn no_more_workers_are_asked_than_a_smaller_machine_has(rt: HostRuntime) {
+    let told = [
+        of_two_chips(&rt, rt.alloc(), Kind::Forked),
+        of_two_chips(&rt, rt.alloc(), Kind::Resident),
+    ];
+    assert_eq!(rt; told, [Some(((None, true), (2, 2))); 2]);
 }

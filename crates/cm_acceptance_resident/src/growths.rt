@@ -2,14 +2,13 @@
 
 ghost use Rattle.std.specs.Thread.{IsSync};
 
-use crate::runners::Anyone;
-use cm_array::{Machine, check_stretch};
-use cm_draws::sends_or_stays;
+use crate::gates::{Calls, Listed, NOBODY, gate_of, listed, no_calls};
+use cm_array::{Machine, RunFault, Runner, check_stretch};
+use cm_draws::{four_messages_each, has_one_of_four};
 use cm_model::Act;
 use cm_resident::{Resident, team};
-use cm_workers::Passage;
 use std::alloc::Global;
-use std::sync::Wait;
+use std::sync::{Arc, Wait};
 use std::thread::Threads;
 
 /// How many workers a team has that goes through a petit cycle of sixteen chips by two; None where memory is wanting.
@@ -31,13 +30,50 @@ fn has_team(alloc: Global) -> Option<bool> {
     Some(made == Some(2))
 }
 
-/// Whether two workers go through the program of messages as one thread does, or else leave the machine as it was.
+/// What two workers tell of the program of messages, which has 128 rounds, and where they refuse it, of the same once
+/// more.
+fn told_by<X: Runner<4, 7>>(
+    runner: &mut X,
+    alloc: Global,
+    machine: &mut Machine<4, 7>,
+    calls: &Arc<Calls, Global>,
+) -> Option<(Option<Listed>, Listed)>
+    requires runner { X.ready }
+{
+    let acts = four_messages_each(alloc).ok()?;
+    let first = listed(runner, alloc, machine, &acts, 16, calls)?;
+    match first {
+        ((None, _), _) => Some((None, first)),
+        refused => Some((
+            Some(refused),
+            listed(runner, alloc, machine, &acts, 16, calls)?,
+        )),
+    }
+}
+
+/// Whether it is what two workers have to tell: who refuses leaves the machine as it was and passes nobody. Where
+/// memory was wanting the gate was asked for nobody, where a thread was for all up to that one.
+fn is_as_it_has_to_be(refused: Option<Listed>, last: Listed) -> bool {
+    let asked = match refused {
+        None => 0,
+        Some(((Some(RunFault::Memory), true), (0, 0))) => 0,
+        Some(((Some(RunFault::NoThread), true), (1, 0))) => 1,
+        Some(((Some(RunFault::NoThread), true), (2, 0))) => 2,
+        Some(_) => return false,
+    };
+    last == ((None, true), (asked + 2, 256))
+}
+
+/// Whether two workers go through the program of messages as one thread does, perhaps when they are asked once more.
 fn workers_go<R: Threads + Wait + Sync>(rt: &R, alloc: Global) -> Option<bool>
     requires threads { IsSync R.row }
 {
-    let passage = Passage::Gated(Box::new(alloc, Anyone).ok()?);
+    let calls = no_calls(alloc)?;
+    let passage = gate_of(alloc, NOBODY, &calls)?;
     let mut resident = Resident::new::<4>(rt, alloc, 2, 2, passage).ok()?;
-    sends_or_stays(&mut resident, alloc)
+    let mut machine = Machine::<4, 7>::blank(alloc).ok()?;
+    let (refused, last) = told_by(&mut resident, alloc, &mut machine, &calls)?;
+    Some(is_as_it_has_to_be(refused, last) && has_one_of_four(alloc, &machine))
 }
 
 /// Both; None where memory is wanting beside them.

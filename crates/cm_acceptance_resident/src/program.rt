@@ -1,18 +1,19 @@
-//! The program's own sharing: all workers that it is told to have meet in each round.
+//! The program's own sharing: where it shares out a list, all workers that it is told to have meet in each round.
 
-ghost use Rattle.std.specs.Prelude.{◌≡◌, false, None, IfSome};
+ghost use Rattle.std.specs.Prelude.{◌≡◌, false};
 ghost use Rattle.std.specs.Thread.{IsSync};
-ghost use Rattle.cm_cli.specs.Sizes.{start_at};
-ghost use Rattle.cm_cli.specs.Sharing.{sharing_fault};
+ghost use Rattle.cm_sizes.specs.Sizes.{sized};
 
 use crate::meeting::{Cut, FOUR, Meeting, Notes, Waits, no_notes};
 use cm_asm::{Program, assemble};
 use cm_bits::doubles::{Bytes, Room};
 use cm_bits::{Sink, Source};
-use cm_cli::{AnyMachine, Sharing, fresh, go_alone, go_shared, image_at, open_image};
+use cm_cli::{Alone, SessionRunner, Several, Sharing};
 use cm_draws::cut_in_two_places;
 use cm_image::dump;
 use cm_model::Rule;
+use cm_sizes::{AnyMachine, on_machine, open_image};
+use cm_tools::fresh;
 use cm_workers::Passage;
 use std::alloc::Global;
 use std::sync::{Arc, Wait};
@@ -22,7 +23,8 @@ use std::thread::Threads;
 /// All processors send to the chip across all of four dimensions, and across all of twelve.
 const OVER_FOUR: &[u8] = b"field rel 3968 16\nconst rel 15\nset 12\ncycle\n";
 
-const OVER_TWELVE: &[u8] = b"field rel 3968 16\nconst rel 4095\nset 12\ncycle\n";
+const OVER_TWELVE: &[u8] = b"field rel 3968 16\nconst rel 4095\nset 12\n\
+    cycle\ncycle\ncycle\ncycle\ncycle\ncycle\ncycle\ncycle\n";
 
 const TWICE_OVER_FOUR: &[u8] = b"field rel 3968 16\nconst rel 15\nset 12\ncycle\ncycle\n";
 
@@ -46,7 +48,7 @@ struct Shared {
     text: &'static [u8],
     sharing: Sharing,
     cut: Cut,
-    /// How often its workers come to a round.
+    /// How often its workers come to a round: never where one thread goes through the list sooner.
     came: u64,
 }
 
@@ -56,13 +58,23 @@ const BY_FOUR: Sharing = Sharing {
     workers: 4,
 };
 
-static SHARED: [Shared; 4] = [
+static SHARED: [Shared; 5] = [
     Shared {
         image: Image::Blank(4),
         text: OVER_FOUR,
         sharing: BY_FOUR,
         cut: FOUR,
-        came: 8,
+        came: 0,
+    },
+    Shared {
+        image: Image::Blank(12),
+        text: OVER_TWELVE,
+        sharing: BY_FOUR,
+        cut: Cut {
+            blocks: 4,
+            chips: 1024,
+        },
+        came: 64,
     },
     Shared {
         image: Image::Blank(12),
@@ -75,21 +87,21 @@ static SHARED: [Shared; 4] = [
             blocks: 64,
             chips: 64,
         },
-        came: 384,
+        came: 3072,
     },
     Shared {
         image: Image::Cut(Rule::First),
         text: TWICE_OVER_FOUR,
         sharing: BY_FOUR,
         cut: FOUR,
-        came: 16,
+        came: 0,
     },
     Shared {
         image: Image::Cut(Rule::Oldest),
         text: TWICE_OVER_FOUR,
         sharing: BY_FOUR,
         cut: FOUR,
-        came: 16,
+        came: 0,
     },
 ];
 
@@ -102,14 +114,21 @@ impl Image {
     }
 }
 
-/// The machine and the program with which a session begins.
-fn begun(alloc: Global, row: &Shared) -> Option<(AnyMachine, Program)>
-    ensures shared { IfSome result (λ run. sharing_fault (start_at run.0).n row.now.sharing ≡ None) }
+/// The image of what a session by this runner leaves of a machine.
+fn image_by<S: SessionRunner, I: Source, O: Sink>(
+    alloc: Global,
+    runner: S,
+    machine: &mut AnyMachine,
+    program: &Program,
+    commands: &mut I,
+    answers: &mut O,
+) -> Option<Vec<u8>>
+    requires can { S.can_run runner (sized machine.old) }
+    requires reader { I.has_failed commands.old ≡ false }
+    requires writer { O.has_failed answers.old ≡ false }
 {
-    let image = row.image.bytes(alloc)?;
-    let machine = open_image(alloc, &image).ok()?;
-    row.sharing.check(machine.dims()).ok()?;
-    Some((machine, assemble(alloc, row.text).ok()?))
+    runner.go(alloc, machine, program, commands, answers).ok()?;
+    machine.image(alloc).ok()
 }
 
 /// The image that one worker leaves, who answers the commands.
@@ -122,9 +141,12 @@ fn kept_alone<I: Source, O: Sink>(
     requires reader { I.has_failed commands.old ≡ false }
     requires writer { O.has_failed answers.old ≡ false }
 {
-    let (mut machine, program) = begun(alloc, row)?;
-    go_alone(alloc, &mut machine, &program, commands, answers).ok()?;
-    image_at(alloc, &machine).ok()
+    let image = row.image.bytes(alloc)?;
+    let program = assemble(alloc, row.text).ok()?;
+    let mut machine = open_image(alloc, &image).ok()?;
+    let kept = image_by(alloc, Alone, &mut machine, &program, commands, answers);
+    on_machine!(machine, machine => drop(machine));
+    kept
 }
 
 /// What one worker leaves.
@@ -150,7 +172,31 @@ fn gate_of(alloc: Global, row: &Shared, notes: &Arc<Notes, Global>) -> Option<Pa
     Some(Passage::Gated(Box::new(alloc, gate).ok()?))
 }
 
-/// The image that several workers leave.
+/// The image of what several workers leave of a machine.
+fn image_by_all<R: Threads + Wait + Sync, I: Source, O: Sink>(
+    rt: &R,
+    alloc: Global,
+    row: &Shared,
+    passage: Passage,
+    machine: &mut AnyMachine,
+    commands: &mut I,
+    answers: &mut O,
+) -> Option<Vec<u8>>
+    requires threads { IsSync R.row }
+    requires reader { I.has_failed commands.old ≡ false }
+    requires writer { O.has_failed answers.old ≡ false }
+{
+    let program = assemble(alloc, row.text).ok()?;
+    row.sharing.check(machine.dims()).ok()?;
+    let several = Several {
+        rt,
+        sharing: row.sharing,
+        passage,
+    };
+    image_by(alloc, several, machine, &program, commands, answers)
+}
+
+/// The same of a machine that is opened for them.
 fn kept_shared<R: Threads + Wait + Sync, I: Source, O: Sink>(
     rt: &R,
     alloc: Global,
@@ -163,19 +209,11 @@ fn kept_shared<R: Threads + Wait + Sync, I: Source, O: Sink>(
     requires reader { I.has_failed commands.old ≡ false }
     requires writer { O.has_failed answers.old ≡ false }
 {
-    let (mut machine, program) = begun(alloc, row)?;
-    go_shared(
-        rt,
-        alloc,
-        &mut machine,
-        &program,
-        row.sharing,
-        passage,
-        commands,
-        answers,
-    )
-    .ok()?;
-    image_at(alloc, &machine).ok()
+    let image = row.image.bytes(alloc)?;
+    let mut machine = open_image(alloc, &image).ok()?;
+    let kept = image_by_all(rt, alloc, row, passage, &mut machine, commands, answers);
+    on_machine!(machine, machine => drop(machine));
+    kept
 }
 
 /// What several leave, who wait for one another.

@@ -29,7 +29,7 @@ pub(crate) struct Share {
     pub(crate) workers: u16,
 }
 
-/// A gate that admits all and looks at nothing. Where there is a gate, short lists are shared out too.
+/// A gate that admits all and looks at nothing. Where there is a gate, blocks have their logs whole.
 #[derive(Drop)]
 pub(crate) struct Anyone;
 

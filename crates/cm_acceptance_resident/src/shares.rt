@@ -23,8 +23,8 @@ use std::thread::Threads;
 /// How many lists of acts each random machine goes through.
 const LISTS: u8 = 2;
 
-/// Nobody looks at workers that are joined at each round; at those that run on somebody does, so that short lists are
-/// shared out too.
+/// Nobody looks at workers that are joined at each round; at those that run on somebody does, so that their blocks have
+/// whole logs.
 fn passage_of(alloc: Global, kind: Kind) -> Option<Passage> {
     match kind {
         Kind::Forked => Some(Passage::Open),

@@ -4,7 +4,8 @@ ghost use Rattle.std.specs.Prelude.{◌≡◌, false};
 
 use cm_bits::doubles::{Bytes, Room};
 use cm_bits::{Failed, Sink};
-use cm_cli::{LineFault, Outside, PutFault, Written, perform};
+use cm_cli::perform;
+use cm_outside::{LineFault, Outside, PutFault, Written};
 use std::alloc::{AllocError, Global};
 use std::sync::Wait;
 use std::thread::Threads;

@@ -2,7 +2,8 @@
 
 use cm_bits::doubles::{Bytes, Room};
 use cm_bits::{Failed, Sink};
-use cm_cli::{LineFault, Outside, PutFault, Written, perform};
+use cm_cli::perform;
+use cm_outside::{LineFault, Outside, PutFault, Written};
 use std::alloc::{AllocError, Global};
 use std::sync::Wait;
 use std::thread::Threads;
@@ -329,11 +330,11 @@ static TABLES: [Table; 27] = [
         rows: &[
             "weave two cycle twelve --split 1 => words, open two, open cycle, open twelve, flush: 0 ",
             "weave two cycle twelve --split 1 --out left => \
-             words, open two, open cycle, ready left, open twelve, flush, fill left 86: 0 ",
+             words, open two, open cycle, open twelve, ready left, flush, fill left 86: 0 ",
             "weave --out=two --split=1 two cycle twelve => \
-             words, open two, open cycle, ready two, open twelve, flush, fill two 86: 0 ",
+             words, open two, open cycle, open twelve, ready two, flush, fill two 86: 0 ",
             "weave two cycle twelve --split 1 --out full => \
-             words, open two, open cycle, ready full, open twelve, flush, fill full 20: 4 cm1: 31 Write",
+             words, open two, open cycle, open twelve, ready full, flush, fill full 20: 4 cm1: 31 Write",
         ],
     },
     // one without rounds: no step can be taken
@@ -352,7 +353,7 @@ static TABLES: [Table; 27] = [
         output: "? 34\n? 2\n? 17\n? 16\n? 15\nfinished\n",
         rows: &[
             "weave two sets bad --split 1 --out left => \
-             words, open two, open sets, ready left, open bad, flush, fill left 86: 0 ",
+             words, open two, open sets, open bad, ready left, flush, fill left 86: 0 ",
         ],
     },
     // one by itself
@@ -392,13 +393,16 @@ static TABLES: [Table; 27] = [
             "weave last cycles none --split 6 --out locked => words, open last, open cycles: 1 cm1: 6 Long",
             "weave last cycle none --split 6 --out locked => words, open last, open cycle: 1 cm1: 7 Clock",
             "weave two cycle none --split 2 --out locked => words, open two, open cycle: 1 cm1: 37 Split",
-            "weave two cycle none --split 1 --out locked => words, open two, open cycle, ready locked: 4 cm1: 31 Write",
-            "weave two cycle none --split 1 --out much => words, open two, open cycle, ready much: 3 cm1: 33 Memory",
+            "weave two cycle none --split 1 --out locked => words, open two, open cycle, open none: 4 cm1: 30 Read",
+            "weave two cycle twelve --split 1 --out locked => \
+             words, open two, open cycle, open twelve, ready locked: 4 cm1: 31 Write",
+            "weave two cycle twelve --split 1 --out much => \
+             words, open two, open cycle, open twelve, ready much: 3 cm1: 33 Memory",
+            "weave two cycle --split 1 --out locked => words, open two, open cycle, ready locked: 4 cm1: 31 Write",
             "weave two cycle none --split 1 => words, open two, open cycle, open none: 4 cm1: 30 Read",
-            "weave two cycle none --split 1 --out left => \
-             words, open two, open cycle, ready left, open none, let go left: 4 cm1: 30 Read",
+            "weave two cycle none --split 1 --out left => words, open two, open cycle, open none: 4 cm1: 30 Read",
             "weave two cycle folder --split 1 --out left => \
-             words, open two, open cycle, ready left, open folder, let go left: 4 cm1: 30 Read",
+             words, open two, open cycle, open folder, ready left, let go left: 4 cm1: 30 Read",
         ],
     },
     // one that breaks off: its file is taken away
@@ -409,7 +413,7 @@ static TABLES: [Table; 27] = [
         rows: &[
             "weave two cycle nine --split 1 => words, open two, open cycle, open nine: 1 cm1: 35 Unfinished",
             "weave two cycle nine --split 1 --out left => \
-             words, open two, open cycle, ready left, open nine, let go left: 1 cm1: 35 Unfinished",
+             words, open two, open cycle, open nine, ready left, let go left: 1 cm1: 35 Unfinished",
         ],
     },
     Table {
@@ -418,7 +422,7 @@ static TABLES: [Table; 27] = [
         output: "? 34\nok\n",
         rows: &[
             "weave two cycle breaks --split 1 --out left => \
-             words, open two, open cycle, ready left, open breaks, let go left: 4 cm1: 30 Read",
+             words, open two, open cycle, open breaks, ready left, let go left: 4 cm1: 30 Read",
         ],
     },
     Table {
@@ -437,7 +441,7 @@ static TABLES: [Table; 27] = [
         rows: &[
             "weave two cycle twelve --split 1 => words, open two, open cycle, open twelve, flush: 4 cm1: 31 Write",
             "weave two cycle twelve --split 1 --out left => \
-             words, open two, open cycle, ready left, open twelve, flush, let go left: 4 cm1: 31 Write",
+             words, open two, open cycle, open twelve, ready left, flush, let go left: 4 cm1: 31 Write",
         ],
     },
     // a fault that cannot be told

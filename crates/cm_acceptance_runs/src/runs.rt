@@ -2,14 +2,14 @@
 
 use crate::files::{Files, Text, run};
 use cm_bits::doubles::{Bytes, Room};
-use cm_cli::fresh;
+use cm_tools::fresh;
 use std::alloc::Global;
 use std::sync::Wait;
 use std::thread::Threads;
 
 /// The image that is given: that of a blank machine, or one that is damaged.
 #[derive(Clone, Copy)]
-enum Given {
+pub(crate) enum Given {
     /// Of 2^n chips, with routers of this room.
     Blank(u8, u8),
     /// Of one chip, without its last byte.
@@ -111,7 +111,7 @@ static SHARED_RUNS: [SharedRow; 17] = [
 ];
 
 /// The bytes of an image.
-fn bytes_of(alloc: Global, given: Given) -> Option<Vec<u8>> {
+pub(crate) fn bytes_of(alloc: Global, given: Given) -> Option<Vec<u8>> {
     let (n, cap) = match given {
         Given::Blank(n, cap) => (n, cap),
         _ => (0, 7),

@@ -36,6 +36,8 @@ impl<'a> Source for Asking<'a> {
 
     fn read(&mut self, buf: &mut [u8]) -> Result<usize, Failed> {
         let Some((part, written)) = self.parts.get(self.next) else {
+            // After the end nothing more is to be asked for.
+            self.in_time = false;
             return Ok(0);
         };
         if self.written.bytes.get() != *written {

@@ -4,18 +4,18 @@ use Rattle.std.specs.Prelude.{IsErrOf}
 use Rattle.cm_model.specs.declared.act.Act.{Act}
 use Rattle.cm_session.specs.declared.fault.SessionFault.{SessionFault}
 use Rattle.cm_session.specs.declared.fault.SessionFault.TheVariants as session
-use Rattle.cm_cli.specs.declared.program_fault.ProgramFault.{ProgramFault}
-use Rattle.cm_cli.specs.declared.program_fault.ProgramFault.TheVariants.{Memory, NoThread}
-use Rattle.cm_cli.specs.ProgramFault.{of_session}
-use Rattle.cm_cli.specs.Opened.{Start}
-use Rattle.cm_cli.specs.Run.{KeepsImage}
-use Rattle.cm_cli.specs.Files.{Streams}
+use Rattle.cm_outside.specs.declared.program_fault.ProgramFault.{ProgramFault}
+use Rattle.cm_outside.specs.declared.program_fault.ProgramFault.TheVariants.{Memory, NoThread}
+use Rattle.cm_outside.specs.ProgramFault.{of_session}
+use Rattle.cm_sizes.specs.Sizes.{SizedMachine}
+use Rattle.cm_outside.specs.Puttings.{KeepsImage}
+use Rattle.cm_outside.specs.Streams.{Streams}
 use Rattle.cm_cli.specs.Runs.{IsSession}
 use Rattle.cm_cli.specs.Lent.{Goes}
 use Rattle.cm_cli.proofs.Sessions.{ended_well, broken_off}
 
 -- it ended well, and this was kept of the machine that it left
-pub left_so : (from to : Start) (acts : List Act) (streams : Streams) (keeps : Bool)
+pub left_so : (from to : SizedMachine) (acts : List Act) (streams : Streams) (keeps : Bool)
     (kept : Result (Option (List ℕ)) ProgramFault) → Goes from to acts streams (Ok tt)
     → KeepsImage to.n to.cap to.machine keeps kept → IsSession from acts streams keeps kept
 left_so from to acts streams keeps kept goes is =
@@ -24,17 +24,17 @@ left_so from to acts streams keeps kept goes is =
     (subst (λ (cap : ℕ). KeepsImage to.n cap to.machine keeps kept) goes.cap is))
 
 -- it broke off, and this is told
-pub off_so : (from to : Start) (acts : List Act) (streams : Streams) (keeps : Bool) (fault : SessionFault)
+pub off_so : (from to : SizedMachine) (acts : List Act) (streams : Streams) (keeps : Bool) (fault : SessionFault)
     (told : ProgramFault) → told ≡ of_session fault → Goes from to acts streams (Err fault)
     → IsSession from acts streams keeps (Err told)
 off_so from to acts streams keeps fault told same goes =
     broken_off from acts streams keeps to.machine fault told same goes.ends goes.heard goes.read goes.write
 
--- no thread is wanted where none was
-pub no_thread : {X : Type 0} (fault : SessionFault) (told : ProgramFault) → told ≡ of_session fault
-    → ¬ IsErrOf {T = Unit {0}} (Err fault) session.NoThread → ¬ IsErrOf {T = X} (Err told) NoThread
-no_thread session.Read told same not e = absurd (cc)
-no_thread (session.Write count) told same not e = absurd (cc)
-no_thread session.TooMuch told same not e = absurd (cc)
-no_thread session.Memory told same not e = absurd (cc)
-no_thread session.NoThread told same not e = not refl
+-- a thread is wanted only where one was
+pub wants_thread : {X Wants : Type 0} (fault : SessionFault) (told : ProgramFault) → told ≡ of_session fault
+    → (IsErrOf {T = Unit {0}} (Err fault) session.NoThread → Wants) → IsErrOf {T = X} (Err told) NoThread → Wants
+wants_thread session.Read told same wants e = absurd (cc)
+wants_thread (session.Write count) told same wants e = absurd (cc)
+wants_thread session.TooMuch told same wants e = absurd (cc)
+wants_thread session.Memory told same wants e = absurd (cc)
+wants_thread session.NoThread told same wants e = wants refl

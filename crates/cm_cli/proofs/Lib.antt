@@ -1,14 +1,3 @@
-mod Reading
-mod Telling
-mod OneChip
-mod Fronts
-mod Programs
-mod Opening
-mod Lifting
-mod Leading
-mod Weaving
-mod ToTheEnd
 mod Sessions
 mod Going
-mod Putting
-mod Sourcing
+mod Beginning

@@ -1,19 +1,24 @@
 -- How a session ends whose image is to be kept, of how the session by itself ended.
-use Rattle.std.proofs.Common.{◌≡◌, Bool, true, false, ℕ, List, Option, Result, Ok, Err, refl, sym, subst}
+use Rattle.std.proofs.Common.{◌≡◌, Bool, true, false, ℕ, List, Option, Some, None, Result, Ok, Err, refl, sym, subst}
 use Rattle.std.specs.Prelude.{◌↔◌, IfSome, IsErrOf}
 use Rattle.cm_model.specs.declared.act.Act.{Act}
 use Rattle.cm_model.specs.Machine.{Machine}
 use Rattle.cm_session.specs.declared.fault.SessionFault.{SessionFault}
 use Rattle.cm_session.specs.declared.fault.SessionFault.TheVariants as session
 use Rattle.cm_session.specs.Ends.{Ends, EndsForSome, is_write}
-use Rattle.cm_cli.specs.declared.program_fault.ProgramFault.{ProgramFault}
-use Rattle.cm_cli.specs.declared.program_fault.ProgramFault.TheVariants.{Read, Write, Memory, NoThread}
-use Rattle.cm_cli.specs.ProgramFault.{of_session}
-use Rattle.cm_cli.specs.Opened.{Start}
-use Rattle.cm_cli.specs.Run.{KeepsImage, IsToldAs}
-use Rattle.cm_cli.specs.Files.{Streams}
+use Rattle.cm_outside.specs.declared.program_fault.ProgramFault.{ProgramFault}
+use Rattle.cm_outside.specs.declared.program_fault.ProgramFault.TheVariants.{Read, Write, Memory, NoThread}
+use Rattle.cm_outside.specs.ProgramFault.{of_session}
+use Rattle.cm_sizes.specs.Sizes.{SizedMachine}
+use Rattle.cm_outside.specs.Puttings.{KeepsImage}
+use Rattle.cm_cli.specs.Run.{IsToldAs}
+use Rattle.cm_outside.specs.Streams.{Streams}
 use Rattle.cm_cli.specs.Runs.{IsSession}
-use Rattle.cm_cli.proofs.Lifting.{lift_some}
+
+-- what follows where there is a value
+lift_some : {X : Type 0} {P Q : X → Type 0} (o : Option X) → ((x : X) → P x → Q x) → IfSome o P → IfSome o Q
+lift_some (Some x) f h = f x h
+lift_some None f h = tt
 
 -- want of memory for the image
 wants_memory : (keeps : Bool) (fault : ProgramFault) → keeps ≡ true → fault ≡ Memory
@@ -22,7 +27,7 @@ wants_memory true fault is same = same
 wants_memory false fault is same = absurd (let wrong : false ≡ true = is in cc)
 
 -- it ended well
-pub ended_well : (start : Start) (acts : List Act) (streams : Streams) (keeps : Bool) (after : Machine)
+pub ended_well : (start : SizedMachine) (acts : List Act) (streams : Streams) (keeps : Bool) (after : Machine)
     (kept : Result (Option (List ℕ)) ProgramFault)
     → IfSome streams.lines (λ lines. Ends start.n start.cap acts lines streams.rest start.machine streams.held after
     streams.holds (Ok tt))
@@ -83,7 +88,7 @@ same_write failed session.Memory is = (λ f. absurd (cc), λ e. absurd (cc))
 same_write failed session.NoThread is = (λ f. absurd (cc), λ e. absurd (cc))
 
 -- it broke off, and this is told
-pub broken_off : (start : Start) (acts : List Act) (streams : Streams) (keeps : Bool) (after : Machine)
+pub broken_off : (start : SizedMachine) (acts : List Act) (streams : Streams) (keeps : Bool) (after : Machine)
     (fault : SessionFault) (told : ProgramFault) → told ≡ of_session fault
     → IfSome streams.lines (λ lines. Ends start.n start.cap acts lines streams.rest start.machine streams.held after
     streams.holds (Err fault))

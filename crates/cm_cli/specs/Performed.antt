@@ -7,13 +7,12 @@ use Rattle.cm_line.specs.declared.fault.LineFault.{LineFault}
 use Rattle.cm_line.specs.declared.fault.LineFault.TheVariants.{BadLine}
 use Rattle.cm_line.specs.declared.line.Line.{Line}
 use Rattle.cm_line.specs.Lines.{AsksFor, IsBadLine}
-use Rattle.cm_cli.specs.declared.program_fault.ProgramFault.{ProgramFault}
-use Rattle.cm_cli.specs.ProgramFault.{of_line, told_number, line_of}
-use Rattle.cm_cli.specs.Report.{HasFront, message_of, status_of}
-use Rattle.cm_cli.specs.Deeds.{Deed, Asked}
-use Rattle.cm_cli.specs.Takings.{Reads}
-use Rattle.cm_cli.specs.Files.{Streams}
-use Rattle.cm_cli.specs.Runs.{IsUntouched}
+use Rattle.cm_outside.specs.declared.program_fault.ProgramFault.{ProgramFault}
+use Rattle.cm_outside.specs.ProgramFault.{of_line, told_number, line_of}
+use Rattle.cm_outside.specs.Report.{HasFront, message_of, status_of}
+use Rattle.cm_outside.specs.Deeds.{Deed, Asked}
+use Rattle.cm_outside.specs.Takings.{Reads}
+use Rattle.cm_outside.specs.Streams.{Streams, IsUntouched}
 use Rattle.cm_cli.specs.Lines.{DoesLine}
 
 -- words that were asked for

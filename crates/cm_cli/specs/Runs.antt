@@ -1,52 +1,45 @@
 -- What `cm1 run` does from its first file to its last. Ours.
-use Rattle.std.specs.Prelude.{◌≡◌, ◌⊎◌, ◌↔◌, Bool, true, false, Option, IfSome, IsErrOf, Result, Ok}
+use Rattle.std.specs.Prelude.{◌≡◌, ◌⊎◌, ◌↔◌, Bool, true, Option, IfSome, IsErrOf, Result, Ok}
 use Rattle.std.specs.Prelude.{Err, ℕ, List, ◌++◌}
 use Rattle.std.specs.Option.{is_some}
 use Rattle.cm_model.specs.declared.act.Act.{Act}
 use Rattle.cm_language.specs.Program.{ProgramText}
 use Rattle.cm_cli.specs.declared.files.RunLine.{RunLine}
-use Rattle.cm_cli.specs.declared.program_fault.ProgramFault.{ProgramFault}
-use Rattle.cm_cli.specs.declared.program_fault.ProgramFault.TheVariants.{Read, Write, NoThread}
-use Rattle.cm_cli.specs.Opened.{Start}
+use Rattle.cm_outside.specs.declared.program_fault.ProgramFault.{ProgramFault}
+use Rattle.cm_outside.specs.declared.program_fault.ProgramFault.TheVariants.{Read, Write, NoThread}
+use Rattle.cm_sizes.specs.Sizes.{SizedMachine}
 use Rattle.cm_cli.specs.Run.{HasLeft, HasLeftForSome, HasBrokenOff, HasBrokenOffForSome}
-use Rattle.cm_cli.specs.Deeds.{Deed}
-use Rattle.cm_cli.specs.Takings.{Reads}
-use Rattle.cm_cli.specs.Puttings.{Closes}
-use Rattle.cm_cli.specs.Files.{Streams, BeginsFiles, RefusesFiles}
-
--- nothing was read of standard input
-abbrev pub IsUnread : Streams → Type 0
-IsUnread streams = (streams.rest ≡ streams.lines) × (streams.read_failed ≡ false)
-
--- and nothing written
-abbrev pub IsUntouched : Streams → Type 0
-IsUntouched streams = IsUnread streams × (streams.holds ≡ streams.held) × (streams.write_failed ≡ false)
+use Rattle.cm_outside.specs.Deeds.{Deed}
+use Rattle.cm_outside.specs.Takings.{Reads}
+use Rattle.cm_outside.specs.Puttings.{Closes}
+use Rattle.cm_outside.specs.Streams.{Streams, IsUntouched}
+use Rattle.cm_cli.specs.Files.{BeginsFiles, RefusesFiles}
 
 -- how a session ends that begins here, with these acts
-abbrev pub EndsSession : Start → List Act → Streams → Bool → Result (Option (List ℕ)) ProgramFault → Type 0
+abbrev pub EndsSession : SizedMachine → List Act → Streams → Bool → Result (Option (List ℕ)) ProgramFault → Type 0
 EndsSession start acts streams keeps (Ok kept) =
     IfSome streams.lines (λ lines. HasLeft start acts lines streams.rest streams.held streams.holds keeps kept)
 EndsSession start acts streams keeps (Err fault) =
     IfSome streams.lines (λ lines. HasBrokenOff start acts lines streams.rest streams.held streams.holds keeps fault)
 
 -- the same of some text, whatever the commands tell of theirs
-abbrev pub HearsSession : Start → List Act → Streams → Bool → Result (Option (List ℕ)) ProgramFault → Type 0
+abbrev pub HearsSession : SizedMachine → List Act → Streams → Bool → Result (Option (List ℕ)) ProgramFault → Type 0
 HearsSession start acts streams keeps (Ok kept) =
     HasLeftForSome start acts streams.lines streams.rest streams.held streams.holds keeps kept
 HearsSession start acts streams keeps (Err fault) =
     HasBrokenOffForSome start acts streams.lines streams.rest streams.held streams.holds keeps fault
 
 -- a session that begins here, from standard input to standard output
-pub record IsSession (start : Start) (acts : List Act) (streams : Streams) (keeps : Bool)
+pub record IsSession (start : SizedMachine) (acts : List Act) (streams : Streams) (keeps : Bool)
     (ran : Result (Option (List ℕ)) ProgramFault) : Type 0 where
   pub ends : EndsSession start acts streams keeps ran
   pub heard : HearsSession start acts streams keeps ran
   pub read : (streams.read_failed ≡ true) ↔ IsErrOf ran Read
   pub write : (streams.write_failed ≡ true) ↔ IsErrOf ran Write
 
--- the deeds once a session that begins here has ended: standard output goes out, and the file is written, if one was made
--- ready. It wants a thread only where this is so
-pub record RunsFrom {F P : Type 0} (start : Start) (acts : List Act) (WantsThread : Type 0) (streams : Streams)
+-- the deeds once a session that begins here has ended: standard output goes out, and the file is written, if one was
+-- made ready. It wants a thread only where this is so
+pub record RunsFrom {F P : Type 0} (start : SizedMachine) (acts : List Act) (WantsThread : Type 0) (streams : Streams)
     (part : Option P) (result : Result (Unit {0}) ProgramFault) (deeds : List (Deed F P)) : Type 0 where
   pub ran : Result (Option (List ℕ)) ProgramFault
   pub session : IsSession start acts streams (is_some part) ran
@@ -68,7 +61,7 @@ pub record RunsFiles {F P : Type 0} (reads : Reads F) (line : RunLine) (streams 
   pub first : List (Deed F P)
   pub second : List (Deed F P)
   pub did : deeds ≡ first ++ second
-  pub start : Start
+  pub start : SizedMachine
   pub program : ProgramText
   pub part : Option P
   pub begins : BeginsFiles reads line start program part first

@@ -1,23 +1,22 @@
 //! `cm1 run`: a session over files.
 
-ghost use Rattle.std.specs.Prelude.{◌≡◌, ◌≢◌, false, true, IfOk, IfErr, IsErrOf, option_map, string_bytes};
-ghost use Rattle.cm_cli.specs.Sizes.{start_at};
-ghost use Rattle.cm_cli.specs.Deeds.{Did};
-ghost use Rattle.cm_cli.specs.Takings.{reads_by};
-ghost use Rattle.cm_cli.specs.Files.{BeginsFiles, RefusesFiles, FailsToReady, IsUnready, Readies, streams};
-ghost use Rattle.cm_cli.specs.Runs.{DoesRun};
+ghost use Rattle.std.specs.Prelude.{◌≡◌, ◌≤◌, false, None, IfOk, IfErr, IsErrOf, OnOk, option_map, string_bytes};
+ghost use Rattle.cm_sizes.specs.Sizes.{SizedMachine, sized};
+ghost use Rattle.cm_cli.specs.Sharing.{sharing_fault};
+ghost use Rattle.cm_outside.specs.Deeds.{Did};
+ghost use Rattle.cm_outside.specs.Takings.{reads_by};
+ghost use Rattle.cm_outside.specs.Puttings.{ClosesLeft, Readies};
+ghost use Rattle.cm_cli.specs.Files.{BeginsFiles, RefusesFiles, RefusesTaken};
+ghost use Rattle.cm_outside.specs.Streams.{streams};
+ghost use Rattle.cm_cli.specs.Runs.{DoesRun, RunsFrom};
 
-use crate::opened::AnyMachine;
-use crate::outside::Outside;
-use crate::program_fault::ProgramFault;
-use crate::saved::{save_alone, save_shared};
+use crate::lent::SessionRunner;
 use crate::sharing::Sharing;
-use crate::takings::{open_image_file, read_program_file};
 use cm_asm::Program;
 use cm_bits::{Sink, Source};
+use cm_outside::{Outside, ProgramFault, Taken, break_off, close_files, make_ready, take_both};
+use cm_sizes::{AnyMachine, on_machine};
 use std::alloc::Global;
-use std::sync::Wait;
-use std::thread::Threads;
 
 /// What is asked to be run: the files of an image and of a program, how the session is shared out, and the file, if one
 /// is named, into which the image goes of the machine that is left.
@@ -29,128 +28,153 @@ pub struct RunLine {
     pub out: Option<String>,
 }
 
-/// What a session over files begins with: its machine, its program, and the file that was made ready, if one is named.
+/// What a session over files begins with: its machine and its program, and the file that was made ready, if one is
+/// named.
 #[derive(Drop)]
-pub(crate) struct Begun<P> {
-    pub(crate) machine: AnyMachine,
-    pub(crate) program: Program,
-    pub(crate) part: Option<P>,
+struct Begun<M, P> {
+    taken: Taken<M>,
+    part: Option<P>,
 }
 
-/// Runs a session over files by one worker, which waits for nobody.
-pub fn run_files_alone<H: Outside, I: Source, O: Sink>(
+/// Runs a session over files by this runner.
+pub fn run_files<S: SessionRunner, H: Outside, I: Source, O: Sink>(
     alloc: Global,
     outside: &mut H,
     line: &RunLine,
+    runner: S,
     commands: &mut I,
     answers: &mut O,
 ) -> Result<(), ProgramFault>
-    requires alone { line.now.sharing.workers ≡ 1 }
+    requires can { (any : SizedMachine) → sharing_fault any.n line.now.sharing ≡ None → S.can_run runner any }
+    requires alone { line.now.sharing.workers ≡ 1 → ¬ S.may_want runner }
     requires reader { I.has_failed commands.old ≡ false }
     requires writer { O.has_failed answers.old ≡ false }
     ensures does { Did H.does outside.old outside.new (DoesRun (reads_by H.File.left H.File.has_failed) line.now
         (streams (I.left commands.old) (I.left commands.new) (O.contents answers.old) (O.contents answers.new)
         (I.has_failed commands.new) (O.has_failed answers.new)) result) }
 {
-    let begun = match begin_files(alloc, outside, line) {
-        Ok(begun) => begun,
-        Err(fault) => return Err(fault),
-    };
-    let Begun {
-        machine,
-        program,
-        part,
-    } = begun;
-    save_alone(alloc, outside, machine, &program, part, commands, answers)
-}
-
-/// The same by several workers, each in a thread of its own.
-pub fn run_files_shared<R: Threads + Wait + Sync, H: Outside, I: Source, O: Sink>(
-    rt: &R,
-    alloc: Global,
-    outside: &mut H,
-    line: &RunLine,
-    commands: &mut I,
-    answers: &mut O,
-) -> Result<(), ProgramFault>
-    requires several { line.now.sharing.workers ≢ 1 }
-    requires reader { I.has_failed commands.old ≡ false }
-    requires writer { O.has_failed answers.old ≡ false }
-    ensures does { Did H.does outside.old outside.new (DoesRun (reads_by H.File.left H.File.has_failed) line.now
-        (streams (I.left commands.old) (I.left commands.new) (O.contents answers.old) (O.contents answers.new)
-        (I.has_failed commands.new) (O.has_failed answers.new)) result) }
-{
-    let begun = match begin_files(alloc, outside, line) {
-        Ok(begun) => begun,
-        Err(fault) => return Err(fault),
-    };
-    let Begun {
-        machine,
-        program,
-        part,
-    } = begun;
-    save_shared(
-        rt,
-        alloc,
-        outside,
-        machine,
-        &program,
-        line.sharing,
-        part,
-        commands,
-        answers,
-    )
-}
-
-/// Takes the image, then the program, looks whether the machine can be shared out so, and makes the file ready that is
-/// to be written, in this order, until something is refused.
-pub(crate) fn begin_files<H: Outside>(
-    alloc: Global,
-    outside: &mut H,
-    line: &RunLine,
-) -> Result<Begun<H::Part>, ProgramFault>
-    ensures value { IfOk result (λ begun. Did H.does outside.old outside.new (BeginsFiles
-        (reads_by H.File.left H.File.has_failed) line.now (start_at begun.machine) begun.program begun.part)) }
-    ensures refused { IfErr result (λ fault. Did H.does outside.old outside.new (RefusesFiles
-        (reads_by H.File.left H.File.has_failed) line.now fault)) }
-{
-    let machine = match open_image_file(alloc, outside, line.image.as_str()) {
-        Ok(machine) => machine,
-        Err(fault) => return Err(fault),
-    };
-    let program = match read_program_file(alloc, outside, line.program.as_str()) {
-        Ok(program) => program,
-        Err(fault) => return Err(fault),
-    };
-    if let Err(fault) = line.sharing.check(machine.dims()) {
-        return Err(fault);
-    }
-    match make_ready(alloc, outside, &line.out) {
-        Ok(part) => Ok(Begun {
-            machine,
-            program,
-            part,
-        }),
+    match begin_files(alloc, outside, line) {
+        Ok(begun) => {
+            let Begun { taken, part } = begun;
+            let Taken { machine, program } = taken;
+            run_any(
+                alloc, outside, machine, &program, part, runner, commands, answers,
+            )
+        }
         Err(fault) => Err(fault),
     }
 }
 
-/// Makes the file ready that is to be written, if one is named.
-pub(crate) fn make_ready<H: Outside>(
+/// Takes the image, then the program, looks whether the machine can be shared out so, and makes the file ready that is
+/// to be written, in this order, until something is refused.
+fn begin_files<H: Outside>(
     alloc: Global,
     outside: &mut H,
-    out: &Option<String>,
-) -> Result<Option<H::Part>, ProgramFault>
-    ensures value { IfOk result (λ part. Did H.does outside.old outside.new
-        (Readies (option_map string_bytes out.now) part)) }
-    ensures refused { IfErr result (λ fault. Did H.does outside.old outside.new
-        (IsUnready (option_map string_bytes out.now) fault)) }
+    line: &RunLine,
+) -> Result<Begun<AnyMachine, H::Part>, ProgramFault>
+    ensures value { IfOk result (λ begun. Did H.does outside.old outside.new (BeginsFiles
+        (reads_by H.File.left H.File.has_failed) line.now (sized begun.taken.machine) begun.taken.program begun.part)) }
+    ensures refused { IfErr result (λ fault. Did H.does outside.old outside.new (RefusesFiles
+        (reads_by H.File.left H.File.has_failed) line.now fault)) }
 {
-    let Some(path) = out else {
-        return Ok(None);
-    };
-    match outside.ready(alloc, path.as_str()) {
-        Ok(part) => Ok(Some(part)),
-        Err(fault) => Err(ProgramFault::from(fault)),
+    match take_both(alloc, outside, line.image.as_str(), line.program.as_str()) {
+        Ok(taken) => begin_taken(alloc, outside, line, taken.machine.dims(), taken),
+        Err(fault) => Err(fault),
     }
+}
+
+/// The same, once a machine of 2^`n` chips and a program are taken.
+fn begin_taken<H: Outside, M: Drop>(
+    alloc: Global,
+    outside: &mut H,
+    line: &RunLine,
+    n: u8,
+    taken: Taken<M>,
+) -> Result<Begun<M, H::Part>, ProgramFault>
+    requires dimension { n ≤ 12 }
+    ensures same { IfOk result (λ begun. begun.taken ≡ taken) }
+    ensures shared { OnOk result (sharing_fault n line.now.sharing ≡ None) }
+    ensures value { IfOk result (λ begun. Did H.does outside.old outside.new
+        (Readies (option_map string_bytes line.now.out) begun.part)) }
+    ensures refused { IfErr result (λ fault. Did H.does outside.old outside.new (RefusesTaken n line.now fault)) }
+{
+    if let Err(fault) = line.sharing.check(n) {
+        return Err(fault);
+    }
+    match make_ready(alloc, outside, &line.out) {
+        Ok(part) => Ok(Begun { taken, part }),
+        Err(fault) => Err(fault),
+    }
+}
+
+/// Runs a session on a machine; and then the image of the machine goes into the file that was made ready, if one was.
+fn run_any<S: SessionRunner, H: Outside, I: Source, O: Sink>(
+    alloc: Global,
+    outside: &mut H,
+    mut machine: AnyMachine,
+    program: &Program,
+    part: Option<H::Part>,
+    runner: S,
+    commands: &mut I,
+    answers: &mut O,
+) -> Result<(), ProgramFault>
+    requires can { S.can_run runner (sized machine) }
+    requires reader { I.has_failed commands.old ≡ false }
+    requires writer { O.has_failed answers.old ≡ false }
+    ensures does { Did H.does outside.old outside.new (RunsFrom (sized machine) program.now.acts (S.may_want runner)
+        (streams (I.left commands.old) (I.left commands.new) (O.contents answers.old) (O.contents answers.new)
+        (I.has_failed commands.new) (O.has_failed answers.new)) part result) }
+{
+    let ended = run_lent(
+        alloc,
+        outside,
+        &mut machine,
+        program,
+        part,
+        runner,
+        commands,
+        answers,
+    );
+    // Taken apart, since the borrow checker counts each variant where one of another crate is dropped as it stands.
+    on_machine!(machine, machine => drop(machine));
+    ended
+}
+
+/// The same on a machine that is lent to it.
+fn run_lent<S: SessionRunner, H: Outside, I: Source, O: Sink>(
+    alloc: Global,
+    outside: &mut H,
+    machine: &mut AnyMachine,
+    program: &Program,
+    part: Option<H::Part>,
+    runner: S,
+    commands: &mut I,
+    answers: &mut O,
+) -> Result<(), ProgramFault>
+    requires can { S.can_run runner (sized machine.old) }
+    requires reader { I.has_failed commands.old ≡ false }
+    requires writer { O.has_failed answers.old ≡ false }
+    ensures does { Did H.does outside.old outside.new (RunsFrom (sized machine.old) program.now.acts
+        (S.may_want runner)
+        (streams (I.left commands.old) (I.left commands.new) (O.contents answers.old) (O.contents answers.new)
+        (I.has_failed commands.new) (O.has_failed answers.new)) part result) }
+{
+    match runner.go(alloc, machine, program, commands, answers) {
+        Ok(()) => close_any(alloc, outside, part, answers, machine),
+        Err(fault) => break_off(outside, part, ProgramFault::from(fault)),
+    }
+}
+
+/// Once a session has ended well, and left this machine: as `close_files`.
+fn close_any<H: Outside, O: Sink>(
+    alloc: Global,
+    outside: &mut H,
+    part: Option<H::Part>,
+    out: &O,
+    machine: &AnyMachine,
+) -> Result<(), ProgramFault>
+    ensures value { Did H.does outside.old outside.new (ClosesLeft (sized machine.now).n (sized machine.now).cap
+        (sized machine.now).machine part (O.contents out.now) result) }
+{
+    on_machine!(machine, machine => close_files(alloc, outside, part, out, machine))
 }

@@ -1,82 +1,106 @@
-//! A session on a machine of the program's own, which is lent to it, and what is made of the machine that it leaves.
+//! Who runs a session: one worker, or several.
 
-ghost use Rattle.std.specs.Prelude.{◌≡◌, false, None, IfOk, IsErrOf, IsOkUnless};
-ghost use Rattle.cm_image_format.specs.Whole.{text_of};
-ghost use Rattle.cm_cli.specs.Sizes.{start_at};
+ghost use Rattle.std.specs.Prelude.{◌≡◌, false, None, IsErrOf};
+ghost use Rattle.std.specs.Thread.{IsSync};
+ghost use Rattle.cm_sizes.specs.Sizes.{SizedMachine, sized};
 ghost use Rattle.cm_cli.specs.Sharing.{sharing_fault};
-ghost use Rattle.cm_cli.specs.Deeds.{Did};
-ghost use Rattle.cm_cli.specs.Puttings.{ClosesLeft};
-ghost use Rattle.cm_cli.specs.Files.{streams};
+ghost use Rattle.cm_outside.specs.Streams.{streams};
 ghost use Rattle.cm_cli.specs.Lent.{Goes};
 
-use crate::blanks::image_of;
-use crate::on_machine;
-use crate::opened::AnyMachine;
-use crate::outside::Outside;
-use crate::program_fault::ProgramFault;
-use crate::puttings::close_files;
 use crate::sharing::Sharing;
 use cm_array::{Machine, Plain};
 use cm_asm::Program;
 use cm_bits::{Sink, Source};
 use cm_debug::{SessionFault, session};
-use cm_resident::Resident;
+use cm_resident::Chooser;
+use cm_sizes::{AnyMachine, on_machine};
 use cm_workers::Passage;
 use std::alloc::Global;
 use std::sync::Wait;
 use std::thread::Threads;
 
-/// A session by one worker, which needs no thread and waits for nobody.
-pub fn go_alone<I: Source, O: Sink>(
-    alloc: Global,
-    machine: &mut AnyMachine,
-    program: &Program,
-    commands: &mut I,
-    out: &mut O,
-) -> Result<(), SessionFault>
-    requires reader { I.has_failed commands.old ≡ false }
-    requires writer { O.has_failed out.old ≡ false }
-    ensures goes { Goes (start_at machine.old) (start_at machine.new) program.now.acts
-        (streams (I.left commands.old) (I.left commands.new) (O.contents out.old) (O.contents out.new)
-        (I.has_failed commands.new) (O.has_failed out.new)) result }
-    ensures threads { ¬ IsErrOf result SessionFault.NoThread }
-{
-    on_machine!(machine, machine => session(alloc, machine, program, commands, out, &mut Plain))
+/// Who runs a session on a machine of any size.
+pub trait SessionRunner: Drop {
+    // Whether it runs sessions on this machine.
+    ghost can_run: { Self → SizedMachine → Type 0 };
+
+    // Whether it may want a thread.
+    ghost may_want: { Self → Type 0 };
+
+    /// A session on a machine that is lent to it.
+    fn go<I: Source, O: Sink>(
+        self,
+        alloc: Global,
+        machine: &mut AnyMachine,
+        program: &Program,
+        commands: &mut I,
+        out: &mut O,
+    ) -> Result<(), SessionFault>
+        requires can { can_run self (sized machine.old) }
+        requires reader { I.has_failed commands.old ≡ false }
+        requires writer { O.has_failed out.old ≡ false }
+        ensures goes { Goes (sized machine.old) (sized machine.new) program.now.acts
+            (streams (I.left commands.old) (I.left commands.new) (O.contents out.old) (O.contents out.new)
+            (I.has_failed commands.new) (O.has_failed out.new)) result }
+        ensures threads { IsErrOf result SessionFault.NoThread → may_want self };
 }
 
-/// A session by several workers, each in a thread of its own, who go through the passage.
-pub fn go_shared<R: Threads + Wait + Sync, I: Source, O: Sink>(
-    rt: &R,
-    alloc: Global,
-    machine: &mut AnyMachine,
-    program: &Program,
-    sharing: Sharing,
-    passage: Passage,
-    commands: &mut I,
-    out: &mut O,
-) -> Result<(), SessionFault>
-    requires shared { sharing_fault (start_at machine.old).n sharing ≡ None }
-    requires reader { I.has_failed commands.old ≡ false }
-    requires writer { O.has_failed out.old ≡ false }
-    ensures goes { Goes (start_at machine.old) (start_at machine.new) program.now.acts
-        (streams (I.left commands.old) (I.left commands.new) (O.contents out.old) (O.contents out.new)
-        (I.has_failed commands.new) (O.has_failed out.new)) result }
-{
-    on_machine!(machine, machine => go_by_workers(rt, alloc, machine, program, sharing, passage, commands, out))
+/// One worker, which needs no thread and waits for nobody.
+#[derive(Clone, Copy, Debug, PartialEq, Eq)]
+pub struct Alone;
+
+impl SessionRunner for Alone {
+    ghost can_run = { λ alone any. Unit {0} };
+
+    ghost may_want = { λ alone. ⊥ };
+
+    fn go<I: Source, O: Sink>(
+        self,
+        alloc: Global,
+        machine: &mut AnyMachine,
+        program: &Program,
+        commands: &mut I,
+        out: &mut O,
+    ) -> Result<(), SessionFault> {
+        on_machine!(machine, machine => session(alloc, machine, program, commands, out, &mut Plain))
+    }
+}
+
+/// Several workers, each in a thread of its own, who go through the passage.
+#[derive(Drop)]
+pub struct Several<'a, R> {
+    pub rt: &'a R,
+    pub sharing: Sharing,
+    pub passage: Passage,
+}
+
+impl<'a, R: Threads + Wait + Sync> SessionRunner for Several<'a, R> {
+    ghost can_run = { λ several any. (sharing_fault any.n several.sharing ≡ None) × IsSync R.row };
+
+    ghost may_want = { λ several. Unit {0} };
+
+    fn go<I: Source, O: Sink>(
+        self,
+        alloc: Global,
+        machine: &mut AnyMachine,
+        program: &Program,
+        commands: &mut I,
+        out: &mut O,
+    ) -> Result<(), SessionFault> {
+        on_machine!(machine, machine => go_by_workers(alloc, machine, program, self, commands, out))
+    }
 }
 
 /// The same, on a machine of these sizes.
 fn go_by_workers<const N: usize, const CAP: usize, R: Threads + Wait + Sync, I: Source, O: Sink>(
-    rt: &R,
     alloc: Global,
     machine: &mut Machine<N, CAP>,
     program: &Program,
-    sharing: Sharing,
-    passage: Passage,
+    several: Several<'_, R>,
     commands: &mut I,
     out: &mut O,
 ) -> Result<(), SessionFault>
-    requires shared { sharing_fault N sharing ≡ None }
+    requires shared { sharing_fault N several.sharing ≡ None }
     requires reader { I.has_failed commands.old ≡ false }
     requires writer { O.has_failed out.old ≡ false }
     ensures goes { Goes (record { n = N; cap = CAP; machine = machine.old.machine })
@@ -84,48 +108,31 @@ fn go_by_workers<const N: usize, const CAP: usize, R: Threads + Wait + Sync, I: 
         (streams (I.left commands.old) (I.left commands.new) (O.contents out.old) (O.contents out.new)
         (I.has_failed commands.new) (O.has_failed out.new)) result }
 {
-    let mut runner = shared_runner::<N, R>(rt, alloc, sharing, passage);
-    session(alloc, machine, program, commands, out, &mut runner)
+    let mut runner = shared_runner::<N, R>(alloc, several);
+    let ended = session(alloc, machine, program, commands, out, &mut runner);
+    // By a call, since the borrow checker does not follow parts of parts where one of another crate goes as it stands.
+    drop(runner);
+    ended
 }
 
 /// The runner of as many workers as are asked for, on as many blocks of a machine of 2^`N` chips.
 fn shared_runner<'a, const N: usize, R: Threads + Wait + Sync>(
-    rt: &'a R,
     alloc: Global,
-    sharing: Sharing,
-    passage: Passage,
-) -> Resident<'a, R>
-    requires shared { sharing_fault N sharing ≡ None }
-    ensures blocks { result.k ≡ sharing.split }
-    ensures workers { result.workers ≡ sharing.workers }
-    ensures passage { result.passage ≡ passage }
+    several: Several<'a, R>,
+) -> Chooser<'a, R>
+    requires shared { sharing_fault N several.sharing ≡ None }
+    ensures blocks { result.resident.k ≡ several.entry.sharing.split }
+    ensures workers { result.resident.workers ≡ several.entry.sharing.workers }
+    ensures passage { result.resident.passage ≡ several.entry.passage }
 {
+    let Several {
+        rt,
+        sharing,
+        passage,
+    } = several;
     let workers = u16::from(sharing.workers);
-    match Resident::new::<N>(rt, alloc, sharing.split, workers, passage) {
-        Ok(resident) => resident,
+    match Chooser::new::<N>(rt, alloc, sharing.split, workers, passage) {
+        Ok(chooser) => chooser,
         Err(_) => unreachable!(),
     }
-}
-
-/// The image of a machine.
-pub fn image_at(alloc: Global, machine: &AnyMachine) -> Result<Vec<u8>, ProgramFault>
-    ensures value { IfOk result (λ image. image.items
-        ≡ text_of (start_at machine.now).n (start_at machine.now).cap (start_at machine.now).machine) }
-    ensures otherwise { IsOkUnless result ProgramFault.Memory }
-{
-    on_machine!(machine, machine => image_of(alloc, machine))
-}
-
-/// Once a session has ended well, and left this machine: as `close_files`.
-pub(crate) fn close_at<H: Outside, O: Sink>(
-    alloc: Global,
-    outside: &mut H,
-    part: Option<H::Part>,
-    out: &O,
-    machine: &AnyMachine,
-) -> Result<(), ProgramFault>
-    ensures value { Did H.does outside.old outside.new (ClosesLeft (start_at machine.now).n (start_at machine.now).cap
-        (start_at machine.now).machine part (O.contents out.now) result) }
-{
-    on_machine!(machine, machine => close_files(alloc, outside, part, out, machine))
 }

@@ -2,21 +2,20 @@
 
 ghost use Rattle.std.specs.Prelude.{◌≡◌, false, map, string_bytes, IfOk, IfErr, IsErrOf};
 ghost use Rattle.cm_line.specs.Lines.{AsksFor, IsBadLine};
-ghost use Rattle.cm_cli.specs.Deeds.{Did};
-ghost use Rattle.cm_cli.specs.Takings.{reads_by};
-ghost use Rattle.cm_cli.specs.Files.{streams};
+ghost use Rattle.cm_outside.specs.Deeds.{Did};
+ghost use Rattle.cm_outside.specs.Takings.{reads_by};
+ghost use Rattle.cm_outside.specs.Streams.{streams};
 ghost use Rattle.cm_cli.specs.Lines.{DoesLine};
 ghost use Rattle.cm_cli.specs.Performed.{AsksLine, AsksNoLine, DoesWords, Performs, Tells, words_in};
 
-use crate::files::{RunLine, run_files_alone, run_files_shared};
-use crate::lines::{chip_line, fresh_line, list_line, weave_line};
-use crate::outside::Outside;
-use crate::program_fault::ProgramFault;
-use crate::reports::report;
+use crate::files::{RunLine, run_files};
+use crate::lent::{Alone, Several};
 use crate::sharing::Sharing;
-use crate::weaves::WeaveLine;
 use cm_bits::{Sink, Source};
 use cm_line::{Line, LineFault, command};
+use cm_outside::{Outside, ProgramFault, report};
+use cm_tools::{WeaveLine, chip_line, fresh_line, list_line, weave_files};
+use cm_workers::Passage;
 use std::alloc::Global;
 use std::sync::Wait;
 use std::thread::Threads;
@@ -92,16 +91,22 @@ fn do_line<R: Threads + Wait + Sync, H: Outside, I: Source, O: Sink>(
             workers,
             out,
         } => {
+            let sharing = Sharing { split, workers };
             let line = RunLine {
                 image,
                 program,
-                sharing: Sharing { split, workers },
+                sharing,
                 out,
             };
             if workers == 1 {
-                return run_files_alone(alloc, outside, &line, commands, answers);
+                return run_files(alloc, outside, &line, Alone, commands, answers);
             }
-            run_files_shared(rt, alloc, outside, &line, commands, answers)
+            let several = Several {
+                rt,
+                sharing,
+                passage: Passage::Open,
+            };
+            run_files(alloc, outside, &line, several, commands, answers)
         }
         Line::Weave {
             image,
@@ -110,17 +115,14 @@ fn do_line<R: Threads + Wait + Sync, H: Outside, I: Source, O: Sink>(
             split,
             out,
         } => {
-            let files = RunLine {
+            let line = WeaveLine {
                 image,
                 program,
-                sharing: Sharing {
-                    split: 0,
-                    workers: 1,
-                },
-                out: None,
+                steps,
+                split,
+                out,
             };
-            let line = WeaveLine { steps, split, out };
-            weave_line(alloc, outside, &files, &line, answers)
+            weave_files(alloc, outside, &line, answers)
         }
     }
 }

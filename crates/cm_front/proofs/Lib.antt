@@ -8,4 +8,4 @@ pub mod Told
 pub mod Ending
 pub mod Running
 pub mod Alike
-pub mod Refusing
+pub mod Opening

@@ -4,8 +4,9 @@ use crate::playing::{tell, tell_made};
 use crate::whole::tell_fault;
 use cm_array::Machine;
 use cm_bits::{Words, read_number};
-use cm_cli::{ProgramFault, fresh};
 use cm_image::{dump, load, shape};
+use cm_outside::ProgramFault;
+use cm_tools::fresh;
 use std::alloc::{AllocError, Global};
 
 /// Adds bytes, of which each stands there as two digits, so many times.

@@ -8,8 +8,9 @@ use crate::playing::{tell, tell_made};
 use crate::scene::Scene;
 use cm_bits::doubles::{Bytes, Room};
 use cm_bits::{Words, read_number};
-use cm_cli::{ProgramFault, chip_session, list, report};
 use cm_line::command;
+use cm_outside::{ProgramFault, report};
+use cm_tools::{chip_session, list};
 use std::alloc::{AllocError, Global};
 
 /// What is done with the bytes of a text.

@@ -26,8 +26,9 @@ use Rattle.cm_workers.specs.Runs.{AreAfter}
 use Rattle.cm_resident.specs.declared.worker.Worker.{Worker}
 use Rattle.cm_resident.specs.declared.running.Ready.{Ready}
 use Rattle.cm_resident.specs.Lanes.{Run, before, rounds_in}
-use Rattle.cm_resident.specs.Teams.{IsOfTeam, IsTeam, HasWorked, HaveWorked}
-use Rattle.cm_resident.specs.Laws.{TeamsLeaveTheirMachine}
+use Rattle.cm_resident.specs.Teams.{IsOfTeam, IsOfSome, IsTeam, HasWorked, HaveWorked}
+use Rattle.cm_resident.specs.Laws.{LeaveTheirMachine, TeamsLeaveTheirMachine}
+use Rattle.cm_resident.specs.Lineups.{AreLinedUp}
 
 -- ---- the blocks of all workers
 
@@ -143,6 +144,36 @@ have_worked team readies shares ready_count share_count ready have = record {
       let r : Ready = first_of readies (omega (arith, there)) in
       subst (λ (x : Worker). HasWorked x (hand shares e w)) (ready w r d l) (have w r e there);
 }
+
+-- a team that was lined up and has worked leaves its machine
+pub lined_up_leave : (run : Run) (count : ℕ) (readies : List Ready) (shares : List (Vec KeptBlock Global))
+    → 0 < length readies → IsMachine run.n run.room run.machine → AreLinedUp run count readies
+    → length shares ≡ length readies
+    → ((w : ℕ) (d : Ready) (e : Vec KeptBlock Global) → w < length readies
+    → HasWorked (get_or readies w d).worker (get_or shares w e).items)
+    → LeaveTheirMachine run shares
+lined_up_leave run count readies shares some is_machine lined share_count have =
+    let same_count : length readies ≡ count = lined.len ∙ lined.is.len in
+    teams_leave_their_machine run count lined.team shares (omega (arith, some, same_count)) is_machine lined.is
+    (have_worked lined.team readies shares lined.len share_count lined.each have)
+
+-- who waits for a start word is of some team
+pub lined_up_of_some : (run : Run) (count : ℕ) (readies : List Ready) → AreLinedUp run count readies
+    → (w : ℕ) (d : Ready) → w < length readies → IsOfSome (get_or readies w d).worker
+lined_up_of_some run count readies lined w d below =
+    let there : w < length lined.team = (let f = lined.len in omega (arith, below, f)) in
+    let e : Worker = first_of lined.team (omega (arith, there)) in
+    let one : w < count = (let f = lined.is.len in omega (arith, there, f)) in
+    subst (λ (x : Worker). IsOfSome x) (sym (lined.each w d e there))
+    (record { run = run; count = count; of = lined.is.each w e one })
+
+-- who waits for a start word has the number of its place
+pub lined_up_id : (run : Run) (count w : ℕ) (readies : List Ready) (d : Ready) → AreLinedUp run count readies
+    → w < count → (get_or readies w d).worker.id ≡ w
+lined_up_id run count w readies d lined below =
+    let there : w < length lined.team = (let f = lined.is.len in omega (arith, below, f)) in
+    let e : Worker = first_of lined.team (omega (arith, there)) in
+    ap (λ (x : Worker). x.id) (lined.each w d e there) ∙ lined.is.ids w e below
 
 -- the account after a run
 pub account_after : (n cap : ℕ) (before after : Machine) (acts : List Act) → after ≡ run_of n cap before acts

@@ -31,3 +31,15 @@ one_beside {A} {H} P orig hs hs_new h m long is were one w d e below =
     subst (λ (x : H). P (get_or orig w e) x) (sym (get_or_push hs h d w (long ∙ at)))
     (subst (λ (v : ℕ). P (get_or orig v e) h) at (one e)))
     (cases_lt w m))
+
+-- what is so of the first things of a list is so of one further
+pub one_further : {X : Type 0} (P : X → Type 0) (xs : List X) (m : ℕ) (x : X)
+    → ((w : ℕ) (d : X) → w < m → P (get_or xs w d)) → ((d : X) → x ≡ get_or xs m d) → P x
+    → (w : ℕ) (d : X) → w < m + 1 → P (get_or xs w d)
+one_further {X} P xs m x were here is w d below =
+    ⊎_elim
+    (λ (l : w < m). were w d l)
+    (λ (l : m ≤ w).
+    let at : m ≡ w = omega (arith, l, below) in
+    subst P (here d ∙ ap (λ (v : ℕ). get_or xs v d) at) is)
+    (cases_lt w m)

@@ -13,3 +13,4 @@ mod Powers
 mod Ending
 mod Fronts
 mod LogsAside
+mod Exchanging

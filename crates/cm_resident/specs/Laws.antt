@@ -1,4 +1,4 @@
--- The law of a team, the contract of a function of its name. Ours.
+-- Laws of teams and of their lanes, each the contract of a function of its name. Ours.
 use Rattle.std.specs.Prelude.{◌≡◌, ℕ, ◌<◌, ◌^◌, List, length, map, Vec}
 use Rattle.std.specs.declared.alloc.Global.{Global}
 use Rattle.cm_model.specs.Machine.{run_of}
@@ -7,7 +7,8 @@ use Rattle.cm_array.specs.Cuts.{joined, AreWhole}
 use Rattle.cm_subcube.specs.Blocks.{KeptBlock}
 use Rattle.cm_workers.specs.Dealing.{AreDealt, AreShares}
 use Rattle.cm_resident.specs.declared.worker.Worker.{Worker}
-use Rattle.cm_resident.specs.Lanes.{Run}
+use Rattle.cm_exchange.specs.Lanes as exchange
+use Rattle.cm_resident.specs.Lanes.{Run, dues, givers}
 use Rattle.cm_resident.specs.Teams.{IsTeam, HaveWorked}
 
 -- blocks in their order are a whole machine, that after a run
@@ -21,8 +22,19 @@ pub record LeaveTheirMachine (run : Run) (shares : List (Vec KeptBlock Global)) 
   pub machine : (blocks : List KeptBlock) → length blocks ≡ 2 ^ run.k → AreDealt (length shares) blocks shares
       → AreMachineAfter run blocks
 
+-- so it is of every team that has worked
 abbrev pub TeamsLeaveTheirMachine : Type 0
 TeamsLeaveTheirMachine =
     (run : Run) (count : ℕ) (team : List Worker) (shares : List (Vec KeptBlock Global)) → 0 < count
     → IsMachine run.n run.room run.machine → IsTeam run count team → HaveWorked team shares
     → LeaveTheirMachine run shares
+
+-- what the lane of block b for a place carries is what is due in the exchange of the run from that block in rounds of the
+-- kind of this number, and from whom the block gets there is who gives to it
+pub record AreOfExchange (run : Run) (b j : ℕ) : Type 0 where
+  pub due_is : dues run b j ≡ exchange.due_list (exchange.exchange_of run.n run.room run.k run.machine run.acts) j b
+  pub giver_is : givers run b j ≡ exchange.giver run.k j b
+
+-- so it is of every lane
+abbrev pub LanesAreOfTheExchange : Type 0
+LanesAreOfTheExchange = (run : Run) (b j : ℕ) → AreOfExchange run b j

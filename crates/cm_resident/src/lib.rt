@@ -1,7 +1,9 @@
 //! Workers that run on: each has its blocks and the ends of their lanes, and none is joined before the end of a run.
 #![tactic(auto)]
 
+mod chooser;
 mod gathering;
+mod held;
 mod lanes;
 mod laws;
 mod outfit;
@@ -14,8 +16,9 @@ mod turn;
 mod worker;
 mod worth;
 
+pub use chooser::Chooser;
 pub use gathering::in_order;
-pub use laws::teams_leave_their_machine;
+pub use laws::{lanes_are_of_the_exchange, teams_leave_their_machine};
 pub use resident::Resident;
 pub use teams::team;
 pub use worker::Worker;

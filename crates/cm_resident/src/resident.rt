@@ -1,31 +1,35 @@
 //! The runner whose workers run on.
 
 ghost use Rattle.std.specs.Prelude.{◌≡◌, ◌≢◌, ◌↔◌, ℕ, ◌+◌, ◌-◌, ◌/◌, ◌^◌, ◌<◌, ◌≤◌, ◌++◌, [], None};
-ghost use Rattle.std.specs.Prelude.{cond, IfOk, IfSome, IsErrOf, IsFalse, IsOk, IsTrue, ltb, MatchResult};
-ghost use Rattle.std.specs.Prelude.{OnOk, OnErr};
+ghost use Rattle.std.specs.Prelude.{cond, IfOk, IfSome, IsErrOf, IsFalse, IsOk, IsTrue, List, ltb, MatchResult};
+ghost use Rattle.std.specs.Prelude.{OnOk, OnErr, get_or, length, vec_capacity};
+ghost use Rattle.std.specs.List.{All};
 ghost use Rattle.std.specs.Thread.{IsSync};
+ghost use Rattle.cm_model.specs.declared.act.Act.{Act};
 ghost use Rattle.cm_model.specs.Machine.{run_of};
 ghost use Rattle.cm_model.specs.Account.{account, newly_injected, SameLines};
 ghost use Rattle.cm_array.specs.Acts.{cycles_in, is_late, is_long};
 ghost use Rattle.cm_array.specs.Faults.{is_no_thread, one_more_lacked};
 ghost use Rattle.cm_workers.specs.Forks.{fork_fault, most_blocks, most_workers, of_want};
+ghost use Rattle.cm_resident.specs.Gathering.{AreEmpty, HaveRoom};
+ghost use Rattle.cm_resident.specs.Lineups.{AreLinedUp, AreLinedUpForSome};
 
 use crate::gathering::{in_order, room_for};
-use crate::running::{line_up, work_all};
+use crate::running::{Lineup, line_up, work_all};
 use crate::teams::team_in;
 use crate::together::Together;
-use crate::worth::is_soon_done;
-use cm_array::{Machine, Part, Plain, RunFault, Runner, check_stretch};
+use cm_array::{Machine, Part, RunFault, Runner, check_stretch};
 use cm_bits::NoMemory;
 use cm_model::Act;
-use cm_subcube::{join_and_keep, rounds};
-use cm_workers::{ForkFault, Gate, Passage, Want};
+use cm_subcube::{Block, join_and_keep};
+use cm_workers::{ForkFault, NoThread, Passage, Want};
 use std::alloc::Global;
 use std::sync::Wait;
 use std::thread::Threads;
 
-/// The runner whose workers run on: it cuts a copy of a machine into blocks, which workers run, each in a thread of its
-/// own to the end of the list; in each round blocks hand one another parcels over lanes. Then it puts them together again.
+/// The runner whose workers run on: it cuts a copy of a machine into blocks, which workers run, each in a thread of
+/// its own to the end of the list; in each round blocks hand one another parcels over lanes. Then it puts them
+/// together again. So it does with every list that is not empty.
 #[derive(Drop)]
 pub struct Resident<'a, R> {
     rt: &'a R,
@@ -41,12 +45,12 @@ pub struct Resident<'a, R> {
 
 /// Into 2^`k` blocks a machine is cut, for so many workers.
 #[derive(Clone, Copy)]
-struct Share {
-    k: u8,
-    workers: u16,
+pub(crate) struct Share {
+    pub(crate) k: u8,
+    pub(crate) workers: u16,
 }
 
-impl<'a, R: Threads + Wait + Sync> Resident<'a, R> {
+impl<'a, R> Resident<'a, R> {
     /// One that cuts machines of 2^`N` chips into 2^`k` blocks for so many workers, which go through the passage. It
     /// runs smaller machines too, in as many blocks as they can be cut into, with no more workers than blocks.
     pub fn new<const N: usize>(
@@ -80,8 +84,12 @@ impl<'a, R: Threads + Wait + Sync> Resident<'a, R> {
         })
     }
 
+    pub(crate) fn alloc(&self) -> Global {
+        self.alloc
+    }
+
     /// How it shares out a machine of so many dimensions.
-    fn share(&self, dims: u8) -> Share
+    pub(crate) fn share(&self, dims: u8) -> Share
         requires dimension { dims ≤ 12 }
         ensures blocks { result.k ≡ most_blocks dims self.now.k }
         ensures workers { result.workers ≡ most_workers dims self.now.k self.now.workers }
@@ -104,10 +112,10 @@ impl<'a, const N: usize, const CAP: usize, R: Threads + Wait + Sync> Runner<N, C
 
     ghost threads_lacked = { λ runner. runner.threads_lacked };
 
-    /// Takes memory for a copy of the machine, for the logs of all petit cycles in the list, for what its blocks exchange,
-    /// and for its threads, before the first of these is started. Of a list that is not empty each worker is admitted
-    /// before any is started, and none begins before all are. Where memory or a thread is wanting the machine stays as
-    /// it was.
+    /// Of a list that is not empty it takes memory for a copy of the machine, for the logs of all petit cycles in the
+    /// list, for what its blocks exchange, and for what its threads leave. Then each worker is admitted and its thread
+    /// started, one after the other; none begins before all are started. Where memory or a thread is wanting the
+    /// machine stays as it was.
     fn go(&mut self, machine: &mut Machine<N, CAP>, acts: &[Act]) -> Result<(), RunFault>
         requires runner { IsSync R.row }
         ensures long { (result ≡ Err RunFault.Long) ↔ IsTrue (is_long acts.now) }
@@ -144,7 +152,7 @@ impl<'a, const N: usize, const CAP: usize, R: Threads + Wait + Sync> Runner<N, C
             cycles,
             &mut self.used,
         );
-        if let Err(Want::Thread) = done {
+        if let Err(Want::Thread(_)) = done {
             self.threads_lacked = self.threads_lacked.wrapping_add(1);
         }
         told(done)
@@ -164,8 +172,8 @@ fn told(done: Result<(), Want>) -> Result<(), RunFault>
 {
     match done {
         Ok(()) => Ok(()),
-        Err(Want::Memory) => Err(RunFault::Memory),
-        Err(Want::Thread) => Err(RunFault::NoThread),
+        Err(Want::Memory(_)) => Err(RunFault::Memory),
+        Err(Want::Thread(_)) => Err(RunFault::NoThread),
     }
 }
 
@@ -195,32 +203,11 @@ fn run<const N: usize, const CAP: usize, R: Threads + Wait + Sync>(
         → (w : ℕ) → w < workers → admits (gate.vtable, gate.value) w) }
     ensures err { OnErr result (machine.new.machine ≡ machine.old.machine) }
 {
-    admit_all(passage, workers)?;
-    let rounds = rounds(alloc, machine.dims(), acts, k)?;
-    if is_soon_done(passage, machine, acts, workers, rounds.len(), cycles) {
-        return run_alone(machine, acts);
-    }
     // Where no event was told there is none to copy, and what the blocks tell becomes the machine's logs.
     if matches!(passage, Passage::Open) && machine.has_events() {
         share_out_without_logs(rt, alloc, k, workers, passage, machine, acts, cycles, used)
     } else {
         share_out(rt, alloc, k, workers, passage, machine, acts, used)
-    }
-}
-
-/// A machine goes through a run in the thread of the caller.
-fn run_alone<const N: usize, const CAP: usize>(
-    machine: &mut Machine<N, CAP>,
-    acts: &[Act],
-) -> Result<(), Want>
-    ensures ok { OnOk result (machine.new.machine ≡ run_of N CAP machine.old.machine acts.now) }
-    ensures account { OnOk result (SameLines (account N machine.new.machine)
-        (account N machine.old.machine ++ newly_injected N machine.old.machine machine.new.machine)) }
-    ensures err { OnErr result (machine.new.machine ≡ machine.old.machine) }
-{
-    match Plain.go(machine, acts) {
-        Ok(()) => Ok(()),
-        Err(_fault) => Err(Want::Memory),
     }
 }
 
@@ -244,15 +231,90 @@ fn share_out<const N: usize, const CAP: usize, R: Threads + Wait + Sync>(
     ensures ok { OnOk result (machine.new.machine ≡ run_of N CAP machine.old.machine acts.now) }
     ensures account { OnOk result (SameLines (account N machine.new.machine)
         (account N machine.old.machine ++ newly_injected N machine.old.machine machine.new.machine)) }
+    ensures admitted { IfOk result (λ _. (gate : _) → passage.now ≡ Passage.Gated gate
+        → (w : ℕ) → w < workers → admits (gate.vtable, gate.value) w) }
     ensures err { OnErr result (machine.new.machine ≡ machine.old.machine) }
 {
+    let prepared = prepare(alloc, k, workers, machine, acts, used)?;
+    run_prepared(rt, passage, machine, prepared, used)?;
+    Ok(())
+}
+
+/// All that a list wants before the first of its threads is started: a team with its start words and room for what it
+/// leaves, and room for its 2^`k` blocks.
+#[derive(Drop)]
+struct Prepared {
+    k: u8,
+    all: Lineup,
+    places: Vec<Block>,
+}
+
+/// Takes all memory that a list takes.
+fn prepare<const N: usize, const CAP: usize>(
+    alloc: Global,
+    k: u8,
+    workers: u16,
+    machine: &Machine<N, CAP>,
+    acts: &[Act],
+    used: &mut Vec<Part>,
+) -> Result<Prepared, NoMemory>
+    requires within { k ≤ N - N / 2 }
+    requires some { 0 < workers }
+    requires enough { workers ≤ 2 ^ k }
+    requires few { workers ≤ 64 }
+    requires long { IsFalse (is_long acts.now) }
+    requires clock { IsFalse (is_late machine.now.machine.clock acts.now) }
+    ensures k { IfOk result (λ prepared. prepared.k ≡ k) }
+    ensures team { IfOk result (λ prepared. AreLinedUp
+        (record { n = N; k = prepared.k; room = CAP; machine = machine.now.machine; acts = acts.now })
+        workers prepared.all.readies.items) }
+    ensures none { IfOk result (λ prepared.
+        AreEmpty prepared.all.handles.items prepared.all.left.items prepared.all.shares.items) }
+    ensures room { IfOk result (λ prepared. HaveRoom (length prepared.all.readies.items)
+        (vec_capacity prepared.all.handles) (vec_capacity prepared.all.left) (vec_capacity prepared.all.shares)) }
+    ensures untold { IfOk result (λ prepared. All (λ word. word ≡ 0) prepared.all.starters.items) }
+    ensures no_places { IfOk result (λ prepared. prepared.places.items ≡ []) }
+    ensures place_room { IfOk result (λ prepared. 2 ^ prepared.k ≤ vec_capacity prepared.places) }
+{
+    // Who asks for the counter is told that the machine is whole, and of at most 12 dimensions.
     let _clock = machine.clock();
     let team = team_in(alloc, machine, acts, k, workers, used)?;
     let all = line_up(alloc, team)?;
     make_places(alloc, used, 1 << k);
-    let room = room_for(alloc, 1 << k)?;
+    let places = room_for(alloc, 1 << k)?;
+    Ok(Prepared { k, all, places })
+}
+
+/// Workers for whom all is prepared go through their run, or the machine stays as it was; no memory is taken.
+fn run_prepared<const N: usize, const CAP: usize, R: Threads + Wait + Sync>(
+    rt: &R,
+    passage: &Passage,
+    machine: &mut Machine<N, CAP>,
+    prepared: Prepared,
+    used: &mut Vec<Part>,
+) -> Result<(), NoThread>
+    requires within { prepared.k ≤ N - N / 2 }
+    requires some { 0 < length prepared.all.readies.items }
+    requires team { AreLinedUpForSome N prepared.k CAP machine.old.machine prepared.all.readies.items }
+    requires none { AreEmpty prepared.all.handles.items prepared.all.left.items prepared.all.shares.items }
+    requires room { HaveRoom (length prepared.all.readies.items)
+        (vec_capacity prepared.all.handles) (vec_capacity prepared.all.left) (vec_capacity prepared.all.shares) }
+    requires untold { All (λ word. word ≡ 0) prepared.all.starters.items }
+    requires no_places { prepared.places.items ≡ [] }
+    requires place_room { 2 ^ prepared.k ≤ vec_capacity prepared.places }
+    ensures ok { OnOk result ((acts : List Act) (count : ℕ) → AreLinedUp
+        (record { n = N; k = prepared.k; room = CAP; machine = machine.old.machine; acts = acts })
+        count prepared.all.readies.items → machine.new.machine ≡ run_of N CAP machine.old.machine acts) }
+    ensures admitted { IfOk result (λ _. (gate : _) → passage.now ≡ Passage.Gated gate
+        → (w : ℕ) (d : _) → w < length prepared.all.readies.items
+        → admits (gate.vtable, gate.value) (get_or prepared.all.readies.items w d).worker.id) }
+    ensures err { OnErr result (machine.new.machine ≡ machine.old.machine) }
+{
+    // Who asks for the counter is told that the machine is whole, and of at most 12 dimensions.
+    let _clock = machine.clock();
+    let Prepared { k, all, places } = prepared;
     let shares = work_all(rt, passage, all)?;
-    let blocks = in_order(shares, 1 << k, room);
+    let blocks = in_order(shares, 1 << k, places);
     join_and_keep(blocks, machine, used);
     Ok(())
 }
@@ -290,6 +352,8 @@ fn share_out_without_logs<const N: usize, const CAP: usize, R: Threads + Wait + 
     ensures ok { OnOk result (machine.new.machine ≡ run_of N CAP machine.old.machine acts.now) }
     ensures account { OnOk result (SameLines (account N machine.new.machine)
         (account N machine.old.machine ++ newly_injected N machine.old.machine machine.new.machine)) }
+    ensures admitted { IfOk result (λ _. (gate : _) → passage.now ≡ Passage.Gated gate
+        → (w : ℕ) → w < workers → admits (gate.vtable, gate.value) w) }
     ensures err { OnErr result (machine.new.machine ≡ machine.old.machine) }
 {
     let _clock = machine.clock();
@@ -301,30 +365,4 @@ fn share_out_without_logs<const N: usize, const CAP: usize, R: Threads + Wait + 
     };
     machine.put_logs_back_by(&by, earlier, used);
     done
-}
-
-/// Asks whether the workers may begin, the one with the lowest number first.
-fn admit_all(passage: &Passage, workers: u16) -> Result<(), Want>
-    ensures memory { ¬ IsErrOf result Want.Memory }
-    ensures open { passage.now ≡ Passage.Open → IsOk result }
-    ensures admitted { IfOk result (λ _. (gate : _) → passage.now ≡ Passage.Gated gate
-        → (w : ℕ) → w < workers → admits (gate.vtable, gate.value) w) }
-{
-    match passage {
-        Passage::Open => Ok(()),
-        Passage::Gated(gate) => admit_each(&**gate, workers),
-    }
-}
-
-/// Asks a gate whether so many workers may begin; no further one once a worker was refused.
-fn admit_each(gate: &dyn Gate, workers: u16) -> Result<(), Want>
-    ensures memory { ¬ IsErrOf result Want.Memory }
-    ensures admitted { IfOk result (λ _. (w : ℕ) → w < workers → admits gate.now w) }
-{
-    for worker in 0..workers {
-        if !gate.admit(worker) {
-            return Err(Want::Thread);
-        }
-    }
-    Ok(())
 }

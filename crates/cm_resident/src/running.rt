@@ -1,6 +1,6 @@
 //! A team at work, each worker in a thread of its own.
 
-ghost use Rattle.std.specs.Prelude.{◌≡◌, ◌≢◌, ◌↔◌, ℕ, ◌<◌, ◌≤◌, IfOk, IfSome, IsErrOf, IsOk, IsSome, OnErr, OnOk, Some};
+ghost use Rattle.std.specs.Prelude.{◌≡◌, ◌≢◌, ◌↔◌, ℕ, ◌<◌, ◌≤◌, IfOk, IfSome, IsOk, IsSome, OnErr, OnOk, Some};
 ghost use Rattle.std.specs.Prelude.{[], get_or, length, vec_capacity};
 ghost use Rattle.std.specs.List.{All};
 ghost use Rattle.std.specs.Thread.{IsSync};
@@ -8,11 +8,12 @@ ghost use Rattle.cm_resident.specs.Starting.{begin, cancel, word_for};
 ghost use Rattle.cm_resident.specs.Teams.{HasWorked, IsOfSome};
 ghost use Rattle.cm_resident.specs.Gathering.{AreEmpty, HaveRoom};
 
+use crate::held::Held;
 use crate::start::{Starter, Waiter, start_word};
 use crate::worker::Worker;
 use cm_bits::NoMemory;
 use cm_subcube::Block;
-use cm_workers::{Passage, Want};
+use cm_workers::{NoThread, Passage};
 use std::alloc::Global;
 use std::snapshot::Snapshot;
 use std::sync::Wait;
@@ -22,7 +23,7 @@ use std::thread::{Promise, PromisedHandle, Scope, Threads};
 /// What a worker's thread promises: if the worker began, it has done its work.
 #[derive(Drop)]
 pub(crate) struct WillWork {
-    was: Snapshot<Worker>,
+    was: Snapshot<Held>,
 }
 
 impl Promise<Option<Vec<Block>>> for WillWork {
@@ -35,7 +36,7 @@ impl Promise<Option<Vec<Block>>> for WillWork {
 /// A worker, and the word at which it waits to be let begin.
 #[derive(Drop)]
 pub(crate) struct Ready {
-    pub(crate) worker: Worker,
+    pub(crate) worker: Held,
     pub(crate) waiter: Waiter,
 }
 
@@ -55,10 +56,9 @@ impl Ready {
         ensures value { IfSome result.blocks (λ blocks. HasWorked self.worker blocks.items) }
     {
         let Ready { worker, mut waiter } = self;
-        let blocks = if waiter.is_let_begin(rt) {
-            Some(worker.work(rt, passage))
-        } else {
-            None
+        let blocks = match waiter.await_release(rt) {
+            Some(begun) => Some(worker.work(begun, rt, passage)),
+            None => None,
         };
         Left { blocks, waiter }
     }
@@ -92,6 +92,7 @@ pub(crate) fn line_up(alloc: Global, team: Vec<Worker>) -> Result<Lineup, NoMemo
     for _w in 0..count {
         let worker = team.remove(0);
         let (starter, waiter) = start_word(alloc)?;
+        let worker = Held::new(worker);
         readies.push_reserved(Ready { worker, waiter });
         starters.push_reserved(starter);
     }
@@ -104,17 +105,19 @@ pub(crate) fn line_up(alloc: Global, team: Vec<Worker>) -> Result<Lineup, NoMemo
     })
 }
 
-/// Starts the thread of a worker.
+/// Starts the thread of a worker that is admitted.
 fn start<'s, E, R: Wait + Sync>(
     scope: &Scope<'s, E>,
     rt: &'s R,
     passage: &'s Passage,
     ready: Ready,
-) -> Result<PromisedHandle<Option<Vec<Block>>, WillWork>, Want>
+) -> Result<PromisedHandle<Option<Vec<Block>>, WillWork>, NoThread>
     requires team { IsOfSome ready.worker }
-    ensures memory { ¬ IsErrOf result Want.Memory }
     ensures ok { IfOk result (λ handle. handle.promise.was.value ≡ ready.worker) }
+    ensures admitted { IfOk result (λ _. (gate : _) → passage.entry.now ≡ Passage.Gated gate
+        → admits (gate.vtable, gate.value) ready.worker.id) }
 {
+    passage.admit(ready.worker.id())?;
     let was = Snapshot::of(&ready.worker);
     let started = scope.spawn_with(
         WillWork { was },
@@ -128,25 +131,28 @@ fn start<'s, E, R: Wait + Sync>(
     );
     match started {
         Ok(handle) => Ok(handle),
-        Err(_refused) => Err(Want::Thread),
+        Err(refused) => Err(NoThread::not_started(refused)),
     }
 }
 
-/// Starts the threads of all, the worker with the lowest number first; no further one after a refusal.
+/// Starts the threads of all, the worker with the lowest number first, each once it is admitted; no further one after a
+/// refusal.
 fn start_all<'s, E, R: Wait + Sync>(
     scope: &Scope<'s, E>,
     rt: &'s R,
     passage: &'s Passage,
     readies: Vec<Ready>,
     handles: &mut Vec<PromisedHandle<Option<Vec<Block>>, WillWork>>,
-) -> Result<(), Want>
+) -> Result<(), NoThread>
     requires team { (w : ℕ) (d : _) → w < length readies.items → IsOfSome (get_or readies.items w d).worker }
     requires none { handles.old.items ≡ [] }
     requires room { length readies.items ≤ vec_capacity handles.old }
-    ensures memory { ¬ IsErrOf result Want.Memory }
     ensures few { length handles.new.items ≤ length readies.items }
     ensures count { OnOk result (length handles.new.items ≡ length readies.items) }
     ensures refused { OnErr result (length handles.new.items < length readies.items) }
+    ensures admitted { OnOk result ((gate : _) → passage.entry.now ≡ Passage.Gated gate
+        → (w : ℕ) (d : _) → w < length readies.items
+        → admits (gate.vtable, gate.value) (get_or readies.items w d).worker.id) }
     ensures value { (w : ℕ) (d : _) (e : _) → w < length handles.new.items
         → (get_or handles.new.items w d).promise.was.value ≡ (get_or readies.items w e).worker }
 {
@@ -180,17 +186,19 @@ fn start_team<'s, E, R: Wait + Sync>(
     readies: Vec<Ready>,
     starters: &mut Vec<Starter>,
     handles: &mut Vec<PromisedHandle<Option<Vec<Block>>, WillWork>>,
-) -> Result<(), Want>
+) -> Result<(), NoThread>
     requires team { (w : ℕ) (d : _) → w < length readies.items → IsOfSome (get_or readies.items w d).worker }
     requires none { handles.old.items ≡ [] }
     requires room { length readies.items ≤ vec_capacity handles.old }
     requires untold { All (λ word. word ≡ 0) starters.old.items }
-    ensures memory { ¬ IsErrOf result Want.Memory }
     ensures few { length handles.new.items ≤ length readies.items }
     ensures count { OnOk result (length handles.new.items ≡ length readies.items) }
     ensures begin { OnOk result (All (λ word. word ≡ begin) starters.new.items) }
     ensures cancel { OnErr result (All (λ word. word ≡ cancel) starters.new.items) }
     ensures refused { OnErr result (length handles.new.items < length readies.items) }
+    ensures admitted { OnOk result ((gate : _) → passage.entry.now ≡ Passage.Gated gate
+        → (w : ℕ) (d : _) → w < length readies.items
+        → admits (gate.vtable, gate.value) (get_or readies.items w d).worker.id) }
     ensures value { (w : ℕ) (d : _) (e : _) → w < length handles.new.items
         → (get_or handles.new.items w d).promise.was.value ≡ (get_or readies.items w e).worker }
 {
@@ -220,10 +228,9 @@ fn join_all<R: Threads>(
 }
 
 /// What all workers left; fails where one has not begun, and only there.
-fn all_there<T: Drop>(left: Vec<Option<T>>, shares: Vec<T>) -> Result<Vec<T>, Want>
+fn all_there<T: Drop>(left: Vec<Option<T>>, shares: Vec<T>) -> Result<Vec<T>, NoThread>
     requires none { shares.items ≡ [] }
     requires room { length left.items ≤ vec_capacity shares }
-    ensures memory { ¬ IsErrOf result Want.Memory }
     ensures count { IfOk result (λ all. length all.items ≡ length left.items) }
     ensures value { IfOk result (λ all. (w : ℕ) (d : _) (e : _) → w < length left.items
         → get_or left.items w d ≡ Some (get_or all.items w e)) }
@@ -234,7 +241,7 @@ fn all_there<T: Drop>(left: Vec<Option<T>>, shares: Vec<T>) -> Result<Vec<T>, Wa
     for _w in 0..left.len() {
         match left.remove(0) {
             Some(share) => shares.push_reserved(share),
-            None => return Err(Want::Thread),
+            None => return Err(NoThread::cancelled()),
         }
     }
     Ok(shares)
@@ -246,16 +253,18 @@ fn start_and_join<'s, E, R: Threads + Wait + Sync>(
     rt: &'s R,
     passage: &'s Passage,
     all: Lineup,
-) -> Result<Vec<Vec<Block>>, Want>
+) -> Result<Vec<Vec<Block>>, NoThread>
     requires team { (w : ℕ) (d : _) → w < length all.readies.items → IsOfSome (get_or all.readies.items w d).worker }
     requires none { AreEmpty all.handles.items all.left.items all.shares.items }
     requires room { HaveRoom (length all.readies.items)
         (vec_capacity all.handles) (vec_capacity all.left) (vec_capacity all.shares) }
     requires untold { All (λ word. word ≡ 0) all.starters.items }
-    ensures memory { ¬ IsErrOf result Want.Memory }
     ensures count { IfOk result (λ shares. length shares.items ≡ length all.readies.items) }
     ensures value { IfOk result (λ shares. (w : ℕ) (d : _) (e : _) → w < length all.readies.items
         → HasWorked (get_or all.readies.items w d).worker (get_or shares.items w e).items) }
+    ensures admitted { IfOk result (λ _. (gate : _) → passage.entry.now ≡ Passage.Gated gate
+        → (w : ℕ) (d : _) → w < length all.readies.items
+        → admits (gate.vtable, gate.value) (get_or all.readies.items w d).worker.id) }
 {
     let Lineup {
         readies,
@@ -272,36 +281,40 @@ fn start_and_join<'s, E, R: Threads + Wait + Sync>(
 }
 
 /// A team works, each worker in a thread of its own; what each leaves, by its number. Fails where a thread was not
-/// started; then no worker has begun.
+/// admitted or not started; then no worker has begun.
 pub(crate) fn work_all<R: Threads + Wait + Sync>(
     rt: &R,
     passage: &Passage,
     all: Lineup,
-) -> Result<Vec<Vec<Block>>, Want>
+) -> Result<Vec<Vec<Block>>, NoThread>
     requires team { (w : ℕ) (d : _) → w < length all.readies.items → IsOfSome (get_or all.readies.items w d).worker }
     requires none { AreEmpty all.handles.items all.left.items all.shares.items }
     requires room { HaveRoom (length all.readies.items)
         (vec_capacity all.handles) (vec_capacity all.left) (vec_capacity all.shares) }
     requires untold { All (λ word. word ≡ 0) all.starters.items }
-    ensures memory { ¬ IsErrOf result Want.Memory }
     ensures count { IfOk result (λ shares. length shares.items ≡ length all.readies.items) }
     ensures value { IfOk result (λ shares. (w : ℕ) (d : _) (e : _) → w < length all.readies.items
         → HasWorked (get_or all.readies.items w d).worker (get_or shares.items w e).items) }
+    ensures admitted { IfOk result (λ _. (gate : _) → passage.now ≡ Passage.Gated gate
+        → (w : ℕ) (d : _) → w < length all.readies.items
+        → admits (gate.vtable, gate.value) (get_or all.readies.items w d).worker.id) }
 {
     thread::scope(
         thread::scope_env(),
         rt,
-        |scope| -> Result<Vec<Vec<Block>>, Want>
+        |scope| -> Result<Vec<Vec<Block>>, NoThread>
             requires { IsSync R.row
                 × ((w : ℕ) (d : _) → w < length all.readies.items → IsOfSome (get_or all.readies.items w d).worker)
                 × AreEmpty all.handles.items all.left.items all.shares.items
                 × HaveRoom (length all.readies.items)
                 (vec_capacity all.handles) (vec_capacity all.left) (vec_capacity all.shares)
                 × All (λ word. word ≡ 0) all.starters.items }
-            ensures { (¬ IsErrOf result Want.Memory)
-                × IfOk result (λ shares. length shares.items ≡ length all.readies.items)
+            ensures { IfOk result (λ shares. length shares.items ≡ length all.readies.items)
                 × IfOk result (λ shares. (w : ℕ) (d : _) (e : _) → w < length all.readies.items
-                → HasWorked (get_or all.readies.items w d).worker (get_or shares.items w e).items) }
+                → HasWorked (get_or all.readies.items w d).worker (get_or shares.items w e).items)
+                × IfOk result (λ _. (gate : _) → passage.entry.now ≡ Passage.Gated gate
+                → (w : ℕ) (d : _) → w < length all.readies.items
+                → admits (gate.vtable, gate.value) (get_or all.readies.items w d).worker.id) }
         { start_and_join(scope, rt, passage, all) },
     )
 }

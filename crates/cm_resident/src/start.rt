@@ -1,5 +1,5 @@
 //! Start words: a worker waits at one until it is told to begin, or not to.
-ghost use Rattle.std.specs.Prelude.{◌≡◌, ◌≢◌, ◌↔◌, ◌≤◌, IfOk, IsTrue};
+ghost use Rattle.std.specs.Prelude.{◌≡◌, ◌≢◌, ◌↔◌, ◌≤◌, [], IfOk, IsSome};
 ghost use Rattle.cm_resident.specs.Starting.{alone, starter, waiter, looked, told, begin, cancel};
 
 use atomic_table::{Play, Seat, Split, Table, TableRule};
@@ -115,6 +115,26 @@ impl Model for Waiter {
         × (end.seat.table_id.words ≡ 1) × (end.seat.me ≡ (waiter end.seat.me.0.word, [])) };
 }
 
+/// What lets a worker begin: the word of its starter, as the worker saw it. Nobody makes one but who saw that word.
+#[derive(Drop)]
+pub(crate) struct Released {
+    word: u64,
+    ghost begins: { word ≡ begin },
+}
+
+impl Released {
+    /// What a word lets one do.
+    fn by(word: u64) -> Option<Released>
+        ensures value { IsSome result ↔ (word ≡ begin) }
+    {
+        if word == BEGIN {
+            Some(Released { word })
+        } else {
+            None
+        }
+    }
+}
+
 /// The two ends of a start word, of which neither has told or seen one.
 pub(crate) fn start_word(alloc: Global) -> Result<(Starter, Waiter), NoMemory>
     ensures starter { IfOk result (λ ends. ends.0 ≡ 0) }
@@ -159,24 +179,49 @@ impl Starter {
         requires word { word ≤ 2 }
         ensures told { self.new ≡ word }
     {
-        self.table
-            .shared
-            .compare_exchange::<Tell>(&mut self.seat, 0, 0, word);
-        self.table.shared.wake_one(0);
+        put(&self.table, &mut self.seat, word).wake();
     }
 }
 
+/// A start word that was put, for which nobody was woken yet. It may not be let go: `wake` alone takes it. So no
+/// starter can forget its worker, or wake it before there is anything to see.
+struct Unwoken<'a> {
+    table: &'a StartTable,
+    ghost one: { table.now.shared.table_id.words ≡ 1 },
+}
+
+impl<'a> Unwoken<'a> {
+    /// Wakes the worker, if it is parked.
+    fn wake(self) {
+        let Unwoken { table } = self;
+        table.shared.wake_one(0);
+    }
+}
+
+/// Puts the word that a starter tells.
+fn put<'a>(table: &'a StartTable, seat: &mut StartSeat, word: u64) -> Unwoken<'a>
+    requires table { seat.old.table_id ≡ table.now.shared.table_id }
+    requires words { seat.old.table_id.words ≡ 1 }
+    requires new { seat.old.me ≡ (starter 0, []) }
+    requires word { word ≤ 2 }
+    ensures table { seat.new.table_id ≡ seat.old.table_id }
+    ensures told { seat.new.me ≡ (starter word, []) }
+{
+    table.shared.compare_exchange::<Tell>(seat, 0, 0, word);
+    Unwoken { table }
+}
+
 impl Waiter {
-    /// Waits until it is told, and answers whether it may begin.
-    pub(crate) fn is_let_begin<R: Wait>(&mut self, rt: &R) -> bool
+    /// Waits until it is told, and has what lets it begin if it may.
+    pub(crate) fn await_release<R: Wait>(&mut self, rt: &R) -> Option<Released>
         ensures told { self.new ≢ 0 }
-        ensures value { IsTrue result ↔ (self.new ≡ begin) }
+        ensures value { IsSome result ↔ (self.new ≡ begin) }
     {
         self.await_word();
         for _look in rt.forever() {
             let found = self.look();
             if found != 0 {
-                return found == BEGIN;
+                return Released::by(found);
             }
             self.table.shared.park(rt, 0, 0);
         }

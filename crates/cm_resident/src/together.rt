@@ -22,6 +22,7 @@ pub(crate) struct Together<'a, R> {
     pub(crate) rt: &'a R,
     pub(crate) threads: usize,
     ghost some: { 0 < threads },
+    ghost few: { threads ≤ 64 },
 }
 
 impl<'a, R: Threads + Sync> PutBehind for Together<'a, R> {
@@ -59,6 +60,7 @@ fn put_behind<R: Threads + Sync>(
     more: &[Vec<Event>],
 )
     requires threads { 0 < threads }
+    requires few { threads ≤ 64 }
     requires count { length more.now ≡ length logs.old }
     requires room { TakeIn (log_rooms_of logs.old) (events_of more.now) }
     ensures value { events_of logs.new ≡ each_from 0 (length logs.old)
@@ -75,6 +77,7 @@ fn each_behind<R: Threads + Sync>(
     more: &[Vec<Event>],
 )
     requires threads { 0 < threads }
+    requires few { threads ≤ 64 }
     requires count { length more.now ≡ length logs.old }
     requires room { (c : ℕ) (d e : _) → c < length logs.old
         → length (slice_index_or more.now c d).items ≤ log_room (slice_index_or logs.old c e) }

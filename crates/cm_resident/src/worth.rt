@@ -6,7 +6,6 @@ use crate::lanes::power_of_two;
 use cm_array::Machine;
 use cm_bits::{Addr, FlagNo};
 use cm_model::Act;
-use cm_workers::Passage;
 
 /// So many acts go through 4,096 chips before these are cut into blocks and put together again, without their memory.
 const CUT: usize = 512;
@@ -26,10 +25,9 @@ const START: usize = 128;
 /// So many before the parcels of a round have changed hands.
 const ROUND: usize = 6;
 
-/// Whether nobody looks, and one thread runs a list before it was shared out among so many workers and its blocks came
-/// through so many rounds. It has so many petit cycles.
+/// Whether one thread runs a list before it was shared out among so many workers and its blocks came through so many
+/// rounds. It has so many petit cycles.
 pub(crate) fn is_soon_done<const N: usize, const CAP: usize>(
-    passage: &Passage,
     machine: &Machine<N, CAP>,
     acts: &[Act],
     workers: u16,
@@ -38,9 +36,6 @@ pub(crate) fn is_soon_done<const N: usize, const CAP: usize>(
 ) -> bool
     requires some { 0 < workers }
 {
-    if matches!(passage, Passage::Gated(_)) {
-        return false;
-    }
     let cycle = MESSAGE.saturating_mul(CAP);
     let alone = cycles.saturating_mul(cycle).saturating_add(acts.len());
     let spared = alone - alone / usize::from(workers);

@@ -22,5 +22,5 @@ most_workers n k workers = min workers (2 ^ most_blocks n k)
 
 -- a want as a runner's fault
 abbrev pub of_want : Want → RunFault
-of_want want.Memory = fault.Memory
-of_want want.Thread = fault.NoThread
+of_want (want.Memory refused) = fault.Memory
+of_want (want.Thread refused) = fault.NoThread

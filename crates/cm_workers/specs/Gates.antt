@@ -21,6 +21,10 @@ IsShareOf k count w blocks = (q : ℕ) → (q < length blocks) ↔ (q * count + 
 abbrev pub told_number : ℕ → ℕ
 told_number number = min number (2 ^ 32 - 1)
 
+-- which is its number, of each round that there is
+abbrev pub RoundsAreToldByNumber : Type 0
+RoundsAreToldByNumber = (number : ℕ) → number < 2 ^ 32 → told_number number ≡ number
+
 -- block b of 2 ^ k of a cube of n dimensions whose routers have this room, as it is before a round of a run
 pub record IsBeforeRound (n k room : ℕ) (machine : Machine) (acts : List Act) (number b : ℕ) (kept : KeptBlock)
     : Type 0 where

@@ -14,12 +14,12 @@ ghost use Rattle.cm_workers.specs.Forks.{fork_fault, most_blocks, most_workers, 
 ghost use Rattle.cm_workers.specs.Posts.{blank_post};
 ghost use Rattle.cm_workers.specs.Runs.{StandAt};
 
-use crate::gate::{Gate, Passage};
+use crate::gate::Passage;
 use crate::post::Post;
 use crate::running::{Sizes, run_blocks};
 use crate::turn::Crew;
-use crate::want::Want;
-use cm_array::{Machine, Plain, RunFault, Runner, check_stretch};
+use crate::want::{NoThread, Want};
+use cm_array::{Machine, RunFault, Runner, check_stretch};
 use cm_bits::NoMemory;
 use cm_model::Act;
 use cm_subcube::{SplitFault, join, rounds, split};
@@ -27,12 +27,6 @@ use std::alloc::Global;
 use std::sync::Wait;
 use std::thread::Threads;
 use thiserror::Error;
-
-/// So many acts go through 4,096 chips before blocks of these are cut and put together.
-const CUT: usize = 1024;
-
-/// And so many before they are through a round.
-const ROUND: usize = 128;
 
 /// Why there is no such runner.
 #[derive(Clone, Copy, Debug, PartialEq, Eq, Error)]
@@ -44,7 +38,7 @@ pub enum ForkFault {
 }
 
 /// The runner of many threads: it cuts a copy of a machine into blocks, which workers run, each in a thread of its own,
-/// and puts them together again when all acts are done.
+/// and puts them together again when all acts are done. So it does with every list that is not empty.
 #[derive(Drop)]
 pub struct Forked<'a, R> {
     rt: &'a R,
@@ -56,7 +50,7 @@ pub struct Forked<'a, R> {
     ghost some: { 0 < workers },
 }
 
-impl<'a, R: Threads + Wait> Forked<'a, R> {
+impl<'a, R> Forked<'a, R> {
     /// One that cuts machines of 2^`N` chips into 2^`k` blocks for so many workers, which go through the passage. It
     /// runs smaller machines too, in as many blocks as they can be cut into, with no more workers than blocks.
     pub fn new<const N: usize>(
@@ -113,9 +107,10 @@ impl<'a, const N: usize, const CAP: usize, R: Threads + Wait> Runner<N, CAP> for
 
     ghost threads_lacked = { λ runner. runner.threads_lacked };
 
-    /// Takes memory for a copy of the machine, for what its blocks exchange, and for the logs of all petit cycles in
-    /// the list. Of a list that is not empty each worker is admitted before any is started. Where memory or a thread is
-    /// wanting the machine stays as it was.
+    /// Of a list that is not empty it takes memory for a copy of the machine, for what its blocks exchange, and for
+    /// the logs of all petit cycles in the list. Then each worker is admitted, before any is started. A round takes
+    /// memory to deal the blocks out and to take them back. Where memory or a thread is wanting the machine stays as
+    /// it was.
     fn go(&mut self, machine: &mut Machine<N, CAP>, acts: &[Act]) -> Result<(), RunFault>
         requires runner { IsSync R.row }
         ensures long { (result ≡ Err RunFault.Long) ↔ IsTrue (is_long acts.now) }
@@ -150,7 +145,7 @@ impl<'a, const N: usize, const CAP: usize, R: Threads + Wait> Runner<N, CAP> for
             acts,
             cycles,
         );
-        if let Err(Want::Thread) = done {
+        if let Err(Want::Thread(_)) = done {
             self.threads_lacked = self.threads_lacked.wrapping_add(1);
         }
         told(done)
@@ -170,8 +165,8 @@ fn told(done: Result<(), Want>) -> Result<(), RunFault>
 {
     match done {
         Ok(()) => Ok(()),
-        Err(Want::Memory) => Err(RunFault::Memory),
-        Err(Want::Thread) => Err(RunFault::NoThread),
+        Err(Want::Memory(_)) => Err(RunFault::Memory),
+        Err(Want::Thread(_)) => Err(RunFault::NoThread),
     }
 }
 
@@ -199,64 +194,23 @@ fn fork<const N: usize, const CAP: usize, R: Threads + Wait>(
     ensures err { OnErr result (machine.new.machine ≡ machine.old.machine) }
 {
     let _clock = machine.clock();
-    admit_all(passage, sizes.workers)?;
     let rounds = rounds(alloc, sizes.dims, acts, sizes.k)?;
-    if is_soon_done(passage, sizes.dims, acts, rounds.len(), cycles) {
-        return run_alone(machine, acts);
-    }
     let all = cut_up(alloc, machine, sizes, cycles)?;
+    admit_all(passage, sizes.workers)?;
     let after = run_blocks(rt, alloc, sizes, acts, &rounds, passage, all)?;
     join(after.blocks, machine);
     Ok(())
 }
 
-/// Whether nobody looks, and one thread runs a list before blocks were cut and came through so many rounds: it has no
-/// petit cycle, and few acts for that many chips.
-fn is_soon_done(passage: &Passage, dims: u8, acts: &[Act], rounds: usize, cycles: usize) -> bool
-    requires dimension { dims ≤ 12 }
-{
-    let saved = rounds.saturating_mul(ROUND).saturating_add(CUT);
-    matches!(passage, Passage::Open) && cycles == 0 && acts.len() >> (12 - dims) <= saved
-}
-
-/// A machine goes through a run in the thread of the caller.
-fn run_alone<const N: usize, const CAP: usize>(
-    machine: &mut Machine<N, CAP>,
-    acts: &[Act],
-) -> Result<(), Want>
-    ensures ok { OnOk result (machine.new.machine ≡ run_of N CAP machine.old.machine acts.now) }
-    ensures account { OnOk result (SameLines (account N machine.new.machine)
-        (account N machine.old.machine ++ newly_injected N machine.old.machine machine.new.machine)) }
-    ensures err { OnErr result (machine.new.machine ≡ machine.old.machine) }
-{
-    match Plain.go(machine, acts) {
-        Ok(()) => Ok(()),
-        Err(_fault) => Err(Want::Memory),
-    }
-}
-
-/// Asks whether the workers may begin, the one with the lowest number first.
-fn admit_all(passage: &Passage, workers: u16) -> Result<(), Want>
-    ensures memory { ¬ IsErrOf result Want.Memory }
+/// Asks whether so many workers may begin, the one with the lowest number first; no further one once a worker was
+/// refused.
+fn admit_all(passage: &Passage, workers: u16) -> Result<(), NoThread>
     ensures open { passage.now ≡ Passage.Open → IsOk result }
     ensures admitted { IfOk result (λ _. (gate : _) → passage.now ≡ Passage.Gated gate
         → (w : ℕ) → w < workers → admits gate w) }
 {
-    match passage {
-        Passage::Open => Ok(()),
-        Passage::Gated(gate) => admit_each(&**gate, workers),
-    }
-}
-
-/// Asks a gate whether so many workers may begin; no further one once a worker was refused.
-fn admit_each(gate: &dyn Gate, workers: u16) -> Result<(), Want>
-    ensures memory { ¬ IsErrOf result Want.Memory }
-    ensures admitted { IfOk result (λ _. (w : ℕ) → w < workers → admits gate.now w) }
-{
     for worker in 0..workers {
-        if !gate.admit(worker) {
-            return Err(Want::Thread);
-        }
+        passage.admit(worker)?;
     }
     Ok(())
 }
@@ -267,18 +221,17 @@ fn cut_up<const N: usize, const CAP: usize>(
     machine: &Machine<N, CAP>,
     sizes: Sizes,
     cycles: usize,
-) -> Result<Crew, Want>
+) -> Result<Crew, NoMemory>
     requires dimension { sizes.dims ≡ N }
     requires within { sizes.k ≤ N - N / 2 }
     requires clock { machine.now.machine.clock + cycles < 2 ^ 63 }
     ensures value { IfOk result (λ all. (acts : List Act) → cycles_in acts ≡ cycles
         → StandAt N sizes.k CAP machine.now.machine acts 0 all.blocks.items all.posts.items) }
-    ensures thread { ¬ IsErrOf result Want.Thread }
 {
     let _clock = machine.clock();
     let blocks = match split(alloc, machine, sizes.k, cycles) {
         Ok(blocks) => blocks,
-        Err(SplitFault::Memory) => return Err(Want::Memory),
+        Err(SplitFault::Memory) => return Err(NoMemory),
         Err(SplitFault::Split) => unreachable!(),
     };
     let posts = blank_posts(alloc, sizes.dims, sizes.k, blocks.len())?;

@@ -1,6 +1,6 @@
 //! A turn of all workers at once, each in a thread of its own.
 
-ghost use Rattle.std.specs.Prelude.{◌≡◌, ℕ, ◌-◌, ◌/◌, ◌<◌, ◌≤◌, IfOk, IsErrOf, get_or, [], length};
+ghost use Rattle.std.specs.Prelude.{◌≡◌, ℕ, ◌-◌, ◌/◌, ◌<◌, ◌≤◌, IfOk, get_or, [], length};
 ghost use Rattle.std.specs.Prelude.{slice_get, vec_len, vec_capacity};
 ghost use Rattle.std.specs.Option.{option_copied};
 ghost use Rattle.std.specs.Thread.{IsSync};
@@ -17,7 +17,7 @@ use crate::gate::Passage;
 use crate::post::Post;
 use crate::running::Sizes;
 use crate::turn::Crew;
-use crate::want::Want;
+use crate::want::{NoThread, Want};
 use cm_bits::NoMemory;
 use cm_model::Act;
 use cm_subcube::{Block, Round};
@@ -56,12 +56,11 @@ fn start<'s, E>(
     passage: &'s Passage,
     crew: Crew,
     worker: u16,
-) -> Result<PromisedHandle<Crew, HasHad<'s>>, Want>
+) -> Result<PromisedHandle<Crew, HasHad<'s>>, NoThread>
     requires ready { CanAllGo acts.now (round_before rounds.now number) (slice_get rounds.now number)
         crew.blocks.items crew.posts.items }
     requires own { IsWorkersTurn acts.now (round_before rounds.now number) (slice_get rounds.now number)
         number worker crew.blocks.items crew.posts.items }
-    ensures memory { ¬ IsErrOf result Want.Memory }
     ensures ok { IfOk result (λ handle.
         IsPromised acts.entry.now rounds.entry.now number crew.blocks.items crew.posts.items handle.promise) }
 {
@@ -85,7 +84,7 @@ fn start<'s, E>(
     );
     match started {
         Ok(handle) => Ok(handle),
-        Err(_refused) => Err(Want::Thread),
+        Err(refused) => Err(NoThread::not_started(refused)),
     }
 }
 
@@ -96,28 +95,30 @@ pub(crate) struct Hands {
     pub(crate) posts: Vec<Vec<Post>>,
 }
 
-/// Starts all workers, the one with the lowest number first; none is started after a refusal.
+/// Starts all workers, the one with the lowest number first; none is started after a refusal. There is room for their
+/// threads.
 fn start_all<'s, E>(
     scope: &Scope<'s, E>,
-    alloc: Global,
     acts: &'s [Act],
     rounds: &'s [Round],
     number: usize,
     passage: &'s Passage,
     mut hands: Hands,
-) -> Result<Vec<PromisedHandle<Crew, HasHad<'s>>>, Want>
+    mut handles: Vec<PromisedHandle<Crew, HasHad<'s>>>,
+) -> Result<Vec<PromisedHandle<Crew, HasHad<'s>>>, NoThread>
     requires ready { CanHandsGo acts.now (round_before rounds.now number) (slice_get rounds.now number)
         hands.blocks.items hands.posts.items }
     requires own { AreWorkersTurns acts.now (round_before rounds.now number) (slice_get rounds.now number)
         number hands.blocks.items hands.posts.items }
     requires few { length hands.blocks.items ≤ 64 }
+    requires none { handles.items ≡ [] }
+    requires room { length hands.blocks.items ≤ vec_capacity handles }
     ensures count { IfOk result (λ handles. length handles.items ≡ length hands.blocks.items) }
     ensures promised { IfOk result (λ handles. (w : ℕ) (d : _) (e f : _) → w < length hands.blocks.items
         → IsPromised acts.entry.now rounds.entry.now number (hand hands.blocks.items e w) (hand hands.posts.items f w)
         (get_or handles.items w d).promise) }
 {
     let count = hands.blocks.len();
-    let mut handles = room_for(alloc, count)?;
     for w in 0..count {
         let crew = Crew {
             blocks: hands.blocks.remove(0),
@@ -128,29 +129,34 @@ fn start_all<'s, E>(
     Ok(handles)
 }
 
-/// Waits for all workers, and gives back what they had.
+/// Waits for all workers, and gives back what they had. There is room for it.
 fn join_all<'s, R: Threads>(
     rt: &R,
-    alloc: Global,
     handles: Vec<PromisedHandle<Crew, HasHad<'s>>>,
-) -> Result<Hands, Want>
-    ensures count_blocks { IfOk result (λ hands. length hands.blocks.items ≡ length handles.entry.items) }
-    ensures count_posts { IfOk result (λ hands. length hands.posts.items ≡ length handles.entry.items) }
-    ensures kept { IfOk result (λ hands. (w : ℕ) (d : _) (e f : _) → w < length handles.entry.items
-        → IsKept (get_or handles.entry.items w d).promise (hand hands.blocks.items e w) (hand hands.posts.items f w)) }
-    ensures thread { ¬ IsErrOf result Want.Thread }
+    blocks: Vec<Vec<Block>>,
+    posts: Vec<Vec<Post>>,
+) -> Hands
+    requires no_blocks { blocks.items ≡ [] }
+    requires no_posts { posts.items ≡ [] }
+    requires block_room { vec_len handles ≤ vec_capacity blocks }
+    requires post_room { vec_len handles ≤ vec_capacity posts }
+    ensures count_blocks { length result.blocks.items ≡ length handles.entry.items }
+    ensures count_posts { length result.posts.items ≡ length handles.entry.items }
+    ensures kept { (w : ℕ) (d : _) (e f : _) → w < length handles.entry.items
+        → IsKept (get_or handles.entry.items w d).promise
+        (hand result.blocks.items e w) (hand result.posts.items f w) }
 {
-    let mut blocks = room_for(alloc, handles.len())?;
-    let mut posts = room_for(alloc, handles.len())?;
+    let mut blocks = blocks;
+    let mut posts = posts;
     for handle in handles {
         let crew = handle.join(rt);
         blocks.push_reserved(crew.blocks);
         posts.push_reserved(crew.posts);
     }
-    Ok(Hands { blocks, posts })
+    Hands { blocks, posts }
 }
 
-/// Starts all workers, and waits for them.
+/// Makes room for the threads of all workers and for what they give back, starts them, and waits for them.
 fn start_and_join<'s, E, R: Threads>(
     scope: &Scope<'s, E>,
     rt: &R,
@@ -170,8 +176,12 @@ fn start_and_join<'s, E, R: Threads>(
         (λ now. HandsHaveGone acts.entry.now (round_before rounds.entry.now number) (slice_get rounds.entry.now number)
         hands.blocks.items hands.posts.items now.blocks.items now.posts.items) }
 {
-    let handles = start_all(scope, alloc, acts, rounds, number, passage, hands)?;
-    join_all(rt, alloc, handles)
+    let count = hands.blocks.len();
+    let places = room_for(alloc, count)?;
+    let blocks = room_for(alloc, count)?;
+    let posts = room_for(alloc, count)?;
+    let handles = start_all(scope, acts, rounds, number, passage, hands, places)?;
+    Ok(join_all(rt, handles, blocks, posts))
 }
 
 /// All workers have a turn, each in a thread of its own.

@@ -1,24 +1,71 @@
-//! What workers may lack.
+//! What workers may lack. A want of memory and a want of a thread are of two types, so neither is told as the other.
 
 use cm_bits::NoMemory;
+use std::thread::SpawnError;
 use thiserror::Error;
+
+/// Who refused a thread.
+#[derive(Clone, Copy, Debug, PartialEq, Eq)]
+enum Refusal {
+    Gate,
+    Start,
+    Starter,
+}
+
+/// A thread that was not admitted or not started. No refused growth makes one: it comes from `Passage::admit`, of what
+/// a start of a thread answers, and from a worker whose starter let nobody begin.
+#[derive(Clone, Copy, Debug, PartialEq, Eq, Error)]
+#[error("a thread was not admitted or not started")]
+pub struct NoThread {
+    by: Refusal,
+}
+
+impl NoThread {
+    /// One that a gate did not admit.
+    pub(crate) fn not_admitted() -> NoThread {
+        NoThread { by: Refusal::Gate }
+    }
+
+    /// One that could not be started.
+    pub fn not_started<F: Drop>(_refused: SpawnError<F>) -> NoThread {
+        NoThread { by: Refusal::Start }
+    }
+
+    /// One whose worker was told that nobody begins.
+    pub fn cancelled() -> NoThread {
+        NoThread {
+            by: Refusal::Starter,
+        }
+    }
+}
 
 /// What was wanting, so that blocks did not go through a run.
 #[derive(Clone, Copy, Debug, PartialEq, Eq, Error)]
 pub enum Want {
     #[error("out of memory")]
-    Memory,
+    Memory(NoMemory),
     #[error("a thread was not admitted or not started")]
-    Thread,
+    Thread(NoThread),
 }
 
 impl From<NoMemory> for Want {
     ghost use Rattle.std.specs.Prelude.{◌≡◌};
     ghost use Rattle.cm_workers.specs.declared.want.Want.TheVariants.{Memory};
 
-    ghost from_gives = { λ _ fault. fault ≡ Memory };
+    ghost from_gives = { λ refused fault. fault ≡ Memory refused };
 
-    fn from(_: NoMemory) -> Want {
-        Want::Memory
+    fn from(refused: NoMemory) -> Want {
+        Want::Memory(refused)
+    }
+}
+
+impl From<NoThread> for Want {
+    ghost use Rattle.std.specs.Prelude.{◌≡◌};
+    ghost use Rattle.cm_workers.specs.declared.want.Want.TheVariants.{Thread};
+
+    ghost from_gives = { λ refused fault. fault ≡ Thread refused };
+
+    fn from(refused: NoThread) -> Want {
+        Want::Thread(refused)
     }
 }

@@ -1,79 +1,27 @@
-use Rattle.std.proofs.Common.{refl, inl, inr}
-use Rattle.cm_cli.specs.Deeds.{Did}
-use Rattle.cm_cli.specs.Sizes.{start_at}
-use Rattle.cm_cli.specs.Takings.{reads_by}
-use Rattle.cm_cli.specs.Files.{TakesBoth}
-use Rattle.cm_cli.proofs.Leading.{did_both}
+use Rattle.std.proofs.Common.{inl}
+use Rattle.cm_outside.specs.Takings.{reads_by}
+use Rattle.cm_outside.proofs.Leading.{did_so}
+use Rattle.cm_outside.proofs.Taking.{taken_of, refused_of}
+use Rattle.cm_cli.proofs.Beginning.{begun_so, unbegun_so}
 use Rattle.cm_cli.proofs.files.begin_files.Goals as goal
 
-pub returns-in-Err-read_program_file-clause-refused : goal.returns-in-Err-read_program_file-clause-refused
-returns-in-Err-read_program_file-clause-refused g c =
-    did_both c.in-Ok.ensures.value c.in-Err-read_program_file.ensures.refused
-    (λ deeds more image refused. inr (inl (record {
-      first = deeds;
-      second = more;
-      did = refl;
-      start = start_at c.in-Ok.machine;
-      image = rw c.as_str.ensures.value at image;
-      refused = rw c.as_str-2.ensures.value at refused;
-    })))
+pub returns-in-Ok : goal.returns-in-Ok
+returns-in-Ok g c =
+    let both = did_so c.in-Ok.ensures.value
+    (λ deeds took. taken_of c.as_str.ensures.value c.as_str-2.ensures.value took) in
+    record {
+      value = begun_so c.begin_taken.new.outside (reads_by g.H.File.Source.left g.H.File.Source.has_failed)
+          c.args.line.now c.in-Ok.taken c.dims.result c.dims.ensures.value c.begin_taken.result both
+          c.begin_taken.ensures.same
+          c.begin_taken.ensures.shared c.begin_taken.ensures.value;
+      refused = unbegun_so c.begin_taken.new.outside (reads_by g.H.File.Source.left g.H.File.Source.has_failed)
+          c.args.line.now c.in-Ok.taken c.dims.result c.dims.ensures.value c.begin_taken.result both
+          c.begin_taken.ensures.refused;
+    }
 
-pub returns-in-Err-check-clause-refused : goal.returns-in-Err-check-clause-refused
-returns-in-Err-check-clause-refused g c =
-    did_both c.in-Ok.ensures.value c.in-Ok-read_program_file.ensures.value
-    (λ deeds more image text. inr (inr (inl (record {
-      start = start_at c.in-Ok.machine;
-      program = c.in-Ok-read_program_file.program;
-      both = record {
-        first = deeds;
-        second = more;
-        did = refl;
-        image = rw c.as_str.ensures.value at image;
-        text = rw c.as_str-2.ensures.value at text;
-      };
-      refused = rw c.dims.ensures.value at c.in-Err-check.ensures.err;
-    }))))
-
-pub returns-in-Ok-make_ready-clause-value : goal.returns-in-Ok-make_ready-clause-value
-returns-in-Ok-make_ready-clause-value g c =
-    let both : Did g.H.Outside.does c.args.outside.now c.read_program_file.new.outside
-    (TakesBoth (reads_by g.H.File.Source.left g.H.File.Source.has_failed) c.args.line.now
-    (start_at c.in-Ok.machine) c.in-Ok-read_program_file.program) =
-    did_both c.in-Ok.ensures.value c.in-Ok-read_program_file.ensures.value (λ deeds more image text. record {
-      first = deeds;
-      second = more;
-      did = refl;
-      image = rw c.as_str.ensures.value at image;
-      text = rw c.as_str-2.ensures.value at text;
-    }) in
-    did_both both c.in-Ok-make_ready.ensures.value (λ deeds more taken ready. record {
-      first = deeds;
-      second = more;
-      did = refl;
-      both = taken;
-      shared = rw c.dims.ensures.value at c.in_default.ensures.ok;
-      ready = ready;
-    })
-
-pub returns-in-Err-make_ready-clause-refused : goal.returns-in-Err-make_ready-clause-refused
-returns-in-Err-make_ready-clause-refused g c =
-    let both : Did g.H.Outside.does c.args.outside.now c.read_program_file.new.outside
-    (TakesBoth (reads_by g.H.File.Source.left g.H.File.Source.has_failed) c.args.line.now
-    (start_at c.in-Ok.machine) c.in-Ok-read_program_file.program) =
-    did_both c.in-Ok.ensures.value c.in-Ok-read_program_file.ensures.value (λ deeds more image text. record {
-      first = deeds;
-      second = more;
-      did = refl;
-      image = rw c.as_str.ensures.value at image;
-      text = rw c.as_str-2.ensures.value at text;
-    }) in
-    did_both both c.in-Err-make_ready.ensures.refused (λ deeds more taken refused. inr (inr (inr (record {
-      first = deeds;
-      second = more;
-      did = refl;
-      start = start_at c.in-Ok.machine;
-      program = c.in-Ok-read_program_file.program;
-      both = taken;
-      shared = rw c.dims.ensures.value at c.in_default.ensures.ok;
-      refused = refused;
-    }))))
+pub returns-in-Err : goal.returns-in-Err
+returns-in-Err g c = record {
+  value = tt;
+  refused = did_so c.in-Err.ensures.refused
+      (λ deeds refused. inl (refused_of c.as_str.ensures.value c.as_str-2.ensures.value refused));
+}

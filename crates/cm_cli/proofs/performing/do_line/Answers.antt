@@ -1,5 +1,5 @@
 use Rattle.std.proofs.Common.{refl}
-use Rattle.cm_cli.proofs.Leading.{did_so}
+use Rattle.cm_outside.proofs.Leading.{did_so}
 use Rattle.cm_cli.proofs.performing.do_line.Goals as goal
 
 pub returns-in-Chip : goal.returns-in-Chip
@@ -20,13 +20,21 @@ returns-in-Fresh g c = record {
       )));
 }
 
+pub run_files-requires : goal.run_files-requires
+run_files-requires g c = record {
+  can = λ any shared. tt;
+  alone = λ one wants. wants;
+  reader = c.requires.reader;
+  writer = c.requires.writer;
+}
+
 pub returns-then-workers-eq1 : goal.returns-then-workers-eq1
-returns-then-workers-eq1 g c = record { does = rw c.in-Run.is c.run_files_alone.ensures.does }
+returns-then-workers-eq1 g c = record { does = rw c.in-Run.is c.run_files.ensures.does }
 
 pub returns-else-workers-eq1 : goal.returns-else-workers-eq1
-returns-else-workers-eq1 g c = record { does = rw c.in-Run.is c.run_files_shared.ensures.does }
+returns-else-workers-eq1 g c = record { does = rw c.in-Run.is c.run_files-in-Run.ensures.does }
 
 pub returns-in-Weave : goal.returns-in-Weave
 returns-in-Weave g c = record {
-  does = rw c.in-Weave.is (did_so c.weave_line.ensures.does (λ deeds h. ((refl, c.requires.reader), h)));
+  does = rw c.in-Weave.is (did_so c.weave_files.ensures.does (λ deeds h. ((refl, c.requires.reader), h)));
 }

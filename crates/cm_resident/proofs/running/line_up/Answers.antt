@@ -1,4 +1,4 @@
-use Rattle.std.proofs.Common.{rules, ◌≡◌, subst, sym}
+use Rattle.std.proofs.Common.{rules, ◌≡◌, subst, sym, ◌∙◌}
 use Rattle.std.proofs.lemmas.List.Elements.{All-push}
 use Rattle.std.specs.List.{All}
 use Rattle.cm_resident.specs.declared.worker.Worker.{Worker}
@@ -22,5 +22,6 @@ loop-w-preserved c =
           c.remove-worker.ensures.by_index.2;
       each = λ w d e below. one_beside (λ (x : Worker) (h : Ready). h.worker ≡ x)
           c.args.team.items c.loop-w.readies.items c.push_reserved.new.self.items _ c.loop-w._w
-          inv.first c.push_reserved.ensures.items (λ v a b l. inv.each v a b l) (λ b. here b) w d e below;
+          inv.first c.push_reserved.ensures.items (λ v a b l. inv.each v a b l)
+          (λ b. c.new-worker.ensures.value ∙ here b) w d e below;
     }

@@ -1,7 +1,7 @@
 use Rattle.std.proofs.Common.{rules, ◌≡◌, ap, subst, sym, ◌∙◌}
 use Rattle.cm_resident.specs.declared.running.Ready.{Ready}
 use Rattle.cm_resident.specs.Teams.{IsOfSome}
-use Rattle.cm_resident.proofs.Fronts.{first_taken, rest_left, one_beside}
+use Rattle.cm_resident.proofs.Fronts.{first_taken, rest_left, one_beside, one_further}
 use Rattle.cm_resident.proofs.running.start_all.Goals as goal
 
 pub start-requires : goal.start-requires
@@ -26,4 +26,7 @@ loop-w-preserved g c =
           c.args.readies.items c.loop-w.handles.items c.push_reserved.new.self.items c.in_ok-start.field-0 c.loop-w._w
           inv.started c.push_reserved.ensures.items (λ v a b l. inv.promised v a b l)
           (λ b. c.in_ok-start.ensures.ok ∙ ap (λ (x : Ready). x.worker) (here b)) w d e below;
+      admitted = λ gate is. one_further (λ (x : Ready). (goal.Gate-dyn g (gate.vtable, gate.value)).admits gate.value x.worker.id)
+          c.args.readies.items c.loop-w._w c.remove-ready.result (inv.admitted gate is) here
+          (c.in_ok-start.ensures.admitted gate is);
     }

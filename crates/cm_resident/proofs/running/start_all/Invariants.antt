@@ -1,4 +1,5 @@
 use Rattle.std.proofs.Common.{◌≡◌, ◌<◌, ◌≤◌, ℕ, drop, length, get_or, vec_capacity}
+use Rattle.cm_workers.specs.declared.gate.Passage.TheVariants.{Gated}
 use Rattle.cm_resident.proofs.running.start_all.Given as goal
 
 abbrev pub invariant-loop-w : goal.invariant-loop-w
@@ -8,4 +9,6 @@ invariant-loop-w g l = record {
   left : l.readies.items ≡ drop l._w l.fn.readies.items;
   promised : (w : ℕ) (d : _) (e : _) → w < l._w
       → (get_or l.handles.items w d).promise.was.value ≡ (get_or l.fn.readies.items w e).worker;
+  admitted : (gate : _) → l.passage ≡ Gated gate → (w : ℕ) (d : _) → w < l._w
+      → (goal.Gate-dyn g (gate.vtable, gate.value)).admits gate.value (get_or l.fn.readies.items w d).worker.id;
 }

@@ -11,5 +11,4 @@ returns g c = record {
       c.in-Ok.ensures.value c.in-Ok.ensures.fresh (c.in_ok-posts.ensures.count ∙ c.len.ensures ∙ c.in-Ok.blocks.ok.0)
       (λ b y l. c.in_ok-posts.ensures.value b y l ∙ ap (λ (n : ℕ). blank_post n c.args.sizes.k) c.requires.dimension)
       counted c.requires.clock;
-  thread = λ told. cc;
 }

@@ -1,0 +1,138 @@
+//! Which lists of acts a program's runner shares out.
+
+ghost use Rattle.std.specs.Thread.{IsSync};
+
+use crate::gates::{Listed, NOBODY, gate_of, listed, no_calls};
+use crate::rows::sent_on;
+use cm_array::Machine;
+use cm_bits::{Dir, FlagNo};
+use cm_draws::{flag, poke_plane};
+use cm_model::Act;
+use cm_resident::Chooser;
+use std::alloc::Global;
+use std::sync::Wait;
+use std::test::Fail;
+use std::thread::Threads;
+
+/// A list of acts of one kind.
+#[derive(Clone, Copy, Debug)]
+enum List {
+    /// So many petit cycles.
+    Cycles(u16),
+    /// So many instructions that go eastward, over which blocks exchange nothing.
+    Instructions(u16),
+    /// So many that go northward.
+    Northward(u16),
+}
+
+/// A machine of 4,096 chips goes through a list: whether all processors ask to send, and how often the gate of four
+/// workers was asked and passed.
+struct Choice {
+    list: List,
+    ask: bool,
+    told: (u64, u64),
+}
+
+/// By the rule of DECISIONS, of four workers, who spare three quarters: a petit cycle counts as 448 acts here and has
+/// two rounds, and no row of memory is in use before a list.
+static CHOICES: [Choice; 8] = [
+    Choice {
+        list: List::Cycles(1),
+        ask: true,
+        told: (0, 0),
+    },
+    Choice {
+        list: List::Cycles(8),
+        ask: true,
+        told: (4, 64),
+    },
+    Choice {
+        list: List::Cycles(8),
+        ask: false,
+        told: (0, 0),
+    },
+    Choice {
+        list: List::Instructions(0),
+        ask: true,
+        told: (0, 0),
+    },
+    Choice {
+        list: List::Instructions(800),
+        ask: true,
+        told: (0, 0),
+    },
+    Choice {
+        list: List::Instructions(1000),
+        ask: true,
+        told: (4, 0),
+    },
+    Choice {
+        list: List::Northward(800),
+        ask: true,
+        told: (0, 0),
+    },
+    Choice {
+        list: List::Instructions(4096),
+        ask: false,
+        told: (4, 0),
+    },
+];
+
+impl List {
+    fn acts(self, alloc: Global) -> Option<Vec<Act>> {
+        let (act, count) = match self {
+            List::Cycles(count) => (Act::Cycle, count),
+            List::Instructions(count) => (sent_on(flag(0), Dir::East), count),
+            List::Northward(count) => (sent_on(flag(0), Dir::North), count),
+        };
+        let mut acts = Vec::new(alloc);
+        for _at in 0..count {
+            acts.push(act).ok()?;
+        }
+        Some(acts)
+    }
+}
+
+/// 4,096 chips, of which all processors ask to send or none does.
+fn machine_of(alloc: Global, ask: bool) -> Option<Machine<12, 7>> {
+    let mut machine = Machine::<12, 7>::blank(alloc).ok()?;
+    if ask {
+        for chip in 0..4096 {
+            poke_plane(&mut machine, chip, FlagNo::SEND, 0xffff);
+        }
+    }
+    Some(machine)
+}
+
+/// What a machine tells that goes through a list.
+fn chosen<R: Threads + Wait + Sync>(
+    rt: &R,
+    alloc: Global,
+    choice: &Choice,
+    machine: &mut Machine<12, 7>,
+) -> Option<Listed>
+    requires threads { IsSync R.row }
+{
+    let calls = no_calls(alloc)?;
+    let passage = gate_of(alloc, NOBODY, &calls)?;
+    let mut runner = Chooser::new::<12>(rt, alloc, 2, 4, passage).ok()?;
+    let acts = choice.list.acts(alloc)?;
+    listed(&mut runner, alloc, machine, &acts, 4096, &calls)
+}
+
+/// The same of a machine of its own.
+fn told<R: Threads + Wait + Sync>(rt: &R, alloc: Global, choice: &Choice) -> Option<Listed>
+    requires threads { IsSync R.row }
+{
+    let mut machine = machine_of(alloc, choice.ask)?;
+    chosen(rt, alloc, choice, &mut machine)
+}
+
+#[test]
+fn lists_are_shared_out_where_that_pays(rt: HostRuntime) -> Result<(), Fail> {
+    for choice in &CHOICES {
+        let wanted = Some(((None, true), choice.told));
+        assert_eq!(rt; told(&rt, rt.alloc(), choice), wanted, "{:?}", choice.list);
+    }
+    Ok(())
+}

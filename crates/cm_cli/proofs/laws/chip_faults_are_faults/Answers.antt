@@ -1,5 +1,0 @@
-use Rattle.cm_cli.proofs.Programs.{chip_faults_are_faults}
-use Rattle.cm_cli.proofs.laws.chip_faults_are_faults.Goals as goal
-
-pub returns : goal.returns
-returns c = chip_faults_are_faults

@@ -1,5 +1,0 @@
-use Rattle.cm_cli.proofs.Programs.{chip_texts_are_programs}
-use Rattle.cm_cli.proofs.laws.chip_texts_are_programs.Goals as goal
-
-pub returns : goal.returns
-returns c = chip_texts_are_programs

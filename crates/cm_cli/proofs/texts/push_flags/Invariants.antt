@@ -1,6 +1,0 @@
-use Rattle.std.proofs.Common.{◌≡◌, ◌++◌}
-use Rattle.cm_cli.specs.ChipText.{lines_below, flag_line}
-use Rattle.cm_cli.proofs.texts.push_flags.Given as goal
-
-abbrev pub invariant-loop-index : goal.invariant-loop-index
-invariant-loop-index l = l.text.items ≡ l.initial.text.items ++ lines_below l.index (flag_line l.chip)

@@ -1,0 +1,28 @@
+-- A front end over the machine of an image that is opened.
+use Rattle.std.proofs.Common.{◌≡◌, ℕ, Option, Result, Ok, Err, Vec, List}
+use Rattle.std.specs.Prelude.{IfOk, IfErr}
+use Rattle.std.specs.declared.alloc.Global.{Global}
+use Rattle.cm_sizes.specs.Sizes.{SizedMachine}
+use Rattle.cm_sizes.specs.Opening.{opened}
+use Rattle.cm_front.specs.declared.images.FrontFault.{FrontFault}
+use Rattle.cm_front.specs.declared.images.FrontFault.TheVariants.{Image, Room, Ended, Memory}
+use Rattle.cm_front.specs.Images.{HasEnded, HasFailed, EndsImage, FailsImage}
+
+pub ended_so : (image : List ℕ) (start : SizedMachine) (before after held holds : Option (List ℕ))
+    (r : Result (Vec ℕ Global) FrontFault) → opened image ≡ Ok start
+    → IfOk r (λ text. HasEnded start before after held holds text.items)
+    → IfOk r (λ text. EndsImage image before after held holds text.items)
+ended_so image start before after held holds (Ok text) opens ended =
+    record { start = start; opens = opens; so = ended }
+ended_so image start before after held holds (Err fault) opens ended = tt
+
+pub failed_so : (image : List ℕ) (start : SizedMachine) (before after held holds : Option (List ℕ))
+    (r : Result (Vec ℕ Global) FrontFault) → opened image ≡ Ok start
+    → IfErr r (HasFailed start before after held holds) → IfErr r (FailsImage image before after held holds)
+failed_so image start before after held holds (Ok text) opens failed = tt
+failed_so image start before after held holds (Err (Ended fault)) opens failed =
+    record { start = start; opens = opens; so = failed }
+failed_so image start before after held holds (Err Memory) opens failed =
+    record { start = start; opens = opens; so = failed }
+failed_so image start before after held holds (Err (Image fault)) opens failed = absurd failed
+failed_so image start before after held holds (Err Room) opens failed = absurd failed

@@ -1,0 +1,5 @@
+mod Fronts
+pub mod Leading
+mod ToTheEnd
+mod Putting
+pub mod Taking

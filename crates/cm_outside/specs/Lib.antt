@@ -1,0 +1,8 @@
+pub mod Deeds
+pub mod Take
+pub mod Takings
+pub mod Written
+pub mod Puttings
+pub mod ProgramFault
+pub mod Report
+pub mod Streams

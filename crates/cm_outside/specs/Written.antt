@@ -1,0 +1,10 @@
+-- What goes into a file: ours.
+use Rattle.std.specs.Prelude.{Bool, true, false, Result, Ok, Err}
+use Rattle.cm_outside.specs.declared.outside.PutFault.{PutFault}
+use Rattle.cm_outside.specs.declared.outside.PutFault.TheVariants.{Write, Memory}
+
+-- whether a write failed
+abbrev pub is_write : Result (Unit {0}) PutFault → Bool
+is_write (Ok done) = false
+is_write (Err Write) = true
+is_write (Err Memory) = false

@@ -1,0 +1,11 @@
+use Rattle.std.proofs.Common.{rules, ap, ◌∙◌}
+use Rattle.cm_resident.specs.Starting.{starter}
+use Rattle.cm_resident.proofs.Starts.{tells}
+use Rattle.cm_resident.proofs.start.put.Goals as goal
+
+pub compare_exchange-requires : goal.compare_exchange-requires
+compare_exchange-requires c =
+    (search rules, search rules, tells _ _ c.args.word _ c.requires.new c.requires.word)
+
+pub returns-clause-told : goal.returns-clause-told
+returns-clause-told c = c.compare_exchange.ensures.2 ∙ ap (λ m. (starter c.args.word, m.1)) c.requires.new

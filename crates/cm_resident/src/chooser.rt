@@ -1,0 +1,97 @@
+//! The runner of a program: it shares out the lists for which that pays.
+
+ghost use Rattle.std.specs.Prelude.{◌≡◌, ◌↔◌, ◌++◌, [], None, cond, IfOk, IfSome, IsErrOf, IsFalse, IsOk, IsTrue};
+ghost use Rattle.std.specs.Prelude.{MatchResult, OnErr, OnOk};
+ghost use Rattle.std.specs.Thread.{IsSync};
+ghost use Rattle.cm_model.specs.Machine.{run_of};
+ghost use Rattle.cm_model.specs.Account.{account, newly_injected, SameLines};
+ghost use Rattle.cm_array.specs.Acts.{is_late, is_long};
+ghost use Rattle.cm_array.specs.Faults.{is_no_thread, one_more_lacked};
+ghost use Rattle.cm_workers.specs.Forks.{fork_fault};
+
+use crate::resident::Resident;
+use crate::worth::is_soon_done;
+use cm_array::{Machine, Plain, RunFault, Runner, check_stretch};
+use cm_bits::NoMemory;
+use cm_model::Act;
+use cm_subcube::rounds;
+use cm_workers::{ForkFault, Passage};
+use std::alloc::Global;
+use std::sync::Wait;
+use std::thread::Threads;
+
+/// The runner that chooses for each list: the thread of the caller goes through one that it has done before it was
+/// shared out, workers that run on through all others.
+#[derive(Drop)]
+pub struct Chooser<'a, R> {
+    resident: Resident<'a, R>,
+}
+
+impl<'a, R> Chooser<'a, R> {
+    /// One whose workers are those of `Resident::new`.
+    pub fn new<const N: usize>(
+        rt: &'a R,
+        alloc: Global,
+        k: u8,
+        workers: u16,
+        passage: Passage,
+    ) -> Result<Self, ForkFault>
+        ensures ok { IsOk result ↔ (fork_fault N k workers ≡ None) }
+        ensures refused { IfSome (fork_fault N k workers) (λ fault. IsErrOf result fault) }
+        ensures blocks { IfOk result (λ runner. runner.resident.k ≡ k) }
+        ensures workers { IfOk result (λ runner. runner.resident.workers ≡ workers) }
+        ensures passage { IfOk result (λ runner. runner.resident.passage ≡ passage) }
+        ensures lacked { IfOk result (λ runner. runner.resident.threads_lacked ≡ 0) }
+    {
+        match Resident::new::<N>(rt, alloc, k, workers, passage) {
+            Ok(resident) => Ok(Chooser { resident }),
+            Err(fault) => Err(fault),
+        }
+    }
+
+    /// Whether the thread of the caller goes through a list, of so many petit cycles.
+    fn goes_alone<const N: usize, const CAP: usize>(
+        &self,
+        machine: &Machine<N, CAP>,
+        list: &[Act],
+        cycles: usize,
+    ) -> Result<bool, NoMemory> {
+        let share = self.resident.share(machine.dims());
+        let rounds = rounds(self.resident.alloc(), machine.dims(), list, share.k)?;
+        Ok(is_soon_done(machine, list, share.workers, rounds.len(), cycles))
+    }
+}
+
+impl<'a, const N: usize, const CAP: usize, R: Threads + Wait + Sync> Runner<N, CAP>
+    for Chooser<'a, R> {
+    ghost ready = { IsSync R.row };
+
+    ghost threads_lacked = { λ runner. runner.resident.threads_lacked };
+
+    /// Takes memory to count the rounds, and then that of the runner that goes.
+    fn go(&mut self, machine: &mut Machine<N, CAP>, list: &[Act]) -> Result<(), RunFault>
+        requires runner { IsSync R.row }
+        ensures long { (result ≡ Err RunFault.Long) ↔ IsTrue (is_long list.now) }
+        ensures clock { (result ≡ Err RunFault.Clock)
+            ↔ (IsFalse (is_long list.now) × IsTrue (is_late machine.old.machine.clock list.now)) }
+        ensures empty { list.now ≡ [] → IsOk result }
+        ensures ok { OnOk result (machine.new.machine ≡ run_of N CAP machine.old.machine list.now) }
+        ensures account { OnOk result (SameLines (account N machine.new.machine)
+            (account N machine.old.machine ++ newly_injected N machine.old.machine machine.new.machine)) }
+        ensures threads { MatchResult result
+            (λ _. self.new.resident.threads_lacked ≡ self.old.resident.threads_lacked)
+            (λ fault. self.new.resident.threads_lacked
+            ≡ cond (is_no_thread fault) (one_more_lacked self.old.resident.threads_lacked)
+            self.old.resident.threads_lacked) }
+        ensures err { OnErr result (machine.new.machine ≡ machine.old.machine) }
+        ensures blocks { self.new.resident.k ≡ self.old.resident.k }
+        ensures workers { self.new.resident.workers ≡ self.old.resident.workers }
+        ensures passage { self.new.resident.passage ≡ self.old.resident.passage }
+    {
+        let cycles = check_stretch(list, machine.clock())?;
+        if list.is_empty() || self.goes_alone(machine, list, cycles)? {
+            return Plain.go(machine, list);
+        }
+        self.resident.go(machine, list)
+    }
+}

@@ -1,0 +1,6 @@
+mod Reading
+mod Telling
+mod OneChip
+mod Programs
+mod Weaving
+mod PlainRouting

@@ -1,0 +1,13 @@
+use Rattle.std.proofs.Common.{◌++◌, ap, ◌∙◌, List, ℕ}
+use Rattle.cm_tools.specs.ChipText.{memory_line}
+use Rattle.cm_tools.proofs.Telling.{lines_below-zero, lines_below-more}
+use Rattle.cm_tools.proofs.texts.push_memory.Goals as goal
+
+pub loop-index-init : goal.loop-index-init
+loop-index-init c = lines_below-zero c.args.text.now.items (memory_line c.args.chip.now)
+
+pub loop-index-preserved : goal.loop-index-preserved
+loop-index-preserved c =
+    c.in_ok-push_memory_line.ensures.ok
+    ∙ ap (λ (xs : List ℕ). xs ++ memory_line c.args.chip.now c.loop-index.index) c.loop-index.invariant
+    ∙ lines_below-more c.args.text.now.items c.loop-index.index (memory_line c.args.chip.now)

@@ -1,0 +1,9 @@
+pub mod Program
+pub mod ChipText
+pub mod Session
+pub mod Listed
+pub mod Fresh
+pub mod Laws
+pub mod Weaving
+pub mod Weaves
+pub mod Tools

@@ -1,0 +1,83 @@
+-- What `cm1 list` writes, or why it refuses. Ours.
+use Rattle.std.specs.Prelude.{◌≡◌, ℕ, ◌<◌, ◌≤◌, Bool, true, false, Option, Result, Ok, Err, List, length}
+use Rattle.std.specs.Io.KnownBytes.{Appends, Consumes, Keeps}
+use Rattle.cm_language.specs.declared.fault.AsmFault.{AsmFault}
+use Rattle.cm_language.specs.Program.{ProgramText, program_of, IsFaultOf}
+use Rattle.cm_language.specs.Listing.{listing}
+use Rattle.cm_outside.specs.Takings.{PROGRAM_LIMIT}
+use Rattle.cm_outside.specs.Report.{HasFront}
+use Rattle.cm_outside.specs.declared.program_fault.ProgramFault.{ProgramFault}
+use Rattle.cm_outside.specs.declared.program_fault.ProgramFault.TheVariants.{Text, Read, Write}
+use Rattle.cm_outside.specs.declared.program_fault.ProgramFault.TheVariants.{TooMuch, Memory}
+
+-- a text is a program, whose listing this is
+pub record IsListingOf (text bytes : List ℕ) : Type 0 where
+  pub program : ProgramText
+  pub is : program_of text ≡ Ok program
+  pub listed : bytes ≡ listing program
+
+-- every line of a text is accepted
+pub record HasProgram (text : List ℕ) : Type 0 where
+  pub program : ProgramText
+  pub is : program_of text ≡ Ok program
+
+-- why there is no listing of a text: want of memory is told so only of a program
+abbrev pub HasNoListing : List ℕ → ProgramFault → Type 0
+HasNoListing text (Text fault) = IsFaultOf text fault
+HasNoListing text Memory = HasProgram text
+HasNoListing text _ = ⊥
+
+-- the whole listing was written
+pub record IsListed (text : List ℕ) (held holds : Option (List ℕ)) : Type 0 where
+  pub within : length text ≤ PROGRAM_LIMIT
+  pub bytes : List ℕ
+  pub is : IsListingOf text bytes
+  pub written : Appends held holds bytes
+
+-- only the first bytes of the listing were written
+pub record IsListedInPart (text : List ℕ) (held holds : Option (List ℕ)) : Type 0 where
+  pub within : length text ≤ PROGRAM_LIMIT
+  pub bytes : List ℕ
+  pub is : IsListingOf text bytes
+  pub front : HasFront held holds bytes
+
+-- the text is refused, and nothing was written
+pub record IsNotListed (text : List ℕ) (held holds : Option (List ℕ)) (fault : AsmFault) : Type 0 where
+  pub within : length text ≤ PROGRAM_LIMIT
+  pub is : IsFaultOf text fault
+  pub nothing : Keeps held holds
+
+-- the text is too long, and nothing was written
+pub record IsTooLongToList (text : List ℕ) (held holds : Option (List ℕ)) : Type 0 where
+  pub beyond : PROGRAM_LIMIT < length text
+  pub nothing : Keeps held holds
+
+-- how the listing of a source that has this text ends
+abbrev pub EndsListing : List ℕ → Option (List ℕ) → Option (List ℕ) → Result (Unit {0}) ProgramFault → Type 0
+EndsListing text held holds (Ok done) = IsListed text held holds
+EndsListing text held holds (Err (Text fault)) = IsNotListed text held holds fault
+EndsListing text held holds (Err Read) = Keeps held holds
+EndsListing text held holds (Err Write) = IsListedInPart text held holds
+EndsListing text held holds (Err TooMuch) = IsTooLongToList text held holds
+EndsListing text held holds (Err Memory) = Keeps held holds
+EndsListing text held holds _ = ⊥
+
+-- a source, of which that is left in the end, gave some text, and it ended so as of that text and nothing more: this can
+-- be said of a source that does not tell its bytes
+pub record EndsListingForSome (source rest held holds : Option (List ℕ)) (result : Result (Unit {0}) ProgramFault)
+    : Type 0 where
+  pub text : List ℕ
+  pub read : Consumes source rest text
+  pub ends : EndsListing text held holds result
+
+-- it ended by a write
+abbrev pub is_write : Result (Unit {0}) ProgramFault → Bool
+is_write (Err Write) = true
+is_write _ = false
+
+-- it came to the end of the text: the text was listed, or refused for what stands in it
+abbrev pub has_read_all : Result (Unit {0}) ProgramFault → Bool
+has_read_all (Ok done) = true
+has_read_all (Err (Text fault)) = true
+has_read_all (Err Write) = true
+has_read_all _ = false

@@ -1,0 +1,180 @@
+//! `cm1 weave`: the exchange of a machine's blocks, stepped by the lines of a file or by itself.
+
+ghost use Rattle.std.specs.Prelude.{◌≡◌, false, IfOk, IfErr, IfSome, option_map, string_bytes};
+ghost use Rattle.cm_model.specs.Machine.{run_of};
+ghost use Rattle.cm_steps.specs.Ends.{is_write};
+ghost use Rattle.cm_steps.specs.Hearing.{exchange_in};
+ghost use Rattle.cm_sizes.specs.Sizes.{sized};
+ghost use Rattle.cm_outside.specs.Deeds.{Did};
+ghost use Rattle.cm_outside.specs.Takings.{reads_by};
+ghost use Rattle.cm_tools.specs.Weaving.{EndsExchange, ended_of, outgoing};
+ghost use Rattle.cm_tools.specs.Weaves.{DoesWeave, OpensEnds, OpensSteps, RefusesEnds, RefusesSteps, WeavesAt, WeavesWorld};
+
+use cm_array::Machine;
+use cm_asm::Program;
+use cm_bits::{Failed, Sink, Source};
+use cm_outside::{Outside, ProgramFault, Taken, break_off, close_files, make_ready, take_both};
+use cm_sizes::{AnyMachine, on_machine};
+use cm_steps::{WeaveFault, weave_self, weave_session};
+use cm_weave::World;
+use std::alloc::Global;
+
+/// What is asked of an exchange: the files of an image, of a program and of the steps, if one is named, into 2^`split`
+/// blocks how the machine is cut, and the file, if one is named, into which the image goes of the machine that is left.
+#[derive(Debug, PartialEq, Eq, Drop)]
+pub struct WeaveLine {
+    pub image: String,
+    pub program: String,
+    pub steps: Option<String>,
+    pub split: u8,
+    pub out: Option<String>,
+}
+
+/// The file of the steps, if one is named, and the file that was made ready, if one is.
+#[derive(Drop)]
+struct Ends<F, P> {
+    steps: Option<F>,
+    part: Option<P>,
+}
+
+/// Steps the exchange of a machine's blocks over files: image and program are taken, and the machine is cut; then the
+/// steps are opened, and only then is the file made ready that is to be written. It waits for nobody.
+pub fn weave_files<H: Outside, O: Sink>(
+    alloc: Global,
+    outside: &mut H,
+    line: &WeaveLine,
+    answers: &mut O,
+) -> Result<(), ProgramFault>
+    requires writer { O.has_failed answers.old ≡ false }
+    ensures does { Did H.does outside.old outside.new (DoesWeave (reads_by H.File.left H.File.has_failed) line.now
+        (outgoing (O.contents answers.old) (O.contents answers.new) (O.has_failed answers.new)) result) }
+{
+    match take_both(alloc, outside, line.image.as_str(), line.program.as_str()) {
+        Ok(taken) => {
+            let Taken { machine, program } = taken;
+            weave_any(alloc, outside, line, machine, &program, answers)
+        }
+        Err(fault) => Err(fault),
+    }
+}
+
+/// The same, once a machine of any size and a program are taken.
+fn weave_any<H: Outside, O: Sink>(
+    alloc: Global,
+    outside: &mut H,
+    line: &WeaveLine,
+    machine: AnyMachine,
+    program: &Program,
+    answers: &mut O,
+) -> Result<(), ProgramFault>
+    requires writer { O.has_failed answers.old ≡ false }
+    ensures does { Did H.does outside.old outside.new (WeavesAt (reads_by H.File.left H.File.has_failed) line.now
+        (sized machine) program.now.acts
+        (outgoing (O.contents answers.old) (O.contents answers.new) (O.has_failed answers.new)) result) }
+{
+    on_machine!(machine, machine => weave_machine(alloc, outside, line, machine, program, answers))
+}
+
+/// The same, on a machine of these sizes.
+fn weave_machine<const N: usize, const CAP: usize, H: Outside, O: Sink>(
+    alloc: Global,
+    outside: &mut H,
+    line: &WeaveLine,
+    machine: Machine<N, CAP>,
+    program: &Program,
+    answers: &mut O,
+) -> Result<(), ProgramFault>
+    requires writer { O.has_failed answers.old ≡ false }
+    ensures does { Did H.does outside.old outside.new (WeavesAt (reads_by H.File.left H.File.has_failed)
+        line.now (record { n = N; cap = CAP; machine = machine.entry.machine }) program.now.acts
+        (outgoing (O.contents answers.old) (O.contents answers.new) (O.has_failed answers.new)) result) }
+{
+    match World::new(alloc, machine, program.acts(), line.split) {
+        Ok(world) => weave_world(alloc, outside, line, world, answers),
+        Err(refused) => Err(ProgramFault::from(refused.fault)),
+    }
+}
+
+/// The same, once there is a world; and then the image of the machine that is left goes into the file that was made
+/// ready, if one was.
+fn weave_world<const N: usize, const CAP: usize, H: Outside, O: Sink>(
+    alloc: Global,
+    outside: &mut H,
+    line: &WeaveLine,
+    world: World<N, CAP>,
+    answers: &mut O,
+) -> Result<(), ProgramFault>
+    requires writer { O.has_failed answers.old ≡ false }
+    ensures does { Did H.does outside.old outside.new (WeavesWorld (reads_by H.File.left H.File.has_failed) line.now
+        N CAP world.entry
+        (outgoing (O.contents answers.old) (O.contents answers.new) (O.has_failed answers.new)) result) }
+{
+    let Ends { steps, part } = match open_ends(alloc, outside, line) {
+        Ok(ends) => ends,
+        Err(fault) => return Err(fault),
+    };
+    match step_world(alloc, world, steps, answers) {
+        Ok(machine) => close_files(alloc, outside, part, answers, &machine),
+        Err(fault) => break_off(outside, part, ProgramFault::from(fault)),
+    }
+}
+
+/// Opens the file of the steps, and then makes the file ready that is to be written, each if it is named.
+fn open_ends<H: Outside>(
+    alloc: Global,
+    outside: &mut H,
+    line: &WeaveLine,
+) -> Result<Ends<H::File, H::Part>, ProgramFault>
+    ensures working { IfOk result (λ ends. IfSome ends.steps (λ one. H.File.has_failed one ≡ false)) }
+    ensures value { IfOk result (λ ends. Did H.does outside.old outside.new (OpensEnds line.now ends.steps ends.part)) }
+    ensures refused { IfErr result (λ fault. Did H.does outside.old outside.new (RefusesEnds line.now fault)) }
+{
+    let steps = match open_steps(outside, &line.steps) {
+        Ok(steps) => steps,
+        Err(_) => return Err(ProgramFault::Read),
+    };
+    match make_ready(alloc, outside, &line.out) {
+        Ok(part) => Ok(Ends { steps, part }),
+        Err(fault) => Err(fault),
+    }
+}
+
+/// Opens the file of the steps, if one is named.
+fn open_steps<H: Outside>(
+    outside: &mut H,
+    steps: &Option<String>,
+) -> Result<Option<H::File>, Failed>
+    ensures working { IfOk result (λ file. IfSome file (λ one. H.File.has_failed one ≡ false)) }
+    ensures value { IfOk result (λ file. Did H.does outside.old outside.new
+        (OpensSteps (option_map string_bytes steps.now) file)) }
+    ensures refused { IfErr result (λ _. Did H.does outside.old outside.new
+        (RefusesSteps (option_map string_bytes steps.now))) }
+{
+    let Some(path) = steps else {
+        return Ok(None);
+    };
+    match outside.open(path.as_str()) {
+        Ok(file) => Ok(Some(file)),
+        Err(fault) => Err(fault),
+    }
+}
+
+/// Steps a world to its end, by these steps or by itself, and gives the machine that is left.
+fn step_world<const N: usize, const CAP: usize, I: Source + Drop, O: Sink>(
+    alloc: Global,
+    world: World<N, CAP>,
+    steps: Option<I>,
+    answers: &mut O,
+) -> Result<Machine<N, CAP>, WeaveFault>
+    requires reader { IfSome steps (λ one. I.has_failed one ≡ false) }
+    requires writer { O.has_failed answers.old ≡ false }
+    ensures machine { IfOk result (λ done. done.machine ≡ run_of N CAP world.entry.machine world.entry.acts) }
+    ensures ends { EndsExchange (reads_by I.left I.has_failed) (exchange_in N CAP world.entry) world.entry.world steps
+        (outgoing (O.contents answers.old) (O.contents answers.new) (O.has_failed answers.new)) (ended_of result) }
+    ensures write { O.has_failed answers.new ≡ is_write result }
+{
+    match steps {
+        Some(mut steps) => weave_session(alloc, world, &mut steps, answers),
+        None => weave_self(alloc, world, answers),
+    }
+}
