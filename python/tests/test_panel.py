@@ -1,9 +1,11 @@
 """The panel without a browser: its steps, and what its server answers to whom."""
+import base64
 import json
 import re
 import threading
 import urllib.error
 import urllib.request
+import zlib
 from concurrent.futures import ThreadPoolExecutor
 
 import pytest
@@ -119,6 +121,19 @@ def test_a_run_stops_at_a_breakpoint(begin):
     assert stepping.run() and stepping.position == len(stepping.acts)
 
 
+def test_a_breakpoint_can_be_taken_away(begin):
+    stepping = begin()
+    for _ in range(2):
+        stepping.toggle_breakpoint(5)
+    assert stepping.run() and stepping.position == len(stepping.acts)
+
+
+def test_a_long_run_comes_in_pieces(begin):
+    stepping = begin("repeat 6000\nset 3\nend")
+    assert not stepping.run() and stepping.position == 5_000
+    assert stepping.run() and stepping.position == 6_000
+
+
 def test_a_condition_holds_for_lines_that_are_typed_later(begin):
     stepping = begin()
     for line in ("pokeflag 0 0 3 1", "if 3", "const x 9"):
@@ -145,6 +160,14 @@ def test_a_way_is_of_all_acts_so_far(begin):
     assert stepping.step_cycle()
     # all want to cross dimensions 0 and 1: processor 0 leaves first over dimension 0, processor 1 then over dimension 1
     assert stepping.way(0, 0, 0).chips() == [0, 1] and stepping.way(0, 1, 0).chips() == [0, 2]
+
+
+def test_a_way_has_the_lines_that_were_typed(begin):
+    stepping = begin("field rel 3968 16\nset 12\ncycle")
+    stepping.ask("const rel 3")
+    stepping.step_cycle()
+    stepping.ask("cycle")
+    assert [it.partition(",")[0] for it in stepping.way(0, 0, 0)[:2]] == ["cycle 0: 0 -> 1", "cycle 1: 1"]
 
 
 def test_after_a_poke_a_way_begins_there(begin):
@@ -186,6 +209,14 @@ def test_lamps_have_a_byte_each(session, layer, most):
     assert session.do({"do": "look", "layer": layer})["state"]["most"] == most
 
 
+def test_lamps_show_the_upper_eight_bits(session):
+    session.do({"do": "ask", "line": "field y 0 12"})
+    session.do({"do": "ask", "line": "const y 0xabc"})
+    for length, number in (12, 0xab), (8, 0xbc), (3, 4):
+        state = session.do({"do": "look", "layer": {"length": length}})["state"]
+        assert set(zlib.decompress(base64.b64decode(state["lamps"]))) == {number}
+
+
 # ---- security
 
 
@@ -205,7 +236,7 @@ def answer(server):
                  **{name.replace("_", "-"): it for name, it in headers.items()}}
         request = urllib.request.Request(f"http://127.0.0.1:{server.server_port}{path}", body, given, method=method)
         try:
-            with urllib.request.urlopen(request, timeout=60) as told:
+            with urllib.request.urlopen(request, timeout=20) as told:
                 return told.status, told.read()
         except urllib.error.HTTPError as fault:
             return fault.code, fault.read()

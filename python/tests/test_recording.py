@@ -42,9 +42,12 @@ def test_it_has_what_was_taken(film):
 def test_no_text_becomes_markup_and_nothing_comes_from_outside(film):
     film.take(0, "</script>")
     text = film.html()
+    assert not set("<>&") & set(re.search(r'id="recording">(.*?)</script>', text)[1])
     assert text.count("</script>") == 2 and "<b>" not in text and "<i>" not in text
     assert "http:" not in text and "https:" not in text and "__" not in re.sub(r"sha256-\S+", "", text)
-    assert re.search(r'content="default-src &#x27;none&#x27;.*?connect-src &#x27;none&#x27;', text)
+    own = r"&#x27;sha256-[\w+/]{43}=&#x27;"
+    assert re.search(rf'content="default-src &#x27;none&#x27;; img-src data:; style-src {own}; script-src {own}; '
+                     r'connect-src &#x27;none&#x27;; base-uri &#x27;none&#x27;; form-action &#x27;none&#x27;">', text)
 
 
 def test_the_same_run_has_the_same_bytes(film):

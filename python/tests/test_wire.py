@@ -96,8 +96,9 @@ def test_names_in_lines_that_did_not_go_out_are_told_again(four):
 def test_a_context_that_did_not_go_out_is_told_again(four):
     x = four.field(8)
     x[:] = 0
-    with pytest.raises(Refused):                        # `if 3` is in the first piece, `always` in the other
-        four.lines.tell("if 3", "jump", *["poke 0 0 0 0"] * 6000, "always")
+    four.lines.ask("if 3")
+    with pytest.raises(Refused):                        # the refusal is in the first piece, `always` in the other
+        four.lines.tell("jump", *["poke 0 0 0 0"] * 6000, "always")
     x[:] = 5
     assert set(x) == {5}
 
@@ -170,8 +171,9 @@ def test_machines_that_there_are_not():
         Machine(dims=13)
     with pytest.raises(ValueError, match="Machine has room 1 or 7, not 2; load_curve takes 1 to 15"):
         Machine(room=2)
-    with pytest.raises(Failed):
+    with pytest.raises(Failed, match="no/such.image") as told:
         Machine.load("no/such.image")
+    assert told.value.status == 4
 
 
 def test_an_image_is_saved_whole_or_not_at_all(four, tmp_path):
