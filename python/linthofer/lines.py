@@ -1,11 +1,11 @@
 """What `Machine`, `Field` and `send` have in common: lines to one front end, each with the context that it wants."""
 from __future__ import annotations
 
+import functools
 import json
-from typing import TYPE_CHECKING, Dict, List, Optional, Sequence, Union
+from typing import TYPE_CHECKING, List, Optional, Sequence, Tuple, Union
 
 from .memory import Memory
-from .phrases import Phrases, is_phrase
 from .refusals import Refused, Unavailable
 from .wire import Front, is_definition
 
@@ -29,7 +29,6 @@ class Lines:
     def __init__(self, image: str) -> None:
         self.condition: Optional[int] = None        # the flag of the innermost `where`
         self.memory = Memory()
-        self._phrases = Phrases()
         self._front: Optional[Front] = Front(image)
 
     @property
@@ -65,12 +64,7 @@ class Lines:
     def _tell_under(self, context: str, lines: Sequence[str]) -> None:
         if self.front.context != context:
             self.front.tell([context])
-        for line in lines:
-            self.front.tell(self._instructions(line, context) if is_phrase(line) else [line])
-
-    def _instructions(self, phrase: str, context: str) -> List[str]:
-        definitions = [self.front.fields[word] for word in phrase.split()[1:] if word in self.front.fields]
-        return self._phrases.instructions(phrase, context, definitions)
+        self.front.tell(lines)
 
     def tell(self, *lines: str) -> None:
         """Tells lines that do not ask for the context: instructions, pokes, petit cycles."""
@@ -132,13 +126,8 @@ class Lines:
         Blank lines and comments have none. A `field` line that was told before is left out, so that a text may come
         again.
         """
-        wanted = []
-        for line in text.splitlines():
-            words = line.partition(";")[0].split()
-            shown = " ".join(words)
-            if not words or is_definition(shown) and self.front.fields.get(words[1]) == shown:
-                continue
-            wanted.append(shown)
+        told = set(self.front.fields.values())
+        wanted = [line for line in _lines_of(text) if line not in told]
         self.keep_fields_of(wanted)
         self.everywhere()
         try:
@@ -148,17 +137,26 @@ class Lines:
 
     def keep_fields_of(self, lines: Sequence[str]) -> None:
         """Bits to which a text gives a name are lent to no field from now on."""
-        for line in lines:
-            if is_definition(line):
-                at, bits = (_number(word) for word in line.split()[2:])
-                if at is not None and bits is not None and at + bits <= 4096:
-                    self.memory.keep(at, bits)
+        for line in filter(is_definition, lines):
+            at, bits = (_number(word) for word in line.split()[2:])
+            if at is not None and bits is not None and at + bits <= 4096:
+                self.memory.keep(at, bits)
 
     def refuse_other_fields(self, lines: Sequence[str]) -> None:
         """Raises `Refused` 19 for a `field` line whose name was told with another place."""
-        for line in lines:
-            if is_definition(line) and self.front.fields.get(line.split()[1], line) != line:
+        for line in filter(is_definition, lines):
+            if self.front.fields.get(line.split()[1], line) != line:
                 raise Refused(19, line)
+
+
+@functools.lru_cache(maxsize=1_000)
+def _lines_of(text: str) -> Tuple[str, ...]:
+    """The lines of a text that have words, without comments and with one space between words.
+
+    A loop asks the same text again and again: what was made of it last is kept.
+    """
+    lines = (" ".join(line.partition(";")[0].split()) for line in text.splitlines())
+    return tuple(filter(None, lines))
 
 
 def _number(word: str) -> Optional[int]:

@@ -367,8 +367,7 @@ class Machine:
 
     def image(self) -> bytes:
         """The image of the machine as it is now (docs/FORMATS.md, "Images")."""
-        _, *lines = self.lines.ask("image")[0].split("\n")
-        return bytes.fromhex("".join(lines))
+        return bytes.fromhex(self.lines.ask("image")[0].partition("\n")[2])
 
     def save(self, path: Path) -> None:
         """Writes the machine's image into a file, whole or not at all."""

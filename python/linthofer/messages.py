@@ -15,7 +15,7 @@ if TYPE_CHECKING:
 
 # Where a message stands in the memory of its sender, and where what came stands (docs/MACHINE.md, "Messages").
 REL, PROCESSOR, PAYLOAD, CAME = 3968, 3984, 3988, 4032
-REL_BITS, PROCESSOR_BITS, PAYLOAD_BITS = 16, 4, 32
+PROCESSOR_BITS, PAYLOAD_BITS = 4, 32
 
 COMBINES = ("only", "last", "add", "or", "max", "min")
 
@@ -93,17 +93,15 @@ def send(machine: "Machine", value: "Field", to: "Value", combine: str, bits: Op
 def _write_messages(machine: "Machine", value: "Field", to: "Field") -> None:
     """Each processor's message stands in its memory then, and SEND is 1 where `where` says."""
     lines = machine.lines
-    rel = machine.field(REL_BITS, at=REL)
     processor = machine.field(PROCESSOR_BITS, at=PROCESSOR)
     payload = machine.field(PAYLOAD_BITS, at=PAYLOAD)
-    lines.everywhere(f"clear {SEND}", f"clear {RECV}",
-                     lines.line("const", rel, 0), lines.line("const", payload, 0),
+    lines.everywhere(f"clear {SEND}", f"clear {RECV}", lines.line("const", payload, 0),
                      lines.line("move", payload.part(0, value.bits), value),
                      lines.line("move", processor, to.part(0, PROCESSOR_BITS)))
     if machine.dims:
         own = machine.own_place()
         top = PROCESSOR_BITS + machine.dims
-        chip = rel.part(0, machine.dims)
+        chip = machine.field(machine.dims, at=REL)          # of a relative address one bit counts for each dimension
         lines.everywhere(lines.line("move", chip, to.part(PROCESSOR_BITS, top)),
                          lines.line("xor", chip, own.part(PROCESSOR_BITS, top)))
     lines.where_meant(f"set {SEND}")

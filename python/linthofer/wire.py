@@ -7,12 +7,10 @@ Two rules make it safe over two pipes:
   piece goes out. So a write never waits for the front end to read, and the two never wait for each other. A longer line
   is a piece of its own: the front end reads the whole of a line before it answers.
 * Some answers have several lines: the first tells how many follow.
-
-A front end reads at most 16,777,216 bytes. Before they are used up its machine goes into a new one, as an image: fields
-and context are told again, and the logs of the routers are empty then.
 """
 from __future__ import annotations
 
+import importlib
 import os
 import shutil
 import signal
@@ -28,10 +26,15 @@ from .refusals import Refused, Unavailable, fault_of
 
 PIPE_BYTES = 65_536                                     # that a pipe of Linux holds
 LONGEST_WAIT = PIPE_BYTES // 2                          # bytes of lines that wait for the next question
-MOST_INPUT = 16_777_216                                 # bytes that one front end reads
-ASK_IMAGE = ["image"]
 HAVE_MORE_LINES = ("buf", "events", "numbers", "image")  # first words of answers that count the lines behind them
+CONTEXTS = ("if", "unless", "always")                   # first words that say where the lines behind are carried out
+NOTED = ("field", *CONTEXTS)
 UNKNOWN_CONTEXT = ""
+ENDED = "the front end has ended, and its machine with it"
+
+
+# What `signal.signal` calls. That looks up the names of handlers as well, which takes longer than a short question.
+_set_handler = importlib.import_module("_signal").signal
 
 
 def program(name: str) -> str:
@@ -64,17 +67,11 @@ class Front:
         self.fields: Dict[str, str] = {}        # by name, the `field` line that defined it
         self.context = "always"                 # the last `if`, `unless` or `always` that was told
         self._defined: Dict[str, str] = {}      # those of `fields` that were answered
-        self._held = "always"                   # the last context that was answered
         self._waiting: List[str] = []           # lines that were told and have not gone out
         self._waiting_bytes = 0
-        self._out = out
-        self._start(image)
-
-    def _start(self, image: str) -> None:
         words = [program("cm1lab"), "front", image]
-        if self._out is not None:
-            words += ["--out", self._out]
-        self._input_left = MOST_INPUT
+        if out is not None:
+            words += ["--out", out]
         self._errors = tempfile.TemporaryFile()
         # In a session of its own, so that Ctrl-C at the terminal does not end it.
         self._process = subprocess.Popen(words, stdin=subprocess.PIPE, stdout=subprocess.PIPE, stderr=self._errors,
@@ -108,41 +105,28 @@ class Front:
         self._waiting_bytes = 0
         answers: List[str] = []
         for piece in pieces([*waited, *lines]):
-            told = self._exchange(piece)
+            with uninterrupted():
+                told = self._exchange(piece)
             self._learn(piece, told)
             answers += told
         return answers[len(waited):]
 
     def _exchange(self, piece: Sequence[str]) -> List[str]:
         """Sends one piece and reads all its answers."""
-        data = _bytes_of(piece)
-        with uninterrupted():
-            if len(data) + len(_bytes_of(ASK_IMAGE)) > self._input_left:
-                self._begin_anew()
-            return self._answers(piece, data)
-
-    def _begin_anew(self) -> None:
-        """Goes on with a new process, on the image of the machine."""
-        _, *lines = self._answers(ASK_IMAGE, _bytes_of(ASK_IMAGE))[0].split("\n")
-        with tempfile.NamedTemporaryFile(prefix="linthofer-") as image:
-            image.write(bytes.fromhex("".join(lines)))
-            image.flush()
-            self.abandon()
-            self._start(image.name)
-            told = [*self._defined.values(), self._held]
-            self._answers(told, _bytes_of(told))            # it has read the image when it answers
-
-    def _answers(self, piece: Sequence[str], data: bytes) -> List[str]:
-        self._input_left -= len(data)
         try:
-            self._to.write(data)
+            self._to.write(("\n".join(piece) + "\n").encode())
             self._to.flush()
         except (BrokenPipeError, ValueError):               # it has ended, or was closed
             self._raise_its_end()
         return [self._read_answer() for _ in piece]
 
     def _read_answer(self) -> str:
-        first = self._read_line()
+        line = self._from.readline()
+        if line == b"ok\n":                                 # most often
+            return "ok"
+        if not line.endswith(b"\n"):
+            self._raise_its_end()
+        first = line[:-1].decode()
         word, _, rest = first.partition(" ")
         if word not in HAVE_MORE_LINES:
             return first
@@ -152,22 +136,14 @@ class Front:
             self._raise_its_end()
         return "\n".join([first, b"".join(lines)[:-1].decode()]) if lines else first
 
-    def _read_line(self) -> str:
-        line = self._from.readline()
-        if not line.endswith(b"\n"):
-            self._raise_its_end()
-        return line[:-1].decode()
-
     def _learn(self, piece: Sequence[str], answers: Sequence[str]) -> None:
         """Takes note of what was done; raises the first refusal."""
         refused: Optional[Refused] = None
         for line, answer in zip(piece, answers):
             if answer == "ok":
                 self._note(line)
-                if is_definition(line):
+                if line.startswith("field "):
                     self._defined[line.split()[1]] = line
-                elif is_context(line):
-                    self._held = line
             elif answer.startswith("?") and refused is None:
                 refused = Refused(int(answer[1:]), line)
         if refused is not None:
@@ -176,10 +152,12 @@ class Front:
             raise refused
 
     def _note(self, line: str) -> None:
-        if is_context(line):
-            self.context = line
-        elif is_definition(line):
+        if not line.startswith(NOTED):
+            return
+        if is_definition(line):
             self.fields[line.split()[1]] = line
+        elif line.partition(" ")[0] in CONTEXTS:
+            self.context = line
 
     # ---- its end
 
@@ -187,10 +165,13 @@ class Front:
         """Sends what waits and ends the process; with `out` the image stands there then."""
         try:
             self.ask([])
+            self._to.close()
+        except BrokenPipeError:                             # it has ended, before it read all that was sent
+            self.abandon()
+            raise Unavailable(ENDED) from None
         except BaseException:
             self.abandon()
             raise
-        self._to.close()
         status = self._process.wait()
         told = self._told_errors()
         self._from.close()
@@ -219,18 +200,13 @@ class Front:
         status = self._process.wait()
         told = self._told_errors()
         if status < 0 or not told:
-            raise Unavailable("the front end has ended, and its machine with it")
+            raise Unavailable(ENDED)
         raise fault_of(told, status)
 
 
 def is_definition(line: str) -> bool:
     """Whether it is a line `field NAME AT LEN`, and no question `field C P A L`."""
     return line.startswith("field ") and len(line.split()) == 4
-
-
-def is_context(line: str) -> bool:
-    """Whether it says where the lines behind it are carried out."""
-    return line.partition(" ")[0] in ("if", "unless", "always")
 
 
 def pieces(lines: Sequence[str]) -> Iterator[List[str]]:
@@ -246,10 +222,6 @@ def pieces(lines: Sequence[str]) -> Iterator[List[str]]:
         size += length
     if piece:
         yield piece
-
-
-def _bytes_of(piece: Sequence[str]) -> bytes:
-    return ("\n".join(piece) + "\n").encode()
 
 
 @contextmanager
@@ -268,10 +240,10 @@ def uninterrupted() -> Iterator[None]:
             raise KeyboardInterrupt
         came.append(number)
 
-    before = signal.signal(signal.SIGINT, keep_back)
+    before = _set_handler(signal.SIGINT, keep_back)
     try:
         yield
     finally:
-        signal.signal(signal.SIGINT, before if before is not None else signal.default_int_handler)
+        _set_handler(signal.SIGINT, before if before is not None else signal.default_int_handler)
     if came:
         raise KeyboardInterrupt

@@ -242,6 +242,14 @@ def test_fields_of_a_text_are_left_alone(four):
     assert four.field(8, at=100).at == 100
 
 
+def test_bits_that_a_text_named_are_lent_no_more(four):
+    x = four.field(16)
+    at = x.at
+    four.ask(f"field kept {at} 16")
+    del x
+    assert four.field(16).at != at
+
+
 # ---- what is refused where it is written
 
 def overlapping(x):

@@ -5,7 +5,15 @@ import pytest
 from linthofer import Collision, Machine, Message, NotArrived, Refused
 
 
+def used(machine):
+    """The same machine, with ones where messages stand and in the flags that a send uses, as a text may leave them."""
+    ones = "\n".join(f"field used{at} {at} 64\nconst used{at} {2**64 - 1}" for at in (3968, 4032))
+    machine.ask(ones + "\nset 7\nset 12\nset 14")
+    return machine
+
+
 def test_a_permutation_arrives(four, draw):
+    used(four)
     value, to, numbers = four.field(32), four.field(8), draw(four, 2**32)
     value[:], to[:] = numbers, range(255, -1, -1)
     came = four.send(value, to)
@@ -36,12 +44,13 @@ def or_of(numbers):
 
 @pytest.mark.parametrize("word, does", COMBINED)
 def test_what_comes_together_is_combined(four, draw, word, does):
+    used(four)
     value, to, numbers, receivers = four.field(16), four.field(8), draw(four, 2**16), draw(four, 8)
     value[:], to[:] = numbers, receivers
     came = four.send(value, to, combine=word, bits=24)
     for at in range(8):
         assert came.value[0, at] == does([number for number, it in zip(numbers, receivers) if it == at])
-    assert came.value[9, 9] == (2**24 - 1 if word == "min" else 0)
+    assert came.value.list()[8:] == [2**24 - 1 if word == "min" else 0] * 248
     assert came.arrived.list() == [1] * 8 + [0] * 248
 
 
@@ -91,6 +100,7 @@ def test_a_collision_is_told_wherever_it_is(four):
 
 
 def test_who_is_not_meant_does_not_send(four):
+    used(four)
     with four.where(four.place() == 200):
         came = four.send(four.place(), to=3)
     assert came.value[0, 3] == 200 and sum(came.arrived) == 1

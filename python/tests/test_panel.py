@@ -1,7 +1,12 @@
 """The panel without a browser: its steps, and what its server answers to whom."""
+import base64
+import json
+import re
 import threading
 import urllib.error
 import urllib.request
+import zlib
+from concurrent.futures import ThreadPoolExecutor
 
 import pytest
 
@@ -116,6 +121,19 @@ def test_a_run_stops_at_a_breakpoint(begin):
     assert stepping.run() and stepping.position == len(stepping.acts)
 
 
+def test_a_breakpoint_can_be_taken_away(begin):
+    stepping = begin()
+    for _ in range(2):
+        stepping.toggle_breakpoint(5)
+    assert stepping.run() and stepping.position == len(stepping.acts)
+
+
+def test_a_long_run_comes_in_pieces(begin):
+    stepping = begin("repeat 6000\nset 3\nend")
+    assert not stepping.run() and stepping.position == 5_000
+    assert stepping.run() and stepping.position == 6_000
+
+
 def test_a_condition_holds_for_lines_that_are_typed_later(begin):
     stepping = begin()
     for line in ("pokeflag 0 0 3 1", "if 3", "const x 9"):
@@ -142,6 +160,14 @@ def test_a_way_is_of_all_acts_so_far(begin):
     assert stepping.step_cycle()
     # all want to cross dimensions 0 and 1: processor 0 leaves first over dimension 0, processor 1 then over dimension 1
     assert stepping.way(0, 0, 0).chips() == [0, 1] and stepping.way(0, 1, 0).chips() == [0, 2]
+
+
+def test_a_way_has_the_lines_that_were_typed(begin):
+    stepping = begin("field rel 3968 16\nset 12\ncycle")
+    stepping.ask("const rel 3")
+    stepping.step_cycle()
+    stepping.ask("cycle")
+    assert [it.partition(",")[0] for it in stepping.way(0, 0, 0)[:2]] == ["cycle 0: 0 -> 1", "cycle 1: 1"]
 
 
 def test_after_a_poke_a_way_begins_there(begin):
@@ -183,6 +209,14 @@ def test_lamps_have_a_byte_each(session, layer, most):
     assert session.do({"do": "look", "layer": layer})["state"]["most"] == most
 
 
+def test_lamps_show_the_upper_eight_bits(session):
+    session.do({"do": "ask", "line": "field y 0 12"})
+    session.do({"do": "ask", "line": "const y 0xabc"})
+    for length, number in (12, 0xab), (8, 0xbc), (3, 4):
+        state = session.do({"do": "look", "layer": {"length": length}})["state"]
+        assert set(zlib.decompress(base64.b64decode(state["lamps"]))) == {number}
+
+
 # ---- security
 
 
@@ -195,17 +229,24 @@ def server(session):
 
 
 @pytest.fixture
-def status(server):
-    """The status of a request, which is good but for what is given."""
+def answer(server):
+    """The status and the body of the answer to a request, which is good but for what is given."""
     def of(body=b'{"do": "look"}', path="/do", method=None, **headers):
         given = {"Content-Type": "application/json", "X-Linthofer-Token": server.token,
                  **{name.replace("_", "-"): it for name, it in headers.items()}}
-        address = f"http://127.0.0.1:{server.server_port}{path}"
+        request = urllib.request.Request(f"http://127.0.0.1:{server.server_port}{path}", body, given, method=method)
         try:
-            return urllib.request.urlopen(urllib.request.Request(address, body, given, method=method)).status
+            with urllib.request.urlopen(request, timeout=20) as told:
+                return told.status, told.read()
         except urllib.error.HTTPError as fault:
-            return fault.code
+            return fault.code, fault.read()
     return of
+
+
+@pytest.fixture
+def status(answer):
+    """The status alone."""
+    return lambda *given, **named: answer(*given, **named)[0]
 
 
 def test_it_is_bound_to_the_loopback_interface(server):
@@ -216,6 +257,22 @@ def test_its_own_page_is_answered(status, server):
     assert status() == status(Origin=f"http://localhost:{server.server_port}") == status(None, "/") == 200
 
 
+def test_the_address_has_the_token_in_its_fragment(server, session):
+    assert server.address == f"http://127.0.0.1:{server.server_port}/#t={server.token}"
+    with Server(session) as another:
+        assert len(server.token) == len(another.token) == 22 and server.token != another.token       # 128 bits
+
+
+def test_a_request_has_at_most_so_many_bytes(status):
+    assert status(b'{"do": "look"}'.ljust(65_536)) == 200 and status(b'{"do": "look"}'.ljust(65_537)) == 413
+
+
+def test_requests_that_come_together_are_answered_one_after_another(answer):
+    with ThreadPoolExecutor(8) as pool:
+        told = list(pool.map(lambda _: answer(b'{"do": "ask", "line": "cycle"}'), range(40)))
+    assert sorted(json.loads(body)["state"]["clock"] for _, body in told) == list(range(1, 41))
+
+
 @pytest.mark.parametrize("expected, request_given", [
     (403, {"X_Linthofer_Token": ""}), (403, {"X_Linthofer_Token": "x"}),
     (403, {"Host": "rebound.example"}), (403, {"Origin": "http://rebound.example"}), (403, {"Origin": "null"}),
@@ -223,15 +280,40 @@ def test_its_own_page_is_answered(status, server):
     (404, {"path": "/../page.html"}), (404, {"body": None, "path": "/page.html"}),
     (411, {"Transfer_Encoding": "chunked"}), (411, {"Content_Length": "-1"}), (413, {"Content_Length": "65537"}),
     (413, {"Content_Length": "9" * 5_000}), (415, {"Content_Type": "text/plain"}),
+    (415, {"Content_Type": "text/plain; application/json"}),
     (400, {"body": b"x"}), (400, {"body": b"[]"}), (400, {"body": b"[" * 60_000}), (400, {"body": b"9" * 60_000}),
     (501, {"method": "PUT"})])
 def test_all_others_are_refused(status, expected, request_given):
     assert status(**request_given) == expected
 
 
+NEARLY_RIGHT = [
+    *[("Host", host) for host in ("127.0.0.1", "localhost:1", "127.0.0.1:{port}0", "127.0.0.1.rebound.example:{port}",
+                                  "rebound.example:{port}")],
+    *[("Origin", origin) for origin in ("http://127.0.0.1", "http://localhost:1", "https://127.0.0.1:{port}",
+                                        "http://127.0.0.1:{port}0", "http://127.0.0.1:{port}.rebound.example",
+                                        "http://127.0.0.1.rebound.example:{port}", "127.0.0.1:{port}", "")],
+    *[("X_Linthofer_Token", token) for token in ("{token}x", "x{token}", "{most}", "{token}, {token}", "\xe9")]]
+
+
+@pytest.mark.parametrize("name, given", NEARLY_RIGHT)
+def test_what_is_nearly_right_is_refused(status, server, name, given):
+    given = given.format(port=server.server_port, token=server.token, most=server.token[:-1])
+    assert status(**{name: given}) == 403
+    if name != "X_Linthofer_Token":                             # the page asks for no token
+        assert status(None, "/", **{name: given}) == 403
+
+
 def test_the_page_has_no_token_and_a_policy(server):
-    answer = urllib.request.urlopen(f"http://127.0.0.1:{server.server_port}/")
-    assert server.token not in answer.read().decode()
-    assert "default-src 'none'" in answer.headers["Content-Security-Policy"]
-    assert "unsafe" not in answer.headers["Content-Security-Policy"]
-    assert answer.headers["Cache-Control"] == "no-store" and answer.headers["X-Content-Type-Options"] == "nosniff"
+    nonces = set()
+    for _ in range(2):
+        told = urllib.request.urlopen(f"http://127.0.0.1:{server.server_port}/")
+        page = told.read().decode()
+        assert server.token not in page
+        nonce = re.search(r'<script nonce="([\w-]{22})">', page)[1]
+        assert told.headers["Content-Security-Policy"] == (
+            f"default-src 'none'; img-src data:; style-src 'nonce-{nonce}'; script-src 'nonce-{nonce}'; "
+            "connect-src 'self'; base-uri 'none'; form-action 'none'; frame-ancestors 'none'")
+        assert told.headers["Cache-Control"] == "no-store" and told.headers["X-Content-Type-Options"] == "nosniff"
+        nonces.add(nonce)
+    assert len(nonces) == 2

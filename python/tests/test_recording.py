@@ -3,6 +3,7 @@ import base64
 import json
 import re
 import zlib
+from html.parser import HTMLParser
 from pathlib import Path
 
 import pytest
@@ -21,15 +22,19 @@ def film():
 
 
 def test_it_has_what_was_taken(film):
-    x = film.machine.field(2)
+    x = film.machine.field(2, at=6)
     x[:] = [place % 4 for place in range(64)]
     film.take(x, "numbers")
+    film.machine.cycle(2)
     film.take(9, "a flag")
     film.take("buffers", "routers")
     told = json.loads(re.search(r'id="recording">(.*?)</script>', film.html())[1])
     lamps = [list(zlib.decompress(base64.b64decode(frame["lamps"]))) for frame in told["frames"]]
     assert lamps == [[0, 1, 2, 3] * 16, [0] * 64, [0] * 4]
     assert [frame["most"] for frame in told["frames"]] == [3, 1, 7]
+    assert [frame["clock"] for frame in told["frames"]] == [0, 2, 2]
+    assert [frame["what"] for frame in told["frames"]] == ["memory bits 6 to 7", "flag 9 GLOBAL",
+                                                           "messages in each router"]
     assert [frame["caption"] for frame in told["frames"]] == ["numbers", "a flag", "routers"]
     assert told["title"] == "</script><b>&" and told["dims"] == 2
 
@@ -37,9 +42,12 @@ def test_it_has_what_was_taken(film):
 def test_no_text_becomes_markup_and_nothing_comes_from_outside(film):
     film.take(0, "</script>")
     text = film.html()
+    assert not set("<>&") & set(re.search(r'id="recording">(.*?)</script>', text)[1])
     assert text.count("</script>") == 2 and "<b>" not in text and "<i>" not in text
     assert "http:" not in text and "https:" not in text and "__" not in re.sub(r"sha256-\S+", "", text)
-    assert re.search(r'content="default-src &#x27;none&#x27;.*?connect-src &#x27;none&#x27;', text)
+    own = r"&#x27;sha256-[\w+/]{43}=&#x27;"
+    assert re.search(rf'content="default-src &#x27;none&#x27;; img-src data:; style-src {own}; script-src {own}; '
+                     r'connect-src &#x27;none&#x27;; base-uri &#x27;none&#x27;; form-action &#x27;none&#x27;">', text)
 
 
 def test_the_same_run_has_the_same_bytes(film):
@@ -70,7 +78,13 @@ def test_a_recording_of_nothing_is_refused(film):
 
 def test_a_notebook_shows_it_in_a_frame_of_its_own(film):
     film.take(0)
-    assert film._repr_html_().startswith("<iframe") and 'sandbox="allow-scripts"' in film._repr_html_()
+    begun = []
+    reader = HTMLParser()
+    reader.handle_starttag = lambda tag, given: begun.append((tag, dict(given)))
+    reader.feed(film._repr_html_())
+    [(tag, given)] = begun
+    assert (tag, given["sandbox"], given["title"]) == ("iframe", "allow-scripts", "</script><b>&")
+    assert given["srcdoc"] == film.html()
 
 
 def test_the_program_of_the_document_makes_a_recording(tmp_path, monkeypatch):

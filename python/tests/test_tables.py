@@ -4,6 +4,7 @@ import pathlib
 import pytest
 
 from linthofer import Failed, Machine, Svg, Table, acts_of, expand, load_curve, plot_of
+from linthofer.wire import command
 
 EXAMPLES = pathlib.Path(__file__).resolve().parents[2] / "examples"
 HOT_SPOT = (EXAMPLES / "hot_spot" / "program.txt").read_text()
@@ -59,6 +60,13 @@ RATES = [(1, "1.00"), ([0.25], "0.25"), ((2,), "2.00"), ([0.1 + 0.2], "0.30"), (
 @pytest.mark.parametrize("rates, told", RATES)
 def test_rates_have_two_digits(rates, told):
     assert load_curve(2, 2, rates, 5).csv.splitlines()[1].startswith(told + ",")
+
+
+@pytest.mark.parametrize("given", [{"rule": 1}, {"pattern": "reversal"}, {"until": 20}, {"seed": 2}])
+def test_what_is_said_of_a_load_is_told(given):
+    words = [word for name, it in given.items() for word in (f"--{name}", it)]
+    told = command("cm1lab", "load", 6, 2, "3.00", 60, *words).decode()
+    assert load_curve(6, 2, 3, 60, **given).csv == told != load_curve(6, 2, 3, 60).csv
 
 
 @pytest.mark.parametrize("rate", [0.125, 0.001, -1, float("nan"), float("inf")])

@@ -4,7 +4,7 @@ import signal
 
 import pytest
 
-from linthofer import Failed, Machine, Refused, Unavailable, wire
+from linthofer import Failed, Machine, Refused, Unavailable
 from linthofer.wire import PIPE_BYTES, Front, command, pieces
 
 
@@ -19,18 +19,23 @@ def test_more_than_the_pipes_hold(four):
     assert four.ask("buf 3\n" * 20_000) == ["buf 0"] * 20_000
 
 
-def test_a_front_end_goes_on_in_a_new_one_before_its_input_ends(four, monkeypatch):
-    monkeypatch.setattr(wire, "MOST_INPUT", 10_000)
-    x = four.field(16)
-    x[:] = 0
-    four.cycle(3)
+def test_one_front_end_takes_more_than_the_longest_line(four):
+    four.ask("pokeflag 0 3 12 1\ncycle\nclear 14")
+    x, numbers = four.field(64), " ".join(["18446744073709551615"] * 256)
     with four.where(four.place() < 5):
-        for _ in range(1_000):
-            x += 1
-        assert x.list() == [1_000] * 5 + [0] * 251 and four.cycles == 3
-        x += 7
-    assert four.ask("if 3\nconst " + four.lines.name_of(x) + " 9\nalways") == ["ok"] * 3
-    assert x[0, 4] == 1_007
+        x[:] = 1
+        four.ask(f"put {x.at} 64 {numbers}\n" * 3_200)                  # 17 MB; a line may have 16,777,216 bytes
+        x += 2
+    assert x.list() == [1] * 5 + [2**64 - 1] * 251
+    assert four.find(0, 3, 0) == ("delivered", 0, 0)
+
+
+def test_a_line_that_is_too_long_ends_the_front_end(four):
+    with pytest.raises(Failed, match="more than 16777216 bytes"):
+        four.ask("x" * 16_777_217)
+    for does in four.wire, four.close:
+        with pytest.raises(Unavailable, match="has ended"):
+            does()
 
 
 def test_pieces_are_what_a_pipe_holds():
@@ -63,6 +68,12 @@ def test_after_a_refusal_the_next_line_is_answered_rightly(four):
     assert x[0, 1] == 2
 
 
+def test_the_first_of_two_refusals_is_told(four):
+    with pytest.raises(Refused) as told:
+        four.ask("sense\nhop\nadd x")
+    assert (told.value.number, told.value.line) == (15, "hop")
+
+
 def test_a_line_that_waited_is_told_with_the_next_question(four):
     four.lines.tell("poke 0 0 0 2")
     x = four.field(8)
@@ -82,15 +93,25 @@ def test_names_in_lines_that_did_not_go_out_are_told_again(four):
     assert x[0, 0] == 5
 
 
-def test_an_interrupted_question_leaves_no_answer_behind(four, monkeypatch):
-    read_line, once = Front._read_line, iter([True])
+def test_a_context_that_did_not_go_out_is_told_again(four):
+    x = four.field(8)
+    x[:] = 0
+    four.lines.ask("if 3")
+    with pytest.raises(Refused):                        # the refusal is in the first piece, `always` in the other
+        four.lines.tell("jump", *["poke 0 0 0 0"] * 6000, "always")
+    x[:] = 5
+    assert set(x) == {5}
 
-    def read_line_and_press_ctrl_c(front):
+
+def test_an_interrupted_question_leaves_no_answer_behind(four, monkeypatch):
+    read_answer, once = Front._read_answer, iter([True])
+
+    def read_answer_and_press_ctrl_c(front):
         if next(once, False):
             os.kill(os.getpid(), signal.SIGINT)
-        return read_line(front)
+        return read_answer(front)
 
-    monkeypatch.setattr(Front, "_read_line", read_line_and_press_ctrl_c)
+    monkeypatch.setattr(Front, "_read_answer", read_answer_and_press_ctrl_c)
     with pytest.raises(KeyboardInterrupt):
         four.ask("field 0 5 0 64\n" * 4000)
     assert four.ask("wire show\nrule") == ["wire 0", "rule 0"]
@@ -150,8 +171,9 @@ def test_machines_that_there_are_not():
         Machine(dims=13)
     with pytest.raises(ValueError, match="Machine has room 1 or 7, not 2; load_curve takes 1 to 15"):
         Machine(room=2)
-    with pytest.raises(Failed):
+    with pytest.raises(Failed, match="no/such.image") as told:
         Machine.load("no/such.image")
+    assert told.value.status == 4
 
 
 def test_an_image_is_saved_whole_or_not_at_all(four, tmp_path):
@@ -159,6 +181,17 @@ def test_an_image_is_saved_whole_or_not_at_all(four, tmp_path):
     with pytest.raises(OSError):
         four.save(tmp_path / "folder")
     assert os.listdir(tmp_path) == ["folder"]
+
+
+def test_a_file_that_was_there_stays_where_saving_fails(four, tmp_path, monkeypatch):
+    def fails(*names):
+        raise OSError
+
+    (tmp_path / "a.image").write_bytes(b"before")
+    monkeypatch.setattr(os, "replace", fails)
+    with pytest.raises(OSError):
+        four.save(tmp_path / "a.image")
+    assert os.listdir(tmp_path) == ["a.image"] and (tmp_path / "a.image").read_bytes() == b"before"
 
 
 def test_a_front_end_that_is_abandoned_leaves_no_image(four, tmp_path):
