@@ -96,9 +96,9 @@ fn shared_runner<'a, const N: usize, R: Threads + Wait + Sync>(
     passage: Passage,
 ) -> Chooser<'a, R>
     requires shared { sharing_fault N sharing ≡ None }
-    ensures blocks { result.resident.k ≡ sharing.split }
-    ensures workers { result.resident.workers ≡ sharing.workers }
-    ensures passage { result.resident.passage ≡ passage }
+    ensures blocks { result.k ≡ sharing.split }
+    ensures workers { result.workers ≡ sharing.workers }
+    ensures passage { result.passage ≡ passage }
 {
     let workers = u16::from(sharing.workers);
     match Chooser::new::<N>(rt, alloc, sharing.split, workers, passage) {
