@@ -97,10 +97,9 @@ impl Kind {
 
 /// So many acts of a kind.
 fn list_of(alloc: Global, kind: Kind, count: u16) -> Option<Vec<Act>> {
-    let act = kind.act();
     let mut acts = Vec::new(alloc);
     for _at in 0..count {
-        acts.push(act).ok()?;
+        acts.push(kind.act()).ok()?;
     }
     Some(acts)
 }
