@@ -14,21 +14,20 @@ use std::sync::Wait;
 use std::test::Fail;
 use std::thread::Threads;
 
-/// A list of acts of one kind.
+/// What the acts of a list are.
 #[derive(Clone, Copy, Debug)]
-enum List {
-    /// So many petit cycles.
-    Cycles(u16),
-    /// So many instructions that go eastward, over which blocks exchange nothing.
-    Instructions(u16),
-    /// So many that go northward.
-    Northward(u16),
+enum Kind {
+    Cycles,
+    /// Instructions that go eastward, over which blocks exchange nothing.
+    Eastward,
+    Northward,
 }
 
 /// A machine of 4,096 chips goes through a list: whether all processors ask to send, and how often the gate of four
 /// workers was asked and passed.
 struct Choice {
-    list: List,
+    kind: Kind,
+    count: u16,
     ask: bool,
     told: (u64, u64),
 }
@@ -37,60 +36,72 @@ struct Choice {
 /// two rounds, and no row of memory is in use before a list.
 static CHOICES: [Choice; 8] = [
     Choice {
-        list: List::Cycles(1),
+        kind: Kind::Cycles,
+        count: 1,
         ask: true,
         told: (0, 0),
     },
     Choice {
-        list: List::Cycles(8),
+        kind: Kind::Cycles,
+        count: 8,
         ask: true,
         told: (4, 64),
     },
     Choice {
-        list: List::Cycles(8),
+        kind: Kind::Cycles,
+        count: 8,
         ask: false,
         told: (0, 0),
     },
     Choice {
-        list: List::Instructions(0),
+        kind: Kind::Eastward,
+        count: 0,
         ask: true,
         told: (0, 0),
     },
     Choice {
-        list: List::Instructions(800),
+        kind: Kind::Eastward,
+        count: 800,
         ask: true,
         told: (0, 0),
     },
     Choice {
-        list: List::Instructions(1000),
+        kind: Kind::Eastward,
+        count: 1000,
         ask: true,
         told: (4, 0),
     },
     Choice {
-        list: List::Northward(800),
+        kind: Kind::Northward,
+        count: 800,
         ask: true,
         told: (0, 0),
     },
     Choice {
-        list: List::Instructions(4096),
+        kind: Kind::Eastward,
+        count: 4096,
         ask: false,
         told: (4, 0),
     },
 ];
 
-impl List {
-    fn acts(self, alloc: Global) -> Option<Vec<Act>> {
-        let (act, count) = match self {
-            List::Cycles(count) => (Act::Cycle, count),
-            List::Instructions(count) => (sent_on(flag(0), Dir::East), count),
-            List::Northward(count) => (sent_on(flag(0), Dir::North), count),
-        };
-        let mut acts = Vec::new(alloc);
-        for _at in 0..count {
-            acts.push(act).ok()?;
+impl Kind {
+    fn act(self) -> Act {
+        match self {
+            Kind::Cycles => Act::Cycle,
+            Kind::Eastward => sent_on(flag(0), Dir::East),
+            Kind::Northward => sent_on(flag(0), Dir::North),
         }
-        Some(acts)
     }
+}
+
+/// So many acts of a kind.
+fn list_of(alloc: Global, kind: Kind, count: u16) -> Option<Vec<Act>> {
+    let mut acts = Vec::new(alloc);
+    for _at in 0..count {
+        acts.push(kind.act()).ok()?;
+    }
+    Some(acts)
 }
 
 /// 4,096 chips, of which all processors ask to send or none does.
@@ -113,10 +124,12 @@ fn chosen<R: Threads + Wait + Sync>(
 ) -> Option<Listed>
     requires threads { IsSync R.row }
 {
+    let acts = list_of(alloc, choice.kind, choice.count)?;
     let calls = no_calls(alloc)?;
     let passage = gate_of(alloc, NOBODY, &calls)?;
-    let mut runner = Chooser::new::<12>(rt, alloc, 2, 4, passage).ok()?;
-    let acts = choice.list.acts(alloc)?;
+    let Ok(mut runner) = Chooser::new::<12>(rt, alloc, 2, 4, passage) else {
+        return None;
+    };
     listed(&mut runner, alloc, machine, &acts, 4096, &calls)
 }
 
@@ -132,7 +145,13 @@ fn told<R: Threads + Wait + Sync>(rt: &R, alloc: Global, choice: &Choice) -> Opt
 fn lists_are_shared_out_where_that_pays(rt: HostRuntime) -> Result<(), Fail> {
     for choice in &CHOICES {
         let wanted = Some(((None, true), choice.told));
-        assert_eq!(rt; told(&rt, rt.alloc(), choice), wanted, "{:?}", choice.list);
+        assert_eq!(rt;
+            told(&rt, rt.alloc(), choice),
+            wanted,
+            "{:?} {}",
+            choice.kind,
+            choice.count
+        );
     }
     Ok(())
 }

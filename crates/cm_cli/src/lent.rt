@@ -121,9 +121,9 @@ fn shared_runner<'a, const N: usize, R: Threads + Wait + Sync>(
     several: Several<'a, R>,
 ) -> Chooser<'a, R>
     requires shared { sharing_fault N several.sharing ≡ None }
-    ensures blocks { result.resident.k ≡ several.entry.sharing.split }
-    ensures workers { result.resident.workers ≡ several.entry.sharing.workers }
-    ensures passage { result.resident.passage ≡ several.entry.passage }
+    ensures blocks { result.k ≡ several.entry.sharing.split }
+    ensures workers { result.workers ≡ several.entry.sharing.workers }
+    ensures passage { result.passage ≡ several.entry.passage }
 {
     let Several {
         rt,

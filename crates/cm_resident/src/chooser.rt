@@ -1,6 +1,6 @@
 //! The runner of a program: it shares out the lists for which that pays.
 
-ghost use Rattle.std.specs.Prelude.{◌≡◌, ◌↔◌, ◌++◌, [], None, cond, IfOk, IfSome, IsErrOf, IsFalse, IsOk, IsTrue};
+ghost use Rattle.std.specs.Prelude.{◌≡◌, ◌↔◌, ◌-◌, ◌/◌, ◌<◌, ◌≤◌, ◌++◌, [], None, cond, IfOk, IfSome, IsErrOf, IsFalse, IsOk, IsTrue};
 ghost use Rattle.std.specs.Prelude.{MatchResult, OnErr, OnOk};
 ghost use Rattle.std.specs.Thread.{IsSync};
 ghost use Rattle.cm_model.specs.Machine.{run_of};
@@ -9,22 +9,30 @@ ghost use Rattle.cm_array.specs.Acts.{is_late, is_long};
 ghost use Rattle.cm_array.specs.Faults.{is_no_thread, one_more_lacked};
 ghost use Rattle.cm_workers.specs.Forks.{fork_fault};
 
-use crate::resident::Resident;
+use crate::resident::{Share, fault_of, run, share_of, told};
 use crate::worth::is_soon_done;
-use cm_array::{Machine, Plain, RunFault, Runner, check_stretch};
+use cm_array::{Machine, Part, Plain, RunFault, Runner, check_stretch};
 use cm_bits::NoMemory;
 use cm_model::Act;
 use cm_subcube::rounds;
-use cm_workers::{ForkFault, Passage};
+use cm_workers::{ForkFault, Passage, Want};
 use std::alloc::Global;
 use std::sync::Wait;
 use std::thread::Threads;
 
 /// The runner that chooses for each list: the thread of the caller goes through one that it has done before it was
-/// shared out, workers that run on through all others.
+/// shared out, workers that run on, as those of `Resident`, through all others.
 #[derive(Drop)]
 pub struct Chooser<'a, R> {
-    resident: Resident<'a, R>,
+    /// The parts of the last list that was shared out, whose room the next takes.
+    used: Vec<Part>,
+    k: u8,
+    workers: u16,
+    threads_lacked: u64,
+    passage: Passage,
+    rt: &'a R,
+    alloc: Global,
+    ghost some: { 0 < workers },
 }
 
 impl<'a, R> Chooser<'a, R> {
@@ -38,27 +46,23 @@ impl<'a, R> Chooser<'a, R> {
     ) -> Result<Self, ForkFault>
         ensures ok { IsOk result ↔ (fork_fault N k workers ≡ None) }
         ensures refused { IfSome (fork_fault N k workers) (λ fault. IsErrOf result fault) }
-        ensures blocks { IfOk result (λ runner. runner.resident.k ≡ k) }
-        ensures workers { IfOk result (λ runner. runner.resident.workers ≡ workers) }
-        ensures passage { IfOk result (λ runner. runner.resident.passage ≡ passage) }
-        ensures lacked { IfOk result (λ runner. runner.resident.threads_lacked ≡ 0) }
+        ensures blocks { IfOk result (λ runner. runner.k ≡ k) }
+        ensures workers { IfOk result (λ runner. runner.workers ≡ workers) }
+        ensures passage { IfOk result (λ runner. runner.passage ≡ passage) }
+        ensures lacked { IfOk result (λ runner. runner.threads_lacked ≡ 0) }
     {
-        match Resident::new::<N>(rt, alloc, k, workers, passage) {
-            Ok(resident) => Ok(Chooser { resident }),
-            Err(fault) => Err(fault),
+        if let Some(fault) = fault_of::<N>(k, workers) {
+            return Err(fault);
         }
-    }
-
-    /// Whether the thread of the caller goes through a list, of so many petit cycles.
-    fn goes_alone<const N: usize, const CAP: usize>(
-        &self,
-        machine: &Machine<N, CAP>,
-        list: &[Act],
-        cycles: usize,
-    ) -> Result<bool, NoMemory> {
-        let share = self.resident.share(machine.dims());
-        let rounds = rounds(self.resident.alloc(), machine.dims(), list, share.k)?;
-        Ok(is_soon_done(machine, list, share.workers, rounds.len(), cycles))
+        Ok(Chooser {
+            used: Vec::new(alloc),
+            k,
+            workers,
+            threads_lacked: 0,
+            passage,
+            rt,
+            alloc,
+        })
     }
 }
 
@@ -66,9 +70,9 @@ impl<'a, const N: usize, const CAP: usize, R: Threads + Wait + Sync> Runner<N, C
     for Chooser<'a, R> {
     ghost ready = { IsSync R.row };
 
-    ghost threads_lacked = { λ runner. runner.resident.threads_lacked };
+    ghost threads_lacked = { λ runner. runner.threads_lacked };
 
-    /// Takes memory to count the rounds, and then that of the runner that goes.
+    /// Takes memory to count the rounds, and then that of `Plain` or of `Resident`.
     fn go(&mut self, machine: &mut Machine<N, CAP>, list: &[Act]) -> Result<(), RunFault>
         requires runner { IsSync R.row }
         ensures long { (result ≡ Err RunFault.Long) ↔ IsTrue (is_long list.now) }
@@ -79,19 +83,48 @@ impl<'a, const N: usize, const CAP: usize, R: Threads + Wait + Sync> Runner<N, C
         ensures account { OnOk result (SameLines (account N machine.new.machine)
             (account N machine.old.machine ++ newly_injected N machine.old.machine machine.new.machine)) }
         ensures threads { MatchResult result
-            (λ _. self.new.resident.threads_lacked ≡ self.old.resident.threads_lacked)
-            (λ fault. self.new.resident.threads_lacked
-            ≡ cond (is_no_thread fault) (one_more_lacked self.old.resident.threads_lacked)
-            self.old.resident.threads_lacked) }
+            (λ _. self.new.threads_lacked ≡ self.old.threads_lacked)
+            (λ fault. self.new.threads_lacked
+            ≡ cond (is_no_thread fault) (one_more_lacked self.old.threads_lacked) self.old.threads_lacked) }
         ensures err { OnErr result (machine.new.machine ≡ machine.old.machine) }
-        ensures blocks { self.new.resident.k ≡ self.old.resident.k }
-        ensures workers { self.new.resident.workers ≡ self.old.resident.workers }
-        ensures passage { self.new.resident.passage ≡ self.old.resident.passage }
+        ensures blocks { self.new.k ≡ self.old.k }
+        ensures workers { self.new.workers ≡ self.old.workers }
+        ensures passage { self.new.passage ≡ self.old.passage }
     {
         let cycles = check_stretch(list, machine.clock())?;
-        if list.is_empty() || self.goes_alone(machine, list, cycles)? {
+        let share = share_of(self.k, self.workers, machine.dims());
+        if list.is_empty() || goes_alone(self.alloc, machine, list, share, cycles)? {
             return Plain.go(machine, list);
         }
-        self.resident.go(machine, list)
+        let done = run(
+            self.rt,
+            self.alloc,
+            share.k,
+            share.workers,
+            &self.passage,
+            machine,
+            list,
+            cycles,
+            &mut self.used,
+        );
+        if let Err(Want::Thread(_)) = done {
+            self.threads_lacked = self.threads_lacked.wrapping_add(1);
+        }
+        told(done)
     }
+}
+
+/// Whether the thread of the caller goes through a list, of so many petit cycles.
+fn goes_alone<const N: usize, const CAP: usize>(
+    alloc: Global,
+    machine: &Machine<N, CAP>,
+    list: &[Act],
+    share: Share,
+    cycles: usize,
+) -> Result<bool, NoMemory>
+    requires within { share.k ≤ N - N / 2 }
+    requires some { 0 < share.workers }
+{
+    let rounds = rounds(alloc, machine.dims(), list, share.k)?;
+    Ok(is_soon_done(machine, list, share.workers, rounds.len(), cycles))
 }

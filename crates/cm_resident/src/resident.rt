@@ -67,11 +67,8 @@ impl<'a, R> Resident<'a, R> {
         ensures passage { IfOk result (λ runner. runner.passage ≡ passage) }
         ensures lacked { IfOk result (λ runner. runner.threads_lacked ≡ 0) }
     {
-        if usize::from(k) > N - N / 2 {
-            return Err(ForkFault::Split);
-        }
-        if workers == 0 || are_too_few(k, workers) {
-            return Err(ForkFault::Workers);
+        if let Some(fault) = fault_of::<N>(k, workers) {
+            return Err(fault);
         }
         Ok(Resident {
             rt,
@@ -82,27 +79,6 @@ impl<'a, R> Resident<'a, R> {
             threads_lacked: 0,
             used: Vec::new(alloc),
         })
-    }
-
-    pub(crate) fn alloc(&self) -> Global {
-        self.alloc
-    }
-
-    /// How it shares out a machine of so many dimensions.
-    pub(crate) fn share(&self, dims: u8) -> Share
-        requires dimension { dims ≤ 12 }
-        ensures blocks { result.k ≡ most_blocks dims self.now.k }
-        ensures workers { result.workers ≡ most_workers dims self.now.k self.now.workers }
-        ensures within { result.k ≤ dims - dims / 2 }
-        ensures some { 0 < result.workers }
-        ensures enough { result.workers ≤ 2 ^ result.k }
-        ensures few { result.workers ≤ 64 }
-    {
-        let k = self.k.min(dims - dims / 2);
-        Share {
-            k,
-            workers: self.workers.min(1 << k),
-        }
     }
 }
 
@@ -140,7 +116,7 @@ impl<'a, const N: usize, const CAP: usize, R: Threads + Wait + Sync> Runner<N, C
         if acts.is_empty() {
             return Ok(());
         }
-        let share = self.share(machine.dims());
+        let share = share_of(self.k, self.workers, machine.dims());
         let done = run(
             self.rt,
             self.alloc,
@@ -159,6 +135,37 @@ impl<'a, const N: usize, const CAP: usize, R: Threads + Wait + Sync> Runner<N, C
     }
 }
 
+/// Why no machine of 2^`N` chips is cut into 2^`k` blocks for so many workers.
+pub(crate) fn fault_of<const N: usize>(k: u8, workers: u16) -> Option<ForkFault>
+    ensures value { result ≡ fork_fault N k workers }
+{
+    if usize::from(k) > N - N / 2 {
+        return Some(ForkFault::Split);
+    }
+    if workers == 0 || are_too_few(k, workers) {
+        return Some(ForkFault::Workers);
+    }
+    None
+}
+
+/// How 2^`k` blocks and so many workers share out a machine of so many dimensions.
+pub(crate) fn share_of(k: u8, workers: u16, dims: u8) -> Share
+    requires dimension { dims ≤ 12 }
+    requires some { 0 < workers }
+    ensures blocks { result.k ≡ most_blocks dims k }
+    ensures workers { result.workers ≡ most_workers dims k workers }
+    ensures within { result.k ≤ dims - dims / 2 }
+    ensures some { 0 < result.workers }
+    ensures enough { result.workers ≤ 2 ^ result.k }
+    ensures few { result.workers ≤ 64 }
+{
+    let k = k.min(dims - dims / 2);
+    Share {
+        k,
+        workers: workers.min(1 << k),
+    }
+}
+
 /// Whether 2^`k` blocks are too few for so many workers.
 fn are_too_few(k: u8, workers: u16) -> bool
     ensures value { result ≡ ltb (2 ^ k) workers }
@@ -167,7 +174,7 @@ fn are_too_few(k: u8, workers: u16) -> bool
 }
 
 /// What workers did or wanted, as a runner tells it.
-fn told(done: Result<(), Want>) -> Result<(), RunFault>
+pub(crate) fn told(done: Result<(), Want>) -> Result<(), RunFault>
     ensures value { MatchResult done (λ _. IsOk result) (λ want. IsErrOf result (of_want want)) }
 {
     match done {
@@ -178,7 +185,7 @@ fn told(done: Result<(), Want>) -> Result<(), RunFault>
 }
 
 /// A machine goes through a run, or stays as it was. The acts have so many petit cycles.
-fn run<const N: usize, const CAP: usize, R: Threads + Wait + Sync>(
+pub(crate) fn run<const N: usize, const CAP: usize, R: Threads + Wait + Sync>(
     rt: &R,
     alloc: Global,
     k: u8,

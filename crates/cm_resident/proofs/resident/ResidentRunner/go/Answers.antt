@@ -13,6 +13,6 @@ returns-then-is_empty-clause-account g c =
 
 pub run-done-requires-after_bounds : goal.run-done-requires-after_bounds
 run-done-requires-after_bounds g c =
-    let within : c.share-share.result.k ≤ g.row.N - g.row.N / 2 =
-    omega (arith, c.share-share.ensures.within, c.dims.ensures.value) in
+    let within : c.share_of-share.result.k ≤ g.row.N - g.row.N / 2 =
+    omega (arith, c.share_of-share.ensures.within, c.dims.ensures.value) in
     search (rules, within)
