@@ -78,8 +78,8 @@ pub(crate) fn no_calls(alloc: Global) -> Option<Arc<Calls, Global>> {
     Arc::new(alloc, calls).ok()
 }
 
-/// How a runner ends a list of acts, whether the machine is then as one thread leaves it, or else as it was; and how often
-/// the gate was asked and passed so far.
+/// How a runner ends a list of acts, whether the machine is then as one thread leaves it, or else as it was; and how
+/// often the gate was asked and passed so far.
 pub(crate) type Listed = ((Option<RunFault>, bool), (u64, u64));
 
 /// What a list of acts tells of a machine of so many chips.

@@ -63,8 +63,8 @@ fn busy(alloc: Global) -> Option<Machine<4, 7>> {
     Some(machine)
 }
 
-/// Whether a machine that is split into four blocks comes back from them; or else that into which it was to come stays as
-/// it was, and it comes back when it is asked again.
+/// Whether a machine that is split into four blocks comes back from them; or else that into which it was to come stays
+/// as it was, and it comes back when it is asked again.
 fn comes_back_into(
     alloc: Global,
     machine: &Machine<4, 7>,

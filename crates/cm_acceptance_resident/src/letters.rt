@@ -4,8 +4,8 @@ use cm_draws::one_of_four;
 use cm_message::Message;
 use std::alloc::{AllocError, Global};
 
-/// A message of the program, as it stands at some chip: which processor sent it, and over which dimensions it has come. All
-/// chips do the same, so each has as many, alike but for where they come from.
+/// A message of the program, as it stands at some chip: which processor sent it, and over which dimensions it has come.
+/// All chips do the same, so each has as many, alike but for where they come from.
 #[derive(Clone, Copy)]
 pub(crate) struct Letter {
     sender: u8,
@@ -19,8 +19,8 @@ impl Letter {
     }
 }
 
-/// Those that stand at a chip after a dimension: the first that has still to cross it goes, and the one that comes stands
-/// last.
+/// Those that stand at a chip after a dimension: the first that has still to cross it goes, and the one that comes
+/// stands last.
 fn after_dimension(alloc: Global, letters: &[Letter], dim: u8) -> Result<Vec<Letter>, AllocError> {
     let mut stand = Vec::new(alloc);
     let mut gone = None;
@@ -55,8 +55,8 @@ fn after_delivery(alloc: Global, letters: &[Letter]) -> Result<Vec<Letter>, Allo
     Ok(stand)
 }
 
-/// Those that stand at a chip before each of 128 rounds, two in each petit cycle: before dimensions 2 and 3. A processor
-/// takes in one, and no other then.
+/// Those that stand at a chip before each of 128 rounds, two in each petit cycle: before dimensions 2 and 3. A
+/// processor takes in one, and no other then.
 pub(crate) fn letters_at_rounds(alloc: Global) -> Result<Vec<Vec<Letter>>, AllocError> {
     let mut rounds = Vec::new(alloc);
     let mut letters = Vec::new(alloc);

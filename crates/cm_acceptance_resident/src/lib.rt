@@ -1,5 +1,5 @@
-//! Tests of machines that are cut into blocks, and of both kinds of workers: those that are joined at each round, and those
-//! that run on; it has no code of its own.
+//! Tests of machines that are cut into blocks, and of both kinds of workers: those that are joined at each round, and
+//! those that run on; it has no code of its own.
 #![tactic(auto)]
 
 #[cfg(test)]

@@ -1,5 +1,5 @@
-//! Gates at which workers wait for one another: in each round for all others, or for one that is a round ahead. They look
-//! at the blocks that they are shown.
+//! Gates at which workers wait for one another: in each round for all others, or for one that is a round ahead. They
+//! look at the blocks that they are shown.
 
 ghost use Rattle.std.specs.Prelude.{IsTrue, ◌+◌, ◌<◌, ◌≤◌};
 ghost use Rattle.std.specs.List.{All};
@@ -183,8 +183,8 @@ pub(crate) fn no_notes(alloc: Global) -> Result<Arc<Notes, Global>, Fail> {
 /// Which workers meet: of which kind, who waits for whom, and how many there are.
 type Met = (Kind, Waits, u16);
 
-/// Whether workers that wait so go through the program of messages as one thread, and the messages are where they should be
-/// then.
+/// Whether workers that wait so go through the program of messages as one thread, and the messages are where they
+/// should be then.
 fn meet<R: Threads + Wait + Sync>(
     rt: &R,
     alloc: Global,

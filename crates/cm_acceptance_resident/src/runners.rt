@@ -46,8 +46,8 @@ impl Gate for Anyone {
     {}
 }
 
-/// With what fault so many workers, who are joined at each round, refuse the acts, and whether they leave the machine as
-/// one thread does, or else as it was.
+/// With what fault so many workers, who are joined at each round, refuse the acts, and whether they leave the machine
+/// as one thread does, or else as it was.
 fn run_by_forked<const N: usize, const CAP: usize, R: Threads + Wait>(
     rt: &R,
     alloc: Global,

@@ -156,8 +156,8 @@ static SHARES: [Share; 7] = [
     Share { k: 2, workers: 4 },
 ];
 
-/// Whether so many workers go through the acts as one thread, and the four messages of each chip are where they should be
-/// then.
+/// Whether so many workers go through the acts as one thread, and the four messages of each chip are where they should
+/// be then.
 fn sent_in<R: Threads + Wait + Sync>(
     rt: &R,
     alloc: Global,

@@ -7,8 +7,8 @@ ghost use Rattle.cm_resident.specs.Gathering.{AreFirsts, IsRowTaken};
 use cm_bits::NoMemory;
 use std::alloc::Global;
 
-/// All of so many things in order: hand w of `count` has those whose numbers are w modulo `count`, rising, as the workers of
-/// a team leave their blocks. There is room for them, and no memory is taken.
+/// All of so many things in order: hand w of `count` has those whose numbers are w modulo `count`, rising, as the
+/// workers of a team leave their blocks. There is room for them, and no memory is taken.
 pub fn in_order<T: Drop>(hands: Vec<Vec<T>>, total: usize, things: Vec<T>) -> Vec<T>
     requires some { 0 < length hands.items }
     requires shares { AreShares (length hands.items) total hands.items }

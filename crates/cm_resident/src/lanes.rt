@@ -79,8 +79,8 @@ fn kind_at(dims: u8, k: u8, place: usize) -> Kind
     }
 }
 
-/// The ends of all lanes of a run by place, and at each place by block: those over which the blocks send, and those over which
-/// they get.
+/// The ends of all lanes of a run by place, and at each place by block: those over which the blocks send, and those
+/// over which they get.
 #[derive(Drop)]
 pub(crate) struct Ends {
     pub(crate) sends: Vec<Vec<FromEnd<Parcel>>>,

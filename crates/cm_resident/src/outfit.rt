@@ -26,8 +26,8 @@ pub(crate) struct Outfit {
     pub(crate) gets: Vec<ToEnd<Parcel>>,
 }
 
-/// The blocks of a machine that is cut into 2^`k`, in their order, with the ends of their lanes for these acts, which have so
-/// many petit cycles. Parts that are not needed any more give room.
+/// The blocks of a machine that is cut into 2^`k`, in their order, with the ends of their lanes for these acts, which
+/// have so many petit cycles. Parts that are not needed any more give room.
 pub(crate) fn outfits<const N: usize, const CAP: usize>(
     alloc: Global,
     machine: &Machine<N, CAP>,

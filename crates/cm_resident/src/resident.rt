@@ -336,8 +336,8 @@ fn make_places(alloc: Global, used: &mut Vec<Part>, count: usize) {
     }
 }
 
-/// The same where nobody looks at the blocks: the logs of the machine are set aside and not copied, and what its blocks tell
-/// comes to stand behind them. The acts have so many petit cycles.
+/// The same where nobody looks at the blocks: the logs of the machine are set aside and not copied, and what its blocks
+/// tell comes to stand behind them. The acts have so many petit cycles.
 fn share_out_without_logs<const N: usize, const CAP: usize, R: Threads + Wait + Sync>(
     rt: &R,
     alloc: Global,

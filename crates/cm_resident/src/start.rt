@@ -9,8 +9,8 @@ use std::marker::Model;
 use std::sync::{Arc, Wait};
 use std::thread::yield_now;
 
-/// How often a worker looks before it parks: about as long as threads take to be started. One that was parked may be woken
-/// where another runs, and then waits for its end.
+/// How often a worker looks before it parks: about as long as threads take to be started. One that was parked may be
+/// woken where another runs, and then waits for its end.
 const LOOKS: u32 = 1000;
 
 /// The word of who is to begin, and of who is not.
