@@ -92,6 +92,21 @@ def test_conditions_nest_and_expressions_do_not_ask_for_them(four, draw):
     assert x.list() == [0 if 20_000 < a < 40_000 else a for a in one]
 
 
+EXPRESSIONS = [*(getattr(operator, word) for word in OPERATORS + COMPARISONS),
+               *(lambda x, y, word=word: getattr(x, word)() for word in ("north", "south", "west", "east", "chained")),
+               lambda x, y: ~x, lambda x, y: x << 1, lambda x, y: x >> 1, lambda x, y: x.copy(),
+               lambda x, y: x.widened(9), lambda x, y: x + 5, lambda x, y: 5 - x, lambda x, y: x == 5]
+
+
+def test_expressions_are_worked_out_in_all_processors(four, draw):
+    x, y = four.field(8), four.field(8)
+    x[:], y[:] = draw(four, 256), draw(four, 256)
+    with four.where(four.place() < 3):
+        fields = [does(x, y) for does in EXPRESSIONS]
+    for does, field in zip(EXPRESSIONS, fields):
+        assert field.list() == does(x, y).list()
+
+
 def test_data_obey_the_condition_and_put_does_not(four):
     x, y = four.field(9), four.field(9)
     x[:] = y[:] = 0
@@ -119,6 +134,15 @@ def test_a_text_within_a_condition_is_done_everywhere(four):
         four.ask(f"field x {x.at} 4\nconst x 5\nif 3")
         x[:] = 9
     assert x.list() == [5] * 7 + [9] + [5] * 248
+
+
+def test_conditions_may_come_one_after_another(four):
+    x = four.field(8)
+    x[:] = 255
+    for number in range(20):
+        with four.where(four.place() == number):
+            x[:] = number
+    assert x.list() == [*range(20)] + [255] * 236
 
 
 def test_seven_conditions_stand_within_one_another(four):

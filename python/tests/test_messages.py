@@ -152,6 +152,14 @@ def test_sums_that_do_not_fit_are_lost(four):
     assert four.send(one, to=3, combine="add", bits=9).value[0, 3] == 256
 
 
+def test_messages_know_where_they_stand_and_where_they_go():
+    with Machine(dims=2) as machine:
+        machine.ask("field rel 3968 16\nconst rel 3\nset 12\ncycle")
+        messages = machine.messages()
+        assert [sum(it.at == chip for it in messages) for chip in range(4)] == machine.buffers()
+        assert any(it.at != it.chip for it in messages) and all(it.to_chip == it.chip ^ 3 for it in messages)
+
+
 def test_messages_are_told_as_the_debugger_tells_them():
     with Machine(dims=0) as machine:                    # the example of docs/DEBUGGER.md, "Messages"
         machine.ask("pokeflag 0 3 12 1\npokeflag 0 4 12 1\ncycle")

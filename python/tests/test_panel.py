@@ -209,6 +209,14 @@ def test_lamps_have_a_byte_each(session, layer, most):
     assert session.do({"do": "look", "layer": layer})["state"]["most"] == most
 
 
+def test_a_chip_shows_the_flags_of_each_processor(session):
+    session.do({"do": "ask", "line": "pokeflag 3 2 4 1"})
+    assert session.do({"do": "chip", "chip": 4})["state"]["chip"]["chip"] == 0
+    chip = session.do({"do": "chip", "chip": 3})["state"]["chip"]
+    ones = [(processor, flag) for processor, flags in enumerate(chip["flags"]) for flag, bit in enumerate(flags) if bit]
+    assert chip["chip"] == 3 and ones == [(2, 4)]
+
+
 def test_lamps_show_the_upper_eight_bits(session):
     session.do({"do": "ask", "line": "field y 0 12"})
     session.do({"do": "ask", "line": "const y 0xabc"})
@@ -251,6 +259,7 @@ def status(answer):
 
 def test_it_is_bound_to_the_loopback_interface(server):
     assert server.server_address[0] == "127.0.0.1"
+    assert server.hosts == {f"127.0.0.1:{server.server_port}", f"localhost:{server.server_port}"}
 
 
 def test_its_own_page_is_answered(status, server):
@@ -289,7 +298,7 @@ def test_all_others_are_refused(status, expected, request_given):
 
 NEARLY_RIGHT = [
     *[("Host", host) for host in ("127.0.0.1", "localhost:1", "127.0.0.1:{port}0", "127.0.0.1.rebound.example:{port}",
-                                  "rebound.example:{port}")],
+                                  "rebound.example:{port}", "0.0.0.0:{port}")],
     *[("Origin", origin) for origin in ("http://127.0.0.1", "http://localhost:1", "https://127.0.0.1:{port}",
                                         "http://127.0.0.1:{port}0", "http://127.0.0.1:{port}.rebound.example",
                                         "http://127.0.0.1.rebound.example:{port}", "127.0.0.1:{port}", "")],

@@ -3,7 +3,7 @@ import pathlib
 
 import pytest
 
-from linthofer import Failed, Machine, Svg, Table, acts_of, expand, load_curve, plot_of
+from linthofer import Failed, Machine, Refused, Route, Svg, Table, acts_of, expand, load_curve, plot_of
 from linthofer.wire import command
 
 EXAMPLES = pathlib.Path(__file__).resolve().parents[2] / "examples"
@@ -38,6 +38,11 @@ def test_a_study_by_messages_and_a_route():
         assert "<svg" in route.plot().text and "<svg" in route._repr_html_() and "15 -> 14" in str(route)
         with pytest.raises(Failed, match="the program: no such message"):
             machine.route((3, 1, 0), HOT_SPOT)
+
+
+def test_a_route_may_come_to_a_chip_again():
+    told = ["cycle 3: 5 -> 7, place 1 of 2", "cycle 4: 7, stays, place 1 of 2", "cycle 5: 7 -> 5 -> 1, place 1 of 1"]
+    assert Route("\n".join(told)).chips() == [5, 7, 5, 1]
 
 
 def test_a_curve_of_loads(tmp_path):
@@ -122,3 +127,5 @@ def test_sources_and_acts():
     assert acts_of(program)[-1] == "sense" and program.startswith("field x 0 2 ; 1")
     with pytest.raises(Failed, match="the source: line 1: "):
         expand("hop")
+    with pytest.raises(Refused, match="^line 2 of the text\n"):
+        acts_of("sense\nhop")

@@ -58,6 +58,12 @@ def test_a_refusal_tells_what_the_document_tells(four):
     assert "put the `field` line first" in str(told.value) and "mul x y z" in str(told.value)
 
 
+def test_a_refusal_says_what_python_knows_in_place_of_advice():
+    assert "what to do: fields of one length" in str(Refused(11, "add x y"))
+    assert str(Refused(11, "add x y", "8 bits beside 9")).splitlines()[0] == "add x y: 8 bits beside 9"
+    assert "what to do" not in str(Refused(11, "add x y", "8 bits beside 9"))
+
+
 def test_after_a_refusal_the_next_line_is_answered_rightly(four):
     x = four.field(8)
     x[:] = 1
@@ -111,9 +117,11 @@ def test_an_interrupted_question_leaves_no_answer_behind(four, monkeypatch):
             os.kill(os.getpid(), signal.SIGINT)
         return read_answer(front)
 
+    before = signal.getsignal(signal.SIGINT)
     monkeypatch.setattr(Front, "_read_answer", read_answer_and_press_ctrl_c)
     with pytest.raises(KeyboardInterrupt):
         four.ask("field 0 5 0 64\n" * 4000)
+    assert signal.getsignal(signal.SIGINT) is before
     assert four.ask("wire show\nrule") == ["wire 0", "rule 0"]
 
 
