@@ -30,8 +30,12 @@ pub enum Fault {
     File { path: String, fault: FileFault },
     #[error("standard input: {0}")]
     Numbers(NumbersFault),
+    /// It cannot be read.
     #[error("standard input {0}")]
     Input(&'static str),
+    /// There is more of it than is taken.
+    #[error("standard input {0}")]
+    LongInput(&'static str),
     #[error("standard output cannot be written")]
     Output,
     #[error("out of memory")]
@@ -41,9 +45,12 @@ pub enum Fault {
 /// What is wrong with a file.
 #[derive(Clone, Copy, Debug, Error)]
 pub enum FileFault {
-    /// It cannot be opened, read or written, or it is too large.
+    /// It cannot be opened, read or written.
     #[error("{0}")]
     Bytes(&'static str),
+    /// It has too many bytes.
+    #[error("{0}")]
+    TooMuch(&'static str),
     #[error(transparent)]
     Image(LabFault),
     #[error(transparent)]
@@ -98,14 +105,15 @@ impl Fault {
             FrontFault::Image(fault) => Fault::file(alloc, path, FileFault::Machine(fault)),
             FrontFault::Room => Fault::image(alloc, path, LabFault::Room),
             FrontFault::Ended(SessionFault::Read) => Fault::Input("cannot be read"),
-            FrontFault::Ended(SessionFault::TooMuch) => Fault::Input(
+            FrontFault::Ended(SessionFault::TooMuch) => Fault::LongInput(
                 "has a line of more than 16777216 bytes",
             ),
             FrontFault::Ended(SessionFault::Write(_)) => Fault::Output,
         }
     }
 
-    /// The exit status: 2 for words that ask for nothing, 3 for want of memory, 4 for a file, else 1.
+    /// The exit status, as that of `cm1`: 2 for words that ask for nothing, 3 for want of memory, 4 for a file that
+    /// cannot be opened, read or written, else 1.
     pub fn status(&self) -> u8 {
         match self {
             Fault::Command(CommandFault::Field(_)) => 1,

@@ -1,6 +1,6 @@
 //! Files of the user: one that is read whole, and one that is put where the user wants it.
 
-use crate::fault::Fault;
+use crate::fault::{Fault, FileFault};
 use cm_host::{open, put_file};
 use cm_outside::{PutFault, TakeFault, take};
 use std::alloc::Global;
@@ -20,7 +20,7 @@ pub fn read_file<R: Files>(
     match take(alloc, &mut file, limit) {
         Ok(bytes) => Ok(bytes),
         Err(TakeFault::Read) => Err(Fault::bytes(alloc, path, "cannot be read")),
-        Err(TakeFault::TooMuch) => Err(Fault::bytes(alloc, path, too_much)),
+        Err(TakeFault::TooMuch) => Err(Fault::file(alloc, path, FileFault::TooMuch(too_much))),
         Err(TakeFault::Memory) => Err(Fault::Memory),
     }
 }

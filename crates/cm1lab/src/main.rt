@@ -252,7 +252,7 @@ fn read_input<R: Input>(rt: &R, alloc: Global) -> Result<Vec<u8>, Fault> {
     match take(alloc, &mut Std::new(rt.reader()), NUMBERS_LIMIT) {
         Ok(numbers) => Ok(numbers),
         Err(TakeFault::Read) => Err(Fault::Input("cannot be read")),
-        Err(TakeFault::TooMuch) => Err(Fault::Input("has more than 16777216 bytes")),
+        Err(TakeFault::TooMuch) => Err(Fault::LongInput("has more than 16777216 bytes")),
         Err(TakeFault::Memory) => Err(Fault::Memory),
     }
 }

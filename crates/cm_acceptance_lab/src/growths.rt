@@ -7,8 +7,8 @@ use cm_draws::{Call, first_not_so};
 use cm_fresh::{FreshFault, WireEnd, fresh};
 use cm_front::{FrontFault, ImageFault, SessionFault, front_image};
 use cm_lab::{
-    Form, Format, LabFault, NumbersFault, Order, Shown, Table, Task, perform, read_numbers,
-    write_numbers,
+    Form, Format, LabFault, Look, NumbersFault, Order, Palette, Shown, Table, Task, perform,
+    read_numbers, write_numbers,
 };
 use cm_load::{Figures, LoadFault, Pattern, Trial, table};
 use cm_source::{AsmKind, SourceKind, expand};
@@ -118,6 +118,7 @@ enum Grown {
     Numbers,
     Picture,
     Png,
+    Slide,
     Cycles,
     Messages,
     Source,
@@ -127,11 +128,12 @@ enum Grown {
     ForAll,
 }
 
-static GROWN: [Grown; 11] = [
+static GROWN: [Grown; 12] = [
     Grown::Read,
     Grown::Numbers,
     Grown::Picture,
     Grown::Png,
+    Grown::Slide,
     Grown::Cycles,
     Grown::Messages,
     Grown::Source,
@@ -148,6 +150,7 @@ impl Call for Grown {
             Grown::Numbers => come_back(alloc),
             Grown::Picture => is_shown(alloc),
             Grown::Png => is_a_png(alloc),
+            Grown::Slide => is_for_a_slide(alloc),
             Grown::Cycles => Some(tells(alloc, Table::Cycles, CYCLES)),
             Grown::Messages => Some(tells(alloc, Table::Messages, MESSAGES)),
             Grown::Source => Some(is_expanded(alloc)),
@@ -220,15 +223,39 @@ fn is_shown(alloc: Global) -> Option<bool> {
     Some(comes_out(
         alloc,
         &Task::Paint(7),
-        &Task::Show(shown, Format::Netpbm(Form::Plain)),
+        &Task::Show(shown, plain(Format::Netpbm(Form::Plain))),
         PICTURE,
     ))
 }
 
 fn is_a_png(alloc: Global) -> Option<bool> {
     let shown = Shown::Number(Field::new(0, 1).ok()?);
-    match made(alloc, &Task::Show(shown, Format::Png), &BLANK, "") {
+    match made(alloc, &Task::Show(shown, plain(Format::Png)), &BLANK, "") {
         Ok(bytes) => Some(bytes.as_slice() == PNG),
+        Err(_) => Some(false),
+    }
+}
+
+/// A picture of the machine's size, by the greatest number that there can be.
+pub(crate) fn plain(format: Format) -> Look {
+    Look {
+        format,
+        scale: 1,
+        is_by_dots: false,
+    }
+}
+
+/// Whether a picture of eight by eight dots, in colours, has as many bytes as its parts: 8 first ones, chunks of 13 and 768,
+/// the two bytes of zlib, a block of 8 rows with a filter each, 4 bytes of a checksum, and no bytes, each with 12 of its own.
+fn is_for_a_slide(alloc: Global) -> Option<bool> {
+    let shown = Shown::Number(Field::new(0, 8).ok()?);
+    let look = Look {
+        format: Format::Colours(Palette::Heat),
+        scale: 2,
+        is_by_dots: true,
+    };
+    match made(alloc, &Task::Show(shown, look), &BLANK, "") {
+        Ok(bytes) => Some(bytes.len() == 8 + 25 + 780 + 14 + (12 + 5 + 8 * 9) + 16 + 12),
         Err(_) => Some(false),
     }
 }

@@ -13,7 +13,7 @@ struct Row {
 }
 
 // Places are counted by hand: a panel is 5600 wide and 2400 high, and a tick is 1, 2 or 5 with zeros behind.
-static ROWS: [Row; 9] = [
+static ROWS: [Row; 11] = [
     // Petit cycles 10 to 14, a tick for each; up to 4 messages, a tick for each.
     Row {
         table: "cycle,taken,delivered,referred,standing,full,asking
@@ -115,6 +115,17 @@ static ROWS: [Row; 9] = [
             ">sixteen letter&#8230;</text>\n</g>\n</svg>\n",
         ],
     },
+    // As a spreadsheet writes it: ends of lines of two bytes, blank lines, blanks behind commas, five digits.
+    Row {
+        table: "\r\nrate: mean,  first , second\r\n\r\n1, 1.23456, 2\r\n2,2.125,\r\n \t\r\n",
+        parts: &[
+            "rotate(-90)'> mean</text>\n",
+            "points=' 2800,1216 5600,360'/>\n",
+            ">first</text>\n",
+            "points=' 2800,480'/>\n",
+            ">second</text>\n</g>\n</svg>\n",
+        ],
+    },
     // Petit cycles 8 and 9, two dimensions in each; four rows, of the chips 0, 1, 3 and 2.
     Row {
         table: "cycle 8: 0 -> 1 -> 3, referred in 0, place 1 of 1
@@ -125,8 +136,8 @@ stands at 0, for processor 3 of chip 2
             " height='390' viewBox='0 0 8300 3900' ",
             ">The way of a message</text>\n",
             "<g transform='translate(1000,600)'>\n",
-            "d='M0 0v2400'/><text y='2600' x='0'>8</text>\n",
-            "d='M5600 0v2400'/><text y='2600' x='5600'>10</text>\n",
+            "d='M0 0v2400'/><text y='2600' x='1400'>8</text>\n",
+            "d='M2800 0v2400'/><text y='2600' x='4200'>9</text>\n<path stroke='#ddd' stroke-width='8' ",
             "d='M0 300h5600'/><text text-anchor='end' x='-80' y='350'>0</text>\n",
             "d='M0 900h5600'/><text text-anchor='end' x='-80' y='950'>1</text>\n",
             "d='M0 1500h5600'/><text text-anchor='end' x='-80' y='1550'>3</text>\n",
@@ -152,6 +163,16 @@ stands at 0, for processor 3 of chip 2
             "<circle r='40' cx='5600' cy='1800' fill='#cc79a7'/>\n",
             "<circle r='40' cx='0' cy='600' fill='#009e73'/>\n",
             ">delivered</text>\n</g>\n</svg>\n",
+        ],
+    },
+    // The same with ends of lines of two bytes, and blank lines.
+    Row {
+        table: "\n cycle 0: 0 -> 1, delivered to processor 5\r\n\r\n",
+        parts: &[
+            "d='M0 0v2400'/><text y='2600' x='2800'>0</text>\n",
+            "points=' 0,600 0,600 0,600 5600,1800 5600,1800 5600,1800'/>\n",
+            "<circle r='40' cx='5600' cy='1800' fill='#cc79a7'/>\n",
+            "</svg>\n",
         ],
     },
     // One that stays.

@@ -1,6 +1,6 @@
 //! What a watcher is told of programs.
 
-use crate::growths::BLANK;
+use crate::growths::{BLANK, plain};
 use cm_bits::Proc;
 use cm_lab::{Format, Shown, Table, Tag, Task, Watch, perform_watched};
 use std::alloc::Global;
@@ -61,7 +61,7 @@ fn each_act_is_told_in_its_turn(rt: HostRuntime) -> Result<(), Fail> {
         told_of(alloc, Task::Study(Table::Messages)),
         told_of_route(alloc, 0),
         told_of_route(alloc, 1),
-        told_of(alloc, Task::Show(Shown::Buffers, Format::Png)),
+        told_of(alloc, Task::Show(Shown::Buffers, plain(Format::Png))),
     ];
     assert_eq!(rt;
         told,

@@ -1,6 +1,7 @@
 pub mod Blanks
 pub mod Counting
 pub mod Dots
+pub mod Enlarging
 pub mod Framing
 pub mod Growing
 mod StandardFacts

@@ -4,6 +4,7 @@ ghost use Rattle.std.specs.Prelude.{◌≡◌, ◌*◌, ◌<◌, length, IfOk};
 ghost use Rattle.cm_figures.specs.Pictures.{seen};
 ghost use Rattle.cm_figures.specs.Formats.{picture_bytes};
 
+use crate::palettes::{Palette, write_colours};
 use crate::picture::{Form, Picture, write_picture};
 use crate::png::write_png;
 use cm_bits::NoMemory;
@@ -14,7 +15,10 @@ use std::alloc::Global;
 pub enum Format {
     /// A PBM or a PGM.
     Netpbm(Form),
+    /// Grey.
     Png,
+    /// A PNG in colours.
+    Colours(Palette),
 }
 
 /// A picture in a format.
@@ -26,5 +30,6 @@ pub fn write_in(alloc: Global, picture: &Picture, format: Format) -> Result<Vec<
     match format {
         Format::Netpbm(form) => write_picture(alloc, picture, form),
         Format::Png => write_png(alloc, picture),
+        Format::Colours(palette) => write_colours(alloc, picture, palette),
     }
 }

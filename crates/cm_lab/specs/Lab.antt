@@ -29,7 +29,7 @@ use Rattle.cm_lab.specs.Pictures.{is_narrow, picture_of, bits_of}
 use Rattle.cm_figures.specs.declared.picture_reading.PictureFault.{PictureFault}
 use Rattle.cm_figures.specs.Numbers.{numbers_in, numbers_text}
 use Rattle.cm_figures.specs.Pictures.{Dots}
-use Rattle.cm_figures.specs.Formats.{picture_bytes}
+use Rattle.cm_figures.specs.Looks.{look_bytes}
 use Rattle.cm_figures.specs.PictureReading.{picture_in}
 
 -- what is made of numbers, if they are those that are wanted
@@ -84,8 +84,8 @@ work_of n cap (Flags order number) given machine =
 work_of n cap (Put order field) given machine =
     of_numbers (λ numbers. text_of n cap (machine_with_numbers n order field.at field.len numbers machine))
     (numbers_in field.len (processors n) given)
-work_of n cap (Show shown format) given machine =
-    if is_narrow shown then Ok (picture_bytes format (picture_of n cap shown machine)) else Err Wide
+work_of n cap (Show shown look) given machine =
+    if is_narrow shown then Ok (look_bytes look (picture_of n cap shown machine)) else Err Wide
 work_of n cap (Paint at) given machine = of_picture n cap at machine (picture_in (columns n) (rows n) given)
 work_of n cap (Study table) given machine =
     of_program (λ acts. of_table (table_of n cap table machine acts)) (program_of given)

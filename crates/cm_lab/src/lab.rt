@@ -3,7 +3,7 @@
 ghost use Rattle.std.specs.Prelude.{◌≡◌, ◌≢◌, ◌≤◌, ◌<◌, ◌*◌, [], Ok, Err, IfOk, IfErr, length};
 ghost use Rattle.cm_model.specs.Place.{rows, columns};
 ghost use Rattle.cm_figures.specs.Pictures.{seen};
-ghost use Rattle.cm_figures.specs.Formats.{picture_bytes};
+ghost use Rattle.cm_figures.specs.Looks.{look_bytes};
 ghost use Rattle.cm_figures.specs.PictureReading.{picture_in};
 ghost use Rattle.cm_lab.specs.Data.{processors};
 ghost use Rattle.cm_lab.specs.declared.lab.Task.TheVariants as task;
@@ -17,7 +17,7 @@ use cm_array::Machine;
 use cm_asm::assemble;
 use cm_bits::{Field, FieldFault, FlagNo};
 use cm_figures::{
-    Format, NumbersFault, Picture, PictureFault, read_numbers, read_picture, write_in,
+    Look, NumbersFault, Picture, PictureFault, read_numbers, read_picture, write_look,
     write_numbers,
 };
 use cm_image::{ImageFault, dump};
@@ -37,8 +37,8 @@ pub enum Task {
     Flags(Order, FlagNo),
     /// The numbers that are given are put into a field of all processors.
     Put(Order, Field),
-    /// The picture of it is told.
-    Show(Shown, Format),
+    /// The picture of it is told, as it is looked at.
+    Show(Shown, Look),
     /// The dots of the picture that is given are put into a field of all processors, which begins at this address.
     Paint(u16),
     /// The program that is given is run, and a table of it is told.
@@ -156,7 +156,7 @@ fn work<const N: usize, const CAP: usize, W: Watch>(
         Task::Get(order, field) => told(alloc, machine, order, field),
         Task::Flags(order, number) => flagged(alloc, machine, order, number),
         Task::Put(order, field) => filled(alloc, machine, order, field, given),
-        Task::Show(shown, format) => pictured(alloc, machine, shown, format),
+        Task::Show(shown, look) => pictured(alloc, machine, shown, look),
         Task::Paint(at) => painted(alloc, machine, at, given),
         Task::Study(table) => studied(alloc, machine, table, given, watch),
         Task::Route(tag) => routed(alloc, machine, tag, given, watch),
@@ -251,28 +251,28 @@ fn pictured<const N: usize, const CAP: usize>(
     alloc: Global,
     machine: &Machine<N, CAP>,
     shown: Shown,
-    format: Format,
+    look: Look,
 ) -> Result<Vec<u8>, LabFault>
     ensures value { IfOk result
-        (λ text. work_of N CAP (task.Show shown format) [] machine.now.machine ≡ Ok text.items) }
+        (λ text. work_of N CAP (task.Show shown look) [] machine.now.machine ≡ Ok text.items) }
     ensures refused { IfErr result (λ fault. fault ≢ LabFault.Memory
-        → work_of N CAP (task.Show shown format) [] machine.now.machine ≡ Err fault) }
+        → work_of N CAP (task.Show shown look) [] machine.now.machine ≡ Err fault) }
 {
     match show(alloc, machine, shown) {
-        Ok(picture) => drawn(alloc, &picture, format),
+        Ok(picture) => drawn(alloc, picture, look),
         Err(ShowFault::Wide) => Err(LabFault::Wide),
         Err(ShowFault::Memory) => Err(LabFault::Memory),
     }
 }
 
-/// A picture in a format.
-fn drawn(alloc: Global, picture: &Picture, format: Format) -> Result<Vec<u8>, LabFault>
-    requires some { 0 < picture.now.width }
-    requires dots { length picture.now.dots.items ≡ picture.now.height * picture.now.width }
-    ensures value { IfOk result (λ text. text.items ≡ picture_bytes format (seen picture.now)) }
+/// A picture as it is looked at.
+fn drawn(alloc: Global, picture: Picture, look: Look) -> Result<Vec<u8>, LabFault>
+    requires some { 0 < picture.width }
+    requires dots { length picture.dots.items ≡ picture.height * picture.width }
+    ensures value { IfOk result (λ text. text.items ≡ look_bytes look (seen picture)) }
     ensures memory { IfErr result (λ fault. fault ≡ LabFault.Memory) }
 {
-    match write_in(alloc, picture, format) {
+    match write_look(alloc, picture, look) {
         Ok(text) => Ok(text),
         Err(_) => Err(LabFault::Memory),
     }

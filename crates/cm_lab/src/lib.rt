@@ -9,8 +9,8 @@ mod picture_laws;
 mod pictures;
 
 pub use cm_figures::{
-    Form, Format, NumbersFault, Picture, PictureFault, read_numbers, read_picture, write_in,
-    write_numbers,
+    Form, Format, Look, NumbersFault, Palette, Picture, PictureFault, read_numbers, read_picture,
+    write_in, write_look, write_numbers,
 };
 pub use cm_model::Tag;
 pub use cm_study::{RouteFault, Table, Watch};

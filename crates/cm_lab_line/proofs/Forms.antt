@@ -1,7 +1,7 @@
 -- Words that are too few or too many.
 use Rattle.std.proofs.Common.{◌≡◌, ℕ, ◌<◌, ◌≤◌, ◌⊎◌, List, [], ◌∷◌, Err, length, refl, arith}
 use Rattle.std.specs.Borrow.{Bor}
-use Rattle.cm_figures.specs.declared.formats.Format.{Format}
+use Rattle.cm_figures.specs.declared.looks.Look.{Look}
 use Rattle.cm_lab.specs.declared.order.Order.{Order}
 use Rattle.cm_lab_line.specs.Words.{texts}
 use Rattle.cm_lab_line.specs.Refusals.{Words}
@@ -42,13 +42,13 @@ few_or_many_of_painting (a ∷ b ∷ c ∷ []) h = refl
 few_or_many_of_painting (a ∷ b ∷ c ∷ d ∷ []) h = absurd (omega arith)
 few_or_many_of_painting (a ∷ b ∷ c ∷ d ∷ e ∷ rest) h = refl
 
-pub few_or_many_of_picture : (format : Format) (words : List (Bor (List ℕ)))
-    → (length words < 2) ⊎ (4 ≤ length words) → picture_in format (texts words) ≡ Err Words
-few_or_many_of_picture format [] h = refl
-few_or_many_of_picture format (a ∷ []) h = refl
-few_or_many_of_picture format (a ∷ b ∷ []) h = absurd (omega arith)
-few_or_many_of_picture format (a ∷ b ∷ c ∷ []) h = absurd (omega arith)
-few_or_many_of_picture format (a ∷ b ∷ c ∷ d ∷ rest) h = refl
+pub few_or_many_of_picture : (look : Look) (words : List (Bor (List ℕ)))
+    → (length words < 2) ⊎ (4 ≤ length words) → picture_in look (texts words) ≡ Err Words
+few_or_many_of_picture look [] h = refl
+few_or_many_of_picture look (a ∷ []) h = refl
+few_or_many_of_picture look (a ∷ b ∷ []) h = absurd (omega arith)
+few_or_many_of_picture look (a ∷ b ∷ c ∷ []) h = absurd (omega arith)
+few_or_many_of_picture look (a ∷ b ∷ c ∷ d ∷ rest) h = refl
 
 pub few_of_routing : (words : List (Bor (List ℕ))) → length words < 2 → routing (texts words) ≡ Err Words
 few_of_routing [] h = refl

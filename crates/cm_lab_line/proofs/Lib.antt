@@ -1,6 +1,7 @@
 pub mod Numbers
 pub mod Forms
 pub mod OptionLemmas
+pub mod LookLemmas
 pub mod EndLemmas
 pub mod RateLemmas
 pub mod TwiceLemmas

@@ -1,14 +1,14 @@
 -- What the words of a command line ask for: ours.
-use Rattle.std.specs.Prelude.{◌≡◌, ◌≢◌, ◌⊎◌, ◌==◌, ◌&&◌, ◌||◌, Bool, false, not, MatchOption, if◌then◌else◌, Option}
+use Rattle.std.specs.Prelude.{◌≡◌, ◌≢◌, ◌⊎◌, ◌&&◌, ◌||◌, Bool, false, not, MatchOption, if◌then◌else◌, Option}
 use Rattle.std.specs.Prelude.{Some, None, Result, Ok, Err}
-use Rattle.std.specs.Prelude.{List, [], ◌∷◌, ◌++◌, codes, bytes_eq, slice_index}
+use Rattle.std.specs.Prelude.{List, [], ◌∷◌, ◌++◌, codes, bytes_eq}
 use Rattle.std.specs.List.{list_any}
 use Rattle.std.specs.Bool.{MatchBool}
 use Rattle.cm_lab_line.specs.Refusals.{Text, Refusal, Help, Memory, Twice, UnknownCommand, UnknownOption, Usage}
 use Rattle.cm_lab_line.specs.Refusals.{Version, Words, ◌>>=◌}
 use Rattle.cm_lab_line.specs.Requests.{Do, Expand, Fresh, Front, Load, Plot, Request}
 use Rattle.cm_lab_line.specs.Operands.{file_named, is_option}
-use Rattle.cm_lab_line.specs.Tasks.{task_of}
+use Rattle.cm_lab_line.specs.Tasks.{is_setting, is_sign, task_of}
 use Rattle.cm_lab_line.specs.Blanks.{blank}
 use Rattle.cm_lab_line.specs.Loads.{load}
 use Rattle.cm_lab_line.specs.Usage.{usage_of}
@@ -43,17 +43,7 @@ plotting [] = Ok (Plot None)
 plotting (file ∷ []) = Ok (Plot (Some file))
 plotting _ = Err Words
 
--- a call for help alone
-abbrev pub helping : List Text → Result Request Refusal
-helping [] = Err Help
-helping (word ∷ words) = Err Words
-
--- a call for the version alone
-abbrev pub versioning : List Text → Result Request Refusal
-versioning [] = Err Version
-versioning (word ∷ words) = Err Words
-
--- what the words behind a command's name ask for
+-- what the words behind a command's name ask for; behind a call for help or the version they do not matter
 abbrev pub named : Text → List Text → Result Request Refusal
 named command words =
     if bytes_eq command (codes "front") then fronting words
@@ -61,10 +51,10 @@ named command words =
     else (if bytes_eq command (codes "fresh") then freshening words
     else (if bytes_eq command (codes "load") then loading words
     else (if bytes_eq command (codes "plot") then plotting words
-    else (if bytes_eq command (codes "--help") then helping words
-    else (if bytes_eq command (codes "-h") then helping words
-    else (if bytes_eq command (codes "help") then helping words
-    else (if bytes_eq command (codes "--version") then versioning words
+    else (if bytes_eq command (codes "--help") then Err Help
+    else (if bytes_eq command (codes "-h") then Err Help
+    else (if bytes_eq command (codes "help") then Err Help
+    else (if bytes_eq command (codes "--version") then Err Version
     else task_of command words >>= (λ asked. Ok (Do asked))))))))))
 
 -- what all words ask for, of which the first is the program's name
@@ -104,7 +94,7 @@ is_load_option word =
 abbrev pub is_option_of : Text → Text → Bool
 is_option_of command word =
     if bytes_eq command (codes "put") then bytes_eq word (codes "--rows")
-    else (if bytes_eq command (codes "picture") then bytes_eq word (codes "--plain") || bytes_eq word (codes "--png")
+    else (if bytes_eq command (codes "picture") then is_sign word || is_setting word
     else (if bytes_eq command (codes "study") then bytes_eq word (codes "--messages")
     else (if bytes_eq command (codes "front") then bytes_eq word (codes "--out")
     else (if bytes_eq command (codes "fresh") then bytes_eq word (codes "--cut") || bytes_eq word (codes "--rule")

@@ -8,6 +8,8 @@ use Rattle.cm_bits.specs.Text.{has_bytes}
 use Rattle.cm_bits.specs.Span.{Span}
 use Rattle.cm_bits.specs.Field.{field_fault}
 use Rattle.cm_bits.specs.declared.field.FieldFault.{FieldFault}
+use Rattle.cm_figures.specs.declared.palettes.Palette.{Palette}
+use Rattle.cm_figures.specs.declared.palettes.Palette.TheVariants as palette
 use Rattle.cm_load.specs.declared.offers.Pattern.{Pattern}
 use Rattle.cm_load.specs.declared.offers.Pattern.TheVariants as pattern
 use Rattle.cm_lab_line.specs.declared.operands.Operand.{Operand}
@@ -33,6 +35,9 @@ name_of operand.Cycles = codes "CYCLES"
 name_of operand.Pattern = codes "P"
 name_of operand.Until = codes "T"
 name_of operand.Seed = codes "S"
+name_of operand.Depth = codes "LENGTH"
+name_of operand.Scale = codes "K"
+name_of operand.Palette = codes "NAME"
 
 -- a number of a range
 abbrev pub from_to : Text → Text → Text
@@ -55,6 +60,9 @@ wanted_of operand.Cycles = from_to (codes "1") (codes "1000000")
 wanted_of operand.Pattern = codes "uniform, transpose, reversal or hotspot"
 wanted_of operand.Until = from_to (codes "0") (codes "4294967295")
 wanted_of operand.Seed = from_to (codes "0") (codes "18446744073709551615")
+wanted_of operand.Depth = from_to (codes "1") (codes "16 for a picture")
+wanted_of operand.Scale = from_to (codes "1") (codes "64")
+wanted_of operand.Palette = codes "heat or viridis"
 
 -- ---- what they say
 
@@ -94,6 +102,20 @@ abbrev pub field : Text → Text → Result Span Refusal
 field at len =
     number operand.Address at >>= λ at'. number operand.Length len >>= λ len'.
     field_unless at' len' (field_fault at' len')
+
+-- how many dots wide and high a dot becomes: 1 to 64
+abbrev pub small_scale : Text → ℕ → Result ℕ Refusal
+small_scale word k = if nat_lt 0 k && nat_lt k 65 then Ok k else Err (Wanted operand.Scale word)
+
+-- the same, by its word
+abbrev pub scale_of : Text → Result ℕ Refusal
+scale_of word = number operand.Scale word >>= λ k. small_scale word k
+
+-- the palette of this name
+abbrev pub palette_named : Text → Result Palette Refusal
+palette_named word =
+    if bytes_eq word (codes "heat") then Ok palette.Heat
+    else (if bytes_eq word (codes "viridis") then Ok palette.Viridis else Err (Wanted operand.Palette word))
 
 -- the pattern of this name
 abbrev pub pattern_named : Text → Result Pattern Refusal

@@ -1,9 +1,11 @@
 -- What the words behind the name of a task's command ask for: ours.
-use Rattle.std.specs.Prelude.{◌^◌, if◌then◌else◌, Some, None, Result, Ok, Err, List, [], ◌∷◌, codes, bytes_eq}
+use Rattle.std.specs.Prelude.{◌^◌, ◌||◌, Bool, true, false, nat_lt, if◌then◌else◌, Some, None, Result, Ok, Err}
+use Rattle.std.specs.Prelude.{List, [], ◌∷◌, codes, bytes_eq}
 use Rattle.cm_model.specs.declared.message.Tag.{Tag}
-use Rattle.cm_figures.specs.declared.formats.Format.{Format}
-use Rattle.cm_figures.specs.declared.formats.Format.TheVariants.{Netpbm, Png}
+use Rattle.cm_figures.specs.declared.formats.Format.TheVariants.{Netpbm, Png, Colours}
+use Rattle.cm_figures.specs.declared.looks.Look.{Look}
 use Rattle.cm_figures.specs.declared.picture.Form.TheVariants.{Raw, Plain}
+use Rattle.cm_bits.specs.Span.{Span}
 use Rattle.cm_study.specs.declared.studies.Table.{Table}
 use Rattle.cm_study.specs.declared.studies.Table.TheVariants.{Cycles, Messages}
 use Rattle.cm_lab.specs.declared.lab.Task.{Task}
@@ -12,8 +14,8 @@ use Rattle.cm_lab.specs.declared.order.Order.{Order}
 use Rattle.cm_lab.specs.declared.order.Order.TheVariants.{Chips, Rows}
 use Rattle.cm_lab.specs.declared.pictures.Shown.TheVariants as seen
 use Rattle.cm_lab_line.specs.declared.operands.Operand.TheVariants as operand
-use Rattle.cm_lab_line.specs.Refusals.{Text, Refusal, Words, ◌>>=◌}
-use Rattle.cm_lab_line.specs.Operands.{field, file_named, number_below}
+use Rattle.cm_lab_line.specs.Refusals.{Text, Refusal, Wanted, Words, ◌>>=◌}
+use Rattle.cm_lab_line.specs.Operands.{field, file_named, number_below, palette_named, scale_of}
 use Rattle.cm_lab_line.specs.Requests.{Beside, Nothing, Numbers, Picture, Program, TaskAsked}
 
 -- a task that tells
@@ -55,31 +57,67 @@ filling [] = Err Words
 filling (first ∷ rest) =
     if bytes_eq first (codes "--rows") then filling_in Rows rest else filling_in Chips (first ∷ rest)
 
--- a picture of a flag
-abbrev pub flag_pictured : Format → Text → Text → Result TaskAsked Refusal
-flag_pictured format image number =
-    number_below 16 operand.Flag number >>= λ flag. Ok (told_of (Show (seen.Flag flag) format) image Nothing)
+-- how a picture is looked at where no option says otherwise
+abbrev pub plain_look : Look
+plain_look = record { format = Netpbm Raw; scale = 1; is_by_dots = false }
 
--- a picture of a field
-abbrev pub field_pictured : Format → Text → Text → Text → Result TaskAsked Refusal
-field_pictured format image at len =
-    field at len >>= λ span. Ok (told_of (Show (seen.Number span) format) image Nothing)
+-- an option of a picture that stands alone
+abbrev pub is_sign : Text → Bool
+is_sign option =
+    bytes_eq option (codes "--plain") || (bytes_eq option (codes "--png") || bytes_eq option (codes "--greatest"))
+
+-- and what it says
+abbrev pub with_sign : Look → Text → Look
+with_sign look option =
+    if bytes_eq option (codes "--plain") then record look { format = Netpbm Plain }
+    else (if bytes_eq option (codes "--png") then record look { format = Png }
+    else record look { is_by_dots = true })
+
+-- an option of a picture behind which a word stands
+abbrev pub is_setting : Text → Bool
+is_setting option = bytes_eq option (codes "--scale") || bytes_eq option (codes "--palette")
+
+-- and what both say
+abbrev pub with_setting : Look → Text → Text → Result Look Refusal
+with_setting look option word =
+    if bytes_eq option (codes "--scale") then scale_of word >>= (λ k. Ok (record look { scale = k }))
+    else palette_named word >>= (λ palette. Ok (record look { format = Colours palette }))
+
+-- a picture of a flag
+abbrev pub flag_pictured : Look → Text → Text → Result TaskAsked Refusal
+flag_pictured look image number =
+    number_below 16 operand.Flag number >>= λ flag. Ok (told_of (Show (seen.Flag flag) look) image Nothing)
+
+-- a picture of a field of at most 16 bits
+abbrev pub span_pictured : Look → Text → Text → Span → Result TaskAsked Refusal
+span_pictured look image len span =
+    if nat_lt span.len 17 then Ok (told_of (Show (seen.Number span) look) image Nothing)
+    else Err (Wanted operand.Depth len)
+
+-- a picture of the field of these words
+abbrev pub field_pictured : Look → Text → Text → Text → Result TaskAsked Refusal
+field_pictured look image at len = field at len >>= λ span. span_pictured look image len span
 
 -- IMAGE buffers, IMAGE flag NUMBER, or IMAGE ADDRESS LENGTH
-abbrev pub picture_in : Format → List Text → Result TaskAsked Refusal
-picture_in format (image ∷ what ∷ []) =
-    if bytes_eq what (codes "buffers") then Ok (told_of (Show seen.Buffers format) image Nothing) else Err Words
-picture_in format (image ∷ at ∷ len ∷ []) =
-    if bytes_eq at (codes "flag") then flag_pictured format image len else field_pictured format image at len
-picture_in format _ = Err Words
+abbrev pub picture_in : Look → List Text → Result TaskAsked Refusal
+picture_in look (image ∷ what ∷ []) =
+    if bytes_eq what (codes "buffers") then Ok (told_of (Show seen.Buffers look) image Nothing) else Err Words
+picture_in look (image ∷ at ∷ len ∷ []) =
+    if bytes_eq at (codes "flag") then flag_pictured look image len else field_pictured look image at len
+picture_in look _ = Err Words
 
--- `picture`: these, before which `--plain` or `--png` may stand
+-- these, before which options may stand
+abbrev pub looked_at : Look → List Text → Result TaskAsked Refusal
+looked_at look [] = Err Words
+looked_at look (option ∷ []) = Err Words
+looked_at look (option ∷ word ∷ rest) =
+    if is_sign option then looked_at (with_sign look option) (word ∷ rest)
+    else (if is_setting option then with_setting look option word >>= (λ changed. looked_at changed rest)
+    else picture_in look (option ∷ word ∷ rest))
+
+-- `picture`: the same from a plain look on
 abbrev pub picturing : List Text → Result TaskAsked Refusal
-picturing [] = Err Words
-picturing (first ∷ rest) =
-    if bytes_eq first (codes "--plain") then picture_in (Netpbm Plain) rest
-    else (if bytes_eq first (codes "--png") then picture_in Png rest
-    else picture_in (Netpbm Raw) (first ∷ rest))
+picturing words = looked_at plain_look words
 
 -- a picture is painted
 abbrev pub painted : Text → Text → Text → Text → Result TaskAsked Refusal

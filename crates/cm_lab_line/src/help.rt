@@ -6,6 +6,7 @@ ghost use Rattle.cm_lab_line.specs.Usage.{behind_word, first_word, usage_of, wit
 ghost use Rattle.cm_lab_line.specs.Commands.{is_command, is_load_option, is_option_of, unknown_option};
 
 use crate::operands::is_option;
+use crate::tasks::{is_setting, is_sign};
 use cm_bits::NoMemory;
 use std::alloc::Global;
 
@@ -25,13 +26,15 @@ cm1lab rows IMAGE flag NUMBER
 cm1lab put [--rows] IMAGE ADDRESS LENGTH OUT < NUMBERS
     puts a number into the field of each processor, and the image into the file OUT;
     they come chip by chip, with --rows row by row of the grid
-cm1lab picture [--plain | --png] IMAGE flag NUMBER
-cm1lab picture [--plain | --png] IMAGE ADDRESS LENGTH
-cm1lab picture [--plain | --png] IMAGE buffers
+cm1lab picture [--plain | --png | --palette NAME] [--scale K] [--greatest] IMAGE flag NUMBER
+cm1lab picture [--plain | --png | --palette NAME] [--scale K] [--greatest] IMAGE ADDRESS LENGTH
+cm1lab picture [--plain | --png | --palette NAME] [--scale K] [--greatest] IMAGE buffers
     tells a picture, the north row above, with a dot for each processor: its flag, or its
     number in a memory field; or with a dot for each chip: how many messages stand there;
     PBM (1 is black) where a dot has one bit, else PGM (0 is black), with --plain as a text;
-    with --png a PNG in the same black and white
+    with --png a PNG in the same black and white, with --palette one in colours, heat or
+    viridis; with --scale each dot K by K; with --greatest the greatest number that is there
+    is white, and not the greatest that there can be
 cm1lab paint IMAGE PICTURE ADDRESS OUT
     puts the dots of the file PICTURE, a PBM or a PGM, into a field of each processor that
     begins at ADDRESS and has as many bits as a dot, and the image into the file OUT
@@ -168,7 +171,7 @@ fn is_option_of(command: &str, word: &str) -> bool
 {
     match command {
         "put" => word == "--rows",
-        "picture" => word == "--plain" || word == "--png",
+        "picture" => is_sign(word) || is_setting(word),
         "study" => word == "--messages",
         "front" => word == "--out",
         "fresh" => word == "--cut" || word == "--rule",

@@ -1,8 +1,9 @@
 //! Laws: what some lines ask for, and what others are refused for.
 
-ghost use Rattle.std.specs.Prelude.{◌≡◌, [], ◌∷◌, codes, false, None, Some, Ok, Err};
+ghost use Rattle.std.specs.Prelude.{◌≡◌, [], ◌∷◌, codes, true, false, None, Some, Ok, Err};
 ghost use Rattle.cm_bits.specs.declared.field.FieldFault.TheVariants as range;
 ghost use Rattle.cm_figures.specs.declared.formats.Format.TheVariants as format;
+ghost use Rattle.cm_figures.specs.declared.palettes.Palette.TheVariants as palette;
 ghost use Rattle.cm_figures.specs.declared.picture.Form.TheVariants as form;
 ghost use Rattle.cm_study.specs.declared.studies.Table.TheVariants as table;
 ghost use Rattle.cm_load.specs.declared.offers.Pattern.TheVariants as pattern;
@@ -30,13 +31,26 @@ pub fn lines_ask_for()
         ≡ Ok (Do (left_by (task.Put order.Rows (record { at = 0; len = 8 })) (codes "a.image") Numbers
         (codes "b.image"))) }
     ensures picture { request_of (codes "cm1lab" ∷ codes "picture" ∷ codes "a.image" ∷ codes "0" ∷ codes "1" ∷ [])
-        ≡ Ok (Do (told_of (task.Show (shown.Number (record { at = 0; len = 1 })) (format.Netpbm form.Raw))
-        (codes "a.image") Nothing)) }
+        ≡ Ok (Do (told_of (task.Show (shown.Number (record { at = 0; len = 1 }))
+        (record { format = format.Netpbm form.Raw; scale = 1; is_by_dots = false })) (codes "a.image") Nothing)) }
     ensures plain_picture { request_of
         (codes "cm1lab" ∷ codes "picture" ∷ codes "--plain" ∷ codes "a.image" ∷ codes "flag" ∷ codes "15" ∷ [])
-        ≡ Ok (Do (told_of (task.Show (shown.Flag 15) (format.Netpbm form.Plain)) (codes "a.image") Nothing)) }
+        ≡ Ok (Do (told_of (task.Show (shown.Flag 15)
+        (record { format = format.Netpbm form.Plain; scale = 1; is_by_dots = false })) (codes "a.image") Nothing)) }
     ensures png { request_of (codes "cm1lab" ∷ codes "picture" ∷ codes "--png" ∷ codes "a.image" ∷ codes "buffers" ∷ [])
-        ≡ Ok (Do (told_of (task.Show shown.Buffers format.Png) (codes "a.image") Nothing)) }
+        ≡ Ok (Do (told_of (task.Show shown.Buffers (record { format = format.Png; scale = 1; is_by_dots = false }))
+        (codes "a.image") Nothing)) }
+    ensures picture_for_a_slide { request_of
+        (codes "cm1lab" ∷ codes "picture" ∷ codes "--greatest" ∷ codes "--palette" ∷ codes "viridis" ∷ codes "--scale"
+        ∷ codes "64" ∷ codes "a.image" ∷ codes "8" ∷ codes "16" ∷ [])
+        ≡ Ok (Do (told_of (task.Show (shown.Number (record { at = 8; len = 16 }))
+        (record { format = format.Colours palette.Viridis; scale = 64; is_by_dots = true }))
+        (codes "a.image") Nothing)) }
+    ensures last_format { request_of
+        (codes "cm1lab" ∷ codes "picture" ∷ codes "--palette" ∷ codes "heat" ∷ codes "--png" ∷ codes "a.image"
+        ∷ codes "buffers" ∷ [])
+        ≡ Ok (Do (told_of (task.Show shown.Buffers (record { format = format.Png; scale = 1; is_by_dots = false }))
+        (codes "a.image") Nothing)) }
     ensures paint { request_of
         (codes "cm1lab" ∷ codes "paint" ∷ codes "a.image" ∷ codes "b.pbm" ∷ codes "40" ∷ codes "b.image" ∷ [])
         ≡ Ok (Do (left_by (task.Paint 40) (codes "a.image") (Picture (codes "b.pbm")) (codes "b.image"))) }
@@ -114,8 +128,8 @@ pub fn lines_are_refused()
     ensures help { request_of (codes "cm1lab" ∷ codes "--help" ∷ []) ≡ Err Help }
     ensures short_help { request_of (codes "cm1lab" ∷ codes "-h" ∷ []) ≡ Err Help }
     ensures version { request_of (codes "cm1lab" ∷ codes "--version" ∷ []) ≡ Err Version }
-    ensures version_of_a_command { request_of (codes "cm1lab" ∷ codes "--version" ∷ codes "get" ∷ []) ≡ Err Words }
-    ensures help_and_more { request_of (codes "cm1lab" ∷ codes "help" ∷ codes "get" ∷ []) ≡ Err Words }
+    ensures version_of_a_command { request_of (codes "cm1lab" ∷ codes "--version" ∷ codes "get" ∷ []) ≡ Err Version }
+    ensures help_and_more { request_of (codes "cm1lab" ∷ codes "help" ∷ codes "get" ∷ []) ≡ Err Help }
     ensures few { request_of (codes "cm1lab" ∷ codes "get" ∷ codes "a.image" ∷ codes "0" ∷ []) ≡ Err Words }
     ensures option_for_a_file { request_of
         (codes "cm1lab" ∷ codes "fresh" ∷ codes "4" ∷ codes "7" ∷ codes "--rule" ∷ []) ≡ Err Words }
@@ -135,6 +149,22 @@ pub fn lines_are_refused()
         ≡ Err (Field range.Range) }
     ensures flag { request_of (codes "cm1lab" ∷ codes "rows" ∷ codes "a.image" ∷ codes "flag" ∷ codes "16" ∷ [])
         ≡ Err (Wanted operand.Flag (codes "16")) }
+    ensures wide_picture { request_of
+        (codes "cm1lab" ∷ codes "picture" ∷ codes "a.image" ∷ codes "0" ∷ codes "17" ∷ [])
+        ≡ Err (Wanted operand.Depth (codes "17")) }
+    ensures no_scale { request_of
+        (codes "cm1lab" ∷ codes "picture" ∷ codes "--scale" ∷ codes "0" ∷ codes "a.image" ∷ codes "buffers" ∷ [])
+        ≡ Err (Wanted operand.Scale (codes "0")) }
+    ensures scale { request_of
+        (codes "cm1lab" ∷ codes "picture" ∷ codes "--png" ∷ codes "--scale" ∷ codes "65" ∷ codes "a.image"
+        ∷ codes "buffers" ∷ [])
+        ≡ Err (Wanted operand.Scale (codes "65")) }
+    ensures palette { request_of
+        (codes "cm1lab" ∷ codes "picture" ∷ codes "--palette" ∷ codes "red" ∷ codes "a.image" ∷ codes "buffers" ∷ [])
+        ≡ Err (Wanted operand.Palette (codes "red")) }
+    ensures palette_alone { request_of
+        (codes "cm1lab" ∷ codes "picture" ∷ codes "a.image" ∷ codes "buffers" ∷ codes "--palette" ∷ codes "heat" ∷ [])
+        ≡ Err Words }
     ensures chip_first { request_of
         (codes "cm1lab" ∷ codes "route" ∷ codes "a.image" ∷ codes "p.txt" ∷ codes "c" ∷ codes "16" ∷ codes "-1" ∷ [])
         ≡ Err (Wanted operand.Chip (codes "c")) }

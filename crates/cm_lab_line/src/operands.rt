@@ -2,10 +2,12 @@
 
 ghost use Rattle.std.specs.Prelude.{◌≡◌, ◌^◌, IfOk, IfErr, Ok};
 ghost use Rattle.cm_lab_line.specs.Refusals.{Tells};
-ghost use Rattle.cm_lab_line.specs.Operands.{field, file_named, is_option, name_of, number, number_below, of_sixteen, pattern_named, wanted_of};
+ghost use Rattle.cm_lab_line.specs.Operands.{field, file_named, is_option, name_of, number, number_below, of_sixteen};
+ghost use Rattle.cm_lab_line.specs.Operands.{palette_named, pattern_named, scale_of, wanted_of};
 
 use crate::fault::CommandFault;
 use cm_bits::{Field, FlagNo, Proc};
+use cm_lab::Palette;
 use cm_load::Pattern;
 use std::alloc::Global;
 
@@ -27,6 +29,10 @@ pub enum Operand {
     Pattern,
     Until,
     Seed,
+    /// The length of a field of which a picture is told.
+    Depth,
+    Scale,
+    Palette,
 }
 
 impl Operand {
@@ -36,7 +42,7 @@ impl Operand {
     {
         match self {
             Operand::Address => "ADDRESS",
-            Operand::Length => "LENGTH",
+            Operand::Length | Operand::Depth => "LENGTH",
             Operand::Flag => "NUMBER",
             Operand::Proc => "PROC",
             Operand::Cycle => "CYCLE",
@@ -50,6 +56,8 @@ impl Operand {
             Operand::Pattern => "P",
             Operand::Until => "T",
             Operand::Seed => "S",
+            Operand::Scale => "K",
+            Operand::Palette => "NAME",
         }
     }
 
@@ -72,6 +80,9 @@ impl Operand {
             Operand::Pattern => "uniform, transpose, reversal or hotspot",
             Operand::Until => "a decimal number from 0 to 4294967295",
             Operand::Seed => "a decimal number from 0 to 18446744073709551615",
+            Operand::Depth => "a decimal number from 1 to 16 for a picture",
+            Operand::Scale => "a decimal number from 1 to 64",
+            Operand::Palette => "heat or viridis",
         }
     }
 }
@@ -170,6 +181,30 @@ pub(crate) fn field(alloc: Global, at: &str, len: &str) -> Result<Field, Command
     match Field::new(at, len) {
         Ok(field) => Ok(field),
         Err(fault) => Err(CommandFault::Field(fault)),
+    }
+}
+
+/// How many dots wide and high a dot becomes.
+pub(crate) fn scale(alloc: Global, word: &str) -> Result<u16, CommandFault>
+    ensures value { IfOk result (λ k. scale_of word.now ≡ Ok k) }
+    ensures refused { IfErr result (Tells (scale_of word.now)) }
+{
+    let k = number(alloc, Operand::Scale, word)?;
+    if 0 < k && k < 65 {
+        Ok(k)
+    } else {
+        Err(CommandFault::operand(alloc, Operand::Scale, word))
+    }
+}
+
+pub(crate) fn palette(alloc: Global, word: &str) -> Result<Palette, CommandFault>
+    ensures value { IfOk result (λ palette. palette_named word.now ≡ Ok palette) }
+    ensures refused { IfErr result (Tells (palette_named word.now)) }
+{
+    match word {
+        "heat" => Ok(Palette::Heat),
+        "viridis" => Ok(Palette::Viridis),
+        _ => Err(CommandFault::operand(alloc, Operand::Palette, word)),
     }
 }
 

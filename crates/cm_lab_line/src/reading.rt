@@ -6,8 +6,7 @@ ghost use Rattle.cm_lab_line.specs.Words.{texts};
 ghost use Rattle.cm_lab_line.specs.Refusals.{Memory, Tells, told};
 ghost use Rattle.cm_lab_line.specs.Requests.{requested};
 ghost use Rattle.cm_lab_line.specs.Commands.{Explains, IsExplained, Refuses, expanding, freshening, fronting};
-ghost use Rattle.cm_lab_line.specs.Commands.{given_twice, helping, is_single};
-ghost use Rattle.cm_lab_line.specs.Commands.{loading, named, plotting, request_of, versioning};
+ghost use Rattle.cm_lab_line.specs.Commands.{given_twice, is_single, loading, named, plotting, request_of};
 
 use crate::blanks::{Blank, read_blank};
 use crate::fault::CommandFault;
@@ -162,10 +161,10 @@ fn read_named<'a>(
         "fresh" => read_freshening(alloc, words),
         "load" => read_loading(alloc, words),
         "plot" => read_plotting(words),
-        "--help" => read_helping(words),
-        "-h" => read_helping(words),
-        "help" => read_helping(words),
-        "--version" => read_versioning(words),
+        "--help" => Err(CommandFault::Help),
+        "-h" => Err(CommandFault::Help),
+        "help" => Err(CommandFault::Help),
+        "--version" => Err(CommandFault::Version),
         _ => {
             let asked = read_task(alloc, command, words)?;
             Ok(Command::Task(asked))
@@ -244,29 +243,5 @@ fn read_plotting<'a>(words: &[&'a str]) -> Result<Command<'a>, CommandFault>
         [] => Ok(Command::Plot { file: None }),
         [file] => Ok(Command::Plot { file: Some(file) }),
         _ => Err(CommandFault::Words),
-    }
-}
-
-/// Help is asked for by one word.
-fn read_helping<'a>(words: &[&'a str]) -> Result<Command<'a>, CommandFault>
-    ensures value { IfOk result (λ command. helping (texts words.now) ≡ Ok (requested command)) }
-    ensures refused { IfErr result (Tells (helping (texts words.now))) }
-{
-    if words.is_empty() {
-        Err(CommandFault::Help)
-    } else {
-        Err(CommandFault::Words)
-    }
-}
-
-/// So is the version.
-fn read_versioning<'a>(words: &[&'a str]) -> Result<Command<'a>, CommandFault>
-    ensures value { IfOk result (λ command. versioning (texts words.now) ≡ Ok (requested command)) }
-    ensures refused { IfErr result (Tells (versioning (texts words.now))) }
-{
-    if words.is_empty() {
-        Err(CommandFault::Version)
-    } else {
-        Err(CommandFault::Words)
     }
 }

@@ -4,14 +4,18 @@ ghost use Rattle.std.specs.Prelude.{◌≡◌, IfOk, IfErr, Ok};
 ghost use Rattle.cm_lab_line.specs.Words.{texts};
 ghost use Rattle.cm_lab_line.specs.Refusals.{Tells};
 ghost use Rattle.cm_lab_line.specs.Requests.{Nothing, Program, task_asked};
-ghost use Rattle.cm_lab_line.specs.Tasks.{field_pictured, filled, filling, filling_in, flag_pictured, flagged, painted};
-ghost use Rattle.cm_lab_line.specs.Tasks.{painting, picture_in, picturing, routed, routing, sender, shown, studying};
-ghost use Rattle.cm_lab_line.specs.Tasks.{studying_in, tag, task_of, telling, told_of};
+ghost use Rattle.cm_lab_line.specs.Tasks.{field_pictured, filled, filling, filling_in, flag_pictured, flagged};
+ghost use Rattle.cm_lab_line.specs.Tasks.{is_setting, is_sign, looked_at, painted, painting, picture_in, picturing};
+ghost use Rattle.cm_lab_line.specs.Tasks.{routed, routing, sender, shown, span_pictured, studying, studying_in, tag};
+ghost use Rattle.cm_lab_line.specs.Tasks.{task_of, telling, told_of, with_setting, with_sign};
 
 use crate::fault::CommandFault;
-use crate::operands::{Operand, field, file_named, flag, long_number, number, processor};
+use crate::operands::{
+    Operand, field, file_named, flag, long_number, number, palette, processor, scale,
+};
 use crate::reading::{Asked, Given};
-use cm_lab::{Form, Format, Order, Shown, Table, Tag, Task};
+use cm_bits::Field;
+use cm_lab::{Form, Format, Look, Order, Shown, Table, Tag, Task};
 use std::alloc::Global;
 
 /// The words of the task of a command.
@@ -142,54 +146,130 @@ fn read_filled<'a>(
     })
 }
 
-/// A picture is in one of the formats, the raw one where none is named.
+/// Options, and what a picture shows.
 fn read_picturing<'a>(alloc: Global, words: &[&'a str]) -> Result<Asked<'a>, CommandFault>
     ensures value { IfOk result (λ asked. picturing (texts words.now) ≡ Ok (task_asked asked)) }
     ensures refused { IfErr result (Tells (picturing (texts words.now))) }
 {
-    let Some((first, rest)) = words.split_first() else {
-        return Err(CommandFault::Words);
+    let plain = Look {
+        format: Format::Netpbm(Form::Raw),
+        scale: 1,
+        is_by_dots: false,
     };
-    match *first {
-        "--plain" => read_picture_in(alloc, Format::Netpbm(Form::Plain), rest),
-        "--png" => read_picture_in(alloc, Format::Png, rest),
-        _ => read_picture_in(alloc, Format::Netpbm(Form::Raw), words),
-    }
+    read_looked_at(alloc, plain, words)
 }
 
-/// A picture in a format, by the words that say what it shows.
-fn read_picture_in<'a>(
+/// The same, from a look on that options have said.
+fn read_looked_at<'a>(
     alloc: Global,
-    format: Format,
+    look: Look,
     words: &[&'a str],
 ) -> Result<Asked<'a>, CommandFault>
-    ensures value { IfOk result (λ asked. picture_in format (texts words.now) ≡ Ok (task_asked asked)) }
-    ensures refused { IfErr result (Tells (picture_in format (texts words.now))) }
+    ensures value { IfOk result (λ asked. looked_at look (texts words.now) ≡ Ok (task_asked asked)) }
+    ensures refused { IfErr result (Tells (looked_at look (texts words.now))) }
 {
     match words {
-        [image, what] => {
-            if *what == "buffers" {
-                Ok(pictured(Shown::Buffers, format, image))
+        [option, word, after @ ..] => {
+            if is_sign(option) {
+                read_looked_at(alloc, with_sign(look, option), &words[1..])
+            } else if is_setting(option) {
+                let changed = with_setting(alloc, look, option, word)?;
+                read_looked_at(alloc, changed, after)
             } else {
-                Err(CommandFault::Words)
-            }
-        }
-        [image, at, len] => {
-            if *at == "flag" {
-                read_flag_pictured(alloc, format, image, len)
-            } else {
-                read_field_pictured(alloc, format, image, at, len)
+                read_picture_in(alloc, look, words)
             }
         }
         _ => Err(CommandFault::Words),
     }
 }
 
-fn pictured<'a>(shown: Shown, format: Format, image: &'a str) -> Asked<'a>
-    ensures { task_asked result ≡ told_of (Task.Show shown format) image.now Nothing }
+/// Whether it is an option of a picture that stands alone.
+pub(crate) fn is_sign(option: &str) -> bool
+    ensures { result ≡ is_sign option.now }
+{
+    option == "--plain" || option == "--png" || option == "--greatest"
+}
+
+/// What such an option says.
+fn with_sign(look: Look, option: &str) -> Look
+    ensures { result ≡ with_sign look option.now }
+{
+    match option {
+        "--plain" => Look {
+            format: Format::Netpbm(Form::Plain),
+            ..look
+        },
+        "--png" => Look {
+            format: Format::Png,
+            ..look
+        },
+        _ => Look {
+            is_by_dots: true,
+            ..look
+        },
+    }
+}
+
+/// Whether it is an option of a picture behind which a word stands.
+pub(crate) fn is_setting(option: &str) -> bool
+    ensures { result ≡ is_setting option.now }
+{
+    option == "--scale" || option == "--palette"
+}
+
+/// What such an option says with its word.
+fn with_setting(alloc: Global, look: Look, option: &str, word: &str) -> Result<Look, CommandFault>
+    ensures value { IfOk result (λ changed. with_setting look option.now word.now ≡ Ok changed) }
+    ensures refused { IfErr result (Tells (with_setting look option.now word.now)) }
+{
+    match option {
+        "--scale" => {
+            let scale = scale(alloc, word)?;
+            Ok(Look { scale, ..look })
+        }
+        _ => {
+            let palette = palette(alloc, word)?;
+            Ok(Look {
+                format: Format::Colours(palette),
+                ..look
+            })
+        }
+    }
+}
+
+/// A picture by the words that say what it shows.
+fn read_picture_in<'a>(
+    alloc: Global,
+    look: Look,
+    words: &[&'a str],
+) -> Result<Asked<'a>, CommandFault>
+    ensures value { IfOk result (λ asked. picture_in look (texts words.now) ≡ Ok (task_asked asked)) }
+    ensures refused { IfErr result (Tells (picture_in look (texts words.now))) }
+{
+    match words {
+        [image, what] => {
+            if *what == "buffers" {
+                Ok(pictured(Shown::Buffers, look, image))
+            } else {
+                Err(CommandFault::Words)
+            }
+        }
+        [image, at, len] => {
+            if *at == "flag" {
+                read_flag_pictured(alloc, look, image, len)
+            } else {
+                read_field_pictured(alloc, look, image, at, len)
+            }
+        }
+        _ => Err(CommandFault::Words),
+    }
+}
+
+fn pictured<'a>(shown: Shown, look: Look, image: &'a str) -> Asked<'a>
+    ensures { task_asked result ≡ told_of (Task.Show shown look) image.now Nothing }
 {
     Asked {
-        task: Task::Show(shown, format),
+        task: Task::Show(shown, look),
         image,
         given: Given::Nothing,
         out: None,
@@ -198,29 +278,46 @@ fn pictured<'a>(shown: Shown, format: Format, image: &'a str) -> Asked<'a>
 
 fn read_flag_pictured<'a>(
     alloc: Global,
-    format: Format,
+    look: Look,
     image: &'a str,
     number: &str,
 ) -> Result<Asked<'a>, CommandFault>
-    ensures value { IfOk result (λ asked. flag_pictured format image.now number.now ≡ Ok (task_asked asked)) }
-    ensures refused { IfErr result (Tells (flag_pictured format image.now number.now)) }
+    ensures value { IfOk result (λ asked. flag_pictured look image.now number.now ≡ Ok (task_asked asked)) }
+    ensures refused { IfErr result (Tells (flag_pictured look image.now number.now)) }
 {
     let flag = flag(alloc, number)?;
-    Ok(pictured(Shown::Flag(flag), format, image))
+    Ok(pictured(Shown::Flag(flag), look, image))
 }
 
 fn read_field_pictured<'a>(
     alloc: Global,
-    format: Format,
+    look: Look,
     image: &'a str,
     at: &str,
     len: &str,
 ) -> Result<Asked<'a>, CommandFault>
-    ensures value { IfOk result (λ asked. field_pictured format image.now at.now len.now ≡ Ok (task_asked asked)) }
-    ensures refused { IfErr result (Tells (field_pictured format image.now at.now len.now)) }
+    ensures value { IfOk result (λ asked. field_pictured look image.now at.now len.now ≡ Ok (task_asked asked)) }
+    ensures refused { IfErr result (Tells (field_pictured look image.now at.now len.now)) }
 {
     let field = field(alloc, at, len)?;
-    Ok(pictured(Shown::Number(field), format, image))
+    read_span_pictured(alloc, look, image, len, field)
+}
+
+/// A picture has numbers of at most 16 bits.
+fn read_span_pictured<'a>(
+    alloc: Global,
+    look: Look,
+    image: &'a str,
+    len: &str,
+    field: Field,
+) -> Result<Asked<'a>, CommandFault>
+    ensures value { IfOk result (λ asked. span_pictured look image.now len.now field ≡ Ok (task_asked asked)) }
+    ensures refused { IfErr result (Tells (span_pictured look image.now len.now field)) }
+{
+    if field.len() > 16 {
+        return Err(CommandFault::operand(alloc, Operand::Depth, len));
+    }
+    Ok(pictured(Shown::Number(field), look, image))
 }
 
 fn read_painting<'a>(alloc: Global, words: &[&'a str]) -> Result<Asked<'a>, CommandFault>

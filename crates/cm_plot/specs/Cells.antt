@@ -1,8 +1,29 @@
 -- The cells of a table's line, and their numbers, which are counted in thousandths. Ours.
 use Rattle.std.specs.Prelude.{ℕ, ◌+◌, ◌-◌, ◌*◌, ◌^◌, ◌==◌, ◌&&◌, ◌||◌, not, Bool, nat_le, nat_lt, if◌then◌else◌, Option, Some, None}
-use Rattle.std.specs.Prelude.{List, [], ◌∷◌, ◌++◌, take, length, is_some, codes}
-use Rattle.std.specs.List.{flat_map, list_all, slice_get, slice_split, before_first, after_first}
+use Rattle.std.specs.Prelude.{List, [], ◌∷◌, ◌++◌, take, drop, length, is_some, codes}
+use Rattle.std.specs.Char.{is_ascii_whitespace}
+use Rattle.std.specs.List.{flat_map, list_all, slice_get, slice_split, before_first, after_first, prefix_len, suffix_len}
 use Rattle.cm_bits.specs.Text.{has_bytes, number_of}
+
+-- ---- blanks
+
+-- the bytes from the first on that is no blank: no space, tab, CR or LF
+abbrev pub past_blanks : List ℕ → List ℕ
+past_blanks bytes = drop (prefix_len is_ascii_whitespace bytes) bytes
+
+-- the bytes up to the last that is no blank
+abbrev pub up_to_blanks : List ℕ → List ℕ
+up_to_blanks bytes = take (length bytes - suffix_len is_ascii_whitespace bytes) bytes
+
+-- without the blanks before and behind them
+unfoldable pub trimmed : List ℕ → List ℕ
+trimmed bytes = up_to_blanks (past_blanks bytes)
+
+-- a line has something but blanks
+abbrev pub has_words : List ℕ → Bool
+has_words line = has_bytes (trimmed line)
+
+-- ---- cells
 
 abbrev pub is_comma : ℕ → Bool
 is_comma byte = byte == 44
@@ -10,13 +31,14 @@ is_comma byte = byte == 44
 abbrev pub is_point : ℕ → Bool
 is_point byte = byte == 46
 
-abbrev pub bytes_or_none : Option (List ℕ) → List ℕ
-bytes_or_none None = []
-bytes_or_none (Some bytes) = bytes
+-- what stands between commas, if there is such a place
+abbrev pub trimmed_or_none : Option (List ℕ) → List ℕ
+trimmed_or_none None = []
+trimmed_or_none (Some bytes) = trimmed bytes
 
--- what stands in a column of a line, counted from 0
+-- what stands in a column of a line, counted from 0, without the blanks around it
 abbrev pub cell : List ℕ → ℕ → List ℕ
-cell line c = bytes_or_none (slice_get (slice_split is_comma line) c)
+cell line c = trimmed_or_none (slice_get (slice_split is_comma line) c)
 
 abbrev pub is_decimal : ℕ → Bool
 is_decimal byte = nat_lt 47 byte && nat_lt byte 58
@@ -25,20 +47,19 @@ is_decimal byte = nat_lt 47 byte && nat_lt byte 58
 abbrev pub digits_of : List ℕ → Option ℕ
 digits_of bytes = if list_all is_decimal bytes then number_of bytes else None
 
--- how many thousandths the last of so many digits behind a point counts
-abbrev pub scale : ℕ → ℕ
-scale count = if count == 1 then 100 else (if count == 2 then 10 else 1)
+-- a digit behind a point, or 0 where there is none
+abbrev pub digit_or_zero : Option ℕ → ℕ
+digit_or_zero None = 0
+digit_or_zero (Some digit) = digit - 48
 
--- so many thousandths, if there is a number
-abbrev pub scaled : ℕ → Option ℕ → Option ℕ
-scaled k None = None
-scaled k (Some x) = Some (k * x)
+-- the thousandths that digits behind a point count: what stands behind the third is less than one
+abbrev pub thousandths_of : List ℕ → ℕ
+thousandths_of digits =
+    100 * digit_or_zero (slice_get digits 0) + 10 * digit_or_zero (slice_get digits 1) + digit_or_zero (slice_get digits 2)
 
--- the thousandths behind a point: at most three digits
+-- the thousandths behind a point, if nothing but digits stands there
 abbrev pub part_of : List ℕ → Option ℕ
-part_of digits =
-    if has_bytes digits
-    then (if nat_lt 3 (length digits) then None else scaled (scale (length digits)) (digits_of digits)) else Some 0
+part_of digits = if list_all is_decimal digits then Some (thousandths_of digits) else None
 
 -- whole ones and thousandths, below 2^63 in all
 abbrev pub joined : Option ℕ → Option ℕ → Option ℕ
@@ -46,9 +67,15 @@ joined None part = None
 joined (Some whole) None = None
 joined (Some whole) (Some part) = if nat_lt (1000 * whole + part) (2 ^ 63) then Some (1000 * whole + part) else None
 
--- the number of a cell, in thousandths: digits, and maybe a point and at most three digits
+-- the number of a cell, in thousandths, rounded down: digits, and maybe a point and more digits
 unfoldable pub number_in : List ℕ → Option ℕ
 number_in bytes = joined (digits_of (before_first is_point bytes)) (part_of (after_first is_point bytes))
+
+-- a cell is written as a number, which may be too large
+abbrev pub is_written : List ℕ → Bool
+is_written bytes =
+    has_bytes (before_first is_point bytes) && list_all is_decimal (before_first is_point bytes)
+    && list_all is_decimal (after_first is_point bytes)
 
 -- a cell has a number, or nothing
 abbrev pub is_cell : List ℕ → Bool
@@ -57,10 +84,6 @@ is_cell bytes = not (has_bytes bytes) || is_some (number_in bytes)
 -- how many cells a line has
 abbrev pub width_of : List ℕ → ℕ
 width_of line = length (slice_split is_comma line)
-
--- a line is a row of a table of so many columns
-abbrev pub is_row : ℕ → List ℕ → Bool
-is_row columns line = width_of line == columns && list_all is_cell (slice_split is_comma line)
 
 -- ---- names
 

@@ -7,6 +7,7 @@ pub mod Panels
 pub mod Pictures
 pub mod Pieces
 pub mod Points
+pub mod Rows
 pub mod Shown
 pub mod Standing
 pub mod Ticks

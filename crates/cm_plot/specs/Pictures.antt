@@ -1,5 +1,6 @@
 -- The picture of a table, as an SVG. Ours.
-use Rattle.std.specs.Prelude.{ℕ, ◌+◌, ◌*◌, ◌-◌, Bool, true, false, min, Option, Some, None, Result, Ok, Err, List, [], ◌∷◌, ◌++◌, codes}
+use Rattle.std.specs.Prelude.{ℕ, ◌+◌, ◌*◌, ◌-◌, Bool, true, false, min, if◌then◌else◌, Result, Ok, Err}
+use Rattle.std.specs.Prelude.{List, [], ◌∷◌, ◌++◌, codes}
 use Rattle.cm_bits.specs.Text.{lines_of}
 use Rattle.cm_plot.specs.declared.panels.Frame.{Frame}
 use Rattle.cm_plot.specs.declared.panels.Panel.{Panel}
@@ -7,14 +8,15 @@ use Rattle.cm_plot.specs.declared.panels.Panel.TheVariants.{Moved, Held, Latency
 use Rattle.cm_plot.specs.declared.points.Kind.{Kind}
 use Rattle.cm_plot.specs.declared.points.Kind.TheVariants.{Cycles, Messages, Loads, Compared}
 use Rattle.cm_plot.specs.declared.points.Point.{Point}
-use Rattle.cm_plot.specs.declared.points.PlotFault.{PlotFault}
-use Rattle.cm_plot.specs.declared.points.PlotFault.TheVariants.{Unknown, Nothing}
+use Rattle.cm_plot.specs.declared.fault.PlotFault.{PlotFault}
+use Rattle.cm_plot.specs.declared.fault.PlotFault.TheVariants.{Empty, NoDelivery, NoPoint}
 use Rattle.cm_plot.specs.Axes.{axis_of, highest, leftmost, rightmost}
 use Rattle.cm_plot.specs.Bins.{bins}
-use Rattle.cm_plot.specs.Cells.{width_of}
+use Rattle.cm_plot.specs.Cells.{has_words, width_of}
 use Rattle.cm_plot.specs.Heads.{head_text, title_of}
 use Rattle.cm_plot.specs.Panels.{panel_text}
 use Rattle.cm_plot.specs.Points.{kind_of, points_after}
+use Rattle.cm_plot.specs.Rows.{◌>>=◌}
 use Rattle.cm_plot.specs.Shown.{first_of, count_of, unit_of}
 
 -- ---- words
@@ -86,21 +88,34 @@ drawn_points Loads points = points
 drawn_points Compared points = points
 drawn_points Messages points = bins points
 
--- the picture of a table's points, if its rows are such and there are any
-abbrev pub of_points : Kind → List ℕ → Result (List Point) PlotFault → Result (List ℕ) PlotFault
-of_points kind header (Err fault) = Err fault
-of_points kind header (Ok []) = Err Nothing
-of_points kind header (Ok (point ∷ points)) =
+-- what is missing where a table has no point
+abbrev pub nothing_of : Kind → PlotFault
+nothing_of Cycles = NoPoint
+nothing_of Messages = NoDelivery
+nothing_of Loads = NoPoint
+nothing_of Compared = NoPoint
+
+-- the picture of a table's points, if there are any
+abbrev pub of_points : Kind → List ℕ → List Point → Result (List ℕ) PlotFault
+of_points kind header [] = Err (nothing_of kind)
+of_points kind header (point ∷ points) =
     Ok (drawing kind header (start_of kind point.x) (drawn_points kind (point ∷ points)))
 
-abbrev pub of_kind : List ℕ → List (List ℕ) → Option Kind → Result (List ℕ) PlotFault
-of_kind header lines None = Err Unknown
-of_kind header lines (Some kind) = of_points kind header (points_after kind (width_of header) 2 [] lines)
+-- the picture of a table of this kind, whose first line has this number, and of the lines behind it
+abbrev pub of_kind : ℕ → List ℕ → List (List ℕ) → Kind → Result (List ℕ) PlotFault
+of_kind number header lines kind =
+    points_after kind (width_of header) (number + 1) [] lines >>= λ points. of_points kind header points
 
-abbrev pub of_lines : List (List ℕ) → Result (List ℕ) PlotFault
-of_lines [] = Err Unknown
-of_lines (header ∷ lines) = of_kind header lines (kind_of header)
+-- the picture of a table with this first line, which has this number
+abbrev pub of_header : ℕ → List ℕ → List (List ℕ) → Result (List ℕ) PlotFault
+of_header number header lines = kind_of number header >>= λ kind. of_kind number header lines kind
+
+-- the picture of the lines from this number on, of which the first that is not blank is that of a table
+unfoldable pub of_lines : ℕ → List (List ℕ) → Result (List ℕ) PlotFault
+of_lines number [] = Err Empty
+of_lines number (line ∷ lines) =
+    if has_words line then of_header number line lines else of_lines (number + 1) lines
 
 -- the picture of a text that is a table, or its first fault
 unfoldable pub picture_of : List ℕ → Result (List ℕ) PlotFault
-picture_of text = of_lines (lines_of text)
+picture_of text = of_lines 1 (lines_of text)

@@ -1,26 +1,32 @@
 -- The points of a table: what its numbers say, to the right and upward. Ours.
-use Rattle.std.specs.Prelude.{ℕ, ◌+◌, ◌-◌, ◌&&◌, Bool, nat_eq, nat_le, if◌then◌else◌, Option, Some, None}
-use Rattle.std.specs.Prelude.{Result, Ok, Err, List, [], ◌∷◌, ◌++◌, codes, bytes_eq}
+use Rattle.std.specs.Prelude.{ℕ, ◌+◌, ◌-◌, Bool, nat_eq, nat_le, if◌then◌else◌, Option, Some, None, Result, Ok, Err}
+use Rattle.std.specs.Prelude.{List, [], ◌∷◌, ◌++◌, codes}
 use Rattle.std.specs.List.{flat_map, range_with_len, starts_with}
-use Rattle.cm_plot.specs.Cells.{cell, number_in, is_row, width_of}
+use Rattle.cm_plot.specs.Cells.{cell, has_words, number_in, width_of}
 use Rattle.cm_plot.specs.declared.points.Kind.{Kind}
 use Rattle.cm_plot.specs.declared.points.Kind.TheVariants.{Cycles, Messages, Loads, Compared}
 use Rattle.cm_plot.specs.declared.points.Point.{Point}
-use Rattle.cm_plot.specs.declared.points.PlotFault.{PlotFault}
-use Rattle.cm_plot.specs.declared.points.PlotFault.TheVariants.{Row}
+use Rattle.cm_plot.specs.declared.fault.PlotFault.{PlotFault}
+use Rattle.cm_plot.specs.declared.fault.PlotFault.TheVariants.{Unknown, Wide}
+use Rattle.cm_plot.specs.Rows.{◌>>=◌, has_names, row_fault, value_unless}
 
--- a first line of rates, and at most nine columns beside them
-abbrev pub is_compared : List ℕ → Bool
-is_compared header = starts_with nat_eq header (codes "rate") && nat_le (width_of header) 10
+-- a first line of rates
+abbrev pub is_of_rates : List ℕ → Bool
+is_of_rates header = starts_with nat_eq (cell header 0) (codes "rate")
 
--- which table a text is, by its first line: of petit cycles, of messages, of loads, of loads that are compared
-abbrev pub kind_of : List ℕ → Option Kind
-kind_of header =
-    if bytes_eq header (codes "cycle,taken,delivered,referred,standing,full,asking") then Some Cycles
-    else (if bytes_eq header (codes "chip,processor,taken,to chip,to processor,delivered,crossed,referred")
-    then Some Messages
-    else (if bytes_eq header (codes "rate,offered,taken,delivered,throughput,mean,p95,greatest,deepest")
-    then Some Loads else (if is_compared header then Some Compared else None)))
+-- beside rates at most nine columns are compared
+abbrev pub compared : ℕ → ℕ → Result Kind PlotFault
+compared number columns = if nat_le columns 10 then Ok Compared else Err (Wide number columns)
+
+-- which table a text is, by its first line that is not blank, which has this number: of petit cycles, of messages, of
+-- loads, of loads that are compared
+abbrev pub kind_of : ℕ → List ℕ → Result Kind PlotFault
+kind_of number header =
+    if has_names header (codes "cycle,taken,delivered,referred,standing,full,asking") then Ok Cycles
+    else (if has_names header (codes "chip,processor,taken,to chip,to processor,delivered,crossed,referred")
+    then Ok Messages
+    else (if has_names header (codes "rate,offered,taken,delivered,throughput,mean,p95,greatest,deepest")
+    then Ok Loads else (if is_of_rates header then compared number (width_of header) else Err (Unknown number))))
 
 -- a point of a column, where two numbers are there
 abbrev pub point_of : ℕ → Option ℕ → Option ℕ → List Point
@@ -50,9 +56,14 @@ row_points Loads columns line = flat_map (point_in line) (range_with_len 1 (colu
 row_points Compared columns line = flat_map (point_in line) (range_with_len 1 (columns - 1))
 row_points Messages columns line = message_of (number_in (cell line 2)) (number_in (cell line 5))
 
--- the points so far and those of the lines from this one on, of which each has to be a row
+-- the points so far and those of a line, which has this number; a blank line has none
+abbrev pub points_with : Kind → ℕ → ℕ → List Point → List ℕ → Result (List Point) PlotFault
+points_with kind columns number points line =
+    if has_words line then value_unless (row_fault columns number line) (points ++ row_points kind columns line)
+    else Ok points
+
+-- the points so far and those of the lines from this one on, or the first fault of these
 unfoldable pub points_after : Kind → ℕ → ℕ → List Point → List (List ℕ) → Result (List Point) PlotFault
 points_after kind columns number points [] = Ok points
 points_after kind columns number points (line ∷ lines) =
-    if is_row columns line then points_after kind columns (number + 1) (points ++ row_points kind columns line) lines
-    else Err (Row number columns)
+    points_with kind columns number points line >>= λ more. points_after kind columns (number + 1) more lines

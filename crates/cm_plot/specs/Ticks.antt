@@ -1,5 +1,5 @@
 -- The ticks of a panel and their numbers. Ours.
-use Rattle.std.specs.Prelude.{ℕ, ◌+◌, ◌-◌, ◌*◌, nat_le, if◌then◌else◌, List, [], ◌++◌, codes}
+use Rattle.std.specs.Prelude.{ℕ, ◌+◌, ◌-◌, ◌*◌, nat_le, nat_lt, if◌then◌else◌, List, [], ◌++◌, codes}
 use Rattle.std.specs.List.{flat_map, range_with_len}
 use Rattle.cm_plot.specs.declared.axes.Axis.{Axis}
 use Rattle.cm_plot.specs.declared.panels.Frame.{Frame}
@@ -23,17 +23,30 @@ up_tick axis k =
     then up_text (2400 - tick_at axis 2400 k) ++ number_text (axis.low + k * axis.step) ++ codes "</text>\n"
     else []
 
--- a line at this place from the left, and how its number begins
-unfoldable pub across_text : ℕ → List ℕ
-across_text x =
-    piece (codes "<path stroke='#ddd' stroke-width='8' d='M") x ++ piece (codes " 0v2400'/><text y='2600' x='") x
+-- a line at this place from the left, and how its number begins, which stands at another
+unfoldable pub across_text : ℕ → ℕ → List ℕ
+across_text x at =
+    piece (codes "<path stroke='#ddd' stroke-width='8' d='M") x ++ piece (codes " 0v2400'/><text y='2600' x='") at
     ++ codes "'>"
 
 -- the k-th tick to the right
 unfoldable pub across_tick : Axis → ℕ → List ℕ
 across_tick axis k =
     if nat_le (k * axis.step) axis.span
-    then across_text (tick_at axis 5600 k) ++ number_text (axis.low + k * axis.step) ++ codes "</text>\n"
+    then across_text (tick_at axis 5600 k) (tick_at axis 5600 k) ++ number_text (axis.low + k * axis.step)
+    ++ codes "</text>\n"
+    else []
+
+-- where the middle of the petit cycle stands that begins at the k-th tick
+abbrev pub middle_at : Axis → ℕ → ℕ
+middle_at axis k = along axis (axis.low + k * axis.step + 500) 5600
+
+-- the k-th tick to the right, where a petit cycle begins, and its number in its middle; none begins at the end
+unfoldable pub cycle_tick : Axis → ℕ → List ℕ
+cycle_tick axis k =
+    if nat_lt (k * axis.step) axis.span
+    then across_text (tick_at axis 5600 k) (middle_at axis k) ++ number_text (axis.low + k * axis.step)
+    ++ codes "</text>\n"
     else []
 
 -- all ticks: there are at most twelve

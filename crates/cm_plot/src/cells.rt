@@ -1,9 +1,10 @@
 //! The cells of a table's line.
 
 ghost use Rattle.std.specs.Prelude.{◌≡◌, ◌<◌, ◌≤◌, ◌^◌, ◌++◌, ◌==◌, IfSome, OnOk, length};
-ghost use Rattle.std.specs.List.{position_or_len, after_first};
-ghost use Rattle.cm_plot.specs.Cells.{is_decimal, cell, digits_of, scaled, part_of, joined, number_in};
-ghost use Rattle.cm_plot.specs.Cells.{is_cell, width_of, is_row, escaped, escaped_byte, shortened};
+ghost use Rattle.std.specs.List.{position_or_len, after_first, before_first, list_all, slice_get};
+ghost use Rattle.cm_plot.specs.Cells.{trimmed, has_words, is_point, is_decimal, cell, digits_of, digit_or_zero};
+ghost use Rattle.cm_plot.specs.Cells.{part_of, joined, number_in, is_written, is_cell, width_of};
+ghost use Rattle.cm_plot.specs.Cells.{escaped, escaped_byte, shortened};
 
 use cm_bits::{NoMemory, read_number};
 use cm_digits::push_words;
@@ -16,21 +17,29 @@ pub(crate) fn width(line: &[u8]) -> usize
     line.split(|byte| *byte == b',').count()
 }
 
-/// Whether it is a row of a table of so many columns.
-pub(crate) fn is_row(columns: usize, line: &[u8]) -> bool
-    ensures value { result ≡ is_row columns line.now }
-{
-    width(line) == columns && line.split(|byte| *byte == b',').all(|cell| is_cell(cell))
-}
-
-/// What stands in a column of a line, counted from 0; nothing where it has no such.
+/// What stands in a column of a line, counted from 0, without the blanks around it; nothing where it has no such.
 pub fn cell(line: &[u8], column: usize) -> &[u8]
     ensures value { result.now ≡ cell line.now column }
 {
     match line.split(|byte| *byte == b',').nth(column) {
-        Some(cell) => cell,
+        Some(cell) => trim(cell),
         None => &[],
     }
+}
+
+/// The bytes without the blanks before and behind them.
+#[tactic(auto, unfolding(crate::specs::Cells::trimmed))]
+pub fn trim(bytes: &[u8]) -> &[u8]
+    ensures value { result.now ≡ trimmed bytes.now }
+{
+    bytes.trim_ascii()
+}
+
+/// Whether a line has something but blanks.
+pub fn has_words(line: &[u8]) -> bool
+    ensures value { result ≡ has_words line.now }
+{
+    !trim(line).is_empty()
 }
 
 /// The number of a column, in thousandths.
@@ -42,22 +51,36 @@ pub(crate) fn number_at(line: &[u8], column: usize) -> Option<u64>
 }
 
 /// Whether there is a number, or nothing.
-fn is_cell(bytes: &[u8]) -> bool
+pub(crate) fn is_cell(bytes: &[u8]) -> bool
     ensures value { result ≡ is_cell bytes.now }
 {
     bytes.is_empty() || number(bytes).is_some()
 }
 
-/// The number of a cell, in thousandths.
+/// Whether it is written as a number, which may be too large.
+pub(crate) fn is_written(bytes: &[u8]) -> bool
+    ensures value { result ≡ is_written bytes.now }
+{
+    let whole = whole(bytes);
+    !whole.is_empty() && are_decimal(whole) && are_decimal(behind(b'.', bytes))
+}
+
+/// The number of a cell, in thousandths, rounded down.
 #[tactic(auto, unfolding(crate::specs::Cells::number_in))]
 fn number(bytes: &[u8]) -> Option<u64>
     ensures value { result ≡ number_in bytes.now }
     ensures within { IfSome result (λ number. number < 2 ^ 63) }
 {
-    let at = place(b'.', bytes);
-    let whole = number_of(&bytes[..at]);
+    let whole = number_of(whole(bytes));
     let part = part(behind(b'.', bytes));
     joined(whole, part)
+}
+
+/// What stands before the point.
+fn whole(bytes: &[u8]) -> &[u8]
+    ensures value { result.now ≡ before_first is_point bytes.now }
+{
+    &bytes[..place(b'.', bytes)]
 }
 
 /// The place of the first such byte, or the length.
@@ -84,12 +107,11 @@ pub fn behind(byte: u8, bytes: &[u8]) -> &[u8]
 }
 
 /// Whole ones and thousandths, below 2^63 in all.
-fn joined(whole: Option<u64>, part: Option<u128>) -> Option<u64>
-    requires part { IfSome part (λ part. part < 2 ^ 72) }
+fn joined(whole: Option<u64>, part: Option<u64>) -> Option<u64>
     ensures value { result ≡ joined whole part }
     ensures within { IfSome result (λ number. number < 2 ^ 63) }
 {
-    let number = 1000 * u128::from(whole?) + part?;
+    let number = 1000 * u128::from(whole?) + u128::from(part?);
     if number < 1 << 63 {
         Some(number as u64)
     } else {
@@ -97,39 +119,42 @@ fn joined(whole: Option<u64>, part: Option<u128>) -> Option<u64>
     }
 }
 
-/// The thousandths behind a point.
-fn part(digits: &[u8]) -> Option<u128>
+/// The thousandths behind a point, rounded down.
+fn part(digits: &[u8]) -> Option<u64>
     ensures value { result ≡ part_of digits.now }
-    ensures within { IfSome result (λ part. part < 2 ^ 72) }
 {
-    match digits.len() {
-        0 => Some(0),
-        1 => scaled(100, digits),
-        2 => scaled(10, digits),
-        3 => scaled(1, digits),
-        _ => None,
+    if !are_decimal(digits) {
+        return None;
     }
+    Some(100 * digit(digits, 0) + 10 * digit(digits, 1) + digit(digits, 2))
 }
 
-/// So many thousandths for each that digits count.
-fn scaled(thousandths: u64, digits: &[u8]) -> Option<u128>
-    requires few { thousandths ≤ 100 }
-    ensures value { result ≡ scaled thousandths (digits_of digits.now) }
-    ensures within { IfSome result (λ part. part < 2 ^ 72) }
+/// The digit at a place, or 0 where there is none.
+fn digit(digits: &[u8], place: usize) -> u64
+    ensures value { result ≡ digit_or_zero (slice_get digits.now place) }
+    ensures within { result < 256 }
 {
-    let number = number_of(digits)?;
-    Some(u128::from(thousandths) * u128::from(number))
+    match digits.get(place) {
+        Some(digit) => u64::from(digit.saturating_sub(b'0')),
+        None => 0,
+    }
 }
 
 /// The number that decimal digits write.
 fn number_of(bytes: &[u8]) -> Option<u64>
     ensures value { result ≡ digits_of bytes.now }
 {
-    if bytes.iter().all(|byte| is_decimal(*byte)) {
+    if are_decimal(bytes) {
         read_number(bytes)
     } else {
         None
     }
+}
+
+fn are_decimal(bytes: &[u8]) -> bool
+    ensures value { result ≡ list_all is_decimal bytes.now }
+{
+    bytes.iter().all(|byte| is_decimal(*byte))
 }
 
 fn is_decimal(byte: u8) -> bool

@@ -5,22 +5,25 @@
 mod axes;
 mod bins;
 mod cells;
+mod fault;
 mod laws;
 mod lines;
 mod panels;
 mod pictures;
 mod pieces;
 mod points;
+mod rows;
 mod ticks;
 
 pub use axes::{Axis, along, axis_of};
-pub use cells::{behind, cell, place};
+pub use cells::{behind, cell, has_words, place, trim};
+pub use fault::PlotFault;
 pub use laws::{
-    axes_have_round_ticks, axes_join_their_numbers, names_are_shown_so,
-    points_stand_on_their_panels, rows_tell_points,
+    axes_have_round_ticks, axes_join_their_numbers, first_lines_tell_tables, names_are_shown_so,
+    petit_cycles_have_their_numbers, points_stand_on_their_panels, rows_have_faults,
+    rows_tell_points,
 };
 pub use lines::{colour, push_circle, push_line_open, push_name};
 pub use panels::{push_place, push_sides};
 pub use pictures::{plot, push_head};
-pub use points::PlotFault;
-pub use ticks::{push_across_ticks, push_up};
+pub use ticks::{push_cycle_ticks, push_up};

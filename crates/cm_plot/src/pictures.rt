@@ -1,18 +1,19 @@
 //! The picture of a table.
 
-ghost use Rattle.std.specs.Prelude.{◌≡◌, ◌≢◌, ◌++◌, ◌<◌, ◌≤◌, Some, Ok, Err, IfOk, IfErr, OnOk};
+ghost use Rattle.std.specs.Prelude.{◌≡◌, ◌≢◌, ◌++◌, ◌<◌, ◌≤◌, Ok, Err, IfOk, IfErr, OnOk};
 ghost use Rattle.cm_bits.specs.Text.{lines_left};
 ghost use Rattle.cm_plot.specs.Heads.{title_of, size_text, ground_text, title_text, head_text};
-ghost use Rattle.cm_plot.specs.Points.{kind_of};
 ghost use Rattle.cm_plot.specs.Pictures.{across_of, right_unit, has_stems, frame_of, shown, panels_text, panel_count};
-ghost use Rattle.cm_plot.specs.Pictures.{drawing, start_of, drawn_points, of_points, of_kind, picture_of};
+ghost use Rattle.cm_plot.specs.Pictures.{drawing, start_of, drawn_points, nothing_of, of_points, of_kind, of_header};
+ghost use Rattle.cm_plot.specs.Pictures.{picture_of};
 ghost use Rattle.cm_plot.specs.Shown.{count_of, CanBeDrawn};
 
 use crate::axes::{axis_of, highest, leftmost, rightmost};
 use crate::bins::bins;
-use crate::cells::width;
+use crate::cells::{has_words, width};
+use crate::fault::PlotFault;
 use crate::panels::{Frame, Panel, push_panel};
-use crate::points::{Kind, PlotFault, Point, kind_of, read_points};
+use crate::points::{Kind, Point, kind_of, read_points};
 use cm_bits::{Lines, NoMemory};
 use cm_digits::{push_piece, push_words};
 use std::alloc::Global;
@@ -24,37 +25,49 @@ pub fn plot(alloc: Global, text: &[u8]) -> Result<Vec<u8>, PlotFault>
     ensures refused { IfErr result (λ fault. fault ≢ PlotFault.Memory → picture_of text.now ≡ Err fault) }
 {
     let mut lines = Lines::new(text);
-    match lines.next() {
-        Some(header) => plot_table(alloc, header, lines),
-        None => Err(PlotFault::Unknown),
+    for number in 1..u64::MAX {
+        let Some(line) = lines.next() else {
+            return Err(PlotFault::Empty);
+        };
+        if has_words(line) {
+            return plot_table(alloc, number, line, lines);
+        }
     }
+    Err(PlotFault::Memory)
 }
 
-/// The picture of these lines behind the first, if that is of a table.
-fn plot_table(alloc: Global, header: &[u8], lines: Lines<'_>) -> Result<Vec<u8>, PlotFault>
-    ensures value { IfOk result (λ picture. of_kind header.now (lines_left lines.entry) (kind_of header.now)
-        ≡ Ok picture.items) }
+/// The picture of these lines behind the first, which has this number, if that is of a table.
+fn plot_table(
+    alloc: Global,
+    number: u64,
+    header: &[u8],
+    lines: Lines<'_>,
+) -> Result<Vec<u8>, PlotFault>
+    ensures value { IfOk result (λ picture.
+        of_header number header.now (lines_left lines.entry) ≡ Ok picture.items) }
     ensures refused { IfErr result (λ fault. fault ≢ PlotFault.Memory
-        → of_kind header.now (lines_left lines.entry) (kind_of header.now) ≡ Err fault) }
+        → of_header number header.now (lines_left lines.entry) ≡ Err fault) }
 {
-    match kind_of(header) {
-        Some(kind) => plot_rows(alloc, kind, header, lines),
-        None => Err(PlotFault::Unknown),
+    match kind_of(number, header) {
+        Ok(kind) => plot_rows(alloc, number, kind, header, lines),
+        Err(fault) => Err(fault),
     }
 }
 
 /// The same where it is of this one.
 fn plot_rows(
     alloc: Global,
+    number: u64,
     kind: Kind,
     header: &[u8],
     lines: Lines<'_>,
 ) -> Result<Vec<u8>, PlotFault>
-    ensures value { IfOk result (λ picture. of_kind header.now (lines_left lines.entry) (Some kind) ≡ Ok picture.items) }
+    ensures value { IfOk result (λ picture.
+        of_kind number header.now (lines_left lines.entry) kind ≡ Ok picture.items) }
     ensures refused { IfErr result (λ fault. fault ≢ PlotFault.Memory
-        → of_kind header.now (lines_left lines.entry) (Some kind) ≡ Err fault) }
+        → of_kind number header.now (lines_left lines.entry) kind ≡ Err fault) }
 {
-    match read_points(alloc, kind, width(header), lines) {
+    match read_points(alloc, kind, width(header), number, lines) {
         Ok(points) => draw_points(alloc, kind, header, points),
         Err(fault) => Err(fault),
     }
@@ -67,16 +80,26 @@ fn draw_points(
     header: &[u8],
     points: Vec<Point>,
 ) -> Result<Vec<u8>, PlotFault>
-    ensures value { IfOk result (λ picture. of_points kind header.now (Ok points.items) ≡ Ok picture.items) }
+    ensures value { IfOk result (λ picture. of_points kind header.now points.items ≡ Ok picture.items) }
     ensures refused { IfErr result (λ fault. fault ≢ PlotFault.Memory
-        → of_points kind header.now (Ok points.items) ≡ Err fault) }
+        → of_points kind header.now points.items ≡ Err fault) }
 {
     let Some(first) = points.first() else {
-        return Err(PlotFault::Nothing);
+        return Err(nothing_of(kind));
     };
     let start = start_of(kind, first.x);
     let points = drawn_points(alloc, kind, points)?;
     Ok(drawing(alloc, kind, header, start, &points)?)
+}
+
+/// What is missing where a table has no point.
+fn nothing_of(kind: Kind) -> PlotFault
+    ensures value { result ≡ nothing_of kind }
+{
+    match kind {
+        Kind::Messages => PlotFault::NoDelivery,
+        Kind::Cycles | Kind::Loads | Kind::Compared => PlotFault::NoPoint,
+    }
 }
 
 /// Where the axis to the right begins at the latest.

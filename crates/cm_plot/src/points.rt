@@ -1,43 +1,17 @@
 //! The points of a table.
 
-ghost use Rattle.std.specs.Prelude.{◌≡◌, ◌≢◌, ◌++◌, ◌∷◌, [], ◌-◌, ◌<◌, ◌^◌, Ok, Err, IfOk, IfErr, IfSome, OnOk};
+ghost use Rattle.std.specs.Prelude.{◌≡◌, ◌≢◌, ◌++◌, ◌∷◌, [], ◌+◌, ◌-◌, ◌<◌, ◌^◌, Ok, Err, IfOk, IfErr, IfSome, OnOk};
 ghost use Rattle.std.specs.List.{flat_map, range_with_len};
 ghost use Rattle.cm_bits.specs.Text.{lines_left};
 ghost use Rattle.cm_plot.specs.Cells.{cell, number_in};
-ghost use Rattle.cm_plot.specs.Points.{is_compared, kind_of, point_of, point_in, message_of, row_points, points_after};
+ghost use Rattle.cm_plot.specs.Points.{is_of_rates, compared, kind_of, point_of, point_in, message_of, row_points};
+ghost use Rattle.cm_plot.specs.Points.{points_with, points_after};
 
-use crate::cells::{is_row, number_at, width};
+use crate::cells::{cell, has_words, number_at, width};
+use crate::fault::PlotFault;
+use crate::rows::{has_names, row_fault};
 use cm_bits::{Lines, NoMemory};
 use std::alloc::Global;
-use thiserror::Error;
-
-/// Why a text has no picture. Lines are counted from 1.
-#[derive(Clone, Copy, Debug, PartialEq, Eq, Error)]
-pub enum PlotFault {
-    #[error("line 1: no table of cm1lab study or load, no route of cm1lab route, nor a line that begins with rate")]
-    Unknown,
-    /// A line that is none of a route.
-    #[error("line {0}: no line of a route, as cm1lab route tells it")]
-    Route(u64),
-    /// A line that is no row, and how many columns the table has.
-    #[error("line {0}: not {1} numbers with commas between them, as the first line has names")]
-    Row(u64, usize),
-    #[error("nothing to plot: no number behind the first line, no message that was delivered, no petit cycle of a route")]
-    Nothing,
-    #[error("out of memory")]
-    Memory,
-}
-
-impl From<NoMemory> for PlotFault {
-    ghost use Rattle.std.specs.Prelude.{◌≡◌};
-    ghost use Rattle.cm_plot.specs.declared.points.PlotFault.TheVariants.{Memory};
-
-    ghost from_gives = { λ _ fault. fault ≡ Memory };
-
-    fn from(_: NoMemory) -> PlotFault {
-        PlotFault::Memory
-    }
-}
 
 /// The table that a text is.
 #[derive(Clone, Copy)]
@@ -60,58 +34,102 @@ pub(crate) struct Point {
     pub y: u64,
 }
 
-/// Which table it is that has this first line.
-pub(crate) fn kind_of(header: &[u8]) -> Option<Kind>
-    ensures value { result ≡ kind_of header.now }
+/// Which table it is that has this first line, whose number is told where it is none.
+pub(crate) fn kind_of(number: u64, header: &[u8]) -> Result<Kind, PlotFault>
+    ensures value { result ≡ kind_of number header.now }
 {
-    if header == b"cycle,taken,delivered,referred,standing,full,asking".as_slice() {
-        return Some(Kind::Cycles);
+    if has_names(
+        header,
+        b"cycle,taken,delivered,referred,standing,full,asking",
+    ) {
+        return Ok(Kind::Cycles);
     }
-    if header
-        == b"chip,processor,taken,to chip,to processor,delivered,crossed,referred".as_slice()
-    {
-        return Some(Kind::Messages);
+    if has_names(
+        header,
+        b"chip,processor,taken,to chip,to processor,delivered,crossed,referred",
+    ) {
+        return Ok(Kind::Messages);
     }
-    if header == b"rate,offered,taken,delivered,throughput,mean,p95,greatest,deepest".as_slice() {
-        return Some(Kind::Loads);
+    if has_names(
+        header,
+        b"rate,offered,taken,delivered,throughput,mean,p95,greatest,deepest",
+    ) {
+        return Ok(Kind::Loads);
     }
-    if is_compared(header) {
-        return Some(Kind::Compared);
+    if is_of_rates(header) {
+        return compared(number, width(header));
     }
-    None
+    Err(PlotFault::Unknown(number))
 }
 
-/// Whether it begins with rates, and has at most nine columns beside them.
-fn is_compared(header: &[u8]) -> bool
-    ensures value { result ≡ is_compared header.now }
+/// Whether it begins with rates.
+fn is_of_rates(header: &[u8]) -> bool
+    ensures value { result ≡ is_of_rates header.now }
 {
-    header.starts_with(b"rate") && width(header) <= 10
+    cell(header, 0).starts_with(b"rate")
 }
 
-/// The points of the lines behind the first, which have to be rows of so many columns.
+/// Beside rates at most nine columns are compared.
+fn compared(number: u64, columns: usize) -> Result<Kind, PlotFault>
+    ensures value { result ≡ compared number columns }
+{
+    if columns <= 10 {
+        Ok(Kind::Compared)
+    } else {
+        Err(PlotFault::Wide(number, columns))
+    }
+}
+
+/// The points of the lines behind the first, which has this number: blank ones, and rows of so many columns.
 pub(crate) fn read_points(
     alloc: Global,
     kind: Kind,
     columns: usize,
+    first: u64,
     lines: Lines<'_>,
 ) -> Result<Vec<Point>, PlotFault>
-    ensures value { IfOk result (λ points. points_after kind columns 2 [] (lines_left lines.entry) ≡ Ok points.items) }
+    ensures value { IfOk result (λ points.
+        points_after kind columns (first + 1) [] (lines_left lines.entry) ≡ Ok points.items) }
     ensures refused { IfErr result (λ fault. fault ≢ PlotFault.Memory
-        → points_after kind columns 2 [] (lines_left lines.entry) ≡ Err fault) }
+        → points_after kind columns (first + 1) [] (lines_left lines.entry) ≡ Err fault) }
 {
     let mut points = Vec::new(alloc);
-    let mut number = 2u64;
+    let mut before = first;
     for line in lines {
-        if !is_row(columns, line) {
-            return Err(PlotFault::Row(number, columns));
-        }
-        push_row(&mut points, kind, columns, line)?;
-        let Some(next) = number.checked_add(1) else {
+        let Some(number) = before.checked_add(1) else {
             return Err(PlotFault::Memory);
         };
-        number = next;
+        match push_line(&mut points, kind, columns, number, line) {
+            Ok(()) => {}
+            Err(fault) => return Err(fault),
+        }
+        before = number;
     }
     Ok(points)
+}
+
+/// The points of a line of this number; a blank line has none.
+fn push_line(
+    points: &mut Vec<Point>,
+    kind: Kind,
+    columns: usize,
+    number: u64,
+    line: &[u8],
+) -> Result<(), PlotFault>
+    ensures ok { OnOk result (points_with kind columns number points.old.items line.now ≡ Ok points.new.items) }
+    ensures err { IfErr result (λ fault. fault ≢ PlotFault.Memory
+        → points_with kind columns number points.old.items line.now ≡ Err fault) }
+{
+    if !has_words(line) {
+        return Ok(());
+    }
+    if let Some(fault) = row_fault(columns, number, line) {
+        return Err(fault);
+    }
+    match push_row(points, kind, columns, line) {
+        Ok(()) => Ok(()),
+        Err(_) => Err(PlotFault::Memory),
+    }
 }
 
 /// The points of a row.

@@ -3,7 +3,8 @@
 ghost use Rattle.std.specs.Prelude.{◌≡◌, ◌++◌, ◌<◌, ◌≤◌, OnOk};
 ghost use Rattle.std.specs.List.{flat_map, range_with_len};
 ghost use Rattle.cm_plot.specs.Shown.{CanBeDrawn};
-ghost use Rattle.cm_plot.specs.Ticks.{tick_at, up_text, up_tick, across_text, across_tick, ticks_text};
+ghost use Rattle.cm_plot.specs.Ticks.{tick_at, up_text, up_tick, across_text, across_tick, middle_at, cycle_tick};
+ghost use Rattle.cm_plot.specs.Ticks.{ticks_text};
 
 use crate::axes::{Axis, along};
 use crate::panels::Frame;
@@ -58,7 +59,7 @@ pub fn push_up(text: &mut Vec<u8>, y: u128) -> Result<(), NoMemory>
 }
 
 /// Ticks to the right and their numbers.
-pub fn push_across_ticks(text: &mut Vec<u8>, axis: Axis) -> Result<(), NoMemory>
+fn push_across_ticks(text: &mut Vec<u8>, axis: Axis) -> Result<(), NoMemory>
     requires some { 0 < axis.span }
     ensures ok { OnOk result (text.new.items ≡ text.old.items ++ flat_map (across_tick axis) (range_with_len 0 12)) }
 {
@@ -79,16 +80,45 @@ fn push_across_tick(text: &mut Vec<u8>, axis: Axis, k: u8) -> Result<(), NoMemor
         return Ok(());
     }
     let number = u128::from(axis.low) + from;
-    push_across(text, along(axis, number, 5600))?;
+    let x = along(axis, number, 5600);
+    push_across(text, x, x)?;
     push_thousandths(text, number)?;
     push_words(text, b"</text>\n")
 }
 
-/// A line at this place from the left, and the beginning of its number.
-fn push_across(text: &mut Vec<u8>, x: u128) -> Result<(), NoMemory>
-    ensures ok { OnOk result (text.new.items ≡ text.old.items ++ across_text x) }
+/// Ticks to the right where petit cycles begin, and their numbers in the middle of these.
+pub fn push_cycle_ticks(text: &mut Vec<u8>, axis: Axis) -> Result<(), NoMemory>
+    requires some { 0 < axis.span }
+    ensures ok { OnOk result (text.new.items ≡ text.old.items ++ flat_map (cycle_tick axis) (range_with_len 0 12)) }
+{
+    for k in 0..12u8 {
+        push_cycle_tick(text, axis, k)?;
+    }
+    Ok(())
+}
+
+/// Such a tick and its number, if a petit cycle begins there.
+#[tactic(auto, unfolding(crate::specs::Ticks::cycle_tick))]
+fn push_cycle_tick(text: &mut Vec<u8>, axis: Axis, k: u8) -> Result<(), NoMemory>
+    requires some { 0 < axis.span }
+    ensures ok { OnOk result (text.new.items ≡ text.old.items ++ cycle_tick axis k) }
+{
+    let from = u128::from(k) * u128::from(axis.step);
+    if from >= axis.span {
+        return Ok(());
+    }
+    let number = u128::from(axis.low) + from;
+    let x = along(axis, number, 5600);
+    push_across(text, x, along(axis, number + 500, 5600))?;
+    push_thousandths(text, number)?;
+    push_words(text, b"</text>\n")
+}
+
+/// A line at this place from the left, and the beginning of its number, which stands at another.
+fn push_across(text: &mut Vec<u8>, x: u128, at: u128) -> Result<(), NoMemory>
+    ensures ok { OnOk result (text.new.items ≡ text.old.items ++ across_text x at) }
 {
     push_piece(text, b"<path stroke='#ddd' stroke-width='8' d='M", x)?;
-    push_piece(text, b" 0v2400'/><text y='2600' x='", x)?;
+    push_piece(text, b" 0v2400'/><text y='2600' x='", at)?;
     push_words(text, b"'>")
 }

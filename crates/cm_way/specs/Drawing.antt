@@ -3,14 +3,15 @@ use Rattle.std.specs.Prelude.{ℕ, ◌+◌, ◌/◌, ◌%◌, ◌==◌, ◌||◌
 use Rattle.std.specs.Prelude.{List, [], ◌∷◌, ◌++◌, codes, decimal, length}
 use Rattle.std.specs.List.{flat_map, range_with_len, starts_with}
 use Rattle.cm_bits.specs.Text.{lines_of}
-use Rattle.cm_plot.specs.declared.points.PlotFault.{PlotFault}
-use Rattle.cm_plot.specs.declared.points.PlotFault.TheVariants.{Nothing}
+use Rattle.cm_plot.specs.declared.fault.PlotFault.{PlotFault}
+use Rattle.cm_plot.specs.declared.fault.PlotFault.TheVariants.{NoCycle}
+use Rattle.cm_plot.specs.Cells.{trimmed}
 use Rattle.cm_plot.specs.Heads.{head_text}
 use Rattle.cm_plot.specs.Lines.{circle, colour, line_open, name_text}
 use Rattle.cm_plot.specs.Panels.{place_text, sides_text}
 use Rattle.cm_plot.specs.Pictures.{picture_of as table_picture}
 use Rattle.cm_plot.specs.Pieces.{piece}
-use Rattle.cm_plot.specs.Ticks.{across_tick, up_text}
+use Rattle.cm_plot.specs.Ticks.{cycle_tick, up_text}
 use Rattle.cm_way.specs.declared.legs.Leg.{Leg}
 use Rattle.cm_way.specs.declared.legs.Step.{Step}
 use Rattle.cm_way.specs.declared.legs.Step.TheVariants.{Wanted, Referred, Delivered}
@@ -72,7 +73,7 @@ names_text names = name_text names 0 0 ++ name_text names 1 1 ++ name_text names
 
 unfoldable pub panel_text : Plan → Leg → List Leg → List ℕ
 panel_text plan first legs =
-    place_text 600 ++ flat_map (across_tick plan.across) (range_with_len 0 12)
+    place_text 600 ++ flat_map (cycle_tick plan.across) (range_with_len 0 12)
     ++ flat_map (row_text plan) plan.rows
     ++ sides_text (codes "petit cycle") (codes "chip") ++ lines_text plan legs ++ begin_text plan first
     ++ names_text (codes "way,referred,begins,delivered")
@@ -86,12 +87,13 @@ drawing first legs =
 -- that of the legs of a route, if its lines are such and there are any
 abbrev pub of_legs : Result (List Leg) PlotFault → Result (List ℕ) PlotFault
 of_legs (Err fault) = Err fault
-of_legs (Ok []) = Err Nothing
+of_legs (Ok []) = Err NoCycle
 of_legs (Ok (leg ∷ legs)) = Ok (drawing leg (leg ∷ legs))
 
--- a text begins as a route does
+-- a text begins as a route does, behind blanks
 abbrev pub is_route : List ℕ → Bool
-is_route text = starts_with nat_eq text (codes "cycle ") || starts_with nat_eq text (codes "stands at ")
+is_route text =
+    starts_with nat_eq (trimmed text) (codes "cycle ") || starts_with nat_eq (trimmed text) (codes "stands at ")
 
 -- the picture of a text that is a route, or a table, or its first fault
 unfoldable pub picture_of : List ℕ → Result (List ℕ) PlotFault

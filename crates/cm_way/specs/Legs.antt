@@ -1,14 +1,14 @@
 -- The legs of a message's way, as the lines of a route tell them. Ours.
-use Rattle.std.specs.Prelude.{ℕ, ◌+◌, ◌*◌, ◌^◌, ◌==◌, ◌&&◌, ◌||◌, Bool, false, nat_eq, nat_lt, if◌then◌else◌}
+use Rattle.std.specs.Prelude.{ℕ, ◌+◌, ◌^◌, ◌==◌, ◌&&◌, ◌||◌, Bool, false, nat_eq, nat_lt, if◌then◌else◌}
 use Rattle.std.specs.Prelude.{Option, Some, None, is_some, Result, Ok, Err, List, [], ◌∷◌, ◌++◌, codes, drop, bit_xor}
 use Rattle.std.specs.Int.{trailing_zeros, w16}
 use Rattle.std.specs.List.{after_first, before_first, list_any, slice_split, starts_with}
 use Rattle.cm_bits.specs.Text.{number_of, words_of}
-use Rattle.cm_plot.specs.Cells.{cell, is_colon, is_comma}
-use Rattle.cm_plot.specs.declared.points.PlotFault.{PlotFault}
-use Rattle.cm_plot.specs.declared.points.PlotFault.TheVariants.{Route}
+use Rattle.cm_plot.specs.Cells.{cell, has_words, is_colon, is_comma, trimmed}
+use Rattle.cm_plot.specs.Rows.{◌>>=◌}
+use Rattle.cm_plot.specs.declared.fault.PlotFault.{PlotFault}
+use Rattle.cm_plot.specs.declared.fault.PlotFault.TheVariants.{Route}
 use Rattle.cm_way.specs.declared.legs.Leg.{Leg}
-use Rattle.cm_way.specs.declared.legs.Step.{Step}
 use Rattle.cm_way.specs.declared.legs.Step.TheVariants.{Wanted, Referred, Delivered}
 
 -- ---- what a line says
@@ -111,8 +111,15 @@ line_legs line = cycle_legs line (cycle_in line)
 abbrev pub is_told : List ℕ → Bool
 is_told line = is_some (cycle_in line) || starts_with nat_eq line (codes "stands at ")
 
--- the legs so far and those of the lines from this one on, of which each has to be one of a route
+-- the legs so far and those of a line, which has this number and has to be one of a route
+abbrev pub legs_told : ℕ → List Leg → List ℕ → Result (List Leg) PlotFault
+legs_told number legs line = if is_told line then Ok (legs ++ line_legs line) else Err (Route number)
+
+-- the same, whatever blanks stand around it; a blank line has no legs
+abbrev pub legs_with : ℕ → List Leg → List ℕ → Result (List Leg) PlotFault
+legs_with number legs line = if has_words line then legs_told number legs (trimmed line) else Ok legs
+
+-- the legs so far and those of the lines from this one on, or the first line that is none of a route
 unfoldable pub legs_after : ℕ → List Leg → List (List ℕ) → Result (List Leg) PlotFault
 legs_after number legs [] = Ok legs
-legs_after number legs (line ∷ lines) =
-    if is_told line then legs_after (number + 1) (legs ++ line_legs line) lines else Err (Route number)
+legs_after number legs (line ∷ lines) = legs_with number legs line >>= λ more. legs_after (number + 1) more lines

@@ -1,6 +1,6 @@
 -- Where a way stands in its picture: a row for each chip, to the right petit cycles and in each its dimensions. Lengths
 -- are tenths of a dot. Ours.
-use Rattle.std.specs.Prelude.{ℕ, ◌+◌, ◌-◌, ◌*◌, ◌/◌, ◌^◌, ◌==◌, Bool, if◌then◌else◌, max, min, Option, Some, None}
+use Rattle.std.specs.Prelude.{ℕ, ◌+◌, ◌-◌, ◌*◌, ◌/◌, ◌^◌, ◌==◌, if◌then◌else◌, max, min, Option, Some, None}
 use Rattle.std.specs.Prelude.{List, [], ◌∷◌, ◌++◌, length}
 use Rattle.std.specs.List.{fold, list_any, position}
 use Rattle.cm_plot.specs.declared.axes.Axis.{Axis}

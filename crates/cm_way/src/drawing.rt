@@ -13,8 +13,8 @@ use crate::rows::{Grid, grid_of, place_x, place_y, row_of};
 use cm_bits::NoMemory;
 use cm_digits::{push_piece, push_words};
 use cm_plot::{
-    PlotFault, colour, push_across_ticks, push_circle, push_head, push_line_open, push_name,
-    push_place, push_sides, push_up,
+    PlotFault, colour, push_circle, push_cycle_ticks, push_head, push_line_open, push_name,
+    push_place, push_sides, push_up, trim,
 };
 use std::alloc::Global;
 
@@ -31,10 +31,11 @@ pub fn plot(alloc: Global, text: &[u8]) -> Result<Vec<u8>, PlotFault>
     }
 }
 
-/// Whether a text begins as a route does.
+/// Whether a text begins as a route does, behind blanks.
 fn is_route(text: &[u8]) -> bool
     ensures value { result ≡ is_route text.now }
 {
+    let text = trim(text);
     text.starts_with(b"cycle ") || text.starts_with(b"stands at ")
 }
 
@@ -56,7 +57,7 @@ fn plot_legs(alloc: Global, legs: &[Leg]) -> Result<Vec<u8>, PlotFault>
     ensures refused { IfErr result (λ fault. fault ≢ PlotFault.Memory → of_legs (Ok legs.now) ≡ Err fault) }
 {
     match legs {
-        [] => Err(PlotFault::Nothing),
+        [] => Err(PlotFault::NoCycle),
         [first, ..] => Ok(drawing(alloc, first, legs)?),
     }
 }
@@ -80,7 +81,7 @@ fn push_panel(text: &mut Vec<u8>, grid: &Grid, first: &Leg, legs: &[Leg]) -> Res
     ensures ok { OnOk result (text.new.items ≡ text.old.items ++ panel_text (seen grid.now) first.now legs.now) }
 {
     push_place(text, 600)?;
-    push_across_ticks(text, grid.across)?;
+    push_cycle_ticks(text, grid.across)?;
     push_rows(text, grid)?;
     push_sides(text, b"petit cycle", b"chip")?;
     push_lines(text, grid, legs)?;

@@ -1,12 +1,13 @@
 //! A law of pictures of routes: what some lines tell, and where it stands.
 
-ghost use Rattle.std.specs.Prelude.{◌≡◌, [], ◌∷◌, codes, false, None, Some};
+ghost use Rattle.std.specs.Prelude.{◌≡◌, [], ◌∷◌, ◌++◌, codes, None, Some, Ok, Err};
+ghost use Rattle.cm_plot.specs.declared.fault.PlotFault.TheVariants as fault;
 ghost use Rattle.cm_way.specs.declared.legs.Step.TheVariants as step;
-ghost use Rattle.cm_way.specs.Legs.{chip_in, is_told, line_legs};
+ghost use Rattle.cm_way.specs.Legs.{chip_in, legs_with, line_legs};
 ghost use Rattle.cm_way.specs.Rows.{most_dims, place_x, place_y, rows_of};
 
 /// A law: these lines tell these legs, and these legs stand in these rows and places.
-#[tactic(auto, unfolding(crate::specs::Legs::legs_from))]
+#[tactic(auto, unfolding(crate::specs::Legs::legs_from, cm_plot::specs::Cells::trimmed))]
 pub fn routes_are_drawn_so()
     ensures stayed { line_legs (codes "cycle 2: 8, stays, place 2 of 3")
         ≡ record { cycle = 2; start = 0; end = 0; from = 8; to = 8; step = step.Wanted }
@@ -20,8 +21,12 @@ pub fn routes_are_drawn_so()
         ∷ record { cycle = 0; start = 2; end = 3; from = 14; to = 10; step = step.Referred }
         ∷ record { cycle = 1; start = 0; end = 0; from = 10; to = 10; step = step.Wanted } ∷ [] }
     ensures stands { line_legs (codes "stands at 3, for processor 3 of chip 0") ≡ [] }
-    ensures no_cycle { is_told (codes "cycle x: 1, place 1 of 1") ≡ false }
-    ensures no_route { is_told (codes "cycles 1: 1, place 1 of 1") ≡ false }
+    ensures blanks { legs_with 1 [] (32 ∷ codes "cycle 2: 8, stays, place 2 of 3" ++ 13 ∷ [])
+        ≡ Ok (line_legs (codes "cycle 2: 8, stays, place 2 of 3")) }
+    ensures blank { legs_with 1 [] (32 ∷ 9 ∷ 13 ∷ []) ≡ Ok [] }
+    ensures no_cycle { legs_with 3 [] (codes "cycle x: 1, place 1 of 1") ≡ Err (fault.Route 3) }
+    ensures no_route { legs_with 3 [] (codes "cycles 1: 1, place 1 of 1") ≡ Err (fault.Route 3) }
+    ensures late { legs_with 3 [] (codes "cycle 1125899906842624: 0, stays, place 1 of 1") ≡ Err (fault.Route 3) }
     ensures last_chip { chip_in (codes "4095") ≡ Some 4095 }
     ensures no_chip { chip_in (codes "4096") ≡ None }
     ensures rows { rows_of (

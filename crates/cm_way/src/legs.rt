@@ -7,10 +7,10 @@ ghost use Rattle.cm_bits.specs.Text.{lines_of, number_of, words_of};
 ghost use Rattle.cm_plot.specs.Cells.{cell, is_colon};
 ghost use Rattle.cm_way.specs.Legs.{dim_between, below, cycle_behind, cycle_in, chip_in, is_number, is_referral};
 ghost use Rattle.cm_way.specs.Legs.{is_referred, is_delivered, leg_to, last_leg, legs_at, chip_after, legs_end};
-ghost use Rattle.cm_way.specs.Legs.{legs_from, line_legs, is_told, legs_after};
+ghost use Rattle.cm_way.specs.Legs.{legs_from, line_legs, is_told, legs_told, legs_with, legs_after};
 
 use cm_bits::{Lines, NoMemory, Words, read_number};
-use cm_plot::{PlotFault, behind, cell, place};
+use cm_plot::{PlotFault, behind, cell, has_words, place, trim};
 use std::alloc::Global;
 
 /// What a message did on a leg.
@@ -45,16 +45,44 @@ pub(crate) fn read_legs(alloc: Global, text: &[u8]) -> Result<Vec<Leg>, PlotFaul
     let mut legs = Vec::new(alloc);
     let mut number = 1u64;
     for line in Lines::new(text) {
-        if !is_told(line) {
-            return Err(PlotFault::Route(number));
+        match push_line(&mut legs, number, line) {
+            Ok(()) => {}
+            Err(fault) => return Err(fault),
         }
-        push_line(&mut legs, line)?;
         let Some(next) = number.checked_add(1) else {
             return Err(PlotFault::Memory);
         };
         number = next;
     }
     Ok(legs)
+}
+
+/// The legs of a line of this number, whatever blanks stand around it; a blank line has none.
+fn push_line(legs: &mut Vec<Leg>, number: u64, line: &[u8]) -> Result<(), PlotFault>
+    ensures ok { OnOk result (legs_with number legs.old.items line.now ≡ Ok legs.new.items) }
+    ensures err { IfErr result (λ fault. fault ≢ PlotFault.Memory
+        → legs_with number legs.old.items line.now ≡ Err fault) }
+{
+    if has_words(line) {
+        push_told(legs, number, trim(line))
+    } else {
+        Ok(())
+    }
+}
+
+/// Those of a line that has to be one of a route.
+fn push_told(legs: &mut Vec<Leg>, number: u64, line: &[u8]) -> Result<(), PlotFault>
+    ensures ok { OnOk result (legs_told number legs.old.items line.now ≡ Ok legs.new.items) }
+    ensures err { IfErr result (λ fault. fault ≢ PlotFault.Memory
+        → legs_told number legs.old.items line.now ≡ Err fault) }
+{
+    if !is_told(line) {
+        return Err(PlotFault::Route(number));
+    }
+    match push_legs(legs, line) {
+        Ok(()) => Ok(()),
+        Err(_) => Err(PlotFault::Memory),
+    }
 }
 
 /// Whether it is a line of a route.
@@ -65,7 +93,7 @@ fn is_told(line: &[u8]) -> bool
 }
 
 /// The legs of a line: of a petit cycle, or none.
-fn push_line(legs: &mut Vec<Leg>, line: &[u8]) -> Result<(), NoMemory>
+fn push_legs(legs: &mut Vec<Leg>, line: &[u8]) -> Result<(), NoMemory>
     ensures ok { OnOk result (legs.new.items ≡ legs.old.items ++ line_legs line.now) }
 {
     match cycle_in(line) {

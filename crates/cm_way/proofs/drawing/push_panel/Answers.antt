@@ -1,7 +1,7 @@
 use Rattle.std.proofs.Common.{ℕ, List, ◌++◌, codes}
 use Rattle.std.specs.List.{flat_map, range_with_len}
 use Rattle.cm_plot.specs.Panels.{place_text, sides_text}
-use Rattle.cm_plot.specs.Ticks.{across_tick}
+use Rattle.cm_plot.specs.Ticks.{cycle_tick}
 use Rattle.cm_way.specs.Rows.{seen}
 use Rattle.cm_way.specs.Drawing.{row_text, lines_text, begin_text, names_text, panel_text}
 use Rattle.cm_way.proofs.Joining.{behind, behind-ok}
@@ -13,15 +13,15 @@ returns c =
     let start = c.args.text.now.items in
     let plan = seen c.args.grid.now in
     let place : List ℕ = place_text 600 in
-    let ticks : List ℕ = flat_map (across_tick plan.across) (range_with_len 0 12) in
+    let ticks : List ℕ = flat_map (cycle_tick plan.across) (range_with_len 0 12) in
     let rows : List ℕ = flat_map (row_text plan) plan.rows in
     let sides : List ℕ = sides_text (codes "petit cycle") (codes "chip") in
     let lines : List ℕ = lines_text plan c.args.legs.now in
     let begin : List ℕ = begin_text plan c.args.first.now in
     let names : List ℕ = names_text (codes "way,referred,begins,delivered") in
-    let told-2 = behind start place ticks c.push_place.new.text.items c.push_across_ticks.new.text.items
-    c.in_ok-push_place.ensures.ok c.in_ok-push_across_ticks.ensures.ok in
-    let told-3 = behind start (place ++ ticks) rows c.push_across_ticks.new.text.items c.push_rows.new.text.items
+    let told-2 = behind start place ticks c.push_place.new.text.items c.push_cycle_ticks.new.text.items
+    c.in_ok-push_place.ensures.ok c.in_ok-push_cycle_ticks.ensures.ok in
+    let told-3 = behind start (place ++ ticks) rows c.push_cycle_ticks.new.text.items c.push_rows.new.text.items
     told-2 c.in_ok-push_rows.ensures.ok in
     let told-4 = behind start (place ++ ticks ++ rows) sides c.push_rows.new.text.items c.push_sides.new.text.items
     told-3 c.in_ok-push_sides.ensures.ok in

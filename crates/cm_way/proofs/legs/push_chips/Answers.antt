@@ -1,4 +1,4 @@
-use Rattle.std.proofs.Common.{◌≡◌, List, ◌++◌, ap, ◌∙◌, append_assoc}
+use Rattle.std.proofs.Common.{◌++◌, ◌∙◌, append_assoc}
 use Rattle.cm_bits.specs.Text.{words_left}
 use Rattle.cm_way.specs.Legs.{chip_in, chip_after, legs_at, legs_from}
 use Rattle.cm_way.proofs.legs.push_chips.Goals as goal
