@@ -170,6 +170,12 @@ retold_put words slots stride c p at there i count number now put at_is i_is =
     subst (λ (n : ℕ). ArePut words slots stride c p there n number now) i_is
     (subst (λ (n : ℕ). ArePut words slots stride c p n i number now) at_is put)
 
+-- all rows before and after so many bits of a number went into a field
+abbrev pub IsFieldPut : List ℕ → List ℕ → ℕ → ℕ → ℕ → ℕ → ℕ → ℕ → Type 0
+IsFieldPut old new stride c p at count number = (flags : List ℕ) (chips : ℕ) → AreRows old flags stride chips → c < chips
+    → chips_of new flags stride chips ≡ set (chips_of old flags stride chips) c
+    (with_memory_field (get_or (chips_of old flags stride chips) c []) p at count number)
+
 -- the next bit of a number is the lowest of what is left of it
 pub next_bit : (number i rest : ℕ) → rest ≡ number / 2 ^ i → bit rest 0 ≡ bit number i
 next_bit number i rest is = ap (λ (n : ℕ). n % 2 == 1) (div-one rest ∙ is)

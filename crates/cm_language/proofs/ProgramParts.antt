@@ -2,6 +2,11 @@
 use Rattle.std.proofs.Common.{◌<◌, List, [], ◌∷◌, ◌++◌, sym, subst, append_assoc, append-nil}
 use Rattle.cm_bits.specs.Span.{IsField}
 use Rattle.cm_model.specs.declared.act.Act.{Act}
+use Rattle.cm_language.specs.declared.macros.Macro.{Macro}
+use Rattle.cm_language.specs.declared.macros.Macro.TheVariants.{Add, Sub, Less, Equal, Move, Select, Const, Shift, Mul}
+use Rattle.cm_language.specs.declared.macros.Macro.TheVariants.{Set, Clear}
+use Rattle.cm_language.specs.declared.macros.Context.{Context}
+use Rattle.cm_language.specs.declared.macros.Context.TheVariants.{Always, On, Off}
 use Rattle.cm_language.specs.Names.{NamedField}
 use Rattle.cm_language.specs.Whole.{AreProgramActs, IsNext, AreNext}
 
@@ -11,6 +16,28 @@ use Rattle.cm_language.specs.Whole.{AreProgramActs, IsNext, AreNext}
 abbrev pub AreFields : List NamedField → Type 0
 AreFields [] = Unit {0}
 AreFields (defined ∷ fields) = IsField defined.field × AreFields fields
+
+-- ---- flags
+
+-- the flag of a context is one
+abbrev pub HasFlag : Context → Type 0
+HasFlag Always = Unit {0}
+HasFlag (On f) = f < 16
+HasFlag (Off f) = f < 16
+
+-- the flags that a macro names are flags
+abbrev pub NamesFlags : Macro → Type 0
+NamesFlags (Add d s) = Unit {0}
+NamesFlags (Sub d s) = Unit {0}
+NamesFlags (Less x y) = Unit {0}
+NamesFlags (Equal x y) = Unit {0}
+NamesFlags (Move d s) = Unit {0}
+NamesFlags (Select d s f) = f < 16
+NamesFlags (Const d v) = Unit {0}
+NamesFlags (Shift d) = Unit {0}
+NamesFlags (Mul d x y) = Unit {0}
+NamesFlags (Set f) = f < 16
+NamesFlags (Clear f) = f < 16
 
 -- ---- one after another
 

@@ -147,3 +147,8 @@ said_ok r line (Some asked) is =
     if_ok-then (phrase_of r.fields asked (words_of line)) (after_phrase r) HasFields IsReading
     (phrase_ok r.fields asked (words_of line) (are_fields [] r.fields is.fields))
     (λ said fields. phrase_left_ok r said (first_fault said r.context) is fields refl)
+
+-- ---- a phrase, unless the words had a fault
+
+abbrev pub then_phrase : Reading → Result Phrase AsmKind → Result Reading AsmKind
+then_phrase r said = said >>= after_phrase r
