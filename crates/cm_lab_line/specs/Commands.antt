@@ -1,7 +1,7 @@
 -- What the words of a command line ask for: ours.
-use Rattle.std.specs.Prelude.{◌≡◌, ◌≢◌, ◌⊎◌, ◌==◌, ◌&&◌, ◌||◌, Bool, false, not, MatchOption, if◌then◌else◌, Option}
+use Rattle.std.specs.Prelude.{◌≡◌, ◌≢◌, ◌⊎◌, ◌&&◌, ◌||◌, Bool, false, not, MatchOption, if◌then◌else◌, Option}
 use Rattle.std.specs.Prelude.{Some, None, Result, Ok, Err}
-use Rattle.std.specs.Prelude.{List, [], ◌∷◌, ◌++◌, codes, bytes_eq, slice_index}
+use Rattle.std.specs.Prelude.{List, [], ◌∷◌, ◌++◌, codes, bytes_eq}
 use Rattle.std.specs.List.{list_any}
 use Rattle.std.specs.Bool.{MatchBool}
 use Rattle.cm_lab_line.specs.Refusals.{Text, Refusal, Help, Memory, Twice, UnknownCommand, UnknownOption, Usage}
@@ -94,11 +94,17 @@ is_command name =
     codes "get" ∷ codes "rows" ∷ codes "put" ∷ codes "picture" ∷ codes "paint" ∷ codes "study" ∷ codes "route"
     ∷ codes "front" ∷ codes "expand" ∷ codes "fresh" ∷ codes "load" ∷ codes "plot" ∷ [])
 
+-- an option that says of a blank machine which it is
+abbrev pub is_fresh_option : Text → Bool
+is_fresh_option word =
+    bytes_eq word (codes "--cut") || (bytes_eq word (codes "--cut-random") || (bytes_eq word (codes "--seed")
+    || bytes_eq word (codes "--rule")))
+
 -- an option of `load`
 abbrev pub is_load_option : Text → Bool
 is_load_option word =
-    bytes_eq word (codes "--rule") || (bytes_eq word (codes "--pattern") || (bytes_eq word (codes "--until")
-    || bytes_eq word (codes "--seed")))
+    is_fresh_option word || (bytes_eq word (codes "--pattern") || (bytes_eq word (codes "--until")
+    || (bytes_eq word (codes "--skip") || bytes_eq word (codes "--seeds"))))
 
 -- an option of the command of this name
 abbrev pub is_option_of : Text → Text → Bool
@@ -107,7 +113,7 @@ is_option_of command word =
     else (if bytes_eq command (codes "picture") then bytes_eq word (codes "--plain") || bytes_eq word (codes "--png")
     else (if bytes_eq command (codes "study") then bytes_eq word (codes "--messages")
     else (if bytes_eq command (codes "front") then bytes_eq word (codes "--out")
-    else (if bytes_eq command (codes "fresh") then bytes_eq word (codes "--cut") || bytes_eq word (codes "--rule")
+    else (if bytes_eq command (codes "fresh") then is_fresh_option word
     else (if bytes_eq command (codes "load") then is_load_option word else false)))))
 
 -- the first option that a command has not

@@ -25,6 +25,7 @@ name_of operand.Proc = codes "PROC"
 name_of operand.Cycle = codes "CYCLE"
 name_of operand.Chip = codes "CHIP"
 name_of operand.Dim = codes "DIM"
+name_of operand.Count = codes "K"
 name_of operand.N = codes "N"
 name_of operand.Cap = codes "CAP"
 name_of operand.Rule = codes "R"
@@ -32,6 +33,8 @@ name_of operand.Rate = codes "RATE"
 name_of operand.Cycles = codes "CYCLES"
 name_of operand.Pattern = codes "P"
 name_of operand.Until = codes "T"
+name_of operand.Skip = codes "T"
+name_of operand.Seeds = codes "K"
 name_of operand.Seed = codes "S"
 
 -- a number of a range
@@ -47,6 +50,7 @@ wanted_of operand.Proc = from_to (codes "0") (codes "15")
 wanted_of operand.Cycle = codes "the decimal number of a petit cycle"
 wanted_of operand.Chip = from_to (codes "0") (codes "4095")
 wanted_of operand.Dim = from_to (codes "0") (codes "11")
+wanted_of operand.Count = from_to (codes "0") (codes "24576")
 wanted_of operand.N = from_to (codes "0") (codes "12")
 wanted_of operand.Cap = from_to (codes "1") (codes "15")
 wanted_of operand.Rule = codes "0 or 1"
@@ -54,6 +58,8 @@ wanted_of operand.Rate = codes "0 to 16 with at most two digits behind a point, 
 wanted_of operand.Cycles = from_to (codes "1") (codes "1000000")
 wanted_of operand.Pattern = codes "uniform, transpose, reversal or hotspot"
 wanted_of operand.Until = from_to (codes "0") (codes "4294967295")
+wanted_of operand.Skip = from_to (codes "0") (codes "999999")
+wanted_of operand.Seeds = from_to (codes "1") (codes "1000")
 wanted_of operand.Seed = from_to (codes "0") (codes "18446744073709551615")
 
 -- ---- what they say

@@ -2,7 +2,8 @@
 
 ghost use Rattle.std.specs.Prelude.{◌≡◌, ◌^◌, IfOk, IfErr, Ok};
 ghost use Rattle.cm_lab_line.specs.Refusals.{Tells};
-ghost use Rattle.cm_lab_line.specs.Operands.{field, file_named, is_option, name_of, number, number_below, of_sixteen, pattern_named, wanted_of};
+ghost use Rattle.cm_lab_line.specs.Operands.{field, file_named, is_option, name_of, number, number_below};
+ghost use Rattle.cm_lab_line.specs.Operands.{of_sixteen, pattern_named, wanted_of};
 
 use crate::fault::CommandFault;
 use cm_bits::{Field, FlagNo, Proc};
@@ -19,6 +20,7 @@ pub enum Operand {
     Cycle,
     Chip,
     Dim,
+    Count,
     N,
     Cap,
     Rule,
@@ -26,6 +28,8 @@ pub enum Operand {
     Cycles,
     Pattern,
     Until,
+    Skip,
+    Seeds,
     Seed,
 }
 
@@ -42,13 +46,14 @@ impl Operand {
             Operand::Cycle => "CYCLE",
             Operand::Chip => "CHIP",
             Operand::Dim => "DIM",
+            Operand::Count | Operand::Seeds => "K",
             Operand::N => "N",
             Operand::Cap => "CAP",
             Operand::Rule => "R",
             Operand::Rate => "RATE",
             Operand::Cycles => "CYCLES",
             Operand::Pattern => "P",
-            Operand::Until => "T",
+            Operand::Until | Operand::Skip => "T",
             Operand::Seed => "S",
         }
     }
@@ -63,6 +68,7 @@ impl Operand {
             Operand::Flag | Operand::Proc => "a decimal number from 0 to 15",
             Operand::Cycle => "the decimal number of a petit cycle",
             Operand::Dim => "a decimal number from 0 to 11",
+            Operand::Count => "a decimal number from 0 to 24576",
             Operand::N => "a decimal number from 0 to 12",
             Operand::Cap => "a decimal number from 1 to 15",
             Operand::Rule => "0 or 1",
@@ -71,6 +77,8 @@ impl Operand {
             Operand::Cycles => "a decimal number from 1 to 1000000",
             Operand::Pattern => "uniform, transpose, reversal or hotspot",
             Operand::Until => "a decimal number from 0 to 4294967295",
+            Operand::Skip => "a decimal number from 0 to 999999",
+            Operand::Seeds => "a decimal number from 1 to 1000",
             Operand::Seed => "a decimal number from 0 to 18446744073709551615",
         }
     }
