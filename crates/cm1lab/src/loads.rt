@@ -2,8 +2,9 @@
 
 use crate::fault::Fault;
 use crate::progress::seconds_since;
+use cm_fresh::{FreshFault, WireEnd, cut_wires};
 use cm_lab_line::Loads;
-use cm_load::{Figures, LoadFault, table};
+use cm_load::{LoadFault, Spreads, Trial, spread_table, table};
 use std::alloc::Global;
 use std::rt::Clock;
 use std::time::Instant;
@@ -14,26 +15,88 @@ pub fn measure_all<R: Eprint + Clock>(
     alloc: Global,
     loads: &Loads,
 ) -> Result<Vec<u8>, Fault> {
-    if let Some(fault) = loads.trial.fault(&loads.rates) {
+    let trial = &loads.trial;
+    let cuts = cuts_of(alloc, trial.n, &loads.cuts, loads.drawn, trial.seed)?;
+    if let Some(fault) = trial.fault(&cuts, &loads.rates) {
         return Err(told(fault));
     }
+    if trial.seeds > 1 {
+        spread_all(rt, alloc, loads, &cuts)
+    } else {
+        measure_each(rt, alloc, loads, &cuts)
+    }
+}
+
+/// The table of one seed.
+fn measure_each<R: Eprint + Clock>(
+    rt: &R,
+    alloc: Global,
+    loads: &Loads,
+    cuts: &[WireEnd],
+) -> Result<Vec<u8>, Fault> {
     let began = Instant::now(rt).ok();
     let mut measured = Vec::new(alloc);
     for rate in &loads.rates {
-        let figures = match loads.trial.figures(alloc, *rate) {
+        let figures = match loads.trial.figures(alloc, cuts, *rate) {
             Ok(figures) => figures,
             Err(fault) => return Err(told(fault)),
         };
         if measured.push(figures).is_err() {
             return Err(Fault::Memory);
         }
-        if seconds_since(rt, began) >= 1 {
-            tell_progress(rt, &figures, measured.len(), loads.rates.len());
-        }
+        tell_progress(rt, began, *rate, measured.len(), loads.rates.len());
     }
     match table(alloc, &measured) {
         Ok(text) => Ok(text),
         Err(_) => Err(Fault::Memory),
+    }
+}
+
+/// The table of the means of many seeds.
+fn spread_all<R: Eprint + Clock>(
+    rt: &R,
+    alloc: Global,
+    loads: &Loads,
+    cuts: &[WireEnd],
+) -> Result<Vec<u8>, Fault> {
+    let began = Instant::now(rt).ok();
+    let mut lines = Vec::new(alloc);
+    for rate in &loads.rates {
+        let spreads = spreads_of(alloc, &loads.trial, cuts, *rate)?;
+        if lines.push(spreads).is_err() {
+            return Err(Fault::Memory);
+        }
+        tell_progress(rt, began, *rate, lines.len(), loads.rates.len());
+    }
+    match spread_table(alloc, &lines) {
+        Ok(text) => Ok(text),
+        Err(_) => Err(Fault::Memory),
+    }
+}
+
+/// The means of many seeds at a rate.
+fn spreads_of(alloc: Global, trial: &Trial, cuts: &[WireEnd], rate: u16) -> Result<Spreads, Fault> {
+    if trial.seeds < 2 {
+        return Err(told(LoadFault::Seeds(trial.seeds)));
+    }
+    match trial.spreads(alloc, cuts, rate) {
+        Ok(spreads) => Ok(spreads),
+        Err(fault) => Err(told(fault)),
+    }
+}
+
+/// The wires that are named and those that are drawn.
+pub fn cuts_of(
+    alloc: Global,
+    n: u16,
+    named: &[WireEnd],
+    count: u16,
+    seed: u64,
+) -> Result<Vec<WireEnd>, Fault> {
+    match cut_wires(alloc, n, named, count, seed) {
+        Ok(cuts) => Ok(cuts),
+        Err(FreshFault::Memory) => Err(Fault::Memory),
+        Err(fault) => Err(Fault::Fresh(fault)),
     }
 }
 
@@ -48,12 +111,19 @@ fn told(fault: LoadFault) -> Fault {
     }
 }
 
-/// Tells that a load was measured; it does not matter whether that can be told.
-fn tell_progress<R: Eprint>(rt: &R, figures: &Figures, done: usize, all: usize) {
-    let rate = figures.rate;
-    let _ = eprintln!(rt;
-        "cm1lab: rate {}.{:02}, {done} of {all}",
-        rate / 100,
-        rate % 100
-    );
+/// Tells that a load was measured, where a second has passed; it does not matter whether that can be told.
+fn tell_progress<R: Eprint + Clock>(
+    rt: &R,
+    began: Option<Instant>,
+    rate: u16,
+    done: usize,
+    all: usize,
+) {
+    if seconds_since(rt, began) >= 1 {
+        let _ = eprintln!(rt;
+            "cm1lab: rate {}.{:02}, {done} of {all}",
+            rate / 100,
+            rate % 100
+        );
+    }
 }

@@ -11,7 +11,7 @@ mod progress;
 
 use crate::fault::Fault;
 use crate::files::{read_file, write_file};
-use crate::loads::measure_all;
+use crate::loads::{cuts_of, measure_all};
 use crate::progress::Progress;
 use cm_bits::{Std, write_all};
 use cm_fresh::{FreshFault, fresh};
@@ -140,7 +140,8 @@ fn load<R: Print + Eprint + Clock>(rt: &R, alloc: Global, loads: &Loads) -> Resu
 
 /// The image of a blank machine.
 fn begin<R: Files + AllocGlobal>(rt: &R, alloc: Global, blank: &Blank<'_>) -> Result<(), Fault> {
-    match fresh(alloc, blank.n, blank.room, &blank.cuts, blank.rule) {
+    let cuts = cuts_of(alloc, blank.n, &blank.cuts, blank.drawn, blank.seed)?;
+    match fresh(alloc, blank.n, blank.room, &cuts, blank.rule) {
         Ok(image) => write_file(rt, blank.out, image.as_slice()),
         Err(FreshFault::Memory) => Err(Fault::Memory),
         Err(fault) => Err(Fault::Fresh(fault)),

@@ -4,8 +4,8 @@ use cm_lab::Watch;
 use std::rt::Clock;
 use std::time::Instant;
 
-/// The clock is looked at once in so many acts. Of the largest machine so many petit cycles take a third of a second, where
-/// all processors send.
+/// The clock is looked at once in so many acts. Of the largest machine so many petit cycles take a third of a second,
+/// where all processors send.
 const ACTS_A_LOOK: usize = 64;
 
 /// Tells how far a program is: a line in each second but the first, and after twenty each time a tenth more has passed.

@@ -4,13 +4,13 @@
 use cm_bits::doubles::{Bytes, Room};
 use cm_bits::{Field, NoMemory};
 use cm_draws::{Call, first_not_so};
-use cm_fresh::{FreshFault, WireEnd, fresh};
+use cm_fresh::{FreshFault, WireEnd, cut_wires, fresh};
 use cm_front::{FrontFault, ImageFault, SessionFault, front_image};
 use cm_lab::{
     Form, Format, LabFault, Look, NumbersFault, Order, Palette, Shown, Table, Task, perform,
     read_numbers, write_numbers,
 };
-use cm_load::{Figures, LoadFault, Pattern, Trial, table};
+use cm_load::{Figures, LoadFault, Pattern, Spreads, Trial, spread_table, table};
 use cm_source::{AsmKind, SourceKind, expand};
 use std::alloc::Global;
 
@@ -49,7 +49,7 @@ nano 0 0 8 8 8 0 0x0f 0x00 n ; 4
 add x x ; 5
 ";
 
-/// All processors of four chips send to those of chip 0, who fetch what they receive.
+/// All processors of four chips send to those of chip 0, who fetch what they receive. One of its two wires will be cut.
 static TRIAL: Trial = Trial {
     n: 2,
     room: 15,
@@ -58,10 +58,16 @@ static TRIAL: Trial = Trial {
     until: 40,
     seed: 9,
     cycles: 40,
+    skip: 0,
+    seeds: 3,
 };
 
 static LOAD: &str =
-    "rate,offered,taken,delivered,throughput,mean,p95,greatest,deepest\n2.00,332,201,158,0.987,7.60,21,31,8\n";
+    "rate,offered,taken,delivered,throughput,mean,p95,greatest,deepest\n2.00,332,162,118,0.737,5.92,29,34,8\n";
+
+/// Of three seeds.
+static MEANS: &str = "rate,throughput,throughput +-,mean,mean +-,p95,p95 +-,greatest,greatest +-\n\
+    2.00,0.703,0.094,6.05,0.52,28.00,2.48,32.66,2.86\n";
 
 /// The bytes before those of the chips of a blank machine of two chips, whose wire is cut.
 static CUT: [u8; 21] = [
@@ -282,8 +288,9 @@ fn is_expanded(alloc: Global) -> bool {
 
 /// Whether a load has its line.
 fn is_measured(alloc: Global) -> Option<bool> {
-    let figures = match TRIAL.figures(alloc, 200) {
-        Err(LoadFault::Memory) => TRIAL.figures(alloc, 200).ok()?,
+    let wire = [WireEnd { chip: 0, dim: 0 }];
+    let figures = match TRIAL.figures(alloc, &wire, 200) {
+        Err(LoadFault::Memory) => TRIAL.figures(alloc, &wire, 200).ok()?,
         figures => figures.ok()?,
     };
     let loads: [Figures; 1] = [figures];
@@ -291,14 +298,27 @@ fn is_measured(alloc: Global) -> Option<bool> {
         Err(NoMemory) => table(alloc, &loads).ok()?,
         Ok(told) => told,
     };
-    Some(told.as_slice() == LOAD.as_bytes())
+    let means = match TRIAL.spreads(alloc, &wire, 200) {
+        Err(LoadFault::Memory) => TRIAL.spreads(alloc, &wire, 200).ok()?,
+        means => means.ok()?,
+    };
+    let rates: [Spreads; 1] = [means];
+    let spread = match spread_table(alloc, &rates) {
+        Err(NoMemory) => spread_table(alloc, &rates).ok()?,
+        Ok(spread) => spread,
+    };
+    Some(told.as_slice() == LOAD.as_bytes() && spread.as_slice() == MEANS.as_bytes())
 }
 
 /// Whether a blank machine has its bytes, and 35 zero bytes for each chip.
 fn is_blank(alloc: Global) -> Option<bool> {
-    let wire = [WireEnd { chip: 1, dim: 0 }];
-    let image = match fresh(alloc, 1, 15, &wire, 0) {
-        Err(FreshFault::Memory) => fresh(alloc, 1, 15, &wire, 0).ok()?,
+    let named = [WireEnd { chip: 1, dim: 0 }];
+    let wires = match cut_wires(alloc, 1, &named, 1, 9) {
+        Err(FreshFault::Memory) => cut_wires(alloc, 1, &named, 1, 9).ok()?,
+        wires => wires.ok()?,
+    };
+    let image = match fresh(alloc, 1, 15, &wires, 0) {
+        Err(FreshFault::Memory) => fresh(alloc, 1, 15, &wires, 0).ok()?,
         image => image.ok()?,
     };
     let chips = image.strip_prefix(&CUT)?;

@@ -1,1 +1,2 @@
 mod WireEnds
+mod Halving

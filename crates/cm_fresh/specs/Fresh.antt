@@ -4,7 +4,7 @@ use Rattle.std.specs.Prelude.{nat_lt, if◌then◌else◌}
 use Rattle.std.specs.List.{find}
 use Rattle.cm_bits.specs.Wire.{Wire}
 use Rattle.cm_model.specs.declared.rule.Rule.{Rule}
-use Rattle.cm_model.specs.Wiring.{wire_of}
+use Rattle.cm_model.specs.Wiring.{Routing, wire_of}
 use Rattle.cm_model.specs.Machine.{Machine, blank_machine}
 use Rattle.cm_router.specs.Cuts.{with_wire}
 use Rattle.cm_image_format.specs.Cuts.{rule_of}
@@ -24,10 +24,13 @@ is_stray n end = not (is_end n end)
 abbrev pub wires_with : List Wire → List WireEnd → List Wire
 wires_with wires ends = fold (λ all end. with_wire (wire_of end.chip end.dim) all) wires ends
 
+-- the wires with these ends are cut, and routers choose by this rule
+abbrev pub fresh_routing : List WireEnd → Rule → Routing
+fresh_routing ends rule = record { cuts = wires_with [] ends; rule = rule }
+
 -- the blank machine of 2^n chips of which the wires with these ends are cut, and which routes by this rule
 abbrev pub fresh_machine : ℕ → List WireEnd → Rule → Machine
-fresh_machine n ends rule =
-    record (blank_machine n) { routing = record { cuts = wires_with [] ends; rule = rule } }
+fresh_machine n ends rule = record (blank_machine n) { routing = fresh_routing ends rule }
 
 -- the fault of an end that the cube has not, if there is one
 abbrev pub wire_fault : ℕ → Option WireEnd → Option FreshFault

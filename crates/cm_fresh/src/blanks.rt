@@ -1,12 +1,13 @@
 //! Blank machines of any room, with wires cut and by either rule: from numbers to an image.
 
-ghost use Rattle.std.specs.Prelude.{◌≡◌, ◌≢◌, ◌≤◌, ◌<◌, true, Ok, Err, IfOk, IfErr};
+ghost use Rattle.std.specs.Prelude.{◌≡◌, ◌≢◌, ◌≤◌, ◌<◌, true, None, Ok, Err, IfOk, IfErr};
 ghost use Rattle.std.specs.List.{All, find};
 ghost use Rattle.cm_model.specs.Keeping.{AreSizes};
 ghost use Rattle.cm_model.specs.Wiring.{wire_of};
+ghost use Rattle.cm_router.specs.Routes.{routing_of};
 ghost use Rattle.cm_image_format.specs.Cuts.{rule_of};
 ghost use Rattle.cm_image_format.specs.Whole.{text_of};
-ghost use Rattle.cm_fresh.specs.Fresh.{is_end, is_stray, wires_with, fresh_machine, fresh_of};
+ghost use Rattle.cm_fresh.specs.Fresh.{is_end, is_stray, wires_with, fresh_routing, fresh_machine, fresh_of};
 
 use cm_bits::{Edge, NoMemory};
 use cm_image::blank_image;
@@ -34,6 +35,9 @@ pub enum FreshFault {
     Wire { n: u16, chip: u16, dim: u16 },
     #[error("the rules are 0 and 1, not {0}")]
     Rule(u16),
+    /// More wires are to be drawn than the cube has.
+    #[error("the cube has {most} wires, of which {count} cannot be drawn")]
+    Drawn { most: u32, count: u16 },
     #[error("out of memory")]
     Memory,
 }
@@ -77,7 +81,7 @@ pub fn fresh(
 }
 
 /// The first that is no end of a wire of a cube of so many dimensions.
-fn stray(n: u16, ends: &[WireEnd]) -> Option<WireEnd>
+pub fn stray(n: u16, ends: &[WireEnd]) -> Option<WireEnd>
     requires dimension { n ≤ 12 }
     ensures value { result ≡ find (is_stray n) ends.now }
 {
@@ -93,7 +97,7 @@ fn is_end(n: u16, end: WireEnd) -> bool
 }
 
 /// The rule of a number.
-fn rule_of(number: u16) -> Rule
+pub fn rule_of(number: u16) -> Rule
     ensures value { result ≡ rule_of number }
 {
     if number == 0 {
@@ -112,13 +116,24 @@ fn image_of(
     rule: Rule,
 ) -> Result<Vec<u8>, NoMemory>
     requires sizes { AreSizes n room }
-    requires ends { All (λ end. is_end n end ≡ true) ends.now }
+    requires ends { find (is_stray n) ends.now ≡ None }
     ensures value { IfOk result (λ text. text.items ≡ text_of n room (fresh_machine n ends.now rule)) }
+{
+    let routing = routing_with(alloc, n, ends, rule)?;
+    blank_image(alloc, n, room, &routing)
+}
+
+/// The wires with these ends are cut, and routers choose by this rule.
+pub fn routing_with(alloc: Global, n: u8, ends: &[WireEnd], rule: Rule) -> Result<Routing, NoMemory>
+    requires dimension { n ≤ 12 }
+    requires ends { find (is_stray n) ends.now ≡ None }
+    ensures value { IfOk result (λ routing. routing_of routing ≡ fresh_routing ends.now rule) }
+    ensures dims { IfOk result (λ routing. routing.cuts.dims ≡ n) }
 {
     let mut routing = Routing::plain(alloc, n)?;
     routing.rule = rule;
     cut(&mut routing.cuts, ends);
-    blank_image(alloc, n, room, &routing)
+    Ok(routing)
 }
 
 /// Cuts the wires with these ends.

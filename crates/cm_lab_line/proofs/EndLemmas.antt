@@ -7,37 +7,33 @@ use Rattle.std.specs.Borrow.{Bor}
 use Rattle.cm_lab_line.specs.Words.{texts}
 use Rattle.cm_lab_line.specs.Refusals.{Refusal, Words, ◌>>=◌}
 use Rattle.cm_lab_line.specs.Requests.{BlankAsked}
-use Rattle.cm_lab_line.specs.Blanks.{with_cut, with_ends, with_rule}
+use Rattle.cm_lab_line.specs.Blanks.{with_choice, with_cut, with_ends}
 
--- behind a rule the words go on
-ruled : (machine : BlankAsked) (a b : List ℕ) (rest : List (Bor (List ℕ))) → bytes_eq a (codes "--rule") ≡ true
-    → with_ends machine (a ∷ b ∷ texts rest) ≡ (with_rule machine b >>= λ m. with_ends m (texts rest))
-ruled machine a b [] is =
-    ap (λ (t : Bool). if t then with_rule machine b >>= (λ m. Err Words) else Err Words) is
-ruled machine a b (c ∷ rest) is =
-    ap (λ (t : Bool). if t then with_rule machine b >>= (λ m. with_ends m (c.now ∷ texts rest))
-    else (if bytes_eq a (codes "--cut") then with_cut machine b c.now >>= (λ m. with_ends m (texts rest))
-    else Err Words)) is
+-- behind an option with one word the words go on
+chosen : (machine : BlankAsked) (a b : List ℕ) (rest : List (Bor (List ℕ))) → bytes_eq a (codes "--cut") ≡ false
+    → with_ends machine (a ∷ b ∷ texts rest) ≡ (with_choice machine a b >>= λ m. with_ends m (texts rest))
+chosen machine a b [] is =
+    ap (λ (t : Bool). if t then Err Words else with_choice machine a b >>= (λ m. Err Words)) is
+chosen machine a b (c ∷ rest) is =
+    ap (λ (t : Bool). if t then with_cut machine b c.now >>= (λ m. with_ends m (texts rest))
+    else with_choice machine a b >>= (λ m. with_ends m (c.now ∷ texts rest))) is
 
 -- and behind a cut wire
-cut : (machine : BlankAsked) (a b c : List ℕ) (rest : List (Bor (List ℕ))) → bytes_eq a (codes "--rule") ≡ false
-    → bytes_eq a (codes "--cut") ≡ true
+cut : (machine : BlankAsked) (a b c : List ℕ) (rest : List (Bor (List ℕ))) → bytes_eq a (codes "--cut") ≡ true
     → with_ends machine (a ∷ b ∷ c ∷ texts rest) ≡ (with_cut machine b c >>= λ m. with_ends m (texts rest))
-cut machine a b c rest other is =
-    ap (λ (t : Bool). if t then with_rule machine b >>= (λ m. with_ends m (c ∷ texts rest))
-    else (if bytes_eq a (codes "--cut") then with_cut machine b c >>= (λ m. with_ends m (texts rest))
-    else Err Words)) other
-    ∙ ap (λ (t : Bool). if t then with_cut machine b c >>= (λ m. with_ends m (texts rest)) else Err Words) is
+cut machine a b c rest is =
+    ap (λ (t : Bool). if t then with_cut machine b c >>= (λ m. with_ends m (texts rest))
+    else with_choice machine a b >>= (λ m. with_ends m (c ∷ texts rest))) is
 
--- the words go on behind a rule that was read
-pub ruled_goes_on : (machine changed : BlankAsked) (words : List (Bor (List ℕ))) (d : Bor (List ℕ)) → 2 ≤ length words
-    → bytes_eq (get_or words 0 d).now (codes "--rule") ≡ true
-    → with_rule machine (get_or words 1 d).now ≡ Ok changed
+-- the words go on behind an option that was read
+pub chosen_goes_on : (machine changed : BlankAsked) (words : List (Bor (List ℕ))) (d : Bor (List ℕ)) → 2 ≤ length words
+    → bytes_eq (get_or words 0 d).now (codes "--cut") ≡ false
+    → with_choice machine (get_or words 0 d).now (get_or words 1 d).now ≡ Ok changed
     → with_ends machine (texts words) ≡ with_ends changed (texts (take (length words - 2) (drop 2 words)))
-ruled_goes_on machine changed [] d h is e = absurd (omega arith)
-ruled_goes_on machine changed (a ∷ []) d h is e = absurd (omega arith)
-ruled_goes_on machine changed (a ∷ b ∷ rest) d h is e =
-    ruled machine a.now b.now rest is
+chosen_goes_on machine changed [] d h is e = absurd (omega arith)
+chosen_goes_on machine changed (a ∷ []) d h is e = absurd (omega arith)
+chosen_goes_on machine changed (a ∷ b ∷ rest) d h is e =
+    chosen machine a.now b.now rest is
     ∙ (ap (λ (r : Result BlankAsked Refusal). r >>= λ m. with_ends m (texts rest)) e
     ∙ ap (λ (ws : List (Bor (List ℕ))). with_ends changed (texts ws)) (sym (take_rest (a ∷ b ∷ rest) 2)))
 
@@ -45,13 +41,13 @@ ruled_goes_on machine changed (a ∷ b ∷ rest) d h is e =
 pub cut_goes_on : (machine changed : BlankAsked) (words : List (Bor (List ℕ))) (d dim : Bor (List ℕ))
     (after : List (Bor (List ℕ))) → 2 ≤ length words
     → take (length words - 2) (drop 2 words) ≡ dim ∷ after
-    → bytes_eq (get_or words 0 d).now (codes "--rule") ≡ false → bytes_eq (get_or words 0 d).now (codes "--cut") ≡ true
+    → bytes_eq (get_or words 0 d).now (codes "--cut") ≡ true
     → with_cut machine (get_or words 1 d).now dim.now ≡ Ok changed
     → with_ends machine (texts words) ≡ with_ends changed (texts after)
-cut_goes_on machine changed [] d dim after h split other is e = absurd (omega arith)
-cut_goes_on machine changed (a ∷ []) d dim after h split other is e = absurd (omega arith)
-cut_goes_on machine changed (a ∷ b ∷ rest) d dim after h split other is e =
+cut_goes_on machine changed [] d dim after h split is e = absurd (omega arith)
+cut_goes_on machine changed (a ∷ []) d dim after h split is e = absurd (omega arith)
+cut_goes_on machine changed (a ∷ b ∷ rest) d dim after h split is e =
     let same : rest ≡ dim ∷ after = sym (take_rest (a ∷ b ∷ rest) 2) ∙ split in
     ap (λ (ws : List (Bor (List ℕ))). with_ends machine (a.now ∷ b.now ∷ texts ws)) same
-    ∙ (cut machine a.now b.now dim.now after other is
+    ∙ (cut machine a.now b.now dim.now after is
     ∙ ap (λ (r : Result BlankAsked Refusal). r >>= λ m. with_ends m (texts after)) e)

@@ -84,11 +84,17 @@ is_command name =
     codes "get" ∷ codes "rows" ∷ codes "put" ∷ codes "picture" ∷ codes "paint" ∷ codes "study" ∷ codes "route"
     ∷ codes "front" ∷ codes "expand" ∷ codes "fresh" ∷ codes "load" ∷ codes "plot" ∷ [])
 
+-- an option that says of a blank machine which it is
+abbrev pub is_fresh_option : Text → Bool
+is_fresh_option word =
+    bytes_eq word (codes "--cut") || (bytes_eq word (codes "--cut-random") || (bytes_eq word (codes "--seed")
+    || bytes_eq word (codes "--rule")))
+
 -- an option of `load`
 abbrev pub is_load_option : Text → Bool
 is_load_option word =
-    bytes_eq word (codes "--rule") || (bytes_eq word (codes "--pattern") || (bytes_eq word (codes "--until")
-    || bytes_eq word (codes "--seed")))
+    is_fresh_option word || (bytes_eq word (codes "--pattern") || (bytes_eq word (codes "--until")
+    || (bytes_eq word (codes "--skip") || bytes_eq word (codes "--seeds"))))
 
 -- an option of the command of this name
 abbrev pub is_option_of : Text → Text → Bool
@@ -97,7 +103,7 @@ is_option_of command word =
     else (if bytes_eq command (codes "picture") then is_sign word || is_setting word
     else (if bytes_eq command (codes "study") then bytes_eq word (codes "--messages")
     else (if bytes_eq command (codes "front") then bytes_eq word (codes "--out")
-    else (if bytes_eq command (codes "fresh") then bytes_eq word (codes "--cut") || bytes_eq word (codes "--rule")
+    else (if bytes_eq command (codes "fresh") then is_fresh_option word
     else (if bytes_eq command (codes "load") then is_load_option word else false)))))
 
 -- the first option that a command has not

@@ -48,22 +48,35 @@ pub record BlankAsked : Type 0 where
   pub n : ℕ
   pub room : ℕ
   pub cuts : List WireEnd
+  -- so many wires are drawn, by this seed
+  pub drawn : ℕ
+  pub seed : ℕ
   pub rule : ℕ
   pub out : Text
 
 -- a blank machine by the name of its file
 abbrev pub blank_asked : Blank → BlankAsked
-blank_asked blank =
-    record { n = blank.n; room = blank.room; cuts = blank.cuts.items; rule = blank.rule; out = blank.out.now }
+blank_asked blank = record {
+  n = blank.n;
+  room = blank.room;
+  cuts = blank.cuts.items;
+  drawn = blank.drawn;
+  seed = blank.seed;
+  rule = blank.rule;
+  out = blank.out.now;
+}
 
--- loads of one pattern on one machine, at these rates
+-- loads of one pattern, on one machine of which these wires are cut and so many that are drawn, at these rates
 pub record LoadsAsked : Type 0 where
   pub trial : Trial
+  pub cuts : List WireEnd
+  pub drawn : ℕ
   pub rates : List ℕ
 
--- loads, by their rates
+-- loads, by their wires and rates
 abbrev pub loads_asked : Loads → LoadsAsked
-loads_asked loads = record { trial = loads.trial; rates = loads.rates.items }
+loads_asked loads =
+    record { trial = loads.trial; cuts = loads.cuts.items; drawn = loads.drawn; rates = loads.rates.items }
 
 -- what words may ask for
 pub data Request : Type 0 where

@@ -4,10 +4,10 @@ ghost use Rattle.std.specs.Prelude.{◌≡◌, IfOk, IfErr, Ok};
 ghost use Rattle.cm_lab_line.specs.Words.{texts};
 ghost use Rattle.cm_lab_line.specs.Refusals.{Tells};
 ghost use Rattle.cm_lab_line.specs.Requests.{blank_asked};
-ghost use Rattle.cm_lab_line.specs.Blanks.{blank, with_cut, with_ends, with_rule};
+ghost use Rattle.cm_lab_line.specs.Blanks.{blank, wire_named, with_choice, with_cut, with_ends};
 
 use crate::fault::CommandFault;
-use crate::operands::{Operand, file_named, number};
+use crate::operands::{Operand, file_named, long_number, number};
 use cm_fresh::WireEnd;
 use std::alloc::Global;
 
@@ -17,6 +17,9 @@ pub struct Blank<'a> {
     pub n: u16,
     pub room: u16,
     pub cuts: Vec<WireEnd>,
+    /// So many wires more are drawn, by this seed.
+    pub drawn: u16,
+    pub seed: u64,
     pub rule: u16,
     pub out: &'a str,
 }
@@ -37,6 +40,8 @@ pub(crate) fn read_blank<'a>(
         n,
         room,
         cuts: Vec::new(alloc),
+        drawn: 0,
+        seed: 1,
         rule: 0,
         out: "",
     };
@@ -60,28 +65,46 @@ fn with_ends<'a>(
             Ok(Blank { out, ..machine })
         }
         [option, word, after @ ..] => {
-            if *option == "--rule" {
-                let ruled = with_rule(alloc, machine, word)?;
-                with_ends(alloc, ruled, after)
-            } else if *option == "--cut" {
+            if *option == "--cut" {
                 let Some((dim, after)) = after.split_first() else {
                     return Err(CommandFault::Words);
                 };
                 let cut = with_cut(alloc, machine, word, dim)?;
                 with_ends(alloc, cut, after)
             } else {
-                Err(CommandFault::Words)
+                let changed = with_choice(alloc, machine, option, word)?;
+                with_ends(alloc, changed, after)
             }
         }
     }
 }
 
-fn with_rule<'a>(alloc: Global, machine: Blank<'a>, word: &str) -> Result<Blank<'a>, CommandFault>
-    ensures value { IfOk result (λ ruled. with_rule (blank_asked machine.entry) word.now ≡ Ok (blank_asked ruled)) }
-    ensures refused { IfErr result (Tells (with_rule (blank_asked machine.entry) word.now)) }
+/// Takes what an option says that has one word behind it.
+fn with_choice<'a>(
+    alloc: Global,
+    machine: Blank<'a>,
+    option: &str,
+    word: &str,
+) -> Result<Blank<'a>, CommandFault>
+    ensures value { IfOk result
+        (λ changed. with_choice (blank_asked machine.entry) option.now word.now ≡ Ok (blank_asked changed)) }
+    ensures refused { IfErr result (Tells (with_choice (blank_asked machine.entry) option.now word.now)) }
 {
-    let rule = number(alloc, Operand::Rule, word)?;
-    Ok(Blank { rule, ..machine })
+    match option {
+        "--rule" => {
+            let rule = number(alloc, Operand::Rule, word)?;
+            Ok(Blank { rule, ..machine })
+        }
+        "--cut-random" => {
+            let drawn = number(alloc, Operand::Count, word)?;
+            Ok(Blank { drawn, ..machine })
+        }
+        "--seed" => {
+            let seed = long_number(alloc, Operand::Seed, word)?;
+            Ok(Blank { seed, ..machine })
+        }
+        _ => Err(CommandFault::Words),
+    }
 }
 
 fn with_cut<'a>(
@@ -95,10 +118,19 @@ fn with_cut<'a>(
     ensures refused { IfErr result (Tells (with_cut (blank_asked machine.entry) chip.now dim.now)) }
 {
     let mut cut = machine;
-    let chip = number(alloc, Operand::Chip, chip)?;
-    let dim = number(alloc, Operand::Dim, dim)?;
-    if cut.cuts.push(WireEnd { chip, dim }).is_err() {
+    let wire = wire_named(alloc, chip, dim)?;
+    if cut.cuts.push(wire).is_err() {
         return Err(CommandFault::Memory);
     }
     Ok(cut)
+}
+
+/// A wire by the words for its chip and its dimension.
+pub(crate) fn wire_named(alloc: Global, chip: &str, dim: &str) -> Result<WireEnd, CommandFault>
+    ensures value { IfOk result (λ wire. wire_named chip.now dim.now ≡ Ok wire) }
+    ensures refused { IfErr result (Tells (wire_named chip.now dim.now)) }
+{
+    let chip = number(alloc, Operand::Chip, chip)?;
+    let dim = number(alloc, Operand::Dim, dim)?;
+    Ok(WireEnd { chip, dim })
 }

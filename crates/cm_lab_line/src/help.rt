@@ -3,7 +3,7 @@
 ghost use Rattle.std.specs.Prelude.{◌≡◌, ◌++◌, IfOk, MatchOption, None, OnOk, Some, string_bytes};
 ghost use Rattle.cm_lab_line.specs.Words.{texts};
 ghost use Rattle.cm_lab_line.specs.Usage.{behind_word, first_word, usage_of, with_usage};
-ghost use Rattle.cm_lab_line.specs.Commands.{is_command, is_load_option, is_option_of, unknown_option};
+ghost use Rattle.cm_lab_line.specs.Commands.{is_command, is_fresh_option, is_load_option, is_option_of, unknown_option};
 
 use crate::operands::is_option;
 use crate::tasks::{is_setting, is_sign};
@@ -57,15 +57,17 @@ cm1lab front IMAGE [--out FILE]
 cm1lab expand SOURCE > PROGRAM
     tells the program of a source, which has constants, lines that are repeated, and lines
     for a field from a neighbour or along the chain, for bits, and for a number added
-cm1lab fresh N CAP [--cut CHIP DIM].. [--rule R] FILE
+cm1lab fresh N CAP [--cut CHIP DIM].. [--cut-random K] [--seed S] [--rule R] FILE
     puts the image of a blank machine of 2^N chips with room for CAP messages in each router,
     1 to 15, into FILE; the wire of CHIP over dimension DIM is cut, by whichever end it is
-    named; rule 0, who came first goes first, or rule 1, the oldest
-cm1lab load N CAP RATE[,RATE].. CYCLES [--rule R] [--pattern P] [--until T] [--seed S]
+    named, and K wires are that are drawn, others by another S; rule 0, who came first goes
+    first, or rule 1, the oldest
+cm1lab load N CAP RATE,.. CYCLES [--cut CHIP DIM].. [--cut-random K] [--seed S] [--rule R] [--pattern P] [--until T] [--skip T] [--seeds K]
     tells a table, a line for each RATE of messages that the processors of a chip offer in a
     petit cycle, as 0.5: what was offered, taken in and delivered on such a blank machine, and
-    how many petit cycles that took; P is uniform, transpose, reversal or hotspot; with
-    --until only the first T petit cycles offer; S draws others
+    how many petit cycles that took; S draws other messages too; P is uniform, transpose,
+    reversal or hotspot; with --until only the first T petit cycles offer, with --skip the
+    first T are not told of; with --seeds means of K loads, and half their 95 % intervals
 cm1lab plot [FILE] > PICTURE
     tells a picture, an SVG, of a table that cm1lab study, cm1lab study --messages or cm1lab
     load told, or of what cm1lab route told, which is in FILE or on standard input: lines over
@@ -174,14 +176,25 @@ fn is_option_of(command: &str, word: &str) -> bool
         "picture" => is_sign(word) || is_setting(word),
         "study" => word == "--messages",
         "front" => word == "--out",
-        "fresh" => word == "--cut" || word == "--rule",
+        "fresh" => is_fresh_option(word),
         "load" => is_load_option(word),
         _ => false,
     }
 }
 
+/// Whether it says of a blank machine which it is.
+fn is_fresh_option(word: &str) -> bool
+    ensures { result ≡ is_fresh_option word.now }
+{
+    word == "--cut" || word == "--cut-random" || word == "--seed" || word == "--rule"
+}
+
 fn is_load_option(word: &str) -> bool
     ensures { result ≡ is_load_option word.now }
 {
-    word == "--rule" || word == "--pattern" || word == "--until" || word == "--seed"
+    is_fresh_option(word)
+        || word == "--pattern"
+        || word == "--until"
+        || word == "--skip"
+        || word == "--seeds"
 }

@@ -74,14 +74,17 @@ pub fn lines_ask_for()
     ensures expand { request_of (codes "cm1lab" ∷ codes "expand" ∷ codes "own.txt" ∷ [])
         ≡ Ok (Expand (codes "own.txt")) }
     ensures fresh { request_of (codes "cm1lab" ∷ codes "fresh" ∷ codes "2" ∷ codes "7" ∷ codes "a.image" ∷ [])
-        ≡ Ok (Fresh (record { n = 2; room = 7; cuts = []; rule = 0; out = codes "a.image" })) }
+        ≡ Ok (Fresh (record { n = 2; room = 7; cuts = []; drawn = 0; seed = 1; rule = 0; out = codes "a.image" })) }
     ensures fresh_with_cuts { request_of
         (codes "cm1lab" ∷ codes "fresh" ∷ codes "4" ∷ codes "3" ∷ codes "--cut" ∷ codes "5" ∷ codes "0" ∷ codes "--rule"
-        ∷ codes "1" ∷ codes "--cut" ∷ codes "2" ∷ codes "1" ∷ codes "a.image" ∷ [])
+        ∷ codes "1" ∷ codes "--cut" ∷ codes "2" ∷ codes "1" ∷ codes "--seed" ∷ codes "8" ∷ codes "--cut-random"
+        ∷ codes "6" ∷ codes "a.image" ∷ [])
         ≡ Ok (Fresh (record {
           n = 4;
           room = 3;
           cuts = record { chip = 5; dim = 0 } ∷ record { chip = 2; dim = 1 } ∷ [];
+          drawn = 6;
+          seed = 8;
           rule = 1;
           out = codes "a.image";
         })) }
@@ -96,13 +99,18 @@ pub fn lines_ask_for()
             until = 400;
             seed = 1;
             cycles = 400;
+            skip = 0;
+            seeds = 1;
           };
+          cuts = [];
+          drawn = 0;
           rates = 50 ∷ 100 ∷ 175 ∷ [];
         })) }
     ensures load_with_options { request_of
         (codes "cm1lab" ∷ codes "load" ∷ codes "8" ∷ codes "7" ∷ codes "2" ∷ codes "400" ∷ codes "--until"
-        ∷ codes "10" ∷ codes "--pattern" ∷ codes "hotspot" ∷ codes "--seed" ∷ codes "9" ∷ codes "--rule" ∷ codes "1"
-        ∷ [])
+        ∷ codes "10" ∷ codes "--pattern" ∷ codes "hotspot" ∷ codes "--cut" ∷ codes "5" ∷ codes "0" ∷ codes "--seed"
+        ∷ codes "9" ∷ codes "--cut-random" ∷ codes "6" ∷ codes "--skip" ∷ codes "50" ∷ codes "--rule" ∷ codes "1"
+        ∷ codes "--seeds" ∷ codes "5" ∷ [])
         ≡ Ok (Load (record {
           trial = record {
             n = 8;
@@ -112,7 +120,11 @@ pub fn lines_ask_for()
             until = 10;
             seed = 9;
             cycles = 400;
+            skip = 50;
+            seeds = 5;
           };
+          cuts = record { chip = 5; dim = 0 } ∷ [];
+          drawn = 6;
           rates = 200 ∷ [];
         })) }
     ensures plot { request_of (codes "cm1lab" ∷ codes "plot" ∷ []) ≡ Ok (Plot None) }
@@ -177,6 +189,13 @@ pub fn lines_are_refused()
         (codes "cm1lab" ∷ codes "fresh" ∷ codes "4" ∷ codes "7" ∷ codes "--cut" ∷ codes "0" ∷ codes "d"
         ∷ codes "a.image" ∷ [])
         ≡ Err (Wanted operand.Dim (codes "d")) }
+    ensures wire_of_a_load { request_of
+        (codes "cm1lab" ∷ codes "load" ∷ codes "4" ∷ codes "7" ∷ codes "1" ∷ codes "10" ∷ codes "--cut" ∷ codes "0"
+        ∷ [])
+        ≡ Err Words }
+    ensures drawn { request_of
+        (codes "cm1lab" ∷ codes "fresh" ∷ codes "4" ∷ codes "7" ∷ codes "--cut-random" ∷ codes "a.image" ∷ [])
+        ≡ Err (Wanted operand.Count (codes "a.image")) }
     ensures rate { request_of
         (codes "cm1lab" ∷ codes "load" ∷ codes "4" ∷ codes "7" ∷ codes "1,0.125" ∷ codes "x" ∷ [])
         ≡ Err (Wanted operand.Rate (codes "0.125")) }

@@ -18,6 +18,7 @@ use Rattle.cm_load.specs.Offers.{offers, target_of}
 abbrev pub no_source : Source
 no_source = record { next = 0; waiting = 0 }
 
+-- what a place has offered
 abbrev pub source_at : List Source → ℕ → Source
 source_at sources place = slice_index_or sources place no_source
 

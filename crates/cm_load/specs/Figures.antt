@@ -1,5 +1,5 @@
 -- The numbers of a load: what was offered, and what became of it. Ours.
-use Rattle.std.specs.Prelude.{◌≡◌, ℕ, ◌+◌, ◌*◌, ◌/◌, ◌^◌, ◌==◌, Bool, List, Option, length, max, fold, nat_le, sum_by, if◌then◌else◌}
+use Rattle.std.specs.Prelude.{◌≡◌, ℕ, ◌+◌, ◌-◌, ◌*◌, ◌/◌, ◌^◌, ◌==◌, Bool, List, Option, length, max, fold, nat_le, sum_by, if◌then◌else◌}
 use Rattle.std.specs.List.{count_by, find, range_with_len}
 use Rattle.cm_load.specs.declared.offers.Load.{Load}
 use Rattle.cm_load.specs.declared.figures.Figures.{Figures}
@@ -27,14 +27,14 @@ most_of cycles latencies = find (is_reached latencies (95 * length latencies)) (
 abbrev pub greatest_of : List ℕ → ℕ
 greatest_of latencies = fold max 0 latencies
 
--- the numbers of a load after so many petit cycles, which left this
-pub record AreFigures (load : Load) (cycles : ℕ) (loaded : Loaded) (figures : Figures) : Type 0 where
+-- the numbers of a load after so many petit cycles, which left this, without the first so many
+pub record AreFigures (load : Load) (skip cycles : ℕ) (loaded : Loaded) (figures : Figures) : Type 0 where
   pub rate : figures.rate ≡ load.rate
-  pub offered : figures.offered ≡ offered_in load cycles
+  pub offered : figures.offered ≡ offered_in load cycles - offered_in load skip
   pub taken : figures.taken ≡ loaded.taken
   pub delivered : figures.delivered ≡ length loaded.latencies
   -- a turn is a petit cycle of a chip
-  pub throughput : figures.throughput ≡ throughput_of (length loaded.latencies) (2 ^ load.dims * cycles)
+  pub throughput : figures.throughput ≡ throughput_of (length loaded.latencies) (2 ^ load.dims * (cycles - skip))
   pub mean : figures.mean ≡ mean_of loaded.latencies
   pub most : figures.most ≡ most_of cycles loaded.latencies
   pub greatest : figures.greatest ≡ greatest_of loaded.latencies

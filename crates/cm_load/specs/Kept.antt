@@ -1,5 +1,5 @@
 -- What a machine under a load is kept as. Ours.
-use Rattle.std.specs.Prelude.{ℕ, List}
+use Rattle.std.specs.Prelude.{◌≡◌, ℕ, List}
 use Rattle.cm_model.specs.declared.message.Message.{Message}
 use Rattle.cm_model.specs.Array.{Chips}
 use Rattle.cm_model.specs.Wiring.{Routing}
@@ -18,3 +18,9 @@ loaded_of routing chips buffers logs clock sources told = record {
   taken = told.taken;
   latencies = told.latencies.items;
 }
+
+-- what was told is what stands there
+pub record IsToldOf (loaded : Loaded) (told : Told) : Type 0 where
+  pub deepest : told.deepest ≡ loaded.deepest
+  pub taken : told.taken ≡ loaded.taken
+  pub latencies : told.latencies.items ≡ loaded.latencies

@@ -1,4 +1,3 @@
-pub mod Draws
 pub mod Offers
 pub mod Asking
 pub mod Telling
@@ -7,3 +6,4 @@ pub mod Kept
 pub mod Figures
 pub mod Tables
 pub mod Trials
+pub mod Spreads

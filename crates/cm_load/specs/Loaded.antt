@@ -1,11 +1,11 @@
 -- A machine under a load, petit cycle after petit cycle, and what it did. Ours.
-use Rattle.std.specs.Prelude.{ℕ, suc, zero, ◌+◌, List, [], replicate}
+use Rattle.std.specs.Prelude.{ℕ, suc, zero, ◌+◌, ◌-◌, List, [], replicate}
 use Rattle.std.specs.Prelude.{◌++◌}
 use Rattle.cm_bits.specs.Bit.{bit, bit_number}
 use Rattle.cm_model.specs.declared.act.Act.TheVariants.{Cycle}
-use Rattle.cm_model.specs.declared.rule.Rule.{Rule}
 use Rattle.cm_model.specs.Processor.{RECV}
 use Rattle.cm_model.specs.Array.{Chips, each_chip, chip_at}
+use Rattle.cm_model.specs.Wiring.{Routing}
 use Rattle.cm_model.specs.Machine.{Machine, blank_machine}
 use Rattle.cm_model.specs.Buffers.{after_act}
 use Rattle.cm_element.specs.Wide.{with_flag_plane}
@@ -61,10 +61,10 @@ after_one cap load loaded = cycled load.dims cap loaded (asking_of load loaded)
 
 -- ---- so many petit cycles
 
--- a blank machine of a cube of n dimensions, which routes by this rule: nothing was offered
-unfoldable pub unloaded : ℕ → Rule → Loaded
-unloaded n rule = record {
-  machine = record (blank_machine n) { routing = record { cuts = []; rule = rule } };
+-- a blank machine of a cube of n dimensions, with this routing: nothing was offered
+unfoldable pub unloaded : ℕ → Routing → Loaded
+unloaded n routing = record {
+  machine = record (blank_machine n) { routing = routing };
   sources = replicate (places n) no_source;
   deepest = 0;
   taken = 0;
@@ -76,9 +76,14 @@ unfoldable pub after_cycles : ℕ → Load → Loaded → ℕ → Loaded
 after_cycles cap load loaded zero = loaded
 after_cycles cap load loaded (suc cycles) = after_one cap load (after_cycles cap load loaded cycles)
 
--- of a blank machine
-abbrev pub loaded_for : ℕ → Load → Rule → ℕ → Loaded
-loaded_for cap load rule cycles = after_cycles cap load (unloaded load.dims rule) cycles
+-- the same, of which nothing was told so far
+abbrev pub untold : Loaded → Loaded
+untold loaded = record loaded { deepest = 0; taken = 0; latencies = [] }
+
+-- a blank machine after so many petit cycles, of which those behind the first so many are told of
+abbrev pub loaded_for : ℕ → Load → Routing → ℕ → ℕ → Loaded
+loaded_for cap load routing skip cycles =
+    after_cycles cap load (untold (after_cycles cap load (unloaded load.dims routing) skip)) (cycles - skip)
 
 -- how many messages the first so many places offer in petit cycle t
 unfoldable pub offered_by : Load → ℕ → ℕ → ℕ

@@ -4,7 +4,7 @@ use Rattle.std.specs.Int.{w32, reverse_bits}
 use Rattle.cm_load.specs.declared.offers.Pattern.{Pattern}
 use Rattle.cm_load.specs.declared.offers.Pattern.TheVariants.{Uniform, Transpose, Reversal, HotSpot}
 use Rattle.cm_load.specs.declared.offers.Load.{Load}
-use Rattle.cm_load.specs.Draws.{draw_of}
+use Rattle.cm_fresh.specs.Draws.{draw_of}
 
 -- how many processors a cube of n dimensions has
 abbrev pub places : ℕ → ℕ

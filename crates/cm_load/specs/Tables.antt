@@ -2,6 +2,8 @@
 use Rattle.std.specs.Prelude.{ℕ, ◌/◌, ◌%◌, List, [], ◌∷◌, ◌++◌, Option, Some, None, codes, decimal}
 use Rattle.std.specs.List.{flat_map}
 use Rattle.cm_load.specs.declared.figures.Figures.{Figures}
+use Rattle.cm_load.specs.declared.spreads.Spread.{Spread}
+use Rattle.cm_load.specs.declared.spreads.Spreads.{Spreads}
 
 -- ---- numbers
 
@@ -60,3 +62,32 @@ load_line figures =
 -- the table: a line of names, and a line for each load
 unfoldable pub table_of : List Figures → List ℕ
 table_of loads = header ++ flat_map load_line loads
+
+-- ---- loads of many seeds
+
+-- so many hundredths at the end of a line
+abbrev pub last_hundredths : ℕ → List ℕ
+last_hundredths x = decimal (x / 100) ++ 46 ∷ [] ++ last_two x ++ 10 ∷ []
+
+-- the names of its columns: behind each mean its half width
+abbrev pub spread_header : List ℕ
+spread_header = codes "rate,throughput,throughput +-,mean,mean +-,p95,p95 +-,greatest,greatest +-\n"
+
+-- a mean and a half width in hundredths
+abbrev pub spread_columns : Spread → List ℕ
+spread_columns spread = hundredths spread.mean ++ hundredths spread.half
+
+-- what was delivered
+abbrev pub throughput_columns : Spreads → List ℕ
+throughput_columns spreads =
+    hundredths spreads.rate ++ thousandths spreads.throughput.mean ++ thousandths spreads.throughput.half
+
+-- the line of loads of a rate
+unfoldable pub spread_line : Spreads → List ℕ
+spread_line spreads =
+    throughput_columns spreads ++ spread_columns spreads.mean ++ spread_columns spreads.most
+    ++ hundredths spreads.greatest.mean ++ last_hundredths spreads.greatest.half
+
+-- the table: a line of names, and a line for each rate
+unfoldable pub spread_table_of : List Spreads → List ℕ
+spread_table_of rates = spread_header ++ flat_map spread_line rates

@@ -11,7 +11,8 @@ use cm_bits::{Field, FlagNo, Proc};
 use cm_element::Run;
 use cm_model::{SENT_PAYLOAD, SENT_PROC, SENT_REL};
 
-/// Every processor offers what the load says in petit cycle t, and asks for what waits there, if it does not ask already.
+/// Every processor offers what the load says in petit cycle t, and asks for what waits there, if it does not ask
+/// already.
 pub(crate) fn ask_all(load: &Load, t: u32, run: &mut Run, sources: &mut [Source], deepest: &mut u32)
     requires dimension { load.now.dims ≤ 12 }
     requires early { t < 2 ^ 31 }

@@ -1,6 +1,6 @@
 //! A machine under a load, petit cycle after petit cycle.
 
-ghost use Rattle.std.specs.Prelude.{◌≡◌, ◌+◌, ◌*◌, ◌<◌, ◌≤◌, ◌^◌, OnOk, length};
+ghost use Rattle.std.specs.Prelude.{◌≡◌, ◌+◌, ◌-◌, ◌*◌, ◌<◌, ◌≤◌, ◌^◌, [], OnOk, length};
 ghost use Rattle.cm_router.specs.Routes.{routing_of};
 ghost use Rattle.cm_petit.specs.Routers.{AreRouters};
 ghost use Rattle.cm_load.specs.Offers.{places};
@@ -30,12 +30,26 @@ pub(crate) struct Told {
     pub(crate) latencies: Vec<u32>,
 }
 
-/// So many petit cycles under a load, of a machine that counts from 0.
+impl Told {
+    /// Nothing was told so far.
+    pub(crate) fn forget(&mut self)
+        ensures deepest { self.new.deepest ≡ 0 }
+        ensures taken { self.new.taken ≡ 0 }
+        ensures latencies { self.new.latencies.items ≡ [] }
+    {
+        self.deepest = 0;
+        self.taken = 0;
+        self.latencies.clear();
+    }
+}
+
+/// A machine goes on under a load, from this count of petit cycles to that one.
 pub(crate) fn go_through(
     sizes: Sizes,
     routing: &Routing,
     load: &Load,
-    cycles: u32,
+    from: u32,
+    to: u32,
     run: &mut Run,
     crossing: &mut Crossing,
     logs: &mut [Vec<Event>],
@@ -46,14 +60,17 @@ pub(crate) fn go_through(
     requires cube { routing.now.cuts.dims ≡ sizes.dims }
     requires routers { AreRouters (2 ^ sizes.dims) sizes.room run.old crossing.old.buffers logs.old }
     requires sources { length sources.old ≡ places load.now.dims }
-    requires few { cycles ≤ 1000000 }
+    requires order { from ≤ to }
+    requires few { to ≤ 1000000 }
     requires taken { told.old.taken ≡ 0 }
-    ensures ok { OnOk result (loaded_of (routing_of routing.now) run.new crossing.new.buffers logs.new cycles
-        sources.new told.new
-        ≡ after_cycles sizes.room load.now (loaded_of (routing_of routing.now) run.old crossing.old.buffers logs.old 0
-        sources.old told.old) cycles) }
+    ensures ok { OnOk result (loaded_of (routing_of routing.now) run.new crossing.new.buffers logs.new to sources.new
+        told.new
+        ≡ after_cycles sizes.room load.now (loaded_of (routing_of routing.now) run.old crossing.old.buffers logs.old
+        from sources.old told.old) (to - from)) }
+    ensures routers { OnOk result (AreRouters (2 ^ sizes.dims) sizes.room run.new crossing.new.buffers logs.new) }
+    ensures sources { length sources.new ≡ length sources.old }
 {
-    for t in 0..cycles {
+    for t in from..to {
         go_on(sizes, routing, load, t, run, crossing, logs, sources, told)?;
     }
     Ok(())

@@ -1,6 +1,6 @@
 //! The numbers of a load.
 
-ghost use Rattle.std.specs.Prelude.{◌≡◌, ◌≤◌, ◌^◌, [], IfOk, replicate, sum_by};
+ghost use Rattle.std.specs.Prelude.{◌≡◌, ◌-◌, ◌≤◌, ◌^◌, [], IfOk, replicate, sum_by};
 ghost use Rattle.cm_bits.specs.Bit.{bit_number};
 ghost use Rattle.cm_model.specs.Each.{each_from};
 ghost use Rattle.cm_model.specs.Keeping.{AreSizes};
@@ -9,6 +9,7 @@ ghost use Rattle.cm_petit.specs.Routers.{events_of};
 ghost use Rattle.cm_load.specs.Offers.{places};
 ghost use Rattle.cm_load.specs.Asking.{no_source};
 ghost use Rattle.cm_load.specs.Loaded.{Loaded, offered_by, offered_in, loaded_for};
+ghost use Rattle.cm_load.specs.Kept.{IsToldOf};
 ghost use Rattle.cm_load.specs.Figures.{throughput_of, mean_of, is_reached, most_of, greatest_of, AreFigures};
 
 use crate::cycles::{Told, go_through};
@@ -17,7 +18,7 @@ use crate::sources::Source;
 use cm_bits::NoMemory;
 use cm_crossing::{Crossing, Sizes};
 use cm_element::Run;
-use cm_message::{Event, Rule};
+use cm_message::Event;
 use cm_router::Routing;
 use std::alloc::Global;
 
@@ -45,13 +46,14 @@ pub struct Figures {
     pub deepest: u32,
 }
 
-/// How many messages are offered in so many petit cycles.
-pub(crate) fn offered_in(load: &Load, cycles: u32) -> u64
+/// How many messages are offered in the petit cycles from this one on, before that one.
+fn offered_from(load: &Load, skip: u32, cycles: u32) -> u64
     requires dimension { load.now.dims ≤ 12 }
-    ensures value { result ≡ offered_in load.now cycles }
+    requires skip { skip ≤ cycles }
+    ensures value { result ≡ offered_in load.now cycles - offered_in load.now skip }
 {
     let mut offered = 0u64;
-    for t in 0..cycles {
+    for t in skip..cycles {
         offered += offered_by(load, t) as u64;
     }
     offered
@@ -146,52 +148,64 @@ pub(crate) fn greatest_of(latencies: &[u32]) -> u32
     greatest
 }
 
-/// The numbers of a load on a blank machine of its cube, whose routers have this room and choose by this rule, after so
-/// many petit cycles.
+/// The numbers of a load on a blank machine of its cube, whose routers have this room and route so, after so many petit
+/// cycles, without the first so many.
 pub fn measure(
     alloc: Global,
     room: u8,
-    rule: Rule,
+    routing: &Routing,
     load: &Load,
+    skip: u32,
     cycles: u32,
 ) -> Result<Figures, NoMemory>
     requires sizes { AreSizes load.now.dims room }
+    requires cube { routing.now.cuts.dims ≡ load.now.dims }
     requires few { cycles ≤ 1000000 }
-    ensures value { IfOk result (λ figures. AreFigures load.now cycles (loaded_for room load.now rule cycles) figures) }
+    requires skip { skip ≤ cycles }
+    ensures value { IfOk result
+        (AreFigures load.now skip cycles (loaded_for room load.now (routing_of routing.now) skip cycles)) }
 {
-    let told = tell(alloc, room, rule, load, cycles)?;
-    Ok(figures_of(load, cycles, told.taken, told.deepest, &told.latencies))
+    let told = tell(alloc, room, routing, load, skip, cycles)?;
+    Ok(figures_of(load, skip, cycles, &told))
 }
 
-/// The numbers of a load after so many petit cycles, of which these were told.
-fn figures_of(load: &Load, cycles: u32, taken: u128, deepest: u32, latencies: &[u32]) -> Figures
+/// The numbers of a load after so many petit cycles, of which these were told without the first so many.
+fn figures_of(load: &Load, skip: u32, cycles: u32, told: &Told) -> Figures
     requires dimension { load.now.dims ≤ 12 }
     requires few { cycles ≤ 1000000 }
-    ensures value { (loaded : Loaded) → taken ≡ loaded.taken → deepest ≡ loaded.deepest
-        → latencies.now ≡ loaded.latencies → AreFigures load.now cycles loaded result }
+    requires skip { skip ≤ cycles }
+    ensures value { (loaded : Loaded) → IsToldOf loaded told.now → AreFigures load.now skip cycles loaded result }
 {
+    let latencies = told.latencies.as_slice();
     let delivered = latencies.len();
-    let turns = u64::from(chip_count(load.dims)) * u64::from(cycles);
+    let turns = u64::from(chip_count(load.dims)) * u64::from(cycles - skip);
     Figures {
         rate: load.rate,
-        offered: offered_in(load, cycles),
-        taken,
+        offered: offered_from(load, skip, cycles),
+        taken: told.taken,
         delivered,
         throughput: throughput_of(delivered, turns),
         mean: mean_of(latencies),
         most: most_of(latencies, cycles),
         greatest: greatest_of(latencies),
-        deepest,
+        deepest: told.deepest,
     }
 }
 
 /// What it tells.
-fn tell(alloc: Global, room: u8, rule: Rule, load: &Load, cycles: u32) -> Result<Told, NoMemory>
+fn tell(
+    alloc: Global,
+    room: u8,
+    routing: &Routing,
+    load: &Load,
+    skip: u32,
+    cycles: u32,
+) -> Result<Told, NoMemory>
     requires sizes { AreSizes load.now.dims room }
+    requires cube { routing.now.cuts.dims ≡ load.now.dims }
     requires few { cycles ≤ 1000000 }
-    ensures taken { IfOk result (λ told. told.taken ≡ (loaded_for room load.now rule cycles).taken) }
-    ensures latencies { IfOk result (λ told. told.latencies.items ≡ (loaded_for room load.now rule cycles).latencies) }
-    ensures deepest { IfOk result (λ told. told.deepest ≡ (loaded_for room load.now rule cycles).deepest) }
+    requires skip { skip ≤ cycles }
+    ensures value { IfOk result (IsToldOf (loaded_for room load.now (routing_of routing.now) skip cycles)) }
 {
     let chips = chip_count(load.dims);
     let mut logs = blank_logs(alloc, usize::from(chips))?;
@@ -200,8 +214,9 @@ fn tell(alloc: Global, room: u8, rule: Rule, load: &Load, cycles: u32) -> Result
         alloc,
         chips,
         room,
-        rule,
+        routing,
         load,
+        skip,
         cycles,
         &mut logs,
         &mut sources,
@@ -213,25 +228,25 @@ fn begin(
     alloc: Global,
     chips: u16,
     room: u8,
-    rule: Rule,
+    routing: &Routing,
     load: &Load,
+    skip: u32,
     cycles: u32,
     logs: &mut [Vec<Event>],
     sources: &mut [Source],
 ) -> Result<Told, NoMemory>
     requires sizes { AreSizes load.now.dims room }
+    requires cube { routing.now.cuts.dims ≡ load.now.dims }
     requires few { cycles ≤ 1000000 }
+    requires skip { skip ≤ cycles }
     requires chips { chips ≡ 2 ^ load.now.dims }
     requires all { chips ≤ 4096 }
     requires logs { events_of logs.old ≡ each_from 0 chips (λ c. []) }
     requires sources { sources.old ≡ replicate (places load.now.dims) no_source }
-    ensures taken { IfOk result (λ told. told.taken ≡ (loaded_for room load.now rule cycles).taken) }
-    ensures latencies { IfOk result (λ told. told.latencies.items ≡ (loaded_for room load.now rule cycles).latencies) }
-    ensures deepest { IfOk result (λ told. told.deepest ≡ (loaded_for room load.now rule cycles).deepest) }
+    ensures value { IfOk result (IsToldOf (loaded_for room load.now (routing_of routing.now) skip cycles)) }
 {
     let mut rows = Run::blank(alloc, chips)?;
     let mut crossing = Crossing::new(alloc, usize::from(chips))?;
-    let routing = routing_by(alloc, load.dims, rule)?;
     let latencies = Vec::new(alloc);
     let mut told = Told {
         deepest: 0,
@@ -244,8 +259,22 @@ fn begin(
     };
     go_through(
         sizes,
-        &routing,
+        routing,
         load,
+        0,
+        skip,
+        &mut rows,
+        &mut crossing,
+        logs,
+        sources,
+        &mut told,
+    )?;
+    told.forget();
+    go_through(
+        sizes,
+        routing,
+        load,
+        skip,
         cycles,
         &mut rows,
         &mut crossing,
@@ -263,17 +292,6 @@ fn chip_count(n: u8) -> u16
     ensures few { result ≤ 4096 }
 {
     1 << n
-}
-
-/// No wire is cut, and routers choose by this rule.
-fn routing_by(alloc: Global, n: u8, rule: Rule) -> Result<Routing, NoMemory>
-    requires dimension { n ≤ 12 }
-    ensures value { IfOk result (λ routing. routing_of routing ≡ record { cuts = []; rule = rule }) }
-    ensures dims { IfOk result (λ routing. routing.cuts.dims ≡ n) }
-{
-    let mut routing = Routing::plain(alloc, n)?;
-    routing.rule = rule;
-    Ok(routing)
 }
 
 fn blank_logs(alloc: Global, count: usize) -> Result<Vec<Vec<Event>>, NoMemory>

@@ -2,20 +2,11 @@
 
 ghost use Rattle.std.specs.Prelude.{◌≡◌, ◌%◌, [], ◌∷◌, codes, None, Some};
 ghost use Rattle.cm_load.specs.declared.offers.Pattern.TheVariants as pattern;
-ghost use Rattle.cm_load.specs.Draws.{draw_of};
 ghost use Rattle.cm_load.specs.Offers.{aimed};
 ghost use Rattle.cm_load.specs.Figures.{greatest_of, mean_of, most_of, throughput_of};
-ghost use Rattle.cm_load.specs.Tables.{load_line};
-
-/// The first draws of two seeds are those that are published of SplitMix64.
-pub fn draws_are_published_ones()
-    ensures first { draw_of 1234567 0 ≡ 6457827717110365317 }
-    ensures second { draw_of 1234567 1 ≡ 3203168211198807973 }
-    ensures third { draw_of 1234567 2 ≡ 9817491932198370423 }
-    ensures fourth { draw_of 1234567 3 ≡ 4593380528125082431 }
-    ensures fifth { draw_of 1234567 4 ≡ 16408922859458223821 }
-    ensures of_0 { draw_of 0 0 ≡ 0xe220_a839_7b1d_cdaf }
-{}
+ghost use Rattle.cm_load.specs.declared.spreads.Column.TheVariants.{Throughput};
+ghost use Rattle.cm_load.specs.Spreads.{quantile_of, half_squared, figures_with};
+ghost use Rattle.cm_load.specs.Tables.{load_line, spread_line};
 
 /// On four chips a place has six bits, on eight seven: of these places messages go to those, whatever is drawn.
 pub fn patterns_aim_so()
@@ -45,4 +36,22 @@ pub fn loads_are_told_so()
       greatest = 5;
       deepest = 0;
     }) ≡ codes "0.50,51084,51083,51010,0.498,1.40,2,5,0\n" }
+{}
+
+/// Quantiles; the square of the half width of two loads, that of 12.707 times half their difference; and the line of
+/// the loads of a rate.
+pub fn spreads_are_told_so()
+    ensures first_quantile { quantile_of 2 ≡ 12707 }
+    ensures fifth_quantile { quantile_of 6 ≡ 2571 }
+    ensures last_quantile { quantile_of 31 ≡ 2043 }
+    ensures later_quantile { quantile_of 1000 ≡ 2043 }
+    ensures of_two { half_squared Throughput (figures_with 3733 ∷ figures_with 4000 ∷ []) ≡ 2877720 }
+    ensures of_like_ones { half_squared Throughput (figures_with 3733 ∷ figures_with 3733 ∷ []) ≡ 0 }
+    ensures line { spread_line (record {
+      rate = 425;
+      throughput = record { mean = 3866; half = 1696 };
+      mean = record { mean = 210; half = 412 };
+      most = record { mean = 950; half = 3176 };
+      greatest = record { mean = 1200; half = 3812 };
+    }) ≡ codes "4.25,3.866,1.696,2.10,4.12,9.50,31.76,12.00,38.12\n" }
 {}

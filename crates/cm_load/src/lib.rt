@@ -3,19 +3,19 @@
 
 mod asking;
 mod cycles;
-mod draws;
 mod figures;
 mod laws;
 mod logs;
 mod offers;
 mod sources;
+mod spreads;
 mod tables;
 mod telling;
 mod trials;
 
-pub use cm_message::Rule;
 pub use figures::{Figures, measure};
-pub use laws::{draws_are_published_ones, loads_are_told_so, patterns_aim_so};
+pub use laws::{loads_are_told_so, patterns_aim_so, spreads_are_told_so};
 pub use offers::{Load, Pattern};
-pub use tables::table;
+pub use spreads::{Column, Spread, Spreads};
+pub use tables::{spread_table, table};
 pub use trials::{LoadFault, Trial};

@@ -2,10 +2,10 @@
 
 ghost use Rattle.std.specs.Prelude.{◌≡◌, ◌+◌, ◌-◌, ◌*◌, ◌/◌, ◌%◌, ◌<◌, ◌≤◌, ◌^◌};
 ghost use Rattle.std.specs.Int.{w32, reverse_bits};
-ghost use Rattle.cm_load.specs.Draws.{draw_of};
+ghost use Rattle.cm_fresh.specs.Draws.{draw_of};
 ghost use Rattle.cm_load.specs.Offers.{places, draw_number, offers, aimed, target_of};
 
-use crate::draws::draw;
+use cm_fresh::draw;
 
 /// Of so many draws a processor that offers most offers at each.
 const ALL: u64 = 1600;

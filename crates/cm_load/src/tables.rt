@@ -3,8 +3,11 @@
 ghost use Rattle.std.specs.Prelude.{◌≡◌, ◌++◌, ◌∷◌, [], ◌/◌, ◌%◌, OnOk, IfOk, decimal};
 ghost use Rattle.cm_load.specs.Tables.{last_digit, last_two, hundredths, thousandths, column_if};
 ghost use Rattle.cm_load.specs.Tables.{header, offer_columns, message_columns, latency_columns, load_line, table_of};
+ghost use Rattle.cm_load.specs.Tables.{last_hundredths, spread_header, spread_columns, throughput_columns};
+ghost use Rattle.cm_load.specs.Tables.{spread_line, spread_table_of};
 
 use crate::figures::Figures;
+use crate::spreads::{Spread, Spreads};
 use cm_bits::NoMemory;
 use cm_digits::{push_byte, push_number, push_piece};
 use std::alloc::Global;
@@ -66,6 +69,66 @@ fn push_latencies(text: &mut Vec<u8>, figures: &Figures) -> Result<(), NoMemory>
     push_hundredths(text, figures.mean)?;
     push_if(text, figures.most)?;
     push_number(text, figures.greatest, b',')
+}
+
+/// The table of loads of many seeds: a line of names, and a line for each rate.
+#[tactic(auto, unfolding(crate::specs::Tables::spread_table_of))]
+pub fn spread_table(alloc: Global, rates: &[Spreads]) -> Result<Vec<u8>, NoMemory>
+    ensures value { IfOk result (λ text. text.items ≡ spread_table_of rates.now) }
+{
+    let mut text = spread_opening(alloc)?;
+    for spreads in rates {
+        push_spread_line(&mut text, spreads)?;
+    }
+    Ok(text)
+}
+
+/// Its first line.
+fn spread_opening(alloc: Global) -> Result<Vec<u8>, NoMemory>
+    ensures value { IfOk result (λ text. text.items ≡ spread_header) }
+{
+    Ok(Vec::from_slice(
+        alloc,
+        b"rate,throughput,throughput +-,mean,mean +-,p95,p95 +-,greatest,greatest +-\n",
+    )?)
+}
+
+/// The line of loads of a rate.
+#[tactic(auto, unfolding(crate::specs::Tables::spread_line))]
+fn push_spread_line(text: &mut Vec<u8>, spreads: &Spreads) -> Result<(), NoMemory>
+    ensures ok { OnOk result (text.new.items ≡ text.old.items ++ spread_line spreads.now) }
+{
+    push_throughput(text, spreads)?;
+    push_spread(text, spreads.mean)?;
+    push_spread(text, spreads.most)?;
+    push_hundredths(text, spreads.greatest.mean)?;
+    push_last_hundredths(text, spreads.greatest.half)
+}
+
+/// What was delivered.
+fn push_throughput(text: &mut Vec<u8>, spreads: &Spreads) -> Result<(), NoMemory>
+    ensures ok { OnOk result (text.new.items ≡ text.old.items ++ throughput_columns spreads.now) }
+{
+    push_hundredths(text, u128::from(spreads.rate))?;
+    push_thousandths(text, spreads.throughput.mean)?;
+    push_thousandths(text, spreads.throughput.half)
+}
+
+/// A mean and a half width in hundredths.
+fn push_spread(text: &mut Vec<u8>, spread: Spread) -> Result<(), NoMemory>
+    ensures ok { OnOk result (text.new.items ≡ text.old.items ++ spread_columns spread) }
+{
+    push_hundredths(text, spread.mean)?;
+    push_hundredths(text, spread.half)
+}
+
+/// So many hundredths, and the end of the line.
+fn push_last_hundredths(text: &mut Vec<u8>, number: u128) -> Result<(), NoMemory>
+    ensures ok { OnOk result (text.new.items ≡ text.old.items ++ last_hundredths number) }
+{
+    push_number(text, number / 100, b'.')?;
+    push_last_two(text, number)?;
+    push_byte(text, b'\n')
 }
 
 /// A number with a comma behind it, or the comma alone.

@@ -1,6 +1,7 @@
-//! A call of cm_fresh.
+//! Calls of cm_fresh.
 
-ghost use Rattle.std.specs.Prelude.{◌≡◌, ◌≢◌, Ok, Err, IfOk, IfErr};
+ghost use Rattle.std.specs.Prelude.{◌≡◌, ◌≢◌, ◌+◌, Ok, Err, IfOk, IfErr, length};
+ghost use Rattle.cm_fresh.specs.Drawn.{cut_wires_of};
 ghost use Rattle.cm_fresh.specs.Fresh.{fresh_of};
 
 use cm_fresh::{FreshFault, WireEnd};
@@ -18,4 +19,20 @@ pub fn fresh(
     ensures refused { IfErr result (λ fault. fault ≢ FreshFault.Memory → fresh_of n room cuts.now rule ≡ Err fault) }
 {
     cm_fresh::fresh(alloc, n, room, cuts, rule)
+}
+
+/// What `cm_fresh::cut_wires` promises, word for word.
+pub fn cut_wires(
+    alloc: Global,
+    n: u16,
+    named: &[WireEnd],
+    count: u16,
+    seed: u64,
+) -> Result<Vec<WireEnd>, FreshFault>
+    ensures value { IfOk result (λ ends. cut_wires_of n named.now count seed ≡ Ok ends.items) }
+    ensures refused { IfErr result (λ fault. fault ≢ FreshFault.Memory
+        → cut_wires_of n named.now count seed ≡ Err fault) }
+    ensures count { IfOk result (λ ends. length ends.items ≡ length named.now + count) }
+{
+    cm_fresh::cut_wires(alloc, n, named, count, seed)
 }

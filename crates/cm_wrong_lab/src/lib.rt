@@ -9,7 +9,7 @@ mod studies;
 mod tasks;
 mod words;
 
-pub use blanks::fresh;
+pub use blanks::{cut_wires, fresh};
 pub use fronts::{front, tell};
 pub use loads::{fault, figures, table};
 pub use studies::{route, study};

@@ -2,30 +2,41 @@
 
 ghost use Rattle.std.specs.Prelude.{◌≡◌, ◌≢◌, ◌∷◌, [], ◌≤◌, None, Some, MatchOption, IfOk, IfErr};
 ghost use Rattle.cm_model.specs.Keeping.{AreSizes};
+ghost use Rattle.std.specs.List.{find};
+ghost use Rattle.cm_fresh.specs.Fresh.{is_stray};
 ghost use Rattle.cm_load.specs.Tables.{table_of};
 ghost use Rattle.cm_load.specs.Trials.{trial_fault, AreFiguresOf};
 
 use cm_bits::NoMemory;
+use cm_fresh::WireEnd;
 use cm_load::{Figures, LoadFault, Trial};
 use std::alloc::Global;
 
 /// What `fault` of `cm_load::Trial` promises, word for word.
-pub fn fault(trial: &Trial, rates: &[u16]) -> Option<LoadFault>
-    ensures value { result ≡ trial_fault trial.now rates.now }
+pub fn fault(trial: &Trial, cuts: &[WireEnd], rates: &[u16]) -> Option<LoadFault>
+    ensures value { result ≡ trial_fault trial.now cuts.now rates.now }
     ensures sizes { MatchOption result (AreSizes trial.now.n trial.now.room) (λ fault. Unit {0}) }
+    ensures wires { MatchOption result (find (is_stray trial.now.n) cuts.now ≡ None) (λ fault. Unit {0}) }
     ensures few { MatchOption result (trial.now.cycles ≤ 1000000) (λ fault. Unit {0}) }
+    ensures skip { MatchOption result (trial.now.skip ≤ trial.now.cycles) (λ fault. Unit {0}) }
+    ensures seeds { MatchOption result (trial.now.seeds ≤ 1000) (λ fault. Unit {0}) }
 {
-    trial.fault(rates)
+    trial.fault(cuts, rates)
 }
 
 /// What `figures` of `cm_load::Trial` promises, word for word.
-pub fn figures(trial: &Trial, alloc: Global, rate: u16) -> Result<Figures, LoadFault>
-    ensures value { IfOk result (λ figures. AreFiguresOf trial.now rate figures) }
-    ensures accepted { IfOk result (λ figures. trial_fault trial.now (rate ∷ []) ≡ None) }
+pub fn figures(
+    trial: &Trial,
+    alloc: Global,
+    cuts: &[WireEnd],
+    rate: u16,
+) -> Result<Figures, LoadFault>
+    ensures value { IfOk result (λ figures. AreFiguresOf trial.now cuts.now rate figures) }
+    ensures accepted { IfOk result (λ figures. trial_fault trial.now cuts.now (rate ∷ []) ≡ None) }
     ensures refused { IfErr result (λ fault. fault ≢ LoadFault.Memory
-        → trial_fault trial.now (rate ∷ []) ≡ Some fault) }
+        → trial_fault trial.now cuts.now (rate ∷ []) ≡ Some fault) }
 {
-    trial.figures(alloc, rate)
+    trial.figures(alloc, cuts, rate)
 }
 
 /// What `cm_load::table` promises, word for word.

@@ -5,15 +5,15 @@ use Rattle.cm_load.proofs.figures.figures_of.Goals as goal
 
 pub overflow_mul-turns : goal.overflow_mul-turns
 overflow_mul-turns c =
-    let few : c.from-2.result ≤ 1000000 = omega (arith, c.from-2.ensures, c.requires.few) in
+    let few : c.from-2.result ≤ 1000000 = omega (arith, c.from-2.ensures, c.requires.few, c.requires.skip) in
     omega (arith, mul-le-mul_left c.from.result few, c.from.ensures, c.chip_count.ensures.few)
 
 pub returns : goal.returns
 returns c = record {
-  value = λ loaded taken deepest is. record {
+  value = λ loaded told. let is = c.as_slice-latencies.ensures.value ∙ told.latencies in record {
     rate = refl;
-    offered = c.offered_in.ensures.value;
-    taken = taken;
+    offered = c.offered_from.ensures.value;
+    taken = told.taken;
     delivered = ap length is;
     throughput = c.throughput_of.ensures.value
         ∙ (ap (λ (k : ℕ). throughput_of k (c.from.result * c.from-2.result)) (ap length is)
@@ -23,6 +23,6 @@ returns c = record {
     mean = c.mean_of.ensures.value ∙ ap mean_of is;
     most = c.most_of.ensures.value ∙ ap (most_of c.args.cycles) is;
     greatest = c.greatest_of.ensures.value ∙ ap greatest_of is;
-    deepest = deepest;
+    deepest = told.deepest;
   };
 }

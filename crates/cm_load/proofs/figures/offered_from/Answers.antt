@@ -1,16 +1,12 @@
-use Rattle.std.proofs.Common.{◌≡◌, ℕ, suc, ◌+◌, refl, ap, ◌∙◌, arith}
+use Rattle.std.proofs.Common.{◌≡◌, ℕ, suc, ◌+◌, ap, ◌∙◌, arith}
 use Rattle.cm_load.specs.declared.offers.Load.{Load}
 use Rattle.cm_load.specs.Offers.{places}
 use Rattle.cm_load.specs.Loaded.{offered_by, offered_in}
-use Rattle.cm_load.proofs.figures.offered_in.Goals as goal
+use Rattle.cm_load.proofs.figures.offered_from.Goals as goal
 
 one_more : (load : Load) (t : ℕ) → offered_in load (t + 1) ≡ offered_in load t + offered_by load t (places load.dims)
 unfolding offered_in
 one_more load t = let next : t + 1 ≡ suc t = omega arith in ap (λ (k : ℕ). offered_in load k) next
-
-pub loop-t-init : goal.loop-t-init
-unfolding offered_in
-loop-t-init c = record { so_far = refl; within = omega arith }
 
 pub loop-t-preserved : goal.loop-t-preserved
 loop-t-preserved c = record {
@@ -26,4 +22,5 @@ loop-t-preserved c = record {
 pub returns : goal.returns
 returns c =
     let all : c.loop-t.t ≡ c.args.cycles = omega arith in
-    record { value = c.loop-t.invariant.so_far ∙ ap (λ (k : ℕ). offered_in c.args.load.now k) all }
+    let sum = c.loop-t.invariant.so_far ∙ ap (λ (k : ℕ). offered_in c.args.load.now k) all in
+    record { value = omega (arith, sum) }

@@ -1,6 +1,6 @@
 use Rattle.std.proofs.Common.{refl}
-use Rattle.cm_load.specs.Draws.{draw_of}
-use Rattle.cm_load.proofs.laws.draws_are_published_ones.Goals as goal
+use Rattle.cm_fresh.specs.Draws.{draw_of}
+use Rattle.cm_fresh.proofs.fresh_laws.draws_are_published_ones.Goals as goal
 
 pub returns : goal.returns
 unfolding draw_of

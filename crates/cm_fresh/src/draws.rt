@@ -1,7 +1,7 @@
 //! Numbers that are drawn.
 
 ghost use Rattle.std.specs.Prelude.{◌≡◌, ◌<◌, ◌^◌};
-ghost use Rattle.cm_load.specs.Draws.{draw_of};
+ghost use Rattle.cm_fresh.specs.Draws.{draw_of};
 
 /// What the state moves on by.
 const STRIDE: u64 = 0x9e37_79b9_7f4a_7c15;

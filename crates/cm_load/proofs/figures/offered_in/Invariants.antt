@@ -1,7 +1,0 @@
-use Rattle.std.proofs.Common.{◌≡◌, ◌≤◌, ◌*◌}
-use Rattle.cm_load.specs.Loaded.{offered_in}
-use Rattle.cm_load.proofs.figures.offered_in.Given as goal
-
--- those of so many petit cycles
-abbrev pub invariant-loop-t : goal.invariant-loop-t
-invariant-loop-t l = record { so_far : l.offered ≡ offered_in l.load l.t; within : l.offered ≤ l.t * 65536 }
