@@ -1,13 +1,24 @@
 -- A front end over the machine of an image that is opened.
-use Rattle.std.proofs.Common.{◌≡◌, ℕ, Option, Result, Ok, Err, Vec, List}
+use Rattle.std.proofs.Common.{◌≡◌, ℕ, Option, Result, Ok, Err, Vec, List, refl, sym, subst}
 use Rattle.std.specs.Prelude.{IfOk, IfErr}
 use Rattle.std.specs.declared.alloc.Global.{Global}
+use Rattle.cm_sizes.specs.declared.opening.OpenFault.{OpenFault}
+use Rattle.cm_sizes.specs.declared.opening.OpenFault.TheVariants as unopened
 use Rattle.cm_sizes.specs.Sizes.{SizedMachine}
-use Rattle.cm_sizes.specs.Opening.{opened}
+use Rattle.cm_sizes.specs.Opening.{opened, IsUnopened}
 use Rattle.cm_front.specs.declared.images.FrontFault.{FrontFault}
 use Rattle.cm_front.specs.declared.images.FrontFault.TheVariants.{Image, Room, Ended, Memory}
-use Rattle.cm_front.specs.Images.{HasEnded, HasFailed, EndsImage, FailsImage}
+use Rattle.cm_front.specs.Images.{refusal_of, HasEnded, HasFailed, EndsImage, FailsImage}
 
+-- it is refused
+pub unopened_so : (image : List ℕ) (before held : Option (List ℕ)) (fault : OpenFault) (told : FrontFault)
+    → told ≡ refusal_of fault → IsUnopened image fault → FailsImage image before before held held told
+unopened_so image before held (unopened.Image fault) told same refused =
+    subst (FailsImage image before before held held) (sym same) (refused, (refl, refl))
+unopened_so image before held unopened.Room told same refused =
+    subst (FailsImage image before before held held) (sym same) (refused.own (λ other. absurd (cc)), (refl, refl))
+
+-- it is opened
 pub ended_so : (image : List ℕ) (start : SizedMachine) (before after held holds : Option (List ℕ))
     (r : Result (Vec ℕ Global) FrontFault) → opened image ≡ Ok start
     → IfOk r (λ text. HasEnded start before after held holds text.items)

@@ -3,12 +3,18 @@ use Rattle.std.specs.Prelude.{◌≡◌, ℕ, Option, Result, Ok, Err, List}
 use Rattle.cm_model.specs.Machine.{Machine}
 use Rattle.cm_image_format.specs.Whole.{text_of}
 use Rattle.cm_session.specs.declared.fault.SessionFault.{SessionFault}
+use Rattle.cm_sizes.specs.declared.opening.OpenFault.{OpenFault}
 use Rattle.cm_sizes.specs.declared.opening.OpenFault.TheVariants as unopened
 use Rattle.cm_sizes.specs.Sizes.{SizedMachine}
 use Rattle.cm_sizes.specs.Opening.{opened, IsUnopened}
 use Rattle.cm_front.specs.declared.images.FrontFault.{FrontFault}
 use Rattle.cm_front.specs.declared.images.FrontFault.TheVariants.{Image, Room, Ended, Memory}
 use Rattle.cm_front.specs.Ends.{Ends}
+
+-- why an image is refused
+abbrev pub refusal_of : OpenFault → FrontFault
+refusal_of (unopened.Image fault) = Image fault
+refusal_of unopened.Room = Room
 
 -- all was done and answered, and this is the image of the machine that is left
 pub record HasEnded (start : SizedMachine) (before after held holds : Option (List ℕ)) (text : List ℕ) : Type 0 where

@@ -29,6 +29,20 @@ pub enum FrontFault {
     Memory,
 }
 
+impl From<OpenFault> for FrontFault {
+    ghost use Rattle.std.specs.Prelude.{◌≡◌};
+    ghost use Rattle.cm_front.specs.Images.{refusal_of};
+
+    ghost from_gives = { λ fault whole. whole ≡ refusal_of fault };
+
+    fn from(fault: OpenFault) -> FrontFault {
+        match fault {
+            OpenFault::Image(own) => FrontFault::Image(own),
+            OpenFault::Room => FrontFault::Room,
+        }
+    }
+}
+
 /// Does and answers the lines of a source with the machine of an image, on one thread, and gives the image that is
 /// left.
 pub fn front_image<I: Source, O: Sink>(
@@ -46,8 +60,7 @@ pub fn front_image<I: Source, O: Sink>(
 {
     match open_image(alloc, image) {
         Ok(machine) => front_any(alloc, machine, commands, out),
-        Err(OpenFault::Image(fault)) => Err(FrontFault::Image(fault)),
-        Err(OpenFault::Room) => Err(FrontFault::Room),
+        Err(fault) => Err(FrontFault::from(fault)),
     }
 }
 
