@@ -47,6 +47,7 @@ pub fn run_files<S: SessionRunner, H: Outside, I: Source, O: Sink>(
 ) -> Result<(), ProgramFault>
     requires can { (any : SizedMachine) → sharing_fault any.n line.now.sharing ≡ None → S.can_run runner any }
     requires alone { line.now.sharing.workers ≡ 1 → ¬ S.may_want runner }
+    requires shared { S.shares runner line.now.sharing }
     requires reader { I.has_failed commands.old ≡ false }
     requires writer { O.has_failed answers.old ≡ false }
     ensures does { Did H.does outside.old outside.new (DoesRun (reads_by H.File.left H.File.has_failed) line.now

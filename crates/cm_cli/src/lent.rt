@@ -3,6 +3,7 @@
 ghost use Rattle.std.specs.Prelude.{◌≡◌, false, None, IsErrOf};
 ghost use Rattle.std.specs.Thread.{IsSync};
 ghost use Rattle.cm_sizes.specs.Sizes.{SizedMachine, sized};
+ghost use Rattle.cm_cli.specs.declared.sharing.Sharing.{Sharing};
 ghost use Rattle.cm_cli.specs.Sharing.{sharing_fault};
 ghost use Rattle.cm_outside.specs.Streams.{streams};
 ghost use Rattle.cm_cli.specs.Lent.{Goes};
@@ -26,6 +27,9 @@ pub trait SessionRunner: Drop {
 
     // Whether it may want a thread.
     ghost may_want: { Self → Type 0 };
+
+    // Whether it shares sessions out so.
+    ghost shares: { Self → Sharing → Type 0 };
 
     /// A session on a machine that is lent to it.
     fn go<I: Source, O: Sink>(
@@ -54,6 +58,8 @@ impl SessionRunner for Alone {
 
     ghost may_want = { λ alone. ⊥ };
 
+    ghost shares = { λ alone sharing. sharing.workers ≡ 1 };
+
     fn go<I: Source, O: Sink>(
         self,
         alloc: Global,
@@ -78,6 +84,8 @@ impl<'a, R: Threads + Wait + Sync> SessionRunner for Several<'a, R> {
     ghost can_run = { λ several any. (sharing_fault any.n several.sharing ≡ None) × IsSync R.row };
 
     ghost may_want = { λ several. Unit {0} };
+
+    ghost shares = { λ several sharing. several.sharing ≡ sharing };
 
     fn go<I: Source, O: Sink>(
         self,

@@ -24,6 +24,7 @@ pub run_files-requires : goal.run_files-requires
 run_files-requires g c = record {
   can = λ any shared. tt;
   alone = λ one wants. wants;
+  shared = c.if-workers-eq1.true;
   reader = c.requires.reader;
   writer = c.requires.writer;
 }
