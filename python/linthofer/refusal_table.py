@@ -46,7 +46,7 @@ REFUSALS: Dict[int, Tuple[str, str, str]] = {
         'close other programs, or cut the text'),
     15: ('Word',
         'unknown first word of a line',
-        'lower case; `cm1 chip` knows `nano` alone; a source goes through `cm1lab expand` first'),
+        'lower case; `cm1 chip` knows `nano` alone; a source goes through `cm1lab expand` first; in line 1 a byte order mark may stand before the word, which no editor shows: save without it'),
     16: ('Operands',
         'an operand too few or too many, or none of the words listed',
         'count all words after the first, chip and processor too; a remark comes after `;`; directions are `n`, `e`, `w`, `s`'),
