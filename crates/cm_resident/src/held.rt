@@ -3,6 +3,7 @@
 ghost use Rattle.std.specs.Prelude.{◌≡◌};
 ghost use Rattle.cm_resident.specs.Teams.{HasWorked, IsOfSome};
 
+use crate::admission::Admission;
 use crate::start::Released;
 use crate::worker::Worker;
 use cm_subcube::Block;
@@ -39,17 +40,25 @@ impl Held {
         self.worker.id
     }
 
-    /// Works, as its starter let it begin.
-    pub(crate) fn work<R: Wait>(self, begun: Released, rt: &R, passage: &Passage) -> Vec<Block>
+    /// Works, as the gate admitted it and its starter let it begin.
+    pub(crate) fn work<R: Wait>(
+        self,
+        admission: Admission,
+        begun: Released,
+        rt: &R,
+        passage: &Passage,
+    ) -> Vec<Block>
         requires team { IsOfSome self }
+        requires admitted { admission.worker ≡ self.id }
         ensures value { HasWorked self result.items }
     {
-        let worker = self.release(begun);
+        let worker = self.release(admission, begun);
         worker.work(rt, passage)
     }
 
-    /// The worker, whom its starter let begin.
-    fn release(self, _begun: Released) -> Worker
+    /// The worker, who was admitted and whom its starter let begin.
+    fn release(self, _admission: Admission, _begun: Released) -> Worker
+        requires admitted { _admission.worker ≡ self.id }
         ensures value { result ≡ self }
     {
         let Held { worker } = self;

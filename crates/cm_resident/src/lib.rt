@@ -1,6 +1,7 @@
 //! Workers that run on: each has its blocks and the ends of their lanes, and none is joined before the end of a run.
 #![tactic(auto)]
 
+mod admission;
 mod chooser;
 mod gathering;
 mod held;

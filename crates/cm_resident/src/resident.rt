@@ -349,6 +349,7 @@ fn share_out_without_logs<const N: usize, const CAP: usize, R: Threads + Wait + 
     cycles: usize,
     used: &mut Vec<Part>,
 ) -> Result<(), Want>
+    requires open { passage.now ≡ Passage.Open }
     requires within { k ≤ N - N / 2 }
     requires some { 0 < workers }
     requires enough { workers ≤ 2 ^ k }

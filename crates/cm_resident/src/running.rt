@@ -8,6 +8,7 @@ ghost use Rattle.cm_resident.specs.Starting.{begin, cancel, word_for};
 ghost use Rattle.cm_resident.specs.Teams.{HasWorked, IsOfSome};
 ghost use Rattle.cm_resident.specs.Gathering.{AreEmpty, HaveRoom};
 
+use crate::admission::Admission;
 use crate::held::Held;
 use crate::start::{Starter, Waiter, start_word};
 use crate::worker::Worker;
@@ -49,15 +50,16 @@ struct Left {
 
 impl Ready {
     /// Waits, and then works if it is let begin.
-    fn go<R: Wait>(self, rt: &R, passage: &Passage) -> Left
+    fn go<R: Wait>(self, admission: Admission, rt: &R, passage: &Passage) -> Left
         requires team { IsOfSome self.worker }
+        requires admitted { admission.worker ≡ self.worker.id }
         ensures told { result.waiter ≢ 0 }
         ensures begun { IsSome result.blocks ↔ (result.waiter ≡ begin) }
         ensures value { IfSome result.blocks (λ blocks. HasWorked self.worker blocks.items) }
     {
         let Ready { worker, mut waiter } = self;
         let blocks = match waiter.await_release(rt) {
-            Some(begun) => Some(worker.work(begun, rt, passage)),
+            Some(begun) => Some(worker.work(admission, begun, rt, passage)),
             None => None,
         };
         Left { blocks, waiter }
@@ -117,15 +119,15 @@ fn start<'s, E, R: Wait + Sync>(
     ensures admitted { IfOk result (λ _. (gate : _) → passage.entry.now ≡ Passage.Gated gate
         → admits (gate.vtable, gate.value) ready.worker.id) }
 {
-    passage.admit(ready.worker.id())?;
+    let admission = Admission::ask(passage, ready.worker.id())?;
     let was = Snapshot::of(&ready.worker);
     let started = scope.spawn_with(
         WillWork { was },
         move || -> Option<Vec<Block>>
-            requires { IsOfSome ready.worker }
+            requires { IsOfSome ready.worker × (admission.worker ≡ ready.worker.id) }
             ensures { IfSome result (λ blocks. HasWorked ready.worker blocks.items) }
         {
-            let Left { blocks, waiter: _ } = ready.go(rt, passage);
+            let Left { blocks, waiter: _ } = ready.go(admission, rt, passage);
             blocks
         },
     );
