@@ -235,6 +235,18 @@ fn zeros_taken(alloc: Global, count: usize) -> Result<Result<(), TakeFault>, Fai
     }
 }
 
+/// A reader that fails behind its end.
+static ENDING: [Answer; 3] = [Answer::Takes(2), Answer::Takes(0), Answer::Fails];
+
+/// Whether `take` asks it for nothing there.
+fn is_taken_once(alloc: Global) -> bool {
+    let mut source = Std::new(Scripted::new(&ENDING));
+    match take(alloc, &mut source, 9) {
+        Ok(bytes) => bytes.as_slice() == b"\0\0".as_slice(),
+        Err(_) => false,
+    }
+}
+
 /// Whether a reader of std over three bytes gives them two a call, and then its end.
 fn std_gives_its_bytes() -> bool {
     let mut source = Std::new(b"abc".as_slice());
@@ -261,5 +273,6 @@ fn take_reads_to_the_end_and_no_further_than_its_limit(rt: HostRuntime) -> Resul
     ];
     let wanted = [Ok(()), Err(TakeFault::TooMuch)];
     assert_eq!(rt; (first_not_so(alloc, &TAKEN)?, zeros), (None, wanted));
+    assert!(rt; is_taken_once(alloc), "what stands behind the end");
     Ok(())
 }
