@@ -23,64 +23,71 @@ enum Kind {
     Northward,
 }
 
-/// A machine of 4,096 chips goes through a list: whether all processors ask to send, and how often the gate of four
-/// workers was asked and passed.
+/// A machine of 4,096 chips goes through a list: from which chip on all processors ask to send, and how often the gate of
+/// four workers was asked and passed.
 struct Choice {
     kind: Kind,
     count: u16,
-    ask: bool,
+    asking: u16,
     told: (u64, u64),
 }
 
 /// By the rule of DECISIONS, of four workers, who spare three quarters: a petit cycle counts as 448 acts here and has
 /// two rounds, and no row of memory is in use before a list.
-static CHOICES: [Choice; 8] = [
+static CHOICES: [Choice; 9] = [
     Choice {
         kind: Kind::Cycles,
         count: 1,
-        ask: true,
+        asking: 0,
         told: (0, 0),
     },
     Choice {
         kind: Kind::Cycles,
         count: 8,
-        ask: true,
+        asking: 0,
+        told: (4, 64),
+    },
+    // a machine is at rest only where none asks
+    Choice {
+        kind: Kind::Cycles,
+        count: 8,
+        asking: 4095,
         told: (4, 64),
     },
     Choice {
         kind: Kind::Cycles,
         count: 8,
-        ask: false,
+        asking: 4096,
         told: (0, 0),
     },
     Choice {
         kind: Kind::Eastward,
         count: 0,
-        ask: true,
+        asking: 0,
         told: (0, 0),
     },
     Choice {
         kind: Kind::Eastward,
         count: 800,
-        ask: true,
+        asking: 0,
         told: (0, 0),
     },
     Choice {
         kind: Kind::Eastward,
         count: 1000,
-        ask: true,
+        asking: 0,
         told: (4, 0),
     },
     Choice {
         kind: Kind::Northward,
         count: 800,
-        ask: true,
+        asking: 0,
         told: (0, 0),
     },
     Choice {
         kind: Kind::Eastward,
         count: 4096,
-        ask: false,
+        asking: 4096,
         told: (4, 0),
     },
 ];
@@ -104,13 +111,11 @@ fn list_of(alloc: Global, kind: Kind, count: u16) -> Option<Vec<Act>> {
     Some(acts)
 }
 
-/// 4,096 chips, of which all processors ask to send or none does.
-fn machine_of(alloc: Global, ask: bool) -> Option<Machine<12, 7>> {
+/// 4,096 chips, of which all processors ask to send from this one on.
+fn machine_of(alloc: Global, asking: u16) -> Option<Machine<12, 7>> {
     let mut machine = Machine::<12, 7>::blank(alloc).ok()?;
-    if ask {
-        for chip in 0..4096 {
-            poke_plane(&mut machine, chip, FlagNo::SEND, 0xffff);
-        }
+    for chip in asking..4096 {
+        poke_plane(&mut machine, chip, FlagNo::SEND, 0xffff);
     }
     Some(machine)
 }
@@ -137,7 +142,7 @@ fn chosen<R: Threads + Wait + Sync>(
 fn told<R: Threads + Wait + Sync>(rt: &R, alloc: Global, choice: &Choice) -> Option<Listed>
     requires threads { IsSync R.row }
 {
-    let mut machine = machine_of(alloc, choice.ask)?;
+    let mut machine = machine_of(alloc, choice.asking)?;
     chosen(rt, alloc, choice, &mut machine)
 }
 

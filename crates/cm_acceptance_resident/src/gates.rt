@@ -18,7 +18,7 @@ use std::alloc::Global;
 use std::sync::atomic::{AtomicU64, Ordering};
 use std::sync::{Arc, Wait};
 use std::test::Fail;
-use std::thread::Threads;
+use std::thread::{Threads, yield_now};
 
 /// How often a gate was asked, and how often it was passed.
 #[derive(Drop)]
@@ -250,4 +250,44 @@ fn no_more_workers_are_asked_than_a_smaller_machine_has(rt: HostRuntime) {
         of_two_chips(&rt, rt.alloc(), Kind::Resident),
     ];
     assert_eq!(rt; told, [Some(((None, true), (2, 2))); 2]);
+}
+
+/// How often a gate lets other threads run before it admits a worker: workers that wait have parked by then.
+const TURNS: u32 = 100_000;
+
+/// A gate that takes its time to admit all but the first worker.
+#[derive(Drop)]
+struct Slow;
+
+impl Gate for Slow {
+    ghost admits = { λ gate worker. Unit {0} };
+
+    fn admit(&self, worker: u16) -> bool {
+        if worker > 0 {
+            for _turn in 0..TURNS {
+                yield_now();
+            }
+        }
+        true
+    }
+
+    fn pass(&self, _worker: u16, _round: u32, _blocks: &[Block])
+        requires gathered { All (λ b. IsTrue b.kept.gathered) _blocks.now }
+        requires own { ComesBy _worker _round _blocks.now }
+    {}
+}
+
+/// How four workers that run on end a petit cycle, and whether the machine is then as one thread leaves it.
+fn woken<R: Threads + Wait + Sync>(rt: &R, alloc: Global) -> Option<(Option<RunFault>, bool)>
+    requires threads { IsSync R.row }
+{
+    let passage = Passage::Gated(Box::new(alloc, Slow).ok()?);
+    let mut resident = Resident::new::<4>(rt, alloc, 2, 4, passage).ok()?;
+    let mut machine = asking(alloc)?;
+    run_beside_plain(&mut resident, alloc, &mut machine, &[Act::Cycle], 16)
+}
+
+#[test]
+fn workers_that_have_long_waited_for_their_start_are_woken(rt: HostRuntime) {
+    assert_eq!(rt; woken(&rt, rt.alloc()), Some((None, true)));
 }

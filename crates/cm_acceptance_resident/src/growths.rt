@@ -7,6 +7,7 @@ use cm_array::{Machine, RunFault, Runner, check_stretch};
 use cm_draws::{four_messages_each, has_one_of_four};
 use cm_model::Act;
 use cm_resident::{Resident, team};
+use cm_workers::Forked;
 use std::alloc::Global;
 use std::sync::{Arc, Wait};
 use std::thread::Threads;
@@ -64,6 +65,31 @@ fn is_as_it_has_to_be(refused: Option<Listed>, last: Listed) -> bool {
     last == ((None, true), (asked + 2, 256))
 }
 
+/// The same of two that are joined at each round, which takes memory once more, and threads: the gate was asked for both
+/// before the first of them was started.
+fn is_as_forked_have_to_be(refused: Option<Listed>, last: Listed) -> bool {
+    let (asked, passed) = match refused {
+        None => (0, 0),
+        Some(((Some(RunFault::Memory), true), (0, 0))) => (0, 0),
+        Some(((Some(RunFault::Memory | RunFault::NoThread), true), (2, passed))) => (2, passed),
+        Some(_) => return false,
+    };
+    last == ((None, true), (asked + 2, passed.saturating_add(256)))
+}
+
+/// Whether two workers that are joined at each round go through the program of messages as one thread does, perhaps when
+/// they are asked once more.
+fn forked_go<R: Threads + Wait>(rt: &R, alloc: Global) -> Option<bool>
+    requires threads { IsSync R.row }
+{
+    let calls = no_calls(alloc)?;
+    let passage = gate_of(alloc, NOBODY, &calls)?;
+    let mut forked = Forked::new::<4>(rt, alloc, 2, 2, passage).ok()?;
+    let mut machine = Machine::<4, 7>::blank(alloc).ok()?;
+    let (refused, last) = told_by(&mut forked, alloc, &mut machine, &calls)?;
+    Some(is_as_forked_have_to_be(refused, last) && has_one_of_four(alloc, &machine))
+}
+
 /// Whether two workers go through the program of messages as one thread does, perhaps when they are asked once more.
 fn workers_go<R: Threads + Wait + Sync>(rt: &R, alloc: Global) -> Option<bool>
     requires threads { IsSync R.row }
@@ -76,19 +102,19 @@ fn workers_go<R: Threads + Wait + Sync>(rt: &R, alloc: Global) -> Option<bool>
     Some(is_as_it_has_to_be(refused, last) && has_one_of_four(alloc, &machine))
 }
 
-/// Both; None where memory is wanting beside them.
-fn both<R: Threads + Wait + Sync>(rt: &R, alloc: Global) -> Option<[bool; 2]>
+/// All of these; None where memory is wanting beside them.
+fn all<R: Threads + Wait + Sync>(rt: &R, alloc: Global) -> Option<[bool; 3]>
     requires threads { IsSync R.row }
 {
-    Some([has_team(alloc)?, workers_go(rt, alloc)?])
+    Some([has_team(alloc)?, workers_go(rt, alloc)?, forked_go(rt, alloc)?])
 }
 
 // `.ci/refusals` refuses each growth and each thread in turn: one in all, so that the second time none is.
 #[test]
 fn a_refused_growth_or_thread_leaves_the_machine_as_it_was(rt: HostRuntime) {
-    let told = match both(&rt, rt.alloc()) {
-        None => both(&rt, rt.alloc()),
+    let told = match all(&rt, rt.alloc()) {
+        None => all(&rt, rt.alloc()),
         told => told,
     };
-    assert_eq!(rt; told, Some([true; 2]));
+    assert_eq!(rt; told, Some([true; 3]));
 }
