@@ -1,7 +1,7 @@
 -- Why a machine of given sizes cannot be, why what was built is none,
 -- and whether acts were refused for want of a thread: ours.
 use Rattle.std.specs.Prelude.{◌≢◌, ℕ, ◌+◌, ◌%◌, ◌^◌, Bool, true, false, ◌==◌, ◌||◌, ltb}
-use Rattle.std.specs.Prelude.{Option, Some, None, if◌then◌else◌}
+use Rattle.std.specs.Prelude.{Option, Some, None, if◌then◌else◌, ◌≡◌, cond, Result, MatchResult}
 use Rattle.cm_model.specs.Machine.{Machine}
 use Rattle.cm_model.specs.Unlogged.{standing_messages, has_tag_twice}
 use Rattle.cm_array.specs.declared.machine.MachineFault.{MachineFault}
@@ -31,7 +31,16 @@ is_no_thread NoThread = true
 abbrev pub one_more_lacked : ℕ → ℕ
 one_more_lacked count = (count + 1) % 2 ^ 64
 
--- which is never the count that it was
+-- how often behind an end: once more where a thread was wanting
+abbrev pub lacked_after : Bool → ℕ → ℕ
+lacked_after is_wanting count = cond is_wanting (one_more_lacked count) count
+
+-- a fault that tells a want of a thread is counted, and nothing else is
+abbrev pub CountsLacks : {A E : Type 0} → (E → Bool) → ℕ → ℕ → Result A E → Type 0
+CountsLacks tells_want before after result =
+    MatchResult result (λ _. after ≡ before) (λ fault. after ≡ lacked_after (tells_want fault) before)
+
+-- one more is never the count that it was
 abbrev pub WantsChangeTheirCount : Type 0
 WantsChangeTheirCount = (count : ℕ) → one_more_lacked count ≢ count
 

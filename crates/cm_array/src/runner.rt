@@ -1,11 +1,11 @@
 //! What makes a machine go through a list of acts, and the plain one, of one thread.
 
-ghost use Rattle.std.specs.Prelude.{◌≡◌, ◌↔◌, ◌<◌, ◌^◌, ◌+◌, ◌*◌, ◌++◌, ℕ, cond, IfOk, IsErrOf, IsFalse, IsOk, IsTrue};
-ghost use Rattle.std.specs.Prelude.{MatchResult, OnOk, OnErr, [], false};
+ghost use Rattle.std.specs.Prelude.{◌≡◌, ◌↔◌, ◌<◌, ◌^◌, ◌+◌, ◌*◌, ◌++◌, ℕ, IfOk, IsErrOf, IsFalse, IsOk, IsTrue};
+ghost use Rattle.std.specs.Prelude.{OnOk, OnErr, [], false};
 ghost use Rattle.cm_model.specs.Machine.{run_of};
 ghost use Rattle.cm_model.specs.Account.{account, newly_injected, SameLines};
 ghost use Rattle.cm_array.specs.Acts.{cycles_in, is_cycle, is_late, is_long};
-ghost use Rattle.cm_array.specs.Faults.{is_no_thread, one_more_lacked, plain_threads_lacked, WantsChangeTheirCount};
+ghost use Rattle.cm_array.specs.Faults.{CountsLacks, is_no_thread, plain_threads_lacked, WantsChangeTheirCount};
 ghost use Rattle.cm_array.specs.Parts.{LacksLogRoom};
 
 use crate::machine::Machine;
@@ -69,10 +69,7 @@ pub trait Runner<const N: usize, const CAP: usize> {
         ensures ok { OnOk result (machine.new.machine ≡ run_of N CAP machine.old.machine acts.now) }
         ensures account { OnOk result (SameLines (account N machine.new.machine)
             (account N machine.old.machine ++ newly_injected N machine.old.machine machine.new.machine)) }
-        ensures threads { MatchResult result
-            (λ _. threads_lacked self.new ≡ threads_lacked self.old)
-            (λ fault. threads_lacked self.new
-            ≡ cond (is_no_thread fault) (one_more_lacked (threads_lacked self.old)) (threads_lacked self.old)) }
+        ensures threads { CountsLacks is_no_thread (threads_lacked self.old) (threads_lacked self.new) result }
         ensures err { OnErr result (machine.new.machine ≡ machine.old.machine) };
 }
 
@@ -109,11 +106,7 @@ impl<const N: usize, const CAP: usize> Runner<N, CAP> for Plain {
         ensures memory { IsErrOf result RunFault.Memory
             → LacksLogRoom (cycles_in acts.now * (4 + CAP)) machine.old.log_rooms }
         ensures no_thread { ¬ IsErrOf result RunFault.NoThread }
-        ensures threads { MatchResult result
-            (λ _. plain_threads_lacked self.new ≡ plain_threads_lacked self.old)
-            (λ fault. plain_threads_lacked self.new
-            ≡ cond (is_no_thread fault) (one_more_lacked (plain_threads_lacked self.old))
-            (plain_threads_lacked self.old)) }
+        ensures threads { CountsLacks is_no_thread (plain_threads_lacked self.old) (plain_threads_lacked self.new) result }
         ensures ok { OnOk result (machine.new.machine ≡ run_of N CAP machine.old.machine acts.now) }
         ensures account { OnOk result (SameLines (account N machine.new.machine)
             (account N machine.old.machine ++ newly_injected N machine.old.machine machine.new.machine)) }

@@ -5,7 +5,7 @@ use Rattle.std.proofs.Common.{drop-drop, take-add, take-append-drop}
 use Rattle.std.proofs.Common.{slice_index_or, refl, ap, ◌∙◌, sym, subst, arith, append_assoc, nat_lt, lt-ltb, le-ltb}
 use Rattle.std.proofs.lemmas.Bool.{cases_lt}
 use Rattle.std.proofs.lemmas.Grind.{common_steps}
-use Rattle.cm_array.specs.Faults.{one_more_lacked}
+use Rattle.cm_array.specs.Faults.{lacked_after}
 use Rattle.cm_model.specs.declared.act.Act.{Act}
 use Rattle.cm_model.specs.Machine.{Machine, run_of}
 use Rattle.cm_model.proofs.Runs.{run_of-append}
@@ -269,7 +269,7 @@ gone_on {n} {cap} {stops} {before} {now} {after} gone run on =
 -- and is given up before the next stretch
 pub gone_left : {n cap : ℕ} {stops : Stops} {before now : State} (after : State) (result : Result (Unit {0}) Want)
     (want : Want) → result ≡ Err want → HasGone n cap stops before now → after.session.machine ≡ now.session.machine
-    → after.lacked ≡ cond (is_thread want) (one_more_lacked now.lacked) now.lacked
+    → after.lacked ≡ lacked_after (is_thread want) now.lacked
     → Goes n cap (gone n cap stops before) before after result
 gone_left {n} {cap} {stops} {before} {now} after result want is gone' stays lacked = left_by n cap
     (gone n cap stops before) before after result want is (record {
@@ -281,7 +281,7 @@ gone_left {n} {cap} {stops} {before} {now} after result want is gone' stays lack
             going-rises n cap (stops_at stops now.session.breaks) now.session (drop now.session.position now.acts),
             ap (λ (s : Session). s.position) gone'.session,
           )) gone'.come);
-      lacked = lacked ∙ ap (λ (k : ℕ). cond (is_thread want) (one_more_lacked k) k) gone'.lacked;
+      lacked = lacked ∙ ap (λ (k : ℕ). lacked_after (is_thread want) k) gone'.lacked;
     })
 
 -- or where it is to be told that it stops
@@ -289,7 +289,7 @@ pub stop_left : {n cap : ℕ} {stops : Stops} {before now after : State} (last :
     (result : Result (Unit {0}) Want) (want : Want) → result ≡ Err want → HasGone n cap stops before now
     → HasRun n cap stops now after
     → last.session.machine ≡ after.session.machine
-    → last.lacked ≡ cond (is_thread want) (one_more_lacked after.lacked) after.lacked
+    → last.lacked ≡ lacked_after (is_thread want) after.lacked
     → Goes n cap (gone n cap stops before) before last result
 stop_left {n} {cap} {stops} {before} {now} {after} last result want is gone' run stays lacked =
     left_by n cap (gone n cap stops before) before last result want is (record {
@@ -303,7 +303,7 @@ stop_left {n} {cap} {stops} {before} {now} {after} last result want is gone' run
             ap (λ (s : Session). s.position) (sym run.session ∙ gone'.session),
           )) (further_come gone' run));
       lacked = lacked
-          ∙ ap (λ (k : ℕ). cond (is_thread want) (one_more_lacked k) k) (run.lacked ∙ gone'.lacked);
+          ∙ ap (λ (k : ℕ). lacked_after (is_thread want) k) (run.lacked ∙ gone'.lacked);
     })
 
 -- nothing more is run, and this is told

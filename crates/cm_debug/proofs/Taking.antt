@@ -1,5 +1,5 @@
 -- What a console has taken, piece after piece, and where it stops.
-use Rattle.std.proofs.Common.{◌≡◌, ℕ, ◌+◌, ◌-◌, ◌<◌, ◌≤◌, Bool, false, cond, List, [], ◌∷◌, ◌++◌, length}
+use Rattle.std.proofs.Common.{◌≡◌, ℕ, ◌+◌, ◌-◌, ◌<◌, ◌≤◌, Bool, false, List, [], ◌∷◌, ◌++◌, length}
 use Rattle.std.proofs.Common.{take, drop, take-add, take-append-drop, get_or, Option, Result}
 use Rattle.std.proofs.Common.{refl, ap, ◌∙◌, sym, subst, arith, append_assoc, append-nil, length-append}
 use Rattle.std.proofs.lemmas.Grind.{common_steps}
@@ -7,7 +7,7 @@ use Rattle.std.proofs.KnownBytes.{Appends-trans}
 use Rattle.std.specs.Io.KnownBytes.{Appends, append_known}
 use Rattle.cm_bits.specs.Text.{words_of}
 use Rattle.cm_model.specs.Machine.{Machine}
-use Rattle.cm_array.specs.Faults.{one_more_lacked}
+use Rattle.cm_array.specs.Faults.{lacked_after}
 use Rattle.cm_session.specs.declared.fault.SessionFault.{SessionFault}
 use Rattle.cm_session.specs.declared.command.Command.{Command}
 use Rattle.cm_session.specs.declared.command.Refusal.{Refusal}
@@ -135,7 +135,7 @@ stopped_between {n} {cap} {a} c bytes fault off stays other lacked = record {
     breaks = subst (λ (m : Machine). BreaksOffAmong n cap first (ended_lines taken) m c.out fault) (sym stays)
         (breaks_between n cap first taken a c.out fault told' off);
     lacked = lacked ∙ told'.lacked
-        ∙ sym (ap (λ (b : Bool). cond b (one_more_lacked first.lacked) first.lacked) other);
+        ∙ sym (ap (λ (b : Bool). lacked_after b first.lacked) other);
   });
 }
 
@@ -210,7 +210,7 @@ line_stopped {n} {cap} {a} {c} {asked} {fault} part cleared kept on sent free is
             (subst (λ (x : Answered). BreaksOffIn n cap x
             (record a { line = cleared; out = on; kept = kept; sent = sent }) c.session.machine c.out fault)
             (answered_line n cap a.acts a.session (a.line ++ part) asked is) off.breaks);
-        lacked = off.lacked ∙ ap (λ (k : ℕ). cond (is_no_thread fault) (one_more_lacked k) k) told'.lacked;
+        lacked = off.lacked ∙ ap (λ (k : ℕ). lacked_after (is_no_thread fault) k) told'.lacked;
       });
 }
 

@@ -1,9 +1,9 @@
 -- How many acts a session hands to its runner at once: as many as may be; and what one such stretch does. Ours.
-use Rattle.std.specs.Prelude.{◌≡◌, ℕ, ◌+◌, ◌-◌, ◌<◌, Bool, IsFalse, Result, Ok, Err, List, ◌++◌, cond, drop, length, take}
+use Rattle.std.specs.Prelude.{◌≡◌, ℕ, ◌+◌, ◌-◌, ◌<◌, Bool, IsFalse, Result, Ok, Err, List, ◌++◌, drop, length, take}
 use Rattle.cm_model.specs.declared.act.Act.{Act}
 use Rattle.cm_model.specs.Machine.{run_of}
 use Rattle.cm_array.specs.Acts.{is_long}
-use Rattle.cm_array.specs.Faults.{one_more_lacked}
+use Rattle.cm_array.specs.Faults.{lacked_after}
 use Rattle.cm_session.specs.Stretches.{IsStretch}
 use Rattle.cm_debug.specs.declared.debugger.Stops.{Stops}
 use Rattle.cm_debug.specs.declared.want.Want.{Want}
@@ -32,7 +32,7 @@ pub record HasRun (n cap : ℕ) (stops : Stops) (before after : State) : Type 0 
 -- it is not
 pub record IsRefused (before after : State) (want : Want) : Type 0 where
   pub machine : after.session.machine ≡ before.session.machine
-  pub lacked : after.lacked ≡ cond (is_thread want) (one_more_lacked before.lacked) before.lacked
+  pub lacked : after.lacked ≡ lacked_after (is_thread want) before.lacked
 
 -- how a stretch is run
 abbrev pub Ran : ℕ → ℕ → Stops → State → State → Result (Unit {0}) Want → Type 0

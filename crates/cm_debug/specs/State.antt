@@ -1,8 +1,8 @@
 -- A debugger with its machine: its states, and how it goes from one to the next. Ours.
-use Rattle.std.specs.Prelude.{◌≡◌, ℕ, Bool, Result, Ok, Err, List, ◌++◌, cond, drop}
+use Rattle.std.specs.Prelude.{◌≡◌, ℕ, Bool, Result, Ok, Err, List, ◌++◌, drop}
 use Rattle.cm_model.specs.declared.act.Act.{Act}
 use Rattle.cm_model.specs.Machine.{Machine}
-use Rattle.cm_array.specs.Faults.{one_more_lacked}
+use Rattle.cm_array.specs.Faults.{lacked_after}
 use Rattle.cm_session.specs.Session.{Session, Answered, everywhere, at_breaks, going}
 use Rattle.cm_session.specs.Stretches.{arrived}
 use Rattle.cm_session.specs.Ends.{IsOnTheWay}
@@ -62,7 +62,7 @@ pub record IsDone (one : Answered) (before after : State) : Type 0 where
 -- it is given up: the machine is as it was, or on the way
 pub record IsLeft (n cap : ℕ) (one : Answered) (before after : State) (want : Want) : Type 0 where
   pub machine : IsOnTheWay n cap before.acts before.session one.session after.session.machine
-  pub lacked : after.lacked ≡ cond (is_thread want) (one_more_lacked before.lacked) before.lacked
+  pub lacked : after.lacked ≡ lacked_after (is_thread want) before.lacked
 
 -- how a debugger goes on that is to do and answer this
 abbrev pub Goes : ℕ → ℕ → Answered → State → State → Result (Unit {0}) Want → Type 0

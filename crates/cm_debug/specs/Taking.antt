@@ -1,8 +1,8 @@
 -- How a console takes bytes, and answers a line. Ours.
-use Rattle.std.specs.Prelude.{◌≡◌, ℕ, ◌+◌, ◌*◌, ◌^◌, ◌≤◌, ◌⊎◌, Option, Result, Ok, Err, List, ◌++◌, cond, length}
+use Rattle.std.specs.Prelude.{◌≡◌, ℕ, ◌+◌, ◌*◌, ◌^◌, ◌≤◌, ◌⊎◌, Option, Result, Ok, Err, List, ◌++◌, length}
 use Rattle.std.specs.Io.KnownBytes.{Appends}
 use Rattle.cm_model.specs.Machine.{Machine}
-use Rattle.cm_array.specs.Faults.{one_more_lacked}
+use Rattle.cm_array.specs.Faults.{lacked_after}
 use Rattle.cm_session.specs.declared.fault.SessionFault.{SessionFault}
 use Rattle.cm_session.specs.declared.fault.SessionFault.TheVariants.{Write, Memory, NoThread}
 use Rattle.cm_session.specs.Session.{Answered}
@@ -57,7 +57,7 @@ BreaksOffIn n cap one before machine holds _ = ⊥
 -- it has broken off
 pub record HasBrokenOff (n cap : ℕ) (one : Answered) (before after : Talk) (fault : SessionFault) : Type 0 where
   pub breaks : BreaksOffIn n cap one before after.session.machine after.out fault
-  pub lacked : after.lacked ≡ cond (is_no_thread fault) (one_more_lacked before.lacked) before.lacked
+  pub lacked : after.lacked ≡ lacked_after (is_no_thread fault) before.lacked
 
 -- how a console goes on that is to answer this
 abbrev pub Tells : ℕ → ℕ → Answered → Talk → Talk → Result (Unit {0}) SessionFault → Type 0

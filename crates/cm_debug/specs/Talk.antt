@@ -1,10 +1,10 @@
 -- Where a session stands between two bytes of its commands, and how it ends. Ours.
-use Rattle.std.specs.Prelude.{◌≡◌, ℕ, ◌+◌, ◌≤◌, ◌⊎◌, Option, Some, Result, Ok, Err, OnOk, MatchResult, List, [], ◌++◌, cond}
+use Rattle.std.specs.Prelude.{◌≡◌, ℕ, ◌+◌, ◌≤◌, ◌⊎◌, Option, Some, Result, Ok, Err, OnOk, List, [], ◌++◌}
 use Rattle.std.specs.Prelude.{length}
 use Rattle.std.specs.Io.KnownBytes.{Appends, Consumes, IsAtEnd, append_known}
 use Rattle.cm_model.specs.declared.act.Act.{Act}
 use Rattle.cm_model.specs.Machine.{Machine}
-use Rattle.cm_array.specs.Faults.{one_more_lacked}
+use Rattle.cm_array.specs.Faults.{CountsLacks, lacked_after}
 use Rattle.cm_session.specs.declared.fault.SessionFault.{SessionFault}
 use Rattle.cm_session.specs.declared.fault.SessionFault.TheVariants.{Write, Memory, NoThread}
 use Rattle.cm_session.specs.Session.{Session, Answered, opening, after_lines}
@@ -85,7 +85,7 @@ BreaksOffAmong n cap first lines machine holds _ = ⊥
 pub record IsBroken (n cap : ℕ) (first : Setting) (lines : List (List ℕ)) (now : Talk) (fault : SessionFault)
     : Type 0 where
   pub breaks : BreaksOffAmong n cap first lines now.session.machine now.out fault
-  pub lacked : now.lacked ≡ cond (is_no_thread fault) (one_more_lacked first.lacked) first.lacked
+  pub lacked : now.lacked ≡ lacked_after (is_no_thread fault) first.lacked
 
 -- ---- a source
 
@@ -101,9 +101,7 @@ pub record HasEnded (n cap : ℕ) (first : Setting) (source rest : Option (List 
   pub ends : (more : List ℕ) → MayBeLeft rest more → Ends n cap first.acts (text ++ more) (Some more) first.machine
       first.out last.machine last.out result
   pub end : OnOk result (IsAtEnd rest)
-  pub lacked : MatchResult result
-      (λ _. last.lacked ≡ first.lacked)
-      (λ fault. last.lacked ≡ cond (is_no_thread fault) (one_more_lacked first.lacked) first.lacked)
+  pub lacked : CountsLacks is_no_thread first.lacked last.lacked result
 
 -- the source gave a text to its end, which is taken
 pub record HasTakenAll (n cap : ℕ) (first : Setting) (source rest : Option (List ℕ)) (now : Talk) : Type 0 where

@@ -1,11 +1,11 @@
 //! Acts that are run until the session stops.
 
 ghost use Rattle.std.specs.Prelude.{◌≡◌, ◌<◌, ◌++◌, ◌&&◌, false, drop, length, slice_index_or};
-ghost use Rattle.std.specs.Prelude.{cond, IsFalse, MatchResult, OnOk, OnErr};
+ghost use Rattle.std.specs.Prelude.{IsFalse, OnOk, OnErr};
 ghost use Rattle.cm_model.specs.Machine.{run_of};
 ghost use Rattle.cm_model.specs.declared.act.Act.TheVariants as act;
 ghost use Rattle.cm_array.specs.Acts.{is_late, is_long};
-ghost use Rattle.cm_array.specs.Faults.{one_more_lacked};
+ghost use Rattle.cm_array.specs.Faults.{CountsLacks};
 ghost use Rattle.cm_session.specs.Session.{has_acts, lacks_room, told_by};
 ghost use Rattle.cm_debug.specs.State.{gone, session_of, state, stops_at, Goes};
 ghost use Rattle.cm_debug.specs.Longest.{Ran};
@@ -114,10 +114,7 @@ fn hand_over<const N: usize, const CAP: usize, R: Runner<N, CAP>>(
     requires early { IsFalse (is_late machine.old.machine.clock acts.now) }
     ensures ok { OnOk result (machine.new.machine ≡ run_of N CAP machine.old.machine acts.now) }
     ensures err { OnErr result (machine.new.machine ≡ machine.old.machine) }
-    ensures thread { MatchResult result
-        (λ _. R.threads_lacked runner.new ≡ R.threads_lacked runner.old)
-        (λ want. R.threads_lacked runner.new
-        ≡ cond (is_thread want) (one_more_lacked (R.threads_lacked runner.old)) (R.threads_lacked runner.old)) }
+    ensures thread { CountsLacks is_thread (R.threads_lacked runner.old) (R.threads_lacked runner.new) result }
 {
     match runner.go(machine, acts) {
         Ok(()) => Ok(()),

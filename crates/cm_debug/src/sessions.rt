@@ -1,9 +1,9 @@
 //! A session, from the bytes of a source to those of a sink.
 
-ghost use Rattle.std.specs.Prelude.{◌≡◌, ◌≤◌, ◌*◌, ◌^◌, ◌↔◌, cond, true, false, length, [], IfSome, IsErrOf};
-ghost use Rattle.std.specs.Prelude.{MatchResult, OnOk};
+ghost use Rattle.std.specs.Prelude.{◌≡◌, ◌≤◌, ◌*◌, ◌^◌, ◌↔◌, true, false, length, [], IfSome, IsErrOf};
+ghost use Rattle.std.specs.Prelude.{OnOk};
 ghost use Rattle.std.specs.Io.KnownBytes.{IsAtEnd};
-ghost use Rattle.cm_array.specs.Faults.{one_more_lacked};
+ghost use Rattle.cm_array.specs.Faults.{CountsLacks};
 ghost use Rattle.cm_session.specs.Ends.{Ends, EndsForSome, is_no_thread, is_write};
 ghost use Rattle.cm_debug.specs.Talk.{setting, talk, IsTold, HasEnded, TakesAll};
 
@@ -43,10 +43,7 @@ pub fn session<const N: usize, const CAP: usize, R: Runner<N, CAP>, I: Source, O
     ensures end { OnOk result (IsAtEnd (I.left commands.new)) }
     ensures read { (I.has_failed commands.new ≡ true) ↔ IsErrOf result SessionFault.Read }
     ensures write { O.has_failed out.new ≡ is_write result }
-    ensures thread { MatchResult result
-        (λ _. R.threads_lacked runner.new ≡ R.threads_lacked runner.old)
-        (λ fault. R.threads_lacked runner.new
-        ≡ cond (is_no_thread fault) (one_more_lacked (R.threads_lacked runner.old)) (R.threads_lacked runner.old)) }
+    ensures thread { CountsLacks is_no_thread (R.threads_lacked runner.old) (R.threads_lacked runner.new) result }
 {
     answer_all(alloc, machine, program.acts(), commands, out, runner)
 }

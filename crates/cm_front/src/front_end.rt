@@ -1,9 +1,9 @@
 //! What a front end keeps between two lines, and what a line does.
 
-ghost use Rattle.std.specs.Prelude.{◌≡◌, [], cond, false, IfErr, MatchResult, OnErr, OnOk};
+ghost use Rattle.std.specs.Prelude.{◌≡◌, [], false, IfErr, OnErr, OnOk};
 ghost use Rattle.cm_bits.specs.Text.{words_of};
 ghost use Rattle.cm_model.specs.Machine.{run_of};
-ghost use Rattle.cm_array.specs.Faults.{one_more_lacked};
+ghost use Rattle.cm_array.specs.Faults.{CountsLacks};
 ghost use Rattle.cm_language.specs.Program.{Reading, nothing_read};
 ghost use Rattle.cm_session.specs.Answer.{refused_line};
 ghost use Rattle.cm_debug.specs.Telling.{is_thread};
@@ -70,10 +70,7 @@ impl FrontEnd {
         ensures front { OnOk result (front_of machine.new.machine self.new
             ≡ (after_line N CAP (front_of machine.old.machine self.old) line.now).front) }
         ensures err { OnErr result (machine.new.machine ≡ machine.old.machine) }
-        ensures thread { MatchResult result
-            (λ _. R.threads_lacked runner.new ≡ R.threads_lacked runner.old)
-            (λ want. R.threads_lacked runner.new
-            ≡ cond (is_thread want) (one_more_lacked (R.threads_lacked runner.old)) (R.threads_lacked runner.old)) }
+        ensures thread { CountsLacks is_thread (R.threads_lacked runner.old) (R.threads_lacked runner.new) result }
     {
         text.clear();
         if is_of_program(line) {
@@ -101,10 +98,7 @@ impl FrontEnd {
         ensures front { OnOk result (front_of machine.new.machine self.new
             ≡ (said N CAP (front_of machine.old.machine self.old) (read_more self.old (words_of line.now))).front) }
         ensures err { OnErr result (machine.new.machine ≡ machine.old.machine) }
-        ensures thread { MatchResult result
-            (λ _. R.threads_lacked runner.new ≡ R.threads_lacked runner.old)
-            (λ want. R.threads_lacked runner.new
-            ≡ cond (is_thread want) (one_more_lacked (R.threads_lacked runner.old)) (R.threads_lacked runner.old)) }
+        ensures thread { CountsLacks is_thread (R.threads_lacked runner.old) (R.threads_lacked runner.new) result }
     {
         self.reader.forget_acts();
         if let Err(kind) = read_line(&mut self.reader, alloc, line) {
@@ -129,10 +123,7 @@ fn run_at_once<const N: usize, const CAP: usize, R: Runner<N, CAP>>(
     ensures answer { OnOk result (text.new.items ≡ acts_line machine.old.machine acts.now) }
     ensures machine { OnOk result (machine.new.machine ≡ after_acts N CAP machine.old.machine acts.now) }
     ensures err { OnErr result (machine.new.machine ≡ machine.old.machine) }
-    ensures thread { MatchResult result
-        (λ _. R.threads_lacked runner.new ≡ R.threads_lacked runner.old)
-        (λ want. R.threads_lacked runner.new
-        ≡ cond (is_thread want) (one_more_lacked (R.threads_lacked runner.old)) (R.threads_lacked runner.old)) }
+    ensures thread { CountsLacks is_thread (R.threads_lacked runner.old) (R.threads_lacked runner.new) result }
 {
     push_done(text, machine, acts)?;
     match runner.go(machine, acts) {
@@ -253,10 +244,7 @@ fn ask<const N: usize, const CAP: usize, R: Runner<N, CAP>>(
     ensures machine { OnOk result (machine.new.machine
         ≡ (answered_to N CAP machine.old.machine (question_of N (words_of line.now))).session.machine) }
     ensures err { OnErr result (machine.new.machine ≡ machine.old.machine) }
-    ensures thread { MatchResult result
-        (λ _. R.threads_lacked runner.new ≡ R.threads_lacked runner.old)
-        (λ want. R.threads_lacked runner.new
-        ≡ cond (is_thread want) (one_more_lacked (R.threads_lacked runner.old)) (R.threads_lacked runner.old)) }
+    ensures thread { CountsLacks is_thread (R.threads_lacked runner.old) (R.threads_lacked runner.new) result }
 {
     machine.clock();
     let acts: &[Act] = &[];

@@ -1,12 +1,12 @@
 //! The runner of a program: it shares out the lists for which that pays.
 
-ghost use Rattle.std.specs.Prelude.{◌≡◌, ◌↔◌, ◌-◌, ◌/◌, ◌<◌, ◌≤◌, ◌++◌, [], None, cond, IfOk, IfSome, IsErrOf, IsFalse, IsOk, IsTrue};
-ghost use Rattle.std.specs.Prelude.{MatchResult, OnErr, OnOk};
+ghost use Rattle.std.specs.Prelude.{◌≡◌, ◌↔◌, ◌-◌, ◌/◌, ◌<◌, ◌≤◌, ◌++◌, [], None, IfOk, IfSome, IsErrOf, IsFalse, IsOk, IsTrue};
+ghost use Rattle.std.specs.Prelude.{OnErr, OnOk};
 ghost use Rattle.std.specs.Thread.{IsSync};
 ghost use Rattle.cm_model.specs.Machine.{run_of};
 ghost use Rattle.cm_model.specs.Account.{account, newly_injected, SameLines};
 ghost use Rattle.cm_array.specs.Acts.{is_late, is_long};
-ghost use Rattle.cm_array.specs.Faults.{is_no_thread, one_more_lacked};
+ghost use Rattle.cm_array.specs.Faults.{CountsLacks, is_no_thread};
 ghost use Rattle.cm_workers.specs.Forks.{fork_fault};
 
 use crate::resident::{Share, fault_of, run, share_of, told};
@@ -82,10 +82,7 @@ impl<'a, const N: usize, const CAP: usize, R: Threads + Wait + Sync> Runner<N, C
         ensures ok { OnOk result (machine.new.machine ≡ run_of N CAP machine.old.machine list.now) }
         ensures account { OnOk result (SameLines (account N machine.new.machine)
             (account N machine.old.machine ++ newly_injected N machine.old.machine machine.new.machine)) }
-        ensures threads { MatchResult result
-            (λ _. self.new.threads_lacked ≡ self.old.threads_lacked)
-            (λ fault. self.new.threads_lacked
-            ≡ cond (is_no_thread fault) (one_more_lacked self.old.threads_lacked) self.old.threads_lacked) }
+        ensures threads { CountsLacks is_no_thread self.old.threads_lacked self.new.threads_lacked result }
         ensures err { OnErr result (machine.new.machine ≡ machine.old.machine) }
         ensures blocks { self.new.k ≡ self.old.k }
         ensures workers { self.new.workers ≡ self.old.workers }

@@ -1,7 +1,7 @@
 //! The runner whose workers run on.
 
 ghost use Rattle.std.specs.Prelude.{◌≡◌, ◌≢◌, ◌↔◌, ℕ, ◌+◌, ◌-◌, ◌/◌, ◌^◌, ◌<◌, ◌≤◌, ◌++◌, [], None};
-ghost use Rattle.std.specs.Prelude.{cond, IfOk, IfSome, IsErrOf, IsFalse, IsOk, IsTrue, List, ltb, MatchResult};
+ghost use Rattle.std.specs.Prelude.{IfOk, IfSome, IsErrOf, IsFalse, IsOk, IsTrue, List, ltb, MatchResult};
 ghost use Rattle.std.specs.Prelude.{OnOk, OnErr, get_or, length, vec_capacity};
 ghost use Rattle.std.specs.List.{All};
 ghost use Rattle.std.specs.Thread.{IsSync};
@@ -9,7 +9,7 @@ ghost use Rattle.cm_model.specs.declared.act.Act.{Act};
 ghost use Rattle.cm_model.specs.Machine.{run_of};
 ghost use Rattle.cm_model.specs.Account.{account, newly_injected, SameLines};
 ghost use Rattle.cm_array.specs.Acts.{cycles_in, is_late, is_long};
-ghost use Rattle.cm_array.specs.Faults.{is_no_thread, one_more_lacked};
+ghost use Rattle.cm_array.specs.Faults.{CountsLacks, is_no_thread};
 ghost use Rattle.cm_workers.specs.Forks.{fork_fault, most_blocks, most_workers, of_want};
 ghost use Rattle.cm_resident.specs.Gathering.{AreEmpty, HaveRoom};
 ghost use Rattle.cm_resident.specs.Lineups.{AreLinedUp, AreLinedUpForSome};
@@ -101,10 +101,7 @@ impl<'a, const N: usize, const CAP: usize, R: Threads + Wait + Sync> Runner<N, C
         ensures ok { OnOk result (machine.new.machine ≡ run_of N CAP machine.old.machine acts.now) }
         ensures account { OnOk result (SameLines (account N machine.new.machine)
             (account N machine.old.machine ++ newly_injected N machine.old.machine machine.new.machine)) }
-        ensures threads { MatchResult result
-            (λ _. self.new.threads_lacked ≡ self.old.threads_lacked)
-            (λ fault. self.new.threads_lacked
-            ≡ cond (is_no_thread fault) (one_more_lacked self.old.threads_lacked) self.old.threads_lacked) }
+        ensures threads { CountsLacks is_no_thread self.old.threads_lacked self.new.threads_lacked result }
         ensures admitted { IfOk result (λ _. acts.now ≢ [] → (gate : _) → self.old.passage ≡ Passage.Gated gate
             → (w : ℕ) → w < most_workers N self.old.k self.old.workers → admits (gate.vtable, gate.value) w) }
         ensures err { OnErr result (machine.new.machine ≡ machine.old.machine) }

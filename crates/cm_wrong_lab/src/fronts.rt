@@ -1,8 +1,8 @@
 //! Calls of cm_front.
 
-ghost use Rattle.std.specs.Prelude.{◌≡◌, ◌↔◌, cond, false, true, IsErrOf, MatchResult, OnErr, OnOk};
+ghost use Rattle.std.specs.Prelude.{◌≡◌, ◌↔◌, false, true, IsErrOf, OnErr, OnOk};
 ghost use Rattle.std.specs.Io.KnownBytes.{IsAtEnd};
-ghost use Rattle.cm_array.specs.Faults.{one_more_lacked};
+ghost use Rattle.cm_array.specs.Faults.{CountsLacks, one_more_lacked};
 ghost use Rattle.cm_session.specs.Ends.{is_write};
 ghost use Rattle.cm_debug.specs.Telling.{is_thread};
 ghost use Rattle.cm_front.specs.Front.{front_of, after_line};
@@ -53,10 +53,7 @@ pub fn tell<const N: usize, const CAP: usize, R: Runner<N, CAP>>(
     ensures front { OnOk result (front_of machine.new.machine front.new
         ≡ (after_line N CAP (front_of machine.old.machine front.old) line.now).front) }
     ensures err { OnErr result (machine.new.machine ≡ machine.old.machine) }
-    ensures thread { MatchResult result
-        (λ _. R.threads_lacked runner.new ≡ R.threads_lacked runner.old)
-        (λ want. R.threads_lacked runner.new
-        ≡ cond (is_thread want) (one_more_lacked (R.threads_lacked runner.old)) (R.threads_lacked runner.old)) }
+    ensures thread { CountsLacks is_thread (R.threads_lacked runner.old) (R.threads_lacked runner.new) result }
 {
     front.tell(alloc, machine, runner, line, text)
 }
