@@ -1,6 +1,6 @@
 -- Lines, words and numbers of the text languages: ours.
-use Rattle.std.specs.Prelude.{ℕ, ◌^◌, Bool, true, false, ◌==◌, ◌||◌, ◌&&◌, nat_lt, if◌then◌else◌, Option, Some, None}
-use Rattle.std.specs.Prelude.{List, [], ◌∷◌, drop, slice_index}
+use Rattle.std.specs.Prelude.{◌≡◌, ℕ, ◌^◌, ◌<◌, Bool, true, false, ◌==◌, ◌||◌, ◌&&◌, nat_lt, if◌then◌else◌, Option, Some, None}
+use Rattle.std.specs.Prelude.{List, [], ◌∷◌, ◌++◌, length, drop, slice_index, decimal}
 use Rattle.std.specs.List.{filter, list_all, before_first, slice_split}
 use Rattle.std.specs.Char.{is_digit}
 use Rattle.std.specs.Str.Parse.{digits_value}
@@ -63,3 +63,25 @@ lines_left lines = lines_of lines.rest.now
 -- the words that are left
 abbrev pub words_left : Words → List (List ℕ)
 words_left words = words_in words.rest.now
+
+-- no byte ends a line
+abbrev pub IsUnended : List ℕ → Type 0
+IsUnended bytes = (k : ℕ) → k < length bytes → is_line_end (slice_index bytes k) ≡ false
+
+-- ---- tables
+
+-- a comma
+abbrev pub is_comma : ℕ → Bool
+is_comma byte = byte == 44
+
+-- a point
+abbrev pub is_point : ℕ → Bool
+is_point byte = byte == 46
+
+-- a number and the comma behind it
+abbrev pub number_cell : ℕ → List ℕ
+number_cell x = decimal x ++ 44 ∷ []
+
+-- the last number of a line, and its end
+abbrev pub last_number_cell : ℕ → List ℕ
+last_number_cell x = decimal x ++ 10 ∷ []

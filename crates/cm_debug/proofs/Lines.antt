@@ -1,7 +1,7 @@
 -- Bytes of a line that is open, and lines answered one more.
 use Rattle.std.proofs.Common.{◌≡◌, ℕ, suc, ◌≤◌, ◌<◌, List, [], ◌∷◌, ◌++◌, length, Option, Result}
 use Rattle.std.proofs.Common.{ap, ◌∙◌, sym, arith, append_assoc, append-nil, length-append}
-use Rattle.cm_bits.specs.Text.{lines_of, words_of, without_empty_last}
+use Rattle.cm_bits.specs.Text.{lines_of, words_of, without_empty_last, IsUnended}
 use Rattle.cm_model.specs.declared.act.Act.{Act}
 use Rattle.cm_session.specs.declared.command.Command.{Command}
 use Rattle.cm_session.specs.declared.command.Refusal.{Refusal}
@@ -10,7 +10,6 @@ use Rattle.cm_session.specs.Session.{Session, Answered, told, preceded_by, openi
 use Rattle.cm_session.specs.Ends.{ended_lines, open_line}
 use Rattle.cm_session.proofs.Lines.{after_lines-append, ended_lines-end, ended_lines-more, open_line-more, lines_of-open}
 use Rattle.cm_debug.specs.Talk.{Setting, after_all}
-use Rattle.cm_debug.specs.Telling.{IsUnended}
 
 -- ---- bytes that end no line
 

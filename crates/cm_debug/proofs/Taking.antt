@@ -5,7 +5,7 @@ use Rattle.std.proofs.Common.{refl, ap, ◌∙◌, sym, subst, arith, append_ass
 use Rattle.std.proofs.lemmas.Grind.{common_steps}
 use Rattle.std.proofs.KnownBytes.{Appends-trans}
 use Rattle.std.specs.Io.KnownBytes.{Appends, append_known}
-use Rattle.cm_bits.specs.Text.{words_of}
+use Rattle.cm_bits.specs.Text.{words_of, IsUnended}
 use Rattle.cm_model.specs.Machine.{Machine}
 use Rattle.cm_array.specs.Faults.{lacked_after}
 use Rattle.cm_session.specs.declared.fault.SessionFault.{SessionFault}
@@ -18,7 +18,6 @@ use Rattle.cm_session.proofs.Lines.{ended_lines-append, ended_lines-end, open_li
 use Rattle.cm_debug.specs.Gathering.{BreaksOffBetween}
 use Rattle.cm_debug.specs.Talk.{Talk, Setting, holds_of, count_of, after_all, IsTold, IsBroken, BreaksOffAmong}
 use Rattle.cm_debug.specs.Taking.{BreaksOffIn, HasTaken, HasStopped, HasAnswered, HasBrokenOff}
-use Rattle.cm_debug.specs.Telling.{IsUnended}
 use Rattle.cm_debug.proofs.Breaking.{among_more, breaks_in, breaks_between}
 use Rattle.cm_debug.proofs.Lines.{ended_lines-part, open_line-part, lines-more, answered_line}
 use Rattle.cm_debug.proofs.Sending.{as_gathered, with_none}

@@ -29,7 +29,3 @@ asks_for_acts (Err refusal) = false
 abbrev pub asks_to_run : Result (Option Command) Refusal → Bool
 asks_to_run (Ok (Some Run)) = true
 asks_to_run _ = false
-
--- no byte ends a line
-abbrev pub IsUnended : List ℕ → Type 0
-IsUnended bytes = (k : ℕ) → k < length bytes → is_line_end (slice_index bytes k) ≡ false

@@ -3,7 +3,7 @@
 ghost use Rattle.std.specs.Prelude.{◌≡◌, ◌<◌, ◌≤◌, ◌+◌, ◌*◌, ◌^◌, ◌++◌, ◌∷◌, ◌⊎◌, [], false, true, length, replicate};
 ghost use Rattle.std.specs.Prelude.{take, slice_index, is_err, IfOk, IfSome, IfErr, IsTrue, OnOk};
 ghost use Rattle.std.specs.Io.KnownBytes.{Appends};
-ghost use Rattle.cm_bits.specs.Text.{words_of};
+ghost use Rattle.cm_bits.specs.Text.{words_of, IsUnended};
 ghost use Rattle.cm_session.specs.Bounds.{IsFor};
 ghost use Rattle.cm_session.specs.Commands.{command_of};
 ghost use Rattle.cm_session.specs.Session.{answered};
@@ -12,7 +12,7 @@ ghost use Rattle.cm_debug.specs.Gathering.{answered_bytes, with_gathered, IsCutO
 ghost use Rattle.cm_debug.specs.State.{session_of};
 ghost use Rattle.cm_debug.specs.Talk.{talk};
 ghost use Rattle.cm_debug.specs.Taking.{Takes, Tells};
-ghost use Rattle.cm_debug.specs.Telling.{asks_for_acts, asks_to_run, IsUnended};
+ghost use Rattle.cm_debug.specs.Telling.{asks_for_acts, asks_to_run};
 
 use crate::commands::asks_for_acts;
 use crate::debugger::Debugger;

@@ -6,13 +6,12 @@ use Rattle.std.proofs.lemmas.Grind.{common_steps}
 use Rattle.std.proofs.lemmas.List.Elements.{All-push}
 use Rattle.std.proofs.KnownBytes.{Appends-nil, Consumes-kept, Consumes-trans}
 use Rattle.std.specs.Io.KnownBytes.{Appends, Consumes}
-use Rattle.cm_bits.specs.Text.{lines_of}
+use Rattle.cm_bits.specs.Text.{lines_of, IsUnended}
 use Rattle.cm_model.specs.Machine.{Machine}
 use Rattle.cm_session.specs.declared.fault.SessionFault.{SessionFault}
 use Rattle.cm_session.specs.declared.fault.SessionFault.TheVariants.{Read, Write, TooMuch, Memory, NoThread}
 use Rattle.cm_session.specs.Ends.{ended_lines, open_line}
 use Rattle.cm_debug.specs.Gathering.{IsCutOff}
-use Rattle.cm_debug.specs.Telling.{IsUnended}
 use Rattle.cm_front.specs.Front.{Front}
 use Rattle.cm_front.specs.Ends.{LIMIT, ALL, AreShort, Ends, IsAnswered}
 use Rattle.cm_front.specs.Hearing.{BreaksOff, HasHeard, HearingStops}

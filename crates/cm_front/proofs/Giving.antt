@@ -13,12 +13,12 @@ use Rattle.cm_bits.specs.declared.field.FieldFault.{FieldFault}
 use Rattle.cm_bits.specs.declared.field.FieldFault.TheVariants as field
 use Rattle.cm_language.specs.declared.fault.AsmKind.{AsmKind}
 use Rattle.cm_language.specs.declared.fault.AsmKind.TheVariants.{Operands, Lengths, Word}
-use Rattle.cm_language.specs.Lines.{◌>>=◌, number_operand}
+use Rattle.cm_language.specs.Lines.{◌>>=◌, number_operand, field_unless}
 use Rattle.cm_lab.specs.Data.{processors}
 use Rattle.cm_front.specs.declared.for_all.Asked.{Asked}
 use Rattle.cm_front.specs.declared.for_all.Asked.TheVariants.{Get, GetFlag, GetBuffers, Put, Standing, Clock, Image}
 use Rattle.cm_front.specs.declared.for_all.Asked.TheVariants.{Forget}
-use Rattle.cm_front.specs.ForAll.{in_range, field_unless, field_of, with_numbers, within, alone, get_of_two, get_of_flag}
+use Rattle.cm_front.specs.ForAll.{in_range, field_of, with_numbers, within, alone, get_of_two, get_of_flag}
 use Rattle.cm_front.specs.ForAll.{get_of, put_into, put_words, put_of, asked_by, bare, asked_of}
 use Rattle.cm_front.specs.ForAll.{AreFor}
 

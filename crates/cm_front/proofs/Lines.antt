@@ -4,9 +4,8 @@ use Rattle.std.proofs.Common.{append_assoc, append-nil}
 use Rattle.std.specs.List.{slice_split, All}
 use Rattle.std.proofs.lemmas.List.Splits.{slice_split_at, slice_split_none, length-slice_split}
 use Rattle.std.proofs.lemmas.List.Elements.{All-from_get_or}
-use Rattle.cm_bits.specs.Text.{is_line_end, lines_of, without_empty_last}
+use Rattle.cm_bits.specs.Text.{is_line_end, lines_of, without_empty_last, IsUnended}
 use Rattle.cm_session.specs.Ends.{ended_lines, open_line, but_last, last_of}
-use Rattle.cm_debug.specs.Telling.{IsUnended}
 
 -- bytes that end with the end of a line, or are none, are these lines, whatever follows
 pub record AreLinesOf (given : List ℕ) (done : List (List ℕ)) : Type 0 where

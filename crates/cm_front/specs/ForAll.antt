@@ -8,7 +8,7 @@ use Rattle.cm_bits.specs.declared.field.FieldFault.{FieldFault}
 use Rattle.cm_bits.specs.declared.field.FieldFault.TheVariants as field
 use Rattle.cm_language.specs.declared.fault.AsmKind.{AsmKind}
 use Rattle.cm_language.specs.declared.fault.AsmKind.TheVariants.{Width, Range, Lengths, Word, Operands}
-use Rattle.cm_language.specs.Lines.{◌>>=◌, number_operand}
+use Rattle.cm_language.specs.Lines.{◌>>=◌, number_operand, field_unless}
 use Rattle.cm_lab.specs.Data.{processors}
 use Rattle.cm_front.specs.declared.for_all.Asked.{Asked}
 use Rattle.cm_front.specs.declared.for_all.Asked.TheVariants.{Get, GetFlag, GetBuffers, Put, Standing, Clock, Image}
@@ -28,16 +28,6 @@ is_for_all (word ∷ operands) =
 -- a number below a limit
 abbrev pub in_range : ℕ → ℕ → Result ℕ AsmKind
 in_range limit x = if nat_lt x limit then Ok x else Err Range
-
--- a field's fault as that of a line
-abbrev pub kind_of_field : FieldFault → AsmKind
-kind_of_field field.Width = Width
-kind_of_field field.Range = Range
-
--- the field of an address and a length, unless it has a fault
-abbrev pub field_unless : ℕ → ℕ → Option FieldFault → Result Span AsmKind
-field_unless at len (Some fault) = Err (kind_of_field fault)
-field_unless at len None = Ok (record { at = at; len = len })
 
 -- the same: the address is judged first, then the length, then where the field ends
 abbrev pub field_of : ℕ → ℕ → Result Span AsmKind

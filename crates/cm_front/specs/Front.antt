@@ -18,7 +18,7 @@ use Rattle.cm_source.specs.Says.{verb_of, phrase_of}
 use Rattle.cm_source.specs.Expansion.{with_phrase}
 use Rattle.cm_session.specs.declared.command.Command.{Command}
 use Rattle.cm_session.specs.declared.command.Refusal.{Refusal}
-use Rattle.cm_session.specs.Answer.{line, refused_line, CLOCK}
+use Rattle.cm_session.specs.Answer.{line, refused_line, CLOCK, ok_line}
 use Rattle.cm_session.specs.Session as session
 use Rattle.cm_session.specs.Stretches.{looks_at}
 use Rattle.cm_lab.specs.declared.order.Order.TheVariants.{Chips as by_chips}
@@ -124,10 +124,6 @@ pub record Done : Type 0 where
 -- a machine, and this answer
 abbrev pub done : Machine → List ℕ → Done
 done machine answer = record { machine = machine; answer = answer }
-
--- nothing is told
-abbrev pub ok_line : List ℕ
-ok_line = line (codes "ok" ∷ [])
 
 -- what is done and answered on a cube of n dimensions, where these numbers are given
 abbrev pub obeyed : ℕ → ℕ → Machine → Asked → List ℕ → Done

@@ -2,7 +2,7 @@
 
 ghost use Rattle.std.specs.Prelude.{◌≡◌, ◌+◌, ◌<◌, ◌≤◌, ◌↔◌, drop, false, length, slice_index, take, true};
 ghost use Rattle.std.specs.Prelude.{IfErr, IfOk, IsErrOf, OnOk};
-ghost use Rattle.cm_debug.specs.Telling.{IsUnended};
+ghost use Rattle.cm_bits.specs.Text.{IsUnended};
 ghost use Rattle.cm_front.specs.Ends.{LIMIT};
 ghost use Rattle.cm_front.specs.Hearing.{HasHeard, HearingStops};
 

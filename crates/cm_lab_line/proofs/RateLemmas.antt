@@ -4,9 +4,10 @@ use Rattle.std.proofs.Common.{sym, ap, ◌∙◌, append_assoc, arith, inl, inr,
 use Rattle.std.specs.List.{after_first, before_first, onto_first, position_or_len, prefix_len, slice_split}
 use Rattle.std.specs.Prelude.{not}
 use Rattle.std.proofs.lemmas.List.Splits.{slice_split_first}
+use Rattle.cm_bits.specs.Text.{is_comma}
 use Rattle.cm_lab_line.specs.declared.fault.CommandFault.{CommandFault}
 use Rattle.cm_lab_line.specs.Refusals.{Text, Refusal, Tells, ◌>>=◌}
-use Rattle.cm_lab_line.specs.Rates.{IsCutAtComma, all_rates, is_comma, rate, rates, with_rate}
+use Rattle.cm_lab_line.specs.Rates.{IsCutAtComma, all_rates, rate, rates, with_rate}
 
 -- a list in which nothing passes is not cut
 pub uncut : (p : ℕ → Bool) (xs : List ℕ) → position_or_len p xs ≡ length xs → slice_split p xs ≡ xs ∷ []

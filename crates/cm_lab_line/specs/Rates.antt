@@ -4,17 +4,10 @@ use Rattle.std.specs.Prelude.{option_map, Result, Ok}
 use Rattle.std.specs.Prelude.{List, [], ◌∷◌, ◌++◌, length}
 use Rattle.std.specs.List.{after_first, before_first, position_or_len, slice_split}
 use Rattle.std.specs.Option.{ok_or}
+use Rattle.cm_bits.specs.Text.{is_comma, is_point}
 use Rattle.cm_lab_line.specs.declared.operands.Operand.TheVariants as operand
 use Rattle.cm_lab_line.specs.Refusals.{Text, Refusal, Wanted, ◌>>=◌}
 use Rattle.cm_lab_line.specs.Operands.{digits_below}
-
--- a point
-abbrev pub is_point : ℕ → Bool
-is_point byte = byte == 46
-
--- a comma
-abbrev pub is_comma : ℕ → Bool
-is_comma byte = byte == 44
 
 -- a number of at most sixteen bits
 abbrev pub fitting : ℕ → Option ℕ

@@ -2,9 +2,10 @@
 
 ghost use Rattle.std.specs.Prelude.{◌≡◌, ◌+◌, ◌*◌, ◌<◌, ◌^◌, IfOk, IfErr, IfSome, MatchOption, Ok, length};
 ghost use Rattle.std.specs.List.{position_or_len};
+ghost use Rattle.cm_bits.specs.Text.{is_comma};
 ghost use Rattle.cm_lab_line.specs.Refusals.{Tells};
 ghost use Rattle.cm_lab_line.specs.Operands.{digits_below};
-ghost use Rattle.cm_lab_line.specs.Rates.{IsCutAtComma, behind_point, fitting, hundredths, is_comma, rate, rates};
+ghost use Rattle.cm_lab_line.specs.Rates.{IsCutAtComma, behind_point, fitting, hundredths, rate, rates};
 ghost use Rattle.cm_lab_line.specs.Rates.{with_rate};
 
 use crate::fault::CommandFault;

@@ -37,9 +37,10 @@ use Rattle.cm_language.proofs.Steps.{run, Free, AllUnder, AllHome, under-each, h
 use Rattle.cm_language.proofs.Loops.{IsBehind}
 use Rattle.cm_language.proofs.Selected.{Whole, Pair}
 use Rattle.cm_language.proofs.Lifting.{each_place, with_chips, lifted}
+use Rattle.cm_bits.specs.Bit.{differ}
 use Rattle.cm_phrases.specs.declared.phrase.Phrase.{Phrase}
 use Rattle.cm_phrases.specs.declared.phrase.Phrase.TheVariants.{News, Chain, And, Or, Xor, Not, AddNumber, Test, Keep}
-use Rattle.cm_phrases.specs.Effect.{sender, one_of, assigned, effect, differ}
+use Rattle.cm_phrases.specs.Effect.{sender, one_of, assigned, effect}
 use Rattle.cm_phrases.specs.Acts.{nanos, acts_of, add_bit, keep_bit, fetch_bit}
 use Rattle.cm_phrases.specs.Faults.{overlaps, misfits, writes, writes_condition, names_fixed, first_fault}
 use Rattle.cm_phrases.specs.Laws.{HasFields, machine_after_phrase}

@@ -12,7 +12,8 @@ use Rattle.cm_language.proofs.Bits.{reads, writes, writes-is}
 use Rattle.cm_language.proofs.Steps.{run}
 use Rattle.cm_language.proofs.Loops.{choices}
 use Rattle.cm_language.proofs.Selected.{Whole, Pair, still}
-use Rattle.cm_phrases.specs.Effect.{bit_of, with_bits, differ}
+use Rattle.cm_bits.specs.Bit.{differ}
+use Rattle.cm_phrases.specs.Effect.{bit_of, with_bits}
 
 -- ---- one bit
 

@@ -2,7 +2,7 @@
 use Rattle.std.specs.Prelude.{ℕ, ◌+◌, ◌-◌, ◌%◌, ◌==◌, ◌&&◌, ◌||◌, Bool, not, nat_le, Option, Some, None, List, ◌++◌, take}
 use Rattle.std.specs.Prelude.{drop, if◌then◌else◌}
 use Rattle.std.specs.Bool.{beq}
-use Rattle.cm_bits.specs.Bit.{bit_number}
+use Rattle.cm_bits.specs.Bit.{bit_number, differ}
 use Rattle.cm_bits.specs.Span.{Span}
 use Rattle.cm_model.specs.Place.{source, predecessor}
 use Rattle.cm_model.specs.Processor.{Processor, NEWS, DAISY, memory_bit, flag}
@@ -46,10 +46,6 @@ with_bits field bits p = record {
   memory = take field.at p.memory ++ (each_from 0 field.len bits ++ drop (field.at + field.len) p.memory);
   flags = p.flags;
 }
-
--- one bit is 1 and the other 0
-abbrev pub differ : Bool → Bool → Bool
-differ a b = not (beq a b)
 
 -- a processor after a phrase that was carried out in it, where this other sends to it: every right side is over the
 -- old values

@@ -3,7 +3,7 @@ use Rattle.std.specs.Prelude.{ℕ, ◌+◌, ◌-◌, ◌*◌, ◌^◌, ◌==◌,
 use Rattle.std.specs.Prelude.{List, [], ◌∷◌, ◌++◌, take, drop, length, is_some, codes}
 use Rattle.std.specs.Char.{is_ascii_whitespace}
 use Rattle.std.specs.List.{flat_map, list_all, slice_get, slice_split, before_first, after_first, prefix_len, suffix_len}
-use Rattle.cm_bits.specs.Text.{has_bytes, number_of}
+use Rattle.cm_bits.specs.Text.{has_bytes, number_of, is_comma, is_point}
 
 -- ---- blanks
 
@@ -24,12 +24,6 @@ abbrev pub has_words : List ℕ → Bool
 has_words line = has_bytes (trimmed line)
 
 -- ---- cells
-
-abbrev pub is_comma : ℕ → Bool
-is_comma byte = byte == 44
-
-abbrev pub is_point : ℕ → Bool
-is_point byte = byte == 46
 
 -- what stands between commas, if there is such a place
 abbrev pub trimmed_or_none : Option (List ℕ) → List ℕ

@@ -2,7 +2,8 @@
 
 ghost use Rattle.std.specs.Prelude.{◌≡◌, ◌<◌, ◌≤◌, ◌^◌, ◌++◌, ◌==◌, IfSome, OnOk, length};
 ghost use Rattle.std.specs.List.{position_or_len, after_first, before_first, list_all, slice_get};
-ghost use Rattle.cm_plot.specs.Cells.{trimmed, has_words, is_point, is_decimal, cell, digits_of, digit_or_zero};
+ghost use Rattle.cm_bits.specs.Text.{is_point};
+ghost use Rattle.cm_plot.specs.Cells.{trimmed, has_words, is_decimal, cell, digits_of, digit_or_zero};
 ghost use Rattle.cm_plot.specs.Cells.{part_of, joined, number_in, is_written, is_cell, width_of};
 ghost use Rattle.cm_plot.specs.Cells.{escaped, escaped_byte, shortened};
 

@@ -38,9 +38,10 @@ use Rattle.cm_subcube.proofs.Following.{round_is_followed}
 use Rattle.cm_subcube.proofs.Sparing.{cuts_are_spared, room_for}
 use Rattle.cm_board.specs.Courses.{Course, due_now}
 use Rattle.cm_workers.specs.Posts.{giver}
+use Rattle.cm_workers.specs.Turns.{IsShown}
 use Rattle.cm_resident.specs.Lanes.{Run, before, rounds_in, place_of, kind_at, is_over, passed, sent_in, dues, course}
 use Rattle.cm_resident.specs.Standing.{IsCut, StandsBefore}
-use Rattle.cm_resident.specs.Turns.{CanGoOn, HasGoneOn, CanSend, HasSent, CanGet, HasGot, IsShown}
+use Rattle.cm_resident.specs.Turns.{CanGoOn, HasGoneOn, CanSend, HasSent, CanGet, HasGot}
 use Rattle.cm_resident.proofs.Picking.{picked, picked_below}
 use Rattle.cm_resident.proofs.Ends.{kind_of_place}
 

@@ -15,7 +15,8 @@ use Rattle.cm_subcube.specs.Rounds.{rounds_of}
 use Rattle.cm_subcube.proofs.FewRounds.{rounds_are_few}
 use Rattle.cm_board.specs.Courses.{Course}
 use Rattle.cm_workers.specs.Dealing.{hand}
-use Rattle.cm_workers.specs.Posts.{giver, AreHandedOver, CanBeOver}
+use Rattle.cm_workers.specs.Posts.{giver, AreHandedOver}
+use Rattle.cm_subcube.specs.Parcels.{CanBeOver}
 use Rattle.cm_resident.specs.Lanes.{Run, kind_at, ends_each, course, own, givers}
 use Rattle.cm_resident.specs.Gathering.{AreAll, AreFrom, AreFirsts}
 use Rattle.cm_resident.specs.Teams.{IsEnd, AreByPlace, HasEnds}

@@ -18,9 +18,10 @@ use Rattle.cm_subcube.specs.Blocks.{KeptBlock}
 use Rattle.cm_subcube.specs.Rounds.{round_of}
 use Rattle.cm_subcube.specs.Parcels.{IsExchangeBy}
 use Rattle.cm_board.specs.Courses.{Course}
+use Rattle.cm_workers.specs.Turns.{AreShown}
 use Rattle.cm_resident.specs.Lanes.{Run, before, rounds_in, place_of, ends_each, course, own, givers}
 use Rattle.cm_resident.specs.Standing.{number, AreEndsBefore, IsWorkerBefore, IsUnused}
-use Rattle.cm_resident.specs.Turns.{CanGoOn, HasGoneOn, CanSend, HasSent, CanGet, HasGot, AreReady, AreUsed, AreShown}
+use Rattle.cm_resident.specs.Turns.{CanGoOn, HasGoneOn, CanSend, HasSent, CanGet, HasGot, AreReady, AreUsed}
 use Rattle.cm_workers.specs.Gates.{AreBeforeRound, ComesBy, told_number}
 use Rattle.cm_resident.specs.Teams.{AreDone, HasSeenOf}
 use Rattle.cm_resident.proofs.Ends.{place_in, some_blocks, ends_are, ends_next}

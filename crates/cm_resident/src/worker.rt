@@ -3,9 +3,9 @@
 ghost use Rattle.std.specs.Prelude.{◌≡◌, ◌≢◌, ℕ, ◌+◌, ◌*◌, ◌<◌, ◌≤◌, ◌-◌, ◌^◌, IsTrue, Some, length, get_or, slice_get};
 ghost use Rattle.std.specs.List.{All};
 ghost use Rattle.cm_workers.specs.Gates.{ComesBy, told_number};
+ghost use Rattle.cm_workers.specs.Turns.{AreShown};
 ghost use Rattle.cm_resident.specs.Lanes.{Run, place_of, rounds_in};
 ghost use Rattle.cm_resident.specs.Standing.{IsWorkerBefore};
-ghost use Rattle.cm_resident.specs.Turns.{AreShown};
 ghost use Rattle.cm_resident.specs.Teams.{HasPassed, HasSeenOf, HasWorked, IsBeforeRound, IsOfSome};
 
 use crate::lanes::ends_each;

@@ -78,3 +78,7 @@ end_line = line (codes "end" ∷ [])
 -- the act of this index looked at the wire
 abbrev pub sense_line : ℕ → Bool → List ℕ
 sense_line index b = line (codes "sense" ∷ decimal index ∷ decimal (bit_number b) ∷ [])
+
+-- it is done, and nothing else is told
+abbrev pub ok_line : List ℕ
+ok_line = line (codes "ok" ∷ [])

@@ -3,14 +3,14 @@ use Rattle.std.proofs.Common.{◌≡◌, ℕ, suc, ◌+◌, ◌-◌, ◌<◌, �
 use Rattle.std.proofs.Common.{length, take, drop, take-add, get_or, refl, ap, ◌∙◌, sym, subst, arith}
 use Rattle.std.proofs.Common.{append_assoc, append-nil}
 use Rattle.std.proofs.lemmas.Grind.{common_steps}
-use Rattle.cm_bits.specs.Text.{is_line_end}
+use Rattle.cm_bits.specs.Text.{is_line_end, IsUnended}
 use Rattle.cm_session.specs.Ends.{ended_lines, open_line}
 use Rattle.cm_session.proofs.Lines.{ended_lines-end, ended_lines-more, open_line-end, open_line-more}
 use Rattle.cm_exchange.specs.Lanes.{Exchange}
 use Rattle.cm_exchange.specs.Worlds.{World}
 use Rattle.cm_weave.specs.Woven.{Woven}
 use Rattle.cm_steps.specs.Session.{told, preceded_by, after_line, after_lines, answers, left}
-use Rattle.cm_steps.specs.Hearing.{Hearing, heard, with_byte, with_line_ended, at_start, exchange_in, IsOfRun, IsUnended}
+use Rattle.cm_steps.specs.Hearing.{Hearing, heard, with_byte, with_line_ended, at_start, exchange_in, IsOfRun}
 use Rattle.cm_steps.proofs.Lines.{after_lines-append}
 
 -- a world of the same run has the same exchange

@@ -52,10 +52,6 @@ heard exchange at (byte ∷ bytes) = heard exchange (with_byte exchange at byte)
 abbrev pub at_start : World → Hearing
 at_start world = record { world = world; line = []; answers = [] }
 
--- no byte ends a line
-abbrev pub IsUnended : List ℕ → Type 0
-IsUnended bytes = (i : ℕ) → i < length bytes → is_line_end (slice_index bytes i) ≡ false
-
 -- these bytes were heard, and their answers written behind so many bytes
 pub record HasHeard (exchange : Exchange) (old new : World) (line kept piece : List ℕ) (sent : ℕ)
     (held holds : Option (List ℕ)) (now : ℕ) : Type 0 where

@@ -2,7 +2,7 @@
 use Rattle.std.specs.Prelude.{ℕ, Option, Some, None, Result, Ok, Err, List, [], ◌∷◌, ◌++◌, codes}
 use Rattle.cm_bits.specs.Text.{words_of}
 use Rattle.cm_session.specs.declared.command.Refusal.{Refusal}
-use Rattle.cm_session.specs.Answer.{line, refusal_number, refused_line}
+use Rattle.cm_session.specs.Answer.{line, refusal_number, refused_line, ok_line}
 use Rattle.cm_exchange.specs.declared.step.Step.{Step}
 use Rattle.cm_exchange.specs.Lanes.{Exchange}
 use Rattle.cm_exchange.specs.Worlds.{World}
@@ -25,10 +25,6 @@ preceded_by first rest = told rest.world (first ++ rest.answer)
 -- the number of the refusal of a step that does not fit the world
 abbrev pub NOT_NOW : ℕ
 NOT_NOW = 34
-
--- a step was taken
-abbrev pub ok_line : List ℕ
-ok_line = line (codes "ok" ∷ [])
 
 -- by the world after a step, if there is one
 abbrev pub played : World → Option World → Answered

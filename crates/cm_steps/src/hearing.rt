@@ -2,7 +2,8 @@
 
 ghost use Rattle.std.specs.Prelude.{◌≡◌, ◌≤◌, ◌<◌, ◌∷◌, [], length, take, slice_index, OnOk};
 ghost use Rattle.cm_session.specs.Answer.{refusal_number, refused_line};
-ghost use Rattle.cm_steps.specs.Hearing.{exchange_in, heard, with_line_ended, IsOfRun, IsUnended};
+ghost use Rattle.cm_bits.specs.Text.{IsUnended};
+ghost use Rattle.cm_steps.specs.Hearing.{exchange_in, heard, with_line_ended, IsOfRun};
 ghost use Rattle.cm_steps.specs.Session.{after_line};
 
 use crate::reader::read_step;

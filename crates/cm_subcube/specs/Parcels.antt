@@ -106,3 +106,9 @@ abbrev pub IsOfKind : ℕ → ℕ → Kind → Parcel → Type 0
 IsOfKind n k kind.North parcel = HasColumns n parcel
 IsOfKind n k kind.South parcel = HasColumns n parcel
 IsOfKind n k (kind.Dim d) parcel = HasLanes n k parcel
+
+-- a kind of round at which 2 ^ k blocks of a cube of n dimensions may exchange
+abbrev pub CanBeOver : ℕ → ℕ → Kind → Type 0
+CanBeOver n k kind.North = Unit {0}
+CanBeOver n k kind.South = Unit {0}
+CanBeOver n k (kind.Dim d) = IsOuter n k d

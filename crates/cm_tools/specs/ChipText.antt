@@ -4,10 +4,7 @@ use Rattle.std.specs.Prelude.{decimal}
 use Rattle.std.specs.List.{range_with_len}
 use Rattle.cm_model.specs.Processor.{Processor, memory_bit, flag}
 use Rattle.cm_model.specs.Chip.{processor_at, plane_number}
-
--- a hexadecimal digit, lower case
-abbrev pub hex_digit : ℕ → ℕ
-hex_digit digit = if nat_lt digit 10 then 48 + digit else 87 + digit
+use Rattle.cm_language.specs.Listing.{hex_digit}
 
 -- a plane as four hexadecimal digits
 abbrev pub plane_text : ℕ → List ℕ

@@ -1,7 +1,8 @@
 //! The text that tells a chip.
 
 ghost use Rattle.std.specs.Prelude.{◌≡◌, ◌<◌, ◌++◌, OnOk, IfOk};
-ghost use Rattle.cm_tools.specs.ChipText.{hex_digit, plane_text, plane_line, flag_plane, memory_plane, flag_line};
+ghost use Rattle.cm_tools.specs.ChipText.{plane_text, plane_line, flag_plane, memory_plane, flag_line};
+ghost use Rattle.cm_language.specs.Listing.{hex_digit};
 ghost use Rattle.cm_tools.specs.ChipText.{memory_line, lines_below, chip_text};
 
 use cm_bits::{Addr, FlagNo, Plane};

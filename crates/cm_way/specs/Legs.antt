@@ -3,8 +3,8 @@ use Rattle.std.specs.Prelude.{ℕ, ◌+◌, ◌^◌, ◌==◌, ◌&&◌, ◌||�
 use Rattle.std.specs.Prelude.{Option, Some, None, is_some, Result, Ok, Err, List, [], ◌∷◌, ◌++◌, codes, drop, bit_xor}
 use Rattle.std.specs.Int.{trailing_zeros, w16}
 use Rattle.std.specs.List.{after_first, before_first, list_any, slice_split, starts_with}
-use Rattle.cm_bits.specs.Text.{number_of, words_of}
-use Rattle.cm_plot.specs.Cells.{cell, has_words, is_colon, is_comma, trimmed}
+use Rattle.cm_bits.specs.Text.{number_of, words_of, is_comma}
+use Rattle.cm_plot.specs.Cells.{cell, has_words, is_colon, trimmed}
 use Rattle.cm_plot.specs.Rows.{◌>>=◌}
 use Rattle.cm_plot.specs.declared.fault.PlotFault.{PlotFault}
 use Rattle.cm_plot.specs.declared.fault.PlotFault.TheVariants.{Route}

@@ -18,7 +18,7 @@ use Rattle.cm_subcube.specs.declared.round.Kind.{Kind}
 use Rattle.cm_subcube.specs.declared.round.Kind.TheVariants as kind
 use Rattle.cm_subcube.specs.declared.round.Round.{Round}
 use Rattle.cm_subcube.specs.Rounds.{kind_of, round_of, rounds_of}
-use Rattle.cm_subcube.specs.Parcels.{IsExchangeBy}
+use Rattle.cm_subcube.specs.Parcels.{IsExchangeBy, CanBeOver}
 use Rattle.cm_subcube.specs.Laws.{IsFollowed}
 use Rattle.cm_subcube.proofs.Following.{round_is_followed}
 use Rattle.cm_exchange.specs.declared.stand.Stand.{Stand}
@@ -28,7 +28,7 @@ use Rattle.cm_exchange.specs.Lanes.{Exchange, exchange_of, due_from, giver, kind
 use Rattle.cm_exchange.specs.Lanes as lanes
 use Rattle.cm_exchange.specs.Steps.{stage_of, gone_on}
 use Rattle.cm_exchange.specs.Laws.{IsExchange}
-use Rattle.cm_weave.specs.Kinds.{kind_number, CanBeOver}
+use Rattle.cm_weave.specs.Kinds.{kind_number}
 use Rattle.cm_weave.specs.Parts.{at_stage, part_at, part_with}
 use Rattle.cm_weave.proofs.Clocks.{kind_is_number, giver_is_sender}
 

@@ -26,8 +26,9 @@ use Rattle.cm_exchange.specs.Worlds as worlds
 use Rattle.cm_exchange.proofs.Partners.{lanes_have_two_ends}
 use Rattle.cm_exchange.proofs.Soundness.{Can, lane-within}
 use Rattle.cm_exchange.specs.Laws.{word_for}
+use Rattle.cm_subcube.specs.Parcels.{CanBeOver}
 use Rattle.cm_weave.specs.declared.lane.Lane.{Lane}
-use Rattle.cm_weave.specs.Kinds.{kind_number, mover, CanBeOver}
+use Rattle.cm_weave.specs.Kinds.{kind_number, mover}
 use Rattle.cm_weave.specs.Woven.{Woven, world_seen, AreWoven}
 use Rattle.cm_weave.proofs.Clocks.{kind_is_number}
 use Rattle.cm_weave.proofs.Following.{IsRoundAt, round_at, count-rounds}

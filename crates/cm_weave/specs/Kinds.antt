@@ -19,12 +19,6 @@ kind_numbered n k zero = kind.North
 kind_numbered n k (suc zero) = kind.South
 kind_numbered n k (suc (suc i)) = kind.Dim (n - k + i)
 
--- a kind of round at which 2 ^ k blocks of a cube of n dimensions may exchange
-abbrev pub CanBeOver : ℕ → ℕ → Kind → Type 0
-CanBeOver n k kind.North = Unit {0}
-CanBeOver n k kind.South = Unit {0}
-CanBeOver n k (kind.Dim d) = IsOuter n k d
-
 -- the sender of the lane that a step moves, in a round of a kind
 abbrev pub mover : ℕ → ℕ → Step → ℕ
 mover k number (Grip b) = b

@@ -4,7 +4,8 @@ ghost use Rattle.std.specs.Prelude.{◌≡◌, ◌+◌, ◌^◌, ◌<◌, ◌≤
 ghost use Rattle.cm_exchange.specs.Lanes.{giver};
 ghost use Rattle.cm_exchange.specs.Worlds.{lane_number};
 ghost use Rattle.cm_exchange.specs.Steps.{block_of};
-ghost use Rattle.cm_weave.specs.Kinds.{kind_number, kind_numbered, mover, CanBeOver};
+ghost use Rattle.cm_subcube.specs.Parcels.{CanBeOver};
+ghost use Rattle.cm_weave.specs.Kinds.{kind_number, kind_numbered, mover};
 
 use cm_exchange::Step;
 use cm_subcube::Kind;

@@ -19,11 +19,11 @@ use Rattle.cm_subcube.specs.declared.round.Kind.TheVariants as kind
 use Rattle.cm_subcube.specs.declared.round.Round.{Round}
 use Rattle.cm_subcube.specs.Blocks.{KeptBlock}
 use Rattle.cm_subcube.specs.Rounds.{kind_of, round_of, rounds_of}
-use Rattle.cm_subcube.specs.Parcels.{IsExchangeBy}
+use Rattle.cm_subcube.specs.Parcels.{IsExchangeBy, CanBeOver}
 use Rattle.cm_subcube.proofs.Counting.{deliveries_shared, events_shared}
 use Rattle.cm_subcube.proofs.Following.{round_is_followed}
 use Rattle.cm_workers.specs.declared.post.Post.{Post}
-use Rattle.cm_workers.specs.Posts.{blank_post, giver, AreHandedOver, CanBeOver}
+use Rattle.cm_workers.specs.Posts.{blank_post, giver, AreHandedOver}
 use Rattle.cm_workers.specs.Each.{AreEach}
 use Rattle.cm_workers.specs.Turns.{round_before, gone_on, CanGo, CanAllGo, HasGone}
 use Rattle.cm_workers.specs.Runs.{StandsAt, StandAt, HaveBegun, AreAfter}

@@ -33,12 +33,6 @@ pub record AreHandedOver {X : Type 0} (n k : ℕ) (round : Kind) (old new : List
   pub len : length new ≡ length old
   pub each : (b : ℕ) (d : X) → b < 2 ^ k → get_or new b d ≡ get_or old (giver n k round b) d
 
--- a kind of round at which 2 ^ k blocks of a cube of n dimensions may exchange
-abbrev pub CanBeOver : ℕ → ℕ → Kind → Type 0
-CanBeOver n k kind.North = Unit {0}
-CanBeOver n k kind.South = Unit {0}
-CanBeOver n k (kind.Dim d) = IsOuter n k d
-
 -- a power of two below another that is not large
 pub record IsBitBelow (one many : ℕ) : Type 0 where
   pub place : ℕ

@@ -1,7 +1,8 @@
 //! What blocks exchange in a round.
 
 ghost use Rattle.std.specs.Prelude.{◌≡◌, ℕ, ◌-◌, ◌^◌, ◌<◌, ◌≤◌, length, get_or, bit_xor};
-ghost use Rattle.cm_workers.specs.Posts.{AreHandedOver, CanBeOver, IsBitBelow};
+ghost use Rattle.cm_workers.specs.Posts.{AreHandedOver, IsBitBelow};
+ghost use Rattle.cm_subcube.specs.Parcels.{CanBeOver};
 
 use cm_subcube::Kind;
 

@@ -2,8 +2,7 @@ use Rattle.std.proofs.Common.{◌≡◌, ℕ, ◌+◌, ◌-◌, ◌<◌, ◌≤�
 use Rattle.std.proofs.lemmas.Bool.{cases_lt}
 use Rattle.std.proofs.lemmas.Grind.{common_steps}
 use Rattle.std.proofs.lemmas.List.{get_or-take, get_or-drop}
-use Rattle.cm_bits.specs.Text.{is_line_end}
-use Rattle.cm_debug.specs.Telling.{IsUnended}
+use Rattle.cm_bits.specs.Text.{is_line_end, IsUnended}
 use Rattle.cm_front.proofs.hearing.line_len.Goals as goal
 
 -- what follows a place, as a slice from there on

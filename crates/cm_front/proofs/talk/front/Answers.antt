@@ -3,7 +3,7 @@ use Rattle.std.proofs.Common.{subst, arith, length-append, length-drop}
 use Rattle.std.proofs.KnownBytes.{Consumes-nil}
 use Rattle.std.specs.Io.KnownBytes.{Consumes}
 use Rattle.cm_session.specs.declared.fault.SessionFault.TheVariants.{Read}
-use Rattle.cm_debug.specs.Telling.{IsUnended}
+use Rattle.cm_bits.specs.Text.{IsUnended}
 use Rattle.cm_debug.proofs.Ending.{is_none, has_some}
 use Rattle.cm_front.specs.Front.{Front, front_of}
 use Rattle.std.proofs.lemmas.List.Elements.{All-nil}

@@ -2,7 +2,7 @@ use Rattle.std.proofs.Common.{◌≡◌, ℕ, ◌+◌, ◌-◌, ◌*◌, ◌^◌
 use Rattle.std.specs.Io.KnownBytes.{Consumes}
 use Rattle.cm_debug.specs.Gathering.{answered_bytes}
 use Rattle.cm_front.specs.Front.{front_of}
-use Rattle.cm_debug.specs.Telling.{IsUnended}
+use Rattle.cm_bits.specs.Text.{IsUnended}
 use Rattle.cm_front.specs.Ends.{LIMIT, ALL, AreShort}
 use Rattle.cm_front.proofs.Lines.{AreLinesOf}
 use Rattle.cm_front.proofs.Told.{IsTold}

@@ -1,7 +1,8 @@
 use Rattle.std.proofs.Common.{rules, tests, ap, ◌∙◌}
 use Rattle.std.proofs.lemmas.Iterator.Consumers.{nth_from_yields_List}
 use Rattle.std.proofs.lemmas.Iterator.Splits.{YieldsList-from_slice_split}
-use Rattle.cm_plot.specs.Cells.{is_comma, trimmed_or_none}
+use Rattle.cm_bits.specs.Text.{is_comma}
+use Rattle.cm_plot.specs.Cells.{trimmed_or_none}
 use Rattle.cm_plot.proofs.cells.cell.Goals as goal
 
 pub returns-in-Some : goal.returns-in-Some

@@ -1,7 +1,7 @@
 use Rattle.std.proofs.Common.{rules, tests}
 use Rattle.std.proofs.lemmas.Iterator.Consumers.{count_from_yields_List}
 use Rattle.std.proofs.lemmas.Iterator.Splits.{YieldsList-from_slice_split}
-use Rattle.cm_plot.specs.Cells.{is_comma}
+use Rattle.cm_bits.specs.Text.{is_comma}
 use Rattle.cm_plot.proofs.cells.width.Goals as goal
 
 pub returns : goal.returns

@@ -1,6 +1,7 @@
 use Rattle.std.proofs.Common.{ℕ, ◌<◌, ◌∙◌, sym, ap, subst}
 use Rattle.cm_exchange.specs.Worlds.{lane_number}
-use Rattle.cm_weave.specs.Kinds.{kind_number, mover, CanBeOver}
+use Rattle.cm_subcube.specs.Parcels.{CanBeOver}
+use Rattle.cm_weave.specs.Kinds.{kind_number, mover}
 use Rattle.cm_weave.proofs.Playing.{kind_asked, at_below_asked, free_asked}
 use Rattle.cm_weave.proofs.world.World.is_free.Goals as goal
 

@@ -1,7 +1,8 @@
 use Rattle.std.proofs.Common.{ℕ, List, ◌<◌, ◌∙◌, length, sym, ap, subst}
 use Rattle.cm_model.specs.declared.act.Act.{Act}
 use Rattle.cm_exchange.specs.Worlds.{lane_number}
-use Rattle.cm_weave.specs.Kinds.{kind_number, mover, CanBeOver}
+use Rattle.cm_subcube.specs.Parcels.{CanBeOver}
+use Rattle.cm_weave.specs.Kinds.{kind_number, mover}
 use Rattle.cm_weave.specs.Moves.{CanWeave, HasWoven}
 use Rattle.cm_weave.proofs.Playing.{taken_below, taken_in_stands, taken_in_blocks, taken_in_rounds, taken_few}
 use Rattle.cm_weave.proofs.Playing.{taken_kind}
