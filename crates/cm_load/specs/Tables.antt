@@ -8,12 +8,12 @@ use Rattle.cm_load.specs.declared.spreads.Spreads.{Spreads}
 -- ---- numbers
 
 -- a number and the comma behind it
-abbrev pub column : ℕ → List ℕ
-column x = decimal x ++ 44 ∷ []
+abbrev pub number_cell : ℕ → List ℕ
+number_cell x = decimal x ++ 44 ∷ []
 
 -- the last number of a line, and its end
-abbrev pub last_column : ℕ → List ℕ
-last_column x = decimal x ++ 10 ∷ []
+abbrev pub last_number_cell : ℕ → List ℕ
+last_number_cell x = decimal x ++ 10 ∷ []
 
 -- the last digits of a number
 abbrev pub last_digit : ℕ → List ℕ
@@ -33,7 +33,7 @@ thousandths x = decimal (x / 1000) ++ 46 ∷ [] ++ last_digit (x / 100) ++ last_
 -- a number and the comma, or the comma alone
 abbrev pub column_if : Option ℕ → List ℕ
 column_if None = 44 ∷ []
-column_if (Some x) = column x
+column_if (Some x) = number_cell x
 
 -- ---- loads
 
@@ -42,22 +42,22 @@ header = codes "rate,offered,taken,delivered,throughput,mean,p95,greatest,deepes
 
 -- what was offered
 abbrev pub offer_columns : Figures → List ℕ
-offer_columns figures = hundredths figures.rate ++ column figures.offered
+offer_columns figures = hundredths figures.rate ++ number_cell figures.offered
 
 -- what became of it
 abbrev pub message_columns : Figures → List ℕ
 message_columns figures =
-    column figures.taken ++ column figures.delivered ++ thousandths figures.throughput
+    number_cell figures.taken ++ number_cell figures.delivered ++ thousandths figures.throughput
 
 -- how long that took
 abbrev pub latency_columns : Figures → List ℕ
 latency_columns figures =
-    hundredths figures.mean ++ column_if figures.most ++ column figures.greatest
+    hundredths figures.mean ++ column_if figures.most ++ number_cell figures.greatest
 
 -- the line of a load
 unfoldable pub load_line : Figures → List ℕ
 load_line figures =
-    offer_columns figures ++ message_columns figures ++ latency_columns figures ++ last_column figures.deepest
+    offer_columns figures ++ message_columns figures ++ latency_columns figures ++ last_number_cell figures.deepest
 
 -- the table: a line of names, and a line for each load
 unfoldable pub table_of : List Figures → List ℕ

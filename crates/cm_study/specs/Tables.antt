@@ -13,16 +13,16 @@ use Rattle.cm_study.specs.Counts.{events_behind}
 use Rattle.cm_study.specs.Traces.{Traces, trace_of, followed}
 
 -- a number and the comma behind it
-abbrev pub column : ℕ → List ℕ
-column x = decimal x ++ 44 ∷ []
+abbrev pub number_cell : ℕ → List ℕ
+number_cell x = decimal x ++ 44 ∷ []
 
 -- the last number of a line, and its end
-abbrev pub last_column : ℕ → List ℕ
-last_column x = decimal x ++ 10 ∷ []
+abbrev pub last_number_cell : ℕ → List ℕ
+last_number_cell x = decimal x ++ 10 ∷ []
 
 -- three numbers, each with a comma behind it
 abbrev pub columns : ℕ → ℕ → ℕ → List ℕ
-columns x y z = column x ++ column y ++ column z
+columns x y z = number_cell x ++ number_cell y ++ number_cell z
 
 -- ---- petit cycles
 
@@ -33,7 +33,7 @@ cycles_header = codes "cycle,taken,delivered,referred,standing,full,asking\n"
 unfoldable pub cycle_line : ℕ → Counts → List ℕ
 cycle_line clock counts =
     columns clock counts.taken counts.delivered ++ columns counts.referred counts.standing counts.full
-    ++ last_column counts.asking
+    ++ last_number_cell counts.asking
 
 -- ---- messages
 
@@ -46,7 +46,7 @@ tag_columns trace = columns trace.tag.chip trace.tag.proc trace.tag.birth
 
 -- how many dimensions it crossed and how often it was referred
 abbrev pub way_columns : Trace → List ℕ
-way_columns trace = column trace.crossed ++ last_column trace.referred
+way_columns trace = number_cell trace.crossed ++ last_number_cell trace.referred
 
 -- the line of a message that was delivered, to a processor of chip c in a petit cycle
 unfoldable pub delivered_line : ℕ → ℕ → Message → Trace → List ℕ
@@ -54,7 +54,7 @@ delivered_line clock c m trace = tag_columns trace ++ columns c m.proc clock ++ 
 
 -- where one that stands at chip c is bound for, and nothing of a delivery
 abbrev pub bound_columns : ℕ → Message → List ℕ
-bound_columns c m = column (target_from c m).chip ++ column m.proc ++ 44 ∷ []
+bound_columns c m = number_cell (target_from c m).chip ++ number_cell m.proc ++ 44 ∷ []
 
 -- its line
 unfoldable pub standing_line : ℕ → Message → Trace → List ℕ
