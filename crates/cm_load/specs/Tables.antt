@@ -1,19 +1,12 @@
 -- The table of loads, as a text: numbers in columns, with a comma between them. Ours.
 use Rattle.std.specs.Prelude.{ℕ, ◌/◌, ◌%◌, List, [], ◌∷◌, ◌++◌, Option, Some, None, codes, decimal}
 use Rattle.std.specs.List.{flat_map}
+use Rattle.cm_bits.specs.Text.{number_cell, last_number_cell}
 use Rattle.cm_load.specs.declared.figures.Figures.{Figures}
 use Rattle.cm_load.specs.declared.spreads.Spread.{Spread}
 use Rattle.cm_load.specs.declared.spreads.Spreads.{Spreads}
 
 -- ---- numbers
-
--- a number and the comma behind it
-abbrev pub number_cell : ℕ → List ℕ
-number_cell x = decimal x ++ 44 ∷ []
-
--- the last number of a line, and its end
-abbrev pub last_number_cell : ℕ → List ℕ
-last_number_cell x = decimal x ++ 10 ∷ []
 
 -- the last digits of a number
 abbrev pub last_digit : ℕ → List ℕ

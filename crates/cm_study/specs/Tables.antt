@@ -7,18 +7,11 @@ use Rattle.cm_model.specs.declared.message.Message.{Message}
 use Rattle.cm_model.specs.Array.{list_at}
 use Rattle.cm_model.specs.Machine.{Machine}
 use Rattle.cm_model.specs.Router.{target_from}
+use Rattle.cm_bits.specs.Text.{number_cell, last_number_cell}
 use Rattle.cm_study.specs.declared.counts.Counts.{Counts}
 use Rattle.cm_study.specs.declared.trace.Trace.{Trace}
 use Rattle.cm_study.specs.Counts.{events_behind}
 use Rattle.cm_study.specs.Traces.{Traces, trace_of, followed}
-
--- a number and the comma behind it
-abbrev pub number_cell : ℕ → List ℕ
-number_cell x = decimal x ++ 44 ∷ []
-
--- the last number of a line, and its end
-abbrev pub last_number_cell : ℕ → List ℕ
-last_number_cell x = decimal x ++ 10 ∷ []
 
 -- three numbers, each with a comma behind it
 abbrev pub columns : ℕ → ℕ → ℕ → List ℕ
