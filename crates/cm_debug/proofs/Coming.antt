@@ -9,7 +9,7 @@ use Rattle.cm_array.specs.Faults.{lacked_after}
 use Rattle.cm_model.specs.declared.act.Act.{Act}
 use Rattle.cm_model.specs.Machine.{Machine, run_of}
 use Rattle.cm_model.proofs.Runs.{run_of-append}
-use Rattle.cm_session.specs.Session.{Session, Answered, told, preceded_by, told_by, going, has_acts, lacks_room, one_on}
+use Rattle.cm_session.specs.Session.{Session, Answered, answered_with, preceded_by, answer_of_act, going, has_acts, lacks_room, one_on}
 use Rattle.cm_session.specs.Answer.{at_line, end_line, refused_line, CLOCK}
 use Rattle.cm_session.specs.Stretches.{IsStretch, acts_on, arrived}
 use Rattle.cm_session.specs.Ends.{IsOnTheWay}
@@ -26,14 +26,14 @@ pub stretch_first : (n cap : ℕ) (stops : ℕ → Bool) (session : Session) (ac
     → first ≡ slice_index_or acts 0 first → 0 < count
     → IsStretch stops session.report session.position session.machine.clock (take count acts)
     → going n cap stops session acts
-    ≡ preceded_by (told_by session first)
+    ≡ preceded_by (answer_of_act session first)
     (arrived n cap stops (acts_on n cap session (take count acts)) (drop count acts))
 stretch_first n cap stops session [] first count some is above stretch = absurd (omega arith)
 stretch_first n cap stops session (a ∷ acts) first zero some is above stretch = absurd (omega arith)
 stretch_first n cap stops session (a ∷ acts) first (suc count) some is above stretch =
     ap (λ (xs : List Act). going n cap stops session (a ∷ xs)) (sym (take-append-drop count acts))
     ∙ going-stretch n cap stops session a (take count acts) (drop count acts) stretch
-    ∙ ap (λ (b : Act). preceded_by (told_by session b)
+    ∙ ap (λ (b : Act). preceded_by (answer_of_act session b)
     (arrived n cap stops (acts_on n cap session (take (suc count) (a ∷ acts))) (drop count acts))) (sym is)
 
 whole_rest : (place : ℕ) (acts : List Act) → take (length acts - place) (drop place acts) ≡ drop place acts
@@ -45,18 +45,18 @@ pub stretch_told : (n cap : ℕ) (stops : ℕ → Bool) (session : Session) (act
     → rest ≡ take (length acts - session.position) (drop session.position acts)
     → first ≡ slice_index_or rest 0 first → 0 < count → count ≤ length rest
     → clock ≡ session.machine.clock → IsStretch stops session.report session.position clock (take count rest)
-    → told ≡ text ++ told_by session first → machine ≡ run_of n cap session.machine (take count rest)
+    → told ≡ text ++ answer_of_act session first → machine ≡ run_of n cap session.machine (take count rest)
     → (text ++ (going n cap stops session (drop session.position acts)).answer
     ≡ told ++ (arrived n cap stops (record session { machine = machine; position = session.position + count })
     (drop (session.position + count) acts)).answer)
     × ((going n cap stops session (drop session.position acts)).session
     ≡ (arrived n cap stops (record session { machine = machine; position = session.position + count })
     (drop (session.position + count) acts)).session)
-stretch_told n cap stops session acts rest first count text told machine clock inside is head above
+stretch_told n cap stops session acts rest first count text answered_with machine clock inside is head above
     within at stretch says ran =
     let whole : rest ≡ drop session.position acts = is ∙ whole_rest session.position acts in
     let some : 0 < length rest = omega (arith, ap length whole, length-drop session.position acts) in
-    let first_of : going n cap stops session rest ≡ preceded_by (told_by session first)
+    let first_of : going n cap stops session rest ≡ preceded_by (answer_of_act session first)
     (arrived n cap stops (acts_on n cap session (take count rest)) (drop count rest)) =
     stretch_first n cap stops session rest first count some head above
     (subst (λ (k : ℕ). IsStretch stops session.report session.position k (take count rest)) at stretch) in
@@ -70,10 +70,10 @@ stretch_told n cap stops session acts rest first count text told machine clock i
     let same : rested ≡ arrived n cap stops (record session { machine = machine; position = session.position + count })
     (drop (session.position + count) acts) =
     (λ i. arrived n cap stops (on i) (left i)) in
-    let gone : going n cap stops session (drop session.position acts) ≡ preceded_by (told_by session first) rested =
+    let gone : going n cap stops session (drop session.position acts) ≡ preceded_by (answer_of_act session first) rested =
     ap (going n cap stops session) (sym whole) ∙ first_of in (
-      ap (λ (a : Answered). text ++ a.answer) gone ∙ sym (append_assoc text (told_by session first) rested.answer)
-          ∙ ap (λ (t : List ℕ). t ++ rested.answer) (sym says) ∙ ap (λ (a : Answered). told ++ a.answer) same,
+      ap (λ (a : Answered). text ++ a.answer) gone ∙ sym (append_assoc text (answer_of_act session first) rested.answer)
+          ∙ ap (λ (t : List ℕ). t ++ rested.answer) (sym says) ∙ ap (λ (a : Answered). answered_with ++ a.answer) same,
       ap (λ (a : Answered). a.session) gone ∙ ap (λ (a : Answered). a.session) same,
     ) where
       taken : (k : ℕ) (xs : List Act) → k ≤ length xs → length (take k xs) ≡ k
@@ -128,11 +128,11 @@ drop_has_acts place acts = by (cases_lt place (length acts)) where
 
 refused_first : (n cap : ℕ) (stops : ℕ → Bool) (session : Session) (rest : List Act) (first : Act) → 0 < length rest
     → first ≡ slice_index_or rest 0 first → lacks_room session.machine.clock first ≡ true
-    → going n cap stops session rest ≡ told session (refused_line CLOCK)
+    → going n cap stops session rest ≡ answered_with session (refused_line CLOCK)
 unfolding going one_on
 refused_first n cap stops session [] first some is lacks = absurd (omega arith)
 refused_first n cap stops session (a ∷ rest) first some is lacks =
-    ap (λ (b : Bool). cond b (told session (refused_line CLOCK)) (preceded_by (told_by session a)
+    ap (λ (b : Bool). cond b (answered_with session (refused_line CLOCK)) (preceded_by (answer_of_act session a)
     (arrived n cap stops (acts_on n cap session (a ∷ [])) rest)))
     (ap (lacks_room session.machine.clock) (sym is) ∙ lacks)
 
@@ -140,7 +140,7 @@ refused_first n cap stops session (a ∷ rest) first some is lacks =
 pub refused_here : (n cap : ℕ) (stops : ℕ → Bool) (session : Session) (acts rest : List Act) (first : Act) (clock : ℕ)
     → session.position < length acts → rest ≡ take (length acts - session.position) (drop session.position acts)
     → first ≡ slice_index_or rest 0 first → clock ≡ session.machine.clock → lacks_room clock first ≡ true
-    → going n cap stops session (drop session.position acts) ≡ told session (refused_line CLOCK)
+    → going n cap stops session (drop session.position acts) ≡ answered_with session (refused_line CLOCK)
 refused_here n cap stops session acts rest first clock inside is head at lacks =
     let whole : rest ≡ drop session.position acts = is ∙ whole_rest session.position acts in
     let some : 0 < length rest = omega (arith, ap length whole, length-drop session.position acts) in
@@ -149,7 +149,7 @@ refused_here n cap stops session acts rest first clock inside is head at lacks =
 
 -- at the end
 pub ended_here : (n cap : ℕ) (stops : ℕ → Bool) (session : Session) (acts : List Act) → length acts ≤ session.position
-    → going n cap stops session (drop session.position acts) ≡ told session end_line
+    → going n cap stops session (drop session.position acts) ≡ answered_with session end_line
 unfolding going
 ended_here n cap stops session acts beyond =
     ap (going n cap stops session)
@@ -161,16 +161,16 @@ ended_here n cap stops session acts beyond =
 -- where it stops
 pub stopped_here : (n cap : ℕ) (stops : ℕ → Bool) (session : Session) (rest : List Act)
     → (stops session.position && has_acts rest) ≡ true
-    → arrived n cap stops session rest ≡ told session (at_line session.position)
+    → arrived n cap stops session rest ≡ answered_with session (at_line session.position)
 stopped_here n cap stops session rest is =
-    ap (λ (b : Bool). cond b (told session (at_line session.position)) (going n cap stops session rest)) is
+    ap (λ (b : Bool). cond b (answered_with session (at_line session.position)) (going n cap stops session rest)) is
 
 -- and where it does not
 pub goes_on : (n cap : ℕ) (stops : ℕ → Bool) (session : Session) (rest : List Act)
     → (stops session.position && has_acts rest) ≡ false
     → arrived n cap stops session rest ≡ going n cap stops session rest
 goes_on n cap stops session rest is =
-    ap (λ (b : Bool). cond b (told session (at_line session.position)) (going n cap stops session rest)) is
+    ap (λ (b : Bool). cond b (answered_with session (at_line session.position)) (going n cap stops session rest)) is
 
 -- ---- states
 
@@ -188,7 +188,7 @@ pub has_run : (n cap : ℕ) (stops : Stops) (before : State) (rest : List Act) (
     → IsStretch (stops_at stops before.session.breaks) before.session.report before.session.position clock
     (take count rest)
     → IsLongest (stops_at stops before.session.breaks) before.session.report before.session.position clock rest count
-    → text ≡ before.answer ++ told_by before.session first
+    → text ≡ before.answer ++ answer_of_act before.session first
     → machine ≡ run_of n cap before.session.machine (take count rest) → lacked ≡ before.lacked
     → HasRun n cap stops before (record before {
       session = record before.session { machine = machine; position = before.session.position + count };
@@ -308,7 +308,7 @@ stop_left {n} {cap} {stops} {before} {now} {after} last result want is gone' run
 
 -- nothing more is run, and this is told
 pub gone_done : {n cap : ℕ} {stops : Stops} {before now : State} {line text : List ℕ} → HasGone n cap stops before now
-    → gone n cap stops now ≡ told now.session line → text ≡ now.answer ++ line
+    → gone n cap stops now ≡ answered_with now.session line → text ≡ now.answer ++ line
     → IsDone (gone n cap stops before) before (record now { answer = text })
 gone_done {n} {cap} {stops} {before} {now} {line} {text} gone' ended says = record {
   session = ap (λ (a : Answered). a.session) (sym ended) ∙ gone'.session;

@@ -13,7 +13,7 @@ use Rattle.cm_model.specs.Machine.{Machine}
 use Rattle.cm_session.specs.declared.fault.SessionFault.{SessionFault}
 use Rattle.cm_session.specs.declared.fault.SessionFault.TheVariants.{Read, Write, TooMuch, Memory, NoThread}
 use Rattle.cm_session.specs.Session.{Session, opening, after_lines}
-use Rattle.cm_session.specs.Ends.{LIMIT, ended_lines, open_line, heard_lines, IsAnswered, Ends, EndsForSome}
+use Rattle.cm_session.specs.Ends.{LIMIT, ended_lines, open_line, processed_lines, IsAnswered, Ends, EndsForSome}
 use Rattle.cm_session.proofs.Lines.{heard_first, heard_whole}
 use Rattle.cm_debug.specs.Talk.{Talk, Setting, setting, after_all, IsTold, IsBroken, BreaksOffAmong, MayBeLeft, HasEnded, HasTakenAll}
 use Rattle.cm_debug.specs.Taking.{HasTaken, HasStopped}
@@ -35,7 +35,7 @@ all_told {n} {cap} {first} {taken} {a} none told' = record {
 -- what breaks off among the lines that are heard is an end
 off_ends : (n cap : ℕ) (first : Setting) (text : List ℕ) (rest : Option (List ℕ)) (machine : Machine)
     (holds : Option (List ℕ)) (fault : SessionFault)
-    → BreaksOffAmong n cap first (heard_lines text) machine holds fault
+    → BreaksOffAmong n cap first (processed_lines text) machine holds fault
     → Ends n cap first.acts text rest first.machine first.out machine holds (Err fault)
 off_ends n cap first text rest machine holds (Write count) off = off
 off_ends n cap first text rest machine holds Memory off = off
@@ -66,7 +66,7 @@ pub ended_first : (n cap : ℕ) (first : Setting) (source : Option (List ℕ))
 ended_first n cap first source = record {
   text = [];
   read = Consumes-nil source;
-  ends = λ more _. broken_first n cap first (heard_lines more);
+  ends = λ more _. broken_first n cap first (processed_lines more);
   end = tt;
   lacked = refl;
 }
@@ -131,7 +131,7 @@ ended_in_read {n} {cap} {first} {c} {fault} source left rest taken buf count roo
           (omega (arith, is, so, few, length-append taken (take room buf), short room buf)) in
           off_ends n cap first ((taken ++ take count buf) ++ more) (Some more) c.session.machine c.out fault
           (subst (λ (ls : List (List ℕ)). BreaksOffAmong n cap first ls c.session.machine c.out fault)
-          (sym (ap heard_lines (parted taken buf more room count (omega (arith, is))) ∙ begins.is))
+          (sym (ap processed_lines (parted taken buf more room count (omega (arith, is))) ∙ begins.is))
           (among_more n cap first (ended_lines (taken ++ take room buf)) begins.more c.session.machine c.out fault
           off.breaks));
       end = tt;

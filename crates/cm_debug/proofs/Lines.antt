@@ -6,7 +6,7 @@ use Rattle.cm_model.specs.declared.act.Act.{Act}
 use Rattle.cm_session.specs.declared.command.Command.{Command}
 use Rattle.cm_session.specs.declared.command.Refusal.{Refusal}
 use Rattle.cm_session.specs.Commands.{command_of}
-use Rattle.cm_session.specs.Session.{Session, Answered, told, preceded_by, opening, answered, after_line, after_lines}
+use Rattle.cm_session.specs.Session.{Session, Answered, answered_with, preceded_by, opening, answered, after_line, after_lines}
 use Rattle.cm_session.specs.Ends.{ended_lines, open_line}
 use Rattle.cm_session.proofs.Lines.{after_lines-append, ended_lines-end, ended_lines-more, open_line-more, lines_of-open}
 use Rattle.cm_debug.specs.Talk.{Setting, after_all}
@@ -39,7 +39,7 @@ after_one : (n cap : ℕ) (acts : List Act) (session : Session) (line : List ℕ
     → after_lines n cap acts session (line ∷ []) ≡ after_line n cap acts session line
 unfolding after_lines
 after_one n cap acts session line =
-    ap (told (after_line n cap acts session line).session) (append-nil (after_line n cap acts session line).answer)
+    ap (answered_with (after_line n cap acts session line).session) (append-nil (after_line n cap acts session line).answer)
 
 -- what a line is answered behind these
 abbrev pub next : ℕ → ℕ → Setting → List (List ℕ) → List ℕ → Answered

@@ -6,7 +6,7 @@ ghost use Rattle.cm_model.specs.Machine.{run_of};
 ghost use Rattle.cm_model.specs.declared.act.Act.TheVariants as act;
 ghost use Rattle.cm_array.specs.Acts.{is_late, is_long};
 ghost use Rattle.cm_array.specs.Faults.{CountsLacks};
-ghost use Rattle.cm_session.specs.Session.{has_acts, lacks_room, told_by};
+ghost use Rattle.cm_session.specs.Session.{has_acts, lacks_room, answer_of_act};
 ghost use Rattle.cm_debug.specs.State.{gone, session_of, state, stops_at, Goes};
 ghost use Rattle.cm_debug.specs.Longest.{Ran};
 ghost use Rattle.cm_debug.specs.Telling.{is_thread};
@@ -94,7 +94,7 @@ impl Debugger<'_> {
         act: &Act,
     ) -> Result<(), AllocError>
         ensures ok { OnOk result (text.new.items
-            ≡ text.old.items ++ told_by (session_of machine.now.machine self.now) act.now) }
+            ≡ text.old.items ++ answer_of_act (session_of machine.now.machine self.now) act.now) }
     {
         if self.trace && is_look(act) {
             push_sense(text, self.position, machine.wire())?;

@@ -14,7 +14,7 @@ use Rattle.cm_session.specs.Commands.{index_of, command_of}
 use Rattle.cm_session.specs.Session as session
 use Rattle.cm_session.specs.Session.{Session}
 use Rattle.cm_front.specs.Asked.{is_of_acts, is_report, as_question, question_of}
-use Rattle.cm_front.specs.Front.{Front, Answered, asked, answered_to}
+use Rattle.cm_front.specs.Front.{Front, FrontAnswered, asked, answered_to}
 use Rattle.cm_front.specs.Laws.{is_of_machine, AnswerAlike, FrontsAnswerAsSessions}
 use Rattle.cm_front.proofs.Saying.{after_asked}
 use Rattle.cm_front.proofs.Words.{asked_singly}
@@ -123,6 +123,6 @@ fronts_answer_as_sessions n cap front acts here line it is other asks about =
     (heard n (length acts) (words_of line) it about asks) in
     let question = after_asked n cap front line other (asked_singly n (words_of line) it asks) in
     record {
-      answer = ap (λ (a : Answered). a.answer) question ∙ both.answer;
-      machine = ap (λ (a : Answered). a.front.machine) question ∙ both.machine;
+      answer = ap (λ (a : FrontAnswered). a.answer) question ∙ both.answer;
+      machine = ap (λ (a : FrontAnswered). a.front.machine) question ∙ both.machine;
     }

@@ -7,7 +7,7 @@ use Rattle.cm_lab.proofs.ReadingBack.{numbers_read_back}
 use Rattle.cm_front.specs.declared.for_all.Asked.TheVariants.{Get, Put}
 use Rattle.cm_front.specs.ForAll.{is_for_all}
 use Rattle.cm_front.specs.Telling.{numbers_lines}
-use Rattle.cm_front.specs.Front.{Front, Answered, after_line, for_all}
+use Rattle.cm_front.specs.Front.{Front, FrontAnswered, front_after_line, for_all}
 use Rattle.cm_front.specs.Laws.{FrontsReadBack}
 use Rattle.cm_front.proofs.Saying.{after_for_all}
 use Rattle.cm_front.proofs.Words.{no_program, asked_of_all}
@@ -18,11 +18,11 @@ fronts_read_back n cap front putting getting field numbers whole puts gets =
     let given : IsGiven n field numbers = right n (words_of putting) (Put field) numbers puts in
     let all_put : is_for_all (words_of putting) ≡ true = asked_of_all n (words_of putting) (Put field, numbers) puts in
     let all_get : is_for_all (words_of getting) ≡ true = asked_of_all n (words_of getting) (Get field, []) gets in
-    let there : Front = (after_line n cap front putting).front in
-    let after : after_line n cap front putting ≡ for_all n cap front (Ok (Put field, numbers)) =
+    let there : Front = (front_after_line n cap front putting).front in
+    let after : front_after_line n cap front putting ≡ for_all n cap front (Ok (Put field, numbers)) =
     after_for_all n cap front putting (no_program (words_of putting) all_put) all_put ∙ ap (for_all n cap front) puts in
-    ap (λ (a : Answered). a.answer)
+    ap (λ (a : FrontAnswered). a.answer)
     (after_for_all n cap there getting (no_program (words_of getting) all_get) all_get ∙ ap (for_all n cap there) gets)
-    ∙ ap (λ (a : Answered). numbers_lines (2 ^ n) 16 (numbers_of n by_chips field.at field.len a.front.machine.chips)) after
+    ∙ ap (λ (a : FrontAnswered). numbers_lines (2 ^ n) 16 (numbers_of n by_chips field.at field.len a.front.machine.chips)) after
     ∙ ap (numbers_lines (2 ^ n) 16)
     (numbers_read_back n cap by_chips field.at field.len numbers front.machine whole given.end given.count given.small)

@@ -38,8 +38,8 @@ use Rattle.cm_front.specs.declared.for_all.Asked.{Asked}
 use Rattle.cm_front.specs.declared.for_all.Asked.TheVariants.{Get, GetFlag, GetBuffers, Put, Standing, Clock, Image}
 use Rattle.cm_front.specs.declared.for_all.Asked.TheVariants.{Forget}
 use Rattle.cm_front.specs.ForAll.{is_for_all, asked_of}
-use Rattle.cm_front.specs.Front.{Front, Answered, front_of, opening, without_acts, said, answered_to, obeyed, for_all}
-use Rattle.cm_front.specs.Front.{after_line, after_lines, read_by, read_more}
+use Rattle.cm_front.specs.Front.{Front, FrontAnswered, front_of, front_opening, without_acts, said, answered_to, for_all_obeyed, for_all}
+use Rattle.cm_front.specs.Front.{front_after_line, front_after_lines, read_by, read_more}
 use Rattle.cm_front.specs.Laws.{is_program_line, program_lines, is_change, asks_change, changes, HaveNoChange, refuses_acts, AreRun}
 use Rattle.cm_front.specs.Laws.{read_lines}
 use Rattle.cm_front.specs.Laws.{FrontsRunTheirPrograms}
@@ -152,7 +152,7 @@ question_keeps n cap machine (Ok (Some it)) pokeless = unpoked n cap machine it 
 
 -- and so does what is told of all processors
 untouched : (n cap : ℕ) (machine : Machine) (it : Asked) (numbers : List ℕ) → is_change it ≡ false
-    → (obeyed n cap machine it numbers).machine ≡ machine
+    → (for_all_obeyed n cap machine it numbers).machine ≡ machine
 untouched n cap machine (Get field) numbers other = refl
 untouched n cap machine (GetFlag number) numbers other = refl
 untouched n cap machine GetBuffers numbers other = refl
@@ -178,13 +178,13 @@ come n cap start r = front_of (run_of n cap start r.acts) (without_acts r)
 program_line_runs : (n cap : ℕ) (start : Machine) (r after : Reading) (line : List ℕ)
     → is_of_program (words_of line) ≡ true → read_more r (words_of line) ≡ Ok after
     → refuses_acts (come n cap start r) (read_more (without_acts r) (words_of line)) ≡ false
-    → (after_line n cap (come n cap start r) line).front ≡ come n cap start after
+    → (front_after_line n cap (come n cap start r) line).front ≡ come n cap start after
 program_line_runs n cap start r after line of_program reads taken =
     let front : Front = come n cap start r in
     let grows : Grows r (read_more (without_acts r) (words_of line)) after = grown r after (words_of line) reads in
     let free : (is_long grows.more || is_late front.machine.clock grows.more) ≡ false =
     sym (ap (refuses_acts front) grows.alone) ∙ taken in
-    ap (λ (a : Answered). a.front) (after_said n cap front line of_program)
+    ap (λ (a : FrontAnswered). a.front) (after_said n cap front line of_program)
     ∙ ap (λ (q : Result Reading AsmKind). (said n cap front q).front) grows.alone
     ∙ ap (λ (b : Bool). front_of (if b then front.machine else run_of n cap front.machine grows.more) (without_acts after))
     free
@@ -194,16 +194,16 @@ program_line_runs n cap start r after line of_program reads taken =
 -- a question, or a line for all processors that tells something
 question_line_keeps : (n cap : ℕ) (start : Machine) (r : Reading) (line : List ℕ)
     → is_of_program (words_of line) ≡ false → changes n (words_of line) ≡ false
-    → (after_line n cap (come n cap start r) line).front ≡ come n cap start r
+    → (front_after_line n cap (come n cap start r) line).front ≡ come n cap start r
 question_line_keeps n cap start r line other same = by (is_for_all (words_of line)) refl same where
   by : (b : Bool) → is_for_all (words_of line) ≡ b
       → (if b then asks_change (asked_of n (words_of line)) else asks_poke (question_of n (words_of line))) ≡ false
-      → (after_line n cap (come n cap start r) line).front ≡ come n cap start r
+      → (front_after_line n cap (come n cap start r) line).front ≡ come n cap start r
   by true is changeless =
-      ap (λ (a : Answered). a.front) (after_for_all n cap (come n cap start r) line other is)
+      ap (λ (a : FrontAnswered). a.front) (after_for_all n cap (come n cap start r) line other is)
       ∙ all_keep n cap (run_of n cap start r.acts) (without_acts r) (asked_of n (words_of line)) changeless
   by false is pokeless =
-      ap (λ (a : Answered). a.front) (after_asked n cap (come n cap start r) line other is)
+      ap (λ (a : FrontAnswered). a.front) (after_asked n cap (come n cap start r) line other is)
       ∙ ap (λ (m : Machine). front_of m (without_acts r))
       (question_keeps n cap (run_of n cap start r.acts) (question_of n (words_of line)) pokeless)
 
@@ -215,14 +215,14 @@ read_or other (Err fault) = other
 -- from here on the lines run
 abbrev RunsOn : ℕ → ℕ → Machine → Reading → List (List ℕ) → Type 0
 RunsOn n cap start read lines = (s : Reading) → read_lines s (program_lines lines) ≡ Ok read
-    → AreRun n cap (come n cap start s) lines → (after_lines n cap (come n cap start s) lines).front ≡ come n cap start read
+    → AreRun n cap (come n cap start s) lines → (front_after_lines n cap (come n cap start s) lines).front ≡ come n cap start read
 
 onwards : (n cap : ℕ) (start : Machine) (read s : Reading) (there : Front) (lines : List (List ℕ))
     → there ≡ come n cap start s → RunsOn n cap start read lines
     → read_lines s (program_lines lines) ≡ Ok read → AreRun n cap there lines
-    → (after_lines n cap there lines).front ≡ come n cap start read
+    → (front_after_lines n cap there lines).front ≡ come n cap start read
 onwards n cap start read s there lines is runs reads run =
-    ap (λ (f : Front). (after_lines n cap f lines).front) is
+    ap (λ (f : Front). (front_after_lines n cap f lines).front) is
     ∙ runs s reads (subst (λ (f : Front). AreRun n cap f lines) is run)
 
 -- behind a line of the program
@@ -230,10 +230,10 @@ program_goes : (n cap : ℕ) (start : Machine) (r read : Reading) (line : List �
     (q : Result Reading AsmKind) → RunsOn n cap start read lines → is_of_program (words_of line) ≡ true
     → read_more r (words_of line) ≡ q → AreRun n cap (come n cap start r) (line ∷ lines)
     → (q >>= λ s. read_lines s (program_lines lines)) ≡ Ok read
-    → (after_lines n cap (after_line n cap (come n cap start r) line).front lines).front ≡ come n cap start read
+    → (front_after_lines n cap (front_after_line n cap (come n cap start r) line).front lines).front ≡ come n cap start read
 program_goes n cap start r read line lines (Err fault) runs of_program is run h = absurd cc
 program_goes n cap start r read line lines (Ok s) runs of_program is run h =
-    onwards n cap start read s (after_line n cap (come n cap start r) line).front lines
+    onwards n cap start read s (front_after_line n cap (come n cap start r) line).front lines
     (program_line_runs n cap start r s line of_program is run.0) runs h run.1
 
 -- behind any line
@@ -241,18 +241,18 @@ line_goes : (n cap : ℕ) (start : Machine) (r read : Reading) (line : List ℕ)
     → RunsOn n cap start read lines → is_of_program (words_of line) ≡ b
     → changes n (words_of line) ≡ false → AreRun n cap (come n cap start r) (line ∷ lines)
     → read_lines r (cond b (line ∷ program_lines lines) (program_lines lines)) ≡ Ok read
-    → (after_lines n cap (after_line n cap (come n cap start r) line).front lines).front ≡ come n cap start read
+    → (front_after_lines n cap (front_after_line n cap (come n cap start r) line).front lines).front ≡ come n cap start read
 line_goes n cap start r read line lines true runs is pokeless run h =
     program_goes n cap start r read line lines (read_more r (words_of line)) runs is refl run h
 line_goes n cap start r read line lines false runs is pokeless run h =
-    onwards n cap start read r (after_line n cap (come n cap start r) line).front lines
+    onwards n cap start read r (front_after_line n cap (come n cap start r) line).front lines
     (question_line_keeps n cap start r line is pokeless) runs h run.1
 
 lines_run : (n cap : ℕ) (start : Machine) (r read : Reading) (lines : List (List ℕ))
     → read_lines r (program_lines lines) ≡ Ok read → HaveNoChange n lines
     → AreRun n cap (come n cap start r) lines
-    → (after_lines n cap (come n cap start r) lines).front ≡ come n cap start read
-unfolding after_lines
+    → (front_after_lines n cap (come n cap start r) lines).front ≡ come n cap start read
+unfolding front_after_lines
 lines_run n cap start r read [] reads pokeless run = ap (λ q. come n cap start (read_or r q)) reads
 lines_run n cap start r read (line ∷ lines) reads pokeless run =
     line_goes n cap start r read line lines (is_program_line line)
@@ -260,8 +260,8 @@ lines_run n cap start r read (line ∷ lines) reads pokeless run =
 
 pub fronts_run_their_programs : FrontsRunTheirPrograms
 fronts_run_their_programs n cap start lines read whole reads pokeless run =
-    let first : opening start ≡ come n cap start nothing_read =
+    let first : front_opening start ≡ come n cap start nothing_read =
     ap (λ (m : Machine). front_of m nothing_read) (sym (run_of-nil n cap start whole.buffer_count)) in
-    ap (λ (f : Front). (after_lines n cap f lines).front) first
+    ap (λ (f : Front). (front_after_lines n cap f lines).front) first
     ∙ lines_run n cap start nothing_read read lines reads pokeless
     (subst (λ (f : Front). AreRun n cap f lines) first run)

@@ -15,8 +15,8 @@ use Rattle.cm_session.specs.Session.{Session}
 use Rattle.cm_session.specs.Ends.{IsOnTheWay}
 use Rattle.cm_front.specs.Asked.{is_of_program, question_of, kind_number}
 use Rattle.cm_front.specs.ForAll.{is_for_all, asked_of}
-use Rattle.cm_front.specs.Front.{Front, front_of, without_acts, read_more, said, for_all, asked, after_line, acts_line}
-use Rattle.cm_front.specs.Front.{after_acts}
+use Rattle.cm_front.specs.Front.{Front, front_of, without_acts, read_more, said, for_all, asked, front_after_line, acts_line}
+use Rattle.cm_front.specs.Front.{after_accepted_acts}
 
 -- the acts are forgotten
 pub forgotten : (old new before : Reading) → without_acts old ≡ before → new.fields ≡ old.fields
@@ -37,7 +37,7 @@ is_read before new words q same is = ap (λ (r : Reading). read_more r words) (s
 
 -- it is accepted
 pub said_ok : (n cap : ℕ) (machine after : Machine) (before new read : Reading) (words : List (List ℕ))
-    → new ≡ before → read_more new words ≡ Ok read → after ≡ after_acts n cap machine read.acts
+    → new ≡ before → read_more new words ≡ Ok read → after ≡ after_accepted_acts n cap machine read.acts
     → front_of after (without_acts read) ≡ (said n cap (front_of machine before) (read_more before words)).front
 said_ok n cap machine after before new read words same taken is =
     ap (λ (m : Machine). front_of m (without_acts read)) is
@@ -89,8 +89,8 @@ said_err_answer n cap machine before new words k number text same own is so tell
 -- ---- a line of a program, one for all processors, or a question
 
 pub after_said : (n cap : ℕ) (front : Front) (line : List ℕ) → is_of_program (words_of line) ≡ true
-    → after_line n cap front line ≡ said n cap front (read_more front.reading (words_of line))
-unfolding after_line
+    → front_after_line n cap front line ≡ said n cap front (read_more front.reading (words_of line))
+unfolding front_after_line
 after_said n cap front line is =
     ap (λ (b : Bool). if b then said n cap front (read_more front.reading (words_of line))
     else (if is_for_all (words_of line) then for_all n cap front (asked_of n (words_of line))
@@ -98,8 +98,8 @@ after_said n cap front line is =
 
 pub after_for_all : (n cap : ℕ) (front : Front) (line : List ℕ) → is_of_program (words_of line) ≡ false
     → is_for_all (words_of line) ≡ true
-    → after_line n cap front line ≡ for_all n cap front (asked_of n (words_of line))
-unfolding after_line
+    → front_after_line n cap front line ≡ for_all n cap front (asked_of n (words_of line))
+unfolding front_after_line
 after_for_all n cap front line other is =
     ap (λ (b : Bool). if b then said n cap front (read_more front.reading (words_of line))
     else (if is_for_all (words_of line) then for_all n cap front (asked_of n (words_of line))
@@ -109,8 +109,8 @@ after_for_all n cap front line other is =
 
 pub after_asked : (n cap : ℕ) (front : Front) (line : List ℕ) → is_of_program (words_of line) ≡ false
     → is_for_all (words_of line) ≡ false
-    → after_line n cap front line ≡ asked n cap front (question_of n (words_of line))
-unfolding after_line
+    → front_after_line n cap front line ≡ asked n cap front (question_of n (words_of line))
+unfolding front_after_line
 after_asked n cap front line other single =
     ap (λ (b : Bool). if b then said n cap front (read_more front.reading (words_of line))
     else (if is_for_all (words_of line) then for_all n cap front (asked_of n (words_of line))

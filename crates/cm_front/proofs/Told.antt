@@ -9,57 +9,58 @@ use Rattle.cm_session.specs.declared.fault.SessionFault.{SessionFault}
 use Rattle.cm_session.specs.declared.fault.SessionFault.TheVariants.{Read, Write, TooMuch, Memory, NoThread}
 use Rattle.cm_debug.specs.Gathering.{IsCutOff, BreaksOffBetween}
 use Rattle.cm_debug.proofs.Sending.{front_written, all_written, with_none}
-use Rattle.cm_front.specs.Front.{Front, Answered, opening, told, preceded_by, after_line, after_lines, answers}
+use Rattle.cm_front.specs.Front.{Front, FrontAnswered, front_opening, front_answered_with, front_preceded_by}
+use Rattle.cm_front.specs.Front.{front_after_line, front_after_lines, front_answers}
 use Rattle.cm_front.specs.Ends.{IsAnswered, IsStopped, IsBrokenOff, EndsOver}
 use Rattle.cm_front.specs.Hearing.{BreaksOff}
 
 -- ---- lines in two parts
 
-preceded_by-twice : (first second : List ℕ) (rest : Answered)
-    → preceded_by first (preceded_by second rest) ≡ preceded_by (first ++ second) rest
-preceded_by-twice first second rest = ap (told rest.front) (sym (append_assoc first second rest.answer))
+front_preceded_by-twice : (first second : List ℕ) (rest : FrontAnswered)
+    → front_preceded_by first (front_preceded_by second rest) ≡ front_preceded_by (first ++ second) rest
+front_preceded_by-twice first second rest = ap (front_answered_with rest.front) (sym (append_assoc first second rest.answer))
 
 -- the second part is done by the front end that the first part leaves
-pub after_lines-append : (n cap : ℕ) (front : Front) (lines more : List (List ℕ))
-    → after_lines n cap front (lines ++ more)
-    ≡ preceded_by (after_lines n cap front lines).answer
-    (after_lines n cap (after_lines n cap front lines).front more)
-unfolding after_lines
-after_lines-append n cap front [] more = refl
-after_lines-append n cap front (line ∷ lines) more =
-    let one : Answered = after_line n cap front line in
-    ap (preceded_by one.answer) (after_lines-append n cap one.front lines more)
-    ∙ preceded_by-twice one.answer (after_lines n cap one.front lines).answer _
+pub front_after_lines-append : (n cap : ℕ) (front : Front) (lines more : List (List ℕ))
+    → front_after_lines n cap front (lines ++ more)
+    ≡ front_preceded_by (front_after_lines n cap front lines).answer
+    (front_after_lines n cap (front_after_lines n cap front lines).front more)
+unfolding front_after_lines
+front_after_lines-append n cap front [] more = refl
+front_after_lines-append n cap front (line ∷ lines) more =
+    let one : FrontAnswered = front_after_line n cap front line in
+    ap (front_preceded_by one.answer) (front_after_lines-append n cap one.front lines more)
+    ∙ front_preceded_by-twice one.answer (front_after_lines n cap one.front lines).answer _
 
 pub after_one : (n cap : ℕ) (front : Front) (line : List ℕ)
-    → after_lines n cap front (line ∷ []) ≡ after_line n cap front line
-unfolding after_lines
+    → front_after_lines n cap front (line ∷ []) ≡ front_after_line n cap front line
+unfolding front_after_lines
 after_one n cap front line =
-    ap (told (after_line n cap front line).front) (append-nil (after_line n cap front line).answer)
+    ap (front_answered_with (front_after_line n cap front line).front) (append-nil (front_after_line n cap front line).answer)
 
-abbrev pub all : ℕ → ℕ → Machine → List (List ℕ) → Answered
-all n cap start lines = after_lines n cap (opening start) lines
+abbrev pub all : ℕ → ℕ → Machine → List (List ℕ) → FrontAnswered
+all n cap start lines = front_after_lines n cap (front_opening start) lines
 
 all-more : (n cap : ℕ) (start : Machine) (lines : List (List ℕ)) (line : List ℕ)
     → all n cap start (lines ++ line ∷ [])
-    ≡ preceded_by (all n cap start lines).answer (after_line n cap (all n cap start lines).front line)
+    ≡ front_preceded_by (all n cap start lines).answer (front_after_line n cap (all n cap start lines).front line)
 all-more n cap start lines line =
-    after_lines-append n cap (opening start) lines (line ∷ [])
-    ∙ ap (preceded_by (all n cap start lines).answer) (after_one n cap (all n cap start lines).front line)
+    front_after_lines-append n cap (front_opening start) lines (line ∷ [])
+    ∙ ap (front_preceded_by (all n cap start lines).answer) (after_one n cap (all n cap start lines).front line)
 
 -- ---- what is told
 
 -- these lines are done: a sink holds the answers, or would, had it what is kept too
 pub record IsTold (n cap : ℕ) (start : Machine) (held : Option (List ℕ)) (done : List (List ℕ)) (front : Front)
     (holds : Option (List ℕ)) (sent : ℕ) (kept : List ℕ) : Type 0 where
-  pub written : Appends held (append_known holds kept) (answers n cap start done)
-  pub sent_is : sent + length kept ≡ length (answers n cap start done)
+  pub written : Appends held (append_known holds kept) (front_answers n cap start done)
+  pub sent_is : sent + length kept ≡ length (front_answers n cap start done)
   pub front_is : front ≡ (all n cap start done).front
 
 -- before the first line
 pub nothing_told : (n cap : ℕ) (start : Machine) (held : Option (List ℕ)) (sent : ℕ) (kept : List ℕ) → sent ≡ 0
-    → kept ≡ [] → IsTold n cap start held [] (opening start) held sent kept
-unfolding after_lines
+    → kept ≡ [] → IsTold n cap start held [] (front_opening start) held sent kept
+unfolding front_after_lines
 nothing_told n cap start held sent kept zero none = record {
   written = subst (λ (known : Option (List ℕ)). Appends held known []) (sym (with_none held kept none)) (Appends-nil held);
   sent_is = omega (arith, zero, ap length none);
@@ -69,23 +70,23 @@ nothing_told n cap start held sent kept zero none = record {
 -- one line more
 pub told_line : (n cap : ℕ) (start : Machine) (held : Option (List ℕ)) (done : List (List ℕ)) (front after : Front)
     (holds on : Option (List ℕ)) (sent now : ℕ) (kept gathered line : List ℕ)
-    → IsTold n cap start held done front holds sent kept → after ≡ (after_line n cap front line).front
-    → Appends (append_known holds kept) (append_known on gathered) (after_line n cap front line).answer
-    → now + length gathered ≡ sent + length kept + length (after_line n cap front line).answer
+    → IsTold n cap start held done front holds sent kept → after ≡ (front_after_line n cap front line).front
+    → Appends (append_known holds kept) (append_known on gathered) (front_after_line n cap front line).answer
+    → now + length gathered ≡ sent + length kept + length (front_after_line n cap front line).answer
     → IsTold n cap start held (done ++ line ∷ []) after on now gathered
 told_line n cap start held done front after holds on sent now kept gathered line told' is wrote count =
-    let one : Answered = after_line n cap front line in
-    let same : one ≡ after_line n cap (all n cap start done).front line =
-    ap (λ (f : Front). after_line n cap f line) told'.front_is in
-    let whole : all n cap start (done ++ line ∷ []) ≡ preceded_by (all n cap start done).answer one =
-    all-more n cap start done line ∙ ap (preceded_by (all n cap start done).answer) (sym same) in
+    let one : FrontAnswered = front_after_line n cap front line in
+    let same : one ≡ front_after_line n cap (all n cap start done).front line =
+    ap (λ (f : Front). front_after_line n cap f line) told'.front_is in
+    let whole : all n cap start (done ++ line ∷ []) ≡ front_preceded_by (all n cap start done).answer one =
+    all-more n cap start done line ∙ ap (front_preceded_by (all n cap start done).answer) (sym same) in
     record {
-      written = subst (Appends held (append_known on gathered)) (sym (ap (λ (a : Answered). a.answer) whole))
+      written = subst (Appends held (append_known on gathered)) (sym (ap (λ (a : FrontAnswered). a.answer) whole))
           (Appends-trans held (append_known holds kept) (append_known on gathered) _ _ told'.written wrote);
       sent_is = count ∙ ap (λ (k : ℕ). k + length one.answer) told'.sent_is
           ∙ sym (length-append (all n cap start done).answer one.answer)
-          ∙ sym (ap (λ (a : Answered). length a.answer) whole);
-      front_is = is ∙ sym (ap (λ (a : Answered). a.front) whole);
+          ∙ sym (ap (λ (a : FrontAnswered). length a.answer) whole);
+      front_is = is ∙ sym (ap (λ (a : FrontAnswered). a.front) whole);
     }
 
 -- an answer that is only kept
@@ -96,13 +97,13 @@ known_more (Some xs) kept answer = sym (append_assoc xs kept answer)
 
 pub told_kept : (n cap : ℕ) (start : Machine) (held : Option (List ℕ)) (done : List (List ℕ)) (front : Front)
     (holds : Option (List ℕ)) (sent : ℕ) (kept line : List ℕ) → IsTold n cap start held done front holds sent kept
-    → IsTold n cap start held (done ++ line ∷ []) (after_line n cap front line).front holds sent
-    (kept ++ (after_line n cap front line).answer)
+    → IsTold n cap start held (done ++ line ∷ []) (front_after_line n cap front line).front holds sent
+    (kept ++ (front_after_line n cap front line).answer)
 told_kept n cap start held done front holds sent kept line told' =
-    told_line n cap start held done front (after_line n cap front line).front holds holds sent sent kept
-    (kept ++ (after_line n cap front line).answer) line told' refl
-    (known_more holds kept (after_line n cap front line).answer)
-    (omega (arith, length-append kept (after_line n cap front line).answer))
+    told_line n cap start held done front (front_after_line n cap front line).front holds holds sent sent kept
+    (kept ++ (front_after_line n cap front line).answer) line told' refl
+    (known_more holds kept (front_after_line n cap front line).answer)
+    (omega (arith, length-append kept (front_after_line n cap front line).answer))
 
 -- what was kept is written
 pub told_sent : (n cap : ℕ) (start : Machine) (held : Option (List ℕ)) (done : List (List ℕ)) (front : Front)
@@ -110,8 +111,8 @@ pub told_sent : (n cap : ℕ) (start : Machine) (held : Option (List ℕ)) (done
     → now ≡ sent + length kept → IsTold n cap start held done front holds sent kept
     → IsTold n cap start held done front on now left
 told_sent n cap start held done front holds on sent now kept left wrote none count told' = record {
-  written = subst (λ (known : Option (List ℕ)). Appends held known (answers n cap start done))
-      (sym (with_none on left none)) (all_written held holds on kept (answers n cap start done) told'.written wrote);
+  written = subst (λ (known : Option (List ℕ)). Appends held known (front_answers n cap start done))
+      (sym (with_none on left none)) (all_written held holds on kept (front_answers n cap start done) told'.written wrote);
   sent_is = omega (arith, count, ap length none, told'.sent_is);
   front_is = told'.front_is;
 }
@@ -123,7 +124,7 @@ pub answered_all : (n cap : ℕ) (start : Machine) (held : Option (List ℕ)) (d
     (holds : Option (List ℕ)) (sent : ℕ) (kept : List ℕ) → kept ≡ []
     → IsTold n cap start held done front holds sent kept → IsAnswered n cap start held done front.machine holds
 answered_all n cap start held done front holds sent kept none told' = record {
-  written = subst (λ (known : Option (List ℕ)). Appends held known (answers n cap start done))
+  written = subst (λ (known : Option (List ℕ)). Appends held known (front_answers n cap start done))
       (with_none holds kept none) told'.written;
   machine_is = ap (λ (f : Front). f.machine) told'.front_is;
 }
@@ -134,7 +135,7 @@ pub stopped : (n cap : ℕ) (start : Machine) (held : Option (List ℕ)) (done u
     → IsTold n cap start held done front holds sent kept → IsCutOff sent kept holds on count
     → IsStopped n cap start held lines front.machine on count
 stopped n cap start held done undone lines front holds on sent kept count parts told' cut =
-    let first : List ℕ = answers n cap start done in
+    let first : List ℕ = front_answers n cap start done in
     let none : kept ++ [] ≡ kept = append-nil kept in
     record {
       done = done;
@@ -158,7 +159,7 @@ broken_off n cap start held done undone lines front holds on sent kept parts tol
   undone = undone;
   lines_are = parts;
   answered = record {
-    written = all_written held holds on kept (answers n cap start done) told'.written wrote;
+    written = all_written held holds on kept (front_answers n cap start done) told'.written wrote;
     machine_is = ap (λ (f : Front). f.machine) told'.front_is;
   };
 }
@@ -178,8 +179,8 @@ line_stops n cap start held taken done undone front holds on sent kept line mach
 line_stops n cap start held taken done undone front holds on sent kept line machine (Write count) parts told'
     (inr after) =
     subst (λ (m : Machine). IsStopped n cap start held (lines_of taken) m on count) (sym after.0)
-    (stopped n cap start held (done ++ line ∷ []) undone (lines_of taken) (after_line n cap front line).front holds on
-    sent (kept ++ (after_line n cap front line).answer) count parts
+    (stopped n cap start held (done ++ line ∷ []) undone (lines_of taken) (front_after_line n cap front line).front holds on
+    sent (kept ++ (front_after_line n cap front line).answer) count parts
     (told_kept n cap start held done front holds sent kept line told') after.1)
 line_stops n cap start held taken done undone front holds on sent kept line machine Memory parts told' before =
     subst (λ (m : Machine). IsBrokenOff n cap start held (lines_of taken) m on) (sym before.0)

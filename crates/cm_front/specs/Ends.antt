@@ -7,7 +7,7 @@ use Rattle.cm_model.specs.Machine.{Machine}
 use Rattle.cm_session.specs.declared.fault.SessionFault.{SessionFault}
 use Rattle.cm_session.specs.declared.fault.SessionFault.TheVariants.{Read, Write, TooMuch, Memory, NoThread}
 use Rattle.cm_session.specs.Ends.{ended_lines, open_line}
-use Rattle.cm_front.specs.Front.{answers, left}
+use Rattle.cm_front.specs.Front.{front_answers, front_left}
 
 -- the most bytes of a line
 abbrev pub LIMIT : ℕ
@@ -24,8 +24,8 @@ AreShort lines = All (λ line. length line ≤ LIMIT) lines
 -- these lines are all answered, and the machine is that after them
 pub record IsAnswered (n cap : ℕ) (start : Machine) (held : Option (List ℕ)) (lines : List (List ℕ))
     (machine : Machine) (holds : Option (List ℕ)) : Type 0 where
-  pub written : Appends held holds (answers n cap start lines)
-  pub machine_is : machine ≡ left n cap start lines
+  pub written : Appends held holds (front_answers n cap start lines)
+  pub machine_is : machine ≡ front_left n cap start lines
 
 -- some of these lines are done, and the machine is that after them; so many bytes of their answers are written, not all
 pub record IsStopped (n cap : ℕ) (start : Machine) (held : Option (List ℕ)) (lines : List (List ℕ))
@@ -33,9 +33,9 @@ pub record IsStopped (n cap : ℕ) (start : Machine) (held : Option (List ℕ)) 
   pub done : List (List ℕ)
   pub undone : List (List ℕ)
   pub lines_are : lines ≡ done ++ undone
-  pub within : count < length (answers n cap start done)
-  pub written : Appends held holds (take count (answers n cap start done))
-  pub machine_is : machine ≡ left n cap start done
+  pub within : count < length (front_answers n cap start done)
+  pub written : Appends held holds (take count (front_answers n cap start done))
+  pub machine_is : machine ≡ front_left n cap start done
 
 -- some of these lines are done and their answers written, and nothing of the others
 pub record IsBrokenOff (n cap : ℕ) (start : Machine) (held : Option (List ℕ)) (lines : List (List ℕ))

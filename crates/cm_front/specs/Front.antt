@@ -42,21 +42,21 @@ abbrev pub front_of : Machine → Reading → Front
 front_of machine reading = record { machine = machine; reading = reading }
 
 -- before the first line
-abbrev pub opening : Machine → Front
-opening machine = front_of machine nothing_read
+abbrev pub front_opening : Machine → Front
+front_opening machine = front_of machine nothing_read
 
 -- a front end after a line, and what was answered to it
-pub record Answered : Type 0 where
+pub record FrontAnswered : Type 0 where
   pub front : Front
   pub answer : List ℕ
 
 -- a front end, and this answer
-abbrev pub told : Front → List ℕ → Answered
-told front answer = record { front = front; answer = answer }
+abbrev pub front_answered_with : Front → List ℕ → FrontAnswered
+front_answered_with front answer = record { front = front; answer = answer }
 
 -- what was answered before, and then the rest
-abbrev pub preceded_by : List ℕ → Answered → Answered
-preceded_by first rest = told rest.front (first ++ rest.answer)
+abbrev pub front_preceded_by : List ℕ → FrontAnswered → FrontAnswered
+front_preceded_by first rest = front_answered_with rest.front (first ++ rest.answer)
 
 -- ---- a line of the program
 
@@ -91,16 +91,16 @@ acts_line machine acts =
     else (if is_late machine.clock acts then refused_line CLOCK else done_line machine acts)
 
 -- the machine after them
-abbrev pub after_acts : ℕ → ℕ → Machine → List Act → Machine
-after_acts n cap machine acts =
+abbrev pub after_accepted_acts : ℕ → ℕ → Machine → List Act → Machine
+after_accepted_acts n cap machine acts =
     if is_long acts || is_late machine.clock acts then machine else run_of n cap machine acts
 
 -- a line that is refused changes nothing
-abbrev pub said : ℕ → ℕ → Front → Result Reading AsmKind → Answered
+abbrev pub said : ℕ → ℕ → Front → Result Reading AsmKind → FrontAnswered
 said n cap front (Ok read) =
-    told (front_of (after_acts n cap front.machine read.acts) (without_acts read))
+    front_answered_with (front_of (after_accepted_acts n cap front.machine read.acts) (without_acts read))
     (acts_line front.machine read.acts)
-said n cap front (Err kind) = told front (refused_line (kind_number kind))
+said n cap front (Err kind) = front_answered_with front (refused_line (kind_number kind))
 
 -- ---- a question
 
@@ -109,9 +109,9 @@ abbrev pub answered_to : ℕ → ℕ → Machine → Result (Option Command) Ref
 answered_to n cap machine question = session.answered n cap [] (session.opening machine 0) question
 
 -- the fields and the context stay
-abbrev pub asked : ℕ → ℕ → Front → Result (Option Command) Refusal → Answered
+abbrev pub asked : ℕ → ℕ → Front → Result (Option Command) Refusal → FrontAnswered
 asked n cap front question =
-    told (front_of (answered_to n cap front.machine question).session.machine front.reading)
+    front_answered_with (front_of (answered_to n cap front.machine question).session.machine front.reading)
     (answered_to n cap front.machine question).answer
 
 -- ---- a line for all processors
@@ -126,51 +126,51 @@ abbrev pub done : Machine → List ℕ → Done
 done machine answer = record { machine = machine; answer = answer }
 
 -- what is done and answered on a cube of n dimensions, where these numbers are given
-abbrev pub obeyed : ℕ → ℕ → Machine → Asked → List ℕ → Done
-obeyed n cap machine (Get field) numbers =
+abbrev pub for_all_obeyed : ℕ → ℕ → Machine → Asked → List ℕ → Done
+for_all_obeyed n cap machine (Get field) numbers =
     done machine (numbers_lines (2 ^ n) 16 (numbers_of n by_chips field.at field.len machine.chips))
-obeyed n cap machine (GetFlag number) numbers =
+for_all_obeyed n cap machine (GetFlag number) numbers =
     done machine (numbers_lines (2 ^ n) 16 (flags_of n by_chips number machine.chips))
-obeyed n cap machine GetBuffers numbers =
+for_all_obeyed n cap machine GetBuffers numbers =
     done machine (numbers_lines (chip_rows n) (chip_columns n) (buffered n machine))
-obeyed n cap machine (Put field) numbers =
+for_all_obeyed n cap machine (Put field) numbers =
     done (machine_with_numbers n by_chips field.at field.len numbers machine) ok_line
-obeyed n cap machine Standing numbers = done machine (standing_line n machine)
-obeyed n cap machine Clock numbers = done machine (line (codes "clock" ∷ decimal machine.clock ∷ []))
-obeyed n cap machine Image numbers = done machine (image_lines (text_of n cap machine))
-obeyed n cap machine Forget numbers = done (unlogged n machine) ok_line
+for_all_obeyed n cap machine Standing numbers = done machine (standing_line n machine)
+for_all_obeyed n cap machine Clock numbers = done machine (line (codes "clock" ∷ decimal machine.clock ∷ []))
+for_all_obeyed n cap machine Image numbers = done machine (image_lines (text_of n cap machine))
+for_all_obeyed n cap machine Forget numbers = done (unlogged n machine) ok_line
 
 -- the fields and the context stay; a line that is refused changes nothing
-abbrev pub for_all : ℕ → ℕ → Front → Result (Asked × List ℕ) AsmKind → Answered
+abbrev pub for_all : ℕ → ℕ → Front → Result (Asked × List ℕ) AsmKind → FrontAnswered
 for_all n cap front (Ok it) =
-    told (front_of (obeyed n cap front.machine it.0 it.1).machine front.reading)
-    (obeyed n cap front.machine it.0 it.1).answer
-for_all n cap front (Err kind) = told front (refused_line (kind_number kind))
+    front_answered_with (front_of (for_all_obeyed n cap front.machine it.0 it.1).machine front.reading)
+    (for_all_obeyed n cap front.machine it.0 it.1).answer
+for_all n cap front (Err kind) = front_answered_with front (refused_line (kind_number kind))
 
 -- ---- lines
 
 -- after a line, by its words
-abbrev pub after_words_of : ℕ → ℕ → Front → List (List ℕ) → Answered
+abbrev pub after_words_of : ℕ → ℕ → Front → List (List ℕ) → FrontAnswered
 after_words_of n cap front words =
     if is_of_program words then said n cap front (read_more front.reading words)
     else (if is_for_all words then for_all n cap front (asked_of n words)
     else asked n cap front (question_of n words))
 
 -- after a line
-unfoldable pub after_line : ℕ → ℕ → Front → List ℕ → Answered
-after_line n cap front line = after_words_of n cap front (words_of line)
+unfoldable pub front_after_line : ℕ → ℕ → Front → List ℕ → FrontAnswered
+front_after_line n cap front line = after_words_of n cap front (words_of line)
 
 -- after lines, one after another
-unfoldable pub after_lines : ℕ → ℕ → Front → List (List ℕ) → Answered
-after_lines n cap front [] = told front []
-after_lines n cap front (line ∷ lines) =
-    preceded_by (after_line n cap front line).answer
-    (after_lines n cap (after_line n cap front line).front lines)
+unfoldable pub front_after_lines : ℕ → ℕ → Front → List (List ℕ) → FrontAnswered
+front_after_lines n cap front [] = front_answered_with front []
+front_after_lines n cap front (line ∷ lines) =
+    front_preceded_by (front_after_line n cap front line).answer
+    (front_after_lines n cap (front_after_line n cap front line).front lines)
 
 -- what is answered to these lines
-abbrev pub answers : ℕ → ℕ → Machine → List (List ℕ) → List ℕ
-answers n cap start lines = (after_lines n cap (opening start) lines).answer
+abbrev pub front_answers : ℕ → ℕ → Machine → List (List ℕ) → List ℕ
+front_answers n cap start lines = (front_after_lines n cap (front_opening start) lines).answer
 
 -- the machine that they leave
-abbrev pub left : ℕ → ℕ → Machine → List (List ℕ) → Machine
-left n cap start lines = (after_lines n cap (opening start) lines).front.machine
+abbrev pub front_left : ℕ → ℕ → Machine → List (List ℕ) → Machine
+front_left n cap start lines = (front_after_lines n cap (front_opening start) lines).front.machine

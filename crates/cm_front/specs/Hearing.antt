@@ -5,7 +5,7 @@ use Rattle.cm_model.specs.Machine.{Machine}
 use Rattle.cm_session.specs.declared.fault.SessionFault.{SessionFault}
 use Rattle.cm_session.specs.declared.fault.SessionFault.TheVariants.{Read, Write, TooMuch, Memory, NoThread}
 use Rattle.cm_debug.specs.Gathering.{IsCutOff}
-use Rattle.cm_front.specs.Front.{Front, after_line}
+use Rattle.cm_front.specs.Front.{Front, front_after_line}
 use Rattle.cm_front.specs.Ends.{LIMIT}
 
 -- after so many bytes more were taken from a source, and stand behind the rest
@@ -37,8 +37,8 @@ abbrev pub BreaksOff : ℕ → ℕ → Front → List ℕ → ℕ → List ℕ �
     → SessionFault → Type 0
 BreaksOff n cap front line sent kept held machine holds (Write count) =
     ((machine ≡ front.machine) × IsCutOff sent kept held holds count)
-    ⊎ ((machine ≡ (after_line n cap front line).front.machine)
-    × IsCutOff sent (kept ++ (after_line n cap front line).answer) held holds count)
+    ⊎ ((machine ≡ (front_after_line n cap front line).front.machine)
+    × IsCutOff sent (kept ++ (front_after_line n cap front line).answer) held holds count)
 BreaksOff n cap front line sent kept held machine holds Memory = (machine ≡ front.machine) × Appends held holds kept
 BreaksOff n cap front line sent kept held machine holds NoThread = (machine ≡ front.machine) × Appends held holds kept
 BreaksOff n cap front line sent kept held machine holds Read = ⊥

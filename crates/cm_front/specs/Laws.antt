@@ -19,7 +19,8 @@ use Rattle.cm_front.specs.declared.for_all.Asked.TheVariants.{Get, Put, Forget}
 use Rattle.cm_front.specs.Asked.{is_of_program, question_of}
 use Rattle.cm_front.specs.ForAll.{is_for_all, asked_of}
 use Rattle.cm_front.specs.Telling.{numbers_lines}
-use Rattle.cm_front.specs.Front.{Front, Answered, front_of, opening, without_acts, read_more, after_line, after_lines}
+use Rattle.cm_front.specs.Front.{Front, FrontAnswered, front_of, front_opening, without_acts, read_more}
+use Rattle.cm_front.specs.Front.{front_after_line, front_after_lines}
 
 -- the line is one of a program
 abbrev pub is_program_line : List ℕ → Bool
@@ -64,7 +65,7 @@ abbrev pub AreRun : ℕ → ℕ → Front → List (List ℕ) → Type 0
 AreRun n cap front [] = Unit {0}
 AreRun n cap front (line ∷ lines) =
     (refuses_acts front (read_more front.reading (words_of line)) ≡ false)
-    × AreRun n cap (after_line n cap front line).front lines
+    × AreRun n cap (front_after_line n cap front line).front lines
 
 -- where the program lines and phrases, as one text, are accepted, no acts are refused and nothing is poked, put or forgotten, the
 -- machine is that after a run of the text's acts, and the fields and the context are those of the text: what is asked
@@ -72,8 +73,8 @@ AreRun n cap front (line ∷ lines) =
 abbrev pub FrontsRunTheirPrograms : Type 0
 FrontsRunTheirPrograms = (n cap : ℕ) (start : Machine) (lines : List (List ℕ)) (read : Reading)
     → IsMachine n cap start → read_lines nothing_read (program_lines lines) ≡ Ok read
-    → HaveNoChange n lines → AreRun n cap (opening start) lines
-    → (after_lines n cap (opening start) lines).front ≡ front_of (run_of n cap start read.acts) (without_acts read)
+    → HaveNoChange n lines → AreRun n cap (front_opening start) lines
+    → (front_after_lines n cap (front_opening start) lines).front ≡ front_of (run_of n cap start read.acts) (without_acts read)
 
 -- what is asked of the machine alone, and a poke; not what bears on the acts of a session
 abbrev pub is_of_machine : Command → Bool
@@ -86,7 +87,7 @@ is_of_machine command.WireOff = false
 is_of_machine _ = true
 
 -- a front end and a session answer alike, and have the same machine then
-pub record AnswerAlike (asked : Answered) (heard : session.Answered) : Type 0 where
+pub record AnswerAlike (asked : FrontAnswered) (heard : session.Answered) : Type 0 where
   pub answer : asked.answer ≡ heard.answer
   pub machine : asked.front.machine ≡ heard.session.machine
 
@@ -95,11 +96,11 @@ abbrev pub FrontsAnswerAsSessions : Type 0
 FrontsAnswerAsSessions = (n cap : ℕ) (front : Front) (acts : List Act) (here : session.Session) (line : List ℕ)
     (it : Command) → here.machine ≡ front.machine → is_program_line line ≡ false
     → question_of n (words_of line) ≡ Ok (Some it) → is_of_machine it ≡ true
-    → AnswerAlike (after_line n cap front line) (session.after_line n cap acts here line)
+    → AnswerAlike (front_after_line n cap front line) (session.after_line n cap acts here line)
 
 -- `get` tells the numbers that `put` put into the same field
 abbrev pub FrontsReadBack : Type 0
 FrontsReadBack = (n cap : ℕ) (front : Front) (putting getting : List ℕ) (field : Span) (numbers : List ℕ)
     → IsMachine n cap front.machine → asked_of n (words_of putting) ≡ Ok (Put field, numbers)
     → asked_of n (words_of getting) ≡ Ok (Get field, [])
-    → (after_line n cap (after_line n cap front putting).front getting).answer ≡ numbers_lines (2 ^ n) 16 numbers
+    → (front_after_line n cap (front_after_line n cap front putting).front getting).answer ≡ numbers_lines (2 ^ n) 16 numbers

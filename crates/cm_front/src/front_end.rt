@@ -9,8 +9,9 @@ ghost use Rattle.cm_session.specs.Answer.{refused_line};
 ghost use Rattle.cm_debug.specs.Telling.{is_thread};
 ghost use Rattle.cm_front.specs.Asked.{question_of};
 ghost use Rattle.cm_front.specs.ForAll.{asked_of, AreFor};
-ghost use Rattle.cm_front.specs.Front.{front_of, said, after_line, acts_line, after_acts, done_line, answered_to};
-ghost use Rattle.cm_front.specs.Front.{for_all, obeyed, read_more, told};
+ghost use Rattle.cm_front.specs.Front.{front_of, said, front_after_line, acts_line, after_accepted_acts, done_line};
+ghost use Rattle.cm_front.specs.Front.{answered_to};
+ghost use Rattle.cm_front.specs.Front.{for_all, for_all_obeyed, read_more, front_answered_with};
 
 use crate::for_all::{Asked, is_for_all, read_asked};
 use crate::questions::{is_of_program, own_number, read_question};
@@ -66,9 +67,9 @@ impl FrontEnd {
     ) -> Result<(), Want>
         requires runner { R.ready }
         ensures answer { OnOk result (text.new.items
-            ≡ (after_line N CAP (front_of machine.old.machine self.old) line.now).answer) }
+            ≡ (front_after_line N CAP (front_of machine.old.machine self.old) line.now).answer) }
         ensures front { OnOk result (front_of machine.new.machine self.new
-            ≡ (after_line N CAP (front_of machine.old.machine self.old) line.now).front) }
+            ≡ (front_after_line N CAP (front_of machine.old.machine self.old) line.now).front) }
         ensures err { OnErr result (machine.new.machine ≡ machine.old.machine) }
         ensures thread { CountsLacks is_thread (R.threads_lacked runner.old) (R.threads_lacked runner.new) result }
     {
@@ -121,7 +122,7 @@ fn run_at_once<const N: usize, const CAP: usize, R: Runner<N, CAP>>(
     requires runner { R.ready }
     requires none { text.old.items ≡ [] }
     ensures answer { OnOk result (text.new.items ≡ acts_line machine.old.machine acts.now) }
-    ensures machine { OnOk result (machine.new.machine ≡ after_acts N CAP machine.old.machine acts.now) }
+    ensures machine { OnOk result (machine.new.machine ≡ after_accepted_acts N CAP machine.old.machine acts.now) }
     ensures err { OnErr result (machine.new.machine ≡ machine.old.machine) }
     ensures thread { CountsLacks is_thread (R.threads_lacked runner.old) (R.threads_lacked runner.new) result }
 {
@@ -169,7 +170,7 @@ fn do_for_all<const N: usize, const CAP: usize>(
 ) -> Result<(), Want>
     requires none { text.old.items ≡ [] }
     ensures done { OnOk result ((read : Reading) → for_all N CAP (front_of machine.old.machine read)
-        (asked_of N (words_of line.now)) ≡ told (front_of machine.new.machine read) text.new.items) }
+        (asked_of N (words_of line.now)) ≡ front_answered_with (front_of machine.new.machine read) text.new.items) }
     ensures err { OnErr result (machine.new.machine ≡ machine.old.machine) }
     ensures memory { IfErr result (λ want. is_thread want ≡ false) }
 {
@@ -201,9 +202,10 @@ fn obey<const N: usize, const CAP: usize>(
 ) -> Result<(), NoMemory>
     requires numbers { AreFor N asked numbers.now }
     requires none { text.old.items ≡ [] }
-    ensures answer { OnOk result (text.new.items ≡ (obeyed N CAP machine.old.machine asked numbers.now).answer) }
+    ensures answer { OnOk result (text.new.items
+        ≡ (for_all_obeyed N CAP machine.old.machine asked numbers.now).answer) }
     ensures machine { OnOk result (machine.new.machine
-        ≡ (obeyed N CAP machine.old.machine asked numbers.now).machine) }
+        ≡ (for_all_obeyed N CAP machine.old.machine asked numbers.now).machine) }
     ensures err { OnErr result (machine.new.machine ≡ machine.old.machine) }
 {
     match asked {

@@ -7,7 +7,7 @@ ghost use Rattle.cm_array.specs.Faults.{one_more_lacked};
 ghost use Rattle.cm_session.specs.Ends.{is_no_thread, is_write};
 ghost use Rattle.cm_debug.specs.Gathering.{answered_bytes, with_gathered, BreaksOffBetween};
 ghost use Rattle.cm_debug.specs.Telling.{is_thread};
-ghost use Rattle.cm_front.specs.Front.{front_of, after_line};
+ghost use Rattle.cm_front.specs.Front.{front_of, front_after_line};
 ghost use Rattle.cm_front.specs.Ends.{LIMIT, ALL, Ends};
 ghost use Rattle.cm_front.specs.Hearing.{BreaksOff};
 
@@ -137,12 +137,12 @@ fn tell_line<const N: usize, const CAP: usize, R: Runner<N, CAP>, O: Sink>(
     requires writer { O.has_failed out.old ≡ false }
     requires room { answered_bytes answers.old + 2 ^ 64 < 2 ^ 128 }
     ensures front { OnOk result (front_of machine.new.machine front.new
-        ≡ (after_line N CAP (front_of machine.old.machine front.old) line.now).front) }
+        ≡ (front_after_line N CAP (front_of machine.old.machine front.old) line.now).front) }
     ensures written { OnOk result (Appends (with_gathered (O.contents out.old) answers.old)
         (with_gathered (O.contents out.new) answers.new)
-        (after_line N CAP (front_of machine.old.machine front.old) line.now).answer) }
+        (front_after_line N CAP (front_of machine.old.machine front.old) line.now).answer) }
     ensures count { OnOk result (answered_bytes answers.new ≡ answered_bytes answers.old
-        + length (after_line N CAP (front_of machine.old.machine front.old) line.now).answer) }
+        + length (front_after_line N CAP (front_of machine.old.machine front.old) line.now).answer) }
     ensures few { OnOk result (answered_bytes answers.new ≤ answered_bytes answers.old + 2 ^ 64) }
     ensures err { IfErr result (BreaksOff N CAP (front_of machine.old.machine front.old) line.now answers.old.sent
         answers.old.bytes.items (O.contents out.old) machine.new.machine (O.contents out.new)) }

@@ -11,7 +11,7 @@ use Rattle.cm_session.specs.declared.command.Command.TheVariants as command
 use Rattle.cm_session.specs.declared.command.Refusal.{Refusal}
 use Rattle.cm_session.specs.Answer.{at_line, refused_line, CLOCK}
 use Rattle.cm_session.specs.Commands.{command_of}
-use Rattle.cm_session.specs.Session.{Session, told, preceded_by, lacks_room, told_by, has_acts, going, at_breaks}
+use Rattle.cm_session.specs.Session.{Session, answered_with, preceded_by, lacks_room, answer_of_act, has_acts, going, at_breaks}
 use Rattle.cm_session.specs.Session.{everywhere}
 use Rattle.cm_session.specs.Session.{one_on, opening, obeyed, answered, after_line, after_lines}
 use Rattle.cm_session.specs.Stretches.{acts_on}
@@ -31,8 +31,8 @@ going_follows n cap stops session (a ∷ acts) =
     next = acts_on n cap session (a ∷ [])
 
     by : (refused stop : Bool) → Follows n next.machine (going n cap stops next acts).session.machine
-        → Follows n session.machine (cond refused (told session (refused_line CLOCK)) (preceded_by (told_by session a)
-        (cond stop (told next (at_line next.position)) (going n cap stops next acts)))).session.machine
+        → Follows n session.machine (cond refused (answered_with session (refused_line CLOCK)) (preceded_by (answer_of_act session a)
+        (cond stop (answered_with next (at_line next.position)) (going n cap stops next acts)))).session.machine
     by true stop rest = follows_itself n session.machine
     by false true rest = run_follows n cap session.machine (a ∷ [])
     by false false rest =

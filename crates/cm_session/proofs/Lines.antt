@@ -7,15 +7,15 @@ use Rattle.std.specs.List.{onto_first, slice_split}
 use Rattle.std.proofs.lemmas.List.Splits.{slice_split-cons_no, length-slice_split}
 use Rattle.cm_bits.specs.Text.{is_line_end, without_empty_last, lines_of}
 use Rattle.cm_model.specs.declared.act.Act.{Act}
-use Rattle.cm_session.specs.Session.{Session, Answered, told, preceded_by, after_line, after_lines}
-use Rattle.cm_session.specs.Ends.{LIMIT, but_last, last_of, ended_lines, open_line, heard_lines}
+use Rattle.cm_session.specs.Session.{Session, Answered, answered_with, preceded_by, after_line, after_lines}
+use Rattle.cm_session.specs.Ends.{LIMIT, but_last, last_of, ended_lines, open_line, processed_lines}
 use Rattle.cm_session.specs.Laws.{BeginsWith}
 
 -- ---- lines
 
 preceded_by-twice : (first second : List ℕ) (rest : Answered)
     → preceded_by first (preceded_by second rest) ≡ preceded_by (first ++ second) rest
-preceded_by-twice first second rest = ap (told rest.session) (sym (append_assoc first second rest.answer))
+preceded_by-twice first second rest = ap (answered_with rest.session) (sym (append_assoc first second rest.answer))
 
 -- lines in two parts: the second part is answered by the session that the first part leaves
 pub after_lines-append : (n cap : ℕ) (acts : List Act) (session : Session) (lines more : List (List ℕ))
@@ -185,13 +185,13 @@ ended_lines-append text more =
 -- ---- the lines that are answered
 
 -- of a text within the limit, all
-pub heard_whole : (text : List ℕ) → length text ≤ LIMIT → heard_lines text ≡ lines_of text
+pub heard_whole : (text : List ℕ) → length text ≤ LIMIT → processed_lines text ≡ lines_of text
 heard_whole text within = ap (λ (b : Bool). cond b (lines_of text) (ended_lines (take LIMIT text)))
     (le-leb (length text) LIMIT within)
 
 -- those that ended in a front within the limit come first
 pub heard_first : (front more : List ℕ) → length front ≤ LIMIT
-    → BeginsWith (heard_lines (front ++ more)) (ended_lines front)
+    → BeginsWith (processed_lines (front ++ more)) (ended_lines front)
 heard_first front more within = by (nat_le (length (front ++ more)) LIMIT) where
   rest : ℕ
   rest = LIMIT - length front

@@ -18,7 +18,7 @@ use Rattle.cm_session.specs.Answer.{at_line, refused_line, CLOCK}
 use Rattle.cm_session.specs.Bounds.{IsFor}
 use Rattle.cm_session.specs.Commands.{command_of, command_named}
 use Rattle.cm_session.specs.Operands.{◌>>=◌}
-use Rattle.cm_session.specs.Session.{Session, Answered, told, preceded_by, lacks_room, told_by, one_on, has_acts, going}
+use Rattle.cm_session.specs.Session.{Session, Answered, answered_with, preceded_by, lacks_room, answer_of_act, one_on, has_acts, going}
 use Rattle.cm_session.specs.Session.{everywhere, at_breaks, with_break, opening, obeyed, answered, after_line}
 use Rattle.cm_session.specs.Session.{after_lines}
 use Rattle.cm_session.specs.Ends.{session_after}
@@ -70,8 +70,8 @@ going_gone n cap stops session (a ∷ acts) long =
     next = acts_on n cap session (a ∷ [])
 
     by : (refused stop : Bool) → HasGone n cap next (going n cap stops next acts).session acts
-        → HasGone n cap session (cond refused (told session (refused_line CLOCK)) (preceded_by (told_by session a)
-        (cond stop (told next (at_line next.position)) (going n cap stops next acts)))).session (a ∷ acts)
+        → HasGone n cap session (cond refused (answered_with session (refused_line CLOCK)) (preceded_by (answer_of_act session a)
+        (cond stop (answered_with next (at_line next.position)) (going n cap stops next acts)))).session (a ∷ acts)
     by true stop rest = stood_still n cap session (a ∷ acts) long
     by false true rest = only_one n cap session a acts
     by false false rest = one_more n cap session (going n cap stops next acts).session a acts rest

@@ -8,7 +8,7 @@ use Rattle.cm_model.specs.Machine.{run_of}
 use Rattle.cm_model.proofs.Runs.{run_of-append}
 use Rattle.cm_array.specs.Acts.{is_cycle, cycles_in}
 use Rattle.cm_session.specs.Answer.{at_line, sense_line, refused_line, CLOCK}
-use Rattle.cm_session.specs.Session.{Session, told, preceded_by, lacks_room, told_by, one_on, has_acts, going}
+use Rattle.cm_session.specs.Session.{Session, answered_with, preceded_by, lacks_room, answer_of_act, one_on, has_acts, going}
 use Rattle.cm_session.specs.Stretches.{IsStretch, is_look, acts_on, arrived, StretchesAreAnsweredAlike}
 use Rattle.cm_session.proofs.Clocks.{clock-run_of, cycles_in-cons}
 
@@ -24,10 +24,10 @@ has_room clock act.Cycle acts room = differs clock (omega (arith, cycles_in-cons
 pub going-one : (n cap : ℕ) (stops : ℕ → Bool) (session : Session) (a : Act) (more : List Act)
     → lacks_room session.machine.clock a ≡ false
     → going n cap stops session (a ∷ more)
-    ≡ preceded_by (told_by session a) (arrived n cap stops (acts_on n cap session (a ∷ [])) more)
+    ≡ preceded_by (answer_of_act session a) (arrived n cap stops (acts_on n cap session (a ∷ [])) more)
 unfolding going one_on
 going-one n cap stops session a more room =
-    ap (λ (b : Bool). cond b (told session (refused_line CLOCK)) (preceded_by (told_by session a)
+    ap (λ (b : Bool). cond b (answered_with session (refused_line CLOCK)) (preceded_by (answer_of_act session a)
     (arrived n cap stops (acts_on n cap session (a ∷ [])) more))) room
 
 untold : (report : Bool) → (report && true) ≡ false → (text : List ℕ) → cond report text [] ≡ []
@@ -35,7 +35,7 @@ untold true h text = absurd (search rules)
 untold false h text = refl
 
 -- a look that is not told tells nothing
-tells_nothing : (session : Session) (a : Act) → (session.report && is_look a) ≡ false → told_by session a ≡ []
+tells_nothing : (session : Session) (a : Act) → (session.report && is_look a) ≡ false → answer_of_act session a ≡ []
 tells_nothing session (act.Nano nano) h = refl
 tells_nothing session act.Cycle h = refl
 tells_nothing session act.Sense h = untold session.report h (sense_line session.position (wire session.machine.chips))
@@ -72,14 +72,14 @@ going-stretch n cap stops session a (b ∷ acts) more stretch =
     let next : Session = acts_on n cap session (a ∷ []) in
     let goes : stops (session.position + 1) ≡ false = stretch.goes 1 (omega arith) (omega arith) in
     let goes_on : arrived n cap stops next ((b ∷ acts) ++ more) ≡ going n cap stops next ((b ∷ acts) ++ more) =
-    ap (λ (stop : Bool). cond (stop && true) (told next (at_line next.position))
+    ap (λ (stop : Bool). cond (stop && true) (answered_with next (at_line next.position))
     (going n cap stops next ((b ∷ acts) ++ more))) goes in
     let rest : going n cap stops next ((b ∷ acts) ++ more)
-    ≡ preceded_by (told_by next b) (arrived n cap stops (acts_on n cap next (b ∷ acts)) more) =
+    ≡ preceded_by (answer_of_act next b) (arrived n cap stops (acts_on n cap next (b ∷ acts)) more) =
     going-stretch n cap stops next b acts more (after_first n cap stops session a b acts stretch) in
-    let silent : told_by next b ≡ [] = tells_nothing next b (stretch.silent 1 (omega arith) (omega arith)) in
+    let silent : answer_of_act next b ≡ [] = tells_nothing next b (stretch.silent 1 (omega arith) (omega arith)) in
     going-one n cap stops session a ((b ∷ acts) ++ more) (has_room session.machine.clock a (b ∷ acts) stretch.room)
-    ∙ ap (preceded_by (told_by session a)) (goes_on ∙ rest
+    ∙ ap (preceded_by (answer_of_act session a)) (goes_on ∙ rest
     ∙ ap (λ (first : List ℕ). preceded_by first (arrived n cap stops (acts_on n cap next (b ∷ acts)) more)) silent
     ∙ ap (λ (s : Session). arrived n cap stops s more) (acts_on-cons n cap session a (b ∷ acts)))
 
@@ -88,7 +88,7 @@ going-stretch n cap stops session a (b ∷ acts) more stretch =
 arriving : (n cap : ℕ) (stops : ℕ → Bool) (session : Session) (acts : List Act)
     → session.position ≤ (going n cap stops session acts).session.position
     → (stop : Bool) → session.position
-    ≤ (cond stop (told session (at_line session.position)) (going n cap stops session acts)).session.position
+    ≤ (cond stop (answered_with session (at_line session.position)) (going n cap stops session acts)).session.position
 arriving n cap stops session acts rest true = omega arith
 arriving n cap stops session acts rest false = rest
 
@@ -105,8 +105,8 @@ going-rises n cap stops session (a ∷ acts) =
     next = acts_on n cap session (a ∷ [])
 
     by : (refused : Bool) → session.position + 1 ≤ (arrived n cap stops next acts).session.position → session.position
-        ≤ (cond refused (told session (refused_line CLOCK))
-        (preceded_by (told_by session a) (arrived n cap stops next acts))).session.position
+        ≤ (cond refused (answered_with session (refused_line CLOCK))
+        (preceded_by (answer_of_act session a) (arrived n cap stops next acts))).session.position
     by true h = omega arith
     by false h = omega (arith, h)
 

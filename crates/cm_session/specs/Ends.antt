@@ -95,8 +95,8 @@ pub record IsBrokenOff (n cap : ℕ) (acts : List Act) (start : Machine) (held :
   pub machine_is : IsBeforeOrAmid n cap acts (session_after n cap acts start done) undone machine
 
 -- the lines of a text that are answered: all of them, or those that end within the most bytes
-abbrev pub heard_lines : List ℕ → List (List ℕ)
-heard_lines text = if nat_le (length text) LIMIT then lines_of text else ended_lines (take LIMIT text)
+abbrev pub processed_lines : List ℕ → List (List ℕ)
+processed_lines text = if nat_le (length text) LIMIT then lines_of text else ended_lines (take LIMIT text)
 
 -- how a session ends whose source has this text, and has that left
 abbrev pub Ends : ℕ → ℕ → List Act → List ℕ → Option (List ℕ) → Machine → Option (List ℕ) → Machine → Option (List ℕ)
@@ -106,13 +106,13 @@ Ends n cap acts text rest start held machine holds (Ok done) =
 Ends n cap acts text rest start held machine holds (Err Read) =
     IsAnsweredSoFar n cap acts text rest start held machine holds
 Ends n cap acts text rest start held machine holds (Err (Write count)) =
-    IsStopped n cap acts start held (heard_lines text) machine holds count
+    IsStopped n cap acts start held (processed_lines text) machine holds count
 Ends n cap acts text rest start held machine holds (Err TooMuch) =
     (LIMIT < length text) × IsAnswered n cap acts start held (ended_lines (take LIMIT text)) machine holds
 Ends n cap acts text rest start held machine holds (Err Memory) =
-    IsBrokenOff n cap acts start held (heard_lines text) machine holds
+    IsBrokenOff n cap acts start held (processed_lines text) machine holds
 Ends n cap acts text rest start held machine holds (Err NoThread) =
-    IsBrokenOff n cap acts start held (heard_lines text) machine holds
+    IsBrokenOff n cap acts start held (processed_lines text) machine holds
 
 -- a source, of which this was left in the end, gave some text, and it ended so as of that text and nothing more; after Ok
 -- nothing is left. This can be said of a source that does not tell its bytes

@@ -39,12 +39,12 @@ pub record Answered : Type 0 where
   pub answer : List ℕ
 
 -- a session, and this answer
-abbrev pub told : Session → List ℕ → Answered
-told session answer = record { session = session; answer = answer }
+abbrev pub answered_with : Session → List ℕ → Answered
+answered_with session answer = record { session = session; answer = answer }
 
 -- what was answered before, and then the rest
 abbrev pub preceded_by : List ℕ → Answered → Answered
-preceded_by first rest = told rest.session (first ++ rest.answer)
+preceded_by first rest = answered_with rest.session (first ++ rest.answer)
 
 -- ---- acts
 
@@ -55,10 +55,10 @@ lacks_room clock Sense = false
 lacks_room clock (Nano nano) = false
 
 -- what an act tells: a look at the wire, where that is to be told
-abbrev pub told_by : Session → Act → List ℕ
-told_by session Sense = if session.report then sense_line session.position (wire session.machine.chips) else []
-told_by session Cycle = []
-told_by session (Nano nano) = []
+abbrev pub answer_of_act : Session → Act → List ℕ
+answer_of_act session Sense = if session.report then sense_line session.position (wire session.machine.chips) else []
+answer_of_act session Cycle = []
+answer_of_act session (Nano nano) = []
 
 -- the session one act on, on a cube of n dimensions whose routers have room for cap messages each
 unfoldable pub one_on : ℕ → ℕ → Session → Act → Session
@@ -73,12 +73,12 @@ has_acts (act ∷ acts) = true
 -- acts are run, one after another, until a place is reached where the session stops, or their end,
 -- or a petit cycle without room
 unfoldable pub going : ℕ → ℕ → (ℕ → Bool) → Session → List Act → Answered
-going n cap stops session [] = told session end_line
+going n cap stops session [] = answered_with session end_line
 going n cap stops session (act ∷ acts) =
-    if lacks_room session.machine.clock act then told session (refused_line CLOCK)
-    else preceded_by (told_by session act)
+    if lacks_room session.machine.clock act then answered_with session (refused_line CLOCK)
+    else preceded_by (answer_of_act session act)
     (if stops (session.position + 1) && has_acts acts
-    then told (one_on n cap session act) (at_line (session.position + 1))
+    then answered_with (one_on n cap session act) (at_line (session.position + 1))
     else going n cap stops (one_on n cap session act) acts)
 
 -- where a step stops: everywhere
@@ -103,39 +103,39 @@ with_machine session machine = record session { machine = machine }
 abbrev pub obeyed : ℕ → ℕ → List Act → Session → Command → Answered
 obeyed n cap acts session command.Step = going n cap everywhere session (drop session.position acts)
 obeyed n cap acts session command.Run = going n cap (at_breaks session.breaks) session (drop session.position acts)
-obeyed n cap acts session (command.Break i) = told (with_break session i true) (line (codes "break" ∷ decimal i ∷ []))
-obeyed n cap acts session (command.Clear i) = told (with_break session i false) (line (codes "clear" ∷ decimal i ∷ []))
+obeyed n cap acts session (command.Break i) = answered_with (with_break session i true) (line (codes "break" ∷ decimal i ∷ []))
+obeyed n cap acts session (command.Clear i) = answered_with (with_break session i false) (line (codes "clear" ∷ decimal i ∷ []))
 obeyed n cap acts session command.WireOn =
-    told (record session { report = true }) (line (codes "wire" ∷ codes "on" ∷ []))
+    answered_with (record session { report = true }) (line (codes "wire" ∷ codes "on" ∷ []))
 obeyed n cap acts session command.WireOff =
-    told (record session { report = false }) (line (codes "wire" ∷ codes "off" ∷ []))
+    answered_with (record session { report = false }) (line (codes "wire" ∷ codes "off" ∷ []))
 obeyed n cap acts session command.WireShow =
-    told session (line (codes "wire" ∷ decimal (bit_number (wire session.machine.chips)) ∷ []))
+    answered_with session (line (codes "wire" ∷ decimal (bit_number (wire session.machine.chips)) ∷ []))
 obeyed n cap acts session (command.Field place bits) =
-    told session
+    answered_with session
     (line (codes "field" ∷ decimal (field_value (processor_of session.machine.chips place) bits.at bits.len) ∷ []))
 obeyed n cap acts session (command.Flag place number) =
-    told session
+    answered_with session
     (line (codes "flag" ∷ decimal (bit_number (flag (processor_of session.machine.chips place) number)) ∷ []))
 obeyed n cap acts session (command.Poke place address b) =
-    told (with_machine session (machine_with_memory_bit session.machine place.chip place.proc address b))
+    answered_with (with_machine session (machine_with_memory_bit session.machine place.chip place.proc address b))
     (line (codes "ok" ∷ []))
 obeyed n cap acts session (command.PokeFlag place number b) =
-    told (with_machine session (machine_with_flag session.machine place.chip place.proc number b))
+    answered_with (with_machine session (machine_with_flag session.machine place.chip place.proc number b))
     (line (codes "ok" ∷ []))
-obeyed n cap acts session (command.Buffer c) = told session (buffer_lines (list_at session.machine.buffers c))
-obeyed n cap acts session (command.Find tag) = told session (found_line (found_in n session.machine tag))
-obeyed n cap acts session (command.Events c) = told session (log_lines (list_at session.machine.logs c))
+obeyed n cap acts session (command.Buffer c) = answered_with session (buffer_lines (list_at session.machine.buffers c))
+obeyed n cap acts session (command.Find tag) = answered_with session (found_line (found_in n session.machine tag))
+obeyed n cap acts session (command.Events c) = answered_with session (log_lines (list_at session.machine.logs c))
 obeyed n cap acts session command.Rule =
-    told session (line (codes "rule" ∷ decimal (rule_number session.machine.routing.rule) ∷ []))
+    answered_with session (line (codes "rule" ∷ decimal (rule_number session.machine.routing.rule) ∷ []))
 
 -- ---- lines
 
 -- a line without words is not answered; one that is refused changes nothing
 abbrev pub answered : ℕ → ℕ → List Act → Session → Result (Option Command) Refusal → Answered
-answered n cap acts session (Ok None) = told session []
+answered n cap acts session (Ok None) = answered_with session []
 answered n cap acts session (Ok (Some command)) = obeyed n cap acts session command
-answered n cap acts session (Err refusal) = told session (refused_line (refusal_number refusal))
+answered n cap acts session (Err refusal) = answered_with session (refused_line (refusal_number refusal))
 
 -- after a line
 unfoldable pub after_line : ℕ → ℕ → List Act → Session → List ℕ → Answered
@@ -143,7 +143,7 @@ after_line n cap acts session line = answered n cap acts session (command_of n (
 
 -- after lines, one after another
 unfoldable pub after_lines : ℕ → ℕ → List Act → Session → List (List ℕ) → Answered
-after_lines n cap acts session [] = told session []
+after_lines n cap acts session [] = answered_with session []
 after_lines n cap acts session (line ∷ lines) =
     preceded_by (after_line n cap acts session line).answer
     (after_lines n cap acts (after_line n cap acts session line).session lines)

@@ -6,7 +6,7 @@ use Rattle.cm_model.specs.declared.act.Act.TheVariants.{Nano, Sense, Cycle}
 use Rattle.cm_model.specs.Machine.{run_of}
 use Rattle.cm_array.specs.Acts.{cycles_in}
 use Rattle.cm_session.specs.Answer.{at_line}
-use Rattle.cm_session.specs.Session.{Session, Answered, told, preceded_by, told_by, has_acts, going}
+use Rattle.cm_session.specs.Session.{Session, Answered, answered_with, preceded_by, answer_of_act, has_acts, going}
 
 -- the act is a look at the wire
 abbrev pub is_look : Act → Bool
@@ -33,7 +33,7 @@ acts_on n cap session acts =
 -- where the session has come to a place: it stops there, or goes on
 abbrev pub arrived : ℕ → ℕ → (ℕ → Bool) → Session → List Act → Answered
 arrived n cap stops session acts =
-    if stops session.position && has_acts acts then told session (at_line session.position)
+    if stops session.position && has_acts acts then answered_with session (at_line session.position)
     else going n cap stops session acts
 
 -- acts that begin with a stretch are answered as the stretch is at once: what its first act tells,
@@ -42,4 +42,4 @@ abbrev pub StretchesAreAnsweredAlike : Type 0
 StretchesAreAnsweredAlike = (n cap : ℕ) (stops : ℕ → Bool) (session : Session) (first : Act) (acts more : List Act)
     → IsStretch stops session.report session.position session.machine.clock (first ∷ acts)
     → going n cap stops session ((first ∷ acts) ++ more)
-    ≡ preceded_by (told_by session first) (arrived n cap stops (acts_on n cap session (first ∷ acts)) more)
+    ≡ preceded_by (answer_of_act session first) (arrived n cap stops (acts_on n cap session (first ∷ acts)) more)

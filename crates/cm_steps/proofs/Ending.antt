@@ -15,8 +15,8 @@ use Rattle.cm_exchange.specs.Lanes.{Exchange, round_count}
 use Rattle.cm_exchange.specs.Worlds.{World, IsFinished}
 use Rattle.cm_steps.specs.declared.fault.WeaveFault.{WeaveFault}
 use Rattle.cm_steps.specs.declared.fault.WeaveFault.TheVariants.{Read, Write, TooMuch, Memory, Unfinished}
-use Rattle.cm_steps.specs.Session.{answers, left}
-use Rattle.cm_steps.specs.Ends.{LIMIT, heard_lines, closing, told_text, finished_line, unfinished_line, is_finished}
+use Rattle.cm_steps.specs.Session.{world_answers, world_left}
+use Rattle.cm_steps.specs.Ends.{LIMIT, processed_step_lines, closing, told_text, finished_line, unfinished_line, is_finished}
 use Rattle.cm_steps.specs.Ends.{last_line, IsCutBy, EndsBy, EndsByForSome, EndsFinished, EndsFinishedForSome}
 use Rattle.cm_steps.specs.Hearing.{Hearing, heard, at_start, BreaksOff, HasHeard, IsHeard, IsHeardForSome}
 use Rattle.cm_steps.proofs.Lines.{heard_first, heard_whole, closing_whole, told_on, lines_closed, lines_at_last}
@@ -63,13 +63,13 @@ module _ (exchange : Exchange) (start : World) (held before : Option (List ℕ))
   so : record { world = world; line = line; answers = mid.said } ≡ so_far exchange start text
   so = mid.heard_is ∙ heard_so_far exchange start text
 
-  said_is : mid.said ≡ answers exchange start (ended_lines text)
+  said_is : mid.said ≡ world_answers exchange start (ended_lines text)
   said_is = ap (λ (at : Hearing). at.answers) so
 
   line_is : line ≡ open_line text
   line_is = ap (λ (at : Hearing). at.line) so
 
-  world_is : world ≡ left exchange start (ended_lines text)
+  world_is : world ≡ world_left exchange start (ended_lines text)
   world_is = ap (λ (at : Hearing). at.world) so
 
   -- by a read
@@ -107,7 +107,7 @@ module _ (exchange : Exchange) (start : World) (held before : Option (List ℕ))
         ≡ heard exchange (at_start start) (text ++ piece)
     both = sym (heard_piece exchange start world text piece line mid.said mid.heard_is)
 
-    both_are : mid.said ++ at.answers ≡ answers exchange start (ended_lines (text ++ piece))
+    both_are : mid.said ++ at.answers ≡ world_answers exchange start (ended_lines (text ++ piece))
     both_are = ap (λ (z : Hearing). z.answers) (both ∙ heard_so_far exchange start (text ++ piece))
 
     -- that was answered
@@ -214,7 +214,7 @@ module _ (exchange : Exchange) (start : World) (held before : Option (List ℕ))
             length-drop room (take count buf),
           ),
           subst (Appends held on) (both_are (take room buf)
-              ∙ ap (λ (t : List ℕ). answers exchange start (ended_lines t))
+              ∙ ap (λ (t : List ℕ). world_answers exchange start (ended_lines t))
               (sym (ap (λ (k : ℕ). take k ((text ++ take room buf) ++ (drop room (take count buf) ++ rest))) (sym full)
               ∙ take_all (text ++ take room buf) (drop room (take count buf) ++ rest))))
               (Appends-trans held holds on mid.said _ mid.written has.written),
@@ -239,9 +239,9 @@ module _ (exchange : Exchange) (start : World) (held before : Option (List ℕ))
       let lines : lines_of text ≡ ended_lines text = lines_closed text line line_is empty in
       record {
         within = let w = mid.within in omega (arith, w, mid.taken_is);
-        world_is = world_is ∙ ap (left exchange start) (sym lines);
-        written = subst (Appends held holds) (said_is ∙ ap (answers exchange start) (sym lines)) mid.written;
-        sent_is = mid.sent_is ∙ ap length (said_is ∙ ap (answers exchange start) (sym lines));
+        world_is = world_is ∙ ap (world_left exchange start) (sym lines);
+        written = subst (Appends held holds) (said_is ∙ ap (world_answers exchange start) (sym lines)) mid.written;
+        sent_is = mid.sent_is ∙ ap length (said_is ∙ ap (world_answers exchange start) (sym lines));
       }
 
   -- and the line that is open is answered
@@ -250,13 +250,13 @@ module _ (exchange : Exchange) (start : World) (held before : Option (List ℕ))
       → IsHeard exchange text start held new on more
   answered_last new kept on more some has =
       let lines : lines_of text ≡ ended_lines (text ++ 10 ∷ []) = lines_at_last text line some line_is in
-      let all : mid.said ++ (at (10 ∷ [])).answers ≡ answers exchange start (lines_of text) =
-      both_are (10 ∷ []) ∙ ap (answers exchange start) (sym lines) in
+      let all : mid.said ++ (at (10 ∷ [])).answers ≡ world_answers exchange start (lines_of text) =
+      both_are (10 ∷ []) ∙ ap (world_answers exchange start) (sym lines) in
       record {
         within = let w = mid.within in omega (arith, w, mid.taken_is);
         world_is = has.world_is
             ∙ ap (λ (z : Hearing). z.world) (both (10 ∷ []) ∙ heard_so_far exchange start (text ++ 10 ∷ []))
-            ∙ ap (left exchange start) (sym lines);
+            ∙ ap (world_left exchange start) (sym lines);
         written = subst (Appends held on) all (Appends-trans held holds on mid.said _ mid.written has.written);
         sent_is = has.count_is ∙ ap (λ (k : ℕ). k + length (at (10 ∷ [])).answers) mid.sent_is
             ∙ sym (length-append mid.said (at (10 ∷ [])).answers) ∙ ap length all;
@@ -269,11 +269,11 @@ module _ (exchange : Exchange) (start : World) (held before : Option (List ℕ))
       → EndsBy exchange text beyond start held on fault
   cut_last beyond on fault some breaks =
       let lines : lines_of text ≡ ended_lines (text ++ 10 ∷ []) = lines_at_last text line some line_is in
-      let heard_is : heard_lines text ≡ lines_of text =
+      let heard_is : processed_step_lines text ≡ lines_of text =
       heard_whole text (let w = mid.within in omega (arith, w, mid.taken_is)) in
       let last : List ℕ = closing exchange start text in
-      let all : answers exchange start (heard_lines text) ≡ mid.said ++ (at (10 ∷ [])).answers =
-      ap (answers exchange start) (heard_is ∙ lines) ∙ sym (both_are (10 ∷ [])) in
+      let all : world_answers exchange start (processed_step_lines text) ≡ mid.said ++ (at (10 ∷ [])).answers =
+      ap (world_answers exchange start) (heard_is ∙ lines) ∙ sym (both_are (10 ∷ [])) in
       cut_ends text beyond on fault
       (cut_text (told_text exchange start text) mid.said (at (10 ∷ [])).answers last held holds on sent
       fault mid.written mid.sent_is
@@ -377,10 +377,10 @@ module _ (exchange : Exchange) (start world : World) (held holds on : Option (Li
       → Appends holds on (take part last)
       → EndsBy exchange text beyond start held on (Write (sent + part))
   cut_at beyond last part is inside wrote =
-      let lines : heard_lines text ≡ lines_of text = heard_whole text all.within in
-      let first : List ℕ = answers exchange start (lines_of text) in
+      let lines : processed_step_lines text ≡ lines_of text = heard_whole text all.within in
+      let first : List ℕ = world_answers exchange start (lines_of text) in
       let whole : told_text exchange start text ≡ first ++ (last ++ []) =
-      ap (λ (xs : List (List ℕ)). answers exchange start xs ++ closing exchange start text) lines
+      ap (λ (xs : List (List ℕ)). world_answers exchange start xs ++ closing exchange start text) lines
       ∙ ap (λ (xs : List ℕ). first ++ xs) (closing_whole exchange start text all.within)
       ∙ ap (λ (w : World). first ++ last_line exchange w) (sym all.world_is)
       ∙ ap (λ (xs : List ℕ). first ++ xs) (sym is ∙ sym (append-nil last)) in

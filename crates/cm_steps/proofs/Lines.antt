@@ -10,35 +10,36 @@ use Rattle.cm_session.proofs.Lines.{ended_lines-append, ended_lines-end, ended_a
 use Rattle.cm_session.proofs.Lines.{lines_after}
 use Rattle.cm_exchange.specs.Lanes.{Exchange}
 use Rattle.cm_exchange.specs.Worlds.{World}
-use Rattle.cm_steps.specs.Session.{Answered, told, preceded_by, after_line, after_lines, answers, left}
-use Rattle.cm_steps.specs.Ends.{LIMIT, heard_lines, last_line, closing, told_text}
+use Rattle.cm_steps.specs.Session.{WorldAnswered, world_answered_with, world_preceded_by, world_after_line}
+use Rattle.cm_steps.specs.Session.{world_after_lines, world_answers, world_left}
+use Rattle.cm_steps.specs.Ends.{LIMIT, processed_step_lines, last_line, closing, told_text}
 
-preceded_by-twice : (first second : List ℕ) (rest : Answered)
-    → preceded_by first (preceded_by second rest) ≡ preceded_by (first ++ second) rest
-preceded_by-twice first second rest = ap (told rest.world) (sym (append_assoc first second rest.answer))
+world_preceded_by-twice : (first second : List ℕ) (rest : WorldAnswered)
+    → world_preceded_by first (world_preceded_by second rest) ≡ world_preceded_by (first ++ second) rest
+world_preceded_by-twice first second rest = ap (world_answered_with rest.world) (sym (append_assoc first second rest.answer))
 
 -- the second part is answered by the world that the first part leaves
-pub after_lines-append : (exchange : Exchange) (world : World) (lines more : List (List ℕ))
-    → after_lines exchange world (lines ++ more)
-    ≡ preceded_by (after_lines exchange world lines).answer
-    (after_lines exchange (after_lines exchange world lines).world more)
-unfolding after_lines
-after_lines-append exchange world [] more = refl
-after_lines-append exchange world (line ∷ lines) more =
-    let one : Answered = after_line exchange world line in
-    ap (preceded_by one.answer) (after_lines-append exchange one.world lines more)
-    ∙ preceded_by-twice one.answer (after_lines exchange one.world lines).answer _
+pub world_after_lines-append : (exchange : Exchange) (world : World) (lines more : List (List ℕ))
+    → world_after_lines exchange world (lines ++ more)
+    ≡ world_preceded_by (world_after_lines exchange world lines).answer
+    (world_after_lines exchange (world_after_lines exchange world lines).world more)
+unfolding world_after_lines
+world_after_lines-append exchange world [] more = refl
+world_after_lines-append exchange world (line ∷ lines) more =
+    let one : WorldAnswered = world_after_line exchange world line in
+    ap (world_preceded_by one.answer) (world_after_lines-append exchange one.world lines more)
+    ∙ world_preceded_by-twice one.answer (world_after_lines exchange one.world lines).answer _
 
 -- ---- the lines that are answered
 
 -- of a text within the limit, all
-pub heard_whole : (text : List ℕ) → length text ≤ LIMIT → heard_lines text ≡ lines_of text
+pub heard_whole : (text : List ℕ) → length text ≤ LIMIT → processed_step_lines text ≡ lines_of text
 heard_whole text within = ap (λ (b : Bool). cond b (lines_of text) (ended_lines (take LIMIT text)))
     (le-leb (length text) LIMIT within)
 
 -- those that ended in a front within the limit come first
 pub heard_first : (front more : List ℕ) → length front ≤ LIMIT
-    → BeginsWith (heard_lines (front ++ more)) (ended_lines front)
+    → BeginsWith (processed_step_lines (front ++ more)) (ended_lines front)
 heard_first front more within = by (nat_le (length (front ++ more)) LIMIT) where
   rest : ℕ
   rest = LIMIT - length front
@@ -57,9 +58,9 @@ heard_first front more within = by (nat_le (length (front ++ more)) LIMIT) where
 
 -- behind them stands the last line
 pub closing_whole : (exchange : Exchange) (start : World) (text : List ℕ) → length text ≤ LIMIT
-    → closing exchange start text ≡ last_line exchange (left exchange start (lines_of text))
+    → closing exchange start text ≡ last_line exchange (world_left exchange start (lines_of text))
 closing_whole exchange start text within =
-    ap (λ (b : Bool). cond b (last_line exchange (left exchange start (lines_of text))) [])
+    ap (λ (b : Bool). cond b (last_line exchange (world_left exchange start (lines_of text))) [])
     (le-leb (length text) LIMIT within)
 
 -- what is told of a text begins with the answers to its first lines
@@ -68,17 +69,17 @@ pub record IsGoneOn (text first : List ℕ) : Type 0 where
   pub is : text ≡ first ++ more
 
 pub told_on : (exchange : Exchange) (start : World) (text : List ℕ) (first : List (List ℕ))
-    → BeginsWith (heard_lines text) first
-    → IsGoneOn (told_text exchange start text) (answers exchange start first)
+    → BeginsWith (processed_step_lines text) first
+    → IsGoneOn (told_text exchange start text) (world_answers exchange start first)
 told_on exchange start text first begins =
     let last : List ℕ = closing exchange start text in
-    let others : List ℕ = answers exchange (left exchange start first) begins.more in
+    let others : List ℕ = world_answers exchange (world_left exchange start first) begins.more in
     record {
       more = others ++ last;
       is = ap (λ (xs : List ℕ). xs ++ last)
-          (ap (answers exchange start) begins.is
-          ∙ ap (λ (a : Answered). a.answer) (after_lines-append exchange start first begins.more))
-          ∙ append_assoc (answers exchange start first) others last;
+          (ap (world_answers exchange start) begins.is
+          ∙ ap (λ (a : WorldAnswered). a.answer) (world_after_lines-append exchange start first begins.more))
+          ∙ append_assoc (world_answers exchange start first) others last;
     }
 
 -- ---- the end of a text

@@ -9,9 +9,9 @@ use Rattle.cm_session.proofs.Lines.{ended_lines-end, ended_lines-more, open_line
 use Rattle.cm_exchange.specs.Lanes.{Exchange}
 use Rattle.cm_exchange.specs.Worlds.{World}
 use Rattle.cm_weave.specs.Woven.{Woven}
-use Rattle.cm_steps.specs.Session.{told, preceded_by, after_line, after_lines, answers, left}
+use Rattle.cm_steps.specs.Session.{world_answered_with, world_preceded_by, world_after_line, world_after_lines, world_answers, world_left}
 use Rattle.cm_steps.specs.Hearing.{Hearing, heard, with_byte, with_line_ended, at_start, exchange_in, IsOfRun}
-use Rattle.cm_steps.proofs.Lines.{after_lines-append}
+use Rattle.cm_steps.proofs.Lines.{world_after_lines-append}
 
 -- a world of the same run has the same exchange
 pub exchange_kept : (n cap : ℕ) (old new : Woven) → IsOfRun old new → exchange_in n cap new ≡ exchange_in n cap old
@@ -105,47 +105,47 @@ heard_line exchange first at world line said piece rest part grown done len is f
 -- what was heard of a text: the lines that ended in it, and the one that is open
 abbrev pub so_far : Exchange → World → List ℕ → Hearing
 so_far exchange start text = record {
-  world = left exchange start (ended_lines text);
+  world = world_left exchange start (ended_lines text);
   line = open_line text;
-  answers = answers exchange start (ended_lines text);
+  answers = world_answers exchange start (ended_lines text);
 }
 
 after_one : (exchange : Exchange) (world : World) (line : List ℕ)
-    → after_lines exchange world (line ∷ []) ≡ after_line exchange world line
-unfolding after_lines
+    → world_after_lines exchange world (line ∷ []) ≡ world_after_line exchange world line
+unfolding world_after_lines
 after_one exchange world line =
-    ap (told (after_line exchange world line).world) (append-nil (after_line exchange world line).answer)
+    ap (world_answered_with (world_after_line exchange world line).world) (append-nil (world_after_line exchange world line).answer)
 
 lines-more : (exchange : Exchange) (start : World) (lines : List (List ℕ)) (line : List ℕ)
-    → after_lines exchange start (lines ++ line ∷ [])
-    ≡ preceded_by (answers exchange start lines) (after_line exchange (left exchange start lines) line)
+    → world_after_lines exchange start (lines ++ line ∷ [])
+    ≡ world_preceded_by (world_answers exchange start lines) (world_after_line exchange (world_left exchange start lines) line)
 lines-more exchange start lines line =
-    after_lines-append exchange start lines (line ∷ [])
-    ∙ ap (preceded_by (answers exchange start lines)) (after_one exchange (left exchange start lines) line)
+    world_after_lines-append exchange start lines (line ∷ [])
+    ∙ ap (world_preceded_by (world_answers exchange start lines)) (after_one exchange (world_left exchange start lines) line)
 
 so_far-end : (exchange : Exchange) (start : World) (text : List ℕ)
     → so_far exchange start (text ++ 10 ∷ []) ≡ with_line_ended exchange (so_far exchange start text)
 so_far-end exchange start text =
-    let all : after_lines exchange start (ended_lines (text ++ 10 ∷ []))
-    ≡ preceded_by (answers exchange start (ended_lines text))
-    (after_line exchange (left exchange start (ended_lines text)) (open_line text)) =
-    ap (after_lines exchange start) (ended_lines-end text)
+    let all : world_after_lines exchange start (ended_lines (text ++ 10 ∷ []))
+    ≡ world_preceded_by (world_answers exchange start (ended_lines text))
+    (world_after_line exchange (world_left exchange start (ended_lines text)) (open_line text)) =
+    ap (world_after_lines exchange start) (ended_lines-end text)
     ∙ lines-more exchange start (ended_lines text) (open_line text) in
     (λ i. record { world = (all i).world; line = open_line-end text i; answers = (all i).answer })
 
 so_far-more : (exchange : Exchange) (start : World) (text : List ℕ) (byte : ℕ) → is_line_end byte ≡ false
     → so_far exchange start (text ++ byte ∷ [])
     ≡ record {
-      world = left exchange start (ended_lines text);
+      world = world_left exchange start (ended_lines text);
       line = open_line text ++ byte ∷ [];
-      answers = answers exchange start (ended_lines text);
+      answers = world_answers exchange start (ended_lines text);
     }
 so_far-more exchange start text byte other =
     let same : ended_lines (text ++ byte ∷ []) ≡ ended_lines text = ended_lines-more text byte other in
     (λ i. record {
-      world = left exchange start (same i);
+      world = world_left exchange start (same i);
       line = open_line-more text byte other i;
-      answers = answers exchange start (same i);
+      answers = world_answers exchange start (same i);
     })
 
 so_far-byte : (exchange : Exchange) (start : World) (text : List ℕ) (byte : ℕ)
@@ -157,9 +157,9 @@ so_far-byte exchange start text byte = by (is_line_end byte) refl where
   by : (b : Bool) → is_line_end byte ≡ b → so_far exchange start (text ++ byte ∷ [])
       ≡ cond b (with_line_ended exchange (so_far exchange start text))
       (record {
-        world = left exchange start (ended_lines text);
+        world = world_left exchange start (ended_lines text);
         line = open_line text ++ byte ∷ [];
-        answers = answers exchange start (ended_lines text);
+        answers = world_answers exchange start (ended_lines text);
       })
   by true h = ap (λ (c : ℕ). so_far exchange start (text ++ c ∷ [])) (is_ten byte h) ∙ so_far-end exchange start text
   by false h = so_far-more exchange start text byte h
@@ -174,7 +174,7 @@ heard-so_far exchange start text (byte ∷ more) =
     ∙ ap (so_far exchange start) (append_assoc text (byte ∷ []) more)
 
 nothing_heard : (exchange : Exchange) (start : World) → at_start start ≡ so_far exchange start []
-unfolding after_lines ended_lines open_line
+unfolding world_after_lines ended_lines open_line
 nothing_heard exchange start = refl
 
 pub heard_so_far : (exchange : Exchange) (start : World) (text : List ℕ)
@@ -195,8 +195,8 @@ with_byte-behind exchange said at byte = by (is_line_end byte) where
       (record { world = at.world; line = at.line ++ byte ∷ []; answers = said ++ at.answers })
       ≡ behind said (cond b (with_line_ended exchange at)
       (record { world = at.world; line = at.line ++ byte ∷ []; answers = at.answers }))
-  by true = ap (λ (xs : List ℕ). record { world = (after_line exchange at.world at.line).world; line = []; answers = xs })
-      (append_assoc said at.answers (after_line exchange at.world at.line).answer)
+  by true = ap (λ (xs : List ℕ). record { world = (world_after_line exchange at.world at.line).world; line = []; answers = xs })
+      (append_assoc said at.answers (world_after_line exchange at.world at.line).answer)
   by false = refl
 
 heard-behind : (exchange : Exchange) (said : List ℕ) (at : Hearing) (piece : List ℕ)

@@ -9,9 +9,9 @@ use Rattle.cm_exchange.specs.declared.step.Step.{Step}
 use Rattle.cm_exchange.specs.Lanes.{Exchange}
 use Rattle.cm_exchange.specs.Worlds.{World}
 use Rattle.cm_exchange.specs.Steps.{next_world}
-use Rattle.cm_steps.specs.Words.{step_of}
+use Rattle.cm_steps.specs.Words.{step_in_words}
 use Rattle.cm_steps.specs.Ends.{finished_line, unfinished_line}
-use Rattle.cm_steps.specs.Session.{played, answered, after_line, NOT_NOW}
+use Rattle.cm_steps.specs.Session.{played, step_answered, world_after_line, NOT_NOW}
 
 -- the bytes of a refusal
 abbrev pub text_of : Refusal → List ℕ
@@ -41,13 +41,13 @@ not_now-text = refl
 
 -- a line whose step was refused is answered so
 pub refused_now : (exchange : Exchange) (world new : World) (line : List ℕ) (read : Result (Option Step) Refusal)
-    (step : Step) → read ≡ step_of exchange.k (words_of line) → read ≡ Ok (Some step)
+    (step : Step) → read ≡ step_in_words exchange.k (words_of line) → read ≡ Ok (Some step)
     → next_world exchange world step ≡ None → new ≡ world
-    → record { world = new; answer = 63 ∷ 32 ∷ 51 ∷ 52 ∷ 10 ∷ [] } ≡ after_line exchange world line
-unfolding after_line
+    → record { world = new; answer = 63 ∷ 32 ∷ 51 ∷ 52 ∷ 10 ∷ [] } ≡ world_after_line exchange world line
+unfolding world_after_line
 refused_now exchange world new line read step is asks none same =
     (λ i. record { world = same i; answer = not_now-text i })
-    ∙ ap (played world) (sym none) ∙ ap (answered exchange world) (sym asks ∙ is)
+    ∙ ap (played world) (sym none) ∙ ap (step_answered exchange world) (sym asks ∙ is)
 
 -- the last line
 pub finished-text : codes "finished\n" ≡ finished_line

@@ -10,15 +10,15 @@ use Rattle.cm_exchange.specs.Lanes.{Exchange, round_count}
 use Rattle.cm_exchange.specs.Worlds.{World, IsFinished}
 use Rattle.cm_steps.specs.declared.fault.WeaveFault.{WeaveFault}
 use Rattle.cm_steps.specs.declared.fault.WeaveFault.TheVariants.{Read, Write, TooMuch, Memory, Unfinished}
-use Rattle.cm_steps.specs.Session.{answers, left}
+use Rattle.cm_steps.specs.Session.{world_answers, world_left}
 
 -- the most bytes of steps
 abbrev pub LIMIT : ℕ
 LIMIT = 16777216
 
 -- the lines of a text that are answered: all of them, or those that end within the most bytes
-abbrev pub heard_lines : List ℕ → List (List ℕ)
-heard_lines text = if nat_le (length text) LIMIT then lines_of text else ended_lines (take LIMIT text)
+abbrev pub processed_step_lines : List ℕ → List (List ℕ)
+processed_step_lines text = if nat_le (length text) LIMIT then lines_of text else ended_lines (take LIMIT text)
 
 -- ---- the last line
 
@@ -41,11 +41,11 @@ last_line exchange world = if is_finished exchange world then finished_line else
 -- what stands behind the answers to the lines of a text: the last line, and nothing where there are too many bytes
 abbrev pub closing : Exchange → World → List ℕ → List ℕ
 closing exchange start text =
-    if nat_le (length text) LIMIT then last_line exchange (left exchange start (lines_of text)) else []
+    if nat_le (length text) LIMIT then last_line exchange (world_left exchange start (lines_of text)) else []
 
 -- all that is told of a text
 abbrev pub told_text : Exchange → World → List ℕ → List ℕ
-told_text exchange start text = answers exchange start (heard_lines text) ++ closing exchange start text
+told_text exchange start text = world_answers exchange start (processed_step_lines text) ++ closing exchange start text
 
 -- ---- ends
 
@@ -67,13 +67,13 @@ pub record IsAnsweredSoFar (exchange : Exchange) (text : List ℕ) (rest : Optio
   pub taken : List ℕ
   pub consumed : Consumes (Some text) rest taken
   pub within : length taken ≤ LIMIT
-  pub written : Appends held holds (answers exchange start (ended_lines taken))
+  pub written : Appends held holds (world_answers exchange start (ended_lines taken))
 
 -- all lines of a text are answered, and the last line told
 pub record IsTold (exchange : Exchange) (text : List ℕ) (start : World) (last : List ℕ) (held holds : Option (List ℕ))
     : Type 0 where
   pub within : length text ≤ LIMIT
-  pub written : Appends held holds (answers exchange start (lines_of text) ++ last)
+  pub written : Appends held holds (world_answers exchange start (lines_of text) ++ last)
 
 -- a text is written in part: it was cut by a write, or for want of memory
 abbrev pub IsCutBy : List ℕ → Option (List ℕ) → Option (List ℕ) → WeaveFault → Type 0
@@ -86,7 +86,7 @@ IsCutBy text held holds Unfinished = ⊥
 -- how a session ends finished whose source has this text
 pub record EndsFinished (exchange : Exchange) (text : List ℕ) (start : World) (held holds : Option (List ℕ))
     : Type 0 where
-  pub finished : IsFinished exchange (left exchange start (lines_of text))
+  pub finished : IsFinished exchange (world_left exchange start (lines_of text))
   pub told : IsTold exchange text start finished_line held holds
 
 -- how it ends by a fault, where that is left of the source
@@ -96,11 +96,11 @@ EndsBy exchange text rest start held holds Read = IsAnsweredSoFar exchange text 
 EndsBy exchange text rest start held holds (Write count) =
     IsCutBy (told_text exchange start text) held holds (Write count)
 EndsBy exchange text rest start held holds TooMuch =
-    (LIMIT < length text) × Appends held holds (answers exchange start (ended_lines (take LIMIT text)))
+    (LIMIT < length text) × Appends held holds (world_answers exchange start (ended_lines (take LIMIT text)))
 EndsBy exchange text rest start held holds Memory =
     IsCutBy (told_text exchange start text) held holds Memory
 EndsBy exchange text rest start held holds Unfinished =
-    (IsFinished exchange (left exchange start (lines_of text)) → ⊥)
+    (IsFinished exchange (world_left exchange start (lines_of text)) → ⊥)
     × IsTold exchange text start unfinished_line held holds
 
 -- it ends finished so for some text: this can be said of a source that does not tell its bytes

@@ -4,9 +4,9 @@ use Rattle.cm_steps.specs.declared.fault.WeaveFault.{WeaveFault}
 use Rattle.cm_steps.specs.declared.fault.WeaveFault.TheVariants.{Read, Write, TooMuch, Memory, Unfinished}
 
 -- the number of a fault
-abbrev pub fault_number : WeaveFault → ℕ
-fault_number Read = 30
-fault_number (Write count) = 31
-fault_number TooMuch = 32
-fault_number Memory = 33
-fault_number Unfinished = 35
+abbrev pub weave_fault_number : WeaveFault → ℕ
+weave_fault_number Read = 30
+weave_fault_number (Write count) = 31
+weave_fault_number TooMuch = 32
+weave_fault_number Memory = 33
+weave_fault_number Unfinished = 35

@@ -8,7 +8,7 @@ use Rattle.cm_exchange.specs.Lanes.{Exchange, exchange_of}
 use Rattle.cm_exchange.specs.Worlds.{World, IsFinished}
 use Rattle.cm_steps.specs.declared.fault.WeaveFault.{WeaveFault}
 use Rattle.cm_steps.specs.declared.fault.WeaveFault.TheVariants.{Read, Write, TooMuch, Memory, Unfinished}
-use Rattle.cm_steps.specs.Session.{after_line, answers, left}
+use Rattle.cm_steps.specs.Session.{world_after_line, world_answers, world_left}
 use Rattle.cm_steps.specs.Ends.{LIMIT}
 use Rattle.cm_steps.specs.Alone.{own_steps, step_line}
 
@@ -33,9 +33,9 @@ pub record Hearing : Type 0 where
 -- the line has ended
 abbrev pub with_line_ended : Exchange → Hearing → Hearing
 with_line_ended exchange at = record {
-  world = (after_line exchange at.world at.line).world;
+  world = (world_after_line exchange at.world at.line).world;
   line = [];
-  answers = at.answers ++ (after_line exchange at.world at.line).answer;
+  answers = at.answers ++ (world_after_line exchange at.world at.line).answer;
 }
 
 -- one byte more
@@ -89,9 +89,9 @@ BreaksOff text sent held holds Unfinished = ⊥
 pub record IsHeard (exchange : Exchange) (text : List ℕ) (start : World) (held : Option (List ℕ)) (world : World)
     (holds : Option (List ℕ)) (sent : ℕ) : Type 0 where
   pub within : length text ≤ LIMIT
-  pub world_is : world ≡ left exchange start (lines_of text)
-  pub written : Appends held holds (answers exchange start (lines_of text))
-  pub sent_is : sent ≡ length (answers exchange start (lines_of text))
+  pub world_is : world ≡ world_left exchange start (lines_of text)
+  pub written : Appends held holds (world_answers exchange start (lines_of text))
+  pub sent_is : sent ≡ length (world_answers exchange start (lines_of text))
 
 -- so it is of some text
 pub record IsHeardForSome (exchange : Exchange) (start : World) (held : Option (List ℕ)) (world : World)

@@ -22,6 +22,6 @@ step_named k name operands =
     else Err Word)))
 
 -- the step of the words of a line, none where there are no words
-abbrev pub step_of : ℕ → List (List ℕ) → Result (Option Step) Refusal
-step_of k [] = Ok None
-step_of k (name ∷ operands) = step_named k name operands >>= λ step. Ok (Some step)
+abbrev pub step_in_words : ℕ → List (List ℕ) → Result (Option Step) Refusal
+step_in_words k [] = Ok None
+step_in_words k (name ∷ operands) = step_named k name operands >>= λ step. Ok (Some step)

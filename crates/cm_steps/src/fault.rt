@@ -1,7 +1,7 @@
 //! Why a world that is stepped is given up.
 
 ghost use Rattle.std.specs.Prelude.{◌≡◌, ◌≤◌};
-ghost use Rattle.cm_steps.specs.Faults.{fault_number};
+ghost use Rattle.cm_steps.specs.Faults.{weave_fault_number};
 
 use thiserror::Error;
 
@@ -24,7 +24,7 @@ pub enum WeaveFault {
 impl WeaveFault {
     /// The number that is reported of it.
     pub fn number(self) -> u8
-        ensures value { result ≡ fault_number self }
+        ensures value { result ≡ weave_fault_number self }
         ensures some { 1 ≤ result }
         ensures known { result ≤ 38 }
     {

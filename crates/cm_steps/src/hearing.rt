@@ -4,7 +4,7 @@ ghost use Rattle.std.specs.Prelude.{◌≡◌, ◌≤◌, ◌<◌, ◌∷◌, []
 ghost use Rattle.cm_session.specs.Answer.{refusal_number, refused_line};
 ghost use Rattle.cm_bits.specs.Text.{IsUnended};
 ghost use Rattle.cm_steps.specs.Hearing.{exchange_in, heard, with_line_ended, IsOfRun};
-ghost use Rattle.cm_steps.specs.Session.{after_line};
+ghost use Rattle.cm_steps.specs.Session.{world_after_line};
 
 use crate::reader::read_step;
 use cm_session::Refusal;
@@ -57,14 +57,14 @@ fn end_line<const N: usize, const CAP: usize>(
 }
 
 /// Plays a line; tells its answer.
-#[tactic(auto, unfolding(crate::specs::Session::after_line, cm_session::specs::Answer::line))]
+#[tactic(auto, unfolding(crate::specs::Session::world_after_line, cm_session::specs::Answer::line))]
 fn answer_line<const N: usize, const CAP: usize>(
     world: &mut World<N, CAP>,
     line: &[u8],
 ) -> &'static [u8]
     ensures run { IsOfRun world.old world.new }
     ensures value { record { world = world.new.world; answer = result.now }
-        ≡ after_line (exchange_in N CAP world.old) world.old.world line.now }
+        ≡ world_after_line (exchange_in N CAP world.old) world.old.world line.now }
 {
     match read_step(line, world.k()) {
         Ok(None) => b"",

@@ -2,7 +2,7 @@
 
 ghost use Rattle.std.specs.Prelude.{◌≡◌, ◌≤◌};
 ghost use Rattle.cm_bits.specs.Text.{words_left, words_of};
-ghost use Rattle.cm_steps.specs.Words.{block_asked, step_named, step_of};
+ghost use Rattle.cm_steps.specs.Words.{block_asked, step_named, step_in_words};
 
 use cm_bits::{Words, read_number};
 use cm_exchange::Step;
@@ -12,7 +12,7 @@ use cm_session::Refusal;
 /// told: the word, the number of operands, a word that is no number, a block that there is not. It takes no memory.
 pub fn read_step(line: &[u8], k: u8) -> Result<Option<Step>, Refusal>
     requires few { k ≤ 12 }
-    ensures value { result ≡ step_of k (words_of line.now) }
+    ensures value { result ≡ step_in_words k (words_of line.now) }
 {
     let mut words = Words::new(line);
     let Some(name) = words.next() else {

@@ -11,7 +11,7 @@ use Rattle.cm_model.specs.declared.act.Act.TheVariants.{Cycle}
 use Rattle.cm_model.specs.Machine.{Machine, run_of}
 use Rattle.cm_model.proofs.Runs.{run_of-append, run_of-nil}
 use Rattle.cm_session.specs.Answer.{CLOCK, at_line, end_line, refused_line}
-use Rattle.cm_session.specs.Session.{Session, Answered, told, preceded_by, lacks_room, one_on, has_acts, going}
+use Rattle.cm_session.specs.Session.{Session, Answered, answered_with, preceded_by, lacks_room, one_on, has_acts, going}
 use Rattle.cm_session.specs.Whole.{acts_between}
 use Rattle.cm_whole.specs.Acts.{act_at, come_to, told_at, told_between, StopsWith, GoesOn}
 
@@ -72,7 +72,7 @@ record GoesFrom (n cap : ℕ) (acts : List Act) (stops : ℕ → Bool) (before :
 -- it stops at once, with this answer
 stops_here : (n cap : ℕ) (acts : List Act) (stops : ℕ → Bool) (before : Session) (place : ℕ) (answer : List ℕ)
     → StopsWith stops acts (come_to n cap acts before place) answer
-    → GoesFrom n cap acts stops before place (told (come_to n cap acts before place) answer)
+    → GoesFrom n cap acts stops before place (answered_with (come_to n cap acts before place) answer)
 stops_here n cap acts stops before place answer why =
     let none : place - place ≡ 0 = omega arith in
     record {
@@ -109,13 +109,13 @@ first_of_both false b h = h
 -- what comes behind an act that was run: a place where the session stops, or the acts that are left
 abbrev onward : ℕ → ℕ → (ℕ → Bool) → ℕ → List Act → Session → Answered
 onward n cap stops place more session =
-    cond (stops (place + 1) && has_acts more) (told session (at_line (place + 1))) (going n cap stops session more)
+    cond (stops (place + 1) && has_acts more) (answered_with session (at_line (place + 1))) (going n cap stops session more)
 
 by_stop : (n cap : ℕ) (acts : List Act) (stops : ℕ → Bool) (before : Session) (place : ℕ) (more : List Act) (b : Bool)
     → (stops (place + 1) && has_acts more) ≡ b
     → GoesFrom n cap acts stops before (place + 1) (going n cap stops (come_to n cap acts before (place + 1)) more)
     → GoesFrom n cap acts stops before (place + 1)
-    (cond b (told (come_to n cap acts before (place + 1)) (at_line (place + 1)))
+    (cond b (answered_with (come_to n cap acts before (place + 1)) (at_line (place + 1)))
     (going n cap stops (come_to n cap acts before (place + 1)) more))
 by_stop n cap acts stops before place more true e rest =
     stops_here n cap acts stops before (place + 1) (at_line (place + 1))
@@ -128,7 +128,7 @@ by_room : (n cap : ℕ) (acts : List Act) (stops : ℕ → Bool) (before : Sessi
     (onward n cap stops place more (come_to n cap acts before (place + 1)))
     → one_on n cap (come_to n cap acts before place) (act_at acts place) ≡ come_to n cap acts before (place + 1)
     → GoesFrom n cap acts stops before place
-    (cond b (told (come_to n cap acts before place) (refused_line CLOCK))
+    (cond b (answered_with (come_to n cap acts before place) (refused_line CLOCK))
     (preceded_by (told_at n cap acts before place)
     (onward n cap stops place more (one_on n cap (come_to n cap acts before place) (act_at acts place)))))
 by_room n cap acts stops before place more true e rest next =

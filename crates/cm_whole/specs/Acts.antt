@@ -12,7 +12,7 @@ use Rattle.cm_session.specs.declared.command.Command.TheVariants as command
 use Rattle.cm_session.specs.declared.command.Refusal.{Refusal}
 use Rattle.cm_session.specs.Commands.{command_of}
 use Rattle.cm_session.specs.Answer.{CLOCK, at_line, end_line, refused_line}
-use Rattle.cm_session.specs.Session.{Session, Answered, lacks_room, told_by, everywhere, at_breaks}
+use Rattle.cm_session.specs.Session.{Session, Answered, lacks_room, answer_of_act, everywhere, at_breaks}
 use Rattle.cm_session.specs.Whole.{acts_between}
 use Rattle.cm_whole.specs.Inputs.{Setup, session_at, written_at, next_line}
 
@@ -29,7 +29,7 @@ come_to n cap acts session place = record session {
 
 -- what the act at a place tells: a look at the wire that of the machine after all acts before it, where looks are told
 abbrev pub told_at : ℕ → ℕ → List Act → Session → ℕ → List ℕ
-told_at n cap acts session place = told_by (come_to n cap acts session place) (act_at acts place)
+told_at n cap acts session place = answer_of_act (come_to n cap acts session place) (act_at acts place)
 
 -- what the acts tell from one place to a later one, where a session had stood before
 abbrev pub told_between : ℕ → ℕ → List Act → Session → ℕ → ℕ → List ℕ

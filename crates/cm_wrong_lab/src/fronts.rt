@@ -5,7 +5,7 @@ ghost use Rattle.std.specs.Io.KnownBytes.{IsAtEnd};
 ghost use Rattle.cm_array.specs.Faults.{CountsLacks, one_more_lacked};
 ghost use Rattle.cm_session.specs.Ends.{is_write};
 ghost use Rattle.cm_debug.specs.Telling.{is_thread};
-ghost use Rattle.cm_front.specs.Front.{front_of, after_line};
+ghost use Rattle.cm_front.specs.Front.{front_of, front_after_line};
 ghost use Rattle.cm_front.specs.Ends.{Ends};
 
 use cm_array::{Machine, Runner};
@@ -49,9 +49,9 @@ pub fn tell<const N: usize, const CAP: usize, R: Runner<N, CAP>>(
 ) -> Result<(), Want>
     requires runner { R.ready }
     ensures answer { OnOk result (text.new.items
-        ≡ (after_line N CAP (front_of machine.old.machine front.old) line.now).answer) }
+        ≡ (front_after_line N CAP (front_of machine.old.machine front.old) line.now).answer) }
     ensures front { OnOk result (front_of machine.new.machine front.new
-        ≡ (after_line N CAP (front_of machine.old.machine front.old) line.now).front) }
+        ≡ (front_after_line N CAP (front_of machine.old.machine front.old) line.now).front) }
     ensures err { OnErr result (machine.new.machine ≡ machine.old.machine) }
     ensures thread { CountsLacks is_thread (R.threads_lacked runner.old) (R.threads_lacked runner.new) result }
 {

@@ -3,7 +3,7 @@ use Rattle.std.proofs.lemmas.Result.{on_ok_weaker}
 use Rattle.cm_bits.specs.Text.{words_of}
 use Rattle.cm_session.specs.Answer.{refused_line}
 use Rattle.cm_front.specs.ForAll.{AreFor}
-use Rattle.cm_front.specs.Front.{front_of, told, for_all}
+use Rattle.cm_front.specs.Front.{front_of, front_answered_with, for_all}
 use Rattle.cm_front.proofs.Giving.{are_for}
 use Rattle.cm_front.proofs.Saying.{own_is}
 use Rattle.cm_front.proofs.front_end.do_for_all.Goals as goal
@@ -13,7 +13,7 @@ returns-in-Err-clause-done g c =
     on_ok_weaker c.refuse.result
     (λ tells read. ap (for_all g.row.N g.row.CAP (front_of c.args.machine.now.machine read))
     (c.in-Err.ensures.refused (own_is c.in-Err.kind c.in-Some.ensures.own))
-    ∙ ap (told (front_of c.args.machine.now.machine read)) (ap refused_line (sym c.in-Some.ensures.value) ∙ sym tells))
+    ∙ ap (front_answered_with (front_of c.args.machine.now.machine read)) (ap refused_line (sym c.in-Some.ensures.value) ∙ sym tells))
     c.refuse.ensures.ok
 
 pub obey-requires : goal.obey-requires

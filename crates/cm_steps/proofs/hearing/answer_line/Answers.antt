@@ -1,7 +1,7 @@
 use Rattle.std.proofs.Common.{ℕ, Ok, ap, ◌∙◌, refl}
 use Rattle.cm_bits.specs.Text.{words_of}
 use Rattle.cm_weave.specs.Woven.{Woven}
-use Rattle.cm_steps.specs.Words.{step_of}
+use Rattle.cm_steps.specs.Words.{step_in_words}
 use Rattle.cm_steps.specs.Hearing.{exchange_in}
 use Rattle.cm_steps.proofs.Texts.{refused_now}
 use Rattle.cm_steps.proofs.hearing.answer_line.Goals as goal
@@ -11,7 +11,7 @@ returns-in-Err-play-clause-value g c =
     refused_now (exchange_in g.row.N g.row.CAP c.args.world.now) c.args.world.now.world c.play.new.self.world
     c.args.line.now c.read_step.result c.in-Ok-Some.step
     (c.read_step.ensures.value
-    ∙ ap (λ (k : ℕ). step_of k (words_of c.args.line.now)) c.k.ensures.value)
+    ∙ ap (λ (k : ℕ). step_in_words k (words_of c.args.line.now)) c.k.ensures.value)
     (c.in-Ok-Some.is ∙ ap Ok c.in-Ok-Some.field-0-is)
     (c.in-Err-play.ensures.refused.0 refl)
     (ap (λ (w : Woven). w.world) c.in-Err-play.ensures.err)

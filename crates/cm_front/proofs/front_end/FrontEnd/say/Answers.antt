@@ -1,7 +1,7 @@
 use Rattle.std.proofs.Common.{ap, ◌∙◌}
 use Rattle.std.proofs.lemmas.Result.{on_ok_weaker}
 use Rattle.cm_bits.specs.Text.{words_of}
-use Rattle.cm_front.specs.Front.{acts_line, after_acts}
+use Rattle.cm_front.specs.Front.{acts_line, after_accepted_acts}
 use Rattle.cm_front.proofs.Saying.{forgotten, stays, said_ok, said_ok_answer, said_err, said_err_answer}
 use Rattle.cm_front.proofs.front_end.FrontEnd.say.Goals as goal
 
@@ -43,4 +43,4 @@ returns-clause-front g c =
     c.forget_acts.new.self c.read_line.new.reader (words_of c.args.line.now)
     (forgotten c.self.inside.reader c.forget_acts.new.self c.args.self.now c.self.view_is forgot.fields forgot.context
     forgot.acts) c.in_default.ensures.ok
-    (is ∙ ap (after_acts g.row.N g.row.CAP c.args.machine.now.machine) c.acts.ensures.value)) c.run_at_once.ensures.machine
+    (is ∙ ap (after_accepted_acts g.row.N g.row.CAP c.args.machine.now.machine) c.acts.ensures.value)) c.run_at_once.ensures.machine
