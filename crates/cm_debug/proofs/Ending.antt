@@ -13,7 +13,7 @@ use Rattle.cm_model.specs.Machine.{Machine}
 use Rattle.cm_session.specs.declared.fault.SessionFault.{SessionFault}
 use Rattle.cm_session.specs.declared.fault.SessionFault.TheVariants.{Read, Write, TooMuch, Memory, NoThread}
 use Rattle.cm_session.specs.Session.{Session, opening, after_lines}
-use Rattle.cm_session.specs.Ends.{LIMIT, ended_lines, open_line, processed_lines, IsAnswered, Ends, EndsForSome}
+use Rattle.cm_session.specs.Ends.{COMMANDS_LIMIT, ended_lines, open_line, processed_lines, IsAnswered, Ends, EndsForSome}
 use Rattle.cm_session.proofs.Lines.{heard_first, heard_whole}
 use Rattle.cm_debug.specs.Talk.{Talk, Setting, setting, after_all, IsTold, IsBroken, BreaksOffAmong, MayBeLeft, HasEnded, HasTakenAll}
 use Rattle.cm_debug.specs.Taking.{HasTaken, HasStopped}
@@ -90,7 +90,7 @@ told_first n cap first now acts session line out kept sent lacked = record {
 
 -- a read failed
 pub ended_read : {n cap : ℕ} {first : Setting} {taken : List ℕ} {a : Talk} (source left rest : Option (List ℕ))
-    → Consumes source left taken → Keeps left rest → length taken ≤ LIMIT → a.kept ≡ [] → IsTold n cap first taken a
+    → Consumes source left taken → Keeps left rest → length taken ≤ COMMANDS_LIMIT → a.kept ≡ [] → IsTold n cap first taken a
     → HasEnded n cap first source rest (setting first.acts a.session.machine a.out a.lacked) (Err Read)
 ended_read {n} {cap} {first} {taken} {a} source left rest read kept few none told' = record {
   text = taken;
@@ -118,8 +118,8 @@ parted taken buf more room count within =
 
 -- that part breaks off
 pub ended_in_read : {n cap : ℕ} {first : Setting} {c : Talk} {fault : SessionFault}
-    (source left rest : Option (List ℕ)) (taken buf : List ℕ) (count room used : ℕ) → room ≡ min count (LIMIT - used)
-    → used ≡ length taken → used ≤ LIMIT → Consumes source left taken → Consumes left rest (take count buf)
+    (source left rest : Option (List ℕ)) (taken buf : List ℕ) (count room used : ℕ) → room ≡ min count (COMMANDS_LIMIT - used)
+    → used ≡ length taken → used ≤ COMMANDS_LIMIT → Consumes source left taken → Consumes left rest (take count buf)
     → IsBroken n cap first (ended_lines (taken ++ take room buf)) c fault
     → HasEnded n cap first source rest (setting first.acts c.session.machine c.out c.lacked) (Err fault)
 ended_in_read {n} {cap} {first} {c} {fault} source left rest taken buf count room used is so few read more_read off =
@@ -145,15 +145,15 @@ take_all xs ys k is = grind (arith, common_steps)
 
 -- it gave more than there was room for
 pub ended_over : {n cap : ℕ} {first : Setting} {a : Talk} (source left rest : Option (List ℕ))
-    (taken buf : List ℕ) (count room used : ℕ) → count ≤ length buf → room ≡ min count (LIMIT - used) → room < count
-    → used ≡ length taken → used ≤ LIMIT → Consumes source left taken → Consumes left rest (take count buf)
+    (taken buf : List ℕ) (count room used : ℕ) → count ≤ length buf → room ≡ min count (COMMANDS_LIMIT - used) → room < count
+    → used ≡ length taken → used ≤ COMMANDS_LIMIT → Consumes source left taken → Consumes left rest (take count buf)
     → a.kept ≡ [] → IsTold n cap first (taken ++ take room buf) a
     → HasEnded n cap first source rest (setting first.acts a.session.machine a.out a.lacked) (Err TooMuch)
 ended_over {n} {cap} {first} {a} source left rest taken buf count room used inside is less so few read more_read none
     told' =
     let fed : length (take room buf) ≡ room = long room buf (omega (arith, less, inside)) in
     let front : List ℕ = taken ++ take room buf in
-    let size : LIMIT ≡ length front = omega (arith, is, less, so, few, fed, length-append taken (take room buf)) in
+    let size : COMMANDS_LIMIT ≡ length front = omega (arith, is, less, so, few, fed, length-append taken (take room buf)) in
     record {
       text = taken ++ take count buf;
       read = Consumes-trans source left rest taken (take count buf) read more_read;
@@ -173,7 +173,7 @@ ended_over {n} {cap} {first} {a} source left rest taken buf count room used insi
             ),
             subst (λ (t : List ℕ).
                 IsAnswered n cap first.acts first.machine first.out (ended_lines t) a.session.machine a.out)
-                (sym (ap (take LIMIT) whole ∙ take_all front behind LIMIT size)) (all_told none told'),
+                (sym (ap (take COMMANDS_LIMIT) whole ∙ take_all front behind COMMANDS_LIMIT size)) (all_told none told'),
           );
       end = tt;
       lacked = told'.lacked;
@@ -186,7 +186,7 @@ ended_over {n} {cap} {first} {a} source left rest taken buf count room used insi
 -- a read gave nothing
 pub taken_all : {n cap : ℕ} {first : Setting} {taken : List ℕ} {a : Talk} (source left rest : Option (List ℕ))
     (buf : List ℕ) (count : ℕ) → count ≡ 0 → Consumes source left taken → Consumes left rest (take count buf)
-    → IsAtEnd rest → length taken ≤ LIMIT → IsTold n cap first taken a → HasTakenAll n cap first source rest a
+    → IsAtEnd rest → length taken ≤ COMMANDS_LIMIT → IsTold n cap first taken a → HasTakenAll n cap first source rest a
 taken_all {n} {cap} {first} {taken} {a} source left rest buf count none read more_read end few told' = record {
   text = taken;
   read = subst (Consumes source rest) (append-nil taken)

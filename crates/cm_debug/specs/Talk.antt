@@ -8,7 +8,7 @@ use Rattle.cm_array.specs.Faults.{CountsLacks, lacked_after}
 use Rattle.cm_session.specs.declared.fault.SessionFault.{SessionFault}
 use Rattle.cm_session.specs.declared.fault.SessionFault.TheVariants.{Write, Memory, NoThread}
 use Rattle.cm_session.specs.Session.{Session, Answered, opening, after_lines}
-use Rattle.cm_session.specs.Ends.{LIMIT, ended_lines, open_line, is_no_thread, IsStopped, IsBrokenOff, Ends}
+use Rattle.cm_session.specs.Ends.{COMMANDS_LIMIT, ended_lines, open_line, is_no_thread, IsStopped, IsBrokenOff, Ends}
 use Rattle.cm_debug.specs.declared.console.Console.{Console}
 use Rattle.cm_debug.specs.State.{session_of}
 
@@ -108,7 +108,7 @@ pub record HasTakenAll (n cap : ℕ) (first : Setting) (source rest : Option (Li
   pub text : List ℕ
   pub read : Consumes source rest text
   pub end : IsAtEnd rest
-  pub within : length text ≤ LIMIT
+  pub within : length text ≤ COMMANDS_LIMIT
   pub told : IsTold n cap first text now
 
 -- how a console takes what a source gives

@@ -13,7 +13,7 @@ use Rattle.cm_session.specs.declared.fault.SessionFault.TheVariants.{Read, Write
 use Rattle.cm_session.specs.Ends.{ended_lines, open_line}
 use Rattle.cm_debug.specs.Gathering.{IsCutOff}
 use Rattle.cm_front.specs.Front.{Front}
-use Rattle.cm_front.specs.Ends.{LIMIT, ALL, AreShort, Ends, IsAnswered}
+use Rattle.cm_front.specs.Ends.{LINE_LIMIT, ALL, AreShort, Ends, IsAnswered}
 use Rattle.cm_front.specs.Hearing.{BreaksOff, HasHeard, HearingStops}
 use Rattle.cm_front.proofs.Lines.{AreLinesOf, line_more, last_line, all_ended, left_open, no_open}
 use Rattle.cm_front.proofs.Told.{IsTold, answered_all, stopped, broken_off, line_stops}
@@ -114,7 +114,7 @@ ended_answered n cap start held given rest done front holds sent kept none free 
 pub hearing_ends : (n cap : ℕ) (start : Machine) (held before mid after : Option (List ℕ)) (given rest : List ℕ)
     (done : List (List ℕ)) (front : Front) (holds : Option (List ℕ)) (sent : ℕ) (kept : List ℕ)
     (fault : SessionFault) → kept ≡ [] → IsUnended rest → AreLinesOf given done → Consumes before mid (given ++ rest)
-    → AreShort done → length rest ≤ LIMIT → IsTold n cap start held done front holds sent kept
+    → AreShort done → length rest ≤ LINE_LIMIT → IsTold n cap start held done front holds sent kept
     → HearingStops mid after fault → Ends n cap before after start held front.machine holds (Err fault)
 hearing_ends n cap start held before mid after given rest done front holds sent kept Read none free lines consumed
     short within told' stops = record {
@@ -144,21 +144,21 @@ hearing_ends n cap start held before mid after given rest done front holds sent 
 
 -- a line is too long, or all are too many
 too_many : (given rest : List ℕ) (done : List (List ℕ)) → IsUnended rest → AreLinesOf given done
-    → (LIMIT < length rest) ⊎ (ALL ≤ length (given ++ rest))
-    → (LIMIT < length (open_line (given ++ rest))) ⊎ (ALL ≤ length (given ++ rest))
+    → (LINE_LIMIT < length rest) ⊎ (ALL ≤ length (given ++ rest))
+    → (LINE_LIMIT < length (open_line (given ++ rest))) ⊎ (ALL ≤ length (given ++ rest))
 too_many given rest done free lines (inl long) =
     inl (omega (arith, long, ap length (left_open given rest done free lines)))
 too_many given rest done free lines (inr many) = inr many
 
-pub over_is : (len bytes taken all : ℕ) → len ≡ bytes → taken ≡ all → (LIMIT < len) ⊎ (ALL ≤ taken)
-    → (LIMIT < bytes) ⊎ (ALL ≤ all)
+pub over_is : (len bytes taken all : ℕ) → len ≡ bytes → taken ≡ all → (LINE_LIMIT < len) ⊎ (ALL ≤ taken)
+    → (LINE_LIMIT < bytes) ⊎ (ALL ≤ all)
 over_is len bytes taken all same so (inl long) = inl (omega (arith, long, same))
 over_is len bytes taken all same so (inr many) = inr (omega (arith, many, so))
 
 pub over_ends : (n cap : ℕ) (start : Machine) (held before after : Option (List ℕ)) (given rest : List ℕ)
     (done : List (List ℕ)) (front : Front) (holds : Option (List ℕ)) (sent : ℕ) (kept : List ℕ) → kept ≡ []
     → IsUnended rest → AreLinesOf given done → Consumes before after (given ++ rest) → AreShort done
-    → (LIMIT < length rest) ⊎ (ALL ≤ length (given ++ rest)) → IsTold n cap start held done front holds sent kept
+    → (LINE_LIMIT < length rest) ⊎ (ALL ≤ length (given ++ rest)) → IsTold n cap start held done front holds sent kept
     → Ends n cap before after start held front.machine holds (Err TooMuch)
 over_ends n cap start held before after given rest done front holds sent kept none free lines consumed short over told' =
     record {
@@ -236,15 +236,15 @@ last_ends n cap start held before after given heard done front holds on sent kep
     }
 
 -- a short line more
-pub short_more : (line : List ℕ) (done : List (List ℕ)) → AreShort done → length line ≤ LIMIT
+pub short_more : (line : List ℕ) (done : List (List ℕ)) → AreShort done → length line ≤ LINE_LIMIT
     → AreShort (done ++ line ∷ [])
-short_more line done short within = All-push (λ (l : List ℕ). length l ≤ LIMIT) done line short within
+short_more line done short within = All-push (λ (l : List ℕ). length l ≤ LINE_LIMIT) done line short within
 
 -- it is answered, and the answer written
 pub answered_ends : (n cap : ℕ) (start : Machine) (held before after : Option (List ℕ)) (given heard : List ℕ)
     (done : List (List ℕ)) (front : Front) (holds : Option (List ℕ)) (sent : ℕ) (kept : List ℕ) → kept ≡ []
     → IsUnended heard → 0 < length heard → AreLinesOf given done → Consumes before after (given ++ heard)
-    → AreShort done → length heard ≤ LIMIT → IsTold n cap start held (done ++ heard ∷ []) front holds sent kept
+    → AreShort done → length heard ≤ LINE_LIMIT → IsTold n cap start held (done ++ heard ∷ []) front holds sent kept
     → Ends n cap before after start held front.machine holds (Ok tt)
 answered_ends n cap start held before after given heard done front holds sent kept none free some lines consumed short
     within told' = record {

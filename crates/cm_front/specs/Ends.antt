@@ -10,8 +10,8 @@ use Rattle.cm_session.specs.Ends.{ended_lines, open_line}
 use Rattle.cm_front.specs.Front.{front_answers, front_left}
 
 -- the most bytes of a line
-abbrev pub LIMIT : ℕ
-LIMIT = 16777216
+abbrev pub LINE_LIMIT : ℕ
+LINE_LIMIT = 16777216
 
 -- the bytes of all lines after which no more are asked for: a counter has room for no more
 abbrev pub ALL : ℕ
@@ -19,7 +19,7 @@ ALL = 9223372036854775808
 
 -- no line has more bytes
 abbrev pub AreShort : List (List ℕ) → Type 0
-AreShort lines = All (λ line. length line ≤ LIMIT) lines
+AreShort lines = All (λ line. length line ≤ LINE_LIMIT) lines
 
 -- these lines are all answered, and the machine is that after them
 pub record IsAnswered (n cap : ℕ) (start : Machine) (held : Option (List ℕ)) (lines : List (List ℕ))
@@ -51,12 +51,12 @@ abbrev pub EndsOver : ℕ → ℕ → List ℕ → Machine → Option (List ℕ)
 EndsOver n cap taken start held machine holds (Ok done) =
     AreShort (lines_of taken) × IsAnswered n cap start held (lines_of taken) machine holds
 EndsOver n cap taken start held machine holds (Err Read) =
-    AreShort (ended_lines taken) × (length (open_line taken) ≤ LIMIT)
+    AreShort (ended_lines taken) × (length (open_line taken) ≤ LINE_LIMIT)
     × IsAnswered n cap start held (ended_lines taken) machine holds
 EndsOver n cap taken start held machine holds (Err (Write count)) =
     IsStopped n cap start held (lines_of taken) machine holds count
 EndsOver n cap taken start held machine holds (Err TooMuch) =
-    AreShort (ended_lines taken) × ((LIMIT < length (open_line taken)) ⊎ (ALL ≤ length taken))
+    AreShort (ended_lines taken) × ((LINE_LIMIT < length (open_line taken)) ⊎ (ALL ≤ length taken))
     × IsAnswered n cap start held (ended_lines taken) machine holds
 EndsOver n cap taken start held machine holds (Err Memory) =
     IsBrokenOff n cap start held (lines_of taken) machine holds

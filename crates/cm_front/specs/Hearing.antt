@@ -6,7 +6,7 @@ use Rattle.cm_session.specs.declared.fault.SessionFault.{SessionFault}
 use Rattle.cm_session.specs.declared.fault.SessionFault.TheVariants.{Read, Write, TooMuch, Memory, NoThread}
 use Rattle.cm_debug.specs.Gathering.{IsCutOff}
 use Rattle.cm_front.specs.Front.{Front, front_after_line}
-use Rattle.cm_front.specs.Ends.{LIMIT}
+use Rattle.cm_front.specs.Ends.{LINE_LIMIT}
 
 -- after so many bytes more were taken from a source, and stand behind the rest
 pub record HasHeard (before after : Option (List ℕ)) (rest heard : List ℕ) (count : ℕ) : Type 0 where
@@ -14,7 +14,7 @@ pub record HasHeard (before after : Option (List ℕ)) (rest heard : List ℕ) (
   pub consumed : Consumes before after bytes
   pub heard_is : heard ≡ rest ++ bytes
   pub count_is : count ≡ length bytes
-  pub within : length heard ≤ LIMIT + 1
+  pub within : length heard ≤ LINE_LIMIT + 1
   pub few : count ≤ 65536
   pub end : count ≡ 0 → IsAtEnd after
 

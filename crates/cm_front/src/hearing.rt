@@ -3,7 +3,7 @@
 ghost use Rattle.std.specs.Prelude.{◌≡◌, ◌+◌, ◌<◌, ◌≤◌, ◌↔◌, drop, false, length, slice_index, take, true};
 ghost use Rattle.std.specs.Prelude.{IfErr, IfOk, IsErrOf, OnOk};
 ghost use Rattle.cm_bits.specs.Text.{IsUnended};
-ghost use Rattle.cm_front.specs.Ends.{LIMIT};
+ghost use Rattle.cm_front.specs.Ends.{LINE_LIMIT};
 ghost use Rattle.cm_front.specs.Hearing.{HasHeard, HearingStops};
 
 use cm_bits::Source;
@@ -48,7 +48,7 @@ pub fn hear<I: Source>(
     place: usize,
 ) -> Result<usize, SessionFault>
     requires place { place ≤ length heard.old.items }
-    requires short { length heard.old.items ≤ place + LIMIT }
+    requires short { length heard.old.items ≤ place + LINE_LIMIT }
     requires reader { I.has_failed commands.old ≡ false }
     ensures ok { IfOk result (HasHeard (I.left commands.old) (I.left commands.new) (drop place heard.old.items)
         heard.new.items) }

@@ -8,7 +8,7 @@ ghost use Rattle.cm_session.specs.Ends.{is_no_thread, is_write};
 ghost use Rattle.cm_debug.specs.Gathering.{answered_bytes, with_gathered, BreaksOffBetween};
 ghost use Rattle.cm_debug.specs.Telling.{is_thread};
 ghost use Rattle.cm_front.specs.Front.{front_of, front_after_line};
-ghost use Rattle.cm_front.specs.Ends.{LIMIT, ALL, Ends};
+ghost use Rattle.cm_front.specs.Ends.{LINE_LIMIT, ALL, Ends};
 ghost use Rattle.cm_front.specs.Hearing.{BreaksOff};
 
 use crate::front_end::FrontEnd;
@@ -116,8 +116,8 @@ pub fn front<const N: usize, const CAP: usize, R: Runner<N, CAP>, I: Source, O: 
 
 /// Whether no more bytes are asked for, where so many are of an open line, and so many came in all.
 fn is_too_much(bytes: usize, taken: u64) -> bool
-    ensures over { IsTrue result → (LIMIT < bytes) ⊎ (ALL ≤ taken) }
-    ensures short { IsFalse result → bytes ≤ LIMIT }
+    ensures over { IsTrue result → (LINE_LIMIT < bytes) ⊎ (ALL ≤ taken) }
+    ensures short { IsFalse result → bytes ≤ LINE_LIMIT }
     ensures few { IsFalse result → taken < ALL }
 {
     bytes > LIMIT || taken >= ALL

@@ -8,7 +8,7 @@ use Rattle.std.proofs.lemmas.List.Splits.{slice_split-cons_no, length-slice_spli
 use Rattle.cm_bits.specs.Text.{is_line_end, without_empty_last, lines_of}
 use Rattle.cm_model.specs.declared.act.Act.{Act}
 use Rattle.cm_session.specs.Session.{Session, Answered, answered_with, preceded_by, after_line, after_lines}
-use Rattle.cm_session.specs.Ends.{LIMIT, but_last, last_of, ended_lines, open_line, processed_lines}
+use Rattle.cm_session.specs.Ends.{COMMANDS_LIMIT, but_last, last_of, ended_lines, open_line, processed_lines}
 use Rattle.cm_session.specs.Laws.{BeginsWith}
 
 -- ---- lines
@@ -185,22 +185,22 @@ ended_lines-append text more =
 -- ---- the lines that are answered
 
 -- of a text within the limit, all
-pub heard_whole : (text : List ℕ) → length text ≤ LIMIT → processed_lines text ≡ lines_of text
-heard_whole text within = ap (λ (b : Bool). cond b (lines_of text) (ended_lines (take LIMIT text)))
-    (le-leb (length text) LIMIT within)
+pub heard_whole : (text : List ℕ) → length text ≤ COMMANDS_LIMIT → processed_lines text ≡ lines_of text
+heard_whole text within = ap (λ (b : Bool). cond b (lines_of text) (ended_lines (take COMMANDS_LIMIT text)))
+    (le-leb (length text) COMMANDS_LIMIT within)
 
 -- those that ended in a front within the limit come first
-pub heard_first : (front more : List ℕ) → length front ≤ LIMIT
+pub heard_first : (front more : List ℕ) → length front ≤ COMMANDS_LIMIT
     → BeginsWith (processed_lines (front ++ more)) (ended_lines front)
-heard_first front more within = by (nat_le (length (front ++ more)) LIMIT) where
+heard_first front more within = by (nat_le (length (front ++ more)) COMMANDS_LIMIT) where
   rest : ℕ
-  rest = LIMIT - length front
+  rest = COMMANDS_LIMIT - length front
 
-  long : LIMIT ≡ length front + rest
+  long : COMMANDS_LIMIT ≡ length front + rest
   long = omega (arith, within)
 
   by : (b : Bool)
-      → BeginsWith (cond b (lines_of (front ++ more)) (ended_lines (take LIMIT (front ++ more)))) (ended_lines front)
+      → BeginsWith (cond b (lines_of (front ++ more)) (ended_lines (take COMMANDS_LIMIT (front ++ more)))) (ended_lines front)
   by true = record { more = lines_after front more; is = lines_of-append front more }
   by false = record {
     more = ended_after front (take rest more);

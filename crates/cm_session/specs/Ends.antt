@@ -11,8 +11,8 @@ use Rattle.cm_session.specs.declared.fault.SessionFault.TheVariants.{Read, Write
 use Rattle.cm_session.specs.Session.{Session, opening, after_line, after_lines, answers, left}
 
 -- the most bytes of commands
-abbrev pub LIMIT : ℕ
-LIMIT = 1048576
+abbrev pub COMMANDS_LIMIT : ℕ
+COMMANDS_LIMIT = 1048576
 
 -- all parts but the last
 abbrev pub but_last : List (List ℕ) → List (List ℕ)
@@ -81,7 +81,7 @@ pub record IsAnsweredSoFar (n cap : ℕ) (acts : List Act) (text : List ℕ) (re
     (machine : Machine) (holds : Option (List ℕ)) : Type 0 where
   pub taken : List ℕ
   pub consumed : Consumes (Some text) rest taken
-  pub within : length taken ≤ LIMIT
+  pub within : length taken ≤ COMMANDS_LIMIT
   pub answered : IsAnswered n cap acts start held (ended_lines taken) machine holds
 
 -- some of these lines are done and their answers written, no byte more; and perhaps some acts of the next are run
@@ -96,19 +96,19 @@ pub record IsBrokenOff (n cap : ℕ) (acts : List Act) (start : Machine) (held :
 
 -- the lines of a text that are answered: all of them, or those that end within the most bytes
 abbrev pub processed_lines : List ℕ → List (List ℕ)
-processed_lines text = if nat_le (length text) LIMIT then lines_of text else ended_lines (take LIMIT text)
+processed_lines text = if nat_le (length text) COMMANDS_LIMIT then lines_of text else ended_lines (take COMMANDS_LIMIT text)
 
 -- how a session ends whose source has this text, and has that left
 abbrev pub Ends : ℕ → ℕ → List Act → List ℕ → Option (List ℕ) → Machine → Option (List ℕ) → Machine → Option (List ℕ)
     → Result (Unit {0}) SessionFault → Type 0
 Ends n cap acts text rest start held machine holds (Ok done) =
-    (length text ≤ LIMIT) × IsAnswered n cap acts start held (lines_of text) machine holds
+    (length text ≤ COMMANDS_LIMIT) × IsAnswered n cap acts start held (lines_of text) machine holds
 Ends n cap acts text rest start held machine holds (Err Read) =
     IsAnsweredSoFar n cap acts text rest start held machine holds
 Ends n cap acts text rest start held machine holds (Err (Write count)) =
     IsStopped n cap acts start held (processed_lines text) machine holds count
 Ends n cap acts text rest start held machine holds (Err TooMuch) =
-    (LIMIT < length text) × IsAnswered n cap acts start held (ended_lines (take LIMIT text)) machine holds
+    (COMMANDS_LIMIT < length text) × IsAnswered n cap acts start held (ended_lines (take COMMANDS_LIMIT text)) machine holds
 Ends n cap acts text rest start held machine holds (Err Memory) =
     IsBrokenOff n cap acts start held (processed_lines text) machine holds
 Ends n cap acts text rest start held machine holds (Err NoThread) =

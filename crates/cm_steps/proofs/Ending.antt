@@ -16,7 +16,7 @@ use Rattle.cm_exchange.specs.Worlds.{World, IsFinished}
 use Rattle.cm_steps.specs.declared.fault.WeaveFault.{WeaveFault}
 use Rattle.cm_steps.specs.declared.fault.WeaveFault.TheVariants.{Read, Write, TooMuch, Memory, Unfinished}
 use Rattle.cm_steps.specs.Session.{world_answers, world_left}
-use Rattle.cm_steps.specs.Ends.{LIMIT, processed_step_lines, closing, told_text, finished_line, unfinished_line, is_finished}
+use Rattle.cm_steps.specs.Ends.{STEPS_LIMIT, processed_step_lines, closing, told_text, finished_line, unfinished_line, is_finished}
 use Rattle.cm_steps.specs.Ends.{last_line, IsCutBy, EndsBy, EndsByForSome, EndsFinished, EndsFinishedForSome}
 use Rattle.cm_steps.specs.Hearing.{Hearing, heard, at_start, BreaksOff, HasHeard, IsHeard, IsHeardForSome}
 use Rattle.cm_steps.proofs.Lines.{heard_first, heard_whole, closing_whole, told_on, lines_closed, lines_at_last}
@@ -32,7 +32,7 @@ pub record IsMidway (exchange : Exchange) (start : World) (held before : Option 
   pub written : Appends held holds said
   pub sent_is : sent ≡ length said
   pub taken_is : taken ≡ length text
-  pub within : taken ≤ LIMIT
+  pub within : taken ≤ STEPS_LIMIT
   pub few : sent ≤ taken * 2 ^ 64
 
 -- nothing of it
@@ -112,7 +112,7 @@ module _ (exchange : Exchange) (start : World) (held before : Option (List ℕ))
 
     -- that was answered
     pub midway_on : (after : Option (List ℕ)) (new : World) (kept : List ℕ) (on : Option (List ℕ)) (more room : ℕ)
-        → Consumes now after piece → room ≡ length piece → 0 < room → taken + room ≤ LIMIT → more < sent + 2 ^ 64
+        → Consumes now after piece → room ≡ length piece → 0 < room → taken + room ≤ STEPS_LIMIT → more < sent + 2 ^ 64
         → HasHeard exchange world new line kept piece sent holds on more
         → IsMidway exchange start held before (text ++ piece) new kept on after more (taken + room)
     midway_on after new kept on more room consumed long some within few has = record {
@@ -127,7 +127,7 @@ module _ (exchange : Exchange) (start : World) (held before : Option (List ℕ))
     }
 
     -- that broke off
-    pub cut_in_piece : (rest : List ℕ) (on : Option (List ℕ)) (fault : WeaveFault) → length (text ++ piece) ≤ LIMIT
+    pub cut_in_piece : (rest : List ℕ) (on : Option (List ℕ)) (fault : WeaveFault) → length (text ++ piece) ≤ STEPS_LIMIT
         → BreaksOff at.answers sent holds on fault
         → IsCutBy (told_text exchange start ((text ++ piece) ++ rest)) held on fault
     cut_in_piece rest on fault within breaks =
@@ -168,7 +168,7 @@ module _ (exchange : Exchange) (start : World) (held before : Option (List ℕ))
 
   -- the first bytes that it gave broke off
   module _ (buf : List ℕ) (count room : ℕ) (on : Option (List ℕ)) (fault : WeaveFault)
-      (is : room ≡ min count (LIMIT - taken))
+      (is : room ≡ min count (STEPS_LIMIT - taken))
       (breaks : BreaksOff (heard exchange (record { world = world; line = line; answers = [] }) (take room buf)).answers
       sent holds on fault) where
     in_read : (beyond : Option (List ℕ)) (rest : List ℕ)
@@ -192,7 +192,7 @@ module _ (exchange : Exchange) (start : World) (held before : Option (List ℕ))
 
   -- it gave more than there was room for
   module _ (buf : List ℕ) (count room : ℕ) (new : World) (kept : List ℕ) (on : Option (List ℕ)) (more : ℕ)
-      (inside : count ≤ length buf) (is : room ≡ min count (LIMIT - taken)) (less : room < count)
+      (inside : count ≤ length buf) (is : room ≡ min count (STEPS_LIMIT - taken)) (less : room < count)
       (has : HasHeard exchange world new line kept (take room buf) sent holds on more) where
     over : (beyond : Option (List ℕ)) (rest : List ℕ)
         → EndsBy exchange ((text ++ take count buf) ++ rest) beyond start held on TooMuch
@@ -200,7 +200,7 @@ module _ (exchange : Exchange) (start : World) (held before : Option (List ℕ))
         let w = mid.within in
         let fed : length (take room buf) ≡ room = long room buf (omega (arith, less, inside)) in
         let all : length (take count buf) ≡ count = long count buf inside in
-        let full : length (text ++ take room buf) ≡ LIMIT =
+        let full : length (text ++ take room buf) ≡ STEPS_LIMIT =
         length-append text (take room buf) ∙ omega (arith, fed, is, less, w, mid.taken_is) in
         subst (λ (t : List ℕ). EndsBy exchange t beyond start held on TooMuch)
         (sym (front_and_rest buf rest room count (omega (arith, less)))) (

@@ -12,7 +12,7 @@ use Rattle.cm_exchange.specs.Lanes.{Exchange}
 use Rattle.cm_exchange.specs.Worlds.{World}
 use Rattle.cm_steps.specs.Session.{WorldAnswered, world_answered_with, world_preceded_by, world_after_line}
 use Rattle.cm_steps.specs.Session.{world_after_lines, world_answers, world_left}
-use Rattle.cm_steps.specs.Ends.{LIMIT, processed_step_lines, last_line, closing, told_text}
+use Rattle.cm_steps.specs.Ends.{STEPS_LIMIT, processed_step_lines, last_line, closing, told_text}
 
 world_preceded_by-twice : (first second : List ℕ) (rest : WorldAnswered)
     → world_preceded_by first (world_preceded_by second rest) ≡ world_preceded_by (first ++ second) rest
@@ -33,22 +33,22 @@ world_after_lines-append exchange world (line ∷ lines) more =
 -- ---- the lines that are answered
 
 -- of a text within the limit, all
-pub heard_whole : (text : List ℕ) → length text ≤ LIMIT → processed_step_lines text ≡ lines_of text
-heard_whole text within = ap (λ (b : Bool). cond b (lines_of text) (ended_lines (take LIMIT text)))
-    (le-leb (length text) LIMIT within)
+pub heard_whole : (text : List ℕ) → length text ≤ STEPS_LIMIT → processed_step_lines text ≡ lines_of text
+heard_whole text within = ap (λ (b : Bool). cond b (lines_of text) (ended_lines (take STEPS_LIMIT text)))
+    (le-leb (length text) STEPS_LIMIT within)
 
 -- those that ended in a front within the limit come first
-pub heard_first : (front more : List ℕ) → length front ≤ LIMIT
+pub heard_first : (front more : List ℕ) → length front ≤ STEPS_LIMIT
     → BeginsWith (processed_step_lines (front ++ more)) (ended_lines front)
-heard_first front more within = by (nat_le (length (front ++ more)) LIMIT) where
+heard_first front more within = by (nat_le (length (front ++ more)) STEPS_LIMIT) where
   rest : ℕ
-  rest = LIMIT - length front
+  rest = STEPS_LIMIT - length front
 
-  long : LIMIT ≡ length front + rest
+  long : STEPS_LIMIT ≡ length front + rest
   long = omega (arith, within)
 
   by : (b : Bool)
-      → BeginsWith (cond b (lines_of (front ++ more)) (ended_lines (take LIMIT (front ++ more)))) (ended_lines front)
+      → BeginsWith (cond b (lines_of (front ++ more)) (ended_lines (take STEPS_LIMIT (front ++ more)))) (ended_lines front)
   by true = record { more = lines_after front more; is = lines_of-append front more }
   by false = record {
     more = ended_after front (take rest more);
@@ -57,11 +57,11 @@ heard_first front more within = by (nat_le (length (front ++ more)) LIMIT) where
   }
 
 -- behind them stands the last line
-pub closing_whole : (exchange : Exchange) (start : World) (text : List ℕ) → length text ≤ LIMIT
+pub closing_whole : (exchange : Exchange) (start : World) (text : List ℕ) → length text ≤ STEPS_LIMIT
     → closing exchange start text ≡ last_line exchange (world_left exchange start (lines_of text))
 closing_whole exchange start text within =
     ap (λ (b : Bool). cond b (last_line exchange (world_left exchange start (lines_of text))) [])
-    (le-leb (length text) LIMIT within)
+    (le-leb (length text) STEPS_LIMIT within)
 
 -- what is told of a text begins with the answers to its first lines
 pub record IsGoneOn (text first : List ℕ) : Type 0 where

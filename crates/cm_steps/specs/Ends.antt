@@ -13,12 +13,12 @@ use Rattle.cm_steps.specs.declared.fault.WeaveFault.TheVariants.{Read, Write, To
 use Rattle.cm_steps.specs.Session.{world_answers, world_left}
 
 -- the most bytes of steps
-abbrev pub LIMIT : ℕ
-LIMIT = 16777216
+abbrev pub STEPS_LIMIT : ℕ
+STEPS_LIMIT = 16777216
 
 -- the lines of a text that are answered: all of them, or those that end within the most bytes
 abbrev pub processed_step_lines : List ℕ → List (List ℕ)
-processed_step_lines text = if nat_le (length text) LIMIT then lines_of text else ended_lines (take LIMIT text)
+processed_step_lines text = if nat_le (length text) STEPS_LIMIT then lines_of text else ended_lines (take STEPS_LIMIT text)
 
 -- ---- the last line
 
@@ -41,7 +41,7 @@ last_line exchange world = if is_finished exchange world then finished_line else
 -- what stands behind the answers to the lines of a text: the last line, and nothing where there are too many bytes
 abbrev pub closing : Exchange → World → List ℕ → List ℕ
 closing exchange start text =
-    if nat_le (length text) LIMIT then last_line exchange (world_left exchange start (lines_of text)) else []
+    if nat_le (length text) STEPS_LIMIT then last_line exchange (world_left exchange start (lines_of text)) else []
 
 -- all that is told of a text
 abbrev pub told_text : Exchange → World → List ℕ → List ℕ
@@ -66,13 +66,13 @@ pub record IsAnsweredSoFar (exchange : Exchange) (text : List ℕ) (rest : Optio
     (held holds : Option (List ℕ)) : Type 0 where
   pub taken : List ℕ
   pub consumed : Consumes (Some text) rest taken
-  pub within : length taken ≤ LIMIT
+  pub within : length taken ≤ STEPS_LIMIT
   pub written : Appends held holds (world_answers exchange start (ended_lines taken))
 
 -- all lines of a text are answered, and the last line told
 pub record IsTold (exchange : Exchange) (text : List ℕ) (start : World) (last : List ℕ) (held holds : Option (List ℕ))
     : Type 0 where
-  pub within : length text ≤ LIMIT
+  pub within : length text ≤ STEPS_LIMIT
   pub written : Appends held holds (world_answers exchange start (lines_of text) ++ last)
 
 -- a text is written in part: it was cut by a write, or for want of memory
@@ -96,7 +96,7 @@ EndsBy exchange text rest start held holds Read = IsAnsweredSoFar exchange text 
 EndsBy exchange text rest start held holds (Write count) =
     IsCutBy (told_text exchange start text) held holds (Write count)
 EndsBy exchange text rest start held holds TooMuch =
-    (LIMIT < length text) × Appends held holds (world_answers exchange start (ended_lines (take LIMIT text)))
+    (STEPS_LIMIT < length text) × Appends held holds (world_answers exchange start (ended_lines (take STEPS_LIMIT text)))
 EndsBy exchange text rest start held holds Memory =
     IsCutBy (told_text exchange start text) held holds Memory
 EndsBy exchange text rest start held holds Unfinished =

@@ -9,7 +9,7 @@ use Rattle.cm_exchange.specs.Worlds.{World, IsFinished}
 use Rattle.cm_steps.specs.declared.fault.WeaveFault.{WeaveFault}
 use Rattle.cm_steps.specs.declared.fault.WeaveFault.TheVariants.{Read, Write, TooMuch, Memory, Unfinished}
 use Rattle.cm_steps.specs.Session.{world_after_line, world_answers, world_left}
-use Rattle.cm_steps.specs.Ends.{LIMIT}
+use Rattle.cm_steps.specs.Ends.{STEPS_LIMIT}
 use Rattle.cm_steps.specs.Alone.{own_steps, step_line}
 
 -- the exchange of the run that a world is of
@@ -88,7 +88,7 @@ BreaksOff text sent held holds Unfinished = ⊥
 -- all lines of a text are answered by so many bytes, and the world is that after them
 pub record IsHeard (exchange : Exchange) (text : List ℕ) (start : World) (held : Option (List ℕ)) (world : World)
     (holds : Option (List ℕ)) (sent : ℕ) : Type 0 where
-  pub within : length text ≤ LIMIT
+  pub within : length text ≤ STEPS_LIMIT
   pub world_is : world ≡ world_left exchange start (lines_of text)
   pub written : Appends held holds (world_answers exchange start (lines_of text))
   pub sent_is : sent ≡ length (world_answers exchange start (lines_of text))

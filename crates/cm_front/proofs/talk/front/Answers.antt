@@ -7,7 +7,7 @@ use Rattle.cm_bits.specs.Text.{IsUnended}
 use Rattle.cm_debug.proofs.Ending.{is_none, has_some}
 use Rattle.cm_front.specs.Front.{Front, front_of}
 use Rattle.std.proofs.lemmas.List.Elements.{All-nil}
-use Rattle.cm_front.specs.Ends.{LIMIT}
+use Rattle.cm_front.specs.Ends.{LINE_LIMIT}
 use Rattle.cm_front.specs.Hearing.{BreaksOff}
 use Rattle.cm_front.proofs.Lines.{no_lines, line_more}
 use Rattle.cm_front.proofs.Told.{IsTold, nothing_told, told_line, told_sent}
@@ -33,7 +33,7 @@ loop-front-init g c =
           c.new-answers.ensures.sent c.new-answers.ensures.none);
       within = omega arith;
       taken = omega (arith, ap length c.new-heard.ensures.items);
-      short = All-nil (λ (l : List ℕ). length l ≤ LIMIT);
+      short = All-nil (λ (l : List ℕ). length l ≤ LINE_LIMIT);
       open_len = omega (arith, ap length c.new-heard.ensures.items);
       seen_in = omega arith;
       seen = none_seen (drop 0 c.new-heard.result.items);

@@ -3,7 +3,7 @@ use Rattle.std.specs.Io.KnownBytes.{Consumes}
 use Rattle.cm_debug.specs.Gathering.{answered_bytes}
 use Rattle.cm_front.specs.Front.{front_of}
 use Rattle.cm_bits.specs.Text.{IsUnended}
-use Rattle.cm_front.specs.Ends.{LIMIT, ALL, AreShort}
+use Rattle.cm_front.specs.Ends.{LINE_LIMIT, ALL, AreShort}
 use Rattle.cm_front.proofs.Lines.{AreLinesOf}
 use Rattle.cm_front.proofs.Told.{IsTold}
 use Rattle.cm_front.proofs.talk.front.Given as goal
@@ -20,7 +20,7 @@ invariant-loop-front g l = record {
   within : l.place ≤ length l.heard.items;
   taken : l.taken + l.place ≡ length given + length l.heard.items;
   short : AreShort done;
-  open_len : length l.heard.items ≤ l.place + (LIMIT + 1);
+  open_len : length l.heard.items ≤ l.place + (LINE_LIMIT + 1);
   seen_in : l.place + l.seen ≤ length l.heard.items;
   seen : IsUnended (take l.seen (drop l.place l.heard.items));
   few : l.taken ≤ ALL + 65536;

@@ -1,5 +1,5 @@
 use Rattle.std.proofs.Common.{◌≡◌, ◌-◌, false, List, ℕ}
-use Rattle.cm_steps.specs.Ends.{LIMIT}
+use Rattle.cm_steps.specs.Ends.{STEPS_LIMIT}
 use Rattle.cm_steps.specs.Hearing.{exchange_in, IsOfRun}
 use Rattle.cm_steps.proofs.Ending.{IsMidway}
 use Rattle.cm_steps.proofs.sessions.hear_all.Given as goal
@@ -16,4 +16,4 @@ invariant-loop-count g l = record {
 }
 
 abbrev pub decreases-loop-count : goal.decreases-loop-count
-decreases-loop-count g l = LIMIT - l.taken
+decreases-loop-count g l = STEPS_LIMIT - l.taken

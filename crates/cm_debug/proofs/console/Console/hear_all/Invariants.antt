@@ -1,6 +1,6 @@
 use Rattle.std.proofs.Common.{◌≡◌, ℕ, ◌-◌, ◌*◌, ◌^◌, ◌≤◌, false, List, [], length}
 use Rattle.std.specs.Io.KnownBytes.{Consumes}
-use Rattle.cm_session.specs.Ends.{LIMIT}
+use Rattle.cm_session.specs.Ends.{COMMANDS_LIMIT}
 use Rattle.cm_debug.specs.Talk.{setting, talk, IsTold}
 use Rattle.cm_debug.proofs.console.Console.hear_all.Given as goal
 
@@ -13,11 +13,11 @@ invariant-loop-count g l = record {
       (talk l.machine.machine l.self (g.O.Sink.contents l.out) (g.R.Runner.threads_lacked l.runner));
   none : l.self.output.bytes.items ≡ [];
   count : l.taken ≡ length text;
-  within : l.taken ≤ LIMIT;
+  within : l.taken ≤ COMMANDS_LIMIT;
   few : l.self.output.sent ≤ l.taken * 2 ^ 64;
   reading : g.I.Source.has_failed l.commands ≡ false;
   writing : g.O.Sink.has_failed l.out ≡ false;
 }
 
 abbrev pub decreases-loop-count : goal.decreases-loop-count
-decreases-loop-count g l = LIMIT - l.taken
+decreases-loop-count g l = COMMANDS_LIMIT - l.taken
