@@ -3,8 +3,8 @@
 ghost use Rattle.std.specs.Prelude.{◌≡◌, ◌≤◌, IfOk, IfSome};
 ghost use Rattle.cm_bits.specs.Text.{words_left, words_of};
 ghost use Rattle.cm_session.specs.Bounds.{IsFor};
-ghost use Rattle.cm_session.specs.Commands.{alone, index_of, wire_of, field_of, flag_of, poke_of};
-ghost use Rattle.cm_session.specs.Commands.{poke_flag_of, chip_of, find_of, command_named, command_of};
+ghost use Rattle.cm_session.specs.Commands.{command_alone, index_of, wire_operand, field_operands, flag_of, poke_of};
+ghost use Rattle.cm_session.specs.Commands.{poke_flag_of, chip_operand, find_of, command_named, command_of};
 
 use crate::reader_operands::{address, bit, chip, field, flag, index, number, place, pokeable};
 use cm_bits::Words;
@@ -78,7 +78,7 @@ fn read_named(
 
 /// A command that has no operand.
 fn alone(command: Command, mut words: Words) -> Result<Command, Refusal>
-    ensures value { result ≡ alone command (words_left words.entry) }
+    ensures value { result ≡ command_alone command (words_left words.entry) }
 {
     match words.next() {
         None => Ok(command),
@@ -99,7 +99,7 @@ fn read_index(mut words: Words, count: usize) -> Result<usize, Refusal>
 
 /// The command of the word after `wire`.
 fn read_wire(mut words: Words) -> Result<Command, Refusal>
-    ensures value { result ≡ wire_of (words_left words.entry) }
+    ensures value { result ≡ wire_operand (words_left words.entry) }
 {
     let (Some(word), None) = (words.next(), words.next()) else {
         return Err(Refusal::Operands);
@@ -117,7 +117,7 @@ fn read_wire(mut words: Words) -> Result<Command, Refusal>
 
 fn read_field(mut words: Words, dimensions: usize) -> Result<Command, Refusal>
     requires dimension { dimensions ≤ 12 }
-    ensures value { result ≡ field_of dimensions (words_left words.entry) }
+    ensures value { result ≡ field_operands dimensions (words_left words.entry) }
 {
     let (Some(c), Some(p), Some(at)) = (words.next(), words.next(), words.next()) else {
         return Err(Refusal::Operands);
@@ -196,7 +196,7 @@ fn read_poke_flag(mut words: Words, dimensions: usize) -> Result<Command, Refusa
 
 fn read_chip(mut words: Words, dimensions: usize) -> Result<u16, Refusal>
     requires dimension { dimensions ≤ 12 }
-    ensures value { result ≡ chip_of dimensions (words_left words.entry) }
+    ensures value { result ≡ chip_operand dimensions (words_left words.entry) }
 {
     let (Some(c), None) = (words.next(), words.next()) else {
         return Err(Refusal::Operands);

@@ -2,21 +2,22 @@
 
 ghost use Rattle.std.specs.Prelude.{◌≡◌, ◌<◌, ◌≤◌, ◌^◌, IfOk};
 ghost use Rattle.cm_bits.specs.Field.{field_fault};
-ghost use Rattle.cm_session.specs.Operands.{number, below, one_bit, place, field_unless, pokeable};
+ghost use Rattle.cm_session.specs.Operands.{number_in_word, below_limit, one_bit, place, command_field_unless};
+ghost use Rattle.cm_session.specs.Operands.{pokeable};
 
 use cm_bits::{Addr, Field, FieldFault, FlagNo, Place, Proc, read_number};
 use cm_session::Refusal;
 
 /// The number that a word writes. A word that writes none is refused.
 pub fn number(word: &[u8]) -> Result<u64, Refusal>
-    ensures value { result ≡ number word.now }
+    ensures value { result ≡ number_in_word word.now }
 {
     read_number(word).ok_or(Refusal::Number)
 }
 
 /// The index of one of so many acts.
 pub fn index(number: u64, count: usize) -> Result<usize, Refusal>
-    ensures value { result ≡ below count number }
+    ensures value { result ≡ below_limit count number }
 {
     let small = below(number, count as u64)?;
     Ok(small as usize)
@@ -25,7 +26,7 @@ pub fn index(number: u64, count: usize) -> Result<usize, Refusal>
 /// A chip of a cube of that many dimensions.
 pub fn chip(number: u64, dimensions: usize) -> Result<u16, Refusal>
     requires dimension { dimensions ≤ 12 }
-    ensures value { result ≡ below (2 ^ dimensions) number }
+    ensures value { result ≡ below_limit (2 ^ dimensions) number }
 {
     let chip = below(number, 1 << dimensions)?;
     Ok(chip as u16)
@@ -46,7 +47,7 @@ pub fn place(chip_number: u64, proc: u64, dimensions: usize) -> Result<Place, Re
 
 /// The flag of a number below 16. A larger number is refused.
 pub fn flag(number: u64) -> Result<FlagNo, Refusal>
-    ensures value { result ≡ below 16 number }
+    ensures value { result ≡ below_limit 16 number }
 {
     let flag = below(number, 16)?;
     FlagNo::new(flag as u8).ok_or(Refusal::Range)
@@ -54,7 +55,7 @@ pub fn flag(number: u64) -> Result<FlagNo, Refusal>
 
 /// The memory address of a number below 4096. A larger number is refused.
 pub fn address(number: u64) -> Result<Addr, Refusal>
-    ensures value { result ≡ below 4096 number }
+    ensures value { result ≡ below_limit 4096 number }
 {
     let address = below(number, 4096)?;
     Addr::new(address as u16).ok_or(Refusal::Range)
@@ -70,7 +71,7 @@ pub fn bit(number: u64) -> Result<bool, Refusal>
 
 /// The field of an address and a length, of which none is cut to fewer bits.
 pub fn field(at: u64, len: u64) -> Result<Field, Refusal>
-    ensures value { result ≡ field_unless at len (field_fault at len) }
+    ensures value { result ≡ command_field_unless at len (field_fault at len) }
 {
     if len == 0 || len > 64 {
         return Err(Refusal::Width);
@@ -96,7 +97,7 @@ pub fn pokeable(flag: FlagNo) -> Result<FlagNo, Refusal>
 }
 
 fn below(number: u64, limit: u64) -> Result<u64, Refusal>
-    ensures value { result ≡ below limit number }
+    ensures value { result ≡ below_limit limit number }
     ensures inside { IfOk result (λ small. small < limit) }
 {
     if number < limit {

@@ -46,12 +46,12 @@ or_line text rest (Some x) = Ok (x, drop (position_or_len is_space rest) rest)
 or_line text rest None = Err (NotNumber (line_of_rest text rest))
 
 -- the number whose word stands here
-abbrev pub number_at : List ℕ → List ℕ → Result (ℕ × List ℕ) PictureFault
-number_at text rest = or_line text rest (number_of (before_first is_space rest))
+abbrev pub picture_number_at : List ℕ → List ℕ → Result (ℕ × List ℕ) PictureFault
+picture_number_at text rest = or_line text rest (number_of (before_first is_space rest))
 
 -- the number whose word comes first
 abbrev pub number_part : List ℕ → List ℕ → Result (ℕ × List ℕ) PictureFault
-number_part text bytes = number_at text (behind_blanks false bytes)
+number_part text bytes = picture_number_at text (behind_blanks false bytes)
 
 -- ---- the header
 
@@ -102,7 +102,7 @@ digit_at text rest =
 -- the dot that stands here
 abbrev pub dot_here : List ℕ → ℕ → List ℕ → Result (ℕ × List ℕ) PictureFault
 dot_here text greatest rest =
-    if has_bytes rest then (if greatest == 1 then digit_at text rest else number_at text rest) else Err TooFew
+    if has_bytes rest then (if greatest == 1 then digit_at text rest else picture_number_at text rest) else Err TooFew
 
 -- the dot that comes first
 abbrev pub plain_dot : List ℕ → ℕ → List ℕ → Result (ℕ × List ℕ) PictureFault

@@ -5,7 +5,8 @@ ghost use Rattle.std.specs.Prelude.{length, nat_lt, if◌then◌else◌, map, dr
 ghost use Rattle.std.specs.List.{All, position_or_len, range_with_len};
 ghost use Rattle.cm_bits.specs.Text.{has_bytes};
 ghost use Rattle.cm_figures.specs.Pictures.{seen, row_bytes};
-ghost use Rattle.cm_figures.specs.PictureReading.{Gives, is_space, behind_blanks, line_of_rest, number_at, number_part};
+ghost use Rattle.cm_figures.specs.PictureReading.{Gives, is_space, behind_blanks, line_of_rest, picture_number_at};
+ghost use Rattle.cm_figures.specs.PictureReading.{number_part};
 ghost use Rattle.cm_figures.specs.PictureReading.{kind_of, greatest_part, sizes_part, header_part, plain_dot, digit_at};
 ghost use Rattle.cm_figures.specs.PictureReading.{plain_dots};
 ghost use Rattle.cm_figures.specs.PictureReading.{raster_len, packed_dot, raw_dot, raw_dots, dots_part, first_large};
@@ -160,7 +161,7 @@ fn take_number<'a>(text: &[u8], bytes: &'a [u8]) -> Result<(u64, &'a [u8]), Pict
 
 /// The number whose word stands here.
 fn number_at<'a>(text: &[u8], rest: &'a [u8]) -> Result<(u64, &'a [u8]), PictureFault>
-    ensures value { Gives (λ read. (read.0, read.1.now)) result (number_at text.now rest.now) }
+    ensures value { Gives (λ read. (read.0, read.1.now)) result (picture_number_at text.now rest.now) }
 {
     let end = word_len(rest);
     match read_number(&rest[..end]) {

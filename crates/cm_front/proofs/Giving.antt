@@ -18,7 +18,7 @@ use Rattle.cm_lab.specs.Data.{processors}
 use Rattle.cm_front.specs.declared.for_all.Asked.{Asked}
 use Rattle.cm_front.specs.declared.for_all.Asked.TheVariants.{Get, GetFlag, GetBuffers, Put, Standing, Clock, Image}
 use Rattle.cm_front.specs.declared.for_all.Asked.TheVariants.{Forget}
-use Rattle.cm_front.specs.ForAll.{in_range, field_of, with_numbers, within, alone, get_of_two, get_of_flag}
+use Rattle.cm_front.specs.ForAll.{in_range, asked_field, with_numbers, within, asked_alone, get_of_two, get_of_flag}
 use Rattle.cm_front.specs.ForAll.{get_of, put_into, put_words, put_of, asked_by, bare, asked_of}
 use Rattle.cm_front.specs.ForAll.{AreFor}
 
@@ -57,7 +57,7 @@ ends at len none = by (len == 0 || nat_lt 64 len) (nat_lt 4096 (at + len)) refl 
   by false true is apart = absurd (let f : Some field.Range ≡ None = apart in cc)
   by false false is apart = not_above 4096 (at + len) is
 
-field_ends : (at len : ℕ) → IfOk (field_of at len) Ends
+field_ends : (at len : ℕ) → IfOk (asked_field at len) Ends
 field_ends at len =
     bound (λ a. Unit {0}) Ends (in_range 4096 at) _ (any (in_range 4096 at)) (λ a right. by a (field_fault a len) refl)
   where
@@ -135,7 +135,7 @@ bare_right : (n : ℕ) (q : Result Asked AsmKind) → IfOk q IsNoPut → Rightly
 bare_right n (Ok it) apart = none_given n it apart
 bare_right n (Err kind) apart = tt
 
-alone_no : (it : Asked) (operands : List (List ℕ)) → IsNoPut it → IfOk (alone it operands) IsNoPut
+alone_no : (it : Asked) (operands : List (List ℕ)) → IsNoPut it → IfOk (asked_alone it operands) IsNoPut
 alone_no it [] apart = apart
 alone_no it (word ∷ words) apart = tt
 
@@ -148,7 +148,7 @@ two_no : (at len : List ℕ) → IfOk (get_of_two at len) IsNoPut
 two_no at len =
     bound (λ x. Unit {0}) IsNoPut (number_operand at) _ (any (number_operand at))
     (λ x right. bound (λ y. Unit {0}) IsNoPut (number_operand len) _ (any (number_operand len))
-    (λ y right. bound (λ bits. Unit {0}) IsNoPut (field_of x y) _ (any (field_of x y)) (λ bits right. tt)))
+    (λ y right. bound (λ bits. Unit {0}) IsNoPut (asked_field x y) _ (any (asked_field x y)) (λ bits right. tt)))
 
 either : {A : Type 0} (P : A → Type 0) (b : Bool) (x y : Result A AsmKind) → IfOk x P → IfOk y P
     → IfOk (if b then x else y) P
@@ -170,7 +170,7 @@ given bits numbers = Ok (Put bits, numbers)
 put_into_right : (n at len : ℕ) (numbers : List ℕ) → length numbers ≡ processors n
     → Rightly n (put_into at len numbers)
 put_into_right n at len numbers count =
-    bound Ends (IsRightly n) (field_of at len) _ (field_ends at len)
+    bound Ends (IsRightly n) (asked_field at len) _ (field_ends at len)
     (λ bits end. by bits end (within bits.len numbers) refl)
   where
     by : (bits : Span) → Ends bits → (b : Bool) → within bits.len numbers ≡ b
@@ -199,10 +199,10 @@ put_right n operands = by (length operands == processors n + 2) refl where
 asked_no : (word : List ℕ) (operands : List (List ℕ)) → IfOk (asked_by word operands) IsNoPut
 asked_no word operands =
     either IsNoPut (bytes_eq word (codes "get")) (get_of operands) _ (get_no operands)
-    (either IsNoPut (bytes_eq word (codes "standing")) (alone Standing operands) _ (alone_no Standing operands tt)
-    (either IsNoPut (bytes_eq word (codes "clock")) (alone Clock operands) _ (alone_no Clock operands tt)
-    (either IsNoPut (bytes_eq word (codes "image")) (alone Image operands) _ (alone_no Image operands tt)
-    (either IsNoPut (bytes_eq word (codes "forget")) (alone Forget operands) (Err Word) (alone_no Forget operands tt)
+    (either IsNoPut (bytes_eq word (codes "standing")) (asked_alone Standing operands) _ (alone_no Standing operands tt)
+    (either IsNoPut (bytes_eq word (codes "clock")) (asked_alone Clock operands) _ (alone_no Clock operands tt)
+    (either IsNoPut (bytes_eq word (codes "image")) (asked_alone Image operands) _ (alone_no Image operands tt)
+    (either IsNoPut (bytes_eq word (codes "forget")) (asked_alone Forget operands) (Err Word) (alone_no Forget operands tt)
     tt))))
 
 right_of : (n : ℕ) (words : List (List ℕ)) → Rightly n (asked_of n words)

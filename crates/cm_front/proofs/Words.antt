@@ -9,7 +9,7 @@ use Rattle.cm_session.specs.declared.command.Refusal.TheVariants.{Word}
 use Rattle.cm_front.specs.declared.for_all.Asked.{Asked}
 use Rattle.cm_front.specs.declared.for_all.Asked.TheVariants.{Standing, Clock, Image, Forget}
 use Rattle.cm_front.specs.Asked.{is_of_program, question_of}
-use Rattle.cm_front.specs.ForAll.{is_for_all, asked_of, asked_by, bare, get_of, put_of, alone}
+use Rattle.cm_front.specs.ForAll.{is_for_all, asked_of, asked_by, bare, get_of, put_of, asked_alone}
 
 or_elim : {C : Type 0} (a b : Bool) → (a || b) ≡ true → (a ≡ true → C) → (b ≡ true → C) → C
 or_elim true b is one other = one refl
@@ -88,8 +88,8 @@ other_word n (word ∷ operands) is =
     let two = or_false (bytes_eq word (codes "get")) (bytes_eq word (codes "put")) standing.0 in
     ap (λ (b : Bool). if b then put_of n operands else bare (asked_by word operands)) two.1
     ∙ ap bare (none_by (bytes_eq word (codes "get")) (bytes_eq word (codes "standing")) (bytes_eq word (codes "clock"))
-    (bytes_eq word (codes "image")) (bytes_eq word (codes "forget")) (get_of operands) (alone Standing operands)
-    (alone Clock operands) (alone Image operands) (alone Forget operands) (Err kind.Word) two.0 standing.1 clock.1
+    (bytes_eq word (codes "image")) (bytes_eq word (codes "forget")) (get_of operands) (asked_alone Standing operands)
+    (asked_alone Clock operands) (asked_alone Image operands) (asked_alone Forget operands) (Err kind.Word) two.0 standing.1 clock.1
     image.1 forget.1)
 
 -- what is asked of all processors is asked by one of the words

@@ -30,8 +30,8 @@ abbrev pub in_range : ℕ → ℕ → Result ℕ AsmKind
 in_range limit x = if nat_lt x limit then Ok x else Err Range
 
 -- the same: the address is judged first, then the length, then where the field ends
-abbrev pub field_of : ℕ → ℕ → Result Span AsmKind
-field_of at len = in_range 4096 at >>= λ at'. field_unless at' len (field_fault at' len)
+abbrev pub asked_field : ℕ → ℕ → Result Span AsmKind
+asked_field at len = in_range 4096 at >>= λ at'. field_unless at' len (field_fault at' len)
 
 -- the numbers so far and those of these words
 unfoldable pub with_numbers : List ℕ → List (List ℕ) → Result (List ℕ) AsmKind
@@ -45,14 +45,14 @@ within len numbers = list_all (λ number. nat_lt number (2 ^ len)) numbers
 -- ---- a line
 
 -- what has no operand
-abbrev pub alone : Asked → List (List ℕ) → Result Asked AsmKind
-alone asked [] = Ok asked
-alone asked (word ∷ words) = Err Operands
+abbrev pub asked_alone : Asked → List (List ℕ) → Result Asked AsmKind
+asked_alone asked [] = Ok asked
+asked_alone asked (word ∷ words) = Err Operands
 
 -- what is told of a field of this address and length
 abbrev pub get_of_two : List ℕ → List ℕ → Result Asked AsmKind
 get_of_two at len =
-    number_operand at >>= λ at'. number_operand len >>= λ len'. field_of at' len' >>= λ bits. Ok (Get bits)
+    number_operand at >>= λ at'. number_operand len >>= λ len'. asked_field at' len' >>= λ bits. Ok (Get bits)
 
 -- the same of a flag
 abbrev pub get_of_flag : List ℕ → Result Asked AsmKind
@@ -68,7 +68,7 @@ get_of _ = Err Operands
 -- numbers into the field of an address and a length, each of no more bits
 abbrev pub put_into : ℕ → ℕ → List ℕ → Result (Asked × List ℕ) AsmKind
 put_into at len numbers =
-    field_of at len >>= λ bits. if within bits.len numbers then Ok (Put bits, numbers) else Err Lengths
+    asked_field at len >>= λ bits. if within bits.len numbers then Ok (Put bits, numbers) else Err Lengths
 
 -- by the words after `put`
 abbrev pub put_words : List (List ℕ) → Result (Asked × List ℕ) AsmKind
@@ -85,10 +85,10 @@ put_of n operands = if length operands == processors n + 2 then put_words operan
 abbrev pub asked_by : List ℕ → List (List ℕ) → Result Asked AsmKind
 asked_by word operands =
     if bytes_eq word (codes "get") then get_of operands
-    else (if bytes_eq word (codes "standing") then alone Standing operands
-    else (if bytes_eq word (codes "clock") then alone Clock operands
-    else (if bytes_eq word (codes "image") then alone Image operands
-    else (if bytes_eq word (codes "forget") then alone Forget operands
+    else (if bytes_eq word (codes "standing") then asked_alone Standing operands
+    else (if bytes_eq word (codes "clock") then asked_alone Clock operands
+    else (if bytes_eq word (codes "image") then asked_alone Image operands
+    else (if bytes_eq word (codes "forget") then asked_alone Forget operands
     else Err Word))))
 
 -- no numbers are given

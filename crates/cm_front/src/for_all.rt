@@ -4,7 +4,8 @@ ghost use Rattle.std.specs.Prelude.{◌≡◌, ◌≢◌, ◌≤◌, ◌<◌, �
 ghost use Rattle.cm_bits.specs.Text.{words_left, words_of};
 ghost use Rattle.cm_language.specs.Lines.{number_operand};
 ghost use Rattle.cm_lab.specs.Data.{processors};
-ghost use Rattle.cm_front.specs.ForAll.{is_for_all, in_range, field_of, with_numbers, within, alone, get_of_two};
+ghost use Rattle.cm_front.specs.ForAll.{is_for_all, in_range, asked_field, with_numbers, within, asked_alone};
+ghost use Rattle.cm_front.specs.ForAll.{get_of_two};
 ghost use Rattle.cm_front.specs.ForAll.{get_of_flag, get_of, put_into, put_words, put_of, asked_by, asked_of};
 
 use cm_asm::AsmKind;
@@ -103,7 +104,7 @@ fn operands(line: &[u8]) -> Words<'_>
 
 /// What has no operand.
 fn alone(asked: Asked, mut words: Words) -> Result<Asked, AsmKind>
-    ensures value { result ≡ alone asked (words_left words.entry) }
+    ensures value { result ≡ asked_alone asked (words_left words.entry) }
 {
     match words.next() {
         None => Ok(asked),
@@ -261,7 +262,7 @@ fn number(word: &[u8]) -> Result<u64, AsmKind>
 
 /// The field of an address and a length.
 fn field(at: u64, len: u64) -> Result<Field, AsmKind>
-    ensures value { result ≡ field_of at len }
+    ensures value { result ≡ asked_field at len }
 {
     let at = in_range(at, ADDRESSES)?;
     if len == 0 || len > 64 {

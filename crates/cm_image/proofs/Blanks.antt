@@ -13,7 +13,7 @@ use Rattle.cm_model.specs.Machine.{blank_machine}
 use Rattle.cm_model.proofs.Bits.{bit-zero}
 use Rattle.cm_model.proofs.Each.{get_or-each_below, same_each_below}
 use Rattle.cm_model.proofs.Values.{plane_number-is}
-use Rattle.cm_message.specs.Bytes.{number}
+use Rattle.cm_message.specs.Bytes.{number_bytes}
 use Rattle.cm_image_format.specs.Image.{Listed, ChipImage, listed_text, chip_text}
 use Rattle.cm_image_format.specs.Whole.{flag_plane_of, memory_plane_of, image_of_chip}
 use Rattle.cm_image.specs.Planes.{flags_text, planes_below, listed_below, chips_text}
@@ -60,17 +60,17 @@ none_listed (suc k) l =
     } ∷ []) [])))
 
 zero_flags : flags_text blank_chip 16 ≡ replicate 32 0
-unfolding flags_text each_from number
+unfolding flags_text each_from number_bytes
 zero_flags =
-    ap (flat_map (number w16)) (same_each_below 0 16 (flag_plane_of blank_chip) (λ f. 0) no_flag_plane)
+    ap (flat_map (number_bytes w16)) (same_each_below 0 16 (flag_plane_of blank_chip) (λ f. 0) no_flag_plane)
 
 pub blank_chip_text : chip_text (image_of_chip blank_chip []) ≡ replicate 35 0
-unfolding listed_below number
+unfolding listed_below number_bytes
 blank_chip_text =
     chip_text-parts blank_chip []
     ∙ (λ i. zero_flags i
-    ++ ((number w16 (length (none_listed 4096 (omega arith) i)) ++ flat_map listed_text (none_listed 4096 (omega arith) i))
-    ++ (number w8 0 ++ [])))
+    ++ ((number_bytes w16 (length (none_listed 4096 (omega arith) i)) ++ flat_map listed_text (none_listed 4096 (omega arith) i))
+    ++ (number_bytes w8 0 ++ [])))
 
 -- ---- all chips
 

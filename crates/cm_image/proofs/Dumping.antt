@@ -13,7 +13,7 @@ use Rattle.cm_model.specs.Each.{each_from}
 use Rattle.cm_model.specs.Processor.{Processor}
 use Rattle.cm_model.specs.Array.{Chips, chip_at, list_at}
 use Rattle.cm_model.specs.Machine.{Machine}
-use Rattle.cm_message.specs.Bytes.{number, message_text}
+use Rattle.cm_message.specs.Bytes.{number_bytes, message_text}
 use Rattle.cm_image_format.specs.Header.{MAGIC, Head, head_text}
 use Rattle.cm_image_format.specs.Cuts.{head_of, routing_text}
 use Rattle.cm_image_format.specs.Image.{Listed, ChipImage, listed_text, chip_text}
@@ -47,31 +47,31 @@ four a b c d = simp append_assoc
 in_a_row : (t a b c d e : List ℕ) → ((((t ++ a) ++ b) ++ c) ++ d) ++ e ≡ t ++ (a ++ (b ++ (c ++ (d ++ e))))
 in_a_row t a b c d e = simp append_assoc
 
-pub head_written : (head : Head) (text a b c d e : List ℕ) → a ≡ text ++ number w32 MAGIC
-    → b ≡ a ++ number w8 head.version → c ≡ b ++ number w8 head.dimension → d ≡ c ++ number w8 head.room
-    → e ≡ d ++ number w8 head.rule → e ≡ text ++ head_text head
+pub head_written : (head : Head) (text a b c d e : List ℕ) → a ≡ text ++ number_bytes w32 MAGIC
+    → b ≡ a ++ number_bytes w8 head.version → c ≡ b ++ number_bytes w8 head.dimension → d ≡ c ++ number_bytes w8 head.room
+    → e ≡ d ++ number_bytes w8 head.rule → e ≡ text ++ head_text head
 unfolding head_text
 head_written head text a b c d e first second third fourth fifth =
     (λ i. fifth i) ∙ ((λ i. (fourth
-    ∙ (λ j. (third ∙ (λ k. (second ∙ (λ l. first l ++ number w8 head.version)) k ++ number w8 head.dimension)) j
-    ++ number w8 head.room)) i ++ number w8 head.rule)
-    ∙ in_a_row text (number w32 MAGIC) (number w8 head.version) (number w8 head.dimension) (number w8 head.room)
-    (number w8 head.rule))
+    ∙ (λ j. (third ∙ (λ k. (second ∙ (λ l. first l ++ number_bytes w8 head.version)) k ++ number_bytes w8 head.dimension)) j
+    ++ number_bytes w8 head.room)) i ++ number_bytes w8 head.rule)
+    ∙ in_a_row text (number_bytes w32 MAGIC) (number_bytes w8 head.version) (number_bytes w8 head.dimension) (number_bytes w8 head.room)
+    (number_bytes w8 head.rule))
 
 -- ---- flags
 
 pub flags_none : (chip : List Processor) (text : List ℕ) → text ≡ text ++ flags_text chip 0
 unfolding flags_text
-flags_none chip text = made_zero (number w16) (flag_plane_of chip) text
+flags_none chip text = made_zero (number_bytes w16) (flag_plane_of chip) text
 
 pub flags_more : (chip : List Processor) (text before after : List ℕ) (n plane : ℕ)
-    → before ≡ text ++ flags_text chip n → after ≡ before ++ number w16 plane → plane ≡ flag_plane_of chip n
+    → before ≡ text ++ flags_text chip n → after ≡ before ++ number_bytes w16 plane → plane ≡ flag_plane_of chip n
     → after ≡ text ++ flags_text chip (n + 1)
 unfolding flags_text
 flags_more chip text before after n plane is more same =
-    grown text (flags_text chip n) (number w16 plane) before after is more
-    ∙ ap (λ (xs : List ℕ). text ++ xs) (ap (λ (k : ℕ). flags_text chip n ++ number w16 k) same
-    ∙ sym (made_more (number w16) (flag_plane_of chip) 0 n n (omega arith)))
+    grown text (flags_text chip n) (number_bytes w16 plane) before after is more
+    ∙ ap (λ (xs : List ℕ). text ++ xs) (ap (λ (k : ℕ). flags_text chip n ++ number_bytes w16 k) same
+    ∙ sym (made_more (number_bytes w16) (flag_plane_of chip) 0 n n (omega arith)))
 
 -- ---- planes
 
@@ -174,8 +174,8 @@ items_more {X} g xs text before after i x d h read is more =
 
 pub chip_text-parts : (chip : List Processor) (buffer : List Message)
     → chip_text (image_of_chip chip buffer)
-    ≡ flags_text chip 16 ++ ((number w16 (length (planes_below chip 4096)) ++ listed_below chip 4096)
-    ++ (number w8 (length buffer) ++ flat_map message_text buffer))
+    ≡ flags_text chip 16 ++ ((number_bytes w16 (length (planes_below chip 4096)) ++ listed_below chip 4096)
+    ++ (number_bytes w8 (length buffer) ++ flat_map message_text buffer))
 unfolding image_of_chip flags_text planes_below listed_below
 chip_text-parts chip buffer = refl
 
@@ -184,20 +184,20 @@ five t f n p l m = simp append_assoc
 
 -- the five parts of a chip, one behind another
 pub chip_written : (chip : List Processor) (buffer : List Message) (text a b c d e : List ℕ) (count : ℕ)
-    → a ≡ text ++ flags_text chip 16 → b ≡ a ++ number w16 count → count ≡ length (planes_below chip 4096)
-    → c ≡ b ++ listed_below chip 4096 → d ≡ c ++ number w8 (length buffer)
+    → a ≡ text ++ flags_text chip 16 → b ≡ a ++ number_bytes w16 count → count ≡ length (planes_below chip 4096)
+    → c ≡ b ++ listed_below chip 4096 → d ≡ c ++ number_bytes w8 (length buffer)
     → e ≡ d ++ flat_map message_text buffer → e ≡ text ++ chip_text (image_of_chip chip buffer)
 chip_written chip buffer text a b c d e count first second is third fourth fifth =
     let planes : List ℕ = listed_below chip 4096 in
     let last : List ℕ = flat_map message_text buffer in
-    let told : b ≡ text ++ (flags_text chip 16 ++ number w16 (length (planes_below chip 4096))) =
-    grown text (flags_text chip 16) (number w16 count) a b first second
-    ∙ ap (λ (k : ℕ). text ++ (flags_text chip 16 ++ number w16 k)) is in
+    let told : b ≡ text ++ (flags_text chip 16 ++ number_bytes w16 (length (planes_below chip 4096))) =
+    grown text (flags_text chip 16) (number_bytes w16 count) a b first second
+    ∙ ap (λ (k : ℕ). text ++ (flags_text chip 16 ++ number_bytes w16 k)) is in
     fifth
     ∙ (ap (λ (xs : List ℕ). xs ++ last) (fourth
-    ∙ ap (λ (xs : List ℕ). xs ++ number w8 (length buffer)) (third ∙ ap (λ (xs : List ℕ). xs ++ planes) told))
-    ∙ (five text (flags_text chip 16) (number w16 (length (planes_below chip 4096))) planes
-    (number w8 (length buffer)) last ∙ ap (λ (xs : List ℕ). text ++ xs) (sym (chip_text-parts chip buffer))))
+    ∙ ap (λ (xs : List ℕ). xs ++ number_bytes w8 (length buffer)) (third ∙ ap (λ (xs : List ℕ). xs ++ planes) told))
+    ∙ (five text (flags_text chip 16) (number_bytes w16 (length (planes_below chip 4096))) planes
+    (number_bytes w8 (length buffer)) last ∙ ap (λ (xs : List ℕ). text ++ xs) (sym (chip_text-parts chip buffer))))
 
 -- ---- all chips
 
@@ -242,16 +242,16 @@ tile_more machine text before after first n is more =
 
 -- header, counter, cuts and chips, one behind another
 pub all_written : (n cap clock : ℕ) (machine : Machine) (none first header routed text : List ℕ) → none ≡ []
-    → first ≡ none ++ head_text (head_of n cap machine.routing) → header ≡ first ++ number w64 clock
+    → first ≡ none ++ head_text (head_of n cap machine.routing) → header ≡ first ++ number_bytes w64 clock
     → clock ≡ machine.clock → routed ≡ header ++ routing_text machine.routing
     → text ≡ routed ++ chips_text machine 0 (2 ^ n) → text ≡ text_of n cap machine
 unfolding image_text
 all_written n cap clock machine none first header routed text empty head time is cuts all =
     let front : List ℕ = head_text (head_of n cap machine.routing) in
-    let counter : List ℕ = number w64 machine.clock in
+    let counter : List ℕ = number_bytes w64 machine.clock in
     let wires : List ℕ = routing_text machine.routing in
     let chips : List ℕ = chips_text machine 0 (2 ^ n) in
     let begins : header ≡ front ++ counter = time
-    ∙ (λ i. (head ∙ ap (λ (xs : List ℕ). xs ++ front) empty) i ++ number w64 (is i)) in
+    ∙ (λ i. (head ∙ ap (λ (xs : List ℕ). xs ++ front) empty) i ++ number_bytes w64 (is i)) in
     all ∙ (ap (λ (xs : List ℕ). xs ++ chips) (cuts ∙ ap (λ (xs : List ℕ). xs ++ wires) begins)
     ∙ four front counter wires chips)

@@ -7,7 +7,7 @@ use Rattle.std.specs.Prelude.{Some, Result, Ok, Err, OnOk, IfErr}
 use Rattle.std.proofs.KnownBytes.{Appends-nil, Appends-trans}
 use Rattle.std.specs.Io.KnownBytes.{Appends}
 use Rattle.cm_model.specs.Machine.{Machine}
-use Rattle.cm_message.specs.Bytes.{number}
+use Rattle.cm_message.specs.Bytes.{number_bytes}
 use Rattle.cm_image_format.specs.Header.{head_text}
 use Rattle.cm_image_format.specs.Cuts.{head_of, routing_text}
 use Rattle.cm_image_format.specs.Image.{chip_text}
@@ -132,7 +132,7 @@ pub front_and_chips : (n cap : ℕ) (machine : Machine)
     → front_text n cap machine ++ chips_text machine 0 (2 ^ n) ≡ text_of n cap machine
 unfolding image_text
 front_and_chips n cap machine =
-    four (head_text (head_of n cap machine.routing)) (number w64 machine.clock) (routing_text machine.routing)
+    four (head_text (head_of n cap machine.routing)) (number_bytes w64 machine.clock) (routing_text machine.routing)
     (chips_text machine 0 (2 ^ n))
 
 pub all_out : (a b c : Option (List ℕ)) (bytes left last : List ℕ) → GoesOut a b bytes left → GoesOut b c left last

@@ -12,7 +12,7 @@ use Rattle.cm_model.specs.Each.{each_from}
 use Rattle.cm_model.specs.Processor.{Processor}
 use Rattle.cm_model.specs.Array.{chip_at, list_at}
 use Rattle.cm_model.specs.Machine.{Machine}
-use Rattle.cm_message.specs.Bytes.{number, message_text}
+use Rattle.cm_message.specs.Bytes.{number_bytes, message_text}
 use Rattle.cm_image_format.specs.Header.{Head, head_text}
 use Rattle.cm_image_format.specs.Cuts.{cut_text, listed_cuts_text, head_of, routing_text}
 use Rattle.cm_image_format.specs.Image.{Listed, listed_text, chip_text}
@@ -27,34 +27,34 @@ length-flat_map_same g k [] same = omega arith
 length-flat_map_same g k (x ∷ xs) same =
     omega (arith, length-append (g x) (flat_map g xs), same x, length-flat_map_same g k xs same)
 
-two : (n : ℕ) → length (number w16 n) ≡ 2
-unfolding number
+two : (n : ℕ) → length (number_bytes w16 n) ≡ 2
+unfolding number_bytes
 two n = refl
 
 listed_four : (x : Listed) → length (listed_text x) ≡ 4
-unfolding number
+unfolding number_bytes
 listed_four x = refl
 
 message_eighteen : (m : Message) → length (message_text m) ≡ 18
-unfolding number
+unfolding number_bytes
 message_eighteen m = refl
 
 head_eight : (head : Head) → length (head_text head) ≡ 8
-unfolding head_text number
+unfolding head_text number_bytes
 head_eight head = refl
 
-clock_eight : (n : ℕ) → length (number w64 n) ≡ 8
-unfolding number
+clock_eight : (n : ℕ) → length (number_bytes w64 n) ≡ 8
+unfolding number_bytes
 clock_eight n = refl
 
-one : (n : ℕ) → length (number w8 n) ≡ 1
-unfolding number
+one : (n : ℕ) → length (number_bytes w8 n) ≡ 1
+unfolding number_bytes
 one n = refl
 
 flags_thirty_two : (chip : List Processor) → length (flags_text chip 16) ≡ 32
 unfolding flags_text each_from
 flags_thirty_two chip =
-    length-flat_map_same (number w16) 2 (each_from 0 16 (flag_plane_of chip)) two
+    length-flat_map_same (number_bytes w16) 2 (each_from 0 16 (flag_plane_of chip)) two
     ∙ ap (λ k. k * 2) (length-map-range_with_len (flag_plane_of chip) 0 16)
 
 listed_fours : (chip : List Processor) → length (listed_below chip 4096) ≡ length (planes_below chip 4096) * 4
@@ -66,9 +66,9 @@ pub length-chip_text : (chip : List Processor) (buffer : List Message)
     ≡ 35 + length (planes_below chip 4096) * 4 + length buffer * 18
 length-chip_text chip buffer =
     let flags : List ℕ = flags_text chip 16 in
-    let count : List ℕ = number w16 (length (planes_below chip 4096)) in
+    let count : List ℕ = number_bytes w16 (length (planes_below chip 4096)) in
     let listed : List ℕ = listed_below chip 4096 in
-    let few : List ℕ = number w8 (length buffer) in
+    let few : List ℕ = number_bytes w8 (length buffer) in
     let messages : List ℕ = flat_map message_text buffer in
     ap length (chip_text-parts chip buffer)
     ∙ omega (
@@ -106,8 +106,8 @@ length-text_of n cap machine =
     let head : Head = head_of n cap machine.routing in
     omega (
       arith,
-      length-append (head_text head) (number w64 machine.clock ++ (cuts ++ chips)),
-      length-append (number w64 machine.clock) (cuts ++ chips),
+      length-append (head_text head) (number_bytes w64 machine.clock ++ (cuts ++ chips)),
+      length-append (number_bytes w64 machine.clock) (cuts ++ chips),
       length-append cuts chips,
       head_eight head,
       clock_eight machine.clock,
@@ -116,14 +116,14 @@ length-text_of n cap machine =
 -- ---- the wires that are cut
 
 cut_three : (w : Wire) → length (cut_text w) ≡ 3
-unfolding number
+unfolding number_bytes
 cut_three w = refl
 
 pub length-listed_cuts : (cuts : List Wire) → length (listed_cuts_text cuts) ≡ 2 + length cuts * 3
 length-listed_cuts cuts =
     omega (
       arith,
-      length-append (number w16 (length cuts)) (flat_map cut_text cuts),
+      length-append (number_bytes w16 (length cuts)) (flat_map cut_text cuts),
       two (length cuts),
       length-flat_map_same cut_text 3 cuts cut_three,
     )

@@ -6,7 +6,7 @@ use Rattle.cm_model.specs.Each.{each_from}
 use Rattle.cm_model.specs.Processor.{Processor}
 use Rattle.cm_model.specs.Array.{Chips, chip_at, list_at}
 use Rattle.cm_model.specs.Machine.{Machine}
-use Rattle.cm_message.specs.Bytes.{number}
+use Rattle.cm_message.specs.Bytes.{number_bytes}
 use Rattle.cm_image_format.specs.Image.{Listed, listed_text, chip_text}
 use Rattle.cm_image_format.specs.Whole.{without_zeros, flag_plane_of, memory_plane_of, image_of_chip}
 
@@ -16,7 +16,7 @@ put_plane planes x = slice_set planes x.at x.plane
 
 -- the flag planes of a chip below a number
 unfoldable pub flags_text : List Processor → ℕ → List ℕ
-flags_text chip count = flat_map (number w16) (each_from 0 count (flag_plane_of chip))
+flags_text chip count = flat_map (number_bytes w16) (each_from 0 count (flag_plane_of chip))
 
 -- the memory planes of a chip below an address, without those that are 0
 unfoldable pub planes_below : List Processor → ℕ → List Listed

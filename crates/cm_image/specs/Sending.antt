@@ -4,7 +4,7 @@ use Rattle.std.specs.Prelude.{vec_capacity}
 use Rattle.std.specs.Int.{w64}
 use Rattle.std.specs.Io.KnownBytes.{Appends}
 use Rattle.cm_model.specs.Machine.{Machine}
-use Rattle.cm_message.specs.Bytes.{number}
+use Rattle.cm_message.specs.Bytes.{number_bytes}
 use Rattle.cm_image_format.specs.Header.{head_text}
 use Rattle.cm_image_format.specs.Cuts.{head_of, routing_text}
 use Rattle.cm_image.specs.declared.sending.DumpFault.{DumpFault}
@@ -16,7 +16,7 @@ use Rattle.cm_image.specs.Planes.{AreCounted, AreInUse}
 
 -- what an image has before its chips
 abbrev pub front_text : ℕ → ℕ → Machine → List ℕ
-front_text n cap machine = head_text (head_of n cap machine.routing) ++ (number w64 machine.clock ++ routing_text machine.routing)
+front_text n cap machine = head_text (head_of n cap machine.routing) ++ (number_bytes w64 machine.clock ++ routing_text machine.routing)
 
 -- of these bytes all but the last went out, which are left
 pub record GoesOut (held holds : Option (List ℕ)) (bytes left : List ℕ) : Type 0 where

@@ -105,7 +105,7 @@ pub(crate) fn version_of(rule: Rule, cuts: &[Edge]) -> u8
 }
 
 /// How many bytes list the wires that are cut, in an image of this version.
-#[tactic(auto, unfolding(cm_message::specs::Bytes::number))]
+#[tactic(auto, unfolding(cm_message::specs::Bytes::number_bytes))]
 pub(crate) fn cuts_len(version: u8, cuts: &[Edge]) -> usize
     requires few { length cuts.now < 65536 }
     ensures value { result ≡ length (cuts_text version cuts.now) }

@@ -180,7 +180,7 @@ fn list_all(listed: &mut [u8], planes: &[Plane]) -> bool
 
 /// Puts the address and the plane into bytes from a place on, and counts it where it is 0.
 #[inline(always)]
-#[tactic(auto, using(crate::proofs::Listing::four_put), unfolding(cm_message::specs::Bytes::number))]
+#[tactic(auto, using(crate::proofs::Listing::four_put), unfolding(cm_message::specs::Bytes::number_bytes))]
 fn put_listing(bytes: &mut [u8], i: usize, at: u16, plane: Plane) -> u32
     requires within { i + 4 ≤ length bytes.old }
     ensures value { result ≡ 0 → take (i + 4) bytes.new ≡ take i bytes.old ++ listing_of at plane }

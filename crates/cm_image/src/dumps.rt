@@ -8,7 +8,7 @@ ghost use Rattle.std.specs.Int.{w8, w16, w32, w64};
 ghost use Rattle.cm_model.specs.Processor.{Processor};
 ghost use Rattle.cm_model.specs.Array.{chip_at};
 ghost use Rattle.cm_model.specs.Wiring.{rule_number};
-ghost use Rattle.cm_message.specs.Bytes.{number, message_text};
+ghost use Rattle.cm_message.specs.Bytes.{number_bytes, message_text};
 ghost use Rattle.cm_image_format.specs.Header.{head_text};
 ghost use Rattle.cm_image_format.specs.Cuts.{version_of};
 ghost use Rattle.cm_image_format.specs.Image.{chip_text};
@@ -255,9 +255,9 @@ pub(crate) fn push(text: &mut Vec<u8>, more: &[u8]) -> Result<(), NoMemory>
     Ok(())
 }
 
-#[tactic(auto, unfolding(cm_message::specs::Bytes::number))]
+#[tactic(auto, unfolding(cm_message::specs::Bytes::number_bytes))]
 pub(crate) fn push_u8(text: &mut Vec<u8>, n: u8) -> Result<(), NoMemory>
-    ensures ok { OnOk result (text.new.items ≡ text.old.items ++ number w8 n) }
+    ensures ok { OnOk result (text.new.items ≡ text.old.items ++ number_bytes w8 n) }
     ensures capacity { vec_capacity text.old ≤ vec_capacity text.new }
     ensures grows { OnOk result (length text.new.items ≤ length text.old.items + 1) }
     ensures full { OnErr result (vec_capacity text.old < length text.old.items + 1) }
@@ -265,9 +265,9 @@ pub(crate) fn push_u8(text: &mut Vec<u8>, n: u8) -> Result<(), NoMemory>
     push(text, &[n])
 }
 
-#[tactic(auto, unfolding(cm_message::specs::Bytes::number))]
+#[tactic(auto, unfolding(cm_message::specs::Bytes::number_bytes))]
 pub(crate) fn push_u16(text: &mut Vec<u8>, n: u16) -> Result<(), NoMemory>
-    ensures ok { OnOk result (text.new.items ≡ text.old.items ++ number w16 n) }
+    ensures ok { OnOk result (text.new.items ≡ text.old.items ++ number_bytes w16 n) }
     ensures capacity { vec_capacity text.old ≤ vec_capacity text.new }
     ensures grows { OnOk result (length text.new.items ≤ length text.old.items + 2) }
     ensures full { OnErr result (vec_capacity text.old < length text.old.items + 2) }
@@ -275,9 +275,9 @@ pub(crate) fn push_u16(text: &mut Vec<u8>, n: u16) -> Result<(), NoMemory>
     push(text, &n.to_be_bytes())
 }
 
-#[tactic(auto, unfolding(cm_message::specs::Bytes::number))]
+#[tactic(auto, unfolding(cm_message::specs::Bytes::number_bytes))]
 fn push_u32(text: &mut Vec<u8>, n: u32) -> Result<(), NoMemory>
-    ensures ok { OnOk result (text.new.items ≡ text.old.items ++ number w32 n) }
+    ensures ok { OnOk result (text.new.items ≡ text.old.items ++ number_bytes w32 n) }
     ensures capacity { vec_capacity text.old ≤ vec_capacity text.new }
     ensures grows { OnOk result (length text.new.items ≤ length text.old.items + 4) }
     ensures full { OnErr result (vec_capacity text.old < length text.old.items + 4) }
@@ -285,9 +285,9 @@ fn push_u32(text: &mut Vec<u8>, n: u32) -> Result<(), NoMemory>
     push(text, &n.to_be_bytes())
 }
 
-#[tactic(auto, unfolding(cm_message::specs::Bytes::number))]
+#[tactic(auto, unfolding(cm_message::specs::Bytes::number_bytes))]
 pub(crate) fn push_u64(text: &mut Vec<u8>, n: u64) -> Result<(), NoMemory>
-    ensures ok { OnOk result (text.new.items ≡ text.old.items ++ number w64 n) }
+    ensures ok { OnOk result (text.new.items ≡ text.old.items ++ number_bytes w64 n) }
     ensures capacity { vec_capacity text.old ≤ vec_capacity text.new }
     ensures grows { OnOk result (length text.new.items ≤ length text.old.items + 8) }
     ensures full { OnErr result (vec_capacity text.old < length text.old.items + 8) }
@@ -373,7 +373,7 @@ fn push_planes(text: &mut Vec<u8>, chip: &ChipView<'_>, addresses: &[u16]) -> Re
 }
 
 /// The address and the plane, but nothing where it is 0.
-#[tactic(auto, unfolding(cm_message::specs::Bytes::number))]
+#[tactic(auto, unfolding(cm_message::specs::Bytes::number_bytes))]
 pub(crate) fn push_plane(text: &mut Vec<u8>, at: u16, plane: Plane) -> Result<(), NoMemory>
     ensures ok { OnOk result (text.new.items ≡ text.old.items ++ listing_of at plane) }
     ensures capacity { vec_capacity text.old ≤ vec_capacity text.new }

@@ -16,7 +16,7 @@ use Rattle.cm_model.specs.declared.rule.Rule.{Rule}
 use Rattle.cm_model.specs.declared.rule.Rule.TheVariants.{First, Oldest}
 use Rattle.cm_model.specs.Wiring.{Routing, rule_number, wire_before, AreRising, IsWireOf, IsRouting}
 use Rattle.cm_model.proofs.Cuts.{cuts_are_few}
-use Rattle.cm_message.specs.Bytes.{number}
+use Rattle.cm_message.specs.Bytes.{number_bytes}
 use Rattle.cm_image_format.specs.declared.fault.ImageFault.TheVariants.{Count, Value}
 use Rattle.cm_image_format.specs.Reading.{Read, must, part, followed}
 use Rattle.cm_image_format.specs.Header.{is_version, is_rule, Head}
@@ -45,10 +45,10 @@ IsCut n least w = IsChipNumber n w.chip × MayFollow n least w.chip w.dim
 Reads-cut : (n least : ℕ) → Reads (IsCut n least) cut_text (cut_part n least)
 Reads-cut n least =
     Reads-made (λ (p : ℕ × ℕ). IsChipNumber n p.0 × MayFollow n least p.0 p.1) (IsCut n least)
-    (λ (p : ℕ × ℕ). number w16 p.0 ++ number w8 p.1) cut_text
+    (λ (p : ℕ × ℕ). number_bytes w16 p.0 ++ number_bytes w8 p.1) cut_text
     (λ (p : ℕ × ℕ). record { chip = p.0; dim = p.1 }) (λ (w : Wire). (w.chip, w.dim))
     (followed (chip_number_part n) (λ chip. part w8 (cut_fault n least chip)))
-    (Reads-followed (IsChipNumber n) (MayFollow n least) (number w16) (λ (chip : ℕ). number w8)
+    (Reads-followed (IsChipNumber n) (MayFollow n least) (number_bytes w16) (λ (chip : ℕ). number_bytes w8)
     (chip_number_part n) (λ chip. part w8 (cut_fault n least chip))
     (Reads-part w16 (must Value (λ k. nat_lt k (2 ^ n))) Fits16 number_16)
     (λ chip good. Reads-part w8 (cut_fault n least chip) Fits8 number_8))

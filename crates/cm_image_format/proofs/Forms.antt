@@ -3,7 +3,7 @@ use Rattle.std.proofs.Common.{◌≡◌, ℕ, zero, suc, Bool, true, false, List
 use Rattle.std.proofs.Common.{Result, Ok, Err, refl, sym, ap, ◌∙◌, subst, arith, append_assoc, if◌then◌else◌}
 use Rattle.std.specs.Int.{Width}
 use Rattle.std.specs.List.{flat_map}
-use Rattle.cm_message.specs.Bytes.{number}
+use Rattle.cm_message.specs.Bytes.{number_bytes}
 use Rattle.cm_image_format.specs.declared.fault.ImageFault.{ImageFault}
 use Rattle.cm_image_format.specs.Reading.{◌>>=◌, Read, Check, unless, number_at, part, followed, made, many, counted}
 use Rattle.cm_image_format.specs.Laws.{AreBytes}
@@ -37,15 +37,15 @@ must_hold fault false is = absurd (cc)
 
 -- ---- a part
 
-pub Reads-part : (w : Width) (check : Check) (Fits : ℕ → Type 0) → Reads Fits (number w) (number_at w)
-    → Reads (λ n. Fits n × (check n ≡ None)) (number w) (part w check)
+pub Reads-part : (w : Width) (check : Check) (Fits : ℕ → Type 0) → Reads Fits (number_bytes w) (number_at w)
+    → Reads (λ n. Fits n × (check n ≡ None)) (number_bytes w) (part w check)
 Reads-part w check Fits inner = record {
   back = λ n rest good. rw (inner.back n rest good.0, good.1) refl;
   only = λ bytes rest n are read.
       let first = bound (number_at w bytes) (λ x. unless (check x.0) (x.0, x.1)) (n, rest) read in
       let checked = passed (check first.0.0) (first.0.0, first.0.1) (n, rest) first.2 in
       let told = inner.only bytes first.0.1 first.0.0 are first.1 in
-      subst (λ (y : ℕ × List ℕ). (bytes ≡ number w y.0 ++ y.1) × (Fits y.0 × (check y.0 ≡ None))) checked.1
+      subst (λ (y : ℕ × List ℕ). (bytes ≡ number_bytes w y.0 ++ y.1) × (Fits y.0 × (check y.0 ≡ None))) checked.1
       (told.0, (told.1, checked.0));
 }
 
@@ -146,20 +146,20 @@ Reads-many next Good text one each count s = record {
 
 pub Reads-counted : {A : Type 0} (w : Width) (check : Check) (Fits : ℕ → Type 0) (next : ℕ → A → ℕ)
     (Good : ℕ → A → Type 0) (text : A → List ℕ) (one : ℕ → List ℕ → Read A)
-    → Reads Fits (number w) (number_at w) → ((s : ℕ) → Reads (Good s) text (one s)) → (s : ℕ)
+    → Reads Fits (number_bytes w) (number_at w) → ((s : ℕ) → Reads (Good s) text (one s)) → (s : ℕ)
     → Reads (λ xs. (Fits (length xs) × (check (length xs) ≡ None)) × AllFrom next Good s xs)
-    (λ xs. number w (length xs) ++ flat_map text xs) (counted w check next one s)
+    (λ xs. number_bytes w (length xs) ++ flat_map text xs) (counted w check next one s)
 Reads-counted {A} w check Fits next Good text one inner each s =
     Reads-made (λ (p : ℕ × List A). (Fits p.0 × (check p.0 ≡ None)) × ((length p.1 ≡ p.0) × AllFrom next Good s p.1))
     (λ (xs : List A). (Fits (length xs) × (check (length xs) ≡ None)) × AllFrom next Good s xs)
-    (λ (p : ℕ × List A). number w p.0 ++ flat_map text p.1) (λ (xs : List A). number w (length xs) ++ flat_map text xs)
+    (λ (p : ℕ × List A). number_bytes w p.0 ++ flat_map text p.1) (λ (xs : List A). number_bytes w (length xs) ++ flat_map text xs)
     (λ (p : ℕ × List A). p.1) (λ (xs : List A). (length xs, xs))
     (followed (part w check) (λ count. many next one count s))
     (Reads-followed (λ n. Fits n × (check n ≡ None)) (λ n (xs : List A). (length xs ≡ n) × AllFrom next Good s xs)
-    (number w) (λ n. flat_map text) (part w check) (λ count. many next one count s)
+    (number_bytes w) (λ n. flat_map text) (part w check) (λ count. many next one count s)
     (Reads-part w check Fits inner) (λ n good. Reads-many next Good text one each n s))
     (λ xs good. refl) (λ xs good. (good.0, (refl, good.1))) (λ xs good. refl)
     (λ p good. (
       (subst (λ (n : ℕ). Fits n × (check n ≡ None)) (sym good.1.0) good.0, good.1.1),
-      ap (λ (n : ℕ). number w n ++ flat_map text p.1) (sym good.1.0),
+      ap (λ (n : ℕ). number_bytes w n ++ flat_map text p.1) (sym good.1.0),
     ))

@@ -3,7 +3,7 @@ use Rattle.std.proofs.Common.{◌≡◌, ℕ, ◌<◌, ◌≤◌, ◌^◌, ◌==
 use Rattle.std.proofs.Common.{⊎_elim, arith, nat_lt, nat_le, lit<}
 use Rattle.std.specs.Int.{w8, w32, w64}
 use Rattle.std.proofs.lemmas.Bool.{and_parts, or_cases, eqb-true, leb-true, ltb-true}
-use Rattle.cm_message.specs.Bytes.{number}
+use Rattle.cm_message.specs.Bytes.{number_bytes}
 use Rattle.cm_image_format.specs.declared.fault.ImageFault.{ImageFault}
 use Rattle.cm_image_format.specs.declared.fault.ImageFault.TheVariants.{Magic, Version, Shape, Value}
 use Rattle.cm_image_format.specs.Reading.{must, part, followed, ◌⨾◌}
@@ -23,7 +23,7 @@ abbrev Passes : (ℕ → Bool) → ImageFault → ℕ → Type 0
 Passes holds fault k = Fits8 k × (must fault holds k ≡ None)
 
 reads_byte : (holds : ℕ → Bool) (fault : ImageFault)
-    → Reads (Passes holds fault) (number w8) (part w8 (must fault holds))
+    → Reads (Passes holds fault) (number_bytes w8) (part w8 (must fault holds))
 reads_byte holds fault = Reads-part w8 (must fault holds) Fits8 number_8
 
 -- dimension, room and rule, in an image of this version
@@ -32,17 +32,17 @@ GoodThree dimension room version p =
     Passes dimension Shape p.0 × (Passes room Shape p.1.0 × Passes (is_rule version) Shape p.1.1)
 
 abbrev three_text : ℕ × (ℕ × ℕ) → List ℕ
-three_text p = number w8 p.0 ++ (number w8 p.1.0 ++ number w8 p.1.1)
+three_text p = number_bytes w8 p.0 ++ (number_bytes w8 p.1.0 ++ number_bytes w8 p.1.1)
 
 reads_three : (dimension room : ℕ → Bool) (version : ℕ)
     → Reads (GoodThree dimension room version) three_text
     (part w8 (must Shape dimension) ⨾ part w8 (must Shape room) ⨾ part w8 (must Shape (is_rule version)))
 reads_three dimension room version =
     Reads-then (Passes dimension Shape) (λ (p : ℕ × ℕ). Passes room Shape p.0 × Passes (is_rule version) Shape p.1)
-    (number w8) (λ (p : ℕ × ℕ). number w8 p.0 ++ number w8 p.1)
+    (number_bytes w8) (λ (p : ℕ × ℕ). number_bytes w8 p.0 ++ number_bytes w8 p.1)
     (part w8 (must Shape dimension)) (part w8 (must Shape room) ⨾ part w8 (must Shape (is_rule version)))
     (reads_byte dimension Shape)
-    (Reads-then (Passes room Shape) (Passes (is_rule version) Shape) (number w8) (number w8) (part w8 (must Shape room))
+    (Reads-then (Passes room Shape) (Passes (is_rule version) Shape) (number_bytes w8) (number_bytes w8) (part w8 (must Shape room))
     (part w8 (must Shape (is_rule version))) (reads_byte room Shape) (reads_byte (is_rule version) Shape))
 
 abbrev GoodFive : (ℕ → Bool) → (ℕ → Bool) → Five → Type 0
@@ -51,7 +51,7 @@ GoodFive dimension room p =
     × (Passes is_version Version p.1.0 × GoodThree dimension room p.1.0 p.1.1)
 
 abbrev five_text : Five → List ℕ
-five_text p = number w32 p.0 ++ (number w8 p.1.0 ++ three_text p.1.1)
+five_text p = number_bytes w32 p.0 ++ (number_bytes w8 p.1.0 ++ three_text p.1.1)
 
 reads_five : (dimension room : ℕ → Bool)
     → Reads (GoodFive dimension room) five_text
@@ -61,12 +61,12 @@ reads_five : (dimension room : ℕ → Bool)
 reads_five dimension room =
     Reads-then (λ k. Fits32 k × (must Magic (λ j. j == MAGIC) k ≡ None))
     (λ (p : ℕ × (ℕ × (ℕ × ℕ))). Passes is_version Version p.0 × GoodThree dimension room p.0 p.1)
-    (number w32) (λ (p : ℕ × (ℕ × (ℕ × ℕ))). number w8 p.0 ++ three_text p.1)
+    (number_bytes w32) (λ (p : ℕ × (ℕ × (ℕ × ℕ))). number_bytes w8 p.0 ++ three_text p.1)
     (part w32 (must Magic (λ k. k == MAGIC)))
     (followed (part w8 (must Version is_version)) (λ version.
     part w8 (must Shape dimension) ⨾ part w8 (must Shape room) ⨾ part w8 (must Shape (is_rule version))))
     (Reads-part w32 (must Magic (λ k. k == MAGIC)) Fits32 number_32)
-    (Reads-followed (Passes is_version Version) (GoodThree dimension room) (number w8) (λ version. three_text)
+    (Reads-followed (Passes is_version Version) (GoodThree dimension room) (number_bytes w8) (λ version. three_text)
     (part w8 (must Version is_version))
     (λ version.
     part w8 (must Shape dimension) ⨾ part w8 (must Shape room) ⨾ part w8 (must Shape (is_rule version)))
@@ -133,7 +133,7 @@ from_five dimension room p good =
         room_passes = must_hold Shape (room p.1.1.1.0) good.1.1.1.0.1;
         rule = must_hold Shape (is_rule p.1.0 p.1.1.1.1) good.1.1.1.1.1;
       },
-      (λ i. number w32 (magic i) ++ (number w8 p.1.0 ++ three_text p.1.1)),
+      (λ i. number_bytes w32 (magic i) ++ (number_bytes w8 p.1.0 ++ three_text p.1.1)),
     )
 
 pub Reads-shape : (dimension room : ℕ → Bool)
@@ -162,11 +162,11 @@ abbrev pub IsHeader : ℕ → ℕ → Head × ℕ → Type 0
 IsHeader n cap h = IsHead (is_n n) (is_cap cap) h.0 × Clock h.1
 
 abbrev pub header_text : Head × ℕ → List ℕ
-header_text h = head_text h.0 ++ number w64 h.1
+header_text h = head_text h.0 ++ number_bytes w64 h.1
 
 pub Reads-header : (n cap : ℕ) → Reads (IsHeader n cap) header_text (header_part n cap)
 Reads-header n cap =
-    Reads-then (IsHead (is_n n) (is_cap cap)) Clock head_text (number w64)
+    Reads-then (IsHead (is_n n) (is_cap cap)) Clock head_text (number_bytes w64)
     (shape_part (is_n n) (is_cap cap)) clock_part
     (Reads-shape (is_n n) (is_cap cap)) (Reads-part w64 (must Value (λ k. nat_lt k (2 ^ 63))) Fits64 number_64)
 

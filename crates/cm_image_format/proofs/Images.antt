@@ -5,7 +5,7 @@ use Rattle.std.specs.List.{flat_map}
 use Rattle.std.proofs.lemmas.Bool.{and_from, eq-eqb, le-leb}
 use Rattle.std.proofs.Math.Nat.{pow-le-pow_right}
 use Rattle.cm_model.specs.Wiring.{Routing, IsRouting}
-use Rattle.cm_message.specs.Bytes.{number}
+use Rattle.cm_message.specs.Bytes.{number_bytes}
 use Rattle.cm_image_format.specs.declared.fault.ImageFault.TheVariants.{Value}
 use Rattle.cm_image_format.specs.Reading.{followed, ◌⨾◌, many}
 use Rattle.cm_image_format.specs.Header.{Head, head_text, header_part}
@@ -92,7 +92,7 @@ good_header n cap image is =
 text_is : (n cap : ℕ) (image : Image) → image_text n cap image ≡ whole_text (to_whole n cap image)
 unfolding image_text
 text_is n cap image =
-    sym (append_assoc (head_text (head_of n cap image.routing)) (number w64 image.clock)
+    sym (append_assoc (head_text (head_of n cap image.routing)) (number_bytes w64 image.clock)
     (routing_text image.routing ++ flat_map chip_text image.chips))
 
 from_whole : (n cap : ℕ) (p : Whole) → IsWhole n cap p

@@ -8,7 +8,7 @@ use Rattle.std.proofs.lemmas.List.{length-append, length-take-le, get_or-take, g
 use Rattle.std.proofs.lemmas.List.{length-take, take-append-drop}
 use Rattle.std.proofs.lemmas.Nat.{from_be_bytes-to_be_bytes_2, from_be_bytes-to_be_bytes_4, from_be_bytes-to_be_bytes_8}
 use Rattle.std.proofs.lemmas.Nat.{be_bytes_2, be_bytes_4, be_bytes_8}
-use Rattle.cm_message.specs.Bytes.{number}
+use Rattle.cm_message.specs.Bytes.{number_bytes}
 use Rattle.cm_image_format.specs.declared.fault.ImageFault.TheVariants.{Short}
 use Rattle.cm_image_format.specs.Reading.{Read, number_at}
 use Rattle.cm_image_format.specs.Laws.{AreBytes}
@@ -32,13 +32,13 @@ AreBytes-front bytes n are i = elim (cases_lt i n) [
 
 -- ---- any width
 
-number_back : (w : Width) (n : ℕ) (rest : List ℕ) → length (number w n) ≡ byte_len w
-    → from_be_bytes w (number w n ++ rest) ≡ n → drop (byte_len w) (number w n ++ rest) ≡ rest
-    → number_at w (number w n ++ rest) ≡ Ok (n, rest)
+number_back : (w : Width) (n : ℕ) (rest : List ℕ) → length (number_bytes w n) ≡ byte_len w
+    → from_be_bytes w (number_bytes w n ++ rest) ≡ n → drop (byte_len w) (number_bytes w n ++ rest) ≡ rest
+    → number_at w (number_bytes w n ++ rest) ≡ Ok (n, rest)
 unfolding number_at
 number_back w n rest long is after =
-    let enough : nat_lt (length (number w n ++ rest)) (byte_len w) ≡ false =
-    le-ltb _ _ (omega (arith, length-append (number w n) rest)) in
+    let enough : nat_lt (length (number_bytes w n ++ rest)) (byte_len w) ≡ false =
+    le-ltb _ _ (omega (arith, length-append (number_bytes w n) rest)) in
     rw (enough, is, after) refl
 
 at_least : (b : Bool) (x y : ℕ × List ℕ) → ◌≡◌ {A = Read ℕ} (if b then Err Short else Ok x) (Ok y)
@@ -71,21 +71,21 @@ abbrev pub Fits8 : ℕ → Type 0
 Fits8 n = n < 2 ^ 8
 
 one_byte : (bytes : List ℕ) (n : ℕ) → 1 ≤ length bytes → AreBytes bytes → n ≡ from_be_bytes w8 bytes
-    → (number w8 n ≡ take 1 bytes) × Fits8 n
-unfolding number
+    → (number_bytes w8 n ≡ take 1 bytes) × Fits8 n
+unfolding number_bytes
 one_byte [] n long are is = absurd (omega (arith, long))
 one_byte (a ∷ rest) n long are is =
     let small : n < 256 = rw is (are 0) in
     (ap (λ (b : ℕ). b ∷ []) (mod-eq_of_lt small ∙ is), small)
 
-pub number_8 : Reads Fits8 (number w8) (number_at w8)
-unfolding number
+pub number_8 : Reads Fits8 (number_bytes w8) (number_at w8)
+unfolding number_bytes
 number_8 = record {
   back = λ n rest fits. number_back w8 n rest refl (mod-eq_of_lt fits) refl;
   only = λ bytes rest n are read.
       let r = number_only w8 bytes rest n read in
       let told = one_byte bytes n r.long are r.is in
-      (joined 1 bytes rest (number w8 n) r.after told.0, told.1);
+      (joined 1 bytes rest (number_bytes w8 n) r.after told.0, told.1);
 }
 
 -- ---- two, four and eight
@@ -131,40 +131,40 @@ fits_4 bytes n are is = omega (arith, is, are 0, are 1, are 2, are 3)
 fits_8 : (bytes : List ℕ) (n : ℕ) → AreBytes bytes → n ≡ from_be_bytes w64 bytes → n < 2 ^ 64
 fits_8 bytes n are is = omega (arith, is, are 0, are 1, are 2, are 3, are 4, are 5, are 6, are 7)
 
-pub number_16 : Reads Fits16 (number w16) (number_at w16)
-unfolding number
+pub number_16 : Reads Fits16 (number_bytes w16) (number_at w16)
+unfolding number_bytes
 number_16 = record {
   back = λ n rest fits. number_back w16 n rest refl (from_be_bytes-to_be_bytes_2 n fits) refl;
   only = λ bytes rest n are read.
       let r = number_only w16 bytes rest n read in
       let long : length (take 2 bytes) ≡ 2 = length-take-le 2 bytes r.long in (
-        joined 2 bytes rest (number w16 n) r.after
+        joined 2 bytes rest (number_bytes w16 n) r.after
             (be_bytes_2 (take 2 bytes) n long (AreBytes-front bytes 2 are) (r.is ∙ front_2 bytes)),
         fits_2 bytes n are r.is,
       );
 }
 
-pub number_32 : Reads Fits32 (number w32) (number_at w32)
-unfolding number
+pub number_32 : Reads Fits32 (number_bytes w32) (number_at w32)
+unfolding number_bytes
 number_32 = record {
   back = λ n rest fits. number_back w32 n rest refl (from_be_bytes-to_be_bytes_4 n fits) refl;
   only = λ bytes rest n are read.
       let r = number_only w32 bytes rest n read in
       let long : length (take 4 bytes) ≡ 4 = length-take-le 4 bytes r.long in (
-        joined 4 bytes rest (number w32 n) r.after
+        joined 4 bytes rest (number_bytes w32 n) r.after
             (be_bytes_4 (take 4 bytes) n long (AreBytes-front bytes 4 are) (r.is ∙ front_4 bytes)),
         fits_4 bytes n are r.is,
       );
 }
 
-pub number_64 : Reads Fits64 (number w64) (number_at w64)
-unfolding number
+pub number_64 : Reads Fits64 (number_bytes w64) (number_at w64)
+unfolding number_bytes
 number_64 = record {
   back = λ n rest fits. number_back w64 n rest refl (from_be_bytes-to_be_bytes_8 n fits) refl;
   only = λ bytes rest n are read.
       let r = number_only w64 bytes rest n read in
       let long : length (take 8 bytes) ≡ 8 = length-take-le 8 bytes r.long in (
-        joined 8 bytes rest (number w64 n) r.after
+        joined 8 bytes rest (number_bytes w64 n) r.after
             (be_bytes_8 (take 8 bytes) n long (AreBytes-front bytes 8 are) (r.is ∙ front_8 bytes)),
         fits_8 bytes n are r.is,
       );

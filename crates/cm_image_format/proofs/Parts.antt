@@ -6,7 +6,7 @@ use Rattle.std.specs.List.{flat_map}
 use Rattle.std.proofs.lemmas.Bool.{ltb-true, ltb-false, lt-ltb, le-ltb, not-true, not_from_false}
 use Rattle.cm_model.specs.declared.message.Message.{Message}
 use Rattle.cm_model.specs.Keeping.{IsMessage}
-use Rattle.cm_message.specs.Bytes.{number, message_text}
+use Rattle.cm_message.specs.Bytes.{number_bytes, message_text}
 use Rattle.cm_image_format.specs.declared.fault.ImageFault.{ImageFault}
 use Rattle.cm_image_format.specs.declared.fault.ImageFault.TheVariants.{Order, Count, Value}
 use Rattle.cm_image_format.specs.Reading.{Read, must, part, number_at, ◌⨾◌}
@@ -61,15 +61,15 @@ abbrev ThreePart : ℕ → ℕ → List ℕ → Read (ℕ × (ℕ × ℕ))
 ThreePart n clock = chip_number_part n ⨾ processor_part ⨾ part w64 (must Value (λ k. nat_lt k clock))
 
 reads_tag : (n clock : ℕ) → Reads (λ (p : ℕ × (ℕ × ℕ)). Fitting (2 ^ n) p.0 × (Sixteenth p.1.0 × Born clock p.1.1))
-    (λ (p : ℕ × (ℕ × ℕ)). number w16 p.0 ++ (number w8 p.1.0 ++ number w64 p.1.1)) (ThreePart n clock)
+    (λ (p : ℕ × (ℕ × ℕ)). number_bytes w16 p.0 ++ (number_bytes w8 p.1.0 ++ number_bytes w64 p.1.1)) (ThreePart n clock)
 reads_tag n clock =
     let birth = Reads-part w64 (must Value (λ k. nat_lt k clock)) Fits64 number_64 in
     let proc = Reads-part w8 (must Value (λ k. nat_lt k 16)) Fits8 number_8 in
     let chip = Reads-part w16 (must Value (λ k. nat_lt k (2 ^ n))) Fits16 number_16 in
-    Reads-then (Fitting (2 ^ n)) (λ (p : ℕ × ℕ). Sixteenth p.0 × Born clock p.1) (number w16)
-    (λ (p : ℕ × ℕ). number w8 p.0 ++ number w64 p.1)
+    Reads-then (Fitting (2 ^ n)) (λ (p : ℕ × ℕ). Sixteenth p.0 × Born clock p.1) (number_bytes w16)
+    (λ (p : ℕ × ℕ). number_bytes w8 p.0 ++ number_bytes w64 p.1)
     (chip_number_part n) (processor_part ⨾ part w64 (must Value (λ k. nat_lt k clock))) chip
-    (Reads-then Sixteenth (Born clock) (number w8) (number w64) processor_part
+    (Reads-then Sixteenth (Born clock) (number_bytes w8) (number_bytes w64) processor_part
     (part w64 (must Value (λ k. nat_lt k clock))) proc birth)
 
 abbrev GoodSix : ℕ → ℕ → Six → Type 0
@@ -77,8 +77,8 @@ GoodSix n clock p = Fitting (2 ^ n) p.0 × (Sixteenth p.1.0
     × (Fits32 p.1.1.0 × (Fitting (2 ^ n) p.1.1.1.0 × (Sixteenth p.1.1.1.1.0 × Born clock p.1.1.1.1.1))))
 
 abbrev six_text : Six → List ℕ
-six_text p = number w16 p.0 ++ (number w8 p.1.0
-    ++ (number w32 p.1.1.0 ++ (number w16 p.1.1.1.0 ++ (number w8 p.1.1.1.1.0 ++ number w64 p.1.1.1.1.1))))
+six_text p = number_bytes w16 p.0 ++ (number_bytes w8 p.1.0
+    ++ (number_bytes w32 p.1.1.0 ++ (number_bytes w16 p.1.1.1.0 ++ (number_bytes w8 p.1.1.1.1.0 ++ number_bytes w64 p.1.1.1.1.1))))
 
 abbrev six_part : ℕ → ℕ → List ℕ → Read Six
 six_part n clock = chip_number_part n ⨾ processor_part ⨾ number_at w32 ⨾ ThreePart n clock
@@ -89,16 +89,17 @@ reads_six n clock =
     let chip = Reads-part w16 (must Value (λ k. nat_lt k (2 ^ n))) Fits16 number_16 in
     Reads-then (Fitting (2 ^ n)) (λ (p : ℕ × (ℕ × (ℕ × (ℕ × ℕ)))). Sixteenth p.0
     × (Fits32 p.1.0 × (Fitting (2 ^ n) p.1.1.0 × (Sixteenth p.1.1.1.0 × Born clock p.1.1.1.1))))
-    (number w16) (λ (p : ℕ × (ℕ × (ℕ × (ℕ × ℕ)))).
-    number w8 p.0 ++ (number w32 p.1.0 ++ (number w16 p.1.1.0 ++ (number w8 p.1.1.1.0 ++ number w64 p.1.1.1.1))))
+    (number_bytes w16) (λ (p : ℕ × (ℕ × (ℕ × (ℕ × ℕ)))).
+    number_bytes w8 p.0
+    ++ (number_bytes w32 p.1.0 ++ (number_bytes w16 p.1.1.0 ++ (number_bytes w8 p.1.1.1.0 ++ number_bytes w64 p.1.1.1.1))))
     (chip_number_part n) (processor_part ⨾ number_at w32 ⨾ ThreePart n clock) chip
     (Reads-then Sixteenth
     (λ (p : ℕ × (ℕ × (ℕ × ℕ))). Fits32 p.0 × (Fitting (2 ^ n) p.1.0 × (Sixteenth p.1.1.0 × Born clock p.1.1.1)))
-    (number w8)
-    (λ (p : ℕ × (ℕ × (ℕ × ℕ))). number w32 p.0 ++ (number w16 p.1.0 ++ (number w8 p.1.1.0 ++ number w64 p.1.1.1)))
+    (number_bytes w8)
+    (λ (p : ℕ × (ℕ × (ℕ × ℕ))). number_bytes w32 p.0 ++ (number_bytes w16 p.1.0 ++ (number_bytes w8 p.1.1.0 ++ number_bytes w64 p.1.1.1)))
     processor_part (number_at w32 ⨾ ThreePart n clock) proc
-    (Reads-then Fits32 (λ (p : ℕ × (ℕ × ℕ)). Fitting (2 ^ n) p.0 × (Sixteenth p.1.0 × Born clock p.1.1)) (number w32)
-    (λ (p : ℕ × (ℕ × ℕ)). number w16 p.0 ++ (number w8 p.1.0 ++ number w64 p.1.1))
+    (Reads-then Fits32 (λ (p : ℕ × (ℕ × ℕ)). Fitting (2 ^ n) p.0 × (Sixteenth p.1.0 × Born clock p.1.1)) (number_bytes w32)
+    (λ (p : ℕ × (ℕ × ℕ)). number_bytes w16 p.0 ++ (number_bytes w8 p.1.0 ++ number_bytes w64 p.1.1))
     (number_at w32) (ThreePart n clock) number_32 (reads_tag n clock)))
 
 to_six : (n clock : ℕ) (m : Message) → 2 ^ n ≤ 2 ^ 16 → clock ≤ 2 ^ 64 → IsStoredMessage n clock m
@@ -188,11 +189,11 @@ from_listing least p good =
 
 pub Reads-listed : (least : ℕ) → Reads (IsListed least) listed_text (listed_part least)
 Reads-listed least =
-    Reads-made (GoodListing least) (IsListed least) (λ (p : ℕ × ℕ). number w16 p.0 ++ number w16 p.1) listed_text
+    Reads-made (GoodListing least) (IsListed least) (λ (p : ℕ × ℕ). number_bytes w16 p.0 ++ number_bytes w16 p.1) listed_text
     (λ (p : ℕ × ℕ). record { at = p.0; plane = p.1 }) (λ (x : Listed). (x.at, x.plane))
     (part w16 (address_fault least) ⨾ part w16 (must Order (λ plane. not (plane == 0))))
     (Reads-then (λ k. Fits16 k × (address_fault least k ≡ None))
-    (λ k. Fits16 k × (must Order (λ plane. not (plane == 0)) k ≡ None)) (number w16) (number w16)
+    (λ k. Fits16 k × (must Order (λ plane. not (plane == 0)) k ≡ None)) (number_bytes w16) (number_bytes w16)
     (part w16 (address_fault least)) (part w16 (must Order (λ plane. not (plane == 0))))
     (Reads-part w16 (address_fault least) Fits16 number_16)
     (Reads-part w16 (must Order (λ plane. not (plane == 0))) Fits16 number_16))
@@ -220,19 +221,19 @@ pub record IsChipImage (n cap clock : ℕ) (image : ChipImage) : Type 0 where
   pub memory : IsMemory image.memory
   pub messages : AreMessages n cap clock image.messages
 
-Reads-flags : Reads AreFlags (flat_map (number w16)) flags_part
-Reads-flags = Reads-many (λ f plane. f + 1) IsFlagPlane (number w16) flag_part
+Reads-flags : Reads AreFlags (flat_map (number_bytes w16)) flags_part
+Reads-flags = Reads-many (λ f plane. f + 1) IsFlagPlane (number_bytes w16) flag_part
     (λ f. Reads-part w16 (must Value (λ plane. not (f == 8) || plane == 0)) Fits16 number_16) 16 0
 
 abbrev memory_text : List Listed → List ℕ
-memory_text memory = number w16 (length memory) ++ flat_map listed_text memory
+memory_text memory = number_bytes w16 (length memory) ++ flat_map listed_text memory
 
 Reads-memory : Reads IsMemory memory_text memory_part
 Reads-memory = Reads-counted w16 (must Count (λ k. nat_le k 4096)) Fits16
     (λ least x. x.at + 1) IsListed listed_text listed_part number_16 Reads-listed 0
 
 abbrev messages_text : List Message → List ℕ
-messages_text messages = number w8 (length messages) ++ flat_map message_text messages
+messages_text messages = number_bytes w8 (length messages) ++ flat_map message_text messages
 
 Reads-messages : (n cap clock : ℕ) → 2 ^ n ≤ 2 ^ 16 → clock ≤ 2 ^ 64
     → Reads (AreMessages n cap clock) messages_text (messages_part n cap clock)
@@ -249,12 +250,12 @@ unfolding chip_part
 Reads-chip n cap clock small late =
     Reads-made (λ (p : Three). AreFlags p.0 × (IsMemory p.1.0 × AreMessages n cap clock p.1.1))
     (IsChipImage n cap clock)
-    (λ (p : Three). flat_map (number w16) p.0 ++ (memory_text p.1.0 ++ messages_text p.1.1)) chip_text
+    (λ (p : Three). flat_map (number_bytes w16) p.0 ++ (memory_text p.1.0 ++ messages_text p.1.1)) chip_text
     (λ (p : Three). record { flags = p.0; memory = p.1.0; messages = p.1.1 })
     (λ (image : ChipImage). (image.flags, (image.memory, image.messages)))
     (flags_part ⨾ memory_part ⨾ messages_part n cap clock)
     (Reads-then AreFlags (λ (p : List Listed × List Message). IsMemory p.0 × AreMessages n cap clock p.1)
-    (flat_map (number w16)) (λ (p : List Listed × List Message). memory_text p.0 ++ messages_text p.1)
+    (flat_map (number_bytes w16)) (λ (p : List Listed × List Message). memory_text p.0 ++ messages_text p.1)
     flags_part (memory_part ⨾ messages_part n cap clock) Reads-flags
     (Reads-then IsMemory (AreMessages n cap clock) memory_text messages_text memory_part
     (messages_part n cap clock) Reads-memory (Reads-messages n cap clock small late)))

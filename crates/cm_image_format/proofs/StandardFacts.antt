@@ -3,7 +3,7 @@
 use Rattle.std.proofs.Common.{◌≡◌, ℕ, List, [], ◌∷◌, ◌++◌, take, set, replicate, map, Some, None, Ok, refl}
 use Rattle.cm_model.specs.declared.rule.Rule.TheVariants.{First, Oldest}
 use Rattle.cm_model.specs.Wiring.{plain_routing}
-use Rattle.cm_message.specs.Bytes.{number}
+use Rattle.cm_message.specs.Bytes.{number_bytes}
 use Rattle.cm_image_format.specs.declared.fault.ImageFault.TheVariants.{Short, Magic, Version, Shape, Order, Count}
 use Rattle.cm_image_format.specs.declared.fault.ImageFault.TheVariants.{Value, TagTwice, Extra}
 use Rattle.cm_image_format.specs.Reading.{number_at, many}
@@ -24,7 +24,7 @@ abbrev blank_image : Image
 blank_image = record { clock = 0; routing = plain_routing; chips = blank_chip_image ∷ [] }
 
 blank_is_written : image_text 0 7 blank_image ≡ blank
-unfolding image_text head_text number
+unfolding image_text head_text number_bytes
 blank_is_written = refl
 
 blank_is_read : image_part 0 7 blank ≡ Ok (blank_image, [])
@@ -49,7 +49,7 @@ abbrev one_plane_bytes : List ℕ
 one_plane_bytes = take 46 blank ++ (0x80 ∷ 0x01 ∷ 0 ∷ 1 ∷ 0 ∷ 5 ∷ 0 ∷ 1 ∷ 0 ∷ [])
 
 plane_is_written : image_text 0 7 one_plane ≡ one_plane_bytes
-unfolding image_text head_text number
+unfolding image_text head_text number_bytes
 plane_is_written = refl
 
 plane_is_read : image_part 0 7 one_plane_bytes ≡ Ok (one_plane, [])
@@ -75,7 +75,7 @@ example_bytes =
     ++ (0 ∷ 1 ∷ 0 ∷ 5 ∷ 0x80 ∷ 1 ∷ 1 ∷ 0 ∷ 0 ∷ 5 ∷ 0xde ∷ 0xad ∷ 0xbe ∷ 0xef ∷ replicate 11 0))
 
 example_is_written : image_text 0 7 example ≡ example_bytes
-unfolding image_text head_text number
+unfolding image_text head_text number_bytes
 example_is_written = refl
 
 example_is_read : image_part 0 7 example_bytes ≡ Ok (example, [])
@@ -123,7 +123,7 @@ abbrev one_cut_bytes : List ℕ
 one_cut_bytes = routed 1 1 0 (0 ∷ 1 ∷ 0 ∷ 0 ∷ 0 ∷ []) ++ replicate 70 0
 
 cut_is_written : image_text 1 1 one_cut ≡ one_cut_bytes
-unfolding image_text head_text number
+unfolding image_text head_text number_bytes
 cut_is_written = refl
 
 cut_is_read : image_part 1 1 one_cut_bytes ≡ Ok (one_cut, [])
@@ -143,7 +143,7 @@ faults_of_cuts = refl
 
 rule_is_written : head_text (head_of 1 7 (record { cuts = []; rule = Oldest }))
     ≡ 0x43 ∷ 0x4d ∷ 0x31 ∷ 0x49 ∷ 2 ∷ 1 ∷ 7 ∷ 1 ∷ []
-unfolding head_text number
+unfolding head_text number_bytes
 rule_is_written = refl
 
 -- there is no rule 2; no count of cuts; under the second rule no wire need be cut; under the first one has to be

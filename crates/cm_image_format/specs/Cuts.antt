@@ -8,7 +8,7 @@ use Rattle.cm_bits.specs.Wire.{Wire}
 use Rattle.cm_model.specs.declared.rule.Rule.{Rule}
 use Rattle.cm_model.specs.declared.rule.Rule.TheVariants.{First, Oldest}
 use Rattle.cm_model.specs.Wiring.{Routing, rule_number}
-use Rattle.cm_message.specs.Bytes.{number}
+use Rattle.cm_message.specs.Bytes.{number_bytes}
 use Rattle.cm_image_format.specs.declared.fault.ImageFault.TheVariants.{Order, Count, Value}
 use Rattle.cm_image_format.specs.Reading.{Read, Check, must, part, followed, made, counted}
 use Rattle.cm_image_format.specs.Header.{Head}
@@ -21,7 +21,7 @@ chip_number_part n = part w16 (must Value (λ k. nat_lt k (2 ^ n)))
 
 -- the chip at its lower end, and its dimension
 abbrev pub cut_text : Wire → List ℕ
-cut_text w = number w16 w.chip ++ number w8 w.dim
+cut_text w = number_bytes w16 w.chip ++ number_bytes w8 w.dim
 
 -- the dimension is one of the cube, and the chip is the lower end; the pair lies above the pair before
 abbrev pub cut_fault : ℕ → ℕ → ℕ → Check
@@ -43,7 +43,7 @@ is_cut_count n rule k = nat_le k (n * 2 ^ n / 2) && not (k == 0 && rule == 0)
 
 -- a count, and as many wires
 abbrev pub listed_cuts_text : List Wire → List ℕ
-listed_cuts_text cuts = number w16 (length cuts) ++ flat_map cut_text cuts
+listed_cuts_text cuts = number_bytes w16 (length cuts) ++ flat_map cut_text cuts
 
 -- a count and as many cut wires as they are read, each pair above the one before
 abbrev pub listed_cuts_part : ℕ → ℕ → List ℕ → Read (List Wire)

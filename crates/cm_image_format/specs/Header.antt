@@ -1,7 +1,7 @@
 -- The header of an image: its parts in reading order, each with its check. Ours.
 use Rattle.std.specs.Prelude.{ℕ, ◌^◌, ◌==◌, ◌&&◌, ◌||◌, Bool, List, ◌++◌, nat_lt, nat_le}
 use Rattle.std.specs.Int.{w8, w32, w64}
-use Rattle.cm_message.specs.Bytes.{number}
+use Rattle.cm_message.specs.Bytes.{number_bytes}
 use Rattle.cm_image_format.specs.declared.fault.ImageFault.TheVariants.{Magic, Version, Shape, Value}
 use Rattle.cm_image_format.specs.Reading.{Read, must, part, followed, ◌⨾◌, made}
 
@@ -34,8 +34,8 @@ pub record Head : Type 0 where
 
 -- magic, version, dimension, room, rule
 unfoldable pub head_text : Head → List ℕ
-head_text head = number w32 MAGIC
-    ++ (number w8 head.version ++ (number w8 head.dimension ++ (number w8 head.room ++ number w8 head.rule)))
+head_text head = number_bytes w32 MAGIC
+    ++ (number_bytes w8 head.version ++ (number_bytes w8 head.dimension ++ (number_bytes w8 head.room ++ number_bytes w8 head.rule)))
 
 -- the same, where the dimension and the room pass these tests
 abbrev pub shape_part : (ℕ → Bool) → (ℕ → Bool) → List ℕ → Read Head

@@ -3,7 +3,7 @@ use Rattle.std.specs.Prelude.{ℕ, ◌+◌, ◌==◌, ◌||◌, not, List, ◌++
 use Rattle.std.specs.List.{flat_map}
 use Rattle.std.specs.Int.{w8, w16, w32, w64}
 use Rattle.cm_model.specs.declared.message.Message.{Message}
-use Rattle.cm_message.specs.Bytes.{number, message_text}
+use Rattle.cm_message.specs.Bytes.{number_bytes, message_text}
 use Rattle.cm_image_format.specs.declared.fault.ImageFault.TheVariants.{Order, Count, Value}
 use Rattle.cm_image_format.specs.Reading.{Read, Check, must, number_at, part, ◌⨾◌, made, many, counted}
 use Rattle.cm_image_format.specs.Cuts.{chip_number_part}
@@ -32,7 +32,7 @@ address_fault least at = if nat_lt 4095 at then Some Value else if nat_lt at lea
 
 -- how a memory plane is written: its address, then its bits
 abbrev pub listed_text : Listed → List ℕ
-listed_text x = number w16 x.at ++ number w16 x.plane
+listed_text x = number_bytes w16 x.at ++ number_bytes w16 x.plane
 
 -- a memory plane as it is read: its address, which `address_fault` judges, and bits that are not all 0
 abbrev pub listed_part : ℕ → List ℕ → Read Listed
@@ -62,8 +62,8 @@ message_part n clock =
 -- how a chip is written: its flag planes, its memory planes behind their count, its messages behind theirs
 abbrev pub chip_text : ChipImage → List ℕ
 chip_text chip =
-    flat_map (number w16) chip.flags ++ ((number w16 (length chip.memory) ++ flat_map listed_text chip.memory)
-    ++ (number w8 (length chip.messages) ++ flat_map message_text chip.messages))
+    flat_map (number_bytes w16) chip.flags ++ ((number_bytes w16 (length chip.memory) ++ flat_map listed_text chip.memory)
+    ++ (number_bytes w8 (length chip.messages) ++ flat_map message_text chip.messages))
 
 -- the sixteen flag planes of a chip as they are read, that of flag 0 first
 abbrev pub flags_part : List ℕ → Read (List ℕ)

@@ -11,7 +11,7 @@ use Rattle.cm_model.specs.Array.{each_chip, chip_at, list_at}
 use Rattle.cm_model.specs.Wiring.{Routing}
 use Rattle.cm_model.specs.Machine.{Machine}
 pub use Rattle.cm_model.specs.Unlogged.{has_tag_twice}
-use Rattle.cm_message.specs.Bytes.{number}
+use Rattle.cm_message.specs.Bytes.{number_bytes}
 use Rattle.cm_image_format.specs.declared.fault.ImageFault.{ImageFault}
 use Rattle.cm_image_format.specs.declared.fault.ImageFault.TheVariants.{TagTwice, Extra}
 use Rattle.cm_image_format.specs.Reading.{Read, ◌>>=◌, followed, ◌⨾◌, made, many, fault_in}
@@ -79,7 +79,7 @@ image_of n machine = record {
 -- how an image is written: the head, the counter, the cut wires, and chip after chip
 unfoldable pub image_text : ℕ → ℕ → Image → List ℕ
 image_text n cap image = head_text (head_of n cap image.routing)
-    ++ (number w64 image.clock ++ (routing_text image.routing ++ flat_map chip_text image.chips))
+    ++ (number_bytes w64 image.clock ++ (routing_text image.routing ++ flat_map chip_text image.chips))
 
 -- the one text of a machine: its logs are not in it
 abbrev pub text_of : ℕ → ℕ → Machine → List ℕ

@@ -7,7 +7,7 @@ use Rattle.std.specs.Borrow.{Bor}
 use Rattle.cm_lab_line.specs.Words.{texts}
 use Rattle.cm_lab_line.specs.Refusals.{Refusal, Words, ◌>>=◌}
 use Rattle.cm_lab_line.specs.Requests.{BlankAsked}
-use Rattle.cm_lab_line.specs.Blanks.{with_choice, with_cut, with_ends}
+use Rattle.cm_lab_line.specs.Blanks.{with_choice, blank_with_cut, with_ends}
 
 -- behind an option with one word the words go on
 chosen : (machine : BlankAsked) (a b : List ℕ) (rest : List (Bor (List ℕ))) → bytes_eq a (codes "--cut") ≡ false
@@ -15,14 +15,14 @@ chosen : (machine : BlankAsked) (a b : List ℕ) (rest : List (Bor (List ℕ))) 
 chosen machine a b [] is =
     ap (λ (t : Bool). if t then Err Words else with_choice machine a b >>= (λ m. Err Words)) is
 chosen machine a b (c ∷ rest) is =
-    ap (λ (t : Bool). if t then with_cut machine b c.now >>= (λ m. with_ends m (texts rest))
+    ap (λ (t : Bool). if t then blank_with_cut machine b c.now >>= (λ m. with_ends m (texts rest))
     else with_choice machine a b >>= (λ m. with_ends m (c.now ∷ texts rest))) is
 
 -- and behind a cut wire
 cut : (machine : BlankAsked) (a b c : List ℕ) (rest : List (Bor (List ℕ))) → bytes_eq a (codes "--cut") ≡ true
-    → with_ends machine (a ∷ b ∷ c ∷ texts rest) ≡ (with_cut machine b c >>= λ m. with_ends m (texts rest))
+    → with_ends machine (a ∷ b ∷ c ∷ texts rest) ≡ (blank_with_cut machine b c >>= λ m. with_ends m (texts rest))
 cut machine a b c rest is =
-    ap (λ (t : Bool). if t then with_cut machine b c >>= (λ m. with_ends m (texts rest))
+    ap (λ (t : Bool). if t then blank_with_cut machine b c >>= (λ m. with_ends m (texts rest))
     else with_choice machine a b >>= (λ m. with_ends m (c ∷ texts rest))) is
 
 -- the words go on behind an option that was read
@@ -42,7 +42,7 @@ pub cut_goes_on : (machine changed : BlankAsked) (words : List (Bor (List ℕ)))
     (after : List (Bor (List ℕ))) → 2 ≤ length words
     → take (length words - 2) (drop 2 words) ≡ dim ∷ after
     → bytes_eq (get_or words 0 d).now (codes "--cut") ≡ true
-    → with_cut machine (get_or words 1 d).now dim.now ≡ Ok changed
+    → blank_with_cut machine (get_or words 1 d).now dim.now ≡ Ok changed
     → with_ends machine (texts words) ≡ with_ends changed (texts after)
 cut_goes_on machine changed [] d dim after h split is e = absurd (omega arith)
 cut_goes_on machine changed (a ∷ []) d dim after h split is e = absurd (omega arith)

@@ -6,10 +6,10 @@ use Rattle.cm_lab.specs.declared.order.Order.{Order}
 use Rattle.cm_lab_line.specs.Words.{texts}
 use Rattle.cm_lab_line.specs.Refusals.{Words}
 use Rattle.cm_lab_line.specs.Commands.{freshening, loading, request_of}
-use Rattle.cm_lab_line.specs.Tasks.{filling_in, painting, picture_in, routing, sender, telling}
+use Rattle.cm_lab_line.specs.Tasks.{filling_in, painting, picture_asked, routing, sender_words, telling}
 
 pub few_or_many_of_sender : (words : List (Bor (List ℕ))) → (length words < 3) ⊎ (4 ≤ length words)
-    → sender (texts words) ≡ Err Words
+    → sender_words (texts words) ≡ Err Words
 few_or_many_of_sender [] h = refl
 few_or_many_of_sender (a ∷ []) h = refl
 few_or_many_of_sender (a ∷ b ∷ []) h = refl
@@ -43,7 +43,7 @@ few_or_many_of_painting (a ∷ b ∷ c ∷ d ∷ []) h = absurd (omega arith)
 few_or_many_of_painting (a ∷ b ∷ c ∷ d ∷ e ∷ rest) h = refl
 
 pub few_or_many_of_picture : (look : Look) (words : List (Bor (List ℕ)))
-    → (length words < 2) ⊎ (4 ≤ length words) → picture_in look (texts words) ≡ Err Words
+    → (length words < 2) ⊎ (4 ≤ length words) → picture_asked look (texts words) ≡ Err Words
 few_or_many_of_picture look [] h = refl
 few_or_many_of_picture look (a ∷ []) h = refl
 few_or_many_of_picture look (a ∷ b ∷ []) h = absurd (omega arith)

@@ -8,13 +8,13 @@ use Rattle.cm_figures.specs.declared.looks.Look.{Look}
 use Rattle.cm_lab_line.specs.Words.{texts}
 use Rattle.cm_lab_line.specs.Refusals.{Refusal, Words, ◌>>=◌}
 use Rattle.cm_lab_line.specs.Requests.{TaskAsked}
-use Rattle.cm_lab_line.specs.Tasks.{is_setting, is_sign, looked_at, picture_in, with_setting, with_sign}
+use Rattle.cm_lab_line.specs.Tasks.{is_setting, is_sign, looked_at, picture_asked, with_setting, with_sign}
 
 -- what comes of two words and those behind them, where the first is a sign, a setting, or neither
 by : Look → List ℕ → List ℕ → List (List ℕ) → Bool → Bool → Result TaskAsked Refusal
 by look a b rest sign setting =
     if sign then looked_at (with_sign look a) (b ∷ rest)
-    else (if setting then with_setting look a b >>= (λ changed. looked_at changed rest) else picture_in look (a ∷ b ∷ rest))
+    else (if setting then with_setting look a b >>= (λ changed. looked_at changed rest) else picture_asked look (a ∷ b ∷ rest))
 
 -- behind a sign the words go on
 pub sign_goes_on : (look : Look) (words : List (Bor (List ℕ))) (d : Bor (List ℕ)) → 2 ≤ length words
@@ -45,7 +45,7 @@ setting_goes_on look changed (a ∷ b ∷ rest) d h unsigned is e =
 -- what is no option is the image
 pub image_comes : (look : Look) (words : List (Bor (List ℕ))) (d : Bor (List ℕ)) → 2 ≤ length words
     → is_sign (get_or words 0 d).now ≡ false → is_setting (get_or words 0 d).now ≡ false
-    → looked_at look (texts words) ≡ picture_in look (texts words)
+    → looked_at look (texts words) ≡ picture_asked look (texts words)
 unfolding by
 image_comes look [] d h unsigned other = absurd (omega arith)
 image_comes look (a ∷ []) d h unsigned other = absurd (omega arith)

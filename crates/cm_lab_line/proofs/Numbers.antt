@@ -11,8 +11,8 @@ use Rattle.std.proofs.lemmas.Bool.Decides.{nat_tests}
 use Rattle.cm_bits.specs.Text.{has_bytes}
 use Rattle.cm_lab_line.specs.declared.operands.Operand.{Operand}
 use Rattle.cm_lab_line.specs.declared.fault.CommandFault.{CommandFault}
-use Rattle.cm_lab_line.specs.Refusals.{Text, Refusal, Wanted, Memory, told, Tells}
-use Rattle.cm_lab_line.specs.Operands.{digits_below, number_below}
+use Rattle.cm_lab_line.specs.Refusals.{Text, Refusal, Wanted, Memory, reported_refusal, Reports}
+use Rattle.cm_lab_line.specs.Operands.{digits_below, operand_below}
 
 -- a length above 0 says that there are bytes
 some_bytes : (bytes : List ℕ) → 0 < length bytes → has_bytes bytes ≡ true
@@ -70,14 +70,14 @@ digits_are_not limit ds wrong =
 
 -- so is a word, without a plus before it
 pub number_is : (limit n : ℕ) (operand : Operand) (word : Text) → IsNumeral 10 (without_leading_plus word)
-    → n ≡ digits_value 10 (without_leading_plus word) → n < limit → number_below limit operand word ≡ Ok n
+    → n ≡ digits_value 10 (without_leading_plus word) → n < limit → operand_below limit operand word ≡ Ok n
 number_is limit n operand word is value small =
     ap (λ (o : Option ℕ). ok_or o (Wanted operand word)) (digits_are limit n (without_leading_plus word) is value small)
 
 -- what is no numeral below the limit is wanted
 pub number_is_not : (limit : ℕ) (operand : Operand) (word : Text)
     → (IsNumeral 10 (without_leading_plus word) × (digits_value 10 (without_leading_plus word) < limit) → ⊥)
-    → number_below limit operand word ≡ Err (Wanted operand word)
+    → operand_below limit operand word ≡ Err (Wanted operand word)
 number_is_not limit operand word wrong =
     ap (λ (o : Option ℕ). ok_or o (Wanted operand word)) (digits_are_not limit (without_leading_plus word) wrong)
 
@@ -106,6 +106,6 @@ parsed_digits word (Err e) plain is =
 
 -- a fault that tells what was read in vain, or want of memory
 pub tells : {A : Type 0} (reading : Result A Refusal) (fault : CommandFault) (refusal : Refusal)
-    → reading ≡ Err refusal → (told fault ≡ Memory) ⊎ (told fault ≡ refusal) → Tells reading fault
+    → reading ≡ Err refusal → (reported_refusal fault ≡ Memory) ⊎ (reported_refusal fault ≡ refusal) → Reports reading fault
 tells reading fault refusal is (inl memory) = inl memory
 tells reading fault refusal is (inr same) = inr (is ∙ ap (λ (r : Refusal). Err r) (sym same))

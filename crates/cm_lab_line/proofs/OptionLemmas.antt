@@ -7,7 +7,7 @@ use Rattle.std.specs.Borrow.{Bor}
 use Rattle.cm_lab_line.specs.Words.{texts}
 use Rattle.cm_lab_line.specs.Refusals.{Refusal, Words, ◌>>=◌}
 use Rattle.cm_lab_line.specs.Requests.{LoadsAsked}
-use Rattle.cm_lab_line.specs.Loads.{with_choice, with_cut, with_options}
+use Rattle.cm_lab_line.specs.Loads.{with_choice, load_with_cut, with_options}
 
 -- what was read, if nothing comes after
 alone : (read : Result LoadsAsked Refusal) → read ≡ (read >>= λ m. Ok m)
@@ -20,14 +20,14 @@ chosen : (loads : LoadsAsked) (a b : List ℕ) (rest : List (Bor (List ℕ))) �
 chosen loads a b [] is =
     ap (λ (t : Bool). if t then Err Words else with_choice loads a b) is ∙ alone (with_choice loads a b)
 chosen loads a b (c ∷ rest) is =
-    ap (λ (t : Bool). if t then with_cut loads b c.now >>= (λ m. with_options m (texts rest))
+    ap (λ (t : Bool). if t then load_with_cut loads b c.now >>= (λ m. with_options m (texts rest))
     else with_choice loads a b >>= (λ m. with_options m (c.now ∷ texts rest))) is
 
 -- and behind a cut wire
 cut : (loads : LoadsAsked) (a b c : List ℕ) (rest : List (Bor (List ℕ))) → bytes_eq a (codes "--cut") ≡ true
-    → with_options loads (a ∷ b ∷ c ∷ texts rest) ≡ (with_cut loads b c >>= λ m. with_options m (texts rest))
+    → with_options loads (a ∷ b ∷ c ∷ texts rest) ≡ (load_with_cut loads b c >>= λ m. with_options m (texts rest))
 cut loads a b c rest is =
-    ap (λ (t : Bool). if t then with_cut loads b c >>= (λ m. with_options m (texts rest))
+    ap (λ (t : Bool). if t then load_with_cut loads b c >>= (λ m. with_options m (texts rest))
     else with_choice loads a b >>= (λ m. with_options m (c ∷ texts rest))) is
 
 -- the words go on behind an option that was read
@@ -47,7 +47,7 @@ pub wire_goes_on : (loads changed : LoadsAsked) (words : List (Bor (List ℕ))) 
     (after : List (Bor (List ℕ))) → 2 ≤ length words
     → take (length words - 2) (drop 2 words) ≡ dim ∷ after
     → bytes_eq (get_or words 0 d).now (codes "--cut") ≡ true
-    → with_cut loads (get_or words 1 d).now dim.now ≡ Ok changed
+    → load_with_cut loads (get_or words 1 d).now dim.now ≡ Ok changed
     → with_options loads (texts words) ≡ with_options changed (texts after)
 wire_goes_on loads changed [] d dim after h split is e = absurd (omega arith)
 wire_goes_on loads changed (a ∷ []) d dim after h split is e = absurd (omega arith)

@@ -6,7 +6,7 @@ use Rattle.std.specs.Prelude.{not}
 use Rattle.std.proofs.lemmas.List.Splits.{slice_split_first}
 use Rattle.cm_bits.specs.Text.{is_comma}
 use Rattle.cm_lab_line.specs.declared.fault.CommandFault.{CommandFault}
-use Rattle.cm_lab_line.specs.Refusals.{Text, Refusal, Tells, ◌>>=◌}
+use Rattle.cm_lab_line.specs.Refusals.{Text, Refusal, Reports, ◌>>=◌}
 use Rattle.cm_lab_line.specs.Rates.{IsCutAtComma, all_rates, rate, rates, with_rate}
 
 -- a list in which nothing passes is not cut
@@ -68,7 +68,7 @@ one_known known more word part after is e =
 
 -- a fault of the first rate is one of all
 pub fault_known : (known : List ℕ) (word part after : Text) (fault : CommandFault) → IsCutAtComma word part after
-    → Tells (with_rate known part) fault → Tells (behind known word) fault
+    → Reports (with_rate known part) fault → Reports (behind known word) fault
 fault_known known word part after fault is (inl memory) = inl memory
 fault_known known word part after fault is (inr e) =
     inr (cut_rates known word part after is

@@ -44,8 +44,8 @@ plotting (file ∷ []) = Ok (Plot (Some file))
 plotting _ = Err Words
 
 -- what the words behind a command's name ask for; behind a call for help or the version they do not matter
-abbrev pub named : Text → List Text → Result Request Refusal
-named command words =
+abbrev pub request_named : Text → List Text → Result Request Refusal
+request_named command words =
     if bytes_eq command (codes "front") then fronting words
     else (if bytes_eq command (codes "expand") then expanding words
     else (if bytes_eq command (codes "fresh") then freshening words
@@ -59,7 +59,7 @@ named command words =
 
 -- what all words ask for, of which the first is the program's name
 abbrev pub request_of : List Text → Result Request Refusal
-request_of (program ∷ command ∷ words) = named command words
+request_of (program ∷ command ∷ words) = request_named command words
 request_of _ = Err Words
 
 -- an option that may be given once: wires that are cut may be several

@@ -4,7 +4,7 @@ use Rattle.cm_load.specs.declared.trials.Trial.{Trial}
 use Rattle.cm_load.specs.declared.offers.Pattern.TheVariants as pattern
 use Rattle.cm_lab_line.specs.declared.operands.Operand.TheVariants as operand
 use Rattle.cm_lab_line.specs.Refusals.{Text, Refusal, Words, ◌>>=◌}
-use Rattle.cm_lab_line.specs.Operands.{number_below, pattern_named}
+use Rattle.cm_lab_line.specs.Operands.{operand_below, pattern_named}
 use Rattle.cm_lab_line.specs.Rates.{rates}
 use Rattle.cm_lab_line.specs.Requests.{LoadsAsked}
 use Rattle.cm_lab_line.specs.Blanks.{wire_named}
@@ -13,29 +13,29 @@ use Rattle.cm_lab_line.specs.Blanks.{wire_named}
 abbrev pub with_option : Trial → Text → Text → Result Trial Refusal
 with_option trial option word =
     if bytes_eq option (codes "--rule")
-    then number_below (2 ^ 16) operand.Rule word >>= (λ rule. Ok (record trial { rule = rule }))
+    then operand_below (2 ^ 16) operand.Rule word >>= (λ rule. Ok (record trial { rule = rule }))
     else (if bytes_eq option (codes "--pattern")
     then pattern_named word >>= (λ pattern. Ok (record trial { pattern = pattern }))
     else (if bytes_eq option (codes "--until")
-    then number_below (2 ^ 32) operand.Until word >>= (λ until. Ok (record trial { until = until }))
+    then operand_below (2 ^ 32) operand.Until word >>= (λ until. Ok (record trial { until = until }))
     else (if bytes_eq option (codes "--skip")
-    then number_below (2 ^ 32) operand.Skip word >>= (λ skip. Ok (record trial { skip = skip }))
+    then operand_below (2 ^ 32) operand.Skip word >>= (λ skip. Ok (record trial { skip = skip }))
     else (if bytes_eq option (codes "--seeds")
-    then number_below (2 ^ 16) operand.Seeds word >>= (λ seeds. Ok (record trial { seeds = seeds }))
+    then operand_below (2 ^ 16) operand.Seeds word >>= (λ seeds. Ok (record trial { seeds = seeds }))
     else (if bytes_eq option (codes "--seed")
-    then number_below (2 ^ 64) operand.Seed word >>= (λ seed. Ok (record trial { seed = seed }))
+    then operand_below (2 ^ 64) operand.Seed word >>= (λ seed. Ok (record trial { seed = seed }))
     else Err Words)))))
 
 -- the same, or so many wires that are to be drawn
 abbrev pub with_choice : LoadsAsked → Text → Text → Result LoadsAsked Refusal
 with_choice loads option word =
     if bytes_eq option (codes "--cut-random")
-    then number_below (2 ^ 16) operand.Count word >>= (λ count. Ok (record loads { drawn = count }))
+    then operand_below (2 ^ 16) operand.Count word >>= (λ count. Ok (record loads { drawn = count }))
     else with_option loads.trial option word >>= (λ trial. Ok (record loads { trial = trial }))
 
 -- the loads of a machine with this wire cut too
-abbrev pub with_cut : LoadsAsked → Text → Text → Result LoadsAsked Refusal
-with_cut loads chip dim =
+abbrev pub load_with_cut : LoadsAsked → Text → Text → Result LoadsAsked Refusal
+load_with_cut loads chip dim =
     wire_named chip dim >>= λ wire. Ok (record loads { cuts = loads.cuts ++ wire ∷ [] })
 
 -- the loads with what all options say, `--cut CHIP DIM` and others with a word each
@@ -45,14 +45,14 @@ with_options loads (option ∷ []) = Err Words
 with_options loads (option ∷ word ∷ []) =
     if bytes_eq option (codes "--cut") then Err Words else with_choice loads option word
 with_options loads (option ∷ word ∷ next ∷ after) =
-    if bytes_eq option (codes "--cut") then with_cut loads word next >>= (λ cut. with_options cut after)
+    if bytes_eq option (codes "--cut") then load_with_cut loads word next >>= (λ cut. with_options cut after)
     else with_choice loads option word >>= (λ changed. with_options changed (next ∷ after))
 
 -- `load`: N CAP RATE,.. CYCLES, and options
 abbrev pub load : Text → Text → Text → Text → List Text → Result LoadsAsked Refusal
 load n room rates' cycles options =
-    number_below (2 ^ 16) operand.N n >>= λ n'. number_below (2 ^ 16) operand.Cap room >>= λ room'.
-    rates rates' >>= λ offered. number_below (2 ^ 32) operand.Cycles cycles >>= λ cycles'.
+    operand_below (2 ^ 16) operand.N n >>= λ n'. operand_below (2 ^ 16) operand.Cap room >>= λ room'.
+    rates rates' >>= λ offered. operand_below (2 ^ 32) operand.Cycles cycles >>= λ cycles'.
     with_options (record {
       trial = record {
         n = n';

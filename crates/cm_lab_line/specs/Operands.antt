@@ -19,28 +19,28 @@ use Rattle.cm_lab_line.specs.Refusals.{Text, Refusal, Wanted, Words, Field, ◌>
 -- ---- how they are told of
 
 -- the name of an operand in the help
-abbrev pub name_of : Operand → Text
-name_of operand.Address = codes "ADDRESS"
-name_of operand.Length = codes "LENGTH"
-name_of operand.Flag = codes "NUMBER"
-name_of operand.Proc = codes "PROC"
-name_of operand.Cycle = codes "CYCLE"
-name_of operand.Chip = codes "CHIP"
-name_of operand.Dim = codes "DIM"
-name_of operand.Count = codes "K"
-name_of operand.N = codes "N"
-name_of operand.Cap = codes "CAP"
-name_of operand.Rule = codes "R"
-name_of operand.Rate = codes "RATE"
-name_of operand.Cycles = codes "CYCLES"
-name_of operand.Pattern = codes "P"
-name_of operand.Until = codes "T"
-name_of operand.Skip = codes "T"
-name_of operand.Seeds = codes "K"
-name_of operand.Seed = codes "S"
-name_of operand.Depth = codes "LENGTH"
-name_of operand.Scale = codes "K"
-name_of operand.Palette = codes "NAME"
+abbrev pub operand_name : Operand → Text
+operand_name operand.Address = codes "ADDRESS"
+operand_name operand.Length = codes "LENGTH"
+operand_name operand.Flag = codes "NUMBER"
+operand_name operand.Proc = codes "PROC"
+operand_name operand.Cycle = codes "CYCLE"
+operand_name operand.Chip = codes "CHIP"
+operand_name operand.Dim = codes "DIM"
+operand_name operand.Count = codes "K"
+operand_name operand.N = codes "N"
+operand_name operand.Cap = codes "CAP"
+operand_name operand.Rule = codes "R"
+operand_name operand.Rate = codes "RATE"
+operand_name operand.Cycles = codes "CYCLES"
+operand_name operand.Pattern = codes "P"
+operand_name operand.Until = codes "T"
+operand_name operand.Skip = codes "T"
+operand_name operand.Seeds = codes "K"
+operand_name operand.Seed = codes "S"
+operand_name operand.Depth = codes "LENGTH"
+operand_name operand.Scale = codes "K"
+operand_name operand.Palette = codes "NAME"
 
 -- a number of a range
 abbrev pub from_to : Text → Text → Text
@@ -87,27 +87,27 @@ digits_below limit digits =
     then Some (digits_value 10 digits) else None
 
 -- a decimal number below a limit, before which a plus may stand
-abbrev pub number_below : ℕ → Operand → Text → Result ℕ Refusal
-number_below limit operand word = ok_or (digits_below limit (without_leading_plus word)) (Wanted operand word)
+abbrev pub operand_below : ℕ → Operand → Text → Result ℕ Refusal
+operand_below limit operand word = ok_or (digits_below limit (without_leading_plus word)) (Wanted operand word)
 
 -- a decimal number that is told of by another crate where it is too large
-abbrev pub number : Operand → Text → Result ℕ Refusal
-number operand word = number_below (2 ^ 16) operand word
+abbrev pub wanted_number : Operand → Text → Result ℕ Refusal
+wanted_number operand word = operand_below (2 ^ 16) operand word
 
 -- one of sixteen
 abbrev pub of_sixteen : Operand → Text → Result ℕ Refusal
-of_sixteen operand word = number_below 16 operand word
+of_sixteen operand word = operand_below 16 operand word
 
 -- the field of an address and a length, unless it has a fault
-abbrev pub field_unless : ℕ → ℕ → Option FieldFault → Result Span Refusal
-field_unless at len (Some fault) = Err (Field fault)
-field_unless at len None = Ok (record { at = at; len = len })
+abbrev pub operand_field_unless : ℕ → ℕ → Option FieldFault → Result Span Refusal
+operand_field_unless at len (Some fault) = Err (Field fault)
+operand_field_unless at len None = Ok (record { at = at; len = len })
 
 -- the field of these words
 abbrev pub field : Text → Text → Result Span Refusal
 field at len =
-    number operand.Address at >>= λ at'. number operand.Length len >>= λ len'.
-    field_unless at' len' (field_fault at' len')
+    wanted_number operand.Address at >>= λ at'. wanted_number operand.Length len >>= λ len'.
+    operand_field_unless at' len' (field_fault at' len')
 
 -- how many dots wide and high a dot becomes: 1 to 64
 abbrev pub small_scale : Text → ℕ → Result ℕ Refusal
@@ -115,7 +115,7 @@ small_scale word k = if nat_lt 0 k && nat_lt k 65 then Ok k else Err (Wanted ope
 
 -- the same, by its word
 abbrev pub scale_of : Text → Result ℕ Refusal
-scale_of word = number operand.Scale word >>= λ k. small_scale word k
+scale_of word = wanted_number operand.Scale word >>= λ k. small_scale word k
 
 -- the palette of this name
 abbrev pub palette_named : Text → Result Palette Refusal

@@ -27,15 +27,15 @@ behind_point (tenths ∷ hundredths ∷ []) = digits_below (2 ^ 16) (tenths ∷ 
 behind_point (tenths ∷ hundredths ∷ more ∷ rest) = None
 
 -- the hundredths of digits, among which a point may stand
-abbrev pub hundredths : Text → Option ℕ
-hundredths word =
+abbrev pub hundredths_in : Text → Option ℕ
+hundredths_in word =
     if nat_lt (position_or_len is_point word) (length word)
     then in_hundredths (digits_below (2 ^ 16) (before_first is_point word)) (behind_point (after_first is_point word))
     else in_hundredths (digits_below (2 ^ 16) word) (Some 0)
 
 -- a rate
 abbrev pub rate : Text → Result ℕ Refusal
-rate word = ok_or (hundredths word) (Wanted operand.Rate word)
+rate word = ok_or (hundredths_in word) (Wanted operand.Rate word)
 
 -- a word is cut at its first comma
 pub record IsCutAtComma (word part after : Text) : Type 0 where

@@ -23,21 +23,21 @@ pub data Refusal : Type 0 where
   Memory : Refusal
 
 -- what a fault tells
-abbrev pub told : CommandFault → Refusal
-told fault.Help = Help
-told fault.Version = Version
-told fault.Words = Words
-told (fault.UnknownCommand word) = UnknownCommand (string_bytes word)
-told (fault.UnknownOption word usage) = UnknownOption (string_bytes word) (string_bytes usage)
-told (fault.Twice word) = Twice (string_bytes word)
-told (fault.Usage usage) = Usage (string_bytes usage)
-told (fault.Operand operand word) = Wanted operand (string_bytes word)
-told (fault.Field fault) = Field fault
-told fault.Memory = Memory
+abbrev pub reported_refusal : CommandFault → Refusal
+reported_refusal fault.Help = Help
+reported_refusal fault.Version = Version
+reported_refusal fault.Words = Words
+reported_refusal (fault.UnknownCommand word) = UnknownCommand (string_bytes word)
+reported_refusal (fault.UnknownOption word usage) = UnknownOption (string_bytes word) (string_bytes usage)
+reported_refusal (fault.Twice word) = Twice (string_bytes word)
+reported_refusal (fault.Usage usage) = Usage (string_bytes usage)
+reported_refusal (fault.Operand operand word) = Wanted operand (string_bytes word)
+reported_refusal (fault.Field fault) = Field fault
+reported_refusal fault.Memory = Memory
 
 -- a fault is this refusal, or want of memory
-abbrev pub Tells : {A : Type 0} → Result A Refusal → CommandFault → Type 0
-Tells reading fault = (told fault ≡ Memory) ⊎ (reading ≡ Err (told fault))
+abbrev pub Reports : {A : Type 0} → Result A Refusal → CommandFault → Type 0
+Reports reading fault = (reported_refusal fault ≡ Memory) ⊎ (reading ≡ Err (reported_refusal fault))
 
 -- what comes after, unless a refusal came before
 infixl 10 ◌>>=◌

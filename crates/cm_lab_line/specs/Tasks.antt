@@ -15,12 +15,12 @@ use Rattle.cm_lab.specs.declared.order.Order.TheVariants.{Chips, Rows}
 use Rattle.cm_lab.specs.declared.pictures.Shown.TheVariants as seen
 use Rattle.cm_lab_line.specs.declared.operands.Operand.TheVariants as operand
 use Rattle.cm_lab_line.specs.Refusals.{Text, Refusal, Wanted, Words, ◌>>=◌}
-use Rattle.cm_lab_line.specs.Operands.{field, file_named, number_below, palette_named, scale_of}
+use Rattle.cm_lab_line.specs.Operands.{field, file_named, operand_below, palette_named, scale_of}
 use Rattle.cm_lab_line.specs.Requests.{Beside, Nothing, Numbers, Picture, Program, TaskAsked}
 
 -- a task that tells
-abbrev pub told_of : Task → Text → Beside → TaskAsked
-told_of task image beside = record { task = task; image = image; beside = beside; out = None }
+abbrev pub reporting_task : Task → Text → Beside → TaskAsked
+reporting_task task image beside = record { task = task; image = image; beside = beside; out = None }
 
 -- a task that leaves an image
 abbrev pub left_by : Task → Text → Beside → Text → TaskAsked
@@ -29,16 +29,16 @@ left_by task image beside out = record { task = task; image = image; beside = be
 -- a flag is told
 abbrev pub flagged : Order → Text → Text → Result TaskAsked Refusal
 flagged order image number =
-    number_below 16 operand.Flag number >>= λ flag. Ok (told_of (Flags order flag) image Nothing)
+    operand_below 16 operand.Flag number >>= λ flag. Ok (reporting_task (Flags order flag) image Nothing)
 
 -- a field is told
-abbrev pub shown : Order → Text → Text → Text → Result TaskAsked Refusal
-shown order image at len = field at len >>= λ span. Ok (told_of (Get order span) image Nothing)
+abbrev pub field_shown : Order → Text → Text → Text → Result TaskAsked Refusal
+field_shown order image at len = field at len >>= λ span. Ok (reporting_task (Get order span) image Nothing)
 
 -- `get` and `rows`: IMAGE flag NUMBER, or IMAGE ADDRESS LENGTH
 abbrev pub telling : Order → List Text → Result TaskAsked Refusal
 telling order (image ∷ at ∷ len ∷ []) =
-    if bytes_eq at (codes "flag") then flagged order image len else shown order image at len
+    if bytes_eq at (codes "flag") then flagged order image len else field_shown order image at len
 telling order _ = Err Words
 
 -- a field is filled with numbers
@@ -86,12 +86,12 @@ with_setting look option word =
 -- a picture of a flag
 abbrev pub flag_pictured : Look → Text → Text → Result TaskAsked Refusal
 flag_pictured look image number =
-    number_below 16 operand.Flag number >>= λ flag. Ok (told_of (Show (seen.Flag flag) look) image Nothing)
+    operand_below 16 operand.Flag number >>= λ flag. Ok (reporting_task (Show (seen.Flag flag) look) image Nothing)
 
 -- a picture of a field of at most 16 bits
 abbrev pub span_pictured : Look → Text → Text → Span → Result TaskAsked Refusal
 span_pictured look image len span =
-    if nat_lt span.len 17 then Ok (told_of (Show (seen.Number span) look) image Nothing)
+    if nat_lt span.len 17 then Ok (reporting_task (Show (seen.Number span) look) image Nothing)
     else Err (Wanted operand.Depth len)
 
 -- a picture of the field of these words
@@ -99,12 +99,12 @@ abbrev pub field_pictured : Look → Text → Text → Text → Result TaskAsked
 field_pictured look image at len = field at len >>= λ span. span_pictured look image len span
 
 -- IMAGE buffers, IMAGE flag NUMBER, or IMAGE ADDRESS LENGTH
-abbrev pub picture_in : Look → List Text → Result TaskAsked Refusal
-picture_in look (image ∷ what ∷ []) =
-    if bytes_eq what (codes "buffers") then Ok (told_of (Show seen.Buffers look) image Nothing) else Err Words
-picture_in look (image ∷ at ∷ len ∷ []) =
+abbrev pub picture_asked : Look → List Text → Result TaskAsked Refusal
+picture_asked look (image ∷ what ∷ []) =
+    if bytes_eq what (codes "buffers") then Ok (reporting_task (Show seen.Buffers look) image Nothing) else Err Words
+picture_asked look (image ∷ at ∷ len ∷ []) =
     if bytes_eq at (codes "flag") then flag_pictured look image len else field_pictured look image at len
-picture_in look _ = Err Words
+picture_asked look _ = Err Words
 
 -- these, before which options may stand
 abbrev pub looked_at : Look → List Text → Result TaskAsked Refusal
@@ -113,7 +113,7 @@ looked_at look (option ∷ []) = Err Words
 looked_at look (option ∷ word ∷ rest) =
     if is_sign option then looked_at (with_sign look option) (word ∷ rest)
     else (if is_setting option then with_setting look option word >>= (λ changed. looked_at changed rest)
-    else picture_in look (option ∷ word ∷ rest))
+    else picture_asked look (option ∷ word ∷ rest))
 
 -- `picture`: the same from a plain look on
 abbrev pub picturing : List Text → Result TaskAsked Refusal
@@ -122,7 +122,7 @@ picturing words = looked_at plain_look words
 -- a picture is painted
 abbrev pub painted : Text → Text → Text → Text → Result TaskAsked Refusal
 painted image picture at out =
-    number_below (2 ^ 16) operand.Address at >>= λ at'. file_named out >>= λ file.
+    operand_below (2 ^ 16) operand.Address at >>= λ at'. file_named out >>= λ file.
     Ok (left_by (Paint at') image (Picture picture) file)
 
 -- `paint`: IMAGE PICTURE ADDRESS OUT
@@ -132,7 +132,7 @@ painting _ = Err Words
 
 -- IMAGE PROGRAM
 abbrev pub studying_in : Table → List Text → Result TaskAsked Refusal
-studying_in table (image ∷ program ∷ []) = Ok (told_of (Study table) image (Program program))
+studying_in table (image ∷ program ∷ []) = Ok (reporting_task (Study table) image (Program program))
 studying_in table _ = Err Words
 
 -- `study`: these, before which `--messages` may stand
@@ -144,18 +144,18 @@ studying (first ∷ rest) =
 -- the tag of a message: by the chip and the processor that sent it, and the petit cycle in which it was taken in
 abbrev pub tag : Text → Text → Text → Result Tag Refusal
 tag chip proc birth =
-    number_below (2 ^ 16) operand.Chip chip >>= λ chip'. number_below 16 operand.Proc proc >>= λ proc'.
-    number_below (2 ^ 64) operand.Cycle birth >>= λ birth'.
+    operand_below (2 ^ 16) operand.Chip chip >>= λ chip'. operand_below 16 operand.Proc proc >>= λ proc'.
+    operand_below (2 ^ 64) operand.Cycle birth >>= λ birth'.
     Ok (record { chip = chip'; proc = proc'; birth = birth' })
 
 -- CHIP PROC CYCLE
-abbrev pub sender : List Text → Result Tag Refusal
-sender (chip ∷ proc ∷ birth ∷ []) = tag chip proc birth
-sender _ = Err Words
+abbrev pub sender_words : List Text → Result Tag Refusal
+sender_words (chip ∷ proc ∷ birth ∷ []) = tag chip proc birth
+sender_words _ = Err Words
 
 -- the way of a message is told
 abbrev pub routed : Text → Text → List Text → Result TaskAsked Refusal
-routed image program words = sender words >>= λ sent. Ok (told_of (Route sent) image (Program program))
+routed image program words = sender_words words >>= λ sent. Ok (reporting_task (Route sent) image (Program program))
 
 -- `route`: IMAGE PROGRAM CHIP PROC CYCLE
 abbrev pub routing : List Text → Result TaskAsked Refusal

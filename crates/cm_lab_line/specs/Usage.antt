@@ -6,15 +6,15 @@ use Rattle.cm_bits.specs.Text.{has_bytes}
 use Rattle.cm_lab_line.specs.declared.help.TheConstants.{HELP}
 use Rattle.cm_lab_line.specs.Refusals.{Text}
 
-abbrev pub is_space : ℕ → Bool
-is_space byte = byte == 32
+abbrev pub is_plain_space : ℕ → Bool
+is_plain_space byte = byte == 32
 
 -- what stands before the first space of a line, and behind it
 abbrev pub first_word : Text → Text
-first_word line = before_first is_space line
+first_word line = before_first is_plain_space line
 
 abbrev pub behind_word : Text → Text
-behind_word line = after_first is_space line
+behind_word line = after_first is_plain_space line
 
 -- a line of help has the words of this command: they stand behind the program's name
 abbrev pub is_usage : Text → Text → Bool

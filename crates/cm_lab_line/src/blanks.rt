@@ -2,9 +2,9 @@
 
 ghost use Rattle.std.specs.Prelude.{◌≡◌, IfOk, IfErr, Ok};
 ghost use Rattle.cm_lab_line.specs.Words.{texts};
-ghost use Rattle.cm_lab_line.specs.Refusals.{Tells};
+ghost use Rattle.cm_lab_line.specs.Refusals.{Reports};
 ghost use Rattle.cm_lab_line.specs.Requests.{blank_asked};
-ghost use Rattle.cm_lab_line.specs.Blanks.{blank, wire_named, with_choice, with_cut, with_ends};
+ghost use Rattle.cm_lab_line.specs.Blanks.{blank, wire_named, with_choice, blank_with_cut, with_ends};
 
 use crate::fault::CommandFault;
 use crate::operands::{Operand, file_named, long_number, number};
@@ -32,7 +32,7 @@ pub(crate) fn read_blank<'a>(
     words: &[&'a str],
 ) -> Result<Blank<'a>, CommandFault>
     ensures value { IfOk result (λ found. blank n.now room.now (texts words.now) ≡ Ok (blank_asked found)) }
-    ensures refused { IfErr result (Tells (blank n.now room.now (texts words.now))) }
+    ensures refused { IfErr result (Reports (blank n.now room.now (texts words.now))) }
 {
     let n = number(alloc, Operand::N, n)?;
     let room = number(alloc, Operand::Cap, room)?;
@@ -56,7 +56,7 @@ fn with_ends<'a>(
 ) -> Result<Blank<'a>, CommandFault>
     ensures value { IfOk result
         (λ found. with_ends (blank_asked machine.entry) (texts words.now) ≡ Ok (blank_asked found)) }
-    ensures refused { IfErr result (Tells (with_ends (blank_asked machine.entry) (texts words.now))) }
+    ensures refused { IfErr result (Reports (with_ends (blank_asked machine.entry) (texts words.now))) }
 {
     match words {
         [] => Err(CommandFault::Words),
@@ -88,7 +88,7 @@ fn with_choice<'a>(
 ) -> Result<Blank<'a>, CommandFault>
     ensures value { IfOk result
         (λ changed. with_choice (blank_asked machine.entry) option.now word.now ≡ Ok (blank_asked changed)) }
-    ensures refused { IfErr result (Tells (with_choice (blank_asked machine.entry) option.now word.now)) }
+    ensures refused { IfErr result (Reports (with_choice (blank_asked machine.entry) option.now word.now)) }
 {
     match option {
         "--rule" => {
@@ -114,8 +114,8 @@ fn with_cut<'a>(
     dim: &str,
 ) -> Result<Blank<'a>, CommandFault>
     ensures value { IfOk result
-        (λ cut. with_cut (blank_asked machine.entry) chip.now dim.now ≡ Ok (blank_asked cut)) }
-    ensures refused { IfErr result (Tells (with_cut (blank_asked machine.entry) chip.now dim.now)) }
+        (λ cut. blank_with_cut (blank_asked machine.entry) chip.now dim.now ≡ Ok (blank_asked cut)) }
+    ensures refused { IfErr result (Reports (blank_with_cut (blank_asked machine.entry) chip.now dim.now)) }
 {
     let mut cut = machine;
     let wire = wire_named(alloc, chip, dim)?;
@@ -128,7 +128,7 @@ fn with_cut<'a>(
 /// A wire by the words for its chip and its dimension.
 pub(crate) fn wire_named(alloc: Global, chip: &str, dim: &str) -> Result<WireEnd, CommandFault>
     ensures value { IfOk result (λ wire. wire_named chip.now dim.now ≡ Ok wire) }
-    ensures refused { IfErr result (Tells (wire_named chip.now dim.now)) }
+    ensures refused { IfErr result (Reports (wire_named chip.now dim.now)) }
 {
     let chip = number(alloc, Operand::Chip, chip)?;
     let dim = number(alloc, Operand::Dim, dim)?;

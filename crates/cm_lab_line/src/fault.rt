@@ -1,7 +1,7 @@
 //! Why words ask for nothing.
 
 ghost use Rattle.std.specs.Prelude.{◌≡◌, ◌⊎◌, string_bytes};
-ghost use Rattle.cm_lab_line.specs.Refusals.{told, Memory, Twice, UnknownCommand, UnknownOption, Wanted};
+ghost use Rattle.cm_lab_line.specs.Refusals.{reported_refusal, Memory, Twice, UnknownCommand, UnknownOption, Wanted};
 
 use crate::operands::Operand;
 use cm_bits::FieldFault;
@@ -44,7 +44,7 @@ pub enum CommandFault {
 impl CommandFault {
     /// A word that names no command.
     pub(crate) fn command(alloc: Global, word: &str) -> CommandFault
-        ensures { (told result ≡ Memory) ⊎ (told result ≡ UnknownCommand word.now) }
+        ensures { (reported_refusal result ≡ Memory) ⊎ (reported_refusal result ≡ UnknownCommand word.now) }
     {
         match String::from_str(alloc, word) {
             Ok(word) => CommandFault::UnknownCommand { word },
@@ -54,7 +54,8 @@ impl CommandFault {
 
     /// A word that is no option of a command of these words.
     pub(crate) fn option(alloc: Global, word: &str, usage: String) -> CommandFault
-        ensures { (told result ≡ Memory) ⊎ (told result ≡ UnknownOption word.now (string_bytes usage)) }
+        ensures { (reported_refusal result ≡ Memory)
+            ⊎ (reported_refusal result ≡ UnknownOption word.now (string_bytes usage)) }
     {
         match String::from_str(alloc, word) {
             Ok(word) => CommandFault::UnknownOption { word, usage },
@@ -64,7 +65,7 @@ impl CommandFault {
 
     /// An option that is given twice.
     pub(crate) fn twice(alloc: Global, word: &str) -> CommandFault
-        ensures { (told result ≡ Memory) ⊎ (told result ≡ Twice word.now) }
+        ensures { (reported_refusal result ≡ Memory) ⊎ (reported_refusal result ≡ Twice word.now) }
     {
         match String::from_str(alloc, word) {
             Ok(word) => CommandFault::Twice { word },
@@ -74,7 +75,7 @@ impl CommandFault {
 
     /// A word that is not what is wanted in its place.
     pub(crate) fn operand(alloc: Global, operand: Operand, word: &str) -> CommandFault
-        ensures { (told result ≡ Memory) ⊎ (told result ≡ Wanted operand word.now) }
+        ensures { (reported_refusal result ≡ Memory) ⊎ (reported_refusal result ≡ Wanted operand word.now) }
     {
         match String::from_str(alloc, word) {
             Ok(word) => CommandFault::Operand { operand, word },

@@ -13,15 +13,15 @@ ghost use Rattle.cm_lab.specs.declared.pictures.Shown.TheVariants as shown;
 ghost use Rattle.cm_lab_line.specs.declared.operands.Operand.TheVariants as operand;
 ghost use Rattle.cm_lab_line.specs.Refusals.{Field, Help, Version, Wanted, Words};
 ghost use Rattle.cm_lab_line.specs.Requests.{Do, Expand, Fresh, Front, Load, Nothing, Numbers, Picture, Plot, Program};
-ghost use Rattle.cm_lab_line.specs.Tasks.{left_by, told_of};
+ghost use Rattle.cm_lab_line.specs.Tasks.{left_by, reporting_task};
 ghost use Rattle.cm_lab_line.specs.Commands.{given_twice, is_command, request_of, unknown_option};
 
 /// A law: these lines ask for these things.
 pub fn lines_ask_for()
     ensures get { request_of (codes "cm1lab" ∷ codes "get" ∷ codes "a.image" ∷ codes "100" ∷ codes "6" ∷ [])
-        ≡ Ok (Do (told_of (task.Get order.Chips (record { at = 100; len = 6 })) (codes "a.image") Nothing)) }
+        ≡ Ok (Do (reporting_task (task.Get order.Chips (record { at = 100; len = 6 })) (codes "a.image") Nothing)) }
     ensures rows { request_of (codes "cm1lab" ∷ codes "rows" ∷ codes "a.image" ∷ codes "flag" ∷ codes "9" ∷ [])
-        ≡ Ok (Do (told_of (task.Flags order.Rows 9) (codes "a.image") Nothing)) }
+        ≡ Ok (Do (reporting_task (task.Flags order.Rows 9) (codes "a.image") Nothing)) }
     ensures put { request_of
         (codes "cm1lab" ∷ codes "put" ∷ codes "a.image" ∷ codes "0" ∷ codes "8" ∷ codes "b.image" ∷ [])
         ≡ Ok (Do (left_by (task.Put order.Chips (record { at = 0; len = 8 })) (codes "a.image") Numbers
@@ -31,37 +31,39 @@ pub fn lines_ask_for()
         ≡ Ok (Do (left_by (task.Put order.Rows (record { at = 0; len = 8 })) (codes "a.image") Numbers
         (codes "b.image"))) }
     ensures picture { request_of (codes "cm1lab" ∷ codes "picture" ∷ codes "a.image" ∷ codes "0" ∷ codes "1" ∷ [])
-        ≡ Ok (Do (told_of (task.Show (shown.Number (record { at = 0; len = 1 }))
+        ≡ Ok (Do (reporting_task (task.Show (shown.Number (record { at = 0; len = 1 }))
         (record { format = format.Netpbm form.Raw; scale = 1; is_by_dots = false })) (codes "a.image") Nothing)) }
     ensures plain_picture { request_of
         (codes "cm1lab" ∷ codes "picture" ∷ codes "--plain" ∷ codes "a.image" ∷ codes "flag" ∷ codes "15" ∷ [])
-        ≡ Ok (Do (told_of (task.Show (shown.Flag 15)
+        ≡ Ok (Do (reporting_task (task.Show (shown.Flag 15)
         (record { format = format.Netpbm form.Plain; scale = 1; is_by_dots = false })) (codes "a.image") Nothing)) }
     ensures png { request_of (codes "cm1lab" ∷ codes "picture" ∷ codes "--png" ∷ codes "a.image" ∷ codes "buffers" ∷ [])
-        ≡ Ok (Do (told_of (task.Show shown.Buffers (record { format = format.Png; scale = 1; is_by_dots = false }))
+        ≡ Ok
+        (Do (reporting_task (task.Show shown.Buffers (record { format = format.Png; scale = 1; is_by_dots = false }))
         (codes "a.image") Nothing)) }
     ensures picture_for_a_slide { request_of
         (codes "cm1lab" ∷ codes "picture" ∷ codes "--greatest" ∷ codes "--palette" ∷ codes "viridis" ∷ codes "--scale"
         ∷ codes "64" ∷ codes "a.image" ∷ codes "8" ∷ codes "16" ∷ [])
-        ≡ Ok (Do (told_of (task.Show (shown.Number (record { at = 8; len = 16 }))
+        ≡ Ok (Do (reporting_task (task.Show (shown.Number (record { at = 8; len = 16 }))
         (record { format = format.Colours palette.Viridis; scale = 64; is_by_dots = true }))
         (codes "a.image") Nothing)) }
     ensures last_format { request_of
         (codes "cm1lab" ∷ codes "picture" ∷ codes "--palette" ∷ codes "heat" ∷ codes "--png" ∷ codes "a.image"
         ∷ codes "buffers" ∷ [])
-        ≡ Ok (Do (told_of (task.Show shown.Buffers (record { format = format.Png; scale = 1; is_by_dots = false }))
+        ≡ Ok
+        (Do (reporting_task (task.Show shown.Buffers (record { format = format.Png; scale = 1; is_by_dots = false }))
         (codes "a.image") Nothing)) }
     ensures paint { request_of
         (codes "cm1lab" ∷ codes "paint" ∷ codes "a.image" ∷ codes "b.pbm" ∷ codes "40" ∷ codes "b.image" ∷ [])
         ≡ Ok (Do (left_by (task.Paint 40) (codes "a.image") (Picture (codes "b.pbm")) (codes "b.image"))) }
     ensures study { request_of (codes "cm1lab" ∷ codes "study" ∷ codes "a.image" ∷ codes "p.txt" ∷ [])
-        ≡ Ok (Do (told_of (task.Study table.Cycles) (codes "a.image") (Program (codes "p.txt")))) }
+        ≡ Ok (Do (reporting_task (task.Study table.Cycles) (codes "a.image") (Program (codes "p.txt")))) }
     ensures study_messages { request_of
         (codes "cm1lab" ∷ codes "study" ∷ codes "--messages" ∷ codes "a.image" ∷ codes "p.txt" ∷ [])
-        ≡ Ok (Do (told_of (task.Study table.Messages) (codes "a.image") (Program (codes "p.txt")))) }
+        ≡ Ok (Do (reporting_task (task.Study table.Messages) (codes "a.image") (Program (codes "p.txt")))) }
     ensures route { request_of
         (codes "cm1lab" ∷ codes "route" ∷ codes "a.image" ∷ codes "p.txt" ∷ codes "12" ∷ codes "3" ∷ codes "70" ∷ [])
-        ≡ Ok (Do (told_of (task.Route (record { chip = 12; proc = 3; birth = 70 })) (codes "a.image")
+        ≡ Ok (Do (reporting_task (task.Route (record { chip = 12; proc = 3; birth = 70 })) (codes "a.image")
         (Program (codes "p.txt")))) }
     ensures front { request_of (codes "cm1lab" ∷ codes "front" ∷ codes "a.image" ∷ [])
         ≡ Ok (Front (codes "a.image") None) }

@@ -2,9 +2,9 @@
 
 ghost use Rattle.std.specs.Prelude.{◌≡◌, IfOk, IfErr, Ok};
 ghost use Rattle.cm_lab_line.specs.Words.{texts};
-ghost use Rattle.cm_lab_line.specs.Refusals.{Tells};
+ghost use Rattle.cm_lab_line.specs.Refusals.{Reports};
 ghost use Rattle.cm_lab_line.specs.Requests.{loads_asked};
-ghost use Rattle.cm_lab_line.specs.Loads.{load, with_choice, with_cut, with_option, with_options};
+ghost use Rattle.cm_lab_line.specs.Loads.{load, with_choice, load_with_cut, with_option, with_options};
 
 use crate::blanks::wire_named;
 use crate::fault::CommandFault;
@@ -36,7 +36,7 @@ pub(crate) fn read_loads(
 ) -> Result<Loads, CommandFault>
     ensures value { IfOk result
         (λ loads. load n.now room.now rates.now cycles.now (texts options.now) ≡ Ok (loads_asked loads)) }
-    ensures refused { IfErr result (Tells (load n.now room.now rates.now cycles.now (texts options.now))) }
+    ensures refused { IfErr result (Reports (load n.now room.now rates.now cycles.now (texts options.now))) }
 {
     let n = number(alloc, Operand::N, n)?;
     let room = number(alloc, Operand::Cap, room)?;
@@ -66,7 +66,7 @@ pub(crate) fn read_loads(
 fn with_options(alloc: Global, loads: Loads, options: &[&str]) -> Result<Loads, CommandFault>
     ensures value { IfOk result
         (λ found. with_options (loads_asked loads) (texts options.now) ≡ Ok (loads_asked found)) }
-    ensures refused { IfErr result (Tells (with_options (loads_asked loads) (texts options.now))) }
+    ensures refused { IfErr result (Reports (with_options (loads_asked loads) (texts options.now))) }
 {
     match options {
         [] => Ok(loads),
@@ -90,7 +90,7 @@ fn with_options(alloc: Global, loads: Loads, options: &[&str]) -> Result<Loads, 
 fn with_choice(alloc: Global, loads: Loads, option: &str, word: &str) -> Result<Loads, CommandFault>
     ensures value { IfOk result
         (λ changed. with_choice (loads_asked loads) option.now word.now ≡ Ok (loads_asked changed)) }
-    ensures refused { IfErr result (Tells (with_choice (loads_asked loads) option.now word.now)) }
+    ensures refused { IfErr result (Reports (with_choice (loads_asked loads) option.now word.now)) }
 {
     if option == "--cut-random" {
         let drawn = number(alloc, Operand::Count, word)?;
@@ -103,8 +103,8 @@ fn with_choice(alloc: Global, loads: Loads, option: &str, word: &str) -> Result<
 /// The loads of a machine with this wire cut too.
 fn with_cut(alloc: Global, loads: Loads, chip: &str, dim: &str) -> Result<Loads, CommandFault>
     ensures value { IfOk result
-        (λ cut. with_cut (loads_asked loads) chip.now dim.now ≡ Ok (loads_asked cut)) }
-    ensures refused { IfErr result (Tells (with_cut (loads_asked loads) chip.now dim.now)) }
+        (λ cut. load_with_cut (loads_asked loads) chip.now dim.now ≡ Ok (loads_asked cut)) }
+    ensures refused { IfErr result (Reports (load_with_cut (loads_asked loads) chip.now dim.now)) }
 {
     let mut cut = loads;
     let wire = wire_named(alloc, chip, dim)?;
@@ -117,7 +117,7 @@ fn with_cut(alloc: Global, loads: Loads, chip: &str, dim: &str) -> Result<Loads,
 /// Takes what an option says.
 fn with_option(alloc: Global, trial: Trial, option: &str, word: &str) -> Result<Trial, CommandFault>
     ensures value { IfOk result (λ changed. with_option trial option.now word.now ≡ Ok changed) }
-    ensures refused { IfErr result (Tells (with_option trial option.now word.now)) }
+    ensures refused { IfErr result (Reports (with_option trial option.now word.now)) }
 {
     match option {
         "--rule" => {

@@ -1,8 +1,9 @@
 //! The words that commands take, by the names that help has for them, and what they say.
 
 ghost use Rattle.std.specs.Prelude.{◌≡◌, ◌^◌, IfOk, IfErr, Ok};
-ghost use Rattle.cm_lab_line.specs.Refusals.{Tells};
-ghost use Rattle.cm_lab_line.specs.Operands.{field, file_named, is_option, name_of, number, number_below, of_sixteen};
+ghost use Rattle.cm_lab_line.specs.Refusals.{Reports};
+ghost use Rattle.cm_lab_line.specs.Operands.{field, file_named, is_option, operand_name, wanted_number, operand_below};
+ghost use Rattle.cm_lab_line.specs.Operands.{of_sixteen};
 ghost use Rattle.cm_lab_line.specs.Operands.{palette_named, pattern_named, scale_of, wanted_of};
 
 use crate::fault::CommandFault;
@@ -41,7 +42,7 @@ pub enum Operand {
 impl Operand {
     /// Its name in the help.
     pub fn name(self) -> &'static str
-        ensures { result.now ≡ name_of self }
+        ensures { result.now ≡ operand_name self }
     {
         match self {
             Operand::Address => "ADDRESS",
@@ -104,7 +105,7 @@ pub(crate) fn is_option(word: &str) -> bool
 /// The name of a file that is written: no option, which may stand in a wrong place.
 pub(crate) fn file_named<'a>(word: &'a str) -> Result<&'a str, CommandFault>
     ensures value { IfOk result (λ file. file_named word.now ≡ Ok file.now) }
-    ensures refused { IfErr result (Tells (file_named word.now)) }
+    ensures refused { IfErr result (Reports (file_named word.now)) }
 {
     if is_option(word) {
         return Err(CommandFault::Words);
@@ -114,8 +115,8 @@ pub(crate) fn file_named<'a>(word: &'a str) -> Result<&'a str, CommandFault>
 
 /// One of sixteen.
 fn of_sixteen(alloc: Global, operand: Operand, word: &str) -> Result<u8, CommandFault>
-    ensures value { IfOk result (λ number. number_below 16 operand word.now ≡ Ok number) }
-    ensures refused { IfErr result (Tells (number_below 16 operand word.now)) }
+    ensures value { IfOk result (λ number. operand_below 16 operand word.now ≡ Ok number) }
+    ensures refused { IfErr result (Reports (operand_below 16 operand word.now)) }
 {
     match word.parse::<u8>() {
         Ok(number) if number < 16 => Ok(number),
@@ -124,8 +125,8 @@ fn of_sixteen(alloc: Global, operand: Operand, word: &str) -> Result<u8, Command
 }
 
 pub(crate) fn processor(alloc: Global, word: &str) -> Result<Proc, CommandFault>
-    ensures value { IfOk result (λ number. number_below 16 Operand.Proc word.now ≡ Ok number) }
-    ensures refused { IfErr result (Tells (number_below 16 Operand.Proc word.now)) }
+    ensures value { IfOk result (λ number. operand_below 16 Operand.Proc word.now ≡ Ok number) }
+    ensures refused { IfErr result (Reports (operand_below 16 Operand.Proc word.now)) }
 {
     let number = of_sixteen(alloc, Operand::Proc, word)?;
     match Proc::new(number) {
@@ -135,8 +136,8 @@ pub(crate) fn processor(alloc: Global, word: &str) -> Result<Proc, CommandFault>
 }
 
 pub(crate) fn flag(alloc: Global, word: &str) -> Result<FlagNo, CommandFault>
-    ensures value { IfOk result (λ number. number_below 16 Operand.Flag word.now ≡ Ok number) }
-    ensures refused { IfErr result (Tells (number_below 16 Operand.Flag word.now)) }
+    ensures value { IfOk result (λ number. operand_below 16 Operand.Flag word.now ≡ Ok number) }
+    ensures refused { IfErr result (Reports (operand_below 16 Operand.Flag word.now)) }
 {
     let number = of_sixteen(alloc, Operand::Flag, word)?;
     match FlagNo::new(number) {
@@ -147,8 +148,8 @@ pub(crate) fn flag(alloc: Global, word: &str) -> Result<FlagNo, CommandFault>
 
 /// The number of an operand, of which another crate tells where it is too large.
 pub(crate) fn number(alloc: Global, operand: Operand, word: &str) -> Result<u16, CommandFault>
-    ensures value { IfOk result (λ number. number_below (2 ^ 16) operand word.now ≡ Ok number) }
-    ensures refused { IfErr result (Tells (number_below (2 ^ 16) operand word.now)) }
+    ensures value { IfOk result (λ number. operand_below (2 ^ 16) operand word.now ≡ Ok number) }
+    ensures refused { IfErr result (Reports (operand_below (2 ^ 16) operand word.now)) }
 {
     match word.parse::<u16>() {
         Ok(number) => Ok(number),
@@ -158,8 +159,8 @@ pub(crate) fn number(alloc: Global, operand: Operand, word: &str) -> Result<u16,
 
 /// A number of petit cycles.
 pub(crate) fn cycle_count(alloc: Global, operand: Operand, word: &str) -> Result<u32, CommandFault>
-    ensures value { IfOk result (λ number. number_below (2 ^ 32) operand word.now ≡ Ok number) }
-    ensures refused { IfErr result (Tells (number_below (2 ^ 32) operand word.now)) }
+    ensures value { IfOk result (λ number. operand_below (2 ^ 32) operand word.now ≡ Ok number) }
+    ensures refused { IfErr result (Reports (operand_below (2 ^ 32) operand word.now)) }
 {
     match word.parse::<u32>() {
         Ok(number) => Ok(number),
@@ -169,8 +170,8 @@ pub(crate) fn cycle_count(alloc: Global, operand: Operand, word: &str) -> Result
 
 /// A petit cycle, or a seed.
 pub(crate) fn long_number(alloc: Global, operand: Operand, word: &str) -> Result<u64, CommandFault>
-    ensures value { IfOk result (λ number. number_below (2 ^ 64) operand word.now ≡ Ok number) }
-    ensures refused { IfErr result (Tells (number_below (2 ^ 64) operand word.now)) }
+    ensures value { IfOk result (λ number. operand_below (2 ^ 64) operand word.now ≡ Ok number) }
+    ensures refused { IfErr result (Reports (operand_below (2 ^ 64) operand word.now)) }
 {
     match word.parse::<u64>() {
         Ok(number) => Ok(number),
@@ -181,7 +182,7 @@ pub(crate) fn long_number(alloc: Global, operand: Operand, word: &str) -> Result
 /// The field of an address and a length.
 pub(crate) fn field(alloc: Global, at: &str, len: &str) -> Result<Field, CommandFault>
     ensures value { IfOk result (λ span. field at.now len.now ≡ Ok span) }
-    ensures refused { IfErr result (Tells (field at.now len.now)) }
+    ensures refused { IfErr result (Reports (field at.now len.now)) }
 {
     let at = number(alloc, Operand::Address, at)?;
     let len = number(alloc, Operand::Length, len)?;
@@ -194,7 +195,7 @@ pub(crate) fn field(alloc: Global, at: &str, len: &str) -> Result<Field, Command
 /// How many dots wide and high a dot becomes.
 pub(crate) fn scale(alloc: Global, word: &str) -> Result<u16, CommandFault>
     ensures value { IfOk result (λ k. scale_of word.now ≡ Ok k) }
-    ensures refused { IfErr result (Tells (scale_of word.now)) }
+    ensures refused { IfErr result (Reports (scale_of word.now)) }
 {
     let k = number(alloc, Operand::Scale, word)?;
     if 0 < k && k < 65 {
@@ -206,7 +207,7 @@ pub(crate) fn scale(alloc: Global, word: &str) -> Result<u16, CommandFault>
 
 pub(crate) fn palette(alloc: Global, word: &str) -> Result<Palette, CommandFault>
     ensures value { IfOk result (λ palette. palette_named word.now ≡ Ok palette) }
-    ensures refused { IfErr result (Tells (palette_named word.now)) }
+    ensures refused { IfErr result (Reports (palette_named word.now)) }
 {
     match word {
         "heat" => Ok(Palette::Heat),
@@ -217,7 +218,7 @@ pub(crate) fn palette(alloc: Global, word: &str) -> Result<Palette, CommandFault
 
 pub(crate) fn pattern(alloc: Global, word: &str) -> Result<Pattern, CommandFault>
     ensures value { IfOk result (λ pattern. pattern_named word.now ≡ Ok pattern) }
-    ensures refused { IfErr result (Tells (pattern_named word.now)) }
+    ensures refused { IfErr result (Reports (pattern_named word.now)) }
 {
     match word {
         "uniform" => Ok(Pattern::Uniform),

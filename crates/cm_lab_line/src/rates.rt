@@ -3,9 +3,9 @@
 ghost use Rattle.std.specs.Prelude.{◌≡◌, ◌+◌, ◌*◌, ◌<◌, ◌^◌, IfOk, IfErr, IfSome, MatchOption, Ok, length};
 ghost use Rattle.std.specs.List.{position_or_len};
 ghost use Rattle.cm_bits.specs.Text.{is_comma};
-ghost use Rattle.cm_lab_line.specs.Refusals.{Tells};
+ghost use Rattle.cm_lab_line.specs.Refusals.{Reports};
 ghost use Rattle.cm_lab_line.specs.Operands.{digits_below};
-ghost use Rattle.cm_lab_line.specs.Rates.{IsCutAtComma, behind_point, fitting, hundredths, rate, rates};
+ghost use Rattle.cm_lab_line.specs.Rates.{IsCutAtComma, behind_point, fitting, hundredths_in, rate, rates};
 ghost use Rattle.cm_lab_line.specs.Rates.{with_rate};
 
 use crate::fault::CommandFault;
@@ -15,7 +15,7 @@ use std::alloc::Global;
 /// Rates with a comma between two.
 pub(crate) fn read_rates(alloc: Global, word: &str) -> Result<Vec<u16>, CommandFault>
     ensures value { IfOk result (λ found. rates word.now ≡ Ok found.items) }
-    ensures refused { IfErr result (Tells (rates word.now)) }
+    ensures refused { IfErr result (Reports (rates word.now)) }
 {
     let mut rates = Vec::new(alloc);
     let mut rest = word;
@@ -37,7 +37,7 @@ fn cut_at_comma(word: &str) -> Option<(&str, &str)>
 /// The rates with one more.
 fn with_rate(alloc: Global, known: Vec<u16>, word: &str) -> Result<Vec<u16>, CommandFault>
     ensures value { IfOk result (λ found. with_rate known.items word.now ≡ Ok found.items) }
-    ensures refused { IfErr result (Tells (with_rate known.items word.now)) }
+    ensures refused { IfErr result (Reports (with_rate known.items word.now)) }
 {
     let mut rates = known;
     let rate = read_rate(alloc, word)?;
@@ -49,7 +49,7 @@ fn with_rate(alloc: Global, known: Vec<u16>, word: &str) -> Result<Vec<u16>, Com
 
 fn read_rate(alloc: Global, word: &str) -> Result<u16, CommandFault>
     ensures value { IfOk result (λ found. rate word.now ≡ Ok found) }
-    ensures refused { IfErr result (Tells (rate word.now)) }
+    ensures refused { IfErr result (Reports (rate word.now)) }
 {
     match hundredths(word) {
         Some(rate) => Ok(rate),
@@ -59,7 +59,7 @@ fn read_rate(alloc: Global, word: &str) -> Result<u16, CommandFault>
 
 /// The hundredths of a number with at most two digits behind its point.
 fn hundredths(word: &str) -> Option<u16>
-    ensures { result ≡ hundredths word.now }
+    ensures { result ≡ hundredths_in word.now }
 {
     match word.split_once('.') {
         Some((whole, part)) => in_hundredths(digits(whole)?, behind_point(part)?),

@@ -3,10 +3,10 @@
 ghost use Rattle.std.specs.Prelude.{◌≡◌, ◌⊎◌, IfOk, IfErr, MatchOption, None, Ok, Some, bytes_eq};
 ghost use Rattle.std.specs.List.{list_any};
 ghost use Rattle.cm_lab_line.specs.Words.{texts};
-ghost use Rattle.cm_lab_line.specs.Refusals.{Memory, Tells, told};
+ghost use Rattle.cm_lab_line.specs.Refusals.{Memory, Reports, reported_refusal};
 ghost use Rattle.cm_lab_line.specs.Requests.{requested};
 ghost use Rattle.cm_lab_line.specs.Commands.{Explains, IsExplained, Refuses, expanding, freshening, fronting};
-ghost use Rattle.cm_lab_line.specs.Commands.{given_twice, is_single, loading, named, plotting, request_of};
+ghost use Rattle.cm_lab_line.specs.Commands.{given_twice, is_single, loading, request_named, plotting, request_of};
 
 use crate::blanks::{Blank, read_blank};
 use crate::fault::CommandFault;
@@ -66,7 +66,7 @@ pub struct Asked<'a> {
 pub fn read_words<'a>(alloc: Global, words: &[&'a str]) -> Result<Command<'a>, CommandFault>
     ensures once { IfOk result (λ command. given_twice (texts words.now) ≡ None) }
     ensures value { IfOk result (λ command. request_of (texts words.now) ≡ Ok (requested command)) }
-    ensures refused { IfErr result (λ fault. Refuses (texts words.now) (told fault)) }
+    ensures refused { IfErr result (λ fault. Refuses (texts words.now) (reported_refusal fault)) }
 {
     if let Some(option) = given_twice(words) {
         return Err(CommandFault::twice(alloc, option));
@@ -80,7 +80,7 @@ pub fn read_words<'a>(alloc: Global, words: &[&'a str]) -> Result<Command<'a>, C
 
 /// Why words ask for nothing.
 fn why_not(alloc: Global, words: &[&str]) -> CommandFault
-    ensures { (told result ≡ Memory) ⊎ Explains (texts words.now) (told result) }
+    ensures { (reported_refusal result ≡ Memory) ⊎ Explains (texts words.now) (reported_refusal result) }
 {
     match words {
         [_, command, rest @ ..] => {
@@ -96,7 +96,7 @@ fn why_not(alloc: Global, words: &[&str]) -> CommandFault
 
 /// Why a command does not take these words.
 fn not_of(alloc: Global, command: &str, words: &[&str]) -> CommandFault
-    ensures { (told result ≡ Memory) ⊎ IsExplained command.now (texts words.now) (told result) }
+    ensures { (reported_refusal result ≡ Memory) ⊎ IsExplained command.now (texts words.now) (reported_refusal result) }
 {
     if !is_command(command) {
         return CommandFault::command(alloc, command);
@@ -138,7 +138,7 @@ fn is_single(word: &str) -> bool
 
 fn read_command<'a>(alloc: Global, words: &[&'a str]) -> Result<Command<'a>, CommandFault>
     ensures value { IfOk result (λ command. request_of (texts words.now) ≡ Ok (requested command)) }
-    ensures refused { IfErr result (Tells (request_of (texts words.now))) }
+    ensures refused { IfErr result (Reports (request_of (texts words.now))) }
 {
     match words {
         [_, command, rest @ ..] => read_named(alloc, command, rest),
@@ -152,8 +152,8 @@ fn read_named<'a>(
     command: &str,
     words: &[&'a str],
 ) -> Result<Command<'a>, CommandFault>
-    ensures value { IfOk result (λ found. named command.now (texts words.now) ≡ Ok (requested found)) }
-    ensures refused { IfErr result (Tells (named command.now (texts words.now))) }
+    ensures value { IfOk result (λ found. request_named command.now (texts words.now) ≡ Ok (requested found)) }
+    ensures refused { IfErr result (Reports (request_named command.now (texts words.now))) }
 {
     match command {
         "front" => read_fronting(words),
@@ -174,7 +174,7 @@ fn read_named<'a>(
 
 fn read_fronting<'a>(words: &[&'a str]) -> Result<Command<'a>, CommandFault>
     ensures value { IfOk result (λ command. fronting (texts words.now) ≡ Ok (requested command)) }
-    ensures refused { IfErr result (Tells (fronting (texts words.now))) }
+    ensures refused { IfErr result (Reports (fronting (texts words.now))) }
 {
     match words {
         [image] => Ok(Command::Front { image, out: None }),
@@ -201,7 +201,7 @@ fn read_fronting<'a>(words: &[&'a str]) -> Result<Command<'a>, CommandFault>
 
 fn read_expanding<'a>(words: &[&'a str]) -> Result<Command<'a>, CommandFault>
     ensures value { IfOk result (λ command. expanding (texts words.now) ≡ Ok (requested command)) }
-    ensures refused { IfErr result (Tells (expanding (texts words.now))) }
+    ensures refused { IfErr result (Reports (expanding (texts words.now))) }
 {
     match words {
         [source] => Ok(Command::Expand { source }),
@@ -211,7 +211,7 @@ fn read_expanding<'a>(words: &[&'a str]) -> Result<Command<'a>, CommandFault>
 
 fn read_freshening<'a>(alloc: Global, words: &[&'a str]) -> Result<Command<'a>, CommandFault>
     ensures value { IfOk result (λ command. freshening (texts words.now) ≡ Ok (requested command)) }
-    ensures refused { IfErr result (Tells (freshening (texts words.now))) }
+    ensures refused { IfErr result (Reports (freshening (texts words.now))) }
 {
     match words {
         [n, room, rest @ ..] => match read_blank(alloc, n, room, rest) {
@@ -224,7 +224,7 @@ fn read_freshening<'a>(alloc: Global, words: &[&'a str]) -> Result<Command<'a>, 
 
 fn read_loading<'a>(alloc: Global, words: &[&'a str]) -> Result<Command<'a>, CommandFault>
     ensures value { IfOk result (λ command. loading (texts words.now) ≡ Ok (requested command)) }
-    ensures refused { IfErr result (Tells (loading (texts words.now))) }
+    ensures refused { IfErr result (Reports (loading (texts words.now))) }
 {
     match words {
         [n, room, rates, cycles, options @ ..] => {
@@ -237,7 +237,7 @@ fn read_loading<'a>(alloc: Global, words: &[&'a str]) -> Result<Command<'a>, Com
 
 fn read_plotting<'a>(words: &[&'a str]) -> Result<Command<'a>, CommandFault>
     ensures value { IfOk result (λ command. plotting (texts words.now) ≡ Ok (requested command)) }
-    ensures refused { IfErr result (Tells (plotting (texts words.now))) }
+    ensures refused { IfErr result (Reports (plotting (texts words.now))) }
 {
     match words {
         [] => Ok(Command::Plot { file: None }),

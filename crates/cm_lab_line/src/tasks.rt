@@ -2,12 +2,13 @@
 
 ghost use Rattle.std.specs.Prelude.{◌≡◌, IfOk, IfErr, Ok};
 ghost use Rattle.cm_lab_line.specs.Words.{texts};
-ghost use Rattle.cm_lab_line.specs.Refusals.{Tells};
+ghost use Rattle.cm_lab_line.specs.Refusals.{Reports};
 ghost use Rattle.cm_lab_line.specs.Requests.{Nothing, Program, task_asked};
 ghost use Rattle.cm_lab_line.specs.Tasks.{field_pictured, filled, filling, filling_in, flag_pictured, flagged};
-ghost use Rattle.cm_lab_line.specs.Tasks.{is_setting, is_sign, looked_at, painted, painting, picture_in, picturing};
-ghost use Rattle.cm_lab_line.specs.Tasks.{routed, routing, sender, shown, span_pictured, studying, studying_in, tag};
-ghost use Rattle.cm_lab_line.specs.Tasks.{task_of, telling, told_of, with_setting, with_sign};
+ghost use Rattle.cm_lab_line.specs.Tasks.{is_setting, is_sign, looked_at, painted, painting, picture_asked, picturing};
+ghost use Rattle.cm_lab_line.specs.Tasks.{routed, routing, sender_words, field_shown, span_pictured, studying};
+ghost use Rattle.cm_lab_line.specs.Tasks.{studying_in, tag};
+ghost use Rattle.cm_lab_line.specs.Tasks.{task_of, telling, reporting_task, with_setting, with_sign};
 
 use crate::fault::CommandFault;
 use crate::operands::{
@@ -25,7 +26,7 @@ pub(crate) fn read_task<'a>(
     words: &[&'a str],
 ) -> Result<Asked<'a>, CommandFault>
     ensures value { IfOk result (λ asked. task_of command.now (texts words.now) ≡ Ok (task_asked asked)) }
-    ensures refused { IfErr result (Tells (task_of command.now (texts words.now))) }
+    ensures refused { IfErr result (Reports (task_of command.now (texts words.now))) }
 {
     match command {
         "get" => read_telling(alloc, Order::Chips, words),
@@ -46,7 +47,7 @@ fn read_telling<'a>(
     words: &[&'a str],
 ) -> Result<Asked<'a>, CommandFault>
     ensures value { IfOk result (λ asked. telling order (texts words.now) ≡ Ok (task_asked asked)) }
-    ensures refused { IfErr result (Tells (telling order (texts words.now))) }
+    ensures refused { IfErr result (Reports (telling order (texts words.now))) }
 {
     match words {
         [image, at, len] => {
@@ -67,7 +68,7 @@ fn read_flagged<'a>(
     number: &str,
 ) -> Result<Asked<'a>, CommandFault>
     ensures value { IfOk result (λ asked. flagged order image.now number.now ≡ Ok (task_asked asked)) }
-    ensures refused { IfErr result (Tells (flagged order image.now number.now)) }
+    ensures refused { IfErr result (Reports (flagged order image.now number.now)) }
 {
     let flag = flag(alloc, number)?;
     Ok(Asked {
@@ -85,8 +86,8 @@ fn read_shown<'a>(
     at: &str,
     len: &str,
 ) -> Result<Asked<'a>, CommandFault>
-    ensures value { IfOk result (λ asked. shown order image.now at.now len.now ≡ Ok (task_asked asked)) }
-    ensures refused { IfErr result (Tells (shown order image.now at.now len.now)) }
+    ensures value { IfOk result (λ asked. field_shown order image.now at.now len.now ≡ Ok (task_asked asked)) }
+    ensures refused { IfErr result (Reports (field_shown order image.now at.now len.now)) }
 {
     let field = field(alloc, at, len)?;
     Ok(Asked {
@@ -100,7 +101,7 @@ fn read_shown<'a>(
 /// Numbers come chip by chip, or row by row.
 fn read_filling<'a>(alloc: Global, words: &[&'a str]) -> Result<Asked<'a>, CommandFault>
     ensures value { IfOk result (λ asked. filling (texts words.now) ≡ Ok (task_asked asked)) }
-    ensures refused { IfErr result (Tells (filling (texts words.now))) }
+    ensures refused { IfErr result (Reports (filling (texts words.now))) }
 {
     let Some((first, rest)) = words.split_first() else {
         return Err(CommandFault::Words);
@@ -117,7 +118,7 @@ fn read_filling_in<'a>(
     words: &[&'a str],
 ) -> Result<Asked<'a>, CommandFault>
     ensures value { IfOk result (λ asked. filling_in order (texts words.now) ≡ Ok (task_asked asked)) }
-    ensures refused { IfErr result (Tells (filling_in order (texts words.now))) }
+    ensures refused { IfErr result (Reports (filling_in order (texts words.now))) }
 {
     match words {
         [image, at, len, out] => read_filled(alloc, order, image, at, len, out),
@@ -134,7 +135,7 @@ fn read_filled<'a>(
     out: &'a str,
 ) -> Result<Asked<'a>, CommandFault>
     ensures value { IfOk result (λ asked. filled order image.now at.now len.now out.now ≡ Ok (task_asked asked)) }
-    ensures refused { IfErr result (Tells (filled order image.now at.now len.now out.now)) }
+    ensures refused { IfErr result (Reports (filled order image.now at.now len.now out.now)) }
 {
     let field = field(alloc, at, len)?;
     let out = file_named(out)?;
@@ -149,7 +150,7 @@ fn read_filled<'a>(
 /// Options, and what a picture shows.
 fn read_picturing<'a>(alloc: Global, words: &[&'a str]) -> Result<Asked<'a>, CommandFault>
     ensures value { IfOk result (λ asked. picturing (texts words.now) ≡ Ok (task_asked asked)) }
-    ensures refused { IfErr result (Tells (picturing (texts words.now))) }
+    ensures refused { IfErr result (Reports (picturing (texts words.now))) }
 {
     let plain = Look {
         format: Format::Netpbm(Form::Raw),
@@ -166,7 +167,7 @@ fn read_looked_at<'a>(
     words: &[&'a str],
 ) -> Result<Asked<'a>, CommandFault>
     ensures value { IfOk result (λ asked. looked_at look (texts words.now) ≡ Ok (task_asked asked)) }
-    ensures refused { IfErr result (Tells (looked_at look (texts words.now))) }
+    ensures refused { IfErr result (Reports (looked_at look (texts words.now))) }
 {
     match words {
         [option, word, after @ ..] => {
@@ -220,7 +221,7 @@ pub(crate) fn is_setting(option: &str) -> bool
 /// What such an option says with its word.
 fn with_setting(alloc: Global, look: Look, option: &str, word: &str) -> Result<Look, CommandFault>
     ensures value { IfOk result (λ changed. with_setting look option.now word.now ≡ Ok changed) }
-    ensures refused { IfErr result (Tells (with_setting look option.now word.now)) }
+    ensures refused { IfErr result (Reports (with_setting look option.now word.now)) }
 {
     match option {
         "--scale" => {
@@ -243,8 +244,8 @@ fn read_picture_in<'a>(
     look: Look,
     words: &[&'a str],
 ) -> Result<Asked<'a>, CommandFault>
-    ensures value { IfOk result (λ asked. picture_in look (texts words.now) ≡ Ok (task_asked asked)) }
-    ensures refused { IfErr result (Tells (picture_in look (texts words.now))) }
+    ensures value { IfOk result (λ asked. picture_asked look (texts words.now) ≡ Ok (task_asked asked)) }
+    ensures refused { IfErr result (Reports (picture_asked look (texts words.now))) }
 {
     match words {
         [image, what] => {
@@ -266,7 +267,7 @@ fn read_picture_in<'a>(
 }
 
 fn pictured<'a>(shown: Shown, look: Look, image: &'a str) -> Asked<'a>
-    ensures { task_asked result ≡ told_of (Task.Show shown look) image.now Nothing }
+    ensures { task_asked result ≡ reporting_task (Task.Show shown look) image.now Nothing }
 {
     Asked {
         task: Task::Show(shown, look),
@@ -283,7 +284,7 @@ fn read_flag_pictured<'a>(
     number: &str,
 ) -> Result<Asked<'a>, CommandFault>
     ensures value { IfOk result (λ asked. flag_pictured look image.now number.now ≡ Ok (task_asked asked)) }
-    ensures refused { IfErr result (Tells (flag_pictured look image.now number.now)) }
+    ensures refused { IfErr result (Reports (flag_pictured look image.now number.now)) }
 {
     let flag = flag(alloc, number)?;
     Ok(pictured(Shown::Flag(flag), look, image))
@@ -297,7 +298,7 @@ fn read_field_pictured<'a>(
     len: &str,
 ) -> Result<Asked<'a>, CommandFault>
     ensures value { IfOk result (λ asked. field_pictured look image.now at.now len.now ≡ Ok (task_asked asked)) }
-    ensures refused { IfErr result (Tells (field_pictured look image.now at.now len.now)) }
+    ensures refused { IfErr result (Reports (field_pictured look image.now at.now len.now)) }
 {
     let field = field(alloc, at, len)?;
     read_span_pictured(alloc, look, image, len, field)
@@ -312,7 +313,7 @@ fn read_span_pictured<'a>(
     field: Field,
 ) -> Result<Asked<'a>, CommandFault>
     ensures value { IfOk result (λ asked. span_pictured look image.now len.now field ≡ Ok (task_asked asked)) }
-    ensures refused { IfErr result (Tells (span_pictured look image.now len.now field)) }
+    ensures refused { IfErr result (Reports (span_pictured look image.now len.now field)) }
 {
     if field.len() > 16 {
         return Err(CommandFault::operand(alloc, Operand::Depth, len));
@@ -322,7 +323,7 @@ fn read_span_pictured<'a>(
 
 fn read_painting<'a>(alloc: Global, words: &[&'a str]) -> Result<Asked<'a>, CommandFault>
     ensures value { IfOk result (λ asked. painting (texts words.now) ≡ Ok (task_asked asked)) }
-    ensures refused { IfErr result (Tells (painting (texts words.now))) }
+    ensures refused { IfErr result (Reports (painting (texts words.now))) }
 {
     match words {
         [image, picture, at, out] => read_painted(alloc, image, picture, at, out),
@@ -338,7 +339,7 @@ fn read_painted<'a>(
     out: &'a str,
 ) -> Result<Asked<'a>, CommandFault>
     ensures value { IfOk result (λ asked. painted image.now picture.now at.now out.now ≡ Ok (task_asked asked)) }
-    ensures refused { IfErr result (Tells (painted image.now picture.now at.now out.now)) }
+    ensures refused { IfErr result (Reports (painted image.now picture.now at.now out.now)) }
 {
     let at = number(alloc, Operand::Address, at)?;
     let out = file_named(out)?;
@@ -353,7 +354,7 @@ fn read_painted<'a>(
 /// A study is a table of petit cycles, or of messages.
 fn read_studying<'a>(words: &[&'a str]) -> Result<Asked<'a>, CommandFault>
     ensures value { IfOk result (λ asked. studying (texts words.now) ≡ Ok (task_asked asked)) }
-    ensures refused { IfErr result (Tells (studying (texts words.now))) }
+    ensures refused { IfErr result (Reports (studying (texts words.now))) }
 {
     let Some((first, rest)) = words.split_first() else {
         return Err(CommandFault::Words);
@@ -366,7 +367,7 @@ fn read_studying<'a>(words: &[&'a str]) -> Result<Asked<'a>, CommandFault>
 
 fn read_studying_in<'a>(table: Table, words: &[&'a str]) -> Result<Asked<'a>, CommandFault>
     ensures value { IfOk result (λ asked. studying_in table (texts words.now) ≡ Ok (task_asked asked)) }
-    ensures refused { IfErr result (Tells (studying_in table (texts words.now))) }
+    ensures refused { IfErr result (Reports (studying_in table (texts words.now))) }
 {
     match words {
         [image, program] => Ok(studied(table, image, program)),
@@ -375,7 +376,7 @@ fn read_studying_in<'a>(table: Table, words: &[&'a str]) -> Result<Asked<'a>, Co
 }
 
 fn studied<'a>(table: Table, image: &'a str, program: &'a str) -> Asked<'a>
-    ensures { task_asked result ≡ told_of (Task.Study table) image.now (Program program.now) }
+    ensures { task_asked result ≡ reporting_task (Task.Study table) image.now (Program program.now) }
 {
     Asked {
         task: Task::Study(table),
@@ -387,7 +388,7 @@ fn studied<'a>(table: Table, image: &'a str, program: &'a str) -> Asked<'a>
 
 fn read_routing<'a>(alloc: Global, words: &[&'a str]) -> Result<Asked<'a>, CommandFault>
     ensures value { IfOk result (λ asked. routing (texts words.now) ≡ Ok (task_asked asked)) }
-    ensures refused { IfErr result (Tells (routing (texts words.now))) }
+    ensures refused { IfErr result (Reports (routing (texts words.now))) }
 {
     match words {
         [image, program, sent @ ..] => read_routed(alloc, image, program, sent),
@@ -402,7 +403,7 @@ fn read_routed<'a>(
     words: &[&str],
 ) -> Result<Asked<'a>, CommandFault>
     ensures value { IfOk result (λ asked. routed image.now program.now (texts words.now) ≡ Ok (task_asked asked)) }
-    ensures refused { IfErr result (Tells (routed image.now program.now (texts words.now))) }
+    ensures refused { IfErr result (Reports (routed image.now program.now (texts words.now))) }
 {
     let sent = read_sender(alloc, words)?;
     Ok(Asked {
@@ -415,8 +416,8 @@ fn read_routed<'a>(
 
 /// Which message it is, by the words that say who sent it.
 fn read_sender(alloc: Global, words: &[&str]) -> Result<Tag, CommandFault>
-    ensures value { IfOk result (λ tag. sender (texts words.now) ≡ Ok tag) }
-    ensures refused { IfErr result (Tells (sender (texts words.now))) }
+    ensures value { IfOk result (λ tag. sender_words (texts words.now) ≡ Ok tag) }
+    ensures refused { IfErr result (Reports (sender_words (texts words.now))) }
 {
     match words {
         [chip, proc, birth] => read_tag(alloc, chip, proc, birth),
@@ -427,7 +428,7 @@ fn read_sender(alloc: Global, words: &[&str]) -> Result<Tag, CommandFault>
 /// The tag of a message: the chip and the processor that sent it, and the petit cycle in which it was taken in.
 fn read_tag(alloc: Global, chip: &str, proc: &str, birth: &str) -> Result<Tag, CommandFault>
     ensures value { IfOk result (λ sent. tag chip.now proc.now birth.now ≡ Ok sent) }
-    ensures refused { IfErr result (Tells (tag chip.now proc.now birth.now)) }
+    ensures refused { IfErr result (Reports (tag chip.now proc.now birth.now)) }
 {
     let chip = number(alloc, Operand::Chip, chip)?;
     let proc = processor(alloc, proc)?;

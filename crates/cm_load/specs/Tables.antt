@@ -16,8 +16,8 @@ abbrev pub last_two : ℕ → List ℕ
 last_two x = last_digit (x / 10) ++ last_digit x
 
 -- so many hundredths: whole ones, a point, two digits, and the comma behind them
-abbrev pub hundredths : ℕ → List ℕ
-hundredths x = decimal (x / 100) ++ 46 ∷ [] ++ last_two x ++ 44 ∷ []
+abbrev pub hundredths_text : ℕ → List ℕ
+hundredths_text x = decimal (x / 100) ++ 46 ∷ [] ++ last_two x ++ 44 ∷ []
 
 -- so many thousandths: three digits
 abbrev pub thousandths : ℕ → List ℕ
@@ -35,7 +35,7 @@ header = codes "rate,offered,taken,delivered,throughput,mean,p95,greatest,deepes
 
 -- what was offered
 abbrev pub offer_columns : Figures → List ℕ
-offer_columns figures = hundredths figures.rate ++ number_cell figures.offered
+offer_columns figures = hundredths_text figures.rate ++ number_cell figures.offered
 
 -- what became of it
 abbrev pub message_columns : Figures → List ℕ
@@ -45,7 +45,7 @@ message_columns figures =
 -- how long that took
 abbrev pub latency_columns : Figures → List ℕ
 latency_columns figures =
-    hundredths figures.mean ++ column_if figures.most ++ number_cell figures.greatest
+    hundredths_text figures.mean ++ column_if figures.most ++ number_cell figures.greatest
 
 -- the line of a load
 unfoldable pub load_line : Figures → List ℕ
@@ -68,18 +68,18 @@ spread_header = codes "rate,throughput,throughput +-,mean,mean +-,p95,p95 +-,gre
 
 -- a mean and a half width in hundredths
 abbrev pub spread_columns : Spread → List ℕ
-spread_columns spread = hundredths spread.mean ++ hundredths spread.half
+spread_columns spread = hundredths_text spread.mean ++ hundredths_text spread.half
 
 -- what was delivered
 abbrev pub throughput_columns : Spreads → List ℕ
 throughput_columns spreads =
-    hundredths spreads.rate ++ thousandths spreads.throughput.mean ++ thousandths spreads.throughput.half
+    hundredths_text spreads.rate ++ thousandths spreads.throughput.mean ++ thousandths spreads.throughput.half
 
 -- the line of loads of a rate
 unfoldable pub spread_line : Spreads → List ℕ
 spread_line spreads =
     throughput_columns spreads ++ spread_columns spreads.mean ++ spread_columns spreads.most
-    ++ hundredths spreads.greatest.mean ++ last_hundredths spreads.greatest.half
+    ++ hundredths_text spreads.greatest.mean ++ last_hundredths spreads.greatest.half
 
 -- the table: a line of names, and a line for each rate
 unfoldable pub spread_table_of : List Spreads → List ℕ

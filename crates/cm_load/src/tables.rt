@@ -1,7 +1,7 @@
 //! The table of loads, as a text.
 
 ghost use Rattle.std.specs.Prelude.{◌≡◌, ◌++◌, ◌∷◌, [], ◌/◌, ◌%◌, OnOk, IfOk, decimal};
-ghost use Rattle.cm_load.specs.Tables.{last_digit, last_two, hundredths, thousandths, column_if};
+ghost use Rattle.cm_load.specs.Tables.{last_digit, last_two, hundredths_text, thousandths, column_if};
 ghost use Rattle.cm_load.specs.Tables.{header, offer_columns, message_columns, latency_columns, load_line, table_of};
 ghost use Rattle.cm_load.specs.Tables.{last_hundredths, spread_header, spread_columns, throughput_columns};
 ghost use Rattle.cm_load.specs.Tables.{spread_line, spread_table_of};
@@ -143,7 +143,7 @@ fn push_if(text: &mut Vec<u8>, number: Option<u32>) -> Result<(), NoMemory>
 
 /// So many hundredths, and a comma.
 fn push_hundredths(text: &mut Vec<u8>, number: u128) -> Result<(), NoMemory>
-    ensures ok { OnOk result (text.new.items ≡ text.old.items ++ hundredths number) }
+    ensures ok { OnOk result (text.new.items ≡ text.old.items ++ hundredths_text number) }
 {
     push_number(text, number / 100, b'.')?;
     push_last_two(text, number)?;

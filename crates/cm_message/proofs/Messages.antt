@@ -7,7 +7,7 @@ use Rattle.std.proofs.lemmas.List.{get_or-drop, length-take, length-drop, take-a
 use Rattle.std.proofs.lemmas.Nat.{from_be_bytes-to_be_bytes_2, from_be_bytes-to_be_bytes_4, from_be_bytes-to_be_bytes_8}
 use Rattle.std.proofs.lemmas.Nat.{be_bytes_2, be_bytes_4, be_bytes_8}
 use Rattle.cm_model.specs.declared.message.Message.{Message}
-use Rattle.cm_message.specs.Bytes.{number, message_text, number_from, rel_in, proc_in, payload_in, origin_chip_in}
+use Rattle.cm_message.specs.Bytes.{number_bytes, message_text, number_from, rel_in, proc_in, payload_in, origin_chip_in}
 use Rattle.cm_message.specs.Bytes.{origin_proc_in, birth_in, message_of}
 use Rattle.cm_message.specs.Laws.{MessagesAreRead, OnlyTheirBytesAreRead}
 use Rattle.cm_message.proofs.Numbers.{small_part, from_be_bytes-take_2, from_be_bytes-take_4, from_be_bytes-take_8}
@@ -15,27 +15,27 @@ use Rattle.cm_message.proofs.Numbers.{small_part, from_be_bytes-take_2, from_be_
 -- ---- of a message's bytes its parts are read
 
 rel_in-text : (m : Message) → m.rel < 2 ^ 16 → rel_in (message_text m) ≡ m.rel
-unfolding number number_from
+unfolding number_bytes number_from
 rel_in-text m h = from_be_bytes-to_be_bytes_2 m.rel h
 
 proc_in-text : (m : Message) → m.proc < 16 → proc_in (message_text m) ≡ m.proc
-unfolding number
+unfolding number_bytes
 proc_in-text m h = mod-eq_of_lt (omega arith)
 
 payload_in-text : (m : Message) → m.payload < 2 ^ 32 → payload_in (message_text m) ≡ m.payload
-unfolding number number_from
+unfolding number_bytes number_from
 payload_in-text m h = from_be_bytes-to_be_bytes_4 m.payload h
 
 origin_chip_in-text : (m : Message) → m.tag.chip < 2 ^ 16 → origin_chip_in (message_text m) ≡ m.tag.chip
-unfolding number number_from
+unfolding number_bytes number_from
 origin_chip_in-text m h = from_be_bytes-to_be_bytes_2 m.tag.chip h
 
 origin_proc_in-text : (m : Message) → m.tag.proc < 16 → origin_proc_in (message_text m) ≡ m.tag.proc
-unfolding number
+unfolding number_bytes
 origin_proc_in-text m h = mod-eq_of_lt (omega arith)
 
 birth_in-text : (m : Message) → m.tag.birth < 2 ^ 64 → birth_in (message_text m) ≡ m.tag.birth
-unfolding number number_from
+unfolding number_bytes number_from
 birth_in-text m h = from_be_bytes-to_be_bytes_8 m.tag.birth h
 
 both_below : (p q : ℕ) (m : Message) → p < 16 → q < 16 → (if nat_lt p 16 && nat_lt q 16 then Some m else None) ≡ Some m
@@ -55,35 +55,35 @@ messages_are_read m is birth =
 -- ---- the bytes of which parts are read are the bytes of the parts
 
 pair : (bytes : List ℕ) (at : ℕ) → at + 2 ≤ length bytes → ((i : ℕ) → get_or bytes i 0 < 256)
-    → number w16 (number_from w16 at bytes) ≡ take 2 (drop at bytes)
-unfolding number number_from
+    → number_bytes w16 (number_from w16 at bytes) ≡ take 2 (drop at bytes)
+unfolding number_bytes number_from
 pair bytes at long small =
     be_bytes_2 (take 2 (drop at bytes)) _ (omega (arith, length-take 2 (drop at bytes), length-drop at bytes))
     (small_part bytes at 2 small) (from_be_bytes-take_2 (drop at bytes))
 
 four : (bytes : List ℕ) (at : ℕ) → at + 4 ≤ length bytes → ((i : ℕ) → get_or bytes i 0 < 256)
-    → number w32 (number_from w32 at bytes) ≡ take 4 (drop at bytes)
-unfolding number number_from
+    → number_bytes w32 (number_from w32 at bytes) ≡ take 4 (drop at bytes)
+unfolding number_bytes number_from
 four bytes at long small =
     be_bytes_4 (take 4 (drop at bytes)) _ (omega (arith, length-take 4 (drop at bytes), length-drop at bytes))
     (small_part bytes at 4 small) (from_be_bytes-take_4 (drop at bytes))
 
 eight : (bytes : List ℕ) (at : ℕ) → at + 8 ≤ length bytes → ((i : ℕ) → get_or bytes i 0 < 256)
-    → number w64 (number_from w64 at bytes) ≡ take 8 (drop at bytes)
-unfolding number number_from
+    → number_bytes w64 (number_from w64 at bytes) ≡ take 8 (drop at bytes)
+unfolding number_bytes number_from
 eight bytes at long small =
     be_bytes_8 (take 8 (drop at bytes)) _ (omega (arith, length-take 8 (drop at bytes), length-drop at bytes))
     (small_part bytes at 8 small) (from_be_bytes-take_8 (drop at bytes))
 
-first_byte : (bytes : List ℕ) → 1 ≤ length bytes → get_or bytes 0 0 < 256 → number w8 (get_or bytes 0 0) ≡ take 1 bytes
-unfolding number
+first_byte : (bytes : List ℕ) → 1 ≤ length bytes → get_or bytes 0 0 < 256 → number_bytes w8 (get_or bytes 0 0) ≡ take 1 bytes
+unfolding number_bytes
 first_byte [] long small = absurd (omega (arith, long))
 first_byte (a ∷ rest) long small = ap (λ (x : ℕ). x ∷ []) (mod-eq_of_lt small)
 
 byte : (bytes : List ℕ) (at b : ℕ) → get_or (drop at bytes) 0 0 ≡ b → at + 1 ≤ length bytes
-    → ((i : ℕ) → get_or bytes i 0 < 256) → number w8 b ≡ take 1 (drop at bytes)
+    → ((i : ℕ) → get_or bytes i 0 < 256) → number_bytes w8 b ≡ take 1 (drop at bytes)
 byte bytes at b is long small =
-    ap (number w8) (sym is)
+    ap (number_bytes w8) (sym is)
     ∙ first_byte (drop at bytes) (omega (arith, length-drop at bytes)) (rw (get_or-drop at bytes 0 0) (small (at + 0)))
 
 -- a part and what follows it

@@ -4,14 +4,14 @@ use Rattle.std.specs.Int.{Width, w8, w16, w32, w64, to_be_bytes, from_be_bytes}
 use Rattle.cm_model.specs.declared.message.Message.{Message}
 
 -- the bytes of a number of this width, the highest first
-unfoldable pub number : Width → ℕ → List ℕ
-number w n = to_be_bytes w n
+unfoldable pub number_bytes : Width → ℕ → List ℕ
+number_bytes w n = to_be_bytes w n
 
 -- relative address, processor, payload; then origin chip, origin processor, birth
 abbrev pub message_text : Message → List ℕ
 message_text m =
-    number w16 m.rel ++ (number w8 m.proc ++ (number w32 m.payload
-    ++ (number w16 m.tag.chip ++ (number w8 m.tag.proc ++ number w64 m.tag.birth))))
+    number_bytes w16 m.rel ++ (number_bytes w8 m.proc ++ (number_bytes w32 m.payload
+    ++ (number_bytes w16 m.tag.chip ++ (number_bytes w8 m.tag.proc ++ number_bytes w64 m.tag.birth))))
 
 -- the number of this width that begins at this place
 unfoldable pub number_from : Width → ℕ → List ℕ → ℕ

@@ -8,7 +8,7 @@ use cm_bits::Proc;
 use cm_model::{Message, Tag};
 
 /// The bytes of a message: relative address, processor, payload, then origin chip, origin processor, birth.
-#[tactic(auto, unfolding(crate::specs::Bytes::number))]
+#[tactic(auto, unfolding(crate::specs::Bytes::number_bytes))]
 pub fn bytes(message: &Message) -> [u8; 18]
     ensures value { result ≡ message_text message.now }
 {

@@ -9,9 +9,9 @@ use Rattle.cm_session.specs.declared.command.Command.{Command}
 use Rattle.cm_session.specs.declared.command.Command.TheVariants as command
 use Rattle.cm_session.specs.declared.command.Refusal.{Refusal}
 use Rattle.cm_session.specs.declared.command.Refusal.TheVariants.{Range, ZeroFlag}
-use Rattle.cm_session.specs.Operands.{◌>>=◌, number, below, one_bit, place, field_unless, pokeable}
-use Rattle.cm_session.specs.Commands.{alone, index_of, wire_of, field_of, flag_of, poke_of, poke_flag_of}
-use Rattle.cm_session.specs.Commands.{chip_of, find_of, command_named}
+use Rattle.cm_session.specs.Operands.{◌>>=◌, number_in_word, below_limit, one_bit, place, command_field_unless, pokeable}
+use Rattle.cm_session.specs.Commands.{command_alone, index_of, wire_operand, field_operands, flag_of, poke_of, poke_flag_of}
+use Rattle.cm_session.specs.Commands.{chip_operand, find_of, command_named}
 use Rattle.cm_session.specs.Bounds.{IsFor}
 
 -- ---- one step after another
@@ -40,13 +40,13 @@ below_if : (b : Bool) (limit x : ℕ) → nat_lt x limit ≡ b → IfOk (if b th
 below_if true limit x e = ltb-true x limit e
 below_if false limit x e = tt
 
-below_is_below : (limit x : ℕ) → IfOk (below limit x) (λ y. y < limit)
+below_is_below : (limit x : ℕ) → IfOk (below_limit limit x) (λ y. y < limit)
 below_is_below limit x = below_if (nat_lt x limit) limit x refl
 
 place_is_inside : (n c p : ℕ) → IfOk (place n c p) (λ there. there.chip < 2 ^ n)
 place_is_inside n c p =
-    then_by (below (2 ^ n) c) _ (λ c'. c' < 2 ^ n) _ (below_is_below (2 ^ n) c)
-    (λ c' is. then_any (below 16 p) _ _ (λ p'. is))
+    then_by (below_limit (2 ^ n) c) _ (λ c'. c' < 2 ^ n) _ (below_is_below (2 ^ n) c)
+    (λ c' is. then_any (below_limit 16 p) _ _ (λ p'. is))
 
 pokeable_if : (b : Bool) (f : ℕ) → (f == ZERO) ≡ b → IfOk (if b then Err ZeroFlag else Ok f) (λ poked. poked ≢ ZERO)
 pokeable_if true f e = tt
@@ -58,16 +58,16 @@ pokeable_is_not_zero f = pokeable_if (f == ZERO) f refl
 -- ---- by the words after the first
 
 alone_is_for : (n count : ℕ) (asked : Command) (words : List (List ℕ)) → IsFor n count asked
-    → IfOk (alone asked words) (IsFor n count)
+    → IfOk (command_alone asked words) (IsFor n count)
 alone_is_for n count asked [] is = is
 alone_is_for n count asked (word ∷ words) is = tt
 
 index_is_below : (count : ℕ) (words : List (List ℕ)) → IfOk (index_of count words) (λ i. i < count)
 index_is_below count [] = tt
-index_is_below count (i ∷ []) = then_any (number i) _ _ (λ i'. below_is_below count i')
+index_is_below count (i ∷ []) = then_any (number_in_word i) _ _ (λ i'. below_is_below count i')
 index_is_below count (i ∷ next ∷ words) = tt
 
-wire_is_for : (n count : ℕ) (words : List (List ℕ)) → IfOk (wire_of words) (IsFor n count)
+wire_is_for : (n count : ℕ) (words : List (List ℕ)) → IfOk (wire_operand words) (IsFor n count)
 wire_is_for n count [] = tt
 wire_is_for n count (word ∷ []) =
     if_either (bytes_eq word (codes "on")) _ _ _ tt
@@ -75,16 +75,16 @@ wire_is_for n count (word ∷ []) =
     (if_either (bytes_eq word (codes "show")) _ _ _ tt tt))
 wire_is_for n count (word ∷ next ∷ words) = tt
 
-field_is_for : (n count : ℕ) (words : List (List ℕ)) → IfOk (field_of n words) (IsFor n count)
+field_is_for : (n count : ℕ) (words : List (List ℕ)) → IfOk (field_operands n words) (IsFor n count)
 field_is_for n count [] = tt
 field_is_for n count (c ∷ []) = tt
 field_is_for n count (c ∷ p ∷ []) = tt
 field_is_for n count (c ∷ p ∷ a ∷ []) = tt
 field_is_for n count (c ∷ p ∷ a ∷ l ∷ []) =
-    then_any (number c) _ _ (λ c'. then_any (number p) _ _ (λ p'.
-    then_any (number a) _ _ (λ a'. then_any (number l) _ _ (λ l'.
+    then_any (number_in_word c) _ _ (λ c'. then_any (number_in_word p) _ _ (λ p'.
+    then_any (number_in_word a) _ _ (λ a'. then_any (number_in_word l) _ _ (λ l'.
     then_by (place n c' p') _ (λ there. there.chip < 2 ^ n) _ (place_is_inside n c' p') (λ there is.
-    then_any (field_unless a' l' (field_fault a' l')) _ _ (λ bits. is))))))
+    then_any (command_field_unless a' l' (field_fault a' l')) _ _ (λ bits. is))))))
 field_is_for n count (c ∷ p ∷ a ∷ l ∷ next ∷ words) = tt
 
 flag_is_for : (n count : ℕ) (words : List (List ℕ)) → IfOk (flag_of n words) (IsFor n count)
@@ -92,9 +92,9 @@ flag_is_for n count [] = tt
 flag_is_for n count (c ∷ []) = tt
 flag_is_for n count (c ∷ p ∷ []) = tt
 flag_is_for n count (c ∷ p ∷ f ∷ []) =
-    then_any (number c) _ _ (λ c'. then_any (number p) _ _ (λ p'. then_any (number f) _ _ (λ f'.
+    then_any (number_in_word c) _ _ (λ c'. then_any (number_in_word p) _ _ (λ p'. then_any (number_in_word f) _ _ (λ f'.
     then_by (place n c' p') _ (λ there. there.chip < 2 ^ n) _ (place_is_inside n c' p') (λ there is.
-    then_any (below 16 f') _ _ (λ flag. is)))))
+    then_any (below_limit 16 f') _ _ (λ flag. is)))))
 flag_is_for n count (c ∷ p ∷ f ∷ next ∷ words) = tt
 
 poke_is_for : (n count : ℕ) (words : List (List ℕ)) → IfOk (poke_of n words) (IsFor n count)
@@ -103,10 +103,10 @@ poke_is_for n count (c ∷ []) = tt
 poke_is_for n count (c ∷ p ∷ []) = tt
 poke_is_for n count (c ∷ p ∷ a ∷ []) = tt
 poke_is_for n count (c ∷ p ∷ a ∷ b ∷ []) =
-    then_any (number c) _ _ (λ c'. then_any (number p) _ _ (λ p'.
-    then_any (number a) _ _ (λ a'. then_any (number b) _ _ (λ b'.
+    then_any (number_in_word c) _ _ (λ c'. then_any (number_in_word p) _ _ (λ p'.
+    then_any (number_in_word a) _ _ (λ a'. then_any (number_in_word b) _ _ (λ b'.
     then_by (place n c' p') _ (λ there. there.chip < 2 ^ n) _ (place_is_inside n c' p') (λ there is.
-    then_any (below 4096 a') _ _ (λ address. then_any (one_bit b') _ _ (λ bit. is)))))))
+    then_any (below_limit 4096 a') _ _ (λ address. then_any (one_bit b') _ _ (λ bit. is)))))))
 poke_is_for n count (c ∷ p ∷ a ∷ b ∷ next ∷ words) = tt
 
 poke_flag_is_for : (n count : ℕ) (words : List (List ℕ)) → IfOk (poke_flag_of n words) (IsFor n count)
@@ -115,16 +115,16 @@ poke_flag_is_for n count (c ∷ []) = tt
 poke_flag_is_for n count (c ∷ p ∷ []) = tt
 poke_flag_is_for n count (c ∷ p ∷ f ∷ []) = tt
 poke_flag_is_for n count (c ∷ p ∷ f ∷ b ∷ []) =
-    then_any (number c) _ _ (λ c'. then_any (number p) _ _ (λ p'.
-    then_any (number f) _ _ (λ f'. then_any (number b) _ _ (λ b'.
+    then_any (number_in_word c) _ _ (λ c'. then_any (number_in_word p) _ _ (λ p'.
+    then_any (number_in_word f) _ _ (λ f'. then_any (number_in_word b) _ _ (λ b'.
     then_by (place n c' p') _ (λ there. there.chip < 2 ^ n) _ (place_is_inside n c' p') (λ there is.
-    then_any (below 16 f') _ _ (λ flag. then_any (one_bit b') _ _ (λ bit.
+    then_any (below_limit 16 f') _ _ (λ flag. then_any (one_bit b') _ _ (λ bit.
     then_by (pokeable flag) _ (λ poked. poked ≢ ZERO) _ (pokeable_is_not_zero flag) (λ poked other. (is, other)))))))))
 poke_flag_is_for n count (c ∷ p ∷ f ∷ b ∷ next ∷ words) = tt
 
-chip_is_inside : (n : ℕ) (words : List (List ℕ)) → IfOk (chip_of n words) (λ c. c < 2 ^ n)
+chip_is_inside : (n : ℕ) (words : List (List ℕ)) → IfOk (chip_operand n words) (λ c. c < 2 ^ n)
 chip_is_inside n [] = tt
-chip_is_inside n (c ∷ []) = then_any (number c) _ _ (λ c'. below_is_below (2 ^ n) c')
+chip_is_inside n (c ∷ []) = then_any (number_in_word c) _ _ (λ c'. below_is_below (2 ^ n) c')
 chip_is_inside n (c ∷ next ∷ words) = tt
 
 find_is_for : (n count : ℕ) (words : List (List ℕ)) → IfOk (find_of n words) (IsFor n count)
@@ -132,7 +132,7 @@ find_is_for n count [] = tt
 find_is_for n count (c ∷ []) = tt
 find_is_for n count (c ∷ p ∷ []) = tt
 find_is_for n count (c ∷ p ∷ b ∷ []) =
-    then_any (number c) _ _ (λ c'. then_any (number p) _ _ (λ p'. then_any (number b) _ _ (λ b'.
+    then_any (number_in_word c) _ _ (λ c'. then_any (number_in_word p) _ _ (λ p'. then_any (number_in_word b) _ _ (λ b'.
     then_by (place n c' p') _ (λ there. there.chip < 2 ^ n) _ (place_is_inside n c' p') (λ there is. is))))
 find_is_for n count (c ∷ p ∷ b ∷ next ∷ words) = tt
 
@@ -154,9 +154,9 @@ named_is_for n count name operands =
     (if_either (bytes_eq name (codes "poke")) _ _ _ (poke_is_for n count operands)
     (if_either (bytes_eq name (codes "pokeflag")) _ _ _ (poke_flag_is_for n count operands)
     (if_either (bytes_eq name (codes "buf")) _ _ _
-    (then_by (chip_of n operands) _ (λ c. c < 2 ^ n) _ (chip_is_inside n operands) (λ c is. is))
+    (then_by (chip_operand n operands) _ (λ c. c < 2 ^ n) _ (chip_is_inside n operands) (λ c is. is))
     (if_either (bytes_eq name (codes "find")) _ _ _ (find_is_for n count operands)
     (if_either (bytes_eq name (codes "events")) _ _ _
-    (then_by (chip_of n operands) _ (λ c. c < 2 ^ n) _ (chip_is_inside n operands) (λ c is. is))
+    (then_by (chip_operand n operands) _ (λ c. c < 2 ^ n) _ (chip_is_inside n operands) (λ c is. is))
     (if_either (bytes_eq name (codes "rule")) _ _ _ (alone_is_for n count command.Rule operands tt)
     tt))))))))))))

@@ -6,67 +6,67 @@ use Rattle.cm_session.specs.declared.command.Command.{Command}
 use Rattle.cm_session.specs.declared.command.Command.TheVariants as command
 use Rattle.cm_session.specs.declared.command.Refusal.{Refusal}
 use Rattle.cm_session.specs.declared.command.Refusal.TheVariants.{Word, Operands}
-use Rattle.cm_session.specs.Operands.{◌>>=◌, number, below, one_bit, place, field_unless, pokeable}
+use Rattle.cm_session.specs.Operands.{◌>>=◌, number_in_word, below_limit, one_bit, place, command_field_unless, pokeable}
 
 -- ---- by the words after the first: each is a number before one is judged by its range
 
 -- no operand
-abbrev pub alone : Command → List (List ℕ) → Result Command Refusal
-alone asked [] = Ok asked
-alone asked (word ∷ words) = Err Operands
+abbrev pub command_alone : Command → List (List ℕ) → Result Command Refusal
+command_alone asked [] = Ok asked
+command_alone asked (word ∷ words) = Err Operands
 
 -- the index of one of so many acts
 abbrev pub index_of : ℕ → List (List ℕ) → Result ℕ Refusal
-index_of count (i ∷ []) = number i >>= λ i'. below count i'
+index_of count (i ∷ []) = number_in_word i >>= λ i'. below_limit count i'
 index_of count _ = Err Operands
 
 -- on, off or show
-abbrev pub wire_of : List (List ℕ) → Result Command Refusal
-wire_of (word ∷ []) =
+abbrev pub wire_operand : List (List ℕ) → Result Command Refusal
+wire_operand (word ∷ []) =
     if bytes_eq word (codes "on") then Ok command.WireOn
     else (if bytes_eq word (codes "off") then Ok command.WireOff
     else (if bytes_eq word (codes "show") then Ok command.WireShow
     else Err Operands))
-wire_of _ = Err Operands
+wire_operand _ = Err Operands
 
 -- chip, processor, address and length of a field
-abbrev pub field_of : ℕ → List (List ℕ) → Result Command Refusal
-field_of n (c ∷ p ∷ a ∷ l ∷ []) =
-    number c >>= λ c'. number p >>= λ p'. number a >>= λ a'. number l >>= λ l'.
-    place n c' p' >>= λ there. field_unless a' l' (field_fault a' l') >>= λ bits. Ok (command.Field there bits)
-field_of n _ = Err Operands
+abbrev pub field_operands : ℕ → List (List ℕ) → Result Command Refusal
+field_operands n (c ∷ p ∷ a ∷ l ∷ []) =
+    number_in_word c >>= λ c'. number_in_word p >>= λ p'. number_in_word a >>= λ a'. number_in_word l >>= λ l'.
+    place n c' p' >>= λ there. command_field_unless a' l' (field_fault a' l') >>= λ bits. Ok (command.Field there bits)
+field_operands n _ = Err Operands
 
 -- chip, processor, flag
 abbrev pub flag_of : ℕ → List (List ℕ) → Result Command Refusal
 flag_of n (c ∷ p ∷ f ∷ []) =
-    number c >>= λ c'. number p >>= λ p'. number f >>= λ f'.
-    place n c' p' >>= λ there. below 16 f' >>= λ flag. Ok (command.Flag there flag)
+    number_in_word c >>= λ c'. number_in_word p >>= λ p'. number_in_word f >>= λ f'.
+    place n c' p' >>= λ there. below_limit 16 f' >>= λ flag. Ok (command.Flag there flag)
 flag_of n _ = Err Operands
 
 -- chip, processor, address, bit
 abbrev pub poke_of : ℕ → List (List ℕ) → Result Command Refusal
 poke_of n (c ∷ p ∷ a ∷ b ∷ []) =
-    number c >>= λ c'. number p >>= λ p'. number a >>= λ a'. number b >>= λ b'.
-    place n c' p' >>= λ there. below 4096 a' >>= λ address. one_bit b' >>= λ bit. Ok (command.Poke there address bit)
+    number_in_word c >>= λ c'. number_in_word p >>= λ p'. number_in_word a >>= λ a'. number_in_word b >>= λ b'.
+    place n c' p' >>= λ there. below_limit 4096 a' >>= λ address. one_bit b' >>= λ bit. Ok (command.Poke there address bit)
 poke_of n _ = Err Operands
 
 -- chip, processor, flag, bit: that the flag cannot be poked is judged last
 abbrev pub poke_flag_of : ℕ → List (List ℕ) → Result Command Refusal
 poke_flag_of n (c ∷ p ∷ f ∷ b ∷ []) =
-    number c >>= λ c'. number p >>= λ p'. number f >>= λ f'. number b >>= λ b'.
-    place n c' p' >>= λ there. below 16 f' >>= λ flag. one_bit b' >>= λ bit. pokeable flag >>= λ poked.
+    number_in_word c >>= λ c'. number_in_word p >>= λ p'. number_in_word f >>= λ f'. number_in_word b >>= λ b'.
+    place n c' p' >>= λ there. below_limit 16 f' >>= λ flag. one_bit b' >>= λ bit. pokeable flag >>= λ poked.
     Ok (command.PokeFlag there poked bit)
 poke_flag_of n _ = Err Operands
 
 -- a chip
-abbrev pub chip_of : ℕ → List (List ℕ) → Result ℕ Refusal
-chip_of n (c ∷ []) = number c >>= λ c'. below (2 ^ n) c'
-chip_of n _ = Err Operands
+abbrev pub chip_operand : ℕ → List (List ℕ) → Result ℕ Refusal
+chip_operand n (c ∷ []) = number_in_word c >>= λ c'. below_limit (2 ^ n) c'
+chip_operand n _ = Err Operands
 
 -- chip and processor that sent a message, and its birth, which is any number
 abbrev pub find_of : ℕ → List (List ℕ) → Result Command Refusal
 find_of n (c ∷ p ∷ b ∷ []) =
-    number c >>= λ c'. number p >>= λ p'. number b >>= λ b'.
+    number_in_word c >>= λ c'. number_in_word p >>= λ p'. number_in_word b >>= λ b'.
     place n c' p' >>= λ origin. Ok (command.Find (record { chip = origin.chip; proc = origin.proc; birth = b' }))
 find_of n _ = Err Operands
 
@@ -75,19 +75,19 @@ find_of n _ = Err Operands
 -- what a first word and its operands ask for, on a cube of n dimensions with a program of so many acts
 abbrev pub command_named : ℕ → ℕ → List ℕ → List (List ℕ) → Result Command Refusal
 command_named n count name operands =
-    if bytes_eq name (codes "step") then alone command.Step operands
-    else (if bytes_eq name (codes "run") then alone command.Run operands
+    if bytes_eq name (codes "step") then command_alone command.Step operands
+    else (if bytes_eq name (codes "run") then command_alone command.Run operands
     else (if bytes_eq name (codes "break") then (index_of count operands >>= λ i. Ok (command.Break i))
     else (if bytes_eq name (codes "clear") then (index_of count operands >>= λ i. Ok (command.Clear i))
-    else (if bytes_eq name (codes "wire") then wire_of operands
-    else (if bytes_eq name (codes "field") then field_of n operands
+    else (if bytes_eq name (codes "wire") then wire_operand operands
+    else (if bytes_eq name (codes "field") then field_operands n operands
     else (if bytes_eq name (codes "flag") then flag_of n operands
     else (if bytes_eq name (codes "poke") then poke_of n operands
     else (if bytes_eq name (codes "pokeflag") then poke_flag_of n operands
-    else (if bytes_eq name (codes "buf") then (chip_of n operands >>= λ c. Ok (command.Buffer c))
+    else (if bytes_eq name (codes "buf") then (chip_operand n operands >>= λ c. Ok (command.Buffer c))
     else (if bytes_eq name (codes "find") then find_of n operands
-    else (if bytes_eq name (codes "events") then (chip_of n operands >>= λ c. Ok (command.Events c))
-    else (if bytes_eq name (codes "rule") then alone command.Rule operands
+    else (if bytes_eq name (codes "events") then (chip_operand n operands >>= λ c. Ok (command.Events c))
+    else (if bytes_eq name (codes "rule") then command_alone command.Rule operands
     else Err Word))))))))))))
 
 -- the command of the words of a line, none where there are no words

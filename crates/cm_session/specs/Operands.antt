@@ -19,20 +19,20 @@ abbrev pub ◌>>=◌ : {A B : Type 0} → Result A Refusal → (A → Result B R
 -- ---- one operand
 
 -- the number that a word writes
-abbrev pub number : List ℕ → Result ℕ Refusal
-number word = ok_or (number_of word) Number
+abbrev pub number_in_word : List ℕ → Result ℕ Refusal
+number_in_word word = ok_or (number_of word) Number
 
 -- a number below a limit
-abbrev pub below : ℕ → ℕ → Result ℕ Refusal
-below limit x = if nat_lt x limit then Ok x else Err Range
+abbrev pub below_limit : ℕ → ℕ → Result ℕ Refusal
+below_limit limit x = if nat_lt x limit then Ok x else Err Range
 
 -- a bit
 abbrev pub one_bit : ℕ → Result Bool Refusal
-one_bit b = below 2 b >>= λ b'. Ok (b' == 1)
+one_bit b = below_limit 2 b >>= λ b'. Ok (b' == 1)
 
 -- a place of a cube of n dimensions: its chip is judged first
 abbrev pub place : ℕ → ℕ → ℕ → Result Place Refusal
-place n c p = below (2 ^ n) c >>= λ c'. below 16 p >>= λ p'. Ok (record { chip = c'; proc = p' })
+place n c p = below_limit (2 ^ n) c >>= λ c'. below_limit 16 p >>= λ p'. Ok (record { chip = c'; proc = p' })
 
 -- a field's fault as that of a line
 abbrev pub refusal_of_field : FieldFault → Refusal
@@ -40,9 +40,9 @@ refusal_of_field field.Width = Width
 refusal_of_field field.Range = Range
 
 -- the field of an address and a length, unless it has a fault
-abbrev pub field_unless : ℕ → ℕ → Option FieldFault → Result Span Refusal
-field_unless at len (Some fault) = Err (refusal_of_field fault)
-field_unless at len None = Ok (record { at = at; len = len })
+abbrev pub command_field_unless : ℕ → ℕ → Option FieldFault → Result Span Refusal
+command_field_unless at len (Some fault) = Err (refusal_of_field fault)
+command_field_unless at len None = Ok (record { at = at; len = len })
 
 -- a flag that a bit can be put into
 abbrev pub pokeable : ℕ → Result ℕ Refusal

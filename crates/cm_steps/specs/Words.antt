@@ -3,13 +3,13 @@ use Rattle.std.specs.Prelude.{ℕ, ◌^◌, if◌then◌else◌, Option, Some, N
 use Rattle.std.specs.Prelude.{List, [], ◌∷◌, codes, bytes_eq}
 use Rattle.cm_session.specs.declared.command.Refusal.{Refusal}
 use Rattle.cm_session.specs.declared.command.Refusal.TheVariants.{Word, Operands}
-use Rattle.cm_session.specs.Operands.{◌>>=◌, number, below}
+use Rattle.cm_session.specs.Operands.{◌>>=◌, number_in_word, below_limit}
 use Rattle.cm_exchange.specs.declared.step.Step.{Step}
 use Rattle.cm_exchange.specs.declared.step.Step.TheVariants.{Grip, File, Draw, Clear}
 
 -- one of 2 ^ k blocks
 abbrev pub block_asked : ℕ → List (List ℕ) → Result ℕ Refusal
-block_asked k (b ∷ []) = number b >>= λ b'. below (2 ^ k) b'
+block_asked k (b ∷ []) = number_in_word b >>= λ b'. below_limit (2 ^ k) b'
 block_asked k _ = Err Operands
 
 -- what a first word and its operands ask for

@@ -2,7 +2,7 @@ use Rattle.std.proofs.Common.{◌≡◌, ◌≤◌, ◌∙◌, ◌++◌, ℕ, Li
 use Rattle.std.specs.Prelude.{Result, Ok, Err, OnErr}
 use Rattle.std.specs.Int.{w64}
 use Rattle.cm_model.specs.Wiring.{Routing, rule_number}
-use Rattle.cm_message.specs.Bytes.{number}
+use Rattle.cm_message.specs.Bytes.{number_bytes}
 use Rattle.cm_image_format.specs.Header.{head_text}
 use Rattle.cm_image_format.specs.Cuts.{cuts_text, version_of, head_of, routing_text}
 use Rattle.cm_image.proofs.Dumping.{grown}
@@ -43,17 +43,17 @@ returns-clause-ok g c =
       room = g.row.CAP;
       rule = rule_number (rule i);
     })) in
-    let second : c.push_u64.new.text.items ≡ text ++ (head ++ number w64 c.args.machine.now.machine.clock) =
-    grown text head (number w64 c.args.machine.now.machine.clock) c.push_head.new.text.items c.push_u64.new.text.items
+    let second : c.push_u64.new.text.items ≡ text ++ (head ++ number_bytes w64 c.args.machine.now.machine.clock) =
+    grown text head (number_bytes w64 c.args.machine.now.machine.clock) c.push_head.new.text.items c.push_u64.new.text.items
     first
     (c.in_ok-push_u64.ensures.ok
-    ∙ ap (λ (k : ℕ). c.push_head.new.text.items ++ number w64 k) c.clock-cycles.ensures.value) in
+    ∙ ap (λ (k : ℕ). c.push_head.new.text.items ++ number_bytes w64 k) c.clock-cycles.ensures.value) in
     let third : c.push_cuts.new.text.items ≡ c.push_u64.new.text.items ++ routing_text routing =
     c.in_ok-push_cuts.ensures.ok ∙ (λ i. c.push_u64.new.text.items ++ cuts_text (version i) (same i)) in
-    grown text (head ++ number w64 c.args.machine.now.machine.clock) (routing_text routing)
+    grown text (head ++ number_bytes w64 c.args.machine.now.machine.clock) (routing_text routing)
     c.push_u64.new.text.items c.push_cuts.new.text.items second third
     ∙ ap (λ (xs : List ℕ). text ++ xs)
-    (append_assoc head (number w64 c.args.machine.now.machine.clock) (routing_text routing))
+    (append_assoc head (number_bytes w64 c.args.machine.now.machine.clock) (routing_text routing))
 
 pub returns-clause-grows : goal.returns-clause-grows
 returns-clause-grows g c =

@@ -1,5 +1,5 @@
 use Rattle.std.proofs.Common.{◌≡◌, ◌∙◌, IfOk, IfErr, Ok, Result, subst, sym}
-use Rattle.cm_lab_line.specs.Refusals.{Tells, Refusal}
+use Rattle.cm_lab_line.specs.Refusals.{Reports, Refusal}
 use Rattle.cm_lab_line.specs.Requests.{blank_asked, BlankAsked}
 use Rattle.cm_lab_line.proofs.EndLemmas.{cut_goes_on, chosen_goes_on}
 use Rattle.cm_lab_line.proofs.blanks.+with_ends.Goals as goal
@@ -17,7 +17,7 @@ returns-then-eq-clause-refused t c =
     let go = cut_goes_on (blank_asked c.args.machine) (blank_asked c.in_ok-cut-in-len2-up.cut) c.args.words.now _
     c.in-Some.dim.now c.in-Some.after.now c.in-len2-up.len_at_least c.in-Some.ensures.cases.0
     (sym c.eq.ensures ∙ c.if-eq.true) c.in_ok-cut-in-len2-up.ensures.value in
-    subst (λ (r : Result BlankAsked Refusal). IfErr c.with_ends.result (Tells r)) (sym go) c.with_ends.ensures.refused
+    subst (λ (r : Result BlankAsked Refusal). IfErr c.with_ends.result (Reports r)) (sym go) c.with_ends.ensures.refused
 
 pub returns-clause-value : goal.returns-clause-value
 returns-clause-value t c =
@@ -32,5 +32,5 @@ returns-clause-refused t c =
     let go = chosen_goes_on (blank_asked c.args.machine) (blank_asked c.in_ok-changed-in-len2-up.changed)
     c.args.words.now _ c.in-len2-up.len_at_least (sym c.eq.ensures ∙ c.if-eq.false)
     c.in_ok-changed-in-len2-up.ensures.value in
-    subst (λ (r : Result BlankAsked Refusal). IfErr c.with_ends-else-eq.result (Tells r)) (sym go)
+    subst (λ (r : Result BlankAsked Refusal). IfErr c.with_ends-else-eq.result (Reports r)) (sym go)
     c.with_ends-else-eq.ensures.refused

@@ -1,5 +1,5 @@
 use Rattle.std.proofs.Common.{◌≡◌, ◌∙◌, IfErr, IfOk, List, Ok, Result, rules, subst, sym, ℕ}
-use Rattle.cm_lab_line.specs.Refusals.{Refusal, Tells}
+use Rattle.cm_lab_line.specs.Refusals.{Refusal, Reports}
 use Rattle.cm_lab_line.specs.Rates.{rates}
 use Rattle.cm_lab_line.proofs.RateLemmas.{fault_known, one_known, uncut_rate}
 use Rattle.cm_lab_line.proofs.rates.read_rates.Goals as goal
@@ -8,8 +8,8 @@ pub returns-in_err-rates-clause-refused : goal.returns-in_err-rates-clause-refus
 returns-in_err-rates-clause-refused c =
     let fault = fault_known c.loop-part.rates.items c.loop-part.rest.now c.in-Some.part.now c.in-Some.after.now
     c.in_err-rates.field-0.0 c.in-Some.ensures c.in_err-rates.ensures.refused in
-    let all : Tells (rates c.args.word.now) c.in_err-rates.field-0.0 =
-    subst (λ (r : Result (List ℕ) Refusal). Tells r c.in_err-rates.field-0.0) c.loop-part.invariant.others fault in
+    let all : Reports (rates c.args.word.now) c.in_err-rates.field-0.0 =
+    subst (λ (r : Result (List ℕ) Refusal). Reports r c.in_err-rates.field-0.0) c.loop-part.invariant.others fault in
     search (rules, all)
 
 pub loop-part-preserved : goal.loop-part-preserved
@@ -32,4 +32,4 @@ pub returns-clause-refused : goal.returns-clause-refused
 returns-clause-refused c =
     let last = sym (uncut_rate c.loop-part.rates.items c.loop-part.rest.now c.in_default.ensures)
     ∙ c.loop-part.invariant.others in
-    subst (λ (r : Result (List ℕ) Refusal). IfErr c.with_rate-2.result (Tells r)) last c.with_rate-2.ensures.refused
+    subst (λ (r : Result (List ℕ) Refusal). IfErr c.with_rate-2.result (Reports r)) last c.with_rate-2.ensures.refused

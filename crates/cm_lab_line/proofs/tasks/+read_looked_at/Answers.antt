@@ -1,7 +1,7 @@
 use Rattle.std.proofs.Common.{◌≡◌, ◌-◌, ◌∙◌, IfOk, IfErr, Ok, Result, subst, sym, ap, inr, take, drop, length}
 use Rattle.cm_figures.specs.declared.looks.Look.{Look}
 use Rattle.cm_lab_line.specs.Words.{texts}
-use Rattle.cm_lab_line.specs.Refusals.{Tells, Refusal}
+use Rattle.cm_lab_line.specs.Refusals.{Reports, Refusal}
 use Rattle.cm_lab_line.specs.Requests.{task_asked, TaskAsked}
 use Rattle.cm_lab_line.specs.Tasks.{looked_at}
 use Rattle.cm_lab_line.proofs.LookLemmas.{sign_goes_on, setting_goes_on, image_comes, few_of_looked_at}
@@ -22,7 +22,7 @@ returns-then-is_sign-clause-refused t c =
     let go = sign_goes_on c.args.look c.args.words.now _ c.in-len2-up.len_at_least
     (sym c.is_sign.ensures ∙ c.if-is_sign.true)
     ∙ ap (λ (look : Look). looked_at look (texts rest)) (sym c.with_sign.ensures) in
-    subst (λ (r : Result TaskAsked Refusal). IfErr c.read_looked_at.result (Tells r)) (sym go)
+    subst (λ (r : Result TaskAsked Refusal). IfErr c.read_looked_at.result (Reports r)) (sym go)
     c.read_looked_at.ensures.refused
 
 pub returns-in_ok-changed-in-len2-up-clause-value : goal.returns-in_ok-changed-in-len2-up-clause-value
@@ -38,7 +38,7 @@ returns-in_ok-changed-in-len2-up-clause-refused t c =
     let go = setting_goes_on c.args.look c.in_ok-changed-in-len2-up.changed c.args.words.now _ c.in-len2-up.len_at_least
     (sym c.is_sign.ensures ∙ c.if-is_sign.false) (sym c.is_setting.ensures ∙ c.if-is_setting.true)
     c.in_ok-changed-in-len2-up.ensures.value in
-    subst (λ (r : Result TaskAsked Refusal). IfErr c.read_looked_at-then-is_setting.result (Tells r)) (sym go)
+    subst (λ (r : Result TaskAsked Refusal). IfErr c.read_looked_at-then-is_setting.result (Reports r)) (sym go)
     c.read_looked_at-then-is_setting.ensures.refused
 
 pub returns-else-is_setting-clause-value : goal.returns-else-is_setting-clause-value
@@ -52,7 +52,7 @@ pub returns-else-is_setting-clause-refused : goal.returns-else-is_setting-clause
 returns-else-is_setting-clause-refused t c =
     let go = image_comes c.args.look c.args.words.now _ c.in-len2-up.len_at_least
     (sym c.is_sign.ensures ∙ c.if-is_sign.false) (sym c.is_setting.ensures ∙ c.if-is_setting.false) in
-    subst (λ (r : Result TaskAsked Refusal). IfErr c.read_picture_in.result (Tells r)) (sym go)
+    subst (λ (r : Result TaskAsked Refusal). IfErr c.read_picture_in.result (Reports r)) (sym go)
     c.read_picture_in.ensures.refused
 
 pub returns-in_default-clause-refused : goal.returns-in_default-clause-refused
