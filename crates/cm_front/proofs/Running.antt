@@ -107,7 +107,7 @@ words_grow r (word ∷ operands) = by (bytes_eq word (codes "field")) where
 phrase_grows : (r : Reading) (said : Phrase) (o : Option MacroFault)
     → IfOk (with_phrase r said o) (Grows r (with_phrase (without_acts r) said o))
 phrase_grows r said (Some fault) = tt
-phrase_grows r said None = acts_grow r (phrases.acts_of said r.context)
+phrase_grows r said None = acts_grow r (phrases.phrase_acts said r.context)
 
 more_grows : (r : Reading) (words : List (List ℕ))
     → IfOk (read_more r words) (Grows r (read_more (without_acts r) words))
@@ -116,7 +116,7 @@ more_grows r words = by (says.verb_of words) where
   by None = words_grow r words
   by (Some asked) =
       bound_grows r (says.phrase_of r.fields asked words) _ _
-      (λ said. phrase_grows r said (faults.first_fault said r.context))
+      (λ said. phrase_grows r said (faults.first_phrase_fault said r.context))
 
 grown : (r after : Reading) (words : List (List ℕ)) → read_more r words ≡ Ok after
     → Grows r (read_more (without_acts r) words) after

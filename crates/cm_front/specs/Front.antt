@@ -12,7 +12,7 @@ use Rattle.cm_image_format.specs.Whole.{text_of}
 use Rattle.cm_language.specs.declared.fault.AsmKind.{AsmKind}
 use Rattle.cm_language.specs.Lines.{◌>>=◌}
 use Rattle.cm_language.specs.Program.{Reading, nothing_read, after_words}
-use Rattle.cm_phrases.specs.Faults.{first_fault}
+use Rattle.cm_phrases.specs.Faults.{first_phrase_fault}
 use Rattle.cm_source.specs.declared.verb.PhraseVerb.{PhraseVerb}
 use Rattle.cm_source.specs.Says.{verb_of, phrase_of}
 use Rattle.cm_source.specs.Expansion.{with_phrase}
@@ -64,7 +64,7 @@ front_preceded_by first rest = front_answered_with rest.front (first ++ rest.ans
 abbrev pub read_by : Reading → Option PhraseVerb → List (List ℕ) → Result Reading AsmKind
 read_by r None words = after_words r words
 read_by r (Some asked) words =
-    phrase_of r.fields asked words >>= λ said. with_phrase r said (first_fault said r.context)
+    phrase_of r.fields asked words >>= λ said. with_phrase r said (first_phrase_fault said r.context)
 
 -- with one line more, by its words
 abbrev pub read_more : Reading → List (List ℕ) → Result Reading AsmKind

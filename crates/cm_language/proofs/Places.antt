@@ -22,7 +22,7 @@ use Rattle.cm_language.specs.Program.{MOST_ACTS, Reading, ProgramText, nothing_r
 use Rattle.cm_language.specs.Program.{with_macro}
 use Rattle.cm_language.specs.Program.{after_statement, after_definition, after_words, unless_faulty, after_lines}
 use Rattle.cm_language.specs.Program.{program_read, program_of}
-use Rattle.cm_language.specs.Places.{StandsAt, Says, MacrosStandInTheirProgram}
+use Rattle.cm_language.specs.Places.{MacroStandsAt, Says, MacrosStandInTheirProgram}
 use Rattle.cm_language.proofs.ProgramParts.{are_fields}
 use Rattle.cm_language.proofs.OperandsRead.{IsSaid, if_ok-then, any_ok}
 use Rattle.cm_language.proofs.StatementsRead.{statement_ok}
@@ -177,7 +177,7 @@ read_acts r (Err fault) program h e = absurd cc
 stands : (r : Reading) (m : Macro) (k : ℕ) (q : Result Reading AsmKind) (rest : List (List ℕ)) (program : ProgramText)
     → HasFields m → q ≡ with_macro r m (first_fault m r.context)
     → program_read (unless_faulty k q (λ z. after_lines z (k + 1) rest)) ≡ Ok program
-    → StandsAt program.acts (length r.acts) m r.context
+    → MacroStandsAt program.acts (length r.acts) m r.context
 stands r m k (Err fault) rest program fields is e = absurd cc
 stands r m k (Ok after) rest program fields is e =
     let taken : IsTaken r after m = is_taken r after m (first_fault m r.context) refl (sym is) in

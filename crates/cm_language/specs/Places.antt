@@ -14,7 +14,7 @@ use Rattle.cm_language.specs.Program.{Reading, ProgramText, nothing_read, after_
 use Rattle.cm_language.specs.Laws.{HasFields}
 
 -- the acts of a macro that is not refused under this context stand in a list of acts, the first of them at this place
-pub record StandsAt (acts : List Act) (at : ℕ) (m : Macro) (context : Context) : Type 0 where
+pub record MacroStandsAt (acts : List Act) (at : ℕ) (m : Macro) (context : Context) : Type 0 where
   pub fields : HasFields m
   pub accepted : first_fault m context ≡ None
   pub there : take (length (acts_of m context)) (drop at acts) ≡ acts_of m context
@@ -38,4 +38,4 @@ pub record IsMacroOf (text : List ℕ) (r : Reading) (m : Macro) : Type 0 where
 -- the acts of each macro of a text stand in its program after the acts of the lines before it
 abbrev pub MacrosStandInTheirProgram : Type 0
 MacrosStandInTheirProgram = (text : List ℕ) (program : ProgramText) (r : Reading) (m : Macro)
-    → program_of text ≡ Ok program → IsMacroOf text r m → StandsAt program.acts (length r.acts) m r.context
+    → program_of text ≡ Ok program → IsMacroOf text r m → MacroStandsAt program.acts (length r.acts) m r.context

@@ -13,9 +13,9 @@ use Rattle.cm_language.specs.Whole.{AreProgramActs}
 use Rattle.cm_language.proofs.ProgramParts.{are_fields}
 use Rattle.cm_language.proofs.TextsRead.{IsReading}
 use Rattle.cm_phrases.specs.declared.phrase.Phrase.{Phrase}
-use Rattle.cm_phrases.specs.Acts.{acts_of}
-use Rattle.cm_phrases.specs.Faults.{first_fault}
-use Rattle.cm_phrases.specs.Laws.{HasFields}
+use Rattle.cm_phrases.specs.Acts.{phrase_acts}
+use Rattle.cm_phrases.specs.Faults.{first_phrase_fault}
+use Rattle.cm_phrases.specs.Laws.{HasPhraseFields}
 use Rattle.cm_source.specs.declared.fault.SourceKind.{SourceKind}
 use Rattle.cm_source.specs.declared.fault.SourceKind.TheVariants.{TooLarge}
 use Rattle.cm_source.specs.declared.fault.SourceFault.{SourceFault}
@@ -28,7 +28,7 @@ use Rattle.cm_source.specs.Expansion.{plain_line, after_plain, after_place, afte
 use Rattle.cm_meaning.specs.Meaning.{words_said, after_phrase, after_said, after_line, after_line_at, after_places}
 use Rattle.cm_meaning.proofs.Quiet.{IsInLine, IsQuietWord, words_quiet}
 use Rattle.cm_meaning.proofs.PlainLines.{words_of-plain_line, plain_line_whole}
-use Rattle.cm_meaning.proofs.PhraseActs.{acts_of-program}
+use Rattle.cm_meaning.proofs.PhraseActs.{phrase_acts-program}
 use Rattle.cm_meaning.proofs.ReadOn.{one_line, acts_read}
 use Rattle.cm_meaning.proofs.SaidRight.{phrase_ok, line_ok, AreWithin, are_within, phrase_left_ok, then_phrase}
 
@@ -87,16 +87,16 @@ line_agrees o line is whole = by (after_words o.reading (words_of line)) refl wh
 -- ---- a phrase
 
 -- what a phrase leaves is read, where it is not refused
-phrase_read : (o : Expansion) (r : Reading) (place : ℕ) (said : Phrase) → IsRead o → HasFields said
-    → first_fault said o.reading.context ≡ None → with_acts o.reading (acts_of said o.reading.context) ≡ Ok r
-    → IsRead (record { reading = r; text = o.text ++ phrase_text place (acts_of said o.reading.context) })
+phrase_read : (o : Expansion) (r : Reading) (place : ℕ) (said : Phrase) → IsRead o → HasPhraseFields said
+    → first_phrase_fault said o.reading.context ≡ None → with_acts o.reading (phrase_acts said o.reading.context) ≡ Ok r
+    → IsRead (record { reading = r; text = o.text ++ phrase_text place (phrase_acts said o.reading.context) })
 phrase_read o r place said is fields accept e =
-    let acts : List Act = acts_of said o.reading.context in
+    let acts : List Act = phrase_acts said o.reading.context in
     let lines : List ℕ = phrase_text place acts in
     let within : AreWithin o.reading r acts =
     subst (λ (q : Result Reading AsmKind). IfOk q (λ next. AreWithin o.reading next acts)) e
     (are_within o.reading acts) in
-    let are : AreProgramActs acts = acts_of-program said o.reading.context is.whole.context fields accept in
+    let are : AreProgramActs acts = phrase_acts-program said o.reading.context is.whole.context fields accept in
     let few : length o.reading.acts + length acts ≤ MOST_ACTS =
     omega (arith, within.few, length-append o.reading.acts acts) in
     record {
@@ -109,27 +109,27 @@ phrase_read o r place said is fields accept e =
           (phrase_left_ok o.reading said None is.whole fields accept);
     }
 
-phrase_agrees : (o : Expansion) (place : ℕ) (said : Phrase) → IsRead o → HasFields said
+phrase_agrees : (o : Expansion) (place : ℕ) (said : Phrase) → IsRead o → HasPhraseFields said
     → Agrees (out.after_phrase o place said) (after_phrase o.reading said)
-phrase_agrees o place said is fields = by (first_fault said o.reading.context) refl where
+phrase_agrees o place said is fields = by (first_phrase_fault said o.reading.context) refl where
   text : List ℕ
-  text = o.text ++ phrase_text place (acts_of said o.reading.context)
+  text = o.text ++ phrase_text place (phrase_acts said o.reading.context)
 
-  read_so : (read : Result Reading AsmKind) → first_fault said o.reading.context ≡ None
-      → with_acts o.reading (acts_of said o.reading.context) ≡ read
+  read_so : (read : Result Reading AsmKind) → first_phrase_fault said o.reading.context ≡ None
+      → with_acts o.reading (phrase_acts said o.reading.context) ≡ read
       → Agrees (of_source read >>= λ r. within_bytes (record { reading = r; text = text }))
-      (with_acts o.reading (acts_of said o.reading.context))
+      (with_acts o.reading (phrase_acts said o.reading.context))
   read_so (Err kind) accept e = λ other. ap of_source e
   read_so (Ok r) accept e =
-      agrees_within (record { reading = r; text = text }) (with_acts o.reading (acts_of said o.reading.context))
+      agrees_within (record { reading = r; text = text }) (with_acts o.reading (phrase_acts said o.reading.context))
       (phrase_read o r place said is fields accept e) e
 
-  by : (fault : Option MacroFault) → first_fault said o.reading.context ≡ fault
+  by : (fault : Option MacroFault) → first_phrase_fault said o.reading.context ≡ fault
       → Agrees
       (of_source (with_phrase o.reading said fault) >>= λ r. within_bytes (record { reading = r; text = text }))
       (with_phrase o.reading said fault)
   by (Some fault) accept = λ other. refl
-  by None accept = read_so (with_acts o.reading (acts_of said o.reading.context)) accept refl
+  by None accept = read_so (with_acts o.reading (phrase_acts said o.reading.context)) accept refl
 
 -- ---- any line
 
@@ -140,7 +140,7 @@ plain_agrees o place line None is whole = line_agrees o line is whole
 plain_agrees o place line (Some asked) is whole =
     by (phrase_of o.reading.fields asked (words_of line))
     (phrase_ok o.reading.fields asked (words_of line) (are_fields [] o.reading.fields is.whole.fields)) where
-      by : (said : Result Phrase AsmKind) → IfOk said HasFields
+      by : (said : Result Phrase AsmKind) → IfOk said HasPhraseFields
           → Agrees (of_source said >>= λ s. out.after_phrase o place s) (then_phrase o.reading said)
       by (Err kind) fields = λ other. refl
       by (Ok said) fields = phrase_agrees o place said is fields

@@ -18,9 +18,9 @@ use Rattle.cm_language.proofs.Instructions.{AreInstructions, as_acts, are-flat_m
 use Rattle.cm_language.proofs.Instructions.{AreSmall, small_by_test}
 use Rattle.cm_phrases.specs.declared.phrase.Phrase.{Phrase}
 use Rattle.cm_phrases.specs.declared.phrase.Phrase.TheVariants.{News, Chain, And, Or, Xor, Not, AddNumber, Test, Keep}
-use Rattle.cm_phrases.specs.Acts.{nanos, acts_of, fetch_bit, fetch_all, add_bit, keep_bit}
-use Rattle.cm_phrases.specs.Faults.{misfits, first_fault}
-use Rattle.cm_phrases.specs.Laws.{HasFields}
+use Rattle.cm_phrases.specs.Acts.{phrase_nanos, phrase_acts, fetch_bit, fetch_all, add_bit, keep_bit}
+use Rattle.cm_phrases.specs.Faults.{phrase_misfits, first_phrase_fault}
+use Rattle.cm_phrases.specs.Laws.{HasPhraseFields}
 use Rattle.cm_phrases.proofs.AllPhrases.{accepted}
 
 -- ---- single instructions
@@ -109,8 +109,8 @@ are_kept c d f j (suc n) h small within =
     )
 
 -- the instructions of each phrase that fits
-are_nanos : (phrase : Phrase) (c : Context) → HasFlag c → HasFields phrase → misfits phrase ≡ false
-    → AreInstructions (nanos phrase c)
+are_nanos : (phrase : Phrase) (c : Context) → HasFlag c → HasPhraseFields phrase → phrase_misfits phrase ≡ false
+    → AreInstructions (phrase_nanos phrase c)
 unfolding each_from
 are_nanos (News d s dir) c h fields fits = are_fetched c 10 dir d s h (omega arith) fields fits
 are_nanos (Chain d s) c h fields fits = are_fetched c 11 North d s h (omega arith) fields fits
@@ -128,7 +128,7 @@ are_nanos (Test f s) c h fields fits =
 are_nanos (Keep d f) c h fields fits = are_kept c d f 0 d.len h fields.1 (omega (arith, fields.0.within))
 
 -- the acts of a phrase that is not refused are acts of programs
-pub acts_of-program : (phrase : Phrase) (c : Context) → HasFlag c → HasFields phrase → first_fault phrase c ≡ None
-    → AreProgramActs (acts_of phrase c)
-acts_of-program phrase c h fields accept =
-    as_acts (nanos phrase c) (are_nanos phrase c h fields (accepted phrase c accept).fits)
+pub phrase_acts-program : (phrase : Phrase) (c : Context) → HasFlag c → HasPhraseFields phrase → first_phrase_fault phrase c ≡ None
+    → AreProgramActs (phrase_acts phrase c)
+phrase_acts-program phrase c h fields accept =
+    as_acts (phrase_nanos phrase c) (are_nanos phrase c h fields (accepted phrase c accept).fits)

@@ -19,21 +19,21 @@ use Rattle.cm_language.proofs.OperandsRead.{if_ok-then, any_ok, operand_ok, fiel
 use Rattle.cm_language.proofs.TextsRead.{IsReading, after_lines_ok}
 use Rattle.cm_phrases.specs.declared.phrase.Phrase.{Phrase}
 use Rattle.cm_phrases.specs.declared.phrase.Phrase.TheVariants as phrase
-use Rattle.cm_phrases.specs.Acts.{acts_of}
-use Rattle.cm_phrases.specs.Faults.{first_fault}
-use Rattle.cm_phrases.specs.Laws.{HasFields}
+use Rattle.cm_phrases.specs.Acts.{phrase_acts}
+use Rattle.cm_phrases.specs.Faults.{first_phrase_fault}
+use Rattle.cm_phrases.specs.Laws.{HasPhraseFields}
 use Rattle.cm_source.specs.declared.verb.PhraseVerb.{PhraseVerb}
 use Rattle.cm_source.specs.declared.verb.PhraseVerb.TheVariants as verb
 use Rattle.cm_source.specs.Says.{news_of, sum_of, tested_of, kept_of, phrase_with, phrase_of}
 use Rattle.cm_source.specs.Expansion.{with_phrase}
 use Rattle.cm_meaning.specs.Meaning.{after_phrase, after_said}
-use Rattle.cm_meaning.proofs.PhraseActs.{acts_of-program}
+use Rattle.cm_meaning.proofs.PhraseActs.{phrase_acts-program}
 
 -- ---- a phrase's fields
 
 -- the operands of `news`
 news_ok : (fields : List NamedField) (words : List (List ℕ)) → AreFields fields
-    → IfOk (news_of fields words) HasFields
+    → IfOk (news_of fields words) HasPhraseFields
 news_ok fields (d ∷ s ∷ dir ∷ []) are =
     if_ok-then (field_operand fields d) _ IsField _ (field_ok fields d are) (λ d' fd.
     if_ok-then (field_operand fields s) _ IsField _ (field_ok fields s are) (λ s' fs.
@@ -41,7 +41,7 @@ news_ok fields (d ∷ s ∷ dir ∷ []) are =
 news_ok fields _ are = tt
 
 -- those of `add`
-sum_ok : (fields : List NamedField) (words : List (List ℕ)) → AreFields fields → IfOk (sum_of fields words) HasFields
+sum_ok : (fields : List NamedField) (words : List (List ℕ)) → AreFields fields → IfOk (sum_of fields words) HasPhraseFields
 sum_ok fields (d ∷ v ∷ []) are =
     if_ok-then (field_operand fields d) _ IsField _ (field_ok fields d are) (λ d' fd.
     if_ok-then (number_operand v) _ (λ n. Unit {0}) _ (any_ok (number_operand v)) (λ v' any. fd))
@@ -49,7 +49,7 @@ sum_ok fields _ are = tt
 
 -- those of `test`
 tested_ok : (fields : List NamedField) (words : List (List ℕ)) → AreFields fields
-    → IfOk (tested_of fields words) HasFields
+    → IfOk (tested_of fields words) HasPhraseFields
 tested_ok fields (f ∷ s ∷ []) are =
     if_ok-then (operand_of 16 f) _ (λ n. n < 16) _ (operand_ok 16 f) (λ f' small.
     if_ok-then (field_operand fields s) _ IsField _ (field_ok fields s are) (λ s' fs. (fs, small)))
@@ -57,7 +57,7 @@ tested_ok fields _ are = tt
 
 -- those of `keep`
 kept_ok : (fields : List NamedField) (words : List (List ℕ)) → AreFields fields
-    → IfOk (kept_of fields words) HasFields
+    → IfOk (kept_of fields words) HasPhraseFields
 kept_ok fields (d ∷ f ∷ []) are =
     if_ok-then (field_operand fields d) _ IsField _ (field_ok fields d are) (λ d' fd.
     if_ok-then (operand_of 16 f) _ (λ n. n < 16) _ (operand_ok 16 f) (λ f' small. (fd, small)))
@@ -65,14 +65,14 @@ kept_ok fields _ are = tt
 
 -- those of two fields
 by_two : (fields : List NamedField) (words : List (List ℕ)) (f : Span × Span → Phrase) → AreFields fields
-    → ((both : Span × Span) → IsField both.0 × IsField both.1 → HasFields (f both))
-    → IfOk (two_fields fields words >>= λ both. Ok (f both)) HasFields
+    → ((both : Span × Span) → IsField both.0 × IsField both.1 → HasPhraseFields (f both))
+    → IfOk (two_fields fields words >>= λ both. Ok (f both)) HasPhraseFields
 by_two fields words f are said = if_ok-then (two_fields fields words) _ (λ both. IsField both.0 × IsField both.1) _
     (two_fields_ok fields words are) said
 
 -- those of each phrase are fields
 phrase_with_ok : (fields : List NamedField) (v : PhraseVerb) (words : List (List ℕ)) → AreFields fields
-    → IfOk (phrase_with fields v words) HasFields
+    → IfOk (phrase_with fields v words) HasPhraseFields
 phrase_with_ok fields verb.News words are = news_ok fields words are
 phrase_with_ok fields verb.Chain words are =
     by_two fields words (λ both. phrase.Chain both.0 both.1) are (λ both is. is)
@@ -86,7 +86,7 @@ phrase_with_ok fields verb.Test words are = tested_ok fields words are
 phrase_with_ok fields verb.Keep words are = kept_ok fields words are
 
 pub phrase_ok : (fields : List NamedField) (v : PhraseVerb) (words : List (List ℕ)) → AreFields fields
-    → IfOk (phrase_of fields v words) HasFields
+    → IfOk (phrase_of fields v words) HasPhraseFields
 phrase_ok fields v [] are = tt
 phrase_ok fields v (word ∷ operands) are = phrase_with_ok fields v operands are
 
@@ -115,26 +115,26 @@ are_within r acts = by (nat_lt MOST_ACTS (length (r.acts ++ acts))) refl where
   by false test = record { few = grind (arith, nat_tests, test); is = refl }
 
 -- a phrase
-pub phrase_left_ok : (r : Reading) (said : Phrase) (fault : Option MacroFault) → IsReading r → HasFields said
-    → first_fault said r.context ≡ fault → IfOk (with_phrase r said fault) IsReading
+pub phrase_left_ok : (r : Reading) (said : Phrase) (fault : Option MacroFault) → IsReading r → HasPhraseFields said
+    → first_phrase_fault said r.context ≡ fault → IfOk (with_phrase r said fault) IsReading
 phrase_left_ok r said (Some fault) is fields accept = tt
 phrase_left_ok r said None is fields accept =
-    by (with_acts r (acts_of said r.context)) (are_within r (acts_of said r.context)) where
-      by : (q : Result Reading AsmKind) → IfOk q (λ next. AreWithin r next (acts_of said r.context))
+    by (with_acts r (phrase_acts said r.context)) (are_within r (phrase_acts said r.context)) where
+      by : (q : Result Reading AsmKind) → IfOk q (λ next. AreWithin r next (phrase_acts said r.context))
           → IfOk q IsReading
       by (Err kind) within = tt
       by (Ok next) within =
-          let are : AreProgramActs (acts_of said r.context) =
-          acts_of-program said r.context is.context fields accept in
+          let are : AreProgramActs (phrase_acts said r.context) =
+          phrase_acts-program said r.context is.context fields accept in
           let is_next : IsReading (record {
             fields = r.fields;
             context = r.context;
-            acts = r.acts ++ acts_of said r.context;
+            acts = r.acts ++ phrase_acts said r.context;
           }) =
           record {
             fields = is.fields;
             context = is.context;
-            acts = acts-append r.acts (acts_of said r.context) is.acts are;
+            acts = acts-append r.acts (phrase_acts said r.context) is.acts are;
             few = within.few;
           } in
           subst IsReading (sym within.is) is_next
@@ -144,9 +144,9 @@ pub said_ok : (r : Reading) (line : List ℕ) (asked : Option PhraseVerb) → Is
     → IfOk (after_said r (words_of line) asked) IsReading
 said_ok r line None is = line_ok r line is
 said_ok r line (Some asked) is =
-    if_ok-then (phrase_of r.fields asked (words_of line)) (after_phrase r) HasFields IsReading
+    if_ok-then (phrase_of r.fields asked (words_of line)) (after_phrase r) HasPhraseFields IsReading
     (phrase_ok r.fields asked (words_of line) (are_fields [] r.fields is.fields))
-    (λ said fields. phrase_left_ok r said (first_fault said r.context) is fields refl)
+    (λ said fields. phrase_left_ok r said (first_phrase_fault said r.context) is fields refl)
 
 -- ---- a phrase, unless the words had a fault
 

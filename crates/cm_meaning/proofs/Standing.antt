@@ -30,9 +30,9 @@ use Rattle.cm_language.proofs.OperandsRead.{IsSaid, if_ok-then, any_ok}
 use Rattle.cm_language.proofs.StatementsRead.{statement_ok}
 use Rattle.cm_language.proofs.TextsRead.{IsReading}
 use Rattle.cm_phrases.specs.declared.phrase.Phrase.{Phrase}
-use Rattle.cm_phrases.specs.Acts.{acts_of}
-use Rattle.cm_phrases.specs.Faults.{first_fault}
-use Rattle.cm_phrases.specs.Laws.{HasFields}
+use Rattle.cm_phrases.specs.Acts.{phrase_acts}
+use Rattle.cm_phrases.specs.Faults.{first_phrase_fault}
+use Rattle.cm_phrases.specs.Laws.{HasPhraseFields}
 use Rattle.cm_phrases.proofs.AllPhrases.{phrases_are_right}
 use Rattle.cm_source.specs.declared.fault.SourceFault.{SourceFault}
 use Rattle.cm_source.specs.declared.verb.PhraseVerb.{PhraseVerb}
@@ -42,7 +42,7 @@ use Rattle.cm_source.specs.Layout.{of_source, unless_faulty, NamedNumber, layout
 use Rattle.cm_source.specs.Expansion.{plain_line, with_phrase, expansion_of}
 use Rattle.cm_meaning.specs.Meaning.{words_said, after_phrase, after_said, after_line_at, after_places}
 use Rattle.cm_meaning.specs.Meaning.{said_by, program_said, meaning_of}
-use Rattle.cm_meaning.specs.Laws.{IsTextOf, IsCarriedOut, StandsAt, PhrasesStandInTheirProgram}
+use Rattle.cm_meaning.specs.Laws.{IsTextOf, IsCarriedOut, PhraseStandsAt, PhrasesStandInTheirProgram}
 use Rattle.cm_meaning.specs.Laws.{ExpansionsDoPhrases, SourcesMacrosStand}
 use Rattle.cm_meaning.proofs.Quiet.{IsInLine, lines_whole, words_quiet}
 use Rattle.cm_meaning.proofs.PlainLines.{words_of-plain_line}
@@ -104,7 +104,7 @@ words_go_on r (word ∷ operands) = by (bytes_eq word (codes "field")) where
 phrase_goes_on : (r : Reading) (phrase : Phrase) (o : Option MacroFault)
     → IfOk (with_phrase r phrase o) (Continues r)
 phrase_goes_on r phrase (Some fault) = tt
-phrase_goes_on r phrase None = with_acts_goes_on r (acts_of phrase r.context)
+phrase_goes_on r phrase None = with_acts_goes_on r (phrase_acts phrase r.context)
 
 said_goes_on : (r : Reading) (words : List (List ℕ)) (verb : Option PhraseVerb)
     → IfOk (after_said r words verb) (Continues r)
@@ -112,7 +112,7 @@ said_goes_on r words None = words_go_on r words
 said_goes_on r words (Some verb) =
     if_ok-then (phrase_of r.fields verb words) (after_phrase r) (λ p. Unit {0}) _
     (any_ok (phrase_of r.fields verb words))
-    (λ phrase any. phrase_goes_on r phrase (first_fault phrase r.context))
+    (λ phrase any. phrase_goes_on r phrase (first_phrase_fault phrase r.context))
 
 line_goes_on : (constants : List NamedNumber) (r : Reading) (line : Option (List ℕ))
     → IfOk (after_line_at constants r line) (Continues r)
@@ -172,12 +172,12 @@ acts_come r after acts e = by (nat_lt MOST_ACTS (length (r.acts ++ acts))) e whe
 
 -- a phrase that is taken is not refused
 record IsTaken (r after : Reading) (phrase : Phrase) : Type 0 where
-  pub accepted : first_fault phrase r.context ≡ None
-  pub acts : after.acts ≡ r.acts ++ acts_of phrase r.context
+  pub accepted : first_phrase_fault phrase r.context ≡ None
+  pub acts : after.acts ≡ r.acts ++ phrase_acts phrase r.context
 
-phrase_taken : (r after : Reading) (phrase : Phrase) (o : Option MacroFault) → first_fault phrase r.context ≡ o
+phrase_taken : (r after : Reading) (phrase : Phrase) (o : Option MacroFault) → first_phrase_fault phrase r.context ≡ o
     → with_phrase r phrase o ≡ Ok after → IsTaken r after phrase
-phrase_taken r after phrase None o e = record { accepted = o; acts = acts_come r after (acts_of phrase r.context) e }
+phrase_taken r after phrase None o e = record { accepted = o; acts = acts_come r after (phrase_acts phrase r.context) e }
 phrase_taken r after phrase (Some fault) o e = absurd cc
 
 -- nor is a macro
@@ -283,30 +283,30 @@ pub phrases_stand_in_their_program : PhrasesStandInTheirProgram
 phrases_stand_in_their_program source text program r words phrase e read it says =
     let on : IsFollowed (after_said r words (asked.verb_of words)) program =
     carried_followed source text program r words e read it in
-    let line : after_said r words (asked.verb_of words) ≡ with_phrase r phrase (first_fault phrase r.context) =
+    let line : after_said r words (asked.verb_of words) ≡ with_phrase r phrase (first_phrase_fault phrase r.context) =
     ap (after_said r words) says.asks ∙ ap (then_phrase r) says.says in
     let taken : IsTaken r on.next phrase =
-    phrase_taken r on.next phrase (first_fault phrase r.context) refl (sym line ∙ on.is) in
-    let fields : HasFields phrase =
-    subst (λ (q : Result Phrase AsmKind). IfOk q HasFields) says.says
+    phrase_taken r on.next phrase (first_phrase_fault phrase r.context) refl (sym line ∙ on.is) in
+    let fields : HasPhraseFields phrase =
+    subst (λ (q : Result Phrase AsmKind). IfOk q HasPhraseFields) says.says
     (phrase_ok r.fields says.verb words (are_fields [] r.fields (carried_ok source r words it).fields)) in
     record {
       fields = fields;
       accepted = taken.accepted;
-      there = between r.acts (acts_of phrase r.context) on.more program.acts
+      there = between r.acts (phrase_acts phrase r.context) on.more program.acts
           (on.acts ∙ ap (λ (z : List Act). z ++ on.more) taken.acts);
     }
 
 -- and do what it says
 pub expansions_do_phrases : ExpansionsDoPhrases
 expansions_do_phrases n cap machine source text program r words phrase is e read it says =
-    let stands : StandsAt program.acts (length r.acts) phrase r.context =
+    let stands : PhraseStandsAt program.acts (length r.acts) phrase r.context =
     phrases_stand_in_their_program source text program r words phrase e read it says in
     let reached : Machine = run_of n cap machine (take (length r.acts) program.acts) in
     ap (run_of n cap machine)
-    (take-add (length r.acts) (length (acts_of phrase r.context)) program.acts
+    (take-add (length r.acts) (length (phrase_acts phrase r.context)) program.acts
     ∙ ap (λ (z : List Act). take (length r.acts) program.acts ++ z) stands.there)
-    ∙ run_of-append n cap machine (take (length r.acts) program.acts) (acts_of phrase r.context)
+    ∙ run_of-append n cap machine (take (length r.acts) program.acts) (phrase_acts phrase r.context)
     ∙ phrases_are_right n cap phrase r.context reached
     (IsMachine-run_of n cap machine (take (length r.acts) program.acts) is) stands.fields stands.accepted
 

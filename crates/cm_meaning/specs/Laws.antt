@@ -12,9 +12,9 @@ use Rattle.cm_language.specs.Program.{Reading, ProgramText, nothing_read, progra
 use Rattle.cm_language.specs.Places as places
 use Rattle.cm_language.specs.Places.{Says}
 use Rattle.cm_phrases.specs.declared.phrase.Phrase.{Phrase}
-use Rattle.cm_phrases.specs.Acts.{acts_of}
-use Rattle.cm_phrases.specs.Faults.{first_fault}
-use Rattle.cm_phrases.specs.Laws.{HasFields, machine_after_phrase}
+use Rattle.cm_phrases.specs.Acts.{phrase_acts}
+use Rattle.cm_phrases.specs.Faults.{first_phrase_fault}
+use Rattle.cm_phrases.specs.Laws.{HasPhraseFields, machine_after_phrase}
 use Rattle.cm_source.specs.declared.fault.SourceKind.TheVariants.{TooLarge}
 use Rattle.cm_source.specs.declared.fault.SourceFault.{SourceFault}
 use Rattle.cm_source.specs.declared.verb.PhraseVerb.{PhraseVerb}
@@ -78,24 +78,24 @@ pub record SaysPhrase (r : Reading) (words : List (List ℕ)) (phrase : Phrase) 
   pub says : phrase_of r.fields verb words ≡ Ok phrase
 
 -- the acts of a phrase that is not refused under this context stand in a list of acts, the first of them at this place
-pub record StandsAt (acts : List Act) (at : ℕ) (phrase : Phrase) (context : Context) : Type 0 where
-  pub fields : HasFields phrase
-  pub accepted : first_fault phrase context ≡ None
-  pub there : take (length (acts_of phrase context)) (drop at acts) ≡ acts_of phrase context
+pub record PhraseStandsAt (acts : List Act) (at : ℕ) (phrase : Phrase) (context : Context) : Type 0 where
+  pub fields : HasPhraseFields phrase
+  pub accepted : first_phrase_fault phrase context ≡ None
+  pub there : take (length (phrase_acts phrase context)) (drop at acts) ≡ phrase_acts phrase context
 
 -- the acts of each phrase of a source stand in the program of its expansion after the acts of the lines before it
 abbrev pub PhrasesStandInTheirProgram : Type 0
 PhrasesStandInTheirProgram =
     (source text : List ℕ) (program : ProgramText) (r : Reading) (words : List (List ℕ)) (phrase : Phrase)
     → expansion_of source ≡ Ok text → program_of text ≡ Ok program → IsCarriedOut source r words
-    → SaysPhrase r words phrase → StandsAt program.acts (length r.acts) phrase r.context
+    → SaysPhrase r words phrase → PhraseStandsAt program.acts (length r.acts) phrase r.context
 
 -- and so do those of each macro
 abbrev pub SourcesMacrosStand : Type 0
 SourcesMacrosStand =
     (source text : List ℕ) (program : ProgramText) (r : Reading) (words : List (List ℕ)) (m : Macro)
     → expansion_of source ≡ Ok text → program_of text ≡ Ok program → IsCarriedOut source r words
-    → verb_of words ≡ None → Says r words m → places.StandsAt program.acts (length r.acts) m r.context
+    → verb_of words ≡ None → Says r words m → places.MacroStandsAt program.acts (length r.acts) m r.context
 
 -- so on every machine, run up to there, its acts do what it says in all processors at once
 abbrev pub ExpansionsDoPhrases : Type 0
@@ -103,5 +103,5 @@ ExpansionsDoPhrases = (n cap : ℕ) (machine : Machine) (source text : List ℕ)
     (words : List (List ℕ)) (phrase : Phrase) → IsMachine n cap machine
     → expansion_of source ≡ Ok text → program_of text ≡ Ok program → IsCarriedOut source r words
     → SaysPhrase r words phrase
-    → run_of n cap machine (take (length r.acts + length (acts_of phrase r.context)) program.acts)
+    → run_of n cap machine (take (length r.acts + length (phrase_acts phrase r.context)) program.acts)
     ≡ machine_after_phrase n phrase r.context (run_of n cap machine (take (length r.acts) program.acts))

@@ -5,7 +5,7 @@ use Rattle.cm_language.specs.declared.fault.AsmKind.{AsmKind}
 use Rattle.cm_language.specs.Lines.{◌>>=◌}
 use Rattle.cm_language.specs.Program.{Reading, ProgramText, nothing_read, after_words}
 use Rattle.cm_phrases.specs.declared.phrase.Phrase.{Phrase}
-use Rattle.cm_phrases.specs.Faults.{first_fault}
+use Rattle.cm_phrases.specs.Faults.{first_phrase_fault}
 use Rattle.cm_source.specs.declared.fault.SourceFault.{SourceFault}
 use Rattle.cm_source.specs.declared.verb.PhraseVerb.{PhraseVerb}
 use Rattle.cm_source.specs.Says.{verb_of, phrase_of}
@@ -19,7 +19,7 @@ words_said constants (word ∷ operands) = word ∷ map (plain_word constants) o
 
 -- the acts of a phrase, under the context that stands, are the next ones, unless it is refused
 abbrev pub after_phrase : Reading → Phrase → Result Reading AsmKind
-after_phrase r phrase = with_phrase r phrase (first_fault phrase r.context)
+after_phrase r phrase = with_phrase r phrase (first_phrase_fault phrase r.context)
 
 -- after words that say a phrase, if they have this verb, or else what they say in the program language
 abbrev pub after_said : Reading → List (List ℕ) → Option PhraseVerb → Result Reading AsmKind

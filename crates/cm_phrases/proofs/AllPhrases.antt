@@ -40,10 +40,11 @@ use Rattle.cm_language.proofs.Lifting.{each_place, with_chips, lifted}
 use Rattle.cm_bits.specs.Bit.{differ}
 use Rattle.cm_phrases.specs.declared.phrase.Phrase.{Phrase}
 use Rattle.cm_phrases.specs.declared.phrase.Phrase.TheVariants.{News, Chain, And, Or, Xor, Not, AddNumber, Test, Keep}
-use Rattle.cm_phrases.specs.Effect.{sender, one_of, assigned, effect}
-use Rattle.cm_phrases.specs.Acts.{nanos, acts_of, add_bit, keep_bit, fetch_bit}
-use Rattle.cm_phrases.specs.Faults.{overlaps, misfits, writes, writes_condition, names_fixed, first_fault}
-use Rattle.cm_phrases.specs.Laws.{HasFields, machine_after_phrase}
+use Rattle.cm_phrases.specs.Effect.{phrase_sender, one_of, phrase_assigned, phrase_effect}
+use Rattle.cm_phrases.specs.Acts.{phrase_nanos, phrase_acts, add_bit, keep_bit, fetch_bit}
+use Rattle.cm_phrases.specs.Faults.{phrase_overlaps, phrase_misfits, phrase_writes, phrase_writes_condition}
+use Rattle.cm_phrases.specs.Faults.{phrase_names_fixed, first_phrase_fault}
+use Rattle.cm_phrases.specs.Laws.{HasPhraseFields, machine_after_phrase}
 use Rattle.cm_phrases.proofs.Bitwise.{bitwise, table_and, table_or, table_xor, table_not}
 use Rattle.cm_phrases.proofs.Numbered.{add_number_is}
 use Rattle.cm_phrases.proofs.Flags.{IsSettable, test_is, keep_is}
@@ -55,10 +56,10 @@ use Rattle.cm_phrases.proofs.Fetched.{sent_along_chain, from_neighbour, from_bef
 
 -- none of the causes
 pub record Accepted (phrase : Phrase) (c : Context) : Type 0 where
-  pub meets : overlaps phrase ≡ false
-  pub fits : misfits phrase ≡ false
-  pub condition : writes_condition phrase c ≡ false
-  pub fixed : names_fixed phrase ≡ false
+  pub meets : phrase_overlaps phrase ≡ false
+  pub fits : phrase_misfits phrase ≡ false
+  pub condition : phrase_writes_condition phrase c ≡ false
+  pub fixed : phrase_names_fixed phrase ≡ false
 
 -- the first of the causes that are there
 abbrev chosen_fault : Bool → Bool → Bool → Option MacroFault
@@ -84,15 +85,15 @@ or_second : (a b : Bool) → (a || b) ≡ false → b ≡ false
 or_second true b h = absurd cc
 or_second false b h = h
 
-pub accepted : (phrase : Phrase) (c : Context) → first_fault phrase c ≡ None → Accepted phrase c
+pub accepted : (phrase : Phrase) (c : Context) → first_phrase_fault phrase c ≡ None → Accepted phrase c
 accepted phrase c h =
-    let all : AllFalse (overlaps phrase) (misfits phrase) (writes_condition phrase c || names_fixed phrase) =
-    none_is_there (overlaps phrase) (misfits phrase) (writes_condition phrase c || names_fixed phrase) h in
+    let all : AllFalse (phrase_overlaps phrase) (phrase_misfits phrase) (phrase_writes_condition phrase c || phrase_names_fixed phrase) =
+    none_is_there (phrase_overlaps phrase) (phrase_misfits phrase) (phrase_writes_condition phrase c || phrase_names_fixed phrase) h in
     record {
       meets = all.first;
       fits = all.second;
-      condition = or_first (writes_condition phrase c) (names_fixed phrase) all.third;
-      fixed = or_second (writes_condition phrase c) (names_fixed phrase) all.third;
+      condition = or_first (phrase_writes_condition phrase c) (phrase_names_fixed phrase) all.third;
+      fixed = or_second (phrase_writes_condition phrase c) (phrase_names_fixed phrase) all.third;
     }
 
 -- a flag that can be set
@@ -162,8 +163,8 @@ itself : (d : Span) → IsField d → Pair d d
 itself d h = record { first = h.within; second = h.within; same = refl; behind = inl (omega arith) }
 
 -- a flag that the phrase writes is not the one that is looked at
-free : (c : Context) (phrase : Phrase) (w : ℕ) → ((f : ℕ) → writes phrase f ≡ eqb f w)
-    → writes_condition phrase c ≡ false → Free c w
+free : (c : Context) (phrase : Phrase) (w : ℕ) → ((f : ℕ) → phrase_writes phrase f ≡ eqb f w)
+    → phrase_writes_condition phrase c ≡ false → Free c w
 free Always phrase w is h = tt
 free (On g) phrase w is h = sym (is g) ∙ h
 free (Off g) phrase w is h = sym (is g) ∙ h
@@ -182,8 +183,8 @@ is_local (AddNumber d v) = true
 is_local (Test f s) = true
 is_local (Keep d f) = true
 
-selected_is : (phrase : Phrase) (c : Context) (from p : Processor) → is_local phrase ≡ true → HasFields phrase
-    → Accepted phrase c → Whole c p → run (nanos phrase c) p ≡ assigned phrase from p
+selected_is : (phrase : Phrase) (c : Context) (from p : Processor) → is_local phrase ≡ true → HasPhraseFields phrase
+    → Accepted phrase c → Whole c p → run (phrase_nanos phrase c) p ≡ phrase_assigned phrase from p
 selected_is (News d s dir) c from p e f a h = absurd cc
 selected_is (Chain d s) c from p e f a h = absurd cc
 selected_is (And d s) c from p e f a h =
@@ -211,7 +212,7 @@ under_kept : (c : Context) (d : Span) (f : ℕ) → AllUnder c (each_from 0 d.le
 unfolding each_from
 under_kept c d f = under-each c (keep_bit c d f) (λ i. refl) (λ i. refl) 0 d.len
 
-all_under : (phrase : Phrase) (c : Context) → is_local phrase ≡ true → AllUnder c (nanos phrase c)
+all_under : (phrase : Phrase) (c : Context) → is_local phrase ≡ true → AllUnder c (phrase_nanos phrase c)
 all_under (News d s dir) c e = absurd cc
 all_under (Chain d s) c e = absurd cc
 all_under (And d s) c e = under_bits c d s 8 8 0xc0 0x00
@@ -243,8 +244,8 @@ unfolding each_from
 home_tests c s f h =
     home-each (λ i. nano c (s.at + i) (s.at + i) f f 0xf0 0xfa) (λ i. free_of_others f h) 0 s.len
 
-all_home : (phrase : Phrase) (c : Context) → is_local phrase ≡ true → names_fixed phrase ≡ false
-    → AllHome (nanos phrase c)
+all_home : (phrase : Phrase) (c : Context) → is_local phrase ≡ true → phrase_names_fixed phrase ≡ false
+    → AllHome (phrase_nanos phrase c)
 all_home (News d s dir) c e h = absurd cc
 all_home (Chain d s) c e h = absurd cc
 all_home (And d s) c e h = home_bits c d s 0xc0
@@ -258,7 +259,7 @@ all_home (Keep d f) c e h = home_kept c d f
 some_bits : (n : ℕ) (f : ℕ → Nano) → 1 ≤ n → 0 < length (each_from 0 n f)
 some_bits n f h = omega (arith, length-each_from 0 n f)
 
-some_acts : (phrase : Phrase) (c : Context) → is_local phrase ≡ true → HasFields phrase → 0 < length (nanos phrase c)
+some_acts : (phrase : Phrase) (c : Context) → is_local phrase ≡ true → HasPhraseFields phrase → 0 < length (phrase_nanos phrase c)
 some_acts (News d s dir) c e f = absurd cc
 some_acts (Chain d s) c e f = absurd cc
 some_acts (And d s) c e f = some_bits d.len _ f.0.some
@@ -270,45 +271,45 @@ some_acts (Test w s) c e f = omega arith
 some_acts (Keep d w) c e f = some_bits d.len _ f.0.some
 
 effect_selected : (phrase : Phrase) (c : Context) (from p q : Processor) → selected c p ≡ true
-    → q ≡ assigned phrase from p → q ≡ effect phrase c from p
-unfolding effect
+    → q ≡ phrase_assigned phrase from p → q ≡ phrase_effect phrase c from p
+unfolding phrase_effect
 effect_selected phrase c from p q h e = rw h e
 
 effect_unselected : (phrase : Phrase) (c : Context) (from p q : Processor) → selected c p ≡ false → q ≡ p
-    → q ≡ effect phrase c from p
-unfolding effect
+    → q ≡ phrase_effect phrase c from p
+unfolding phrase_effect
 effect_unselected phrase c from p q h e = rw h e
 
 bool_cases : (b : Bool) → (b ≡ true) ⊎ (b ≡ false)
 bool_cases true = inl refl
 bool_cases false = inr refl
 
-in_processor : (phrase : Phrase) (c : Context) (from p : Processor) → is_local phrase ≡ true → HasFields phrase
-    → Accepted phrase c → IsProcessor p → run (nanos phrase c) p ≡ effect phrase c from p
+in_processor : (phrase : Phrase) (c : Context) (from p : Processor) → is_local phrase ≡ true → HasPhraseFields phrase
+    → Accepted phrase c → IsProcessor p → run (phrase_nanos phrase c) p ≡ phrase_effect phrase c from p
 in_processor phrase c from p l f a h =
     ⊎_elim
-    (λ (e : selected c p ≡ true). effect_selected phrase c from p (run (nanos phrase c) p) e
+    (λ (e : selected c p ≡ true). effect_selected phrase c from p (run (phrase_nanos phrase c) p) e
     (selected_is phrase c from p l f a (record
     { ready = record { here = e; zero_flag = h.zero; long = h.flags }; memory = h.memory })))
-    (λ (e : selected c p ≡ false). effect_unselected phrase c from p (run (nanos phrase c) p) e
-    (run-unselected c (nanos phrase c) p (all_under phrase c l) h.zero e))
+    (λ (e : selected c p ≡ false). effect_unselected phrase c from p (run (phrase_nanos phrase c) p) e
+    (run-unselected c (phrase_nanos phrase c) p (all_under phrase c l) h.zero e))
     (bool_cases (selected c p))
 
 -- the chips after a phrase
 abbrev chips_left : ℕ → Phrase → Context → Chips → Chips
 chips_left n phrase c chips =
-    placed n (λ ch p. effect phrase c (sender n phrase chips ch p) (at_place chips ch p))
+    placed n (λ ch p. phrase_effect phrase c (phrase_sender n phrase chips ch p) (at_place chips ch p))
 
 local_is_right : (n cap : ℕ) (phrase : Phrase) (c : Context) (machine : Machine) → is_local phrase ≡ true
-    → IsMachine n cap machine → HasFields phrase → Accepted phrase c
-    → run_of n cap machine (acts_of phrase c) ≡ with_chips machine (chips_left n phrase c machine.chips)
+    → IsMachine n cap machine → HasPhraseFields phrase → Accepted phrase c
+    → run_of n cap machine (phrase_acts phrase c) ≡ with_chips machine (chips_left n phrase c machine.chips)
 unfolding each_place
 local_is_right n cap phrase c machine e h f a =
-    run_of-acted n cap machine (map act.Nano (nanos phrase c)) h.buffer_count
-    ∙ lifted n cap (nanos phrase c) machine (some_acts phrase c e f) (all_home phrase c e a.fixed)
-    ∙ (λ i. with_chips machine (same_placed n (λ ch p. run (nanos phrase c) (at_place machine.chips ch p))
-    (λ ch p. effect phrase c (sender n phrase machine.chips ch p) (at_place machine.chips ch p))
-    (λ ch p l k. in_processor phrase c (sender n phrase machine.chips ch p) (at_place machine.chips ch p)
+    run_of-acted n cap machine (map act.Nano (phrase_nanos phrase c)) h.buffer_count
+    ∙ lifted n cap (phrase_nanos phrase c) machine (some_acts phrase c e f) (all_home phrase c e a.fixed)
+    ∙ (λ i. with_chips machine (same_placed n (λ ch p. run (phrase_nanos phrase c) (at_place machine.chips ch p))
+    (λ ch p. phrase_effect phrase c (phrase_sender n phrase machine.chips ch p) (at_place machine.chips ch p))
+    (λ ch p l k. in_processor phrase c (phrase_sender n phrase machine.chips ch p) (at_place machine.chips ch p)
     e f a ((h.whole ch l).each p k)) i))
 
 -- ---- phrases that a field comes to
@@ -316,13 +317,13 @@ local_is_right n cap phrase c machine e h f a =
 -- the flag and the direction of a fetch
 fetched_is_right : (n cap : ℕ) (phrase : Phrase) (c : Context) (w : ℕ) (dir : Dir) (d s : Span) (machine : Machine)
     → IsMachine n cap machine → IsField d → IsField s → d.len ≡ s.len → IsFetching n phrase c w dir d s
-    → nanos phrase c ≡ flat_map (fetch_bit c w dir d s) (range_with_len 0 d.len)
+    → phrase_nanos phrase c ≡ flat_map (fetch_bit c w dir d s) (range_with_len 0 d.len)
     → ((from p : Processor) → (if selected c p then record {
       memory = with_field p.memory d.at d.len (value_of from s);
       flags = set p.flags w (get_or from.memory (s.at + (s.len - 1)) false);
-    } else p) ≡ effect phrase c from p)
-    → ((ch p : ℕ) → ch < 2 ^ n → p < 16 → IsSender (sender n phrase machine.chips ch p))
-    → run_of n cap machine (acts_of phrase c) ≡ with_chips machine (chips_left n phrase c machine.chips)
+    } else p) ≡ phrase_effect phrase c from p)
+    → ((ch p : ℕ) → ch < 2 ^ n → p < 16 → IsSender (phrase_sender n phrase machine.chips ch p))
+    → run_of n cap machine (phrase_acts phrase c) ≡ with_chips machine (chips_left n phrase c machine.chips)
 fetched_is_right n cap phrase c w dir d s machine h hd hs same is bits effects sends =
     let some : 1 ≤ d.len = hd.some in
     let count : d.len ≡ suc (d.len - 1) = omega (arith, some) in
@@ -330,21 +331,21 @@ fetched_is_right n cap phrase c w dir d s machine h hd hs same is bits effects s
     let chips : Chips = machine.chips in
     let whole : AreWhole n chips = λ ch p l k. (h.whole ch l).each p k in
     let came_all : (len : ℕ) → Chips = λ len. placed n (λ ch p. came c w (d.at + 0)
-    (reads (sender n phrase chips ch p).memory (s.at + 0) len) (at_place chips ch p)) in
+    (reads (phrase_sender n phrase chips ch p).memory (s.at + 0) len) (at_place chips ch p)) in
     let fetched : chips_after n (flat_map (fetch_bit c w dir d s) (range_with_len 0 d.len)) chips ≡ came_all d.len =
     ap (λ (k : ℕ). chips_after n (flat_map (fetch_bit c w dir d s) (range_with_len 0 k)) chips) count
     ∙ bits_fetched n phrase c w dir d s is (d.len - 1) 0 chips within whole
     ∙ ap came_all (sym count) in
-    run_of-acted n cap machine (map act.Nano (nanos phrase c)) h.buffer_count
-    ∙ acts_done n cap (nanos phrase c) machine
+    run_of-acted n cap machine (map act.Nano (phrase_nanos phrase c)) h.buffer_count
+    ∙ acts_done n cap (phrase_nanos phrase c) machine
     ∙ (λ i. with_chips machine (chips_after n (bits i) chips))
     ∙ (λ i. with_chips machine (fetched i))
     ∙ (λ i. with_chips machine (same_placed n
-    (λ ch p. came c w (d.at + 0) (reads (sender n phrase chips ch p).memory (s.at + 0) d.len) (at_place chips ch p))
-    (λ ch p. effect phrase c (sender n phrase chips ch p) (at_place chips ch p))
-    (λ ch p l k. whole_came c w d s (sender n phrase chips ch p) (at_place chips ch p) hd hs same (sends ch p l k)
+    (λ ch p. came c w (d.at + 0) (reads (phrase_sender n phrase chips ch p).memory (s.at + 0) d.len) (at_place chips ch p))
+    (λ ch p. phrase_effect phrase c (phrase_sender n phrase chips ch p) (at_place chips ch p))
+    (λ ch p l k. whole_came c w d s (phrase_sender n phrase chips ch p) (at_place chips ch p) hd hs same (sends ch p l k)
     (whole ch p l k)
-    ∙ effects (sender n phrase chips ch p) (at_place chips ch p)) i))
+    ∙ effects (phrase_sender n phrase chips ch p) (at_place chips ch p)) i))
 
 over_news : TakesIncoming 10
 over_news = record { takes = refl; stored = refl; other = refl; below = omega arith }
@@ -353,7 +354,7 @@ along_chain : TakesIncoming 11
 along_chain = record { takes = refl; stored = refl; other = refl; below = omega arith }
 
 neighbour_sends : (n : ℕ) (d s : Span) (dir : Dir) (chips : Chips) → AreWhole n chips
-    → (ch p : ℕ) → ch < 2 ^ n → p < 16 → IsSender (sender n (News d s dir) chips ch p)
+    → (ch p : ℕ) → ch < 2 ^ n → p < 16 → IsSender (phrase_sender n (News d s dir) chips ch p)
 neighbour_sends n d s dir chips whole ch p l k =
     let here : IsPlace n (record { chip = ch; proc = p }) = record { chip = l; proc = k } in
     let there : IsPlace n (source n dir (record { chip = ch; proc = p })) =
@@ -367,10 +368,10 @@ before_sends true chip q h = inr refl
 before_sends false chip q h = inl h.memory
 
 news_is_right : (n cap : ℕ) (d s : Span) (dir : Dir) (c : Context) (machine : Machine) → IsMachine n cap machine
-    → HasFields (News d s dir) → Accepted (News d s dir) c
-    → run_of n cap machine (acts_of (News d s dir) c)
+    → HasPhraseFields (News d s dir) → Accepted (News d s dir) c
+    → run_of n cap machine (phrase_acts (News d s dir) c)
     ≡ with_chips machine (chips_left n (News d s dir) c machine.chips)
-unfolding effect
+unfolding phrase_effect
 news_is_right n cap d s dir c machine h f a =
     let fields : Pair d s = pair_is d s f.0 f.1 a.fits a.meets in
     fetched_is_right n cap (News d s dir) c 10 dir d s machine h f.0 f.1 fields.same
@@ -385,10 +386,10 @@ news_is_right n cap d s dir c machine h f a =
     (neighbour_sends n d s dir machine.chips (λ ch p l k. (h.whole ch l).each p k))
 
 chain_is_right : (n cap : ℕ) (d s : Span) (c : Context) (machine : Machine) → IsMachine n cap machine
-    → HasFields (Chain d s) → Accepted (Chain d s) c
-    → run_of n cap machine (acts_of (Chain d s) c)
+    → HasPhraseFields (Chain d s) → Accepted (Chain d s) c
+    → run_of n cap machine (phrase_acts (Chain d s) c)
     ≡ with_chips machine (chips_left n (Chain d s) c machine.chips)
-unfolding effect
+unfolding phrase_effect
 chain_is_right n cap d s c machine h f a =
     let fields : Pair d s = pair_is d s f.0 f.1 a.fits a.meets in
     fetched_is_right n cap (Chain d s) c 11 North d s machine h f.0 f.1 fields.same
@@ -405,8 +406,8 @@ chain_is_right n cap d s c machine h f a =
 -- ---- all
 
 all_are_right : (n cap : ℕ) (phrase : Phrase) (c : Context) (machine : Machine) → IsMachine n cap machine
-    → HasFields phrase → Accepted phrase c
-    → run_of n cap machine (acts_of phrase c) ≡ with_chips machine (chips_left n phrase c machine.chips)
+    → HasPhraseFields phrase → Accepted phrase c
+    → run_of n cap machine (phrase_acts phrase c) ≡ with_chips machine (chips_left n phrase c machine.chips)
 all_are_right n cap (News d s dir) c machine h f a = news_is_right n cap d s dir c machine h f a
 all_are_right n cap (Chain d s) c machine h f a = chain_is_right n cap d s c machine h f a
 all_are_right n cap (And d s) c machine h f a = local_is_right n cap (And d s) c machine refl h f a
@@ -418,7 +419,7 @@ all_are_right n cap (Test w s) c machine h f a = local_is_right n cap (Test w s)
 all_are_right n cap (Keep d w) c machine h f a = local_is_right n cap (Keep d w) c machine refl h f a
 
 pub phrases_are_right : (n cap : ℕ) (phrase : Phrase) (c : Context) (machine : Machine) → IsMachine n cap machine
-    → HasFields phrase → first_fault phrase c ≡ None
-    → run_of n cap machine (acts_of phrase c) ≡ machine_after_phrase n phrase c machine
+    → HasPhraseFields phrase → first_phrase_fault phrase c ≡ None
+    → run_of n cap machine (phrase_acts phrase c) ≡ machine_after_phrase n phrase c machine
 unfolding machine_after_phrase
 phrases_are_right n cap phrase c machine h f e = all_are_right n cap phrase c machine h f (accepted phrase c e)

@@ -36,7 +36,7 @@ use Rattle.cm_language.proofs.Numbers.{stored, read_value}
 use Rattle.cm_language.proofs.Lifting.{with_chips}
 use Rattle.cm_phrases.specs.declared.phrase.Phrase.{Phrase}
 use Rattle.cm_phrases.specs.declared.phrase.Phrase.TheVariants.{News, Chain}
-use Rattle.cm_phrases.specs.Effect.{one_of, sender}
+use Rattle.cm_phrases.specs.Effect.{one_of, phrase_sender}
 use Rattle.cm_phrases.specs.Acts.{fetch, keep, fetch_bit}
 
 -- ---- machines, place by place
@@ -213,12 +213,12 @@ came_beside c w a b p x k h =
 -- what comes in is the bit of the processor that sends, whatever the chips
 abbrev pub IsSent : ℕ → Phrase → Context → ℕ → Dir → Type 0
 IsSent n phrase context w dir = (s : ℕ) (chips : Chips) (c p : ℕ)
-    → incoming n (fetch context w dir s) chips c p ≡ get_or (sender n phrase chips c p).memory s false
+    → incoming n (fetch context w dir s) chips c p ≡ get_or (phrase_sender n phrase chips c p).memory s false
 
 pub sent_over_news : (n : ℕ) (d s : Span) (dir : Dir) (context : Context) → IsSent n (News d s dir) context 10 dir
 unfolding incoming
 sent_over_news n d s dir context a chips c p =
-    let from : Processor = sender n (News d s dir) chips c p in
+    let from : Processor = phrase_sender n (News d s dir) chips c p in
     table_a (get_or from.memory a false) (get_or from.memory a false) (get_or from.flags 8 false)
 
 sent_by : (context : Context) (a : ℕ) (chip : List Processor) (o : Option ℕ)
@@ -238,7 +238,7 @@ IsFrom n phrase = (chips others : Chips) (x k : ℕ)
     → ((c p : ℕ) → c < 2 ^ n → p < 16
     → reads (at_place others c p).memory x k ≡ reads (at_place chips c p).memory x k)
     → (c p : ℕ) → c < 2 ^ n → p < 16
-    → reads (sender n phrase others c p).memory x k ≡ reads (sender n phrase chips c p).memory x k
+    → reads (phrase_sender n phrase others c p).memory x k ≡ reads (phrase_sender n phrase chips c p).memory x k
 
 pub from_neighbour : (n : ℕ) (d s : Span) (dir : Dir) → IsFrom n (News d s dir)
 from_neighbour n d s dir chips others x k same c p l m =
@@ -279,7 +279,7 @@ bit_fetched : (n : ℕ) (phrase : Phrase) (c : Context) (w : ℕ) (dir : Dir) (d
     → IsFetching n phrase c w dir d s → AreWhole n chips
     → chips_after n (fetch_bit c w dir d s j) chips
     ≡ placed n (λ ch p. came c w (d.at + j)
-    (get_or (sender n phrase chips ch p).memory (s.at + j) false ∷ []) (at_place chips ch p))
+    (get_or (phrase_sender n phrase chips ch p).memory (s.at + j) false ∷ []) (at_place chips ch p))
 bit_fetched n phrase c w dir d s j chips is whole =
     let first : Nano = fetch c w dir (s.at + j) in
     let second : Nano = keep c w (d.at + j) in
@@ -288,12 +288,12 @@ bit_fetched n phrase c w dir d s j chips is whole =
     after_nano-placed n second middle
     ∙ same_placed n (λ ch p. processor_after second (incoming n second middle ch p) (at_place middle ch p))
     (λ ch p. came c w (d.at + j)
-    (get_or (sender n phrase chips ch p).memory (s.at + j) false ∷ []) (at_place chips ch p))
+    (get_or (phrase_sender n phrase chips ch p).memory (s.at + j) false ∷ []) (at_place chips ch p))
     (λ ch p l k. nothing_comes_in second (incoming n second middle ch p) (at_place middle ch p) refl
     ∙ ap (processor_after second false)
     (ap (λ (all : Chips). at_place all ch p) (after_nano-placed n first chips) ∙ at_place-placed n made ch p l k
     ∙ ap (λ (b : Bool). processor_after first b (at_place chips ch p)) (is.sent (s.at + j) chips ch p))
-    ∙ bit_came c w (d.at + j) (s.at + j) dir (get_or (sender n phrase chips ch p).memory (s.at + j) false)
+    ∙ bit_came c w (d.at + j) (s.at + j) dir (get_or (phrase_sender n phrase chips ch p).memory (s.at + j) false)
     (at_place chips ch p) is.line is.free (whole ch p l k))
 
 -- what the bit that is written is to the bits that are read later
@@ -305,13 +305,13 @@ pub bits_fetched : (n : ℕ) (phrase : Phrase) (c : Context) (w : ℕ) (dir : Di
     → IsFetching n phrase c w dir d s → (k j : ℕ) (chips : Chips) → j + suc k ≤ d.len → AreWhole n chips
     → chips_after n (flat_map (fetch_bit c w dir d s) (range_with_len j (suc k))) chips
     ≡ placed n (λ ch p. came c w (d.at + j)
-    (reads (sender n phrase chips ch p).memory (s.at + j) (suc k)) (at_place chips ch p))
+    (reads (phrase_sender n phrase chips ch p).memory (s.at + j) (suc k)) (at_place chips ch p))
 bits_fetched n phrase c w dir d s is zero j chips within whole = bit_fetched n phrase c w dir d s j chips is whole
 bits_fetched n phrase c w dir d s is (suc k) j chips within whole =
     let first : Nano = fetch c w dir (s.at + j) in
     let second : Nano = keep c w (d.at + j) in
     let next : Chips = after_nano n second (after_nano n first chips) in
-    let from : ℕ → ℕ → List Bool = λ ch p. (sender n phrase chips ch p).memory in
+    let from : ℕ → ℕ → List Bool = λ ch p. (phrase_sender n phrase chips ch p).memory in
     let made : ℕ → ℕ → Processor = λ ch p. came c w (d.at + j) (get_or (from ch p) (s.at + j) false ∷ [])
     (at_place chips ch p) in
     let one : next ≡ placed n made = bit_fetched n phrase c w dir d s j chips is whole in
@@ -320,7 +320,7 @@ bits_fetched n phrase c w dir d s is (suc k) j chips within whole =
     let behind : (d.at + j < s.at + (j + 1)) ⊎ (s.at + (j + 1) + suc k ≤ d.at + j) =
     earlier d.at s.at d.len j (suc k) within is.behind in
     let read : (ch p : ℕ) → ch < 2 ^ n → p < 16
-    → reads (sender n phrase next ch p).memory (s.at + (j + 1)) (suc k) ≡ reads (from ch p) (s.at + (j + 1)) (suc k) =
+    → reads (phrase_sender n phrase next ch p).memory (s.at + (j + 1)) (suc k) ≡ reads (from ch p) (s.at + (j + 1)) (suc k) =
     is.from chips next (s.at + (j + 1)) (suc k)
     (λ ch p l m. ap (λ (q : Processor). reads q.memory (s.at + (j + 1)) (suc k)) (there ch p l m)
     ∙ came_beside c w (d.at + j) (get_or (from ch p) (s.at + j) false) (at_place chips ch p)
@@ -331,7 +331,7 @@ bits_fetched n phrase c w dir d s is (suc k) j chips within whole =
     (whole_after n second (after_nano n first chips) (whole_after n first chips whole))
     ∙ same_placed n
     (λ ch p. came c w (d.at + (j + 1))
-    (reads (sender n phrase next ch p).memory (s.at + (j + 1)) (suc k)) (at_place next ch p))
+    (reads (phrase_sender n phrase next ch p).memory (s.at + (j + 1)) (suc k)) (at_place next ch p))
     (λ ch p. came c w (d.at + j) (reads (from ch p) (s.at + j) (suc (suc k))) (at_place chips ch p))
     (λ ch p l m. (λ i. came c w (a i) (read ch p l m i) (there ch p l m i))
     ∙ (λ i. came c w (d.at + j + 1) (reads (from ch p) (b i) (suc k)) (made ch p))

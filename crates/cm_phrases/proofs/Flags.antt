@@ -21,8 +21,8 @@ use Rattle.cm_language.proofs.Loops.{choices, ripple_still}
 use Rattle.cm_language.proofs.Numbers.{stored, read_value}
 use Rattle.cm_language.proofs.Selected.{Whole, clear_step}
 use Rattle.cm_phrases.specs.declared.phrase.Phrase.TheVariants.{Test, Keep}
-use Rattle.cm_phrases.specs.Effect.{assigned}
-use Rattle.cm_phrases.specs.Acts.{nanos}
+use Rattle.cm_phrases.specs.Effect.{phrase_assigned}
+use Rattle.cm_phrases.specs.Acts.{phrase_nanos}
 
 -- a flag that can be set
 pub record IsSettable (f : ℕ) : Type 0 where
@@ -103,7 +103,7 @@ tested c f a free settable small (suc n) j p h =
 
 -- a field that is not 0
 pub test_is : (c : Context) (f : ℕ) (s : Span) (p : Processor) → Whole c p → s.at + s.len ≤ 4096 → f < 16
-    → IsSettable f → Free c f → run (nanos (Test f s) c) p ≡ assigned (Test f s) p p
+    → IsSettable f → Free c f → run (phrase_nanos (Test f s) c) p ≡ phrase_assigned (Test f s) p p
 unfolding each_from
 test_is c f s p h within small settable free =
     let m : List Bool = p.memory in
@@ -179,7 +179,7 @@ kept z (suc n) (x ∷ xs) (y ∷ ys) some hx hy =
 
 -- a field that keeps a flag
 pub keep_is : (c : Context) (d : Span) (f : ℕ) (p : Processor) → Whole c p → IsField d
-    → run (nanos (Keep d f) c) p ≡ assigned (Keep d f) p p
+    → run (phrase_nanos (Keep d f) c) p ≡ phrase_assigned (Keep d f) p p
 unfolding each_from
 keep_is c d f p h field =
     let m : List Bool = p.memory in

@@ -21,10 +21,10 @@ use Rattle.cm_language.specs.Effect.{selected}
 use Rattle.cm_language.proofs.Bits.{writes-is, get_or-writes}
 use Rattle.cm_phrases.specs.declared.phrase.Phrase.{Phrase}
 use Rattle.cm_phrases.specs.declared.phrase.Phrase.TheVariants.{News, Chain, And, Or, Xor, Not, AddNumber, Test, Keep}
-use Rattle.cm_phrases.specs.Effect.{sender, assigned, effect}
-use Rattle.cm_phrases.specs.Acts.{acts_of}
-use Rattle.cm_phrases.specs.Faults.{writes, first_fault}
-use Rattle.cm_phrases.specs.Laws.{HasFields, Stores, IsLeftAlone, machine_after_phrase}
+use Rattle.cm_phrases.specs.Effect.{phrase_sender, phrase_assigned, phrase_effect}
+use Rattle.cm_phrases.specs.Acts.{phrase_acts}
+use Rattle.cm_phrases.specs.Faults.{phrase_writes, first_phrase_fault}
+use Rattle.cm_phrases.specs.Laws.{HasPhraseFields, PhraseStores, PhraseLeavesAlone, machine_after_phrase}
 use Rattle.cm_phrases.proofs.AllPhrases.{phrases_are_right}
 
 -- ---- one processor
@@ -57,8 +57,8 @@ beside_bits : (d : Span) (f : ℕ → Bool) (m : List Bool) (a : ℕ) → IsFiel
     → get_or (take d.at m ++ (each_from 0 d.len f ++ drop (d.at + d.len) m)) a false ≡ get_or m a false
 beside_bits d f m a field wide h = beside d (each_from 0 d.len f) m a field (length-each_from 0 d.len f) wide h
 
-assigned_memory : (phrase : Phrase) (from p : Processor) (a : ℕ) → HasFields phrase → length p.memory ≡ 4096
-    → (Stores phrase a → ⊥) → memory_bit (assigned phrase from p) a ≡ memory_bit p a
+assigned_memory : (phrase : Phrase) (from p : Processor) (a : ℕ) → HasPhraseFields phrase → length p.memory ≡ 4096
+    → (PhraseStores phrase a → ⊥) → memory_bit (phrase_assigned phrase from p) a ≡ memory_bit p a
 assigned_memory (News d s dir) from p a f wide h = beside_number d _ p.memory a f.0 wide h
 assigned_memory (Chain d s) from p a f wide h = beside_number d _ p.memory a f.0 wide h
 assigned_memory (And d s) from p a f wide h = beside_bits d _ p.memory a f.0 wide h
@@ -72,8 +72,8 @@ assigned_memory (Keep d g) from p a f wide h = beside_number d _ p.memory a f.0 
 other_flag : (fs : List Bool) (g f : ℕ) (b : Bool) → eqb f g ≡ false → get_or (set fs g b) f false ≡ get_or fs f false
 other_flag fs g f b h = get_or-set_other fs g f b false (eqb-false f g h)
 
-assigned_flags : (phrase : Phrase) (from p : Processor) (f : ℕ) → writes phrase f ≡ false
-    → flag (assigned phrase from p) f ≡ flag p f
+assigned_flags : (phrase : Phrase) (from p : Processor) (f : ℕ) → phrase_writes phrase f ≡ false
+    → flag (phrase_assigned phrase from p) f ≡ flag p f
 assigned_flags (News d s dir) from p f h = other_flag p.flags 10 f _ h
 assigned_flags (Chain d s) from p f h = other_flag p.flags 11 f _ h
 assigned_flags (And d s) from p f h = refl
@@ -97,39 +97,39 @@ chosen_flag false q p f h = refl
 not_chosen : (z : Bool) (q p : Processor) → z ≡ false → (if z then q else p) ≡ p
 not_chosen z q p h = rw h refl
 
-effect_leaves : (phrase : Phrase) (c : Context) (from p : Processor) → HasFields phrase → IsProcessor p
-    → IsLeftAlone phrase c p (effect phrase c from p)
-unfolding effect
+effect_leaves : (phrase : Phrase) (c : Context) (from p : Processor) → HasPhraseFields phrase → IsProcessor p
+    → PhraseLeavesAlone phrase c p (phrase_effect phrase c from p)
+unfolding phrase_effect
 effect_leaves phrase c from p f h = record {
-  unselected = λ e. not_chosen (selected c p) (assigned phrase from p) p e;
-  memory = λ a k. chosen_memory (selected c p) (assigned phrase from p) p a
+  unselected = λ e. not_chosen (selected c p) (phrase_assigned phrase from p) p e;
+  memory = λ a k. chosen_memory (selected c p) (phrase_assigned phrase from p) p a
       (assigned_memory phrase from p a f h.memory k);
-  flags = λ g k. chosen_flag (selected c p) (assigned phrase from p) p g (assigned_flags phrase from p g k);
+  flags = λ g k. chosen_flag (selected c p) (phrase_assigned phrase from p) p g (assigned_flags phrase from p g k);
 }
 
 -- ---- all processors
 
 read_back : (n : ℕ) (phrase : Phrase) (c : Context) (machine : Machine) (chip p : ℕ) → chip < 2 ^ n → p < 16
     → processor_at (chip_at (machine_after_phrase n phrase c machine).chips chip) p
-    ≡ effect phrase c (sender n phrase machine.chips chip p) (processor_at (chip_at machine.chips chip) p)
+    ≡ phrase_effect phrase c (phrase_sender n phrase machine.chips chip p) (processor_at (chip_at machine.chips chip) p)
 unfolding machine_after_phrase
 read_back n phrase c machine chip p l k =
     ap (λ (row : List Processor). processor_at row p) (get_or-each_below (2 ^ n) _ chip [] l)
-    ∙ get_or-each_below 16 (λ q. effect phrase c (sender n phrase machine.chips chip q)
+    ∙ get_or-each_below 16 (λ q. phrase_effect phrase c (phrase_sender n phrase machine.chips chip q)
     (processor_at (chip_at machine.chips chip) q)) p no_processor k
 
 pub phrases_leave_the_rest : (n cap : ℕ) (phrase : Phrase) (c : Context) (machine : Machine) (chip p : ℕ)
-    → IsMachine n cap machine → HasFields phrase → first_fault phrase c ≡ None
-    → chip < 2 ^ n → p < 16 → IsLeftAlone phrase
+    → IsMachine n cap machine → HasPhraseFields phrase → first_phrase_fault phrase c ≡ None
+    → chip < 2 ^ n → p < 16 → PhraseLeavesAlone phrase
     c (processor_at (chip_at machine.chips chip) p)
-    (processor_at (chip_at (run_of n cap machine (acts_of phrase c)).chips chip) p)
+    (processor_at (chip_at (run_of n cap machine (phrase_acts phrase c)).chips chip) p)
 phrases_leave_the_rest n cap phrase c machine chip p h f e l k =
     let before : Processor = processor_at (chip_at machine.chips chip) p in
-    let from : Processor = sender n phrase machine.chips chip p in
-    let is : processor_at (chip_at (run_of n cap machine (acts_of phrase c)).chips chip) p
-    ≡ effect phrase c from before =
+    let from : Processor = phrase_sender n phrase machine.chips chip p in
+    let is : processor_at (chip_at (run_of n cap machine (phrase_acts phrase c)).chips chip) p
+    ≡ phrase_effect phrase c from before =
     ap (λ (after : Machine). processor_at (chip_at after.chips chip) p)
     (phrases_are_right n cap phrase c machine h f e)
     ∙ read_back n phrase c machine chip p l k in
-    subst (λ (q : Processor). IsLeftAlone phrase c before q) (sym is)
+    subst (λ (q : Processor). PhraseLeavesAlone phrase c before q) (sym is)
     (effect_leaves phrase c from before f ((h.whole chip l).each p k))

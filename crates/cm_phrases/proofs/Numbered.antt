@@ -21,8 +21,8 @@ use Rattle.cm_language.proofs.Loops.{rippled}
 use Rattle.cm_language.proofs.Numbers.{stored, read_value, IsSum, is_sum, value-bits_of}
 use Rattle.cm_language.proofs.Selected.{Whole, clear_step}
 use Rattle.cm_phrases.specs.declared.phrase.Phrase.TheVariants.{AddNumber}
-use Rattle.cm_phrases.specs.Effect.{assigned}
-use Rattle.cm_phrases.specs.Acts.{add_bit, nanos}
+use Rattle.cm_phrases.specs.Effect.{phrase_assigned}
+use Rattle.cm_phrases.specs.Acts.{add_bit, phrase_nanos}
 
 -- ---- one bit
 
@@ -85,7 +85,7 @@ ripple_number c d v free (suc n) j p h =
     }))
 
 pub add_number_is : (c : Context) (d : Span) (v : ℕ) (p : Processor) → Whole c p → d.at + d.len ≤ 4096
-    → v < 2 ^ d.len → Free c 7 → run (nanos (AddNumber d v) c) p ≡ assigned (AddNumber d v) p p
+    → v < 2 ^ d.len → Free c 7 → run (phrase_nanos (AddNumber d v) c) p ≡ phrase_assigned (AddNumber d v) p p
 unfolding each_from
 add_number_is c d v p h within small free =
     let m : List Bool = p.memory in

@@ -91,17 +91,17 @@ keep_bit context d flag i =
 -- ---- all
 
 -- the instructions of a phrase
-abbrev pub nanos : Phrase → Context → List Nano
-nanos (News d s dir) c = fetch_all c NEWS dir d s
-nanos (Chain d s) c = fetch_all c DAISY North d s
-nanos (And d s) c = each_bit c d s ZERO ZERO A_AND_B ALWAYS_0
-nanos (Or d s) c = each_bit c d s ZERO ZERO A_OR_B ALWAYS_0
-nanos (Xor d s) c = each_bit c d s ZERO ZERO A_XOR_B ALWAYS_0
-nanos (Not d) c = each_bit c d d ZERO ZERO NOT_A ALWAYS_0
-nanos (AddNumber d v) c = clear_flag c CARRY ∷ each_from 0 d.len (add_bit c d v)
-nanos (Test f s) c = clear_flag c f ∷ each_bit c s s f f TABLE_OF_A A_OR_F
-nanos (Keep d f) c = each_from 0 d.len (keep_bit c d f)
+abbrev pub phrase_nanos : Phrase → Context → List Nano
+phrase_nanos (News d s dir) c = fetch_all c NEWS dir d s
+phrase_nanos (Chain d s) c = fetch_all c DAISY North d s
+phrase_nanos (And d s) c = each_bit c d s ZERO ZERO A_AND_B ALWAYS_0
+phrase_nanos (Or d s) c = each_bit c d s ZERO ZERO A_OR_B ALWAYS_0
+phrase_nanos (Xor d s) c = each_bit c d s ZERO ZERO A_XOR_B ALWAYS_0
+phrase_nanos (Not d) c = each_bit c d d ZERO ZERO NOT_A ALWAYS_0
+phrase_nanos (AddNumber d v) c = clear_flag c CARRY ∷ each_from 0 d.len (add_bit c d v)
+phrase_nanos (Test f s) c = clear_flag c f ∷ each_bit c s s f f TABLE_OF_A A_OR_F
+phrase_nanos (Keep d f) c = each_from 0 d.len (keep_bit c d f)
 
 -- the acts of a phrase under a context
-abbrev pub acts_of : Phrase → Context → List Act
-acts_of phrase context = map act.Nano (nanos phrase context)
+abbrev pub phrase_acts : Phrase → Context → List Act
+phrase_acts phrase context = map act.Nano (phrase_nanos phrase context)

@@ -21,16 +21,16 @@ one_of chip (Some p) = processor_at chip p
 
 -- the processor whose field comes to processor p of chip c: over the grid the one whose neighbour this is, along the
 -- chain the one before, none to any other phrase
-abbrev pub sender : ℕ → Phrase → Chips → ℕ → ℕ → Processor
-sender n (News d s dir) chips c p = processor_of chips (source n dir (record { chip = c; proc = p }))
-sender n (Chain d s) chips c p = one_of (chip_at chips c) (predecessor p)
-sender n (And d s) chips c p = no_processor
-sender n (Or d s) chips c p = no_processor
-sender n (Xor d s) chips c p = no_processor
-sender n (Not d) chips c p = no_processor
-sender n (AddNumber d v) chips c p = no_processor
-sender n (Test f s) chips c p = no_processor
-sender n (Keep d f) chips c p = no_processor
+abbrev pub phrase_sender : ℕ → Phrase → Chips → ℕ → ℕ → Processor
+phrase_sender n (News d s dir) chips c p = processor_of chips (source n dir (record { chip = c; proc = p }))
+phrase_sender n (Chain d s) chips c p = one_of (chip_at chips c) (predecessor p)
+phrase_sender n (And d s) chips c p = no_processor
+phrase_sender n (Or d s) chips c p = no_processor
+phrase_sender n (Xor d s) chips c p = no_processor
+phrase_sender n (Not d) chips c p = no_processor
+phrase_sender n (AddNumber d v) chips c p = no_processor
+phrase_sender n (Test f s) chips c p = no_processor
+phrase_sender n (Keep d f) chips c p = no_processor
 
 -- the bit of a field at a place in it, the lowest at 0
 abbrev pub bit_of : Processor → Span → ℕ → Bool
@@ -49,18 +49,18 @@ with_bits field bits p = record {
 
 -- a processor after a phrase that was carried out in it, where this other sends to it: every right side is over the
 -- old values
-abbrev pub assigned : Phrase → Processor → Processor → Processor
-assigned (News d s dir) from p = with_flag NEWS (top_bit from s) (with_value d (value_of from s) p)
-assigned (Chain d s) from p = with_flag DAISY (top_bit from s) (with_value d (value_of from s) p)
-assigned (And d s) from p = with_bits d (λ i. bit_of p d i && bit_of p s i) p
-assigned (Or d s) from p = with_bits d (λ i. bit_of p d i || bit_of p s i) p
-assigned (Xor d s) from p = with_bits d (λ i. differ (bit_of p d i) (bit_of p s i)) p
-assigned (Not d) from p = with_bits d (λ i. not (bit_of p d i)) p
-assigned (AddNumber d v) from p =
+abbrev pub phrase_assigned : Phrase → Processor → Processor → Processor
+phrase_assigned (News d s dir) from p = with_flag NEWS (top_bit from s) (with_value d (value_of from s) p)
+phrase_assigned (Chain d s) from p = with_flag DAISY (top_bit from s) (with_value d (value_of from s) p)
+phrase_assigned (And d s) from p = with_bits d (λ i. bit_of p d i && bit_of p s i) p
+phrase_assigned (Or d s) from p = with_bits d (λ i. bit_of p d i || bit_of p s i) p
+phrase_assigned (Xor d s) from p = with_bits d (λ i. differ (bit_of p d i) (bit_of p s i)) p
+phrase_assigned (Not d) from p = with_bits d (λ i. not (bit_of p d i)) p
+phrase_assigned (AddNumber d v) from p =
     with_flag CARRY (nat_le (size d) (value_of p d + v)) (with_value d ((value_of p d + v) % size d) p)
-assigned (Test f s) from p = with_flag f (not (value_of p s == 0)) p
-assigned (Keep d f) from p = with_value d (bit_number (flag p f)) p
+phrase_assigned (Test f s) from p = with_flag f (not (value_of p s == 0)) p
+phrase_assigned (Keep d f) from p = with_value d (bit_number (flag p f)) p
 
 -- a processor after a phrase under a context, where this other sends to it
-unfoldable pub effect : Phrase → Context → Processor → Processor → Processor
-effect phrase context from p = if selected context p then assigned phrase from p else p
+unfoldable pub phrase_effect : Phrase → Context → Processor → Processor → Processor
+phrase_effect phrase context from p = if selected context p then phrase_assigned phrase from p else p

@@ -10,7 +10,7 @@ use Rattle.cm_language.specs.declared.macros.Macro.{Macro}
 use Rattle.cm_language.specs.declared.macros.Context.{Context}
 use Rattle.cm_language.specs.Acts.{acts_of}
 use Rattle.cm_language.specs.Laws.{machine_after_macro}
-use Rattle.cm_language.specs.Places.{StandsAt}
+use Rattle.cm_language.specs.Places.{MacroStandsAt}
 use Rattle.cm_language.proofs.AllMacros.{macros_are_right}
 use Rattle.cm_session.specs.Session.{Session}
 use Rattle.cm_session.specs.Ends.{session_after}
@@ -18,7 +18,7 @@ use Rattle.cm_session.specs.Whole.{acts_between, HasRun, HasDoneMacro, SessionsD
 use Rattle.cm_session.proofs.Running.{acts_between-parts, sessions_keep_machines, lines_run_their_acts}
 
 -- the acts of a macro stand between the place of the first and that behind the last
-acts_of_macro : (acts : List Act) (at : ℕ) (m : Macro) (context : Context) → StandsAt acts at m context
+acts_of_macro : (acts : List Act) (at : ℕ) (m : Macro) (context : Context) → MacroStandsAt acts at m context
     → acts_between at (at + length (acts_of m context)) acts ≡ acts_of m context
 acts_of_macro acts at m context stands =
     let count : at + length (acts_of m context) - at ≡ length (acts_of m context) = omega arith in
@@ -33,7 +33,7 @@ in_three n cap machine first middle last =
     ∙ run_of-append n cap (run_of n cap machine first) middle last
 
 run_does_macro : (n cap : ℕ) (acts : List Act) (before after : Session) (at : ℕ) (m : Macro) (context : Context)
-    → IsMachine n cap before.machine → HasRun n cap acts before after → StandsAt acts at m context
+    → IsMachine n cap before.machine → HasRun n cap acts before after → MacroStandsAt acts at m context
     → before.position ≤ at → at + length (acts_of m context) ≤ after.position
     → HasDoneMacro n cap acts before after at m context
 run_does_macro n cap acts before after at m context h run stands low high =

@@ -10,7 +10,7 @@ use Rattle.cm_language.specs.declared.macros.Context.TheVariants.{Off}
 use Rattle.cm_language.specs.Acts.{acts_of}
 use Rattle.cm_language.specs.Laws.{machine_after_macro}
 use Rattle.cm_language.specs.Program.{Reading, program_of}
-use Rattle.cm_language.specs.Places.{StandsAt, IsMacroOf}
+use Rattle.cm_language.specs.Places.{MacroStandsAt, IsMacroOf}
 use Rattle.cm_language.proofs.Places.{macros_stand}
 use Rattle.cm_session.specs.Commands.{command_of}
 use Rattle.cm_session.specs.Session.{going, one_on, after_line, after_lines, left}
@@ -96,7 +96,7 @@ it_says_the_macro = record {
   says = (refl, refl);
 }
 
-it_stands_there : StandsAt acts 1 (Set 12) (Off 11)
+it_stands_there : MacroStandsAt acts 1 (Set 12) (Off 11)
 it_stands_there =
     macros_stand text (record { fields = []; acts = acts }) so_far (Set 12) it_is_a_program it_says_the_macro
 

@@ -15,7 +15,7 @@ use Rattle.cm_language.specs.declared.macros.Macro.{Macro}
 use Rattle.cm_language.specs.declared.macros.Context.{Context}
 use Rattle.cm_language.specs.Acts.{acts_of}
 use Rattle.cm_language.specs.Laws.{machine_after_macro}
-use Rattle.cm_language.specs.Places.{StandsAt}
+use Rattle.cm_language.specs.Places.{MacroStandsAt}
 use Rattle.cm_session.specs.declared.command.Command.{Command}
 use Rattle.cm_session.specs.declared.command.Command.TheVariants as command
 use Rattle.cm_session.specs.declared.command.Refusal.{Refusal}
@@ -92,7 +92,7 @@ pub record HasDoneMacro (n cap : ℕ) (acts : List Act) (before after : Session)
 -- so it is of each macro whose acts stand in the program, where all of them were run and no poke fell between
 abbrev pub SessionsDoMacros : Type 0
 SessionsDoMacros = (n cap : ℕ) (start : Machine) (acts : List Act) (done lines : List (List ℕ)) (at : ℕ) (m : Macro)
-    (context : Context) → IsMachine n cap start → HaveNoPoke n (length acts) lines → StandsAt acts at m context
+    (context : Context) → IsMachine n cap start → HaveNoPoke n (length acts) lines → MacroStandsAt acts at m context
     → (session_after n cap acts start done).position ≤ at
     → at + length (acts_of m context) ≤ (session_after n cap acts start (done ++ lines)).position →
     HasDoneMacro n cap acts (session_after n cap acts start done) (session_after n cap acts start (done ++ lines)) at m

@@ -10,8 +10,8 @@ use Rattle.cm_language.specs.Listing.{act_line}
 use Rattle.cm_language.specs.Program as program
 use Rattle.cm_language.specs.Program.{Reading, nothing_read, with_acts}
 use Rattle.cm_phrases.specs.declared.phrase.Phrase.{Phrase}
-use Rattle.cm_phrases.specs.Acts.{acts_of}
-use Rattle.cm_phrases.specs.Faults.{first_fault}
+use Rattle.cm_phrases.specs.Acts.{phrase_acts}
+use Rattle.cm_phrases.specs.Faults.{first_phrase_fault}
 use Rattle.cm_source.specs.declared.fault.SourceKind.{SourceKind}
 use Rattle.cm_source.specs.declared.fault.SourceKind.TheVariants.{TooLarge}
 use Rattle.cm_source.specs.declared.fault.SourceFault.{SourceFault}
@@ -65,7 +65,7 @@ after_line out line =
 -- the acts of a phrase are the next ones, unless it is refused
 abbrev pub with_phrase : Reading → Phrase → Option MacroFault → Result Reading AsmKind
 with_phrase r said (Some fault) = Err (kind_of fault)
-with_phrase r said None = with_acts r (acts_of said r.context)
+with_phrase r said None = with_acts r (phrase_acts said r.context)
 
 -- the lines of a phrase's acts, each with the number of the line at this place as a comment
 abbrev pub phrase_text : ℕ → List Act → List ℕ
@@ -74,9 +74,9 @@ phrase_text place acts = flat_map (act_line (place + 1)) acts
 -- of a phrase its acts come out
 abbrev pub after_phrase : Expansion → ℕ → Phrase → Result Expansion SourceKind
 after_phrase out place said =
-    of_source (with_phrase out.reading said (first_fault said out.reading.context)) >>= λ reading.
+    of_source (with_phrase out.reading said (first_phrase_fault said out.reading.context)) >>= λ reading.
     within_bytes
-    (record { reading = reading; text = out.text ++ phrase_text place (acts_of said out.reading.context) })
+    (record { reading = reading; text = out.text ++ phrase_text place (phrase_acts said out.reading.context) })
 
 -- a line without constants, that says a phrase if it has this verb
 abbrev pub after_plain : Expansion → ℕ → List ℕ → Option PhraseVerb → Result Expansion SourceKind

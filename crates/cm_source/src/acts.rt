@@ -7,8 +7,8 @@ ghost use Rattle.cm_model.specs.Each.{each_from};
 ghost use Rattle.cm_model.specs.declared.act.Act.TheVariants as act;
 ghost use Rattle.cm_language.specs.Effect.{CARRY};
 ghost use Rattle.cm_language.specs.Acts.{TABLE_OF_A, ALWAYS_0, nano, clear_flag, each_bit};
-ghost use Rattle.cm_phrases.specs.Acts.{A_OR_F, fetch, keep, fetch_all, add_bit, keep_bit, acts_of};
-ghost use Rattle.cm_phrases.specs.Faults.{misfits};
+ghost use Rattle.cm_phrases.specs.Acts.{A_OR_F, fetch, keep, fetch_all, add_bit, keep_bit, phrase_acts};
+ghost use Rattle.cm_phrases.specs.Faults.{phrase_misfits};
 
 use cm_bits::{Addr, Dir, Field, FlagNo, NoMemory};
 use cm_language::Context;
@@ -59,8 +59,8 @@ const TEST: Tables = Tables {
 
 /// The acts of a phrase, whose fields are of one length, under a context.
 pub fn acts_of(alloc: Global, wanted: &Phrase, context: &Context) -> Result<Vec<Act>, NoMemory>
-    requires fits { misfits wanted.now ≡ false }
-    ensures value { IfOk result (λ acts. acts.items ≡ acts_of wanted.now context.now) }
+    requires fits { phrase_misfits wanted.now ≡ false }
+    ensures value { IfOk result (λ acts. acts.items ≡ phrase_acts wanted.now context.now) }
 {
     let mut acts = Vec::new(alloc);
     match *wanted {

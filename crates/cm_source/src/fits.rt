@@ -3,7 +3,8 @@
 ghost use Rattle.std.specs.Prelude.{◌≡◌, ◌^◌, not, nat_le};
 ghost use Rattle.cm_bits.specs.Field.{meeting};
 ghost use Rattle.cm_language.specs.Faults.{is_partly, lengths_differ, is_fixed};
-ghost use Rattle.cm_phrases.specs.Faults.{overlaps, misfits, writes, writes_condition, names_fixed, first_fault};
+ghost use Rattle.cm_phrases.specs.Faults.{phrase_overlaps, phrase_misfits, phrase_writes, phrase_writes_condition};
+ghost use Rattle.cm_phrases.specs.Faults.{phrase_names_fixed, first_phrase_fault};
 
 use crate::acts::{DAISY_FLAG, NEWS_FLAG};
 use cm_bits::{Field, FlagNo, Meets};
@@ -16,7 +17,7 @@ const ZERO_FLAG: u8 = 8;
 
 /// The first cause to refuse a phrase under a context.
 pub fn fault_of(wanted: &Phrase, context: &Context) -> Option<MacroFault>
-    ensures value { result ≡ first_fault wanted.now context.now }
+    ensures value { result ≡ first_phrase_fault wanted.now context.now }
 {
     if overlaps(wanted) {
         Some(MacroFault::Overlap)
@@ -30,7 +31,7 @@ pub fn fault_of(wanted: &Phrase, context: &Context) -> Option<MacroFault>
 }
 
 fn overlaps(wanted: &Phrase) -> bool
-    ensures value { result ≡ overlaps wanted.now }
+    ensures value { result ≡ phrase_overlaps wanted.now }
 {
     match *wanted {
         Phrase::News(d, s, _) | Phrase::Chain(d, s) => meet_partly(d, s),
@@ -41,7 +42,7 @@ fn overlaps(wanted: &Phrase) -> bool
 }
 
 fn misfits(wanted: &Phrase) -> bool
-    ensures value { result ≡ misfits wanted.now }
+    ensures value { result ≡ phrase_misfits wanted.now }
 {
     match *wanted {
         Phrase::News(d, s, _) | Phrase::Chain(d, s) => lengths_differ(d, s),
@@ -52,7 +53,7 @@ fn misfits(wanted: &Phrase) -> bool
 }
 
 fn writes_condition(wanted: &Phrase, context: &Context) -> bool
-    ensures value { result ≡ writes_condition wanted.now context.now }
+    ensures value { result ≡ phrase_writes_condition wanted.now context.now }
 {
     match *context {
         Context::Always => false,
@@ -61,7 +62,7 @@ fn writes_condition(wanted: &Phrase, context: &Context) -> bool
 }
 
 fn writes(wanted: &Phrase, flag: FlagNo) -> bool
-    ensures value { result ≡ writes wanted.now flag }
+    ensures value { result ≡ phrase_writes wanted.now flag }
 {
     match *wanted {
         Phrase::News(_, _, _) => flag.get() == NEWS_FLAG,
@@ -74,7 +75,7 @@ fn writes(wanted: &Phrase, flag: FlagNo) -> bool
 }
 
 fn names_fixed(wanted: &Phrase) -> bool
-    ensures value { result ≡ names_fixed wanted.now }
+    ensures value { result ≡ phrase_names_fixed wanted.now }
 {
     match *wanted {
         Phrase::Test(flag, _) => is_fixed(flag),
